@@ -1,0 +1,10 @@
+//! What the crates of the DWARF formats share: file classes, byte orders, section kinds and contributions.
+#![tactic(auto)]
+
+mod class;
+mod endian;
+mod section;
+
+pub use class::Class;
+pub use endian::Endianness;
+pub use section::{Contribution, ContributionOffset, SectionKind};

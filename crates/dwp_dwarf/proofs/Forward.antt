@@ -1,0 +1,67 @@
+-- Reading goes forward: what is left is what was there, without what was read.
+use Rattle.std.proofs.Common.{◌≡◌, ℕ, ◌+◌, ◌≤◌, Bool, true, false, cond, length, drop, Result, Ok, Err, ltb, refl, ap, sym, subst, ◌∙◌, ◌⊎◌, inl, inr, add_assoc, arith}
+use Rattle.std.proofs.lemmas.Bool.{ltb-false}
+use Rattle.std.proofs.lemmas.List.{drop-drop, length-drop}
+use Rattle.dwp_base.specs.Reading.{◌>>=◌}
+use Rattle.dwp_reader.specs.declared.fault.ReadError.TheVariants.{UnexpectedEof}
+use Rattle.dwp_reader.specs.Input.{Input, front, after, split_at, number_at}
+
+-- the value of a step that did not fail
+pub bind_ok : {A B E : Type 0} (r : Result A E) (f : A → Result B E) (y : B) → (r >>= f) ≡ Ok y → (x : A) × (r ≡ Ok x) × (f x ≡ Ok y)
+bind_ok (Ok x) f y e = (x, refl, e)
+bind_ok (Err d) f y e = absurd cc
+
+-- a test that did not fail
+pub guard_ok : {A E : Type 0} (b : Bool) (d : E) (x y : A) → cond b (Err d) (Ok x) ≡ Ok y → (b ≡ false) × (x ≡ y)
+guard_ok true d x y e = absurd cc
+guard_ok false d x y e = (refl, cc)
+
+-- a choice that did not fail
+pub chosen : {A : Type 0} (b : Bool) (x y z : A) → cond b x y ≡ z → ((b ≡ true) × (x ≡ z)) ⊎ ((b ≡ false) × (y ≡ z))
+chosen true x y z e = inl (refl, e)
+chosen false x y z e = inr (refl, e)
+
+-- the same, with what follows from either
+pub by_choice : {A : Type 0} (P : Type 0) (b : Bool) (x y z : A) → cond b x y ≡ z → (x ≡ z → P) → (y ≡ z → P) → P
+by_choice P true x y z e left right = left e
+by_choice P false x y z e left right = right e
+
+-- the same, with which way the test went
+pub by_test : {A : Type 0} (P : Type 0) (b : Bool) (x y z : A) → cond b x y ≡ z → (b ≡ true → x ≡ z → P) → (b ≡ false → y ≡ z → P) → P
+by_test P true x y z e left right = left refl e
+by_test P false x y z e left right = right refl e
+
+abbrev fault_of : {A E : Type 0} → E → A → Result A E
+fault_of f x = Err f
+
+-- a fault is no value
+pub no_value : {A E : Type 0} (P : Type 0) (f : E) (x : A) → fault_of f x ≡ Ok x → P
+no_value P f x e = absurd cc
+
+-- j is what is left of i behind n bytes
+pub record IsBehind (n : ℕ) (i j : Input) : Type 0 where
+  pub fits : n ≤ length i.bytes
+  pub is : j ≡ after n i
+
+after-after : (m n : ℕ) (i : Input) → after n (after m i) ≡ after (m + n) i
+after-after m n i = rw (drop-drop n m i.bytes, add_assoc i.place m n) refl
+
+pub IsBehind-then : (m n : ℕ) (i j k : Input) → IsBehind m i j → IsBehind n j k → IsBehind (m + n) i k
+IsBehind-then m n i j k p q =
+    let left : n ≤ length (drop m i.bytes) = subst (λ (x : Input). n ≤ length x.bytes) p.is q.fits in
+    record {
+      fits = omega (arith, length-drop m i.bytes, p.fits);
+      is = q.is ∙ ap (after n) p.is ∙ after-after m n i;
+    }
+
+pub split_is : (n : ℕ) (i : Input) (p : Input × Input) → split_at n i ≡ Ok p → (p.0 ≡ front n i) × IsBehind n i p.1
+unfolding split_at
+split_is n i p e =
+    let g = guard_ok (ltb (length i.bytes) n) UnexpectedEof (front n i, after n i) p e in
+    (ap (λ (x : Input × Input). x.0) (sym g.1), record { fits = ltb-false _ _ g.0; is = ap (λ (x : Input × Input). x.1) (sym g.1) })
+
+pub number_is : (n : ℕ) (i : Input) (p : ℕ × Input) → number_at n i ≡ Ok p → IsBehind n i p.1
+unfolding number_at
+number_is n i p e =
+    let g = guard_ok (ltb (length i.bytes) n) UnexpectedEof _ p e in
+    record { fits = ltb-false _ _ g.0; is = ap (λ (x : ℕ × Input). x.1) (sym g.1) }

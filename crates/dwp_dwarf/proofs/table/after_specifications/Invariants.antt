@@ -1,0 +1,10 @@
+use Rattle.std.proofs.Common.{◌≡◌, length}
+use Rattle.dwp_dwarf.specs.Abbreviations.{past_specifications}
+use Rattle.dwp_dwarf.proofs.table.after_specifications.Given as goal
+
+-- what is left of the list ends where all of it does
+abbrev pub invariant-loop-specification : goal.invariant-loop-specification
+invariant-loop-specification g l = past_specifications (g.R.Reader.input l.at) ≡ past_specifications (g.R.Reader.input l.fn.at)
+
+abbrev pub decreases-loop-specification : goal.decreases-loop-specification
+decreases-loop-specification g l = length (g.R.Reader.input l.at).bytes

@@ -1,0 +1,8 @@
+use Rattle.std.proofs.Common.{refl}
+use Rattle.dwp_dwarf.specs.Abbreviations.{declaration_at}
+use Rattle.dwp_dwarf.proofs.TableForward.{passed_list}
+use Rattle.dwp_dwarf.proofs.table.read_declaration.Goals as goal
+
+pub returns : goal.returns
+unfolding declaration_at
+returns g c = rw (c.in_ok-tag.ensures, c.in_ok-has_children.ensures, passed_list _ _ c.in_ok-reader.ensures) refl

@@ -1,0 +1,8 @@
+use Rattle.dwp_dwarf.proofs.UnitLists.{units_whole, units_fault}
+use Rattle.dwp_dwarf.proofs.units.units_have_all_bytes.Goals as goal
+
+pub returns-clause-whole : goal.returns-clause-whole
+returns-clause-whole c = units_whole
+
+pub returns-clause-fault : goal.returns-clause-fault
+returns-clause-fault c = units_fault

@@ -1,0 +1,24 @@
+-- What the readers of abbreviations show.
+use Rattle.std.specs.Prelude.{Option, Some, None}
+use Rattle.dwp_reader.specs.Input.{Input}
+use Rattle.dwp_dwarf.specs.Abbreviations.{Specification, Declaration, pairs_in}
+use Rattle.dwp_dwarf.specs.declared.abbreviation.Abbreviation.{Abbreviation}
+use Rattle.dwp_dwarf.specs.declared.abbreviation.Abbreviations.{Abbreviations}
+use Rattle.dwp_dwarf.specs.declared.abbreviation.AttributeSpecification.{AttributeSpecification}
+
+-- an attribute and its form
+abbrev pub specification_of : AttributeSpecification → Specification
+specification_of s = record { name = s.name; form = s.form }
+
+-- a declaration as it was read from an input
+abbrev pub declaration_of : {R : Type 0} → (R → Input) → Abbreviation R → Declaration
+declaration_of input a = record { tag = a.tag; children = a.has_children; specifications = pairs_in (input a.specifications) }
+
+-- the bytes of a table
+abbrev pub table_of : {R : Type 0} → (R → Input) → Abbreviations R → Input
+table_of input t = input t.table
+
+-- the declaration that a look-up found
+abbrev pub found_of : {R : Type 0} → (R → Input) → Option (Abbreviation R) → Option Declaration
+found_of input (Some a) = Some (declaration_of input a)
+found_of input None = None

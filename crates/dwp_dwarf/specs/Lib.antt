@@ -1,0 +1,9 @@
+pub mod Abbreviations
+pub mod Attributes
+pub mod Declarations
+pub mod Entries
+pub mod Forms
+pub mod Offsets
+pub mod Sections
+pub mod Strings
+pub mod Units

@@ -1,0 +1,30 @@
+//! Reading the units of DWARF data: headers, abbreviations, root entries, attributes and their strings.
+#![tactic(auto)]
+
+mod abbreviation;
+mod entry;
+mod form;
+mod header;
+mod offset;
+mod roots;
+mod strings;
+mod table;
+mod text;
+mod units;
+mod value;
+
+pub use abbreviation::{Abbreviation, Abbreviations};
+pub use dwp_base::Endianness;
+pub use dwp_reader::{
+    Encoding, Format, ReadError, Reader, Relocate, Relocation, RelocationEntry, SliceReader,
+    WriteError,
+};
+pub use entry::{Attribute, Attributes, RootEntry};
+pub use header::{UnitHeader, UnitHeaders, UnitSection, UnitType};
+pub use roots::root;
+pub use strings::StringSections;
+pub use text::attr_string;
+pub use units::units_have_all_bytes;
+
+#[cfg(test)]
+mod tests;

@@ -1,0 +1,153 @@
+ghost use Rattle.std.specs.Prelude.{◌≡◌};
+ghost use Rattle.dwp_base.specs.Reading.{Answers, Reads};
+ghost use Rattle.dwp_dwarf.specs.Abbreviations.{constant_at, specification_at, past_specifications, specifications_at, tag_at, children_at, declaration_at, code_at, declaration, is_last};
+ghost use Rattle.dwp_dwarf.specs.Offsets.{from_at};
+ghost use Rattle.dwp_dwarf.specs.Declarations.{specification_of, declaration_of, table_of, found_of};
+
+use crate::abbreviation::{Abbreviation, Abbreviations, AttributeSpecification};
+use crate::form::IMPLICIT_CONST;
+use crate::offset::from_offset;
+use dwp_reader::{ReadError, Reader};
+
+#[tactic(auto, unfolding(crate::specs::Abbreviations::constant_at))]
+fn skip_constant<R: Reader>(reader: &mut R, form: u64) -> Result<(), ReadError>
+    ensures { Reads (λ x. x) result (R.input reader.old) (R.input reader.new) (constant_at form) }
+{
+    if form == IMPLICIT_CONST {
+        reader.read_sleb128()?;
+    }
+    Ok(())
+}
+
+/// The next attribute and its form.
+#[tactic(auto, unfolding(crate::specs::Abbreviations::specification_at))]
+pub(crate) fn read_specification<R: Reader>(
+    reader: &mut R,
+) -> Result<AttributeSpecification, ReadError>
+    ensures { Reads specification_of result (R.input reader.old) (R.input reader.new) specification_at }
+{
+    let mut at = *reader;
+    let name = at.read_uleb128()?;
+    let form = at.read_uleb128()?;
+    skip_constant(&mut at, form)?;
+    *reader = at;
+    Ok(AttributeSpecification { name, form })
+}
+
+/// What comes behind a list of attributes and its end.
+fn after_specifications<R: Reader>(mut at: R) -> Result<R, ReadError>
+    ensures { Answers R.input result (past_specifications (R.input at)) }
+{
+    loop {
+        let specification = read_specification(&mut at)?;
+        if specification.is_last() {
+            return Ok(at);
+        }
+    }
+}
+
+#[tactic(auto, unfolding(crate::specs::Abbreviations::tag_at))]
+fn read_tag<R: Reader>(reader: &mut R) -> Result<u64, ReadError>
+    ensures { Reads (λ x. x) result (R.input reader.old) (R.input reader.new) tag_at }
+{
+    let mut at = *reader;
+    let tag = at.read_uleb128()?;
+    if tag == 0 {
+        return Err(ReadError::ZeroTag);
+    }
+    *reader = at;
+    Ok(tag)
+}
+
+#[tactic(auto, unfolding(crate::specs::Abbreviations::children_at))]
+fn read_children<R: Reader>(reader: &mut R) -> Result<bool, ReadError>
+    ensures { Reads (λ x. x) result (R.input reader.old) (R.input reader.new) children_at }
+{
+    let mut at = *reader;
+    let byte = at.read_u8()?;
+    if byte > 1 {
+        return Err(ReadError::BadChildren);
+    }
+    *reader = at;
+    Ok(byte == 1)
+}
+
+/// A declaration behind its code.
+#[tactic(auto, unfolding(crate::specs::Abbreviations::declaration_at))]
+fn read_declaration<R: Reader>(reader: &mut R) -> Result<Abbreviation<R>, ReadError>
+    ensures { Reads (declaration_of R.input) result (R.input reader.old) (R.input reader.new) declaration_at }
+{
+    let mut specifications = *reader;
+    let tag = read_tag(&mut specifications)?;
+    let has_children = read_children(&mut specifications)?;
+    *reader = after_specifications(specifications)?;
+    Ok(Abbreviation {
+        tag,
+        has_children,
+        specifications,
+    })
+}
+
+/// A code; 0 at the end of the bytes.
+#[tactic(auto, unfolding(crate::specs::Abbreviations::code_at))]
+pub(crate) fn read_code<R: Reader>(reader: &mut R) -> Result<u64, ReadError>
+    ensures { Reads (λ x. x) result (R.input reader.old) (R.input reader.new) code_at }
+{
+    if reader.is_empty() {
+        Ok(0)
+    } else {
+        reader.read_uleb128()
+    }
+}
+
+impl AttributeSpecification {
+    pub(crate) fn is_last(&self) -> bool
+        ensures { result ≡ is_last (specification_of self.now) }
+    {
+        self.name == 0 && self.form == 0
+    }
+}
+
+impl<R: Reader> Abbreviations<R> {
+    /// The table at an offset of the section of abbreviations. OffsetOutOfRange past its end.
+    pub fn new(section: R, offset: u64) -> Result<Abbreviations<R>, ReadError>
+        ensures { Answers (table_of R.input) result (from_at offset (R.input section)) }
+    {
+        let table = from_offset(section, offset)?;
+        Ok(Abbreviations { table })
+    }
+
+    /// The first declaration of a code; None where the table has none. The table is read no further, so
+    /// that faults after it don't count. ZeroTag, BadChildren, BigLeb or UnexpectedEof for a fault before its end.
+    pub fn get(&self, code: u64) -> Result<Option<Abbreviation<R>>, ReadError>
+        ensures { Answers (found_of R.input) result (declaration code (table_of R.input self.now)) }
+    {
+        let mut at = self.table;
+        loop {
+            let found = read_code(&mut at)?;
+            if found == 0 {
+                return Ok(None);
+            }
+            let abbreviation = read_declaration(&mut at)?;
+            if found == code {
+                return Ok(Some(abbreviation));
+            }
+        }
+    }
+}
+
+impl<R: Reader> Abbreviation<R> {
+    /// The tag of an entry with this abbreviation.
+    pub fn tag(&self) -> u64
+        ensures { result ≡ (declaration_of R.input self.now).tag }
+    {
+        self.tag
+    }
+
+    /// Whether such an entry has children.
+    pub fn has_children(&self) -> bool
+        ensures { result ≡ (declaration_of R.input self.now).children }
+    {
+        self.has_children
+    }
+}

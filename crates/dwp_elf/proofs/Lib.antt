@@ -1,0 +1,12 @@
+pub mod Changes
+pub mod KindCounts
+pub mod Limits
+pub mod Parts
+pub mod ReadingBack
+pub mod ReadingSteps
+pub mod SoFar
+pub mod Whole
+pub mod WrittenFields
+pub mod WrittenHeader
+pub mod WrittenSection
+pub mod WrittenSections

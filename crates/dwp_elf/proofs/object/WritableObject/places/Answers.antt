@@ -1,0 +1,22 @@
+use Rattle.std.proofs.Common.{ap, length, arith}
+use Rattle.dwp_elf.specs.Object.{object_of}
+use Rattle.dwp_elf.proofs.Changes.{length-contents_of}
+use Rattle.dwp_elf.proofs.KindCounts.{length-KindsDiffer}
+use Rattle.dwp_elf.proofs.Limits.{places-fits, places-refused}
+use Rattle.dwp_elf.proofs.object.WritableObject.places.Goals as goal
+
+pub places_of-requires : goal.places_of-requires
+places_of-requires c =
+    let sections = c.self.inside.sections.items in
+    let few = length-KindsDiffer _ c.self.invariant in
+    omega (arith, few, length-contents_of sections, ap length c.deref.ensures.value)
+
+pub returns-clause-fits : goal.returns-clause-fits
+returns-clause-fits c =
+    rw (c.ok_or.ensures.value, ← c.self.view_is)
+    (places-fits (object_of c.self.inside) c.places_of.result _ (rw c.deref.ensures.value at c.places_of.ensures))
+
+pub returns-clause-refused : goal.returns-clause-refused
+returns-clause-refused c =
+    rw (c.ok_or.ensures.value, ← c.self.view_is)
+    (places-refused (object_of c.self.inside) c.places_of.result _ (rw c.deref.ensures.value at c.places_of.ensures))

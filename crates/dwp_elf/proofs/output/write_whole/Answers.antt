@@ -1,0 +1,28 @@
+use Rattle.std.proofs.Common.{◌<◌, ◌++◌, length, take, sym, ap, ◌∙◌, arith, take-append-drop}
+use Rattle.std.proofs.lemmas.Bool.Decides.{nat_tests}
+use Rattle.std.proofs.lemmas.List.{take_rest}
+use Rattle.std.proofs.lemmas.Result.{err_from_is_err_and}
+use Rattle.dwp_elf.proofs.SoFar.{so_far_none, so_far_more, so_far_stop, Keeps-from_none}
+use Rattle.dwp_elf.proofs.output.write_whole.Goals as goal
+
+pub loop-rest-init : goal.loop-rest-init
+loop-rest-init g c = so_far_none _ _
+
+pub returns-in_err-taken : goal.returns-in_err-taken
+returns-in_err-taken g c =
+    let some : 0 < length c.loop-rest.rest.now = grind (arith, nat_tests) in
+    let p = err_from_is_err_and c.from_residual.result c.from_residual.ensures.1 in
+    rw p.1 (so_far_stop _ c.loop-rest.invariant some c.in_err-taken.ensures.bytes)
+
+pub returns-then-taken-eq0 : goal.returns-then-taken-eq0
+returns-then-taken-eq0 g c =
+    let some : 0 < length c.loop-rest.rest.now = grind (arith, nat_tests) in
+    so_far_stop _ c.loop-rest.invariant some
+    (Keeps-from_none _ _ _ _ c.if-taken-eq0.true c.in_ok-taken.ensures.bytes)
+
+pub loop-rest-preserved : goal.loop-rest-preserved
+loop-rest-preserved g c =
+    let rest = c.loop-rest.rest.now in
+    let n = c.in_ok-taken.taken in
+    so_far_more _ rest (take n rest) _ c.loop-rest.invariant
+    (sym (take-append-drop n rest) ∙ ap (λ l. take n rest ++ l) (sym (take_rest rest n))) c.in_ok-taken.ensures.bytes

@@ -1,0 +1,8 @@
+use Rattle.std.proofs.Common.{◌≡◌, ◌+◌, length, drop}
+use Rattle.dwp_elf.specs.Contents.{contents_of}
+use Rattle.dwp_elf.specs.FileText.{content_bytes}
+use Rattle.dwp_elf.proofs.places.content_size.Given as goal
+
+abbrev pub invariant-loop-section : goal.invariant-loop-section
+invariant-loop-section l =
+    l.size + length (content_bytes (contents_of (drop l.section-index l.sections))) ≡ length (content_bytes (contents_of l.sections))

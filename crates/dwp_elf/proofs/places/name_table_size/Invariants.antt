@@ -1,0 +1,9 @@
+use Rattle.std.proofs.Common.{◌≡◌, ◌+◌, ◌*◌, ◌≤◌, length, drop}
+use Rattle.dwp_elf.specs.Contents.{contents_of}
+use Rattle.dwp_elf.specs.FileText.{names_of, name_table}
+use Rattle.dwp_elf.proofs.places.name_table_size.Given as goal
+
+abbrev pub invariant-loop-section : goal.invariant-loop-section
+invariant-loop-section l =
+    (l.size + length (names_of (contents_of (drop l.section-index l.sections))) ≡ length (name_table (contents_of l.sections)))
+    × (l.size ≤ 11 + 25 * l.section-index)

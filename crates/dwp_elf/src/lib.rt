@@ -1,0 +1,20 @@
+//! ELF files: reading them, and writing the sections of a DWARF package (ELF gABI).
+#![tactic(auto)]
+
+mod contents;
+mod gathered;
+mod headers;
+mod law;
+mod object;
+mod output;
+mod places;
+
+pub use dwp_base::{Class, Contribution, ContributionOffset, Endianness, SectionKind};
+pub use dwp_elf_read::{
+    ElfFile, FileKind, RawRelocation, ReadError, Relocations, Section, Sections, WriteError,
+};
+pub use law::written_contents_are_read_back;
+pub use object::WritableObject;
+
+#[cfg(test)]
+mod tests;

@@ -1,0 +1,203 @@
+//! Objects that are made section by section, and written as ELF files.
+ghost use Rattle.std.specs.Prelude.{◌≡◌, ℕ, ◌+◌, ◌≤◌, ◌<◌, ◌^◌, ◌*◌, [], List, length, IfOk, IfErr, OnOk, OnErr, MatchResult, Some, None, Ok, Err, OkIff};
+ghost use Rattle.std.specs.Io.KnownBytes.{Appends};
+ghost use Rattle.dwp_elf_read.specs.declared.fault.WriteError.TheVariants.{NumberTooLarge, Memory};
+ghost use Rattle.dwp_elf.specs.Contents.{KindsDiffer, contents_of, content_of, appended, truncated};
+ghost use Rattle.dwp_elf.specs.FileText.{file_text};
+ghost use Rattle.dwp_elf.specs.Numbers.{Fits};
+ghost use Rattle.dwp_elf.specs.Places.{ArePlaces};
+ghost use Rattle.dwp_elf.specs.Refusals.{RefusesFile, RefusesWriter};
+ghost use Rattle.dwp_elf.specs.Writing.{Writes};
+
+use crate::contents::{append_to, truncate_to};
+use crate::headers::{entry_size, file_header};
+use crate::output::{
+    write_contents, write_name_table, write_section_headers, write_whole, write_zeros,
+};
+use crate::places::{Places, places_of};
+use dwp_base::{Class, Contribution, ContributionOffset, Endianness, SectionKind};
+use dwp_elf_read::WriteError;
+use std::alloc::Global;
+use std::io;
+use std::io::Write;
+use std::marker::Model;
+
+/// An ELF file that is being made: the contents of its sections, in order of first append.
+#[derive(Debug, Drop)]
+pub struct WritableObject {
+    alloc: Global,
+    class: Class,
+    machine: u16,
+    endianness: Endianness,
+    sections: Vec<(SectionKind, Vec<u8>)>,
+}
+
+impl Model for WritableObject {
+    ghost use Rattle.dwp_elf.specs.FileText.{Object};
+
+    ghost Value = { Object };
+
+    ghost use Rattle.dwp_elf.specs.Contents.{KindsDiffer, contents_of};
+    ghost use Rattle.dwp_elf.specs.Object.{object_of};
+
+    ghost view = { object_of };
+
+    ghost invariant = { λ w. KindsDiffer (contents_of w.sections.items) };
+}
+
+impl WritableObject {
+    /// An object without contents.
+    pub fn new(alloc: Global, class: Class, machine: u16, endianness: Endianness) -> WritableObject
+        ensures class { result.class ≡ class }
+        ensures machine { result.machine ≡ machine }
+        ensures endianness { result.order ≡ endianness }
+        ensures contents { result.contents ≡ [] }
+    {
+        WritableObject {
+            alloc,
+            class,
+            machine,
+            endianness,
+            sections: Vec::new(alloc),
+        }
+    }
+
+    /// The class of the file.
+    pub fn class(&self) -> Class
+        ensures { result ≡ self.now.class }
+    {
+        self.class
+    }
+
+    /// The machine's number.
+    pub fn machine(&self) -> u16
+        ensures { result ≡ self.now.machine }
+    {
+        self.machine
+    }
+
+    /// The byte order of the file.
+    pub fn endianness(&self) -> Endianness
+        ensures { result ≡ self.now.order }
+    {
+        self.endianness
+    }
+
+    /// The sections with their contents, in order of first append.
+    pub fn sections(&self) -> &[(SectionKind, Vec<u8>)]
+        ensures contents { contents_of result.now ≡ self.now.contents }
+        ensures distinct { KindsDiffer self.now.contents }
+    {
+        self.sections.as_slice()
+    }
+
+    /// Adds bytes at the end of a section's content, and tells where they are in it. The first bytes of a kind make its section;
+    /// no bytes make none. It refuses for want of memory alone, and then changes nothing.
+    pub fn append(
+        &mut self,
+        kind: SectionKind,
+        bytes: &[u8],
+    ) -> Result<Option<Contribution>, WriteError>
+        ensures nothing { length bytes.now ≡ 0 → (result ≡ Ok None) × (self.new ≡ self.old) }
+        ensures place { 0 < length bytes.now → IfOk result (λ place. place ≡ Some (record {
+          offset = record { 0 = length (content_of kind self.old.contents) };
+          size = length bytes.now;
+        })) }
+        ensures contents { 0 < length bytes.now → OnOk result
+            (self.new ≡ record self.old { contents = appended kind bytes.now self.old.contents }) }
+        ensures refused { IfErr result (λ e. e ≡ Memory) }
+        ensures unchanged { OnErr result (self.new ≡ self.old) }
+    {
+        if bytes.is_empty() {
+            return Ok(None);
+        }
+        let place = append_to(self.alloc, &mut self.sections, kind, bytes).map_err(
+            |_| WriteError::Memory,
+        )?;
+        Ok(Some(Contribution {
+            offset: ContributionOffset(place as u64),
+            size: bytes.len() as u64,
+        }))
+    }
+
+    /// Keeps as many sections as there are sizes, the first ones, each cut to its size. A content that is as short stays.
+    pub fn truncate(&mut self, sizes: &[usize])
+        ensures { self.new ≡ record self.old { contents = truncated self.old.contents sizes.now } }
+    {
+        truncate_to(&mut self.sections, sizes);
+    }
+
+    /// How many bytes the file has; NumberTooLarge where one of its offsets and sizes, or the length of an ELF 64 file, passes
+    /// the limit of its class. It takes no memory.
+    pub fn file_size(&self) -> Result<u64, WriteError>
+        ensures size { OkIff result (Fits self.now) (length (file_text self.now)) }
+        ensures refused { IfErr result (λ e. e ≡ NumberTooLarge) }
+    {
+        Ok(self.places()?.size)
+    }
+
+    /// The file as bytes: NumberTooLarge where `file_size` refuses, else Memory where memory runs out.
+    pub fn write(&self) -> Result<Vec<u8>, WriteError>
+        ensures text { IfOk result (λ file. file.items ≡ file_text self.now) }
+        ensures fits { OnOk result (Fits self.now) }
+        ensures refused { IfErr result (RefusesFile self.now) }
+    {
+        let places = self.places()?;
+        let mut file = Vec::with_capacity(self.alloc, places.size as usize).map_err(
+            |_| WriteError::Memory,
+        )?;
+        self.write_parts(&places, &mut file)
+            .map_err(|_| WriteError::Memory)?;
+        Ok(file)
+    }
+
+    /// Hands the file to a writer, large contents whole. It takes no memory, and calls no `write` again that failed.
+    ///
+    /// NumberTooLarge where `file_size` refuses, and then nothing is written; Io where the writer failed or took no bytes, and
+    /// then it has a beginning of the file.
+    pub fn write_to<W: Write>(&self, out: &mut W) -> Result<(), WriteError>
+        ensures fits { OnOk result (Fits self.now) }
+        ensures text { OnOk result (Appends (W.contents out.old) (W.contents out.new) (file_text self.now)) }
+        ensures refused { IfErr result (RefusesWriter self.now (W.contents out.old) (W.contents out.new)) }
+        ensures untouched { result ≡ Err NumberTooLarge → out.new ≡ out.old }
+    {
+        let places = self.places()?;
+        self.write_parts(&places, out).map_err(WriteError::Io)
+    }
+
+    /// Where the parts of the file lie.
+    fn places(&self) -> Result<Places, WriteError>
+        ensures ok { IfOk result (ArePlaces self.now.class self.now.contents) }
+        ensures fits { OnOk result (Fits self.now) }
+        ensures refused { IfErr result (λ e. (e ≡ NumberTooLarge) × ¬ Fits self.now) }
+    {
+        places_of(self.class, &self.sections).ok_or(WriteError::NumberTooLarge)
+    }
+
+    /// Hands the parts of the file to a writer, one after the other.
+    fn write_parts<W: Write>(&self, places: &Places, out: &mut W) -> io::Result<()>
+        requires { ArePlaces self.now.class self.now.contents places.now }
+        ensures { Writes result (W.contents out.old) (W.contents out.new) (file_text self.now) }
+    {
+        let count = self.sections.len() as u16 + 2;
+        let header = file_header(
+            self.class,
+            self.endianness,
+            self.machine,
+            places.headers,
+            count,
+        );
+        write_whole(out, header.as_slice())?;
+        write_contents(out, &self.sections)?;
+        write_name_table(out, &self.sections)?;
+        write_zeros(out, places.zeros as usize)?;
+        write_zeros(out, usize::from(entry_size(self.class)))?;
+        write_section_headers(
+            out,
+            self.class,
+            self.endianness,
+            places.names_size,
+            &self.sections,
+        )
+    }
+}

@@ -1,0 +1,107 @@
+//! Writing the parts of a file to a writer.
+ghost use Rattle.std.specs.Prelude.{◌≡◌, ◌+◌, ◌*◌, ◌^◌, ◌<◌, ◌≤◌, length, replicate};
+ghost use Rattle.dwp_elf.specs.Contents.{contents_of};
+ghost use Rattle.dwp_elf_read.specs.Layout.{header_size, word_size};
+ghost use Rattle.dwp_elf.specs.FileText.{content_bytes, names_of, name_table, headers_from};
+ghost use Rattle.dwp_elf.specs.Writing.{Writes};
+
+use crate::headers::{header_size, section_header};
+use dwp_base::{Class, Endianness, SectionKind};
+use std::io;
+use std::io::{ErrorKind, Write};
+
+/// Bytes of the program's own, as a content has.
+const PROGBITS: u32 = 1;
+/// A table of strings, as the names are.
+const STRTAB: u32 = 3;
+
+/// Zeros.
+const ZEROS: [u8; 64] = [0; 64];
+
+/// The name of the section that has the names.
+pub const NAMES: &[u8; 10] = b".shstrtab\0";
+
+/// Hands all of the bytes to the writer, in as many calls as it takes, and none of them twice.
+///
+/// It stops at the first call that fails or takes no bytes.
+pub fn write_whole<W: Write>(out: &mut W, bytes: &[u8]) -> io::Result<()>
+    ensures { Writes result (W.contents out.old) (W.contents out.new) bytes.now }
+{
+    let mut rest = bytes;
+    while !rest.is_empty() {
+        let taken = out.write(rest)?;
+        if taken == 0 {
+            return Err(io::Error::from(ErrorKind::WriteZero));
+        }
+        rest = &rest[taken..];
+    }
+    Ok(())
+}
+
+/// Writes zeros, at most 64 of them.
+pub fn write_zeros<W: Write>(out: &mut W, count: usize) -> io::Result<()>
+    requires { count ≤ 64 }
+    ensures { Writes result (W.contents out.old) (W.contents out.new) (replicate count 0) }
+{
+    write_whole(out, &ZEROS[..count])
+}
+
+/// Writes the contents, one after the other.
+pub fn write_contents<W: Write>(out: &mut W, sections: &[(SectionKind, Vec<u8>)]) -> io::Result<()>
+    ensures { Writes result (W.contents out.old) (W.contents out.new) (content_bytes (contents_of sections.now)) }
+{
+    for section in sections {
+        write_whole(out, &section.1)?;
+    }
+    Ok(())
+}
+
+/// Writes the names of the contents, each ended by a zero byte.
+fn write_names<W: Write>(out: &mut W, sections: &[(SectionKind, Vec<u8>)]) -> io::Result<()>
+    ensures { Writes result (W.contents out.old) (W.contents out.new) (names_of (contents_of sections.now)) }
+{
+    for section in sections {
+        write_whole(out, section.0.name().as_bytes())?;
+        write_whole(out, &[0])?;
+    }
+    Ok(())
+}
+
+/// Writes the content of `.shstrtab`.
+pub fn write_name_table<W: Write>(
+    out: &mut W,
+    sections: &[(SectionKind, Vec<u8>)],
+) -> io::Result<()>
+    ensures { Writes result (W.contents out.old) (W.contents out.new) (name_table (contents_of sections.now)) }
+{
+    write_whole(out, &[0])?;
+    write_names(out, sections)?;
+    write_whole(out, NAMES)
+}
+
+/// Writes the headers of the contents and of `.shstrtab`, whose content has `names_size` bytes.
+pub fn write_section_headers<W: Write>(
+    out: &mut W,
+    class: Class,
+    endianness: Endianness,
+    names_size: u64,
+    sections: &[(SectionKind, Vec<u8>)],
+) -> io::Result<()>
+    requires few { length sections.now ≤ 13 }
+    requires places_fit { header_size class + length (content_bytes (contents_of sections.now)) < 2 ^ (8 * word_size class) }
+    requires names_fit { names_size < 2 ^ (8 * word_size class) }
+    ensures { Writes result (W.contents out.old) (W.contents out.new)
+        (headers_from class endianness names_size 1 (header_size class) (contents_of sections.now)) }
+{
+    let mut name = 1;
+    let mut place = u64::from(header_size(class));
+    for section in sections {
+        let size = section.1.len() as u64;
+        let header = section_header(class, endianness, name, PROGBITS, place, size);
+        write_whole(out, header.as_slice())?;
+        name += section.0.name().len() as u32 + 1;
+        place += size;
+    }
+    let header = section_header(class, endianness, name, STRTAB, place, names_size);
+    write_whole(out, header.as_slice())
+}

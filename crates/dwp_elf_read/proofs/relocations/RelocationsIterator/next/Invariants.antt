@@ -1,0 +1,9 @@
+use Rattle.std.proofs.Common.{◌≡◌, ◌-◌}
+use Rattle.dwp_elf_read.specs.View.{relocations_left}
+use Rattle.dwp_elf_read.proofs.relocations.RelocationsIterator.next.Given as goal
+
+abbrev pub invariant-loop-entry : goal.invariant-loop-entry
+invariant-loop-entry l = relocations_left l.self ≡ relocations_left l.initial.self
+
+abbrev pub decreases-loop-entry : goal.decreases-loop-entry
+decreases-loop-entry l = l.self.file.count - l.self.section

@@ -1,0 +1,155 @@
+ghost use Rattle.std.specs.Prelude.{◌+◌, ◌*◌, ◌≤◌, length};
+ghost use Rattle.dwp_elf_read.specs.Layout.{entry_size};
+
+use crate::fault::ReadError;
+use crate::image::Image;
+use crate::kind::identity;
+use crate::section::{Section, Sections};
+use crate::symbol;
+use dwp_base::{Class, Endianness};
+
+/// An ELF file of 32 or 64 bits, in either byte order.
+#[derive(Clone, Copy)]
+pub struct ElfFile<'a> {
+    pub(crate) image: Image<'a>,
+    pub(crate) machine: u16,
+    pub(crate) table: usize,
+    pub(crate) count: usize,
+    pub(crate) names: Option<&'a [u8]>,
+    pub ghost headers_inside: { table + count * entry_size image.class ≤ length image.bytes.now },
+}
+
+impl<'a> ElfFile<'a> {
+    ghost use Rattle.std.specs.Prelude.{◌≡◌, ◌^◌, ◌<◌, length, option_map, IfSome, slice_get, find};
+    ghost use Rattle.dwp_base.specs.Reading.{Answers};
+    ghost use Rattle.dwp_elf_read.specs.Elf.{elf_of, is_named};
+    ghost use Rattle.dwp_elf_read.specs.Symbol.{symbol_value_of};
+    ghost use Rattle.dwp_elf_read.specs.View.{elf, nth, section, file, sections_left, placed_sections};
+
+    /// The file that the bytes are.
+    ///
+    /// # Errors
+    /// The first fault, in this order: `TooShort` below 16 bytes, `NotElf`, `TooShort` below a header of the class,
+    /// `ByteOrder`, `Version`, `SectionEntrySize`, `SectionTable` and `NameTable`.
+    #[tactic(auto, unfolding(crate::specs::Elf::elf_of, crate::specs::View::elf, crate::specs::View::sections_after))]
+    pub fn parse(bytes: &'a [u8]) -> Result<ElfFile<'a>, ReadError>
+        ensures { Answers elf result (elf_of bytes.now) }
+    {
+        let (class, order) = identity(bytes)?;
+        let image = Image {
+            class,
+            order,
+            bytes,
+        };
+        let header = image.file_header();
+        let count = image.count_sections(&header)?;
+        let names = image.names(&header, count)?;
+        Ok(ElfFile {
+            image,
+            machine: header.machine,
+            table: header.table as usize,
+            count,
+            names,
+        })
+    }
+
+    /// How wide addresses, offsets and sizes are.
+    #[tactic(auto, unfolding(crate::specs::View::elf))]
+    pub fn class(&self) -> Class
+        ensures { result ≡ (elf self.now).class }
+    {
+        self.image.class
+    }
+
+    /// The order of the bytes of numbers.
+    #[tactic(auto, unfolding(crate::specs::View::elf))]
+    pub fn endianness(&self) -> Endianness
+        ensures { result ≡ (elf self.now).order }
+    {
+        self.image.order
+    }
+
+    /// The machine that the file is for (ELF gABI, `e_machine`).
+    #[tactic(auto, unfolding(crate::specs::View::elf))]
+    pub fn machine(&self) -> u16
+        ensures { result ≡ (elf self.now).machine }
+    {
+        self.machine
+    }
+
+    /// How many sections the file has, the one numbered 0 among them.
+    pub fn section_count(&self) -> usize
+        ensures { result ≡ length (elf self.now).sections }
+    {
+        self.count
+    }
+
+    /// The section of a number.
+    #[tactic(auto, unfolding(crate::specs::View::section, crate::specs::View::file))]
+    pub(crate) fn section_at(&self, i: usize) -> Section<'a>
+        requires { i < self.now.count }
+        ensures value { section result ≡ nth self.now i }
+        ensures in_file { file result ≡ elf self.now }
+    {
+        Section {
+            file: *self,
+            number: i,
+            header: self.image.header_of(self.table, i),
+        }
+    }
+
+    /// The i-th section, counted from 0; `None` past the last one.
+    pub fn section(&self, i: usize) -> Option<Section<'a>>
+        ensures found { option_map section result ≡ slice_get (elf self.now).sections i }
+        ensures in_file { IfSome result (λ s. file s ≡ elf self.now) }
+    {
+        if i < self.count {
+            Some(self.section_at(i))
+        } else {
+            None
+        }
+    }
+
+    /// The sections in order of number.
+    #[tactic(auto, unfolding(crate::specs::View::sections_left, crate::specs::View::elf))]
+    pub fn sections(&self) -> Sections<'a>
+        ensures sections { sections_left result ≡ placed_sections (elf self.now) (elf self.now).sections }
+        ensures bound { length (sections_left result) < 2 ^ 64 }
+    {
+        let _count = self.count;
+        Sections {
+            file: *self,
+            next: 0,
+        }
+    }
+
+    /// The first section of a name. Sections whose name can't be read are passed over.
+    pub fn section_by_name(&self, name: &str) -> Option<Section<'a>>
+        ensures found { option_map section result ≡ find (is_named name.now) (elf self.now).sections }
+        ensures in_file { IfSome result (λ s. file s ≡ elf self.now) }
+    {
+        for i in 0..self.count {
+            let section = self.section_at(i);
+            if section.is_called(name) {
+                return Some(section);
+            }
+        }
+        None
+    }
+
+    /// The value of symbol `i` of the symbol table with the number `table`. That of symbol 0 is 0.
+    ///
+    /// # Errors
+    /// `SymbolTable` where the section isn't a symbol table whose content lies in the file, `SymbolIndex` where the
+    /// table has no such symbol.
+    #[tactic(auto, unfolding(crate::specs::Symbol::symbol_value_of, crate::specs::View::elf))]
+    pub fn symbol_value(&self, table: u32, i: u32) -> Result<u64, ReadError>
+        ensures { Answers (λ value. value) result (symbol_value_of (elf self.now) table i) }
+    {
+        if i == 0 {
+            return Ok(0);
+        }
+        let content = symbol::symbols(self.section(table as usize))?;
+        symbol::value(&self.image.with_bytes(content), i)
+    }
+}

@@ -1,0 +1,108 @@
+ghost use Rattle.std.specs.Prelude.{◌≡◌, ◌+◌, ◌*◌, ◌≤◌, length};
+ghost use Rattle.std.specs.Option.{option_copied};
+ghost use Rattle.dwp_elf_read.specs.Layout.{word_size, header_size, entry_size, file_header_of, section_header_of};
+ghost use Rattle.dwp_elf_read.specs.Elf.{header_at, content_of};
+
+use crate::image::{Image, entry_size_of, word_size_of};
+
+/// The type of a section that has no bytes in the file (`SHT_NOBITS`).
+pub(crate) const NOBITS: u32 = 8;
+
+/// What is read of a file's header.
+#[derive(Clone, Copy)]
+pub(crate) struct FileHeader {
+    /// The machine that the file is for.
+    pub machine: u16,
+    /// Where the section headers begin; 0 where there are none.
+    pub table: u64,
+    /// The bytes of a section header.
+    pub entry_size: u16,
+    /// How many section headers there are; 0 where section 0's size says it.
+    pub count: u16,
+    /// The number of the section with the sections' names.
+    pub names: u16,
+}
+
+/// A section header as it stands in a file (ELF gABI, "Section Header").
+#[derive(Clone, Copy)]
+pub(crate) struct SectionHeader {
+    /// Where the name stands in the name table.
+    pub name: u32,
+    /// The section's type.
+    pub kind: u32,
+    /// The section's flags.
+    pub flags: u64,
+    /// Where the section lies in the memory of a process; 0 where it doesn't.
+    pub address: u64,
+    /// Where the content begins in the file.
+    pub offset: u64,
+    /// How many bytes the content has.
+    pub size: u64,
+    /// The number of a section that goes with this one.
+    pub link: u32,
+    /// More on the section, as its type says.
+    pub info: u32,
+}
+
+impl<'a> Image<'a> {
+    /// The file's header.
+    #[tactic(auto, unfolding(crate::specs::Layout::file_header_of))]
+    pub fn file_header(&self) -> FileHeader
+        requires { header_size self.now.class ≤ length self.now.bytes.now }
+        ensures { result ≡ file_header_of (word_size self.now.class) self.now.order self.now.bytes.now }
+    {
+        let word = word_size_of(self.class);
+        FileHeader {
+            machine: self.u16_at(18),
+            table: self.word_at(24 + 2 * word),
+            entry_size: self.u16_at(34 + 3 * word),
+            count: self.u16_at(36 + 3 * word),
+            names: self.u16_at(38 + 3 * word),
+        }
+    }
+
+    /// The section header that the bytes begin with.
+    #[tactic(auto, unfolding(crate::specs::Layout::section_header_of))]
+    fn section_header(&self) -> SectionHeader
+        requires { entry_size self.now.class ≤ length self.now.bytes.now }
+        ensures { result ≡ section_header_of (word_size self.now.class) self.now.order self.now.bytes.now }
+    {
+        let word = word_size_of(self.class);
+        SectionHeader {
+            name: self.u32_at(0),
+            kind: self.u32_at(4),
+            flags: self.word_at(8),
+            address: self.word_at(8 + word),
+            offset: self.word_at(8 + 2 * word),
+            size: self.word_at(8 + 3 * word),
+            link: self.u32_at(8 + 4 * word),
+            info: self.u32_at(12 + 4 * word),
+        }
+    }
+
+    /// The header of the i-th section, where the section headers begin at `table`.
+    pub fn header_of(&self, table: usize, i: usize) -> SectionHeader
+        requires { table + (i * entry_size self.now.class + entry_size self.now.class) ≤ length self.now.bytes.now }
+        ensures { result ≡ header_at self.now.class self.now.order self.now.bytes.now table i }
+    {
+        let place = table + i * entry_size_of(self.class);
+        self.with_bytes(self.bytes.split_at(place).1)
+            .section_header()
+    }
+
+    /// The content of a section, if it lies in the file.
+    #[tactic(auto, unfolding(crate::specs::Elf::content_of))]
+    pub fn content(&self, header: &SectionHeader) -> Option<&'a [u8]>
+        ensures { option_copied result ≡ content_of self.now.bytes.now header.now }
+    {
+        if header.kind == NOBITS {
+            return Some(&[]);
+        }
+        if !self.contains(header.offset, header.size) {
+            return None;
+        }
+        let bytes = self.bytes;
+        let start = header.offset as usize;
+        Some(&bytes[start..start + header.size as usize])
+    }
+}

@@ -1,0 +1,26 @@
+//! Reading ELF files: sections, their relocations, and the values of symbols (ELF gABI).
+//!
+//! A file is read in place: what is given borrows from the bytes that were handed in, and nothing is allocated.
+#![tactic(auto)]
+
+mod fault;
+mod file;
+mod header;
+mod image;
+mod kind;
+mod name;
+mod relocation;
+mod relocations;
+mod section;
+mod sections;
+mod symbol;
+mod table;
+#[cfg(test)]
+mod tests;
+
+pub use fault::{ReadError, WriteError};
+pub use file::ElfFile;
+pub use kind::FileKind;
+pub use relocation::RawRelocation;
+pub use relocations::Relocations;
+pub use section::{Section, Sections};

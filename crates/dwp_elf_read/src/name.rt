@@ -1,0 +1,26 @@
+ghost use Rattle.std.specs.Prelude.{◌≡◌, option_map};
+ghost use Rattle.dwp_elf_read.specs.Elf.{text_of, text_at};
+
+use memchr::memchr;
+
+/// The bytes as text, if they are that.
+#[tactic(auto, unfolding(crate::specs::Elf::text_of))]
+fn text(bytes: &[u8]) -> Option<&str>
+    ensures { option_map (λ text. text.now) result ≡ text_of bytes.now }
+{
+    std::str::from_utf8(bytes).ok()
+}
+
+/// The text from a place of a string table to the next zero byte.
+#[tactic(auto, unfolding(crate::specs::Elf::text_at))]
+pub(crate) fn text_in(table: &[u8], place: u32) -> Option<&str>
+    ensures { option_map (λ text. text.now) result ≡ text_at table.now place }
+{
+    let place = place as usize;
+    if place > table.len() {
+        return None;
+    }
+    let rest = table.split_at(place).1;
+    let end = memchr(0, rest)?;
+    text(rest.split_at(end).0)
+}

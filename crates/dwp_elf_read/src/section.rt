@@ -1,0 +1,161 @@
+use crate::fault::ReadError;
+use crate::file::ElfFile;
+use crate::header::{NOBITS, SectionHeader};
+use crate::name::text_in;
+use crate::relocations::Relocations;
+
+/// The flag of a section whose content is compressed (`SHF_COMPRESSED`).
+const COMPRESSED: u64 = 0x800;
+
+/// A section of an ELF file.
+#[derive(Clone, Copy)]
+pub struct Section<'a> {
+    pub(crate) file: ElfFile<'a>,
+    pub(crate) number: usize,
+    pub(crate) header: SectionHeader,
+}
+
+#[tactic(auto, unfolding(crate::specs::View::section, crate::specs::Elf::section_of))]
+impl<'a> Section<'a> {
+    ghost use Rattle.dwp_elf_read.specs.declared.fault.ReadError.TheVariants.{NameRange, SectionRange};
+    ghost use Rattle.std.specs.Prelude.{◌≡◌, ◌↔◌, ◌||◌, ◌==◌, IsTrue};
+    ghost use Rattle.std.specs.Option.{ok_or};
+    ghost use Rattle.dwp_base.specs.Reading.{Answers};
+    ghost use Rattle.dwp_elf_read.specs.Elf.{nobits, is_named, has_compressed_flag};
+    ghost use Rattle.dwp_elf_read.specs.Relocation.{relocations_of};
+    ghost use Rattle.dwp_elf_read.specs.View.{section, file, relocations_left};
+
+    /// The section's number.
+    pub fn number(&self) -> usize
+        ensures { result ≡ (section self.now).number }
+    {
+        self.number
+    }
+
+    /// The section's type (`sh_type`).
+    pub fn kind(&self) -> u32
+        ensures { result ≡ (section self.now).kind }
+    {
+        self.header.kind
+    }
+
+    /// The section's flags (`sh_flags`).
+    pub fn flags(&self) -> u64
+        ensures { result ≡ (section self.now).flags }
+    {
+        self.header.flags
+    }
+
+    /// Where the section lies in the memory of a process; 0 where it doesn't (`sh_addr`).
+    pub fn address(&self) -> u64
+        ensures { result ≡ (section self.now).address }
+    {
+        self.header.address
+    }
+
+    /// The section's size as its header says it (`sh_size`).
+    pub fn size(&self) -> u64
+        ensures { result ≡ (section self.now).size }
+    {
+        self.header.size
+    }
+
+    /// The number of the section that goes with this one (`sh_link`).
+    pub fn link(&self) -> u32
+        ensures { result ≡ (section self.now).link }
+    {
+        self.header.link
+    }
+
+    /// What the section's type says (`sh_info`).
+    pub fn info(&self) -> u32
+        ensures { result ≡ (section self.now).info }
+    {
+        self.header.info
+    }
+
+    /// Whether the section has no bytes: its size is 0, or its type is that of sections without bytes.
+    pub fn is_empty(&self) -> bool
+        ensures { result ≡ ((section self.now).size == 0 || (section self.now).kind == nobits) }
+    {
+        self.size() == 0 || self.kind() == NOBITS
+    }
+
+    /// Whether the content is compressed (`SHF_COMPRESSED`).
+    pub fn is_compressed(&self) -> bool
+        ensures { result ≡ has_compressed_flag (section self.now) }
+    {
+        self.flags() & COMPRESSED != 0
+    }
+
+    /// The section's name.
+    ///
+    /// # Errors
+    /// `NameRange` where the file has no name table, the name lies outside of it, has no end or isn't UTF-8.
+    pub fn name(&self) -> Result<&'a str, ReadError>
+        ensures { Answers (λ name. name.now) result (ok_or (section self.now).name NameRange) }
+    {
+        let Some(table) = self.file.names else {
+            return Err(ReadError::NameRange);
+        };
+        text_in(table, self.header.name).ok_or(ReadError::NameRange)
+    }
+
+    /// Whether the section has a name that can be read, and it is this one.
+    pub(crate) fn is_called(&self, name: &str) -> bool
+        ensures { result ≡ is_named name.now (section self.now) }
+    {
+        match self.name() {
+            Ok(own) => own == name,
+            Err(_) => false,
+        }
+    }
+
+    /// The section's content; empty for a section without bytes in the file.
+    ///
+    /// # Errors
+    /// `SectionRange` where it lies outside the file.
+    pub fn data(&self) -> Result<&'a [u8], ReadError>
+        ensures { Answers (λ bytes. bytes.now) result (ok_or (section self.now).content SectionRange) }
+    {
+        self.file
+            .image
+            .content(&self.header)
+            .ok_or(ReadError::SectionRange)
+    }
+
+    /// The relocations of this section, in file order: those of every section of relocations that names it.
+    #[tactic(auto, unfolding(crate::specs::View::section, crate::specs::View::file, crate::specs::Elf::section_of))]
+    pub fn relocations(&self) -> Relocations<'a>
+        ensures { relocations_left result ≡ relocations_of (file self.now) (section self.now).number }
+    {
+        Relocations::of(self.file, self.number)
+    }
+}
+
+/// The sections of a file, in order of number.
+#[derive(Clone, Copy)]
+pub struct Sections<'a> {
+    pub(crate) file: ElfFile<'a>,
+    pub(crate) next: usize,
+}
+
+impl<'a> Iterator for Sections<'a> {
+    ghost use Rattle.std.specs.Iterator.{YieldsFirstBy, item_count};
+    ghost use Rattle.dwp_elf_read.specs.View.{placed, sections_left};
+
+    type Item = Section<'a>;
+
+    ghost next_gives = { YieldsFirstBy placed sections_left };
+
+    ghost remaining = { item_count sections_left };
+
+    fn next(&mut self) -> Option<Section<'a>> {
+        if self.next >= self.file.count {
+            return None;
+        }
+        let section = self.file.section_at(self.next);
+        self.next += 1;
+        Some(section)
+    }
+}

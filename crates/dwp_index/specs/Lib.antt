@@ -1,0 +1,12 @@
+pub mod Index
+pub mod IndexBytes
+pub mod Fields
+pub mod RowFields
+pub mod Used
+pub mod Entries
+pub mod Contents
+pub mod ContentFields
+pub mod Strings
+pub mod Package
+pub mod PackageFields
+pub mod UnitFields

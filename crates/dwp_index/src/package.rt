@@ -1,0 +1,238 @@
+//! Packages: the units that their indexes name, with all that belongs to each.
+
+ghost use Rattle.std.specs.Prelude.{◌≡◌};
+ghost use Rattle.std.specs.Option.{option_copied};
+ghost use Rattle.dwp_base.specs.Reading.{Answers};
+ghost use Rattle.dwp_elf_read.specs.Elf.{elf_of};
+ghost use Rattle.dwp_elf_read.specs.View.{elf};
+ghost use Rattle.dwp_index.specs.Contents.{content, contents_of};
+ghost use Rattle.dwp_index.specs.ContentFields.{contents_in};
+ghost use Rattle.dwp_index.specs.Index.{row_in, range_in};
+ghost use Rattle.dwp_index.specs.IndexBytes.{index_of};
+ghost use Rattle.dwp_index.specs.Package.{as_fault, is_outside, package_of, index_in_section, index_for, first_outside, encoding_in, unit_in, unit_at_row, found_counted, found};
+ghost use Rattle.dwp_index.specs.declared.fault.PackageError.TheVariants as faults;
+
+use crate::contents::Contents;
+use crate::fault::PackageError;
+use crate::unit::{PackagedUnit, encoding_in, kind_of, lies_inside, place_of, row_bytes};
+use crate::unit_index::{Row, UnitIndex};
+use crate::units::Units;
+use dwp_base::{Endianness, SectionKind};
+use dwp_dwarf::UnitSection;
+use dwp_elf_read::ElfFile;
+use dwp_reader::Encoding;
+use dwp_table::{Bucketable, CONTRIBUTION_KINDS, DwarfObject};
+use std::marker::Model;
+
+/// A package file: its sections, and the indexes that say which parts of them belong to which unit
+/// (DWARF 5, 7.3.5; the GNU page DebugFissionDWP).
+#[derive(Drop)]
+pub struct PackageFile<'a> {
+    order: Endianness,
+    contents: Contents<'a>,
+    compilations: Option<UnitIndex<'a>>,
+    types: Option<UnitIndex<'a>>,
+}
+
+impl<'a> Model for PackageFile<'a> {
+    ghost use Rattle.dwp_index.specs.Package.{Package};
+
+    ghost Value = { Package };
+
+    ghost use Rattle.dwp_index.specs.PackageFields.{package_in};
+
+    ghost view = { package_in };
+}
+
+impl<'a> PackageFile<'a> {
+    ghost use Rattle.dwp_index.specs.Entries.{units_left, entries_from};
+
+    /// Reads a package. `Elf` where the file, or the first section of one of the names of a package,
+    /// can't be read or is compressed; `Index` where an index is malformed, the one of compilation
+    /// units first. An empty index section is none.
+    #[tactic(auto, unfolding(crate::specs::Package::package_of))]
+    pub fn parse(bytes: &'a [u8]) -> Result<PackageFile<'a>, PackageError>
+        ensures { Answers (λ x. x) result (package_of bytes.now) }
+    {
+        let file = read_file(bytes)?;
+        let contents = read_contents(&file)?;
+        let order = file.endianness();
+        let compilations = read_index(contents.of(SectionKind::CuIndex), order)?;
+        let types = read_index(contents.of(SectionKind::TuIndex), order)?;
+        Ok(PackageFile {
+            order,
+            contents,
+            compilations,
+            types,
+        })
+    }
+
+    /// The unit of an identifier, by the probing of DWARF 5, 7.3.5.3, in the index of its kind; None
+    /// where the index hasn't it. `Index` where its row is past the rows, `Range` for the first range
+    /// outside its section, `Unit` where its header can't be read.
+    #[tactic(auto, unfolding(crate::specs::Package::found))]
+    pub fn find(&self, object: DwarfObject) -> Result<Option<PackagedUnit<'a>>, PackageError>
+        ensures { Answers (λ x. x) result (found self.now object) }
+    {
+        let (unit, _) = self.find_counted(object)?;
+        Ok(unit)
+    }
+
+    /// The same, and how many slots were looked at; 0 where there is no index of the kind.
+    #[tactic(auto, unfolding(crate::specs::Package::found_counted))]
+    pub fn find_counted(
+        &self,
+        object: DwarfObject,
+    ) -> Result<(Option<PackagedUnit<'a>>, u32), PackageError>
+        ensures { Answers (λ x. x) result (found_counted self.now object) }
+    {
+        match self.index_for(object) {
+            None => Ok((None, 0)),
+            Some(index) => {
+                let (found, count) = index.find_counted(object.index());
+                match found {
+                    None => Ok((None, count)),
+                    Some(number) => self.unit_at_row(object, index, number, count),
+                }
+            }
+        }
+    }
+
+    /// The units that the slots of both indexes name, in order of slot, those of the compilation index first.
+    pub fn units(&self) -> Units<'_>
+        ensures { units_left result ≡ entries_from self.now.compilations self.now.types 0 0 }
+    {
+        Units {
+            compilations: self.compilations.as_ref(),
+            types: self.types.as_ref(),
+            compilation: 0,
+            type_unit: 0,
+        }
+    }
+
+    // The index of the units of a kind.
+    fn index_for(&self, object: DwarfObject) -> Option<&UnitIndex<'a>>
+        ensures { option_copied result ≡ index_for self.now object }
+    {
+        match object {
+            DwarfObject::Compilation(_) => self.compilations.as_ref(),
+            DwarfObject::TypeUnit(_) => self.types.as_ref(),
+        }
+    }
+
+    // The unit of a row number.
+    #[tactic(auto, unfolding(crate::specs::Package::unit_at_row))]
+    fn unit_at_row(
+        &self,
+        object: DwarfObject,
+        index: &UnitIndex<'a>,
+        number: u32,
+        count: u32,
+    ) -> Result<(Option<PackagedUnit<'a>>, u32), PackageError>
+        ensures { Answers (λ x. x) result (unit_at_row self.now object index.now number count) }
+    {
+        let row = read_row(index, number)?;
+        let unit = self.unit_in(object, number, row)?;
+        Ok((Some(unit), count))
+    }
+
+    // The unit of a row.
+    #[tactic(auto, unfolding(crate::specs::Package::unit_in))]
+    fn unit_in(
+        &self,
+        object: DwarfObject,
+        number: u32,
+        row: Row<'a>,
+    ) -> Result<PackagedUnit<'a>, PackageError>
+        ensures { Answers (λ x. x) result (unit_in self.now object number row.entry) }
+    {
+        if let Some(kind) = first_outside(&self.contents, &row) {
+            return Err(PackageError::Range(kind));
+        }
+        let place = place_of(object, row.range(SectionKind::Types));
+        let bytes = row_bytes(&self.contents, &row, kind_of(place));
+        let encoding = read_encoding(bytes, self.order, place)?;
+        Ok(PackagedUnit {
+            order: self.order,
+            contents: self.contents,
+            number,
+            row,
+            bytes,
+            encoding,
+        })
+    }
+}
+
+fn read_file(bytes: &[u8]) -> Result<ElfFile<'_>, PackageError>
+    ensures { Answers elf result (as_fault faults.Elf (elf_of bytes.now)) }
+{
+    match ElfFile::parse(bytes) {
+        Ok(file) => Ok(file),
+        Err(e) => Err(PackageError::Elf(e)),
+    }
+}
+
+fn read_contents<'a>(file: &ElfFile<'a>) -> Result<Contents<'a>, PackageError>
+    ensures { Answers contents_in result (as_fault faults.Elf (contents_of (elf file.now).sections)) }
+{
+    match Contents::read(file) {
+        Ok(contents) => Ok(contents),
+        Err(e) => Err(PackageError::Elf(e)),
+    }
+}
+
+// The index in a section's content; none in an empty one.
+#[tactic(auto, unfolding(crate::specs::Package::index_in_section))]
+fn read_index<'a>(bytes: &'a [u8], order: Endianness) -> Result<Option<UnitIndex<'a>>, PackageError>
+    ensures { Answers (λ x. x) result (index_in_section order bytes.now) }
+{
+    if bytes.is_empty() {
+        return Ok(None);
+    }
+    match UnitIndex::parse(bytes, order) {
+        Ok(index) => Ok(Some(index)),
+        Err(e) => Err(PackageError::Index(e)),
+    }
+}
+
+fn read_row<'a>(index: &UnitIndex<'a>, number: u32) -> Result<Row<'a>, PackageError>
+    ensures { Answers (λ x. x) result (as_fault faults.Index (row_in index.now number)) }
+{
+    match index.row(number) {
+        Ok(row) => Ok(row),
+        Err(e) => Err(PackageError::Index(e)),
+    }
+}
+
+fn read_encoding(
+    bytes: &[u8],
+    order: Endianness,
+    place: UnitSection,
+) -> Result<Encoding, PackageError>
+    ensures { Answers (λ x. x) result (as_fault faults.Unit (encoding_in order place bytes.now)) }
+{
+    match encoding_in(bytes, order, place) {
+        Ok(encoding) => Ok(encoding),
+        Err(e) => Err(PackageError::Unit(e)),
+    }
+}
+
+// The first section, in the order of columns, that a range of the row isn't inside of.
+#[tactic(auto, unfolding(crate::specs::Package::first_outside))]
+fn first_outside(contents: &Contents<'_>, row: &Row<'_>) -> Option<SectionKind>
+    ensures { result ≡ first_outside (contents_in contents.now) row.now }
+{
+    CONTRIBUTION_KINDS
+        .iter()
+        .copied()
+        .find(|kind| is_outside(contents, row, *kind))
+}
+
+fn is_outside(contents: &Contents<'_>, row: &Row<'_>, kind: SectionKind) -> bool
+    ensures { result ≡ is_outside (content (contents_in contents.now) kind) (range_in row.now kind) }
+{
+    match row.range(kind) {
+        None => false,
+        Some(range) => !lies_inside(contents.of(kind), range),
+    }
+}

@@ -1,0 +1,163 @@
+ghost use Rattle.std.specs.Prelude.{◌≡◌, ◌==◌, ◌*◌, ◌<◌, ◌≤◌, ◌+◌, [], length, drop, IfSome, IfOk, OnOk, IsTrue};
+ghost use Rattle.std.specs.List.{position_from};
+ghost use Rattle.dwp_base.specs.Numbers.{number};
+ghost use Rattle.dwp_base.specs.Reading.{Answers};
+ghost use Rattle.dwp_index.specs.Index.{column_place};
+ghost use Rattle.dwp_index.specs.IndexBytes.{numbers, after, version_of, counts_of, columns_at, is_slot_count, Counts};
+
+use dwp_base::{Endianness, SectionKind};
+use dwp_reader::ReadError;
+use dwp_table::{column_of, kind_of_column};
+
+/// How many columns, rows and slots an index has.
+#[derive(Clone, Copy)]
+pub(crate) struct Sizes {
+    pub(crate) columns: u32,
+    pub(crate) units: u32,
+    pub(crate) slots: u32,
+}
+
+/// The bytes from a place on.
+#[tactic(auto, using(std::proofs::lemmas::List::take_rest))]
+pub(crate) fn tail(bytes: &[u8], at: usize) -> &[u8]
+    requires { at ≤ length bytes.now }
+    ensures { result.now ≡ drop at bytes.now }
+{
+    &bytes[at..]
+}
+
+/// The number in the four bytes at a place.
+pub(crate) fn read_u32_at(bytes: &[u8], order: Endianness, at: usize) -> u32
+    requires { at + 4 ≤ length bytes.now }
+    ensures { result ≡ number order 4 (drop at bytes.now) }
+{
+    order.read_u32(tail(bytes, at))
+}
+
+/// The number in the eight bytes at a place.
+pub(crate) fn read_u64_at(bytes: &[u8], order: Endianness, at: usize) -> u64
+    requires { at + 8 ≤ length bytes.now }
+    ensures { result ≡ number order 8 (drop at bytes.now) }
+{
+    order.read_u64(tail(bytes, at))
+}
+
+/// The version of an index: 2 or 5.
+#[tactic(auto, unfolding(crate::specs::IndexBytes::version_of))]
+pub(crate) fn version_of(bytes: &[u8], order: Endianness) -> Result<u16, ReadError>
+    ensures { Answers (λ x. x) result (version_of order bytes.now) }
+{
+    if bytes.len() < 4 {
+        return Err(ReadError::UnexpectedEof);
+    }
+    if order.read_u32(bytes) == 2 {
+        Ok(2)
+    } else if order.read_u16(bytes) == 5 {
+        Ok(5)
+    } else {
+        Err(ReadError::IndexVersion)
+    }
+}
+
+/// The counts of an index's header.
+#[tactic(auto, unfolding(crate::specs::IndexBytes::counts_of))]
+pub(crate) fn counts_of(bytes: &[u8], order: Endianness) -> Result<Sizes, ReadError>
+    ensures exact { Answers (λ x. record { columns = x.columns; units = x.units; slots = x.slots }) result (counts_of order bytes.now) }
+    ensures enough { OnOk result (16 ≤ length bytes.now) }
+    ensures slots { IfOk result (λ x. IsTrue (is_slot_count x.units x.slots)) }
+{
+    if bytes.len() < 16 {
+        return Err(ReadError::UnexpectedEof);
+    }
+    let columns = order.read_u32(&bytes[4..]);
+    let units = order.read_u32(&bytes[8..]);
+    let slots = order.read_u32(&bytes[12..]);
+    if (slots.is_power_of_two() && units < slots) || (slots == 0 && units == 0) {
+        Ok(Sizes {
+            columns,
+            units,
+            slots,
+        })
+    } else {
+        Err(ReadError::SlotCount)
+    }
+}
+
+/// What is left after so many bytes.
+pub(crate) fn after(bytes: &[u8], count: u64) -> Result<&[u8], ReadError>
+    ensures exact { Answers (λ x. x.now) result (after count bytes.now) }
+    ensures enough { OnOk result (count ≤ length bytes.now) }
+{
+    if (bytes.len() as u64) < count {
+        return Err(ReadError::UnexpectedEof);
+    }
+    Ok(&bytes[count as usize..])
+}
+
+/// What is left after rows of numbers of 4 bytes.
+pub(crate) fn after_rows(bytes: &[u8], columns: u32, units: u32) -> Result<&[u8], ReadError>
+    ensures exact { Answers (λ x. x.now) result (after (4 * columns * units) bytes.now) }
+    ensures enough { OnOk result (4 * columns * units ≤ length bytes.now) }
+{
+    match (4 * columns as u64).checked_mul(units as u64) {
+        Some(count) => after(bytes, count),
+        None => Err(ReadError::UnexpectedEof),
+    }
+}
+
+/// What is left after so many columns, each of which the version has, and none twice.
+pub(crate) fn after_columns(
+    bytes: &[u8],
+    order: Endianness,
+    version: u16,
+    count: u32,
+) -> Result<&[u8], ReadError>
+    ensures exact { Answers (λ x. (numbers order 4 count bytes.now, x.now)) result (columns_at order version [] count bytes.now) }
+    ensures enough { OnOk result (4 * count ≤ length bytes.now) }
+{
+    for i in 0..count {
+        let at = 4 * i as usize;
+        if bytes.len() < at + 4 {
+            return Err(ReadError::UnexpectedEof);
+        }
+        let number = read_u32_at(bytes, order, at);
+        if kind_of_column(version, number).is_none() {
+            return Err(ReadError::UnknownColumn);
+        }
+        if place_of_number(bytes, order, i as usize, number).is_some() {
+            return Err(ReadError::RepeatedColumn);
+        }
+    }
+    Ok(tail(bytes, 4 * count as usize))
+}
+
+/// The place of a section's column among the columns, where it has one.
+#[tactic(auto, unfolding(crate::specs::Index::column_place))]
+pub(crate) fn column_place(
+    columns: &[u8],
+    order: Endianness,
+    version: u16,
+    count: u32,
+    kind: SectionKind,
+) -> Option<usize>
+    requires { 4 * count ≤ length columns.now }
+    ensures place { result ≡ column_place version (numbers order 4 count columns.now) kind }
+    ensures within { IfSome result (λ i. i < count) }
+{
+    let number = column_of(version, kind)?;
+    place_of_number(columns, order, count as usize, number)
+}
+
+/// The place of the first number of 4 bytes that is this one.
+fn place_of_number(bytes: &[u8], order: Endianness, count: usize, number: u32) -> Option<usize>
+    requires { 4 * count ≤ length bytes.now }
+    ensures place { result ≡ position_from (λ n. n == number) 0 (numbers order 4 count bytes.now) }
+    ensures within { IfSome result (λ i. i < count) }
+{
+    for i in 0..count {
+        if read_u32_at(bytes, order, 4 * i) == number {
+            return Some(i);
+        }
+    }
+    None
+}

@@ -1,0 +1,161 @@
+ghost use Rattle.std.specs.Prelude.{◌≡◌};
+ghost use Rattle.std.specs.Option.{option_copied};
+ghost use Rattle.dwp_base.specs.Reading.{Answers};
+ghost use Rattle.dwp_index.specs.Contents.{content};
+ghost use Rattle.dwp_index.specs.ContentFields.{contents_in};
+ghost use Rattle.dwp_index.specs.Index.{range_in};
+ghost use Rattle.dwp_index.specs.Package.{part_of, lies_inside, row_bytes, kind_of, place_of, encoding_in};
+ghost use Rattle.dwp_index.specs.Strings.{string_in};
+
+use crate::contents::Contents;
+use crate::strings::string_in;
+use crate::unit_index::Row;
+use dwp_base::{Contribution, Endianness, SectionKind};
+use dwp_dwarf::{UnitHeaders, UnitSection};
+use dwp_reader::{Encoding, ReadError, SliceReader};
+use dwp_table::DwarfObject;
+use std::marker::Model;
+
+/// A unit of a package, with its ranges.
+#[derive(Drop)]
+pub struct PackagedUnit<'a> {
+    pub(crate) order: Endianness,
+    pub(crate) contents: Contents<'a>,
+    pub(crate) number: u32,
+    pub(crate) row: Row<'a>,
+    pub(crate) bytes: &'a [u8],
+    pub(crate) encoding: Encoding,
+}
+
+impl<'a> Model for PackagedUnit<'a> {
+    ghost use Rattle.dwp_index.specs.Package.{UnitMeaning};
+
+    ghost Value = { UnitMeaning };
+
+    ghost use Rattle.dwp_index.specs.UnitFields.{unit_in_fields};
+
+    ghost view = { unit_in_fields };
+}
+
+impl<'a> PackagedUnit<'a> {
+    /// The unit's own bytes: its range in types for a type unit that has one there, else in info.
+    pub fn bytes(&self) -> &'a [u8]
+        ensures { result.now ≡ self.now.bytes }
+    {
+        self.bytes
+    }
+
+    /// The unit's row in the index of its kind, counted from 1.
+    pub fn row(&self) -> u32
+        ensures { result ≡ self.now.number }
+    {
+        self.number
+    }
+
+    /// The encoding in the unit's header.
+    pub fn encoding(&self) -> Encoding
+        ensures { result ≡ self.now.encoding }
+    {
+        self.encoding
+    }
+
+    /// The unit's range in a section; None where it has none, or one of no bytes.
+    pub fn range(&self, kind: SectionKind) -> Option<Contribution>
+        ensures { result ≡ range_in self.now.row kind }
+    {
+        self.row.range(kind)
+    }
+
+    /// The bytes of the unit's range in a section; none where it has no range.
+    pub fn section(&self, kind: SectionKind) -> &'a [u8]
+        ensures { result.now ≡ row_bytes self.now.contents self.now.row kind }
+    {
+        row_bytes(&self.contents, &self.row, kind)
+    }
+
+    /// The string of a number, by the unit's own encoding; None past the last whole entry of its string
+    /// offsets. OffsetOutOfRange for an offset past the strings, NoTerminator where no zero byte ends
+    /// the string.
+    pub fn string(&self, i: u64) -> Result<Option<&'a [u8]>, ReadError>
+        ensures { Answers option_copied result (string_in self.now.order self.now.encoding self.now.contents.strings (row_bytes self.now.contents self.now.row SectionKind.StrOffsets) i) }
+    {
+        string_in(
+            self.order,
+            self.encoding,
+            self.contents.of(SectionKind::Str),
+            self.section(SectionKind::StrOffsets),
+            i,
+        )
+    }
+}
+
+/// The bytes of a range; none where it is absent.
+fn part_of<'a>(bytes: &'a [u8], range: Option<Contribution>) -> &'a [u8]
+    ensures { result.now ≡ part_of bytes.now range }
+{
+    match range {
+        None => &[],
+        Some(range) => {
+            if lies_inside(bytes, range) {
+                let start = range.offset.0 as usize;
+                &bytes[start..start + range.size as usize]
+            } else {
+                &[]
+            }
+        }
+    }
+}
+
+/// Whether a range lies inside a section of these bytes.
+pub(crate) fn lies_inside(bytes: &[u8], range: Contribution) -> bool
+    ensures { result ≡ lies_inside bytes.now range }
+{
+    let len = bytes.len() as u64;
+    range.offset.0 <= len && range.size <= len - range.offset.0
+}
+
+/// The bytes of a row's range in a section; none where it has no such range.
+#[tactic(auto, unfolding(crate::specs::Package::row_bytes))]
+pub(crate) fn row_bytes<'a>(contents: &Contents<'a>, row: &Row<'a>, kind: SectionKind) -> &'a [u8]
+    ensures { result.now ≡ row_bytes (contents_in contents.now) row.now kind }
+{
+    part_of(contents.of(kind), row.range(kind))
+}
+
+/// The section that a unit's own bytes stand in: a type unit's may be those of types.
+pub(crate) fn place_of(object: DwarfObject, range: Option<Contribution>) -> UnitSection
+    ensures { result ≡ place_of object range }
+{
+    match object {
+        DwarfObject::Compilation(_) => UnitSection::Info,
+        DwarfObject::TypeUnit(_) => match range {
+            None => UnitSection::Info,
+            Some(_) => UnitSection::Types,
+        },
+    }
+}
+
+/// The kind of that section.
+pub(crate) fn kind_of(place: UnitSection) -> SectionKind
+    ensures { result ≡ kind_of place }
+{
+    match place {
+        UnitSection::Info => SectionKind::Info,
+        UnitSection::Types => SectionKind::Types,
+    }
+}
+
+/// The encoding in the header of the unit that the bytes begin with.
+pub(crate) fn encoding_in(
+    bytes: &[u8],
+    order: Endianness,
+    place: UnitSection,
+) -> Result<Encoding, ReadError>
+    ensures { Answers (λ x. x) result (encoding_in order place bytes.now) }
+{
+    match UnitHeaders::new(SliceReader::new(bytes, order), place).next() {
+        None => Err(ReadError::UnexpectedEof),
+        Some(Err(e)) => Err(e),
+        Some(Ok(header)) => Ok(header.encoding()),
+    }
+}

@@ -1,0 +1,236 @@
+ghost use Rattle.std.specs.Prelude.{◌≡◌, ◌<◌, ℕ, List, length, slice_index, is_some};
+ghost use Rattle.dwp_base.specs.Reading.{Answers};
+ghost use Rattle.dwp_table.specs.Probing.{found_row, look_count};
+ghost use Rattle.dwp_table.specs.Table.{IsIndex, FindsExactly};
+ghost use Rattle.dwp_index.specs.Index.{row_in, column_place, contribution, range_in};
+ghost use Rattle.dwp_index.specs.IndexBytes.{index_of};
+
+use crate::parsing::{
+    after, after_columns, after_rows, column_place, counts_of, read_u32_at, read_u64_at, tail,
+    version_of,
+};
+use dwp_base::{Contribution, ContributionOffset, Endianness, SectionKind};
+use dwp_reader::ReadError;
+use dwp_table::{column_of, first_place, place_after};
+use std::marker::Model;
+
+/// An index of a package: a hash table from identifiers to rows, and for each row its ranges in the
+/// package's sections (DWARF 5, 7.3.5.3).
+#[derive(Drop)]
+pub struct UnitIndex<'a> {
+    order: Endianness,
+    version: u16,
+    column_count: u32,
+    unit_count: u32,
+    slot_count: u32,
+    // Each of these begins at its table, and goes on to the end of the index.
+    signatures: &'a [u8],
+    rows: &'a [u8],
+    columns: &'a [u8],
+    offsets: &'a [u8],
+    sizes: &'a [u8],
+}
+
+impl<'a> Model for UnitIndex<'a> {
+    ghost use Rattle.dwp_index.specs.Index.{Index};
+
+    ghost Value = { Index };
+
+    ghost use Rattle.dwp_index.specs.Fields.{index_in, IsUnitIndex};
+
+    ghost view = { index_in };
+
+    ghost invariant = { IsUnitIndex };
+}
+
+/// One row of an index: its ranges.
+#[derive(Drop)]
+pub struct Row<'a> {
+    order: Endianness,
+    version: u16,
+    column_count: u32,
+    // The first begins at the columns, the others at the row's numbers.
+    columns: &'a [u8],
+    offsets: &'a [u8],
+    sizes: &'a [u8],
+}
+
+impl<'a> Model for Row<'a> {
+    ghost use Rattle.dwp_index.specs.Index.{Ranges};
+
+    ghost Value = { Ranges };
+
+    ghost use Rattle.dwp_index.specs.RowFields.{ranges_in, IsRow};
+
+    ghost view = { ranges_in };
+
+    ghost invariant = { IsRow };
+}
+
+impl<'a> UnitIndex<'a> {
+    /// Reads an index. It answers the first fault in order of place: UnexpectedEof, IndexVersion,
+    /// SlotCount, UnknownColumn or RepeatedColumn. Bytes after the index are passed over.
+    #[tactic(auto, unfolding(crate::specs::IndexBytes::index_of))]
+    pub fn parse(bytes: &'a [u8], order: Endianness) -> Result<UnitIndex<'a>, ReadError>
+        ensures { Answers (λ x. x) result (index_of order bytes.now) }
+    {
+        let version = version_of(bytes, order)?;
+        let counts = counts_of(bytes, order)?;
+        let signatures = tail(bytes, 16);
+        let rows = after(signatures, 8 * counts.slots as u64)?;
+        let columns = after(rows, 4 * counts.slots as u64)?;
+        let offsets = after_columns(columns, order, version, counts.columns)?;
+        let sizes = after_rows(offsets, counts.columns, counts.units)?;
+        after_rows(sizes, counts.columns, counts.units)?;
+        Ok(UnitIndex {
+            order,
+            version,
+            column_count: counts.columns,
+            unit_count: counts.units,
+            slot_count: counts.slots,
+            signatures,
+            rows,
+            columns,
+            offsets,
+            sizes,
+        })
+    }
+
+    /// The version: 2 of the GNU form, 5 of DWARF 5.
+    pub fn version(&self) -> u16
+        ensures { result ≡ self.now.version }
+    {
+        self.version
+    }
+
+    /// How many rows there are.
+    pub fn unit_count(&self) -> u32
+        ensures { result ≡ length self.now.offsets }
+    {
+        self.unit_count
+    }
+
+    /// How many slots the hash table has.
+    pub fn slot_count(&self) -> u32
+        ensures { result ≡ length self.now.rows }
+    {
+        self.slot_count
+    }
+
+    /// The row of an identifier, counted from 1.
+    pub fn find(&self, identifier: u64) -> Option<u32>
+        ensures { result ≡ found_row self.now.signatures self.now.rows identifier }
+    {
+        self.find_counted(identifier).0
+    }
+
+    /// The row of an identifier, counted from 1, and how many slots were looked at.
+    pub fn find_counted(&self, identifier: u64) -> (Option<u32>, u32)
+        ensures row { result.0 ≡ found_row self.now.signatures self.now.rows identifier }
+        ensures count { result.1 ≡ look_count self.now.signatures self.now.rows identifier }
+
+        // In a table of distinct identifiers: each one's row, and none for any other.
+        ensures exact { (ids : List ℕ) → IsIndex ids self.now.signatures self.now.rows → FindsExactly ids identifier result.0 result.1 }
+    {
+        self.look_up(identifier)
+    }
+
+    fn look_up(&self, identifier: u64) -> (Option<u32>, u32)
+        ensures row { result.0 ≡ found_row self.now.signatures self.now.rows identifier }
+        ensures count { result.1 ≡ look_count self.now.signatures self.now.rows identifier }
+    {
+        if self.slot_count == 0 {
+            return (None, 0);
+        }
+        let mut at = first_place(self.slot_count, identifier);
+        for looked in 0..self.slot_count {
+            let (signature, row) = self.slot(at);
+            if row == 0 {
+                return (None, looked + 1);
+            }
+            if signature == identifier {
+                return (Some(row), looked + 1);
+            }
+            at = place_after(self.slot_count, identifier, at);
+        }
+        (None, self.slot_count)
+    }
+
+    /// The ranges of a row, counted from 1; RowOutOfRange past the rows.
+    pub fn row(&self, row: u32) -> Result<Row<'a>, ReadError>
+        ensures { result ≡ row_in self.now row }
+    {
+        if row == 0 || row > self.unit_count {
+            return Err(ReadError::RowOutOfRange);
+        }
+        let start = 4 * self.column_count as usize * (row as usize - 1);
+        Ok(Row {
+            order: self.order,
+            version: self.version,
+            column_count: self.column_count,
+            columns: self.columns,
+            offsets: tail(self.offsets, start),
+            sizes: tail(self.sizes, start),
+        })
+    }
+
+    /// Whether the index has a column for a section.
+    pub fn has_column(&self, kind: SectionKind) -> bool
+        ensures { result ≡ is_some (column_place self.now.version self.now.columns kind) }
+    {
+        column_place(
+            self.columns,
+            self.order,
+            self.version,
+            self.column_count,
+            kind,
+        )
+        .is_some()
+    }
+
+    /// The signature and the row number of a slot.
+    pub(crate) fn slot(&self, slot: u32) -> (u64, u32)
+        requires { slot < length self.now.rows }
+        ensures signature { result.0 ≡ slice_index self.now.signatures slot }
+        ensures row { result.1 ≡ slice_index self.now.rows slot }
+    {
+        let slot = slot as usize;
+        (
+            read_u64_at(self.signatures, self.order, 8 * slot),
+            read_u32_at(self.rows, self.order, 4 * slot),
+        )
+    }
+}
+
+impl<'a> Row<'a> {
+    /// The row's range in a section; None where it has none, or one of no bytes.
+    pub fn range(&self, kind: SectionKind) -> Option<Contribution>
+        ensures { result ≡ range_in self.now kind }
+    {
+        match column_place(
+            self.columns,
+            self.order,
+            self.version,
+            self.column_count,
+            kind,
+        ) {
+            None => None,
+            Some(place) => contribution(
+                read_u32_at(self.offsets, self.order, 4 * place),
+                read_u32_at(self.sizes, self.order, 4 * place),
+            ),
+        }
+    }
+}
+
+fn contribution(offset: u32, size: u32) -> Option<Contribution>
+    ensures { result ≡ contribution offset size }
+{
+    if size == 0 {
+        return None;
+    }
+    Some(Contribution {
+        offset: ContributionOffset(offset as u64),
+        size: size as u64,
+    })
+}

@@ -1,0 +1,5 @@
+pub mod Found
+pub mod Lebs
+pub mod SignedLebs
+pub mod Forward
+pub mod Relocations

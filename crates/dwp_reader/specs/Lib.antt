@@ -1,0 +1,4 @@
+pub mod Encoding
+pub mod Input
+pub mod Leb
+pub mod Relocation

@@ -1,0 +1,19 @@
+//! Reading numbers and bytes of DWARF data.
+#![tactic(auto)]
+
+mod encoding;
+mod fault;
+mod reader;
+mod relocate;
+mod relocation;
+mod slice;
+
+pub use encoding::{Encoding, Format};
+pub use fault::{ReadError, WriteError};
+pub use reader::Reader;
+pub use relocate::Relocate;
+pub use relocation::{Relocation, RelocationEntry};
+pub use slice::SliceReader;
+
+#[cfg(test)]
+mod tests;

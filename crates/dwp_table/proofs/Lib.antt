@@ -1,0 +1,6 @@
+pub mod Finding
+pub mod Numbers
+pub mod Places
+pub mod Tables
+pub mod Placing
+pub mod SlotCounts

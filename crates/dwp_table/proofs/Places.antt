@@ -1,0 +1,38 @@
+-- The places of an identifier.
+use Rattle.std.proofs.Common.{◌≡◌, ℕ, ◌+◌, ◌-◌, ◌*◌, ◌/◌, ◌%◌, ◌^◌, ◌<◌, sym, ap, subst, ◌∙◌, arith}
+use Rattle.std.specs.Prelude.{bit_and, bit_or, IsTrue}
+use Rattle.std.specs.Int.{is_power_of_two}
+use Rattle.std.proofs.lemmas.Nat.{and_mask, and_le_r, pow_pos}
+use Rattle.std.proofs.Math.Nat.{mod-lt, mod-eq_of_lt, mod-add-mod}
+use Rattle.dwp_table.specs.Probing.{step, place}
+use Rattle.dwp_table.proofs.Numbers.{exponent, odd-or_one, one_slot, OneToOne}
+
+pub positive : (size : ℕ) → IsTrue (is_power_of_two size) → 0 < size
+positive size power = let k = exponent size power in omega (arith, k.1, pow_pos k.0)
+
+pub masked : (size n : ℕ) → IsTrue (is_power_of_two size) → bit_and n (size - 1) ≡ n % size
+masked size n power =
+    let k = exponent size power in
+    subst (λ m. bit_and n (m - 1) ≡ n % m) (sym k.1) (and_mask n k.0)
+
+pub place-lt : (size x i : ℕ) → IsTrue (is_power_of_two size) → place size x i < size
+unfolding place
+place-lt size x i power = mod-lt _ (positive size power)
+
+pub place-zero : (size x : ℕ) → IsTrue (is_power_of_two size) → place size x 0 ≡ bit_and x (size - 1)
+unfolding place
+place-zero size x power =
+    let first : bit_and x (size - 1) + 0 * step size x ≡ bit_and x (size - 1) = omega arith in
+    ap (λ n. n % size) first ∙ mod-eq_of_lt (omega (arith, and_le_r x (size - 1), positive size power))
+
+pub place-next : (size x i : ℕ) → IsTrue (is_power_of_two size) → place size x (i + 1) ≡ bit_and (place size x i + step size x) (size - 1)
+unfolding place
+place-next size x i power =
+    let start = bit_and x (size - 1) in
+    let s = step size x in
+    let more : start + (i + 1) * s ≡ (start + i * s) + s = omega arith in
+    ap (λ n. n % size) more ∙ sym (mod-add-mod (start + i * s) size s) ∙ sym (masked size _ power)
+
+pub places_apart : (size x : ℕ) → IsTrue (is_power_of_two size) → OneToOne (place size x) size
+unfolding place step
+places_apart size x power i j p q e = one_slot size (bit_and x (size - 1)) (bit_or (bit_and (x / 2 ^ 32) (size - 1)) 1) i j power (odd-or_one _) p q e

@@ -1,0 +1,13 @@
+use Rattle.std.proofs.Common.{suc, inr, arith}
+use Rattle.std.proofs.Math.Nat.{pow-suc}
+use Rattle.dwp_table.proofs.SlotCounts.{has_slots}
+use Rattle.dwp_table.proofs.slots.slot_count.Goals as goal
+
+pub loop-size-preserved : goal.loop-size-preserved
+loop-size-preserved c = let k = c.loop-size.invariant.power in record {
+  power = (suc k.0, omega (arith, k.1, pow-suc 2 (suc k.0)));
+  least = inr (omega arith);
+}
+
+pub returns-clause-slots : goal.returns-clause-slots
+returns-clause-slots c = let k = c.loop-size.invariant.power in has_slots c.args.units c.loop-size.size k.0 k.1 c.loop-size.invariant.least (omega arith)

@@ -1,0 +1,4 @@
+pub mod Objects
+pub mod Probing
+pub mod Table
+pub mod Columns

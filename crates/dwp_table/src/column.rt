@@ -1,0 +1,106 @@
+ghost use Rattle.std.specs.Prelude.{◌≡◌};
+
+use dwp_base::SectionKind;
+
+/// The sections that a unit may have a contribution to, in the order in which their columns are written.
+pub const CONTRIBUTION_KINDS: [SectionKind; 10] = [
+    SectionKind::Info,
+    SectionKind::Types,
+    SectionKind::Abbrev,
+    SectionKind::Line,
+    SectionKind::Loc,
+    SectionKind::Loclists,
+    SectionKind::Rnglists,
+    SectionKind::StrOffsets,
+    SectionKind::Macinfo,
+    SectionKind::Macro,
+];
+
+ghost use Rattle.dwp_table.specs.Columns.{standard_column, gnu_column, column_of, kind_with, kind_of_column};
+
+/// The number of a section's column in an index of DWARF 5; None where it has none there.
+fn standard_column_of(kind: SectionKind) -> Option<u32>
+    ensures { result ≡ standard_column kind }
+{
+    match kind {
+        SectionKind::Info => Some(1),
+        SectionKind::Abbrev => Some(3),
+        SectionKind::Line => Some(4),
+        SectionKind::Loclists => Some(5),
+        SectionKind::StrOffsets => Some(6),
+        SectionKind::Macro => Some(7),
+        SectionKind::Rnglists => Some(8),
+        _ => None,
+    }
+}
+
+/// The number of a section's column in an index of the GNU form; None where it has none there.
+fn gnu_column_of(kind: SectionKind) -> Option<u32>
+    ensures { result ≡ gnu_column kind }
+{
+    match kind {
+        SectionKind::Info => Some(1),
+        SectionKind::Types => Some(2),
+        SectionKind::Abbrev => Some(3),
+        SectionKind::Line => Some(4),
+        SectionKind::Loc => Some(5),
+        SectionKind::StrOffsets => Some(6),
+        SectionKind::Macinfo => Some(7),
+        SectionKind::Macro => Some(8),
+        _ => None,
+    }
+}
+
+/// The number of a section's column in an index of that version, 5 or else 2; None where that version
+/// has no such column (DWARF 5, 7.3.5.3, Table 7.1).
+pub fn column_of(version: u16, kind: SectionKind) -> Option<u32>
+    ensures { result ≡ column_of version kind }
+{
+    if version == 5 {
+        standard_column_of(kind)
+    } else {
+        gnu_column_of(kind)
+    }
+}
+
+fn standard_kind_of(number: u32) -> Option<SectionKind>
+    ensures { result ≡ kind_with standard_column number }
+{
+    match number {
+        1 => Some(SectionKind::Info),
+        3 => Some(SectionKind::Abbrev),
+        4 => Some(SectionKind::Line),
+        5 => Some(SectionKind::Loclists),
+        6 => Some(SectionKind::StrOffsets),
+        7 => Some(SectionKind::Macro),
+        8 => Some(SectionKind::Rnglists),
+        _ => None,
+    }
+}
+
+fn gnu_kind_of(number: u32) -> Option<SectionKind>
+    ensures { result ≡ kind_with gnu_column number }
+{
+    match number {
+        1 => Some(SectionKind::Info),
+        2 => Some(SectionKind::Types),
+        3 => Some(SectionKind::Abbrev),
+        4 => Some(SectionKind::Line),
+        5 => Some(SectionKind::Loc),
+        6 => Some(SectionKind::StrOffsets),
+        7 => Some(SectionKind::Macinfo),
+        8 => Some(SectionKind::Macro),
+        _ => None,
+    }
+}
+
+/// The section whose column has that number in an index of that version, 5 or else 2.
+pub fn kind_of_column(version: u16, number: u32) -> Option<SectionKind>
+    ensures { result ≡ kind_of_column version number }
+{
+    if version == 5 {
+        standard_kind_of(number)
+    } else {
+        gnu_kind_of(number)
+    }
+}

@@ -1,0 +1,73 @@
+-- Which unit a unit of a split object is (DWARF 5, 7.5.1: the identifier or signature in its header; before version 5
+-- the GNU_dwo_id of its root entry: the GNU page DebugFission).
+use Rattle.std.specs.Prelude.{ℕ, List, [], ◌∷◌, Bool, ◌||◌, ◌==◌, if◌then◌else◌, Option, Some, None, Result, Ok, Err}
+use Rattle.std.specs.Option.{ok_or}
+use Rattle.dwp_base.specs.Reading.{◌>>=◌}
+use Rattle.dwp_reader.specs.Input.{Input}
+use Rattle.dwp_reader.specs.declared.fault.ReadError.{ReadError}
+use Rattle.dwp_reader.specs.declared.fault.ReadError.TheVariants.{UnknownCode}
+use Rattle.dwp_dwarf.specs.declared.header.UnitType.{UnitType}
+use Rattle.dwp_dwarf.specs.declared.header.UnitType.TheVariants as unit_types
+use Rattle.dwp_dwarf.specs.Units.{Unit}
+use Rattle.dwp_dwarf.specs.Abbreviations.{declaration}
+use Rattle.dwp_dwarf.specs.Entries.{DebugAttribute, DebugEntry, entry, root_code_at, number_of}
+use Rattle.dwp_dwarf.specs.Offsets.{from_at}
+use Rattle.dwp_table.specs.declared.object.DwarfObject.{DwarfObject}
+use Rattle.dwp_table.specs.declared.object.DwarfObject.TheVariants.{Compilation, TypeUnit}
+use Rattle.dwp_table.specs.declared.object.DwoId.{DwoId}
+use Rattle.dwp_table.specs.declared.object.DebugTypeSignature.{DebugTypeSignature}
+use Rattle.thorin_faults.specs.Fault.{Fault, NoDie, TopLevelDieNotUnit, ParseUnitAbbreviations, GimliRead}
+use Rattle.thorin_faults.specs.Answers.{as_fault}
+
+-- the compilation unit of an identifier, the type unit of a signature
+abbrev pub compilation : ℕ → DwarfObject
+compilation id = Compilation (record { 0 = id })
+
+abbrev pub type_unit : ℕ → DwarfObject
+type_unit signature = TypeUnit (record { 0 = signature })
+
+-- DW_TAG_compile_unit and DW_TAG_type_unit
+abbrev pub is_unit_tag : ℕ → Bool
+is_unit_tag tag = tag == 0x11 || tag == 0x41
+
+-- the number of an attribute that is a GNU_dwo_id
+abbrev pub identifier_in : DebugAttribute → Option ℕ
+identifier_in a = if a.name == 0x2131 then number_of a else None
+
+-- what was found, or what comes of the others
+abbrev pub found_or : Option ℕ → Result (Option DwarfObject) Fault → Result (Option DwarfObject) Fault
+found_or None others = others
+found_or (Some id) others = Ok (Some (compilation id))
+
+-- the first such number, up to the first fault
+abbrev pub first_identifier : List (Result DebugAttribute ReadError) → Result (Option DwarfObject) Fault
+first_identifier [] = Ok None
+first_identifier (Ok a ∷ others) = found_or (identifier_in a) (first_identifier others)
+first_identifier (Err e ∷ others) = Err (GimliRead e)
+
+-- the identifier in an entry of a unit
+unfoldable pub entry_identity : DebugEntry → Result (Option DwarfObject) Fault
+entry_identity e = if is_unit_tag e.tag then first_identifier e.attributes else Err TopLevelDieNotUnit
+
+-- the identifier in the root entry of a compile unit, whose abbreviations stand in that section
+unfoldable pub root_identity : Input → Unit → Result (Option DwarfObject) Fault
+root_identity section unit = do
+  table ← as_fault ParseUnitAbbreviations (from_at unit.abbrev_offset section)
+  read ← as_fault GimliRead (root_code_at unit.entries)
+  code ← ok_or read NoDie
+  found ← as_fault ParseUnitAbbreviations (declaration code.0 table)
+  d ← ok_or found (GimliRead UnknownCode)
+  entry_identity (entry unit.encoding d code.1)
+
+-- by the type of the unit
+abbrev pub identity_by : Input → Unit → UnitType → Result (Option DwarfObject) Fault
+identity_by section unit (unit_types.Skeleton id) = Ok (Some (compilation id))
+identity_by section unit (unit_types.SplitCompilation id) = Ok (Some (compilation id))
+identity_by section unit (unit_types.TypeUnit signature offset) = Ok (Some (type_unit signature))
+identity_by section unit (unit_types.SplitType signature offset) = Ok (Some (type_unit signature))
+identity_by section unit unit_types.Compilation = root_identity section unit
+identity_by section unit unit_types.Partial = Ok None
+
+-- the unit's identity, if it has one
+unfoldable pub identity : Input → Unit → Result (Option DwarfObject) Fault
+identity section unit = identity_by section unit unit.unit_type

@@ -1,0 +1,77 @@
+ghost use Rattle.std.specs.Prelude.{◌≡◌};
+ghost use Rattle.thorin_faults.specs.Answers.{Gives};
+ghost use Rattle.dwp_dwarf.specs.Units.{unit_of};
+ghost use Rattle.dwp_dwarf.specs.Attributes.{entry_of};
+ghost use Rattle.thorin.specs.Identity.{identity, root_identity, entry_identity, first_identifier, is_unit_tag};
+
+use dwp_dwarf::{Abbreviations, ReadError, Reader, RootEntry, UnitHeader, UnitType};
+use dwp_table::{DebugTypeSignature, DwarfObject, DwoId};
+use thorin_faults::Error;
+
+const DW_TAG_COMPILE_UNIT: u64 = 0x11;
+
+const DW_TAG_TYPE_UNIT: u64 = 0x41;
+
+const DW_AT_GNU_DWO_ID: u64 = 0x2131;
+
+/// The identifier of a unit: from the header of a skeleton, split or type unit; for a compile unit
+/// the first GNU_dwo_id of its root entry whose form is a plain number; else none (DWARF 5, 7.5.1;
+/// the GNU page DebugFission). `debug_abbrev` is the section that the unit's abbreviations stand in.
+///
+/// Refuses, for a compile unit alone, with `ParseUnitAbbreviations` (the offset is past the end, or
+/// the table has a fault), `NoDie`, `TopLevelDieNotUnit` and `GimliRead` (the root entry can't be read).
+#[tactic(auto, unfolding(crate::specs::Identity::identity))]
+pub fn dwo_identifier_of_unit<R: Reader>(
+    debug_abbrev: &R,
+    header: &UnitHeader<R>,
+) -> Result<Option<DwarfObject>, Error>
+    ensures { Gives (λ name. name) result (identity (R.input debug_abbrev.now) (unit_of R.input header.now)) }
+{
+    match header.unit_type() {
+        UnitType::Skeleton(id) | UnitType::SplitCompilation(id) => {
+            Ok(Some(DwarfObject::Compilation(DwoId(id))))
+        }
+        UnitType::TypeUnit { type_signature, .. } | UnitType::SplitType { type_signature, .. } =>
+            Ok(Some(DwarfObject::TypeUnit(DebugTypeSignature(type_signature)))),
+        UnitType::Compilation => root_identifier(debug_abbrev, header),
+        UnitType::Partial => Ok(None),
+    }
+}
+
+// The identifier in the root entry of a compile unit.
+#[tactic(auto, unfolding(crate::specs::Identity::root_identity))]
+fn root_identifier<R: Reader>(
+    debug_abbrev: &R,
+    header: &UnitHeader<R>,
+) -> Result<Option<DwarfObject>, Error>
+    ensures { Gives (λ name. name) result (root_identity (R.input debug_abbrev.now) (unit_of R.input header.now)) }
+{
+    let table = Abbreviations::new(*debug_abbrev, header.abbrev_offset()).map_err(
+        Error::ParseUnitAbbreviations,
+    )?;
+    let (code, values) = header.root_code()?.ok_or(Error::NoDie)?;
+    let abbreviation = table
+        .get(code)
+        .map_err(Error::ParseUnitAbbreviations)?
+        .ok_or(Error::GimliRead(ReadError::UnknownCode))?;
+    entry_identifier(abbreviation.entry(header.encoding(), values))
+}
+
+// The identifier in an entry of a unit.
+#[tactic(auto, unfolding(crate::specs::Identity::entry_identity))]
+fn entry_identifier<R: Reader>(entry: RootEntry<R>) -> Result<Option<DwarfObject>, Error>
+    ensures { Gives (λ name. name) result (entry_identity (entry_of R.input entry)) }
+{
+    if entry.tag != DW_TAG_COMPILE_UNIT && entry.tag != DW_TAG_TYPE_UNIT {
+        return Err(Error::TopLevelDieNotUnit);
+    }
+    for attribute in entry.attributes {
+        let attribute = attribute?;
+        if attribute.name == DW_AT_GNU_DWO_ID {
+            if let Some(id) = attribute.number() {
+                return Ok(Some(DwarfObject::Compilation(DwoId(id))));
+            }
+        }
+    }
+    Ok(None)
+}

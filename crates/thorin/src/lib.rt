@@ -1,0 +1,14 @@
+//! Joining split DWARF objects into one package (DWARF 5, 7.3.5; the GNU page DebugFissionDWP).
+#![tactic(auto)]
+
+mod identity;
+mod object;
+mod package;
+mod packing;
+mod state;
+mod units;
+
+pub use identity::dwo_identifier_of_unit;
+pub use package::DwarfPackage;
+pub use packing::{Input, Packed, pack};
+pub use state::InProgressDwarfPackage;

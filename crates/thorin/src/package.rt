@@ -1,0 +1,133 @@
+//! The package builder.
+
+use crate::object::{InputObject, has_info, opened};
+use crate::state::InProgressDwarfPackage;
+use dwp_elf::WritableObject;
+use dwp_elf_read::ElfFile;
+use dwp_reader::RelocationEntry;
+use dwp_table::{Bucketable, DwarfObject};
+use indexmap::IndexSet;
+use std::alloc::Global;
+use std::fmt;
+use std::marker::PhantomData;
+use std::path::Path;
+use thorin_faults::{Error, InputError, Session};
+
+/// A package that is made of input objects, one after another. What inputs hold is kept by a session.
+#[derive(Drop)]
+pub struct DwarfPackage<'output, 'session: 'output, Sess: Session<RelocationEntry>> {
+    alloc: Global,
+    session: &'session Sess,
+    in_progress: Option<InProgressDwarfPackage>,
+    contained: IndexSet<DwarfObject>,
+    targets: IndexSet<DwarfObject>,
+    output: PhantomData<&'output ()>,
+}
+
+impl<'output, 'session: 'output, Sess: Session<RelocationEntry>> fmt::Debug
+    for DwarfPackage<'output, 'session, Sess> {
+    fn fmt<W: fmt::Write>(&self, f: &mut fmt::Formatter<W>) -> fmt::Result {
+        f.debug_struct("DwarfPackage")
+            .field("in_progress", &self.in_progress)
+            .field("target_count", &self.targets.len())
+            .finish()
+    }
+}
+
+impl<'output, 'session: 'output, Sess: Session<RelocationEntry>> DwarfPackage<
+    'output,
+    'session,
+    Sess,
+> {
+    /// A package that nothing has begun. It takes no memory.
+    pub fn new(alloc: Global, session: &'session Sess) -> Self {
+        DwarfPackage {
+            alloc,
+            session,
+            in_progress: None,
+            contained: IndexSet::new(alloc),
+            targets: IndexSet::new(alloc),
+            output: PhantomData,
+        }
+    }
+
+    /// Adds the object that the session reads at a path: `ReadInput` where it can't, else as
+    /// `add_object_bytes`. An `Err` leaves the package as it was.
+    pub fn add_input_object(&mut self, path: Path<'_>) -> Result<(), Error> {
+        match self.session.read_input(path) {
+            Ok(bytes) => self.add_object_bytes(bytes),
+            Err(InputError::Io(e)) => Err(Error::ReadInput(e)),
+            Err(InputError::Memory) => Err(Error::Memory),
+        }
+    }
+
+    /// Adds an object: its units that aren't contained, with all that belongs to them. An object
+    /// without split units' info section adds nothing and begins the package. An `Err` leaves the
+    /// package as it was; it is the first fault from left to right: of the file's kind, the ELF file,
+    /// the used sections, the first unit, the byte order, the indexes, the kinds of sections and
+    /// the string offsets, the abbreviations, the units.
+    pub fn add_object_bytes(&mut self, bytes: &'session [u8]) -> Result<(), Error> {
+        let file = opened(bytes)?;
+        if !has_info(&file) {
+            if self.in_progress.is_none() {
+                self.in_progress = Some(begun_by(self.alloc, &file));
+            }
+            return Ok(());
+        }
+        let object = InputObject::read(self.alloc, &file)?;
+        let encoding = object.encoding()?;
+        match &mut self.in_progress {
+            Some(package) => {
+                if package.endianness() != object.order {
+                    return Err(Error::MixedInputEncodings);
+                }
+                if object.is_package() {
+                    return Err(Error::NotYet);
+                }
+                package.add_plain(&mut self.contained, &object, encoding)
+            }
+            None => {
+                if object.is_package() {
+                    return Err(Error::NotYet);
+                }
+                let mut package = begun_by(self.alloc, &file);
+                package.add_plain(&mut self.contained, &object, encoding)?;
+                self.in_progress = Some(package);
+                Ok(())
+            }
+        }
+    }
+
+    /// The object to be written. Refuses with `MissingReferencedUnit` for the first unit that an
+    /// executable refers to and that isn't contained, with `NoOutputObjectCreated` where no input
+    /// began a package, and as the writer of indexes does.
+    pub fn finish(self) -> Result<WritableObject, Error> {
+        let DwarfPackage {
+            alloc: _,
+            session: _,
+            in_progress,
+            contained,
+            targets,
+            output: _,
+        } = self;
+        for target in targets.iter() {
+            if !contained.contains(target) {
+                return Err(Error::MissingReferencedUnit(target.index()));
+            }
+        }
+        match in_progress {
+            Some(package) => package.finish(),
+            None => Err(Error::NoOutputObjectCreated),
+        }
+    }
+
+    /// The units that the package contains, in order of acceptance. It takes no memory.
+    pub fn contained_units(&self) -> &IndexSet<DwarfObject> {
+        &self.contained
+    }
+}
+
+// A package of the class, machine and byte order of its first input.
+fn begun_by(alloc: Global, file: &ElfFile<'_>) -> InProgressDwarfPackage {
+    InProgressDwarfPackage::new(alloc, file.class(), file.machine(), file.endianness())
+}

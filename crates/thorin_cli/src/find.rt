@@ -1,0 +1,129 @@
+//! `thorin find`.
+
+use crate::output::{Failure, read_failure};
+use clap::ArgMatches;
+use dwp_base::SectionKind;
+use dwp_index::{PackageFile, PackagedUnit};
+use dwp_reader::Format;
+use dwp_table::{Bucketable, DebugTypeSignature, DwarfObject, DwoId};
+use std::fs;
+use std::io::Write;
+
+/// The kinds of sections with contributions, in the order of an index's columns, with their short names.
+const COLUMNS: [(SectionKind, &'static str); 10] = [
+    (SectionKind::Info, "info"),
+    (SectionKind::Types, "types"),
+    (SectionKind::Abbrev, "abbrev"),
+    (SectionKind::Line, "line"),
+    (SectionKind::Loc, "loc"),
+    (SectionKind::Loclists, "loclists"),
+    (SectionKind::Rnglists, "rnglists"),
+    (SectionKind::StrOffsets, "str_offsets"),
+    (SectionKind::Macinfo, "macinfo"),
+    (SectionKind::Macro, "macro"),
+];
+
+/// Looks a unit up in a package and prints what belongs to it.
+pub(crate) fn find<O: Write>(
+    rt: &HostRuntime,
+    matches: &ArgMatches<'_>,
+    out: &mut O,
+) -> Result<(), Failure> {
+    let object = object(matches)?;
+    let bytes = match fs::read(rt, matches.get_str("file").unwrap_or("")) {
+        Ok(bytes) => bytes,
+        Err(e) => return Err(read_failure(&e)),
+    };
+    let Ok(package) = PackageFile::parse(bytes.as_slice()) else {
+        return Err(Failure::Malformed);
+    };
+    let Ok((found, slots)) = package.find_counted(object) else {
+        return Err(Failure::Malformed);
+    };
+    match found {
+        None => Err(Failure::NoUnit(object.index())),
+        Some(unit) => print(rt, out, object, &unit, slots),
+    }
+}
+
+// The unit that is asked for: first its kind is tested, then its identifier.
+fn object(matches: &ArgMatches<'_>) -> Result<DwarfObject, Failure> {
+    let id = matches.get_str("id").unwrap_or("");
+    match matches.get_str("kind").unwrap_or("") {
+        "cu" => Ok(DwarfObject::Compilation(DwoId(identifier(id)?))),
+        "tu" => Ok(DwarfObject::TypeUnit(DebugTypeSignature(identifier(id)?))),
+        _ => Err(Failure::BadKind),
+    }
+}
+
+/// 1 to 16 hexadecimal digits, with or without `0x` in front.
+pub(crate) fn identifier(text: &str) -> Result<u64, Failure> {
+    let digits = text.strip_prefix("0x").unwrap_or(text);
+    if digits.is_empty() || digits.len() > 16 {
+        return Err(Failure::BadIdentifier);
+    }
+    let mut id = 0u64;
+    for digit in digits.bytes() {
+        let value = match digit {
+            b'0'..=b'9' => digit - b'0',
+            b'a'..=b'f' => digit - b'a' + 10,
+            b'A'..=b'F' => digit - b'A' + 10,
+            _ => return Err(Failure::BadIdentifier),
+        };
+        id = id.wrapping_mul(16) | u64::from(value);
+    }
+    Ok(id)
+}
+
+fn print<O: Write>(
+    rt: &HostRuntime,
+    out: &mut O,
+    object: DwarfObject,
+    unit: &PackagedUnit<'_>,
+    slots: u32,
+) -> Result<(), Failure> {
+    let alloc = rt.alloc();
+    let mut text = String::new(alloc);
+    let encoding = unit.encoding();
+    let kind = short_kind(object);
+    let id = object.index();
+    let version = encoding.version;
+    let width = match encoding.format {
+        Format::Dwarf32 => 32,
+        Format::Dwarf64 => 64,
+    };
+    let address = encoding.address_size;
+    writeln!(
+        text,
+        "{kind} 0x{id:016x} version {version} format {width} address {address}"
+    )?;
+    for (column, name) in COLUMNS {
+        if let Some(range) = unit.range(column) {
+            let offset = range.offset.0;
+            let size = range.size;
+            writeln!(text, "{name} {offset:#x} {size:#x}")?;
+        }
+    }
+    let strings = string_count(unit);
+    writeln!(text, "strings {strings}")?;
+    writeln!(text, "slots {slots}")?;
+    out.write_all(text.as_bytes()).map_err(|_| Failure::Line)
+}
+
+/// `cu` or `tu`.
+pub(crate) fn short_kind(object: DwarfObject) -> &'static str {
+    match object {
+        DwarfObject::Compilation(_) => "cu",
+        DwarfObject::TypeUnit(_) => "tu",
+    }
+}
+
+// How many strings a unit has: the first number that has none.
+fn string_count(unit: &PackagedUnit<'_>) -> u64 {
+    for i in 0..u64::MAX {
+        if let Ok(None) = unit.string(i) {
+            return i;
+        }
+    }
+    u64::MAX
+}

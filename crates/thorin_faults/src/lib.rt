@@ -1,0 +1,8 @@
+//! The faults of packaging, and sessions, which hold what was read.
+#![tactic(auto)]
+
+mod fault;
+mod session;
+
+pub use fault::{Error, InputError, MissingReferencedObjectBehaviour, Result};
+pub use session::{ArenaSession, MemorySession, Session};

@@ -1,0 +1,9 @@
+pub mod Again
+pub mod Ascending
+pub mod Columns
+pub mod Each
+pub mod Looks
+pub mod ReadAgain
+pub mod Readable
+pub mod Signatures
+pub mod Slots

@@ -1,0 +1,11 @@
+pub mod Adjusting
+pub mod AdjustorFields
+pub mod Buckets
+pub mod Entries
+pub mod EntryTests
+pub mod Flaws
+pub mod IndexText
+pub mod Measures
+pub mod PartTests
+pub mod ReadBack
+pub mod Relocations

@@ -1,0 +1,11 @@
+//! Tests that cross the crates of `thorin`: the worked examples, from objects to packages and back.
+#![tactic(auto)]
+
+#[cfg(test)]
+mod large;
+#[cfg(test)]
+mod many_objects;
+#[cfg(test)]
+mod objects;
+#[cfg(test)]
+mod one_object;

@@ -1,0 +1,10 @@
+pub mod Digits
+pub mod StringLemmas
+pub mod Permutations
+pub mod OffsetLemmas
+pub mod TableLemmas
+pub mod SearchLemmas
+pub mod RemapLemmas
+pub mod SectionLemmas
+pub mod ChunkLemmas
+pub mod PieceLemmas

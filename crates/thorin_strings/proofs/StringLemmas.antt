@@ -1,0 +1,85 @@
+-- The strings of a section in which each is ended by a zero byte.
+use Rattle.std.proofs.Common.{◌≡◌, ◌≢◌, ℕ, ◌+◌, ◌-◌, ◌<◌, ◌≤◌, Bool, true, false, cond, eqb, List, [], ◌∷◌, ◌++◌, length, take, drop, get_or, Option, Some, None, MatchOption, All, Decides, ap, sym, subst, refl, ◌∙◌, arith, append_assoc, length-append}
+use Rattle.std.specs.List.{before_first, position_or_len, onto_first, list_any, HoldsAt}
+use Rattle.std.proofs.lemmas.List.{take_all, take_rest, take_at, drop_at, get_or_at, get_or_append_left, get_or_default, get_or-take, length-take}
+use Rattle.std.proofs.lemmas.List.Sums.{position_or_len_is}
+use Rattle.std.proofs.lemmas.List.Elements.{All-nil, All-cons, All-head, All-tail}
+use Rattle.std.proofs.lemmas.Bool.{false_from_ne_true, ne_eqb, eq-eqb, eqb-false, eqb-true}
+use Rattle.std.proofs.lemmas.Bool.Decides.{Decides-by_or, Decides-eqb}
+use Rattle.memchr.specs.Find.{IsFirstByte, is_byte}
+use Rattle.thorin_strings.specs.Strings.{terminated, data_of, IsZeroFree, string_from, strings_in}
+
+-- what a search for the first zero says of the bytes before it
+pub before_zero : (xs : List ℕ) (r : Option ℕ) → IsFirstByte (is_byte 0) xs r → MatchOption r (before_first (λ b. eqb b 0) xs ≡ xs) (λ end. (end ≤ length xs) × (before_first (λ b. eqb b 0) xs ≡ take end xs))
+before_zero xs None h =
+    ap (λ n. take n xs) (position_or_len_is (λ b. eqb b 0) xs (length xs) 0 (omega arith) (λ k below. false_from_ne_true _ (h k (omega arith) below)) (λ below. absurd (omega arith)))
+    ∙ take_all (length xs) xs (omega arith)
+before_zero xs (Some end) h = (
+  omega (arith, h.0.high),
+  ap (λ n. take n xs) (position_or_len_is (λ b. eqb b 0) xs end 0 (omega (arith, h.0.high)) (λ k below. false_from_ne_true _ (h.0.before k (omega arith) below)) (λ below. h.1)),
+)
+
+-- `&s[at..]`
+pub drop_whole : (at : ℕ) (xs : List ℕ) → take (length xs - at) (drop at xs) ≡ drop at xs
+drop_whole at xs = take_rest xs at
+
+pub before_first-ended : (s rest : List ℕ) → IsZeroFree s → before_first (λ b. eqb b 0) (s ++ 0 ∷ rest) ≡ s
+before_first-ended s rest free =
+    ap (λ n. take n (s ++ 0 ∷ rest)) (position_or_len_is (λ b. eqb b 0) (s ++ 0 ∷ rest) (length s) 0
+    (omega (arith, length-append s (0 ∷ rest)))
+    (λ k below. ne_eqb _ 0 (λ e. free k 0 below (sym (get_or_append_left s (0 ∷ rest) 0 k below) ∙ e)))
+    (λ _. eq-eqb _ 0 (get_or_at s 0 rest 0 (length s) refl)))
+    ∙ take_at s (0 ∷ rest) (length s) refl
+
+-- the string behind some bytes
+pub string_from-ended : (front s rest : List ℕ) (n : ℕ) → length front ≡ n → IsZeroFree s → string_from (front ++ (s ++ 0 ∷ rest)) n ≡ s
+string_from-ended front s rest n long free =
+    ap (before_first (λ b. eqb b 0)) (drop_at front (s ++ 0 ∷ rest) n long) ∙ before_first-ended s rest free
+
+pub strings_in-ended : (s rest : List ℕ) → IsZeroFree s → strings_in (s ++ 0 ∷ rest) ≡ s ∷ strings_in rest
+strings_in-ended [] rest free = refl
+strings_in-ended (b ∷ s) rest free =
+    let other : eqb b 0 ≡ false = ne_eqb b 0 (All-head (λ b. b ≢ 0) b s free) in
+    rw other (ap (onto_first b) (strings_in-ended s rest (All-tail (λ b. b ≢ 0) b s free)))
+
+pub data_of-cons : (s : List ℕ) (ss : List (List ℕ)) → data_of (s ∷ ss) ≡ s ++ 0 ∷ data_of ss
+data_of-cons s ss = append_assoc s (0 ∷ []) (data_of ss)
+
+pub strings_in-data_of : (ss : List (List ℕ)) → All IsZeroFree ss → strings_in (data_of ss) ≡ ss
+strings_in-data_of [] free = refl
+strings_in-data_of (s ∷ ss) free =
+    ap strings_in (data_of-cons s ss)
+    ∙ strings_in-ended s (data_of ss) (All-head IsZeroFree s ss free)
+    ∙ ap (λ l. s ∷ l) (strings_in-data_of ss (All-tail IsZeroFree s ss free))
+
+onto_first-zero_free : (b : ℕ) (ss : List (List ℕ)) → b ≢ 0 → All IsZeroFree ss → All IsZeroFree (onto_first b ss)
+onto_first-zero_free b [] other free = All-cons IsZeroFree (b ∷ []) [] (All-cons (λ c. c ≢ 0) b [] other (All-nil _)) (All-nil _)
+onto_first-zero_free b (s ∷ ss) other free =
+    All-cons IsZeroFree (b ∷ s) ss (All-cons (λ c. c ≢ 0) b s other (All-head IsZeroFree s ss free)) (All-tail IsZeroFree s ss free)
+
+zero_free-by_byte : (t : Bool) (b : ℕ) (ss : List (List ℕ)) → (t ≡ false → b ≢ 0) → All IsZeroFree ss → All IsZeroFree (cond t ([] ∷ ss) (onto_first b ss))
+zero_free-by_byte true b ss other free = All-cons IsZeroFree [] ss (All-nil _) free
+zero_free-by_byte false b ss other free = onto_first-zero_free b ss (other refl) free
+
+pub zero_free-strings_in : (bytes : List ℕ) → All IsZeroFree (strings_in bytes)
+zero_free-strings_in [] = All-nil _
+zero_free-strings_in (b ∷ bytes) = zero_free-by_byte (eqb b 0) b (strings_in bytes) (λ e. eqb-false b 0 e) (zero_free-strings_in bytes)
+
+-- whether a zero is there
+any_zero : (xs : List ℕ) → Decides (list_any (λ b. eqb b 0) xs) ((k : ℕ) × (k < length xs) × HoldsAt (λ b. b ≡ 0) xs k)
+any_zero = Decides-by_or (λ b. eqb b 0) (λ b. b ≡ 0) (list_any (λ b. eqb b 0)) (λ b. Decides-eqb b 0) refl (λ _ _. refl)
+
+-- a search that found a zero
+pub zero_there : (xs : List ℕ) (end : ℕ) → IsFirstByte (is_byte 0) xs (Some end) → (list_any (λ b. eqb b 0) xs ≡ true) × IsZeroFree (take end xs)
+zero_there xs end h =
+    let within : end < length xs = h.0.high in
+    let here : get_or xs end 0 ≡ 0 = eqb-true _ 0 h.1 in (
+      (any_zero xs).1 (end, within, λ d. get_or_default xs end d 0 within ∙ here),
+      λ k d below same.
+          (let short : k < end = omega (arith, length-take end xs) in
+          h.0.before k (omega arith) short (eq-eqb _ 0 (get_or_default xs k 0 d (omega arith) ∙ sym (get_or-take end xs k d short) ∙ same))),
+    )
+
+-- one that found none
+pub zero_nowhere : (xs : List ℕ) → IsFirstByte (is_byte 0) xs None → list_any (λ b. eqb b 0) xs ≡ false
+zero_nowhere xs h = false_from_ne_true _ (λ there. let at = (any_zero xs).0 there in h at.0 (omega arith) at.1 (eq-eqb _ 0 (at.2 0)))

@@ -1,0 +1,4 @@
+pub mod Strings
+pub mod StringOffsets
+pub mod Marks
+pub mod Chunks

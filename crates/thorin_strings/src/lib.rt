@@ -1,0 +1,11 @@
+//! The strings of a package: the table of distinct strings, and string offsets rewritten into it.
+#![tactic(auto)]
+
+mod offsets;
+mod positions;
+mod search;
+mod table;
+#[cfg(test)]
+mod tests;
+
+pub use table::{PackageStringOffset, PackageStringTable, TableMark};

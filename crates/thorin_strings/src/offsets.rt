@@ -1,0 +1,244 @@
+ghost use Rattle.std.specs.Prelude.{◌≡◌, ◌≤◌, ◌<◌, ◌+◌, ◌*◌, ◌^◌, ◌++◌, length, take, OnOk, OnErr, IfOk};
+ghost use Rattle.dwp_base.specs.Numbers.{number_bytes};
+ghost use Rattle.dwp_base.specs.Reading.{Answers};
+ghost use Rattle.dwp_reader.specs.Encoding.{offset_size};
+ghost use Rattle.thorin_faults.specs.Answers.{Gives};
+ghost use Rattle.thorin_strings.specs.StringOffsets.{length_limit, offset_limit, header_size, header_of, offset_at, string_at, named_at, remapped_entry, remapped};
+ghost use Rattle.thorin_strings.specs.Strings.{IsZeroFree};
+
+use crate::table::PackageStringTable;
+use dwp_base::Endianness;
+use dwp_reader::{Encoding, Format, ReadError};
+use memchr::memchr;
+use std::alloc::{AllocError, Global};
+use thorin_faults::Error;
+
+/// The largest length that an initial length of the format holds (DWARF 5, 7.4).
+fn length_limit(format: Format) -> u64
+    ensures { result ≡ length_limit format }
+{
+    match format {
+        Format::Dwarf32 => 0xffff_ffef,
+        Format::Dwarf64 => u64::MAX,
+    }
+}
+
+/// The largest offset of the format.
+fn offset_limit(format: Format) -> u64
+    ensures { result ≡ offset_limit format }
+{
+    match format {
+        Format::Dwarf32 => 0xffff_ffff,
+        Format::Dwarf64 => u64::MAX,
+    }
+}
+
+/// How many bytes stand before the entries of a contribution: none before DWARF 5 (7.26).
+fn header_size(encoding: Encoding) -> u64
+    ensures { result ≡ header_size encoding }
+{
+    if encoding.is_std_dwarf_package_format() {
+        match encoding.format {
+            Format::Dwarf32 => 8,
+            Format::Dwarf64 => 16,
+        }
+    } else {
+        0
+    }
+}
+
+/// Appends a number that fits the format's offset size.
+fn push_offset(
+    out: &mut Vec<u8>,
+    endian: Endianness,
+    format: Format,
+    value: u64,
+) -> Result<(), AllocError>
+    requires { value ≤ offset_limit format }
+    ensures { OnOk result (out.new.items ≡ out.old.items ++ number_bytes endian (offset_size format) value) }
+{
+    match format {
+        Format::Dwarf32 => out.extend_from_slice(&endian.bytes_of_u32(value as u32)),
+        Format::Dwarf64 => out.extend_from_slice(&endian.bytes_of_u64(value)),
+    }
+}
+
+/// The header of a contribution whose entries have so many bytes; before DWARF 5 nothing.
+#[tactic(auto, unfolding(crate::specs::StringOffsets::header_of))]
+fn header(
+    alloc: Global,
+    endian: Endianness,
+    encoding: Encoding,
+    entry_bytes: u64,
+) -> Result<Vec<u8>, Error>
+    requires { header_size encoding + entry_bytes < 2 ^ 64 }
+    ensures { Gives (λ bytes. bytes.items) result (header_of endian encoding entry_bytes) }
+{
+    let mut bytes = Vec::new(alloc);
+    if !encoding.is_std_dwarf_package_format() {
+        return Ok(bytes);
+    }
+    let length = entry_bytes + 4;
+    if length_limit(encoding.format) < length {
+        return Err(Error::NumberTooLarge("string offsets length", length));
+    }
+    match encoding.format {
+        Format::Dwarf32 => {}
+        Format::Dwarf64 => bytes.extend_from_slice(&endian.bytes_of_u32(u32::MAX))?,
+    }
+    push_offset(&mut bytes, endian, encoding.format, length)?;
+    bytes.extend_from_slice(&endian.bytes_of_u16(5))?;
+    bytes.extend_from_slice(&endian.bytes_of_u16(0))?;
+    Ok(bytes)
+}
+
+/// The offset that stands at a place.
+#[tactic(auto, unfolding(crate::specs::StringOffsets::offset_at))]
+fn offset_at(bytes: &[u8], endian: Endianness, format: Format, at: u64) -> Result<u64, ReadError>
+    ensures { Answers (λ offset. offset) result (offset_at endian format bytes.now at) }
+{
+    let at = at as usize;
+    if bytes.len() < at || bytes.len() - at < format.offset_size() {
+        return Err(ReadError::UnexpectedEof);
+    }
+    let rest = &bytes[at..];
+    Ok(match format {
+        Format::Dwarf32 => endian.read_u32(rest) as u64,
+        Format::Dwarf64 => endian.read_u64(rest),
+    })
+}
+
+/// The string at an offset of a string section: the bytes before the next zero.
+#[tactic(auto, unfolding(crate::specs::StringOffsets::string_at))]
+fn string_at(section: &[u8], offset: u64) -> Result<&[u8], ReadError>
+    ensures meaning { Answers (λ string. string.now) result (string_at section.now offset) }
+    ensures zero_free { IfOk result (λ string. IsZeroFree string.now) }
+{
+    let offset = offset as usize;
+    if section.len() < offset {
+        return Err(ReadError::OffsetOutOfRange);
+    }
+    let rest = &section[offset..];
+    match memchr(0, rest) {
+        Some(end) => Ok(&rest[..end]),
+        None => Err(ReadError::NoTerminator),
+    }
+}
+
+/// The string that the entry of a number names.
+#[tactic(auto, unfolding(crate::specs::StringOffsets::named_at))]
+fn named_at<'a>(
+    debug_str: &'a [u8],
+    debug_str_offsets: &[u8],
+    endian: Endianness,
+    encoding: Encoding,
+    index: u64,
+) -> Result<&'a [u8], Error>
+    requires { header_size encoding + index * offset_size encoding.format < 2 ^ 64 }
+    ensures meaning { Gives (λ string. string.now) result
+        (named_at endian encoding debug_str.now debug_str_offsets.now index) }
+    ensures zero_free { IfOk result (λ string. IsZeroFree string.now) }
+{
+    let at = header_size(encoding) + index * encoding.format.offset_size() as u64;
+    let offset = match offset_at(debug_str_offsets, endian, encoding.format, at) {
+        Ok(offset) => offset,
+        Err(e) => return Err(Error::OffsetAtIndex(e, index)),
+    };
+    match string_at(debug_str, offset) {
+        Ok(string) => Ok(string),
+        Err(e) => Err(Error::StrAtOffset(e, offset as usize)),
+    }
+}
+
+impl PackageStringTable {
+    /// A range of string offsets, rewritten to the same strings in this table, under the same
+    /// encoding. Strings that are new go last. A refusal leaves the table as it was.
+    ///
+    /// `section_size` is how many bytes the range has; in a file that is whole it isn't past
+    /// `debug_str_offsets`. A range of no bytes gives none. Otherwise it refuses, in this order: a range
+    /// shorter than its header (`BadStringOffsets(0)`), a length past the format's limit
+    /// (`NumberTooLarge`), and entry by entry one that can't be read (`OffsetAtIndex`), a string that
+    /// can't be read (`StrAtOffset`), an offset past the format's limit (`NumberTooLarge`).
+    pub fn remap_str_offsets_section(
+        &mut self,
+        debug_str: &[u8],
+        debug_str_offsets: &[u8],
+        section_size: u64,
+        endian: Endianness,
+        encoding: Encoding,
+    ) -> Result<Vec<u8>, Error>
+        ensures meaning { Gives (λ bytes. (bytes.items, self.new)) result
+            (remapped endian encoding debug_str.now debug_str_offsets.now section_size self.old) }
+        ensures kept { take (length self.old) self.new ≡ self.old }
+        ensures err { OnErr result (self.new ≡ self.old) }
+    {
+        let mark = self.mark();
+        let result = self.remapped(debug_str, debug_str_offsets, section_size, endian, encoding);
+        if result.is_err() {
+            self.truncate(mark);
+        }
+        result
+    }
+
+    /// The same, but that a refusal leaves what was added before it.
+    #[tactic(auto, unfolding(crate::specs::StringOffsets::remapped))]
+    fn remapped(
+        &mut self,
+        debug_str: &[u8],
+        debug_str_offsets: &[u8],
+        section_size: u64,
+        endian: Endianness,
+        encoding: Encoding,
+    ) -> Result<Vec<u8>, Error>
+        ensures meaning { Gives (λ bytes. (bytes.items, self.new)) result
+            (remapped endian encoding debug_str.now debug_str_offsets.now section_size self.old) }
+        ensures kept { take (length self.old) self.new ≡ self.old }
+    {
+        let alloc = self.allocator();
+        if section_size == 0 {
+            return Ok(Vec::new(alloc));
+        }
+        let before = header_size(encoding);
+        if section_size < before {
+            return Err(Error::BadStringOffsets(0));
+        }
+        let entry_size = encoding.format.offset_size() as u64;
+        let count = (section_size - before) / entry_size;
+        let mut out = header(alloc, endian, encoding, count * entry_size)?;
+        for index in 0..count {
+            let offset = self.remapped_entry(
+                debug_str,
+                debug_str_offsets,
+                endian,
+                encoding,
+                index,
+            )?;
+            push_offset(&mut out, endian, encoding.format, offset)?;
+        }
+        Ok(out)
+    }
+
+    /// The offset of the string that an entry names, which is added where it is new.
+    #[tactic(auto, unfolding(crate::specs::StringOffsets::remapped_entry, crate::specs::StringOffsets::fitting_offset))]
+    fn remapped_entry(
+        &mut self,
+        debug_str: &[u8],
+        debug_str_offsets: &[u8],
+        endian: Endianness,
+        encoding: Encoding,
+        index: u64,
+    ) -> Result<u64, Error>
+        requires { header_size encoding + index * offset_size encoding.format < 2 ^ 64 }
+        ensures meaning { Gives (λ offset. (offset, self.new)) result
+            (remapped_entry endian encoding debug_str.now debug_str_offsets.now index self.old) }
+        ensures fits { IfOk result (λ offset. offset ≤ offset_limit encoding.format) }
+        ensures kept { take (length self.old) self.new ≡ self.old }
+    {
+        let string = named_at(debug_str, debug_str_offsets, endian, encoding, index)?;
+        let offset = self.get_or_insert(string)?.0 as u64;
+        if offset_limit(encoding.format) < offset {
+            return Err(Error::NumberTooLarge("string offset", offset));
+        }
+        Ok(offset)
+    }
+}

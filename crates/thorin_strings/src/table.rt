@@ -1,0 +1,151 @@
+ghost use Rattle.std.specs.Prelude.{◌≡◌, ◌↔◌, [], length, take, OnOk, IfOk, IfErr, IsSome, IfSome, IsTrue, Contains};
+ghost use Rattle.thorin_strings.specs.Strings.{data_of, offset_of, with_string, IsZeroFree, IsTable, IsWithinDigits};
+ghost use Rattle.thorin_strings.specs.Marks.{mark_of};
+
+use crate::positions::Positions;
+use crate::search::search;
+use std::alloc::Global;
+use std::marker::Model;
+use thorin_faults::Error;
+
+/// Where a string begins in `.debug_str.dwo` of the package.
+#[derive(Clone, Copy, Debug, PartialEq, Eq, Hash)]
+pub struct PackageStringOffset(pub usize);
+
+/// How much a table held at some time: how many strings, and how many bytes of data.
+#[derive(Clone, Copy, Debug, PartialEq, Eq, Hash)]
+pub struct TableMark {
+    /// How many strings.
+    pub strings: usize,
+    /// How many bytes they and the zero bytes at their ends take.
+    pub bytes: usize,
+}
+
+/// The distinct strings of a package, in order of first use. A clause sees the table as their list.
+///
+/// No string is copied but into the data; beside it the table keeps where each begins, in the order
+/// of the strings.
+#[derive(Drop)]
+pub struct PackageStringTable {
+    alloc: Global,
+    bytes: Vec<u8>,
+    positions: Positions,
+}
+
+impl Model for PackageStringTable {
+    ghost use Rattle.std.specs.Prelude.{List, ℕ};
+    ghost use Rattle.thorin_strings.specs.Strings.{strings_in, IsIndexed};
+
+    ghost Value = { List (List ℕ) };
+
+    ghost view = { λ t. strings_in t.bytes.items };
+
+    ghost invariant = { λ t. IsIndexed t.bytes.items t.positions };
+}
+
+impl PackageStringTable {
+    /// A table without strings, which takes no memory.
+    pub fn new(alloc: Global) -> Self
+        ensures { result ≡ [] }
+    {
+        PackageStringTable {
+            alloc,
+            bytes: Vec::new(alloc),
+            positions: Positions::new(alloc),
+        }
+    }
+
+    /// How many strings there are.
+    pub fn len(&self) -> usize
+        ensures { result ≡ length self.now }
+    {
+        self.positions.len()
+    }
+
+    /// Whether there are none.
+    pub fn is_empty(&self) -> bool
+        ensures { IsTrue result ↔ (self.now ≡ []) }
+    {
+        self.len() == 0
+    }
+
+    /// The content of `.debug_str.dwo`: each string and a zero byte.
+    pub fn data(&self) -> &[u8]
+        ensures whole { result.now ≡ data_of self.now }
+        ensures table { IsTable self.now }
+    {
+        &self.bytes
+    }
+
+    /// Where the allocator of the table's memory is.
+    pub(crate) fn allocator(&self) -> Global {
+        self.alloc
+    }
+
+    /// The offset of a string, where the table has it, and how many strings were compared.
+    pub fn find_counted(&self, string: &[u8]) -> (Option<PackageStringOffset>, u32)
+        ensures found { IsSome result.0 ↔ Contains self.now string.now }
+        ensures offset { IfSome result.0 (λ o. o.0 ≡ offset_of self.now string.now) }
+        ensures count { IsWithinDigits result.1 (length self.now) }
+    {
+        let found = search(self.bytes.as_slice(), &self.positions, string);
+        let offset = match found.rank {
+            Ok(rank) => Some(PackageStringOffset(self.positions.get(rank) as usize)),
+            Err(_) => None,
+        };
+        (offset, found.compared)
+    }
+
+    /// The offset of a string, which goes last where the table hasn't it. Refuses for want of memory
+    /// alone, and then leaves the table as it was.
+    pub fn get_or_insert(&mut self, string: &[u8]) -> Result<PackageStringOffset, Error>
+        requires { IsZeroFree string.now }
+        ensures offset { IfOk result (λ o. o.0 ≡ offset_of self.old string.now) }
+        ensures ok { OnOk result (self.new ≡ with_string self.old string.now) }
+        ensures kept { take (length self.old) self.new ≡ self.old }
+        ensures err { IfErr result (λ e. (e ≡ Error.Memory) × (self.new ≡ self.old)) }
+    {
+        let found = search(self.bytes.as_slice(), &self.positions, string);
+        match found.rank {
+            Ok(rank) => Ok(PackageStringOffset(self.positions.get(rank) as usize)),
+            Err(rank) => {
+                let offset = self.bytes.len();
+                self.bytes.reserve(string.len() + 1)?;
+                self.positions.insert(rank, offset as u64)?;
+                self.bytes.extend_from_slice(string).unwrap();
+                self.bytes.push(0).unwrap();
+                Ok(PackageStringOffset(offset))
+            }
+        }
+    }
+
+    /// How much the table holds now, to which `truncate` goes back.
+    pub fn mark(&self) -> TableMark
+        ensures { result ≡ mark_of self.now }
+    {
+        TableMark {
+            strings: self.len(),
+            bytes: self.bytes.len(),
+        }
+    }
+
+    /// Forgets every string that came after a mark.
+    pub fn truncate(&mut self, mark: TableMark)
+        requires { mark ≡ mark_of (take mark.strings self.old) }
+        ensures { self.new ≡ take mark.strings self.old }
+    {
+        if mark.bytes < self.bytes.len() {
+            self.bytes.truncate(mark.bytes);
+            self.positions.keep_below(mark.bytes as u64);
+        }
+    }
+
+    /// The content of `.debug_str.dwo`.
+    pub fn finish(self) -> Vec<u8>
+        ensures whole { result.items ≡ data_of self }
+        ensures table { IsTable self }
+    {
+        let PackageStringTable { bytes, .. } = self;
+        bytes
+    }
+}

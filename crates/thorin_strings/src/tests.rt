@@ -1,0 +1,175 @@
+use crate::{PackageStringOffset, PackageStringTable};
+use dwp_base::Endianness;
+use dwp_reader::{Encoding, Format, ReadError};
+use std::alloc::{AllocError, Global};
+use std::test::Fail;
+use thorin_faults::Error;
+
+const GNU: Encoding = Encoding {
+    version: 4,
+    format: Format::Dwarf32,
+    address_size: 8,
+};
+
+const DWARF5: Encoding = Encoding {
+    version: 5,
+    format: Format::Dwarf32,
+    address_size: 8,
+};
+
+const DWARF5_64: Encoding = Encoding {
+    version: 5,
+    format: Format::Dwarf64,
+    address_size: 8,
+};
+
+/// The offset of a string in a plain list of strings, looked for from the front.
+fn front_search(strings: &[Vec<u8>], string: &[u8]) -> Option<usize> {
+    let mut offset: usize = 0;
+    for other in strings {
+        if other.as_slice() == string {
+            return Some(offset);
+        }
+        offset = offset.saturating_add(other.len().saturating_add(1));
+    }
+    None
+}
+
+#[test]
+fn strings_are_kept_once(rt: HostRuntime) -> Result<(), Fail> {
+    let mut table = PackageStringTable::new(rt.alloc());
+    assert!(rt; table.is_empty());
+    assert_eq!(rt; table.get_or_insert(b"int")?.0, 0);
+    assert_eq!(rt; table.get_or_insert(b"char")?.0, 4);
+    assert_eq!(rt; table.get_or_insert(b"int")?.0, 0);
+    assert_eq!(rt; table.len(), 2);
+    assert_eq!(rt; table.find_counted(b"int").0, Some(PackageStringOffset(0)));
+    assert_eq!(rt; table.find_counted(b"char").0, Some(PackageStringOffset(4)));
+    let (absent, count) = table.find_counted(b"in");
+    assert_eq!(rt; absent, None);
+    assert!(rt; count <= 2);
+    assert_eq!(rt; table.get_or_insert(b"")?.0, 9);
+    assert_eq!(rt; table.data(), b"int\0char\0\0".as_slice());
+    assert_eq!(rt; table.finish().as_slice(), b"int\0char\0\0".as_slice());
+    Ok(())
+}
+
+#[test]
+fn gnu_offsets_are_rewritten(rt: HostRuntime) -> Result<(), Fail> {
+    let mut table = PackageStringTable::new(rt.alloc());
+    let little = Endianness::Little;
+    let offsets = [2, 0, 0, 0, 0, 0, 0, 0];
+    let range = table.remap_str_offsets_section(b"a\0b\0", &offsets, 8, little, GNU)?;
+    assert_eq!(rt; range.as_slice(), [0, 0, 0, 0, 2, 0, 0, 0].as_slice());
+    assert_eq!(rt; table.data(), b"b\0a\0".as_slice());
+    let range = table.remap_str_offsets_section(b"b\0", &[0, 0, 0, 0], 4, little, GNU)?;
+    assert_eq!(rt; range.as_slice(), [0, 0, 0, 0].as_slice());
+    assert_eq!(rt; table.data(), b"b\0a\0".as_slice());
+    let range = table.remap_str_offsets_section(b"b\0", &[0, 0, 0, 0, 7, 7], 6, little, GNU)?;
+    assert_eq!(rt; range.as_slice(), [0, 0, 0, 0].as_slice());
+    let big = table.remap_str_offsets_section(b"\0a\0", &[0, 0, 0, 1], 4, Endianness::Big, GNU)?;
+    assert_eq!(rt; big.as_slice(), [0, 0, 0, 2].as_slice());
+    Ok(())
+}
+
+#[test]
+fn dwarf_5_offsets_keep_their_header(rt: HostRuntime) -> Result<(), Fail> {
+    let narrow = [8, 0, 0, 0, 5, 0, 0, 0, 0, 0, 0, 0];
+    let wide = [
+        255, 255, 255, 255, 12, 0, 0, 0, 0, 0, 0, 0, 5, 0, 0, 0, 0, 0, 0, 0, 0, 0, 0, 0,
+    ];
+    let little = Endianness::Little;
+    let mut table = PackageStringTable::new(rt.alloc());
+    let range = table.remap_str_offsets_section(b"a\0", &narrow, 12, little, DWARF5)?;
+    assert_eq!(rt; range.as_slice(), narrow.as_slice());
+    let range = table.remap_str_offsets_section(b"a\0", &wide, 24, little, DWARF5_64)?;
+    assert_eq!(rt; range.as_slice(), wide.as_slice());
+    let range = table.remap_str_offsets_section(b"a\0", &[], 0, little, DWARF5)?;
+    assert!(rt; range.is_empty());
+    Ok(())
+}
+
+#[test]
+fn a_refusal_forgets_what_came_before_it(rt: HostRuntime) -> Result<(), Fail> {
+    let little = Endianness::Little;
+    let mut table = PackageStringTable::new(rt.alloc());
+    table.get_or_insert(b"kept")?;
+    let short = table.remap_str_offsets_section(b"a\0", &[0; 5], 5, little, DWARF5);
+    assert!(rt; matches!(short, Err(Error::BadStringOffsets(0))));
+    let long = table.remap_str_offsets_section(b"a\0", &[], 0xffff_fff4, little, DWARF5);
+    assert!(rt; matches!(long, Err(Error::NumberTooLarge(_, 0xffff_fff0))));
+    let cut = table.remap_str_offsets_section(b"a\0", &[0; 6], 8, little, GNU);
+    assert!(rt; matches!(cut, Err(Error::OffsetAtIndex(ReadError::UnexpectedEof, 1))));
+    let past = table.remap_str_offsets_section(b"a\0", &[0, 0, 0, 0, 3, 0, 0, 0], 8, little, GNU);
+    assert!(rt;
+        matches!(
+            past,
+            Err(Error::StrAtOffset(ReadError::OffsetOutOfRange, 3))
+        )
+    );
+    let end = table.remap_str_offsets_section(b"a\0", &[0, 0, 0, 0, 2, 0, 0, 0], 8, little, GNU);
+    assert!(rt; matches!(end, Err(Error::StrAtOffset(ReadError::NoTerminator, 2))));
+    assert_eq!(rt; table.data(), b"kept\0".as_slice());
+    assert_eq!(rt; table.find_counted(b"a").0, None);
+    assert_eq!(rt; table.get_or_insert(b"a")?.0, 5);
+    Ok(())
+}
+
+/// The string offsets and the data by a list of strings that is looked through from the front.
+fn plain_form(
+    alloc: Global,
+    section: &[u8],
+    offsets: &[u8],
+) -> Result<(Vec<u8>, Vec<u8>), AllocError> {
+    let mut strings = Vec::new(alloc);
+    let mut range = Vec::new(alloc);
+    let mut data = Vec::new(alloc);
+    for entry in offsets.chunks_exact(4) {
+        let place = u32::from_le_bytes([entry[0], entry[1], entry[2], entry[3]]) as usize;
+        let rest = section.get(place..).unwrap_or(&[]);
+        let end = rest.iter().position(|b| *b == 0).unwrap_or(rest.len());
+        let string = rest.get(..end).unwrap_or(rest);
+        let offset = match front_search(strings.as_slice(), string) {
+            Some(offset) => offset,
+            None => {
+                let offset = data.len();
+                strings.push(Vec::from_slice(alloc, string)?)?;
+                data.extend_from_slice(string)?;
+                data.push(0)?;
+                offset
+            }
+        };
+        range.extend_from_slice(&u32::try_from(offset).unwrap_or(u32::MAX).to_le_bytes())?;
+    }
+    Ok((range, data))
+}
+
+#[test]
+fn many_strings_are_found_as_from_the_front(rt: HostRuntime) -> Result<(), Fail> {
+    let mut seed: u32 = 1;
+    let mut section = Vec::new(rt.alloc());
+    for _ in 0..3000 {
+        seed = seed.wrapping_mul(1_664_525).wrapping_add(1_013_904_223);
+        let letter = (seed >> 24) as u8;
+        section.push(if letter < 40 { 0 } else { b'a' | (letter & 15) })?;
+    }
+    section.push(0)?;
+    let mut offsets = Vec::new(rt.alloc());
+    for _ in 0..4000 {
+        seed = seed.wrapping_mul(1_664_525).wrapping_add(1_013_904_223);
+        offsets.extend_from_slice(&((seed >> 8) % 3000).to_le_bytes())?;
+    }
+    let (range, data) = plain_form(rt.alloc(), &section, &offsets)?;
+    let mut table = PackageStringTable::new(rt.alloc());
+    let rewritten = table.remap_str_offsets_section(
+        &section,
+        &offsets,
+        16000,
+        Endianness::Little,
+        GNU,
+    )?;
+    assert!(rt; rewritten.as_slice() == range.as_slice());
+    assert!(rt; table.data() == data.as_slice());
+    assert!(rt; table.len() > 1024);
+    Ok(())
+}
