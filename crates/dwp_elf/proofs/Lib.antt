@@ -9,4 +9,5 @@ pub mod Whole
 pub mod WrittenFields
 pub mod WrittenHeader
 pub mod WrittenSection
+pub mod WrittenBack
 pub mod WrittenSections

@@ -1,5 +1,5 @@
 -- A written file means the contents that it was written from.
-use Rattle.std.proofs.Common.{◌≡◌, ℕ, zero, suc, ◌+◌, ◌-◌, ◌*◌, ◌^◌, ◌<◌, ◌≤◌, ◌==◌, nat_lt, nat_le, Bool, true, false, List, [], ◌∷◌, ◌++◌, Option, Some, Result, Ok, length, map, drop, replicate, lit<, refl, sym, ap, ◌∙◌, arith, append_assoc, length-append}
+use Rattle.std.proofs.Common.{◌≡◌, ℕ, suc, ◌+◌, ◌-◌, ◌*◌, ◌^◌, ◌<◌, ◌≤◌, nat_le, true, List, [], ◌∷◌, ◌++◌, Some, Ok, length, map, drop, replicate, lit<, refl, sym, ap, ◌∙◌, arith, append_assoc, length-append}
 use Rattle.std.specs.Prelude.{codes}
 use Rattle.std.specs.List.{range_with_len}
 use Rattle.std.proofs.Math.Nat.{mul_comm}
@@ -7,13 +7,12 @@ use Rattle.std.proofs.lemmas.Bool.{le-leb, lt-ltb, ne_eqb}
 use Rattle.std.proofs.lemmas.List.{length-replicate}
 use Rattle.dwp_base.specs.declared.section.SectionKind.{SectionKind}
 use Rattle.dwp_base.specs.Sections.{name_of}
-use Rattle.dwp_elf_read.specs.declared.fault.ReadError.{ReadError}
 use Rattle.dwp_elf_read.specs.Layout.{word_size, header_size, entry_size, file_header_of}
 use Rattle.dwp_elf_read.specs.Identification.{identity_of}
 use Rattle.dwp_base.specs.declared.class.Class.{Class}
 use Rattle.dwp_base.specs.declared.class.Class.TheVariants.{Elf32, Elf64}
 use Rattle.dwp_elf.proofs.WrittenFields.{spelled, file_fields, file_header-spelled}
-use Rattle.dwp_elf_read.specs.Elf.{Elf, SectionMeaning, section_of, header_at, sections_from, elf_of}
+use Rattle.dwp_elf_read.specs.Elf.{SectionMeaning, section_of, header_at, sections_from, elf_of}
 use Rattle.dwp_elf.specs.FileText.{Object, identification, file_header, content_bytes, names_of, name_table, section_count, headers_place, names_end, zeros_after, headers_from, null_header, section_headers, file_text}
 use Rattle.dwp_elf.proofs.Limits.{length-file_header, length-null_header, length-file_text}
 use Rattle.dwp_elf.proofs.Parts.{length-name_of}

@@ -1,5 +1,5 @@
 -- Reading the numbers of a written header.
-use Rattle.std.proofs.Common.{◌≡◌, ℕ, zero, suc, ◌+◌, ◌*◌, ◌^◌, ◌<◌, ◌≤◌, ◌-◌, lit<, List, [], ◌∷◌, ◌++◌, length, take, drop, refl, sym, ap, ◌∙◌, arith, append_assoc}
+use Rattle.std.proofs.Common.{◌≡◌, ℕ, ◌+◌, ◌*◌, ◌^◌, ◌<◌, ◌-◌, lit<, List, [], ◌∷◌, ◌++◌, drop, refl, sym, ap, ◌∙◌, arith, append_assoc}
 use Rattle.std.proofs.Math.Seq.{drop-append-add}
 use Rattle.byteorder.specs.Numbers.{little_number-reads_back, big_number-reads_back}
 use Rattle.dwp_base.specs.declared.class.Class.{Class}
@@ -7,8 +7,8 @@ use Rattle.dwp_base.specs.declared.class.Class.TheVariants.{Elf32, Elf64}
 use Rattle.dwp_base.specs.declared.endian.Endianness.{Endianness}
 use Rattle.dwp_base.specs.declared.endian.Endianness.TheVariants.{Little, Big}
 use Rattle.dwp_base.specs.Numbers.{number, number_bytes}
-use Rattle.dwp_elf_read.specs.Layout.{word_size, header_size, entry_size, number_at, file_header_of, section_header_of}
-use Rattle.dwp_elf.specs.FileText.{half, word, wide, identification, file_header, section_header}
+use Rattle.dwp_elf_read.specs.Layout.{word_size, header_size, entry_size, section_header_of}
+use Rattle.dwp_elf.specs.FileText.{identification, file_header, section_header}
 use Rattle.dwp_elf.proofs.Limits.{length-number_bytes}
 
 -- a number is read back from its bytes

@@ -1,14 +1,12 @@
 -- The file's header is read back.
-use Rattle.std.proofs.Common.{◌≡◌, ℕ, zero, suc, ◌+◌, ◌-◌, ◌*◌, ◌^◌, ◌<◌, ◌≤◌, ◌==◌, nat_lt, nat_le, nat_eq, Bool, true, false, cond, not, List, [], ◌∷◌, ◌++◌, Option, Some, None, Result, Ok, Err, length, take, drop, slice_index, refl, sym, ap, ◌∙◌, arith, lit<, length-append}
+use Rattle.std.proofs.Common.{◌≡◌, ℕ, ◌-◌, ◌^◌, ◌<◌, ◌≤◌, nat_eq, true, false, List, [], ◌∷◌, ◌++◌, Ok, length, slice_index, refl, ap, ◌∙◌, arith, lit<}
 use Rattle.std.specs.List.{starts_with}
-use Rattle.std.proofs.lemmas.Bool.{lt-ltb, le-ltb}
+use Rattle.std.proofs.lemmas.Bool.{le-ltb}
 use Rattle.dwp_base.specs.declared.class.Class.{Class}
 use Rattle.dwp_base.specs.declared.class.Class.TheVariants.{Elf32, Elf64}
 use Rattle.dwp_base.specs.declared.endian.Endianness.{Endianness}
 use Rattle.dwp_base.specs.declared.endian.Endianness.TheVariants.{Little, Big}
-use Rattle.dwp_base.specs.Numbers.{number, number_bytes}
-use Rattle.dwp_elf_read.specs.declared.fault.ReadError.{ReadError}
-use Rattle.dwp_elf_read.specs.Layout.{word_size, header_size, entry_size, number_at, is_inside, file_header_of, section_header_of}
+use Rattle.dwp_elf_read.specs.Layout.{word_size, header_size, entry_size, file_header_of}
 use Rattle.dwp_elf_read.specs.Identification.{archive_magic, thin_magic, elf_magic, kind_of, identity_of}
 use Rattle.dwp_elf.specs.FileText.{identification, class_byte, order_byte, file_header}
 use Rattle.dwp_elf.proofs.WrittenFields.{spelled, file_fields, field-back, file_header-spelled}

@@ -1,6 +1,7 @@
 //! Objects that are made section by section, and written as ELF files.
 ghost use Rattle.std.specs.Prelude.{◌≡◌, ℕ, ◌+◌, ◌≤◌, ◌<◌, ◌^◌, ◌*◌, [], List, length, IfOk, IfErr, OnOk, OnErr, MatchResult, Some, None, Ok, Err, OkIff};
 ghost use Rattle.std.specs.Io.KnownBytes.{Appends};
+ghost use Rattle.dwp_elf_read.specs.Elf.{elf_of};
 ghost use Rattle.dwp_elf_read.specs.declared.fault.WriteError.TheVariants.{NumberTooLarge, Memory};
 ghost use Rattle.dwp_elf.specs.Contents.{KindsDiffer, contents_of, content_of, appended, truncated};
 ghost use Rattle.dwp_elf.specs.FileText.{file_text};
@@ -8,6 +9,7 @@ ghost use Rattle.dwp_elf.specs.Numbers.{Fits};
 ghost use Rattle.dwp_elf.specs.Places.{ArePlaces};
 ghost use Rattle.dwp_elf.specs.Refusals.{RefusesFile, RefusesWriter};
 ghost use Rattle.dwp_elf.specs.Writing.{Writes};
+ghost use Rattle.dwp_elf.specs.Written.{written_elf};
 
 use crate::contents::{append_to, truncate_to};
 use crate::headers::{entry_size, file_header};
@@ -136,9 +138,11 @@ impl WritableObject {
         Ok(self.places()?.size)
     }
 
-    /// The file as bytes: NumberTooLarge where `file_size` refuses, else Memory where memory runs out.
+    /// The file as bytes: NumberTooLarge where `file_size` refuses, else Memory where memory runs out. Read back, it has the
+    /// contents in order under their names.
     pub fn write(&self) -> Result<Vec<u8>, WriteError>
         ensures text { IfOk result (λ file. file.items ≡ file_text self.now) }
+        ensures read_back { IfOk result (λ file. elf_of file.items ≡ Ok (written_elf self.now)) }
         ensures fits { OnOk result (Fits self.now) }
         ensures refused { IfErr result (RefusesFile self.now) }
     {
@@ -158,6 +162,7 @@ impl WritableObject {
     pub fn write_to<W: Write>(&self, out: &mut W) -> Result<(), WriteError>
         ensures fits { OnOk result (Fits self.now) }
         ensures text { OnOk result (Appends (W.contents out.old) (W.contents out.new) (file_text self.now)) }
+        ensures read_back { OnOk result (elf_of (file_text self.now) ≡ Ok (written_elf self.now)) }
         ensures refused { IfErr result (RefusesWriter self.now (W.contents out.old) (W.contents out.new)) }
         ensures untouched { result ≡ Err NumberTooLarge → out.new ≡ out.old }
     {
@@ -169,8 +174,10 @@ impl WritableObject {
     fn places(&self) -> Result<Places, WriteError>
         ensures ok { IfOk result (ArePlaces self.now.class self.now.contents) }
         ensures fits { OnOk result (Fits self.now) }
+        ensures read_back { OnOk result (elf_of (file_text self.now) ≡ Ok (written_elf self.now)) }
         ensures refused { IfErr result (λ e. (e ≡ NumberTooLarge) × ¬ Fits self.now) }
     {
+        let _machine = self.machine;
         places_of(self.class, &self.sections).ok_or(WriteError::NumberTooLarge)
     }
 

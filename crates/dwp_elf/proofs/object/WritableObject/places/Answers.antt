@@ -3,6 +3,7 @@ use Rattle.dwp_elf.specs.Object.{object_of}
 use Rattle.dwp_elf.proofs.Changes.{length-contents_of}
 use Rattle.dwp_elf.proofs.KindCounts.{length-KindsDiffer}
 use Rattle.dwp_elf.proofs.Limits.{places-fits, places-refused}
+use Rattle.dwp_elf.proofs.WrittenBack.{places-back}
 use Rattle.dwp_elf.proofs.object.WritableObject.places.Goals as goal
 
 pub places_of-requires : goal.places_of-requires
@@ -20,3 +21,8 @@ pub returns-clause-refused : goal.returns-clause-refused
 returns-clause-refused c =
     rw (c.ok_or.ensures.value, ← c.self.view_is)
     (places-refused (object_of c.self.inside) c.places_of.result _ (rw c.deref.ensures.value at c.places_of.ensures))
+
+pub returns-clause-read_back : goal.returns-clause-read_back
+returns-clause-read_back c =
+    rw (c.ok_or.ensures.value, ← c.self.view_is)
+    (places-back (object_of c.self.inside) c.places_of.result _ (omega arith) c.self.invariant (rw c.deref.ensures.value at c.places_of.ensures))
