@@ -1,5 +1,5 @@
 -- A list cut into pieces.
-use Rattle.std.proofs.Common.{◌≡◌, ℕ, zero, suc, ◌+◌, ◌-◌, ◌<◌, ◌≤◌, Bool, true, false, cond, List, [], ◌∷◌, ◌++◌, length, take, drop, get_or, set, map, filter, insert, All, ap, ap₂, sym, subst, refl, ◌∙◌, ⊎_elim, arith, append_assoc, length-append, add-one}
+use Rattle.std.proofs.Common.{◌≡◌, ℕ, zero, suc, ◌+◌, ◌-◌, ◌<◌, ◌≤◌, Bool, List, [], ◌∷◌, ◌++◌, length, take, drop, get_or, set, map, filter, insert, All, ap, ap₂, sym, subst, refl, ◌∙◌, ⊎_elim, arith, append_assoc, length-append, add-one}
 use Rattle.std.specs.List.{concat}
 use Rattle.std.proofs.lemmas.List.{append-nil, get_or_append_left, get_or-append-add, get_or-append_right, get_or_at, get_or-map, get_or-drop, set_at, take_at, take_all, take_more, take-append-drop, drop_all, drop_more, map_more, length-map, length-take, length-take-le, length-drop, length-set}
 use Rattle.std.proofs.lemmas.List.Edits.{insert-append_left, insert-append_right, length-insert}

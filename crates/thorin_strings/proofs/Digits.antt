@@ -1,5 +1,5 @@
 -- Halving a window of a search takes a binary digit off its size.
-use Rattle.std.proofs.Common.{◌≡◌, ℕ, zero, suc, ◌+◌, ◌-◌, ◌/◌, ◌*◌, ◌^◌, ◌<◌, ◌≤◌, ap, subst, sym, arith}
+use Rattle.std.proofs.Common.{◌≡◌, ℕ, zero, suc, ◌+◌, ◌-◌, ◌/◌, ◌*◌, ◌^◌, ◌<◌, ◌≤◌, subst, sym, arith}
 use Rattle.std.proofs.Math.Nat.{pow-suc}
 
 -- a window with something in it has a digit, and its half has one less

@@ -8,3 +8,6 @@ pub mod RemapLemmas
 pub mod SectionLemmas
 pub mod ChunkLemmas
 pub mod PieceLemmas
+pub mod Named
+pub mod NamedEntries
+pub mod NamedBytes

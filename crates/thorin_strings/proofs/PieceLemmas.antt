@@ -1,9 +1,9 @@
 -- What the vectors of a list hold, as the list changes.
-use Rattle.std.proofs.Common.{◌≡◌, ℕ, zero, suc, ◌+◌, ◌-◌, ◌<◌, ◌≤◌, List, [], ◌∷◌, ◌++◌, length, take, drop, get_or, set, map, insert, Vec, ap, ap₂, sym, subst, refl, ◌∙◌, arith, length-append, add-one}
+use Rattle.std.proofs.Common.{◌≡◌, ℕ, suc, ◌+◌, ◌-◌, ◌<◌, ◌≤◌, List, [], ◌∷◌, ◌++◌, length, take, drop, get_or, set, insert, Vec, ap, ap₂, sym, ◌∙◌, arith, length-append, add-one}
 use Rattle.std.specs.List.{concat}
-use Rattle.std.proofs.lemmas.List.{map-append, map-set, take-map, drop-map, get_or-map, set-get_or, length-map, length-take-le, length-drop, take-append-drop, take_rest}
+use Rattle.std.proofs.lemmas.List.{map-append, map-set, take-map, drop-map, get_or-map, set-get_or, length-map, length-take-le, take-append-drop, take_rest}
 use Rattle.thorin_strings.specs.Chunks.{pieces, starts_from}
-use Rattle.thorin_strings.proofs.ChunkLemmas.{length-starts_from, start_at, concat_around, concat_cut, starts_cut}
+use Rattle.thorin_strings.proofs.ChunkLemmas.{start_at, concat_around, concat_cut, starts_cut}
 
 pub length-pieces : {A : Type 0} (chunks : List (Vec ℕ A)) → length (pieces chunks) ≡ length chunks
 length-pieces {A} chunks = length-map chunks (λ (chunk : Vec ℕ A). chunk.items)

@@ -1,9 +1,8 @@
 -- The string at an offset of a section.
-use Rattle.std.proofs.Common.{◌≡◌, ℕ, ◌≤◌, Bool, true, false, ltb, eqb, List, length, take, drop, Some, None, Ok, Err, ap, refl, sym, ◌∙◌}
+use Rattle.std.proofs.Common.{◌≡◌, ℕ, ◌≤◌, true, false, ltb, eqb, List, length, take, drop, Some, None, Ok, Err, ap, refl}
 use Rattle.std.specs.List.{list_any}
 use Rattle.std.proofs.lemmas.Bool.{le-ltb}
 use Rattle.memchr.specs.Find.{IsFirstByte, is_byte}
-use Rattle.dwp_reader.specs.declared.fault.ReadError.{ReadError}
 use Rattle.dwp_reader.specs.declared.fault.ReadError.TheVariants.{NoTerminator}
 use Rattle.thorin_strings.specs.StringOffsets.{string_at}
 use Rattle.thorin_strings.proofs.StringLemmas.{before_zero, zero_there, zero_nowhere}

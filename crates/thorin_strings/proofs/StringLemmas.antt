@@ -1,13 +1,13 @@
 -- The strings of a section in which each is ended by a zero byte.
-use Rattle.std.proofs.Common.{◌≡◌, ◌≢◌, ℕ, ◌+◌, ◌-◌, ◌<◌, ◌≤◌, Bool, true, false, cond, eqb, List, [], ◌∷◌, ◌++◌, length, take, drop, get_or, Option, Some, None, MatchOption, All, Decides, ap, sym, subst, refl, ◌∙◌, arith, append_assoc, length-append}
-use Rattle.std.specs.List.{before_first, position_or_len, onto_first, list_any, HoldsAt}
+use Rattle.std.proofs.Common.{◌≡◌, ◌≢◌, ℕ, ◌-◌, ◌<◌, ◌≤◌, Bool, true, false, cond, eqb, List, [], ◌∷◌, ◌++◌, length, take, drop, get_or, Option, Some, None, MatchOption, All, Decides, ap, sym, refl, ◌∙◌, arith, append_assoc, length-append}
+use Rattle.std.specs.List.{before_first, onto_first, list_any, HoldsAt}
 use Rattle.std.proofs.lemmas.List.{take_all, take_rest, take_at, drop_at, get_or_at, get_or_append_left, get_or_default, get_or-take, length-take}
 use Rattle.std.proofs.lemmas.List.Sums.{position_or_len_is}
 use Rattle.std.proofs.lemmas.List.Elements.{All-nil, All-cons, All-head, All-tail}
 use Rattle.std.proofs.lemmas.Bool.{false_from_ne_true, ne_eqb, eq-eqb, eqb-false, eqb-true}
 use Rattle.std.proofs.lemmas.Bool.Decides.{Decides-by_or, Decides-eqb}
 use Rattle.memchr.specs.Find.{IsFirstByte, is_byte}
-use Rattle.thorin_strings.specs.Strings.{terminated, data_of, IsZeroFree, string_from, strings_in}
+use Rattle.thorin_strings.specs.Strings.{data_of, IsZeroFree, string_from, strings_in}
 
 -- what a search for the first zero says of the bytes before it
 pub before_zero : (xs : List ℕ) (r : Option ℕ) → IsFirstByte (is_byte 0) xs r → MatchOption r (before_first (λ b. eqb b 0) xs ≡ xs) (λ end. (end ≤ length xs) × (before_first (λ b. eqb b 0) xs ≡ take end xs))

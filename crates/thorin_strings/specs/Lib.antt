@@ -2,3 +2,4 @@ pub mod Strings
 pub mod StringOffsets
 pub mod Marks
 pub mod Chunks
+pub mod Rewritten

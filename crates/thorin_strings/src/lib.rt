@@ -1,6 +1,7 @@
 //! The strings of a package: the table of distinct strings, and string offsets rewritten into it.
 #![tactic(auto)]
 
+mod laws;
 mod offsets;
 mod positions;
 mod search;
@@ -8,4 +9,5 @@ mod table;
 #[cfg(test)]
 mod tests;
 
+pub use laws::rewritten_offsets_name_the_same;
 pub use table::{PackageStringOffset, PackageStringTable, TableMark};

@@ -1,6 +1,6 @@
 use Rattle.std.proofs.Common.{◌≡◌, ℕ, ◌<◌, ◌≤◌, ◌+◌, ◌-◌, ◌/◌, List, length, get_or, take, drop, insert, Vec, Global, [], ap, sym, ◌∙◌, arith}
 use Rattle.std.proofs.lemmas.List.{get_or_read}
-use Rattle.thorin_strings.specs.Chunks.{pieces, starts_from}
+use Rattle.thorin_strings.specs.Chunks.{pieces}
 use Rattle.thorin_strings.proofs.ChunkLemmas.{length-starts_from}
 use Rattle.thorin_strings.proofs.PieceLemmas.{length-pieces, piece_read, start_within, pieces_cut, concat_halves, starts_halves}
 use Rattle.thorin_strings.proofs.positions.cut.Goals as goal

@@ -1,4 +1,4 @@
-use Rattle.std.proofs.Common.{◌≡◌, ◌<◌, ◌≤◌, ◌+◌, length, get_or, take, [], filter, nat_lt, ap, sym, ◌∙◌, arith}
+use Rattle.std.proofs.Common.{◌≡◌, ◌<◌, ◌+◌, length, get_or, [], filter, nat_lt, ap, ◌∙◌, arith}
 use Rattle.thorin_strings.specs.Chunks.{pieces}
 use Rattle.thorin_strings.proofs.ChunkLemmas.{length-starts_from, pieces_long, set_long, kept_step, kept_within, kept_all, chunked_all}
 use Rattle.thorin_strings.proofs.PieceLemmas.{length-pieces, piece_read}

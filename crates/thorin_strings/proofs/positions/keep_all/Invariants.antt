@@ -1,4 +1,4 @@
-use Rattle.std.proofs.Common.{◌≡◌, ◌≤◌, ◌++◌, take, drop, length, map, filter, nat_lt}
+use Rattle.std.proofs.Common.{◌≡◌, ◌++◌, take, drop, length, map, filter, nat_lt}
 use Rattle.std.specs.List.{concat}
 use Rattle.thorin_strings.specs.Chunks.{pieces, starts_from}
 use Rattle.thorin_strings.proofs.positions.keep_all.Given as goal

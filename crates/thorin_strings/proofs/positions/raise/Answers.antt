@@ -1,4 +1,4 @@
-use Rattle.std.proofs.Common.{length, refl, arith}
+use Rattle.std.proofs.Common.{refl}
 use Rattle.thorin_strings.proofs.ChunkLemmas.{raised_more}
 use Rattle.thorin_strings.proofs.positions.raise.Goals as goal
 

@@ -1,4 +1,4 @@
-use Rattle.std.proofs.Common.{◌≡◌, ◌≤◌, ◌++◌, take, drop, length}
+use Rattle.std.proofs.Common.{◌≡◌, ◌++◌, take, drop}
 use Rattle.thorin_strings.proofs.ChunkLemmas.{raised}
 use Rattle.thorin_strings.proofs.positions.raise.Given as goal
 

@@ -1,6 +1,6 @@
-use Rattle.std.proofs.Common.{◌≡◌, ◌<◌, length, vec_len, ap, sym, arith}
+use Rattle.std.proofs.Common.{◌≡◌, length, vec_len, ap, sym, arith}
 use Rattle.std.proofs.lemmas.Bool.{eqb-false}
-use Rattle.thorin_strings.specs.Chunks.{pieces, IsPieceOf}
+use Rattle.thorin_strings.specs.Chunks.{pieces}
 use Rattle.thorin_strings.proofs.ChunkLemmas.{first_start, length-starts_from}
 use Rattle.thorin_strings.proofs.PieceLemmas.{length-pieces}
 use Rattle.thorin_strings.proofs.positions.room_at.Goals as goal

@@ -1,4 +1,4 @@
-use Rattle.std.proofs.Common.{◌≤◌, ◌<◌, ℕ, length, get_or, ◌+◌, ◌-◌, ◌^◌, ◌/◌, arith}
+use Rattle.std.proofs.Common.{◌<◌, length, get_or, ◌+◌, ◌-◌, ◌^◌, ◌/◌, arith}
 use Rattle.thorin_strings.specs.Strings.{string_from}
 use Rattle.thorin_strings.proofs.Digits.{halved_more}
 use Rattle.thorin_strings.proofs.SearchLemmas.{before_more, behind_more, turned, tied, compared}

@@ -1,5 +1,4 @@
-use Rattle.std.proofs.Common.{◌≡◌, Some, None, ◌-◌, ◌<◌, ◌≤◌, length, take, drop, eqb, ap, sym, ◌∙◌, arith, rules}
-use Rattle.thorin_strings.specs.Strings.{string_from}
+use Rattle.std.proofs.Common.{Some, None, ◌-◌, length, take, drop, sym}
 use Rattle.thorin_strings.proofs.StringLemmas.{before_zero, drop_whole}
 use Rattle.thorin_strings.proofs.search.string_from.Goals as goal
 

@@ -1,5 +1,4 @@
 use Rattle.std.proofs.Common.{◌≡◌, ◌<◌, ◌-◌, length, get_or, [], ap, sym, ◌∙◌, subst, arith}
-use Rattle.std.specs.List.{concat}
 use Rattle.std.proofs.lemmas.List.{get_or_read}
 use Rattle.thorin_strings.specs.Chunks.{pieces, IsPieceOf}
 use Rattle.thorin_strings.proofs.ChunkLemmas.{first_start, some_piece, chunk_got}

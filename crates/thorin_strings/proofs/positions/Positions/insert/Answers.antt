@@ -1,9 +1,9 @@
-use Rattle.std.proofs.Common.{◌≡◌, ◌<◌, ◌≤◌, ◌+◌, ◌-◌, ◌^◌, length, get_or, take, drop, map, insert, set, All, [], ap, sym, ◌∙◌, subst, arith}
+use Rattle.std.proofs.Common.{◌≡◌, ◌<◌, ◌≤◌, ◌+◌, ◌-◌, ◌^◌, length, get_or, insert, set, [], ap, sym, ◌∙◌, subst, arith}
 use Rattle.std.specs.List.{concat}
 use Rattle.std.proofs.lemmas.List.{get_or_read, with_items_is}
 use Rattle.std.proofs.lemmas.List.Elements.{All-weaker}
-use Rattle.thorin_strings.specs.Chunks.{pieces, starts_from, IsPieceOf, IsChunked}
-use Rattle.thorin_strings.proofs.ChunkLemmas.{chunk_goes, chunk_inserted, starts_bounded, length-starts_from, raised, length-raised}
+use Rattle.thorin_strings.specs.Chunks.{pieces, IsChunked}
+use Rattle.thorin_strings.proofs.ChunkLemmas.{chunk_goes, chunk_inserted, starts_bounded, raised, length-raised}
 use Rattle.thorin_strings.proofs.PieceLemmas.{length-pieces}
 use Rattle.thorin_strings.proofs.positions.Positions.insert.Goals as goal
 

@@ -1,4 +1,4 @@
-use Rattle.std.proofs.Common.{◌≡◌, arith, refl, sym, ◌∙◌}
+use Rattle.std.proofs.Common.{refl}
 use Rattle.std.proofs.lemmas.Bool.{false≢true}
 use Rattle.thorin_strings.proofs.TableLemmas.{positions_within, count_within, found_there, absent_there, stands_absent}
 use Rattle.thorin_strings.proofs.table.PackageStringTable.find_counted.Goals as goal

@@ -1,7 +1,7 @@
-use Rattle.std.proofs.Common.{◌≡◌, ◌∙◌, [], ◌∷◌, ◌++◌, sym, arith}
+use Rattle.std.proofs.Common.{[], ◌∷◌, ◌++◌, sym, arith}
 use Rattle.std.proofs.lemmas.List.{append-nil, take_all}
 use Rattle.std.proofs.lemmas.Result.{err_from_is_err_and}
-use Rattle.thorin_strings.proofs.RemapLemmas.{entries_none, entries_more, bytes_more, kept_more, remapped_refuses, remapped_whole}
+use Rattle.thorin_strings.proofs.RemapLemmas.{entries_none, entries_more, bytes_more, kept_more, remapped_refuses}
 use Rattle.thorin_strings.proofs.table.PackageStringTable.remapped.Goals as goal
 
 pub loop-index-init : goal.loop-index-init

@@ -1,4 +1,4 @@
-use Rattle.std.proofs.Common.{◌≡◌, length, ap, arith}
+use Rattle.std.proofs.Common.{ap, arith}
 use Rattle.thorin_strings.specs.declared.table.TableMark.{TableMark}
 use Rattle.thorin_strings.proofs.TableLemmas.{table_taken, nothing_after}
 use Rattle.thorin_strings.proofs.table.PackageStringTable.truncate.Goals as goal

@@ -1,0 +1,142 @@
+-- A string of a table is read where its offset says, also once more strings have come.
+use Rattle.std.proofs.Common.{◌≡◌, ◌≢◌, ℕ, suc, ◌+◌, ◌-◌, ◌<◌, Bool, true, false, ◌||◌, cond, eqb, ltb, List, [], ◌∷◌, ◌++◌, length, take, drop, Ok, Contains, ap, sym, subst, refl, ◌∙◌, arith, length-append}
+use Rattle.std.specs.List.{list_any, before_first, position_or_len}
+use Rattle.std.specs.Str.{bytes_eq}
+use Rattle.std.proofs.lemmas.List.{take_all, take_at, take-append-drop, drop_at, drop-drop, length-drop, length-take, get_or_default, get_or-take}
+use Rattle.std.proofs.lemmas.List.Elements.{All-push}
+use Rattle.std.proofs.lemmas.List.Quantifiers.{all_pairs_push}
+use Rattle.std.proofs.lemmas.List.Sums.{fails_before_first}
+use Rattle.std.proofs.lemmas.Bool.{false≢true, le-ltb, eq-eqb, or_parts, cond-true, cond-false}
+use Rattle.std.proofs.lemmas.Slice.Eq.{bytes_eq-Decides}
+use Rattle.thorin_strings.specs.Strings.{terminated, data_of, offset_of, with_string, IsZeroFree, IsTable, string_from}
+use Rattle.thorin_strings.specs.StringOffsets.{string_at}
+use Rattle.thorin_strings.proofs.StringLemmas.{data_of-cons, before_first-ended}
+use Rattle.thorin_strings.proofs.OffsetLemmas.{has_Decides}
+
+-- a string is among those of a list
+abbrev pub has : List (List ℕ) → List ℕ → Bool
+has ss s = list_any (λ t. bytes_eq t s) ss
+
+itself : (s : List ℕ) → bytes_eq s s ≡ true
+itself s = (bytes_eq-Decides s s).1 refl
+
+or_right : (b c : Bool) → c ≡ true → (b || c) ≡ true
+or_right true c h = refl
+or_right false c h = h
+
+has_by : (b r q : Bool) → (b || r) ≡ true → (r ≡ true → q ≡ true) → (b || q) ≡ true
+has_by true r q h more = refl
+has_by false r q h more = more h
+
+-- what is there stays there
+pub has_more : (ss ts : List (List ℕ)) (s : List ℕ) → has ss s ≡ true → has (ss ++ ts) s ≡ true
+has_more [] ts s h = absurd (false≢true h)
+has_more (t ∷ ss) ts s h = has_by (bytes_eq t s) (has ss s) (has (ss ++ ts) s) h (has_more ss ts s)
+
+pub has_last : (ss : List (List ℕ)) (s : List ℕ) → has (ss ++ s ∷ []) s ≡ true
+has_last [] s = rw (itself s) refl
+has_last (t ∷ ss) s = or_right (bytes_eq t s) (has (ss ++ s ∷ []) s) (has_last ss s)
+
+-- and keeps its offset
+offset_by : (b r : Bool) (n x y : ℕ) → (b || r) ≡ true → (r ≡ true → x ≡ y) → cond b 0 (n + 1 + x) ≡ cond b 0 (n + 1 + y)
+offset_by true r n x y h same = refl
+offset_by false r n x y h same = ap (λ m. n + 1 + m) (same h)
+
+pub offset_kept : (ss ts : List (List ℕ)) (s : List ℕ) → has ss s ≡ true → offset_of (ss ++ ts) s ≡ offset_of ss s
+offset_kept [] ts s h = absurd (false≢true h)
+offset_kept (t ∷ ss) ts s h = offset_by (bytes_eq t s) (has ss s) (length t) (offset_of (ss ++ ts) s) (offset_of ss s) h (offset_kept ss ts s)
+
+offset_last : (ss : List (List ℕ)) (s : List ℕ) → has ss s ≡ false → offset_of (ss ++ s ∷ []) s ≡ offset_of ss s
+offset_last [] s none = rw (itself s) refl
+offset_last (t ∷ ss) s none =
+    let parts = or_parts (bytes_eq t s) (has ss s) none in
+    let other : bytes_eq t s ≡ false = parts.0 in
+    rw other (ap (λ m. length t + 1 + m) (offset_last ss s parts.1))
+
+-- a table once one more string is used
+pub record IsUsed (ss new : List (List ℕ)) (s : List ℕ) : Type 0 where
+  pub table : IsTable new
+  pub kept : take (length ss) new ≡ ss
+  pub there : has new s ≡ true
+  pub offset : offset_of new s ≡ offset_of ss s
+
+used_by : (b : Bool) (ss : List (List ℕ)) (s : List ℕ) → has ss s ≡ b → IsTable ss → IsZeroFree s → IsUsed ss (with_string ss s) s
+used_by true ss s h table free =
+    let same : with_string ss s ≡ ss = cond-true _ _ _ h in
+    subst (λ l. IsUsed ss l s) (sym same) (record { table = table; kept = take_all (length ss) ss (omega arith); there = h; offset = refl })
+used_by false ss s h table free =
+    let more : with_string ss s ≡ ss ++ s ∷ [] = cond-false _ _ _ h in
+    let absent : Contains ss s → has ss s ≡ true = (has_Decides ss s).1 in
+    subst (λ l. IsUsed ss l s) (sym more) (record {
+      table = record {
+        distinct = all_pairs_push (λ s t. s ≢ t) ss s table.distinct (λ k d within same. false≢true (sym h ∙ absent (k, within, get_or_default ss k s d within ∙ same)));
+        zero_free = All-push IsZeroFree ss s table.zero_free free;
+      };
+      kept = take_at ss (s ∷ []) (length ss) refl;
+      there = has_last ss s;
+      offset = offset_last ss s h;
+    })
+
+pub used : (ss : List (List ℕ)) (s : List ℕ) → IsTable ss → IsZeroFree s → IsUsed ss (with_string ss s) s
+used ss s = used_by (has ss s) ss s refl
+
+-- a string behind its offset
+pub record StandsBehind (ss : List (List ℕ)) (s : List ℕ) : Type 0 where
+  pub rest : List ℕ
+  pub here : drop (offset_of ss s) (data_of ss) ≡ s ++ 0 ∷ rest
+
+behind_by : (b : Bool) (t : List ℕ) (ss : List (List ℕ)) (s : List ℕ) → bytes_eq t s ≡ b → (b || has ss s) ≡ true → (has ss s ≡ true → StandsBehind ss s) → StandsBehind (t ∷ ss) s
+behind_by true t ss s first h later =
+    let same : t ≡ s = (bytes_eq-Decides t s).0 first in
+    let at_start : offset_of (t ∷ ss) s ≡ 0 = cond-true _ _ _ first in
+    record {
+      rest = data_of ss;
+      here = ap (λ n. drop n (data_of (t ∷ ss))) at_start ∙ data_of-cons t ss ∙ ap (λ l. l ++ 0 ∷ data_of ss) same;
+    }
+behind_by false t ss s other h later =
+    let there = later h in
+    let far : offset_of (t ∷ ss) s ≡ length t + 1 + offset_of ss s = cond-false _ _ _ other in
+    let long : length (terminated t) ≡ length t + 1 = length-append t (0 ∷ []) in
+    record {
+      rest = there.rest;
+      here = ap (λ n. drop n (data_of (t ∷ ss))) far
+          ∙ sym (drop-drop (offset_of ss s) (length t + 1) (data_of (t ∷ ss)))
+          ∙ ap (drop (offset_of ss s)) (drop_at (terminated t) (data_of ss) (length t + 1) long)
+          ∙ there.here;
+    }
+
+stands_behind : (ss : List (List ℕ)) (s : List ℕ) → has ss s ≡ true → StandsBehind ss s
+stands_behind [] s h = absurd (false≢true h)
+stands_behind (t ∷ ss) s h = behind_by (bytes_eq t s) t ss s refl h (stands_behind ss s)
+
+zero_behind : (s rest : List ℕ) → list_any (λ b. eqb b 0) (s ++ 0 ∷ rest) ≡ true
+zero_behind [] rest = refl
+zero_behind (b ∷ s) rest = or_right (eqb b 0) (list_any (λ b. eqb b 0) (s ++ 0 ∷ rest)) (zero_behind s rest)
+
+-- so it is read there
+pub read_there : (ss : List (List ℕ)) (s : List ℕ) → IsZeroFree s → has ss s ≡ true → string_at (data_of ss) (offset_of ss s) ≡ Ok s
+unfolding string_at
+read_there ss s free h =
+    let stands = stands_behind ss s h in
+    let long : length (data_of ss) - offset_of ss s ≡ length s + suc (length stands.rest) = sym (length-drop (offset_of ss s) (data_of ss)) ∙ ap length stands.here ∙ length-append s (0 ∷ stands.rest) in
+    let inside : ltb (length (data_of ss)) (offset_of ss s) ≡ false = le-ltb _ _ (omega (arith, long)) in
+    let ended : list_any (λ b. eqb b 0) (drop (offset_of ss s) (data_of ss)) ≡ true = ap (list_any (λ b. eqb b 0)) stands.here ∙ zero_behind s stands.rest in
+    let string : string_from (data_of ss) (offset_of ss s) ≡ s = ap (before_first (λ b. eqb b 0)) stands.here ∙ before_first-ended s stands.rest free in
+    rw (inside, ended) (ap Ok string)
+
+-- a table that begins with these strings has its strings at their offsets
+pub read_later : (ss final : List (List ℕ)) (s : List ℕ) → take (length ss) final ≡ ss → IsZeroFree s → has ss s ≡ true → string_at (data_of final) (offset_of ss s) ≡ Ok s
+read_later ss final s kept free h =
+    let parts : ss ++ drop (length ss) final ≡ final = ap (λ l. l ++ drop (length ss) final) (sym kept) ∙ take-append-drop (length ss) final in
+    let there : has final s ≡ true = subst (λ l. has l s ≡ true) parts (has_more ss (drop (length ss) final) s h) in
+    let same : offset_of final s ≡ offset_of ss s = ap (λ l. offset_of l s) (sym parts) ∙ offset_kept ss (drop (length ss) final) s h in
+    ap (string_at (data_of final)) (sym same) ∙ read_there final s free there
+
+-- what is read has no zero
+pub read_free : (section : List ℕ) (at : ℕ) → IsZeroFree (string_from section at)
+read_free section at = λ k d below same.
+    let tail = drop at section in
+    let first = position_or_len (λ b. eqb b 0) tail in
+    let short : k < first = omega (arith, length-take first tail) in
+    let other = fails_before_first (λ b. eqb b 0) tail k d short in
+    false≢true (sym other ∙ eq-eqb _ 0 (sym (get_or-take first tail k d short) ∙ same))
