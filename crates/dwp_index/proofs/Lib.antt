@@ -6,3 +6,4 @@ pub mod UsedSlots
 pub mod FirstSection
 pub mod StringEnds
 pub mod FirstUnit
+pub mod PackageLookUp

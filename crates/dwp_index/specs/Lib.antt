@@ -10,3 +10,4 @@ pub mod Strings
 pub mod Package
 pub mod PackageFields
 pub mod UnitFields
+pub mod Finding

@@ -4,6 +4,7 @@
 
 mod contents;
 mod fault;
+mod laws;
 mod package;
 mod parsing;
 mod strings;
@@ -17,6 +18,7 @@ pub use dwp_table::{
     slot_count, unused_slots_are_a_table,
 };
 pub use fault::PackageError;
+pub use laws::packages_find_exactly;
 pub use package::PackageFile;
 pub use unit::PackagedUnit;
 pub use unit_index::{Row, UnitIndex};

@@ -1,13 +1,16 @@
 //! Packages: the units that their indexes name, with all that belongs to each.
 
-ghost use Rattle.std.specs.Prelude.{◌≡◌};
+ghost use Rattle.std.specs.Prelude.{◌≡◌, ◌≤◌, ℕ, List, IfOk};
 ghost use Rattle.std.specs.Option.{option_copied};
 ghost use Rattle.dwp_base.specs.Reading.{Answers};
 ghost use Rattle.dwp_elf_read.specs.Elf.{elf_of};
 ghost use Rattle.dwp_elf_read.specs.View.{elf};
 ghost use Rattle.dwp_index.specs.Contents.{content, contents_of};
 ghost use Rattle.dwp_index.specs.ContentFields.{contents_in};
-ghost use Rattle.dwp_index.specs.Index.{row_in, range_in};
+ghost use Rattle.dwp_table.specs.Objects.{identifier_of};
+ghost use Rattle.dwp_table.specs.Table.{IsIndex, FindsExactly};
+ghost use Rattle.dwp_index.specs.Finding.{row_number, slots_for};
+ghost use Rattle.dwp_index.specs.Index.{Index, row_in, range_in};
 ghost use Rattle.dwp_index.specs.IndexBytes.{index_of};
 ghost use Rattle.dwp_index.specs.Package.{as_fault, is_outside, package_of, index_in_section, index_for, first_outside, encoding_in, unit_in, unit_at_row, found_counted, found};
 ghost use Rattle.dwp_index.specs.declared.fault.PackageError.TheVariants as faults;
@@ -84,7 +87,13 @@ impl<'a> PackageFile<'a> {
         &self,
         object: DwarfObject,
     ) -> Result<(Option<PackagedUnit<'a>>, u32), PackageError>
-        ensures { Answers (λ x. x) result (found_counted self.now object) }
+        ensures answer { Answers (λ x. x) result (found_counted self.now object) }
+
+        // No slot is looked at twice.
+        ensures bound { IfOk result (λ found. found.1 ≤ slots_for self.now object) }
+
+        // In a table of distinct identifiers: each one's row, and none for any other.
+        ensures exact { IfOk result (λ found. (ids : List ℕ) (index : Index) → index_for self.now object ≡ Some index → IsIndex ids index.signatures index.rows → FindsExactly ids (identifier_of object) (row_number found.0) found.1) }
     {
         match self.index_for(object) {
             None => Ok((None, 0)),

@@ -1,4 +1,4 @@
-ghost use Rattle.std.specs.Prelude.{◌≡◌, ◌<◌, ℕ, List, length, slice_index, is_some};
+ghost use Rattle.std.specs.Prelude.{◌≡◌, ◌<◌, ◌≤◌, ℕ, List, length, slice_index, is_some};
 ghost use Rattle.dwp_base.specs.Reading.{Answers};
 ghost use Rattle.dwp_table.specs.Probing.{found_row, look_count};
 ghost use Rattle.dwp_table.specs.Table.{IsIndex, FindsExactly};
@@ -128,6 +128,9 @@ impl<'a> UnitIndex<'a> {
     pub fn find_counted(&self, identifier: u64) -> (Option<u32>, u32)
         ensures row { result.0 ≡ found_row self.now.signatures self.now.rows identifier }
         ensures count { result.1 ≡ look_count self.now.signatures self.now.rows identifier }
+
+        // No slot is looked at twice.
+        ensures bound { result.1 ≤ length self.now.rows }
 
         // In a table of distinct identifiers: each one's row, and none for any other.
         ensures exact { (ids : List ℕ) → IsIndex ids self.now.signatures self.now.rows → FindsExactly ids identifier result.0 result.1 }
