@@ -1,5 +1,5 @@
 -- The columns of an index that was written are known, and none stands twice.
-use Rattle.std.proofs.Common.{◌≡◌, ◌≢◌, ℕ, zero, suc, ◌+◌, ◌*◌, ◌^◌, ◌<◌, ◌≤◌, Bool, true, false, ◌||◌, ◌&&◌, not, cond, eqb, List, [], ◌∷◌, ◌++◌, length, drop, map, filter, Option, Some, None, Result, Ok, Err, ◌⊎◌, inl, inr, refl, sym, ap, subst, ◌∙◌, append_assoc, arith}
+use Rattle.std.proofs.Common.{◌≡◌, ℕ, suc, ◌^◌, ◌<◌, ◌≤◌, Bool, true, false, ◌||◌, ◌&&◌, not, cond, eqb, List, [], ◌∷◌, ◌++◌, length, drop, map, filter, Ok, ◌⊎◌, inl, inr, refl, sym, ap, subst, ◌∙◌, append_assoc, arith}
 use Rattle.std.specs.Prelude.{is_none, is_some, unwrap_or}
 use Rattle.std.specs.List.{flat_map, AllByRecursion, list_any}
 use Rattle.std.proofs.lemmas.List.{append-nil, length-append}
@@ -7,12 +7,10 @@ use Rattle.std.proofs.lemmas.Bool.{le-ltb, false≢true}
 use Rattle.dwp_base.specs.declared.endian.Endianness.{Endianness}
 use Rattle.dwp_base.specs.declared.section.SectionKind.{SectionKind}
 use Rattle.dwp_base.specs.declared.section.SectionKind.TheVariants.{Info, Types, Abbrev, Line, Loc, Loclists, Rnglists, StrOffsets, Macinfo, Macro, Str, CuIndex, TuIndex}
-use Rattle.dwp_base.specs.Numbers.{number, number_bytes}
-use Rattle.dwp_base.specs.Reading.{◌>>=◌}
-use Rattle.dwp_reader.specs.declared.fault.ReadError.{ReadError}
+use Rattle.dwp_base.specs.Numbers.{number_bytes}
 use Rattle.dwp_table.specs.Columns.{column_of, kind_of_column, contribution_kinds, standard_column, gnu_column}
 use Rattle.dwp_index.specs.IndexBytes.{after, new_column, columns_at}
-use Rattle.thorin_parts.proofs.Again.{width_4, length-written}
+use Rattle.thorin_parts.proofs.Again.{width_4}
 
 -- a further column is known, and isn't among those before it
 abbrev pub IsNew : ℕ → List ℕ → ℕ → Type 0

@@ -7,3 +7,4 @@ pub mod ReadAgain
 pub mod Readable
 pub mod Signatures
 pub mod Slots
+pub mod RowsAgain

@@ -1,12 +1,12 @@
 -- One more row: how many slots were looked at for each.
-use Rattle.std.proofs.Common.{◌≡◌, ◌≢◌, ℕ, ◌+◌, ◌<◌, ◌≤◌, List, [], ◌∷◌, ◌++◌, length, get_or, set, take, map, Some, None, Option, inl, inr, sym, ap, subst, ◌∙◌, arith}
+use Rattle.std.proofs.Common.{◌≡◌, ℕ, ◌+◌, ◌<◌, List, [], ◌∷◌, ◌++◌, length, get_or, set, take, map, Some, Option, inl, inr, sym, ap, subst, ◌∙◌, arith}
 use Rattle.std.specs.Option.{option_map}
 use Rattle.std.proofs.lemmas.Bool.{cases_lt}
-use Rattle.std.proofs.lemmas.List.{length-set, get_or-set_same, get_or-set_other, length-append, get_or_append_left, get_or_push, get_or_read, take_more, map-append, length_push, length-map, length-take-le}
+use Rattle.std.proofs.lemmas.List.{length-set, get_or-set_same, get_or-set_other, get_or_append_left, get_or_push, take_more, map-append, length_push, length-map, length-take-le}
 use Rattle.dwp_table.specs.Probing.{place}
 use Rattle.dwp_table.specs.Table.{IsPlacedAfter, IsTable, first_unused, rows_with}
 use Rattle.dwp_table.proofs.Places.{place-lt}
-use Rattle.dwp_table.proofs.Tables.{row_at, IsFree, has_free, free_early}
+use Rattle.dwp_table.proofs.Tables.{IsFree, has_free, free_early}
 use Rattle.dwp_table.proofs.Placing.{first_unused-free, rows_with-free}
 use Rattle.thorin_parts.specs.Buckets.{LooksAt, IsLooked}
 

@@ -1,25 +1,24 @@
 -- The bytes of an index are read as the index.
-use Rattle.std.proofs.Common.{◌≡◌, ℕ, zero, suc, ◌+◌, ◌*◌, ◌^◌, ◌<◌, ◌≤◌, Bool, true, false, ◌||◌, ◌&&◌, not, cond, eqb, ltb, List, [], ◌∷◌, ◌++◌, length, get_or, drop, map, filter, Option, Some, None, Result, Ok, Err, ◌⊎◌, inl, inr, refl, sym, ap, subst, ◌∙◌, append_assoc, arith}
-use Rattle.std.specs.Prelude.{All, is_none, is_some, unwrap_or}
-use Rattle.std.specs.List.{flat_map, AllByRecursion, list_any}
+use Rattle.std.proofs.Common.{◌≡◌, ℕ, suc, ◌*◌, ◌^◌, ◌<◌, ◌≤◌, true, false, eqb, List, [], ◌∷◌, ◌++◌, length, drop, map, Option, Result, Ok, ◌⊎◌, inl, inr, refl, sym, ap, subst, ◌∙◌, append_assoc, arith}
+use Rattle.std.specs.Prelude.{All, unwrap_or}
+use Rattle.std.specs.List.{flat_map, AllByRecursion}
 use Rattle.std.proofs.lemmas.List.{append-nil, length-append, length-map, drop_at, drop-drop}
-use Rattle.std.proofs.lemmas.Bool.{le-ltb, false≢true, lt-ltb}
+use Rattle.std.proofs.lemmas.Bool.{le-ltb}
 use Rattle.dwp_base.specs.declared.endian.Endianness.{Endianness}
 use Rattle.dwp_base.specs.declared.endian.Endianness.TheVariants.{Little, Big}
 use Rattle.dwp_base.specs.declared.section.SectionKind.{SectionKind}
 use Rattle.dwp_base.specs.declared.section.Contribution.{Contribution}
 use Rattle.dwp_base.specs.Numbers.{number, number_bytes}
-use Rattle.dwp_base.specs.Reading.{◌>>=◌}
 use Rattle.dwp_reader.specs.declared.fault.ReadError.{ReadError}
-use Rattle.dwp_table.specs.Columns.{column_of, contribution_kinds}
+use Rattle.dwp_table.specs.Columns.{column_of}
 use Rattle.dwp_table.specs.Table.{signature_of}
 use Rattle.dwp_index.specs.Index.{Index}
-use Rattle.dwp_index.specs.IndexBytes.{numbers, number_rows, after, version_of, Counts, counts_of, columns_at, is_slot_count, index_of}
+use Rattle.dwp_index.specs.IndexBytes.{numbers, number_rows, after, version_of, counts_of, columns_at, is_slot_count, index_of}
 use Rattle.thorin_parts.specs.declared.entry.IndexEntry.{IndexEntry}
 use Rattle.thorin_parts.specs.Entries.{contribution_to, offset_or_0, size_or_0}
 use Rattle.thorin_parts.specs.IndexText.{numbers_bytes, version_bytes, column_numbers, row_numbers, rows_bytes, signatures_bytes, entry_ids, index_bytes, FitsRow}
 use Rattle.thorin_parts.specs.ReadBack.{index_with}
-use Rattle.thorin_parts.proofs.Again.{width_4, width_8, length-written, numbers-written, drop-written, length-written_rows, rows-written, flat_map-map}
+use Rattle.thorin_parts.proofs.Again.{width_4, width_8, length-written, numbers-written, length-written_rows, rows-written, flat_map-map}
 use Rattle.thorin_parts.proofs.Columns.{AreNew, columns_read, columns_small}
 
 -- ---- the header

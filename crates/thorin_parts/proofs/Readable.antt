@@ -1,7 +1,7 @@
 -- The parts of an index whose tests all passed can be read again.
-use Rattle.std.proofs.Common.{◌≡◌, ℕ, zero, suc, ◌+◌, ◌*◌, ◌^◌, ◌<◌, ◌≤◌, Bool, true, false, ◌||◌, ◌&&◌, cond, eqb, ltb, leb, List, [], ◌∷◌, length, get_or, map, filter, Option, Some, None, Result, Ok, Err, ◌⊎◌, inl, inr, refl, sym, ap, subst, ◌∙◌, arith}
-use Rattle.std.specs.Prelude.{All, is_some, codes}
-use Rattle.std.specs.List.{AllByRecursion, list_any}
+use Rattle.std.proofs.Common.{◌≡◌, ℕ, zero, suc, ◌*◌, ◌^◌, ◌<◌, ◌≤◌, Bool, true, false, ◌||◌, cond, ltb, leb, List, [], ◌∷◌, length, get_or, map, filter, Option, Some, None, Result, Ok, Err, ◌⊎◌, inl, inr, refl, ap, ◌∙◌, arith}
+use Rattle.std.specs.Prelude.{is_some, codes}
+use Rattle.std.specs.List.{AllByRecursion}
 use Rattle.std.proofs.lemmas.List.{length-map}
 use Rattle.std.proofs.lemmas.Bool.{false≢true, lt-ltb, ltb-true}
 use Rattle.dwp_base.specs.declared.endian.Endianness.{Endianness}
@@ -13,14 +13,14 @@ use Rattle.dwp_reader.specs.declared.encoding.Encoding.{Encoding}
 use Rattle.dwp_reader.specs.Encoding.{index_version_of}
 use Rattle.std.specs.Int.{is_power_of_two}
 use Rattle.dwp_table.specs.Objects.{identifier_of}
-use Rattle.dwp_table.specs.Columns.{column_of, contribution_kinds}
-use Rattle.dwp_table.specs.Table.{IsTable, signature_of}
+use Rattle.dwp_table.specs.Columns.{contribution_kinds}
+use Rattle.dwp_table.specs.Table.{signature_of}
 use Rattle.dwp_index.specs.IndexBytes.{is_slot_count, index_of}
 use Rattle.thorin_faults.specs.Fault.{Fault}
 use Rattle.thorin_parts.specs.declared.entry.IndexEntry.{IndexEntry}
 use Rattle.thorin_parts.specs.Entries.{contribution_to, offset_or_0, size_or_0}
 use Rattle.thorin_parts.specs.EntryTests.{each, count_test, encoding_test, format_test, offset_test, size_test, parts_test, tests_under}
-use Rattle.thorin_parts.specs.IndexText.{is_used, used_sections, entry_ids, IsIndexText, index_bytes, FitsRow}
+use Rattle.thorin_parts.specs.IndexText.{is_used, used_sections, entry_ids, IsIndexText}
 use Rattle.thorin_parts.specs.ReadBack.{index_with}
 use Rattle.thorin_parts.proofs.Each.{bind_ok, each_passed, rows_fit}
 use Rattle.thorin_parts.proofs.Columns.{has_number, columns_new}
@@ -33,11 +33,11 @@ either : (b : Bool) → (version_if b ≡ 5) ⊎ (version_if b ≡ 2)
 either true = inl refl
 either false = inr refl
 
-version_either : (v : ℕ) → (index_version_of v ≡ 5) ⊎ (index_version_of v ≡ 2)
+pub version_either : (v : ℕ) → (index_version_of v ≡ 5) ⊎ (index_version_of v ≡ 2)
 version_either v = either (leb 5 v)
 
 -- a test that passed all parts of an entry passed the part of each section
-kind_test : (test : SectionKind → Option Contribution → Result (Unit {0}) Fault) (entry : IndexEntry) → parts_test test entry ≡ Ok tt → ((kind : SectionKind) → test kind None ≡ Ok tt) → (kind : SectionKind) → test kind (contribution_to kind entry) ≡ Ok tt
+pub kind_test : (test : SectionKind → Option Contribution → Result (Unit {0}) Fault) (entry : IndexEntry) → parts_test test entry ≡ Ok tt → ((kind : SectionKind) → test kind None ≡ Ok tt) → (kind : SectionKind) → test kind (contribution_to kind entry) ≡ Ok tt
 kind_test test entry e none kind =
     let at = λ (k : ℕ) (h : k < 10). each_passed (λ kind'. test kind' (contribution_to kind' entry)) contribution_kinds e k Info h in
     elim kind as (λ k. test k (contribution_to k entry) ≡ Ok tt) [
@@ -63,7 +63,7 @@ passed : (b : Bool) (fault : Fault) → tested b fault ≡ Ok tt → b ≡ true
 passed true fault e = refl
 passed false fault e = absurd cc
 
-part_known : (version : ℕ) (kind : SectionKind) (part : Option Contribution) → format_test version kind part ≡ Ok tt → is_some part ≡ true → has_number version kind ≡ true
+pub part_known : (version : ℕ) (kind : SectionKind) (part : Option Contribution) → format_test version kind part ≡ Ok tt → is_some part ≡ true → has_number version kind ≡ true
 part_known version kind None e some = absurd (false≢true some)
 part_known version kind (Some c) e some = passed (has_number version kind) _ e
 
@@ -71,7 +71,7 @@ one_of : (a b : Bool) → (a || b) ≡ true → (a ≡ true) ⊎ (b ≡ true)
 one_of true b e = inl refl
 one_of false b e = inr e
 
-used_known : (version : ℕ) (entries : List IndexEntry) → ((i : ℕ) (d : IndexEntry) → i < length entries → parts_test (format_test version) (get_or entries i d) ≡ Ok tt) → (kind : SectionKind) → is_used entries kind ≡ true → has_number version kind ≡ true
+pub used_known : (version : ℕ) (entries : List IndexEntry) → ((i : ℕ) (d : IndexEntry) → i < length entries → parts_test (format_test version) (get_or entries i d) ≡ Ok tt) → (kind : SectionKind) → is_used entries kind ≡ true → has_number version kind ≡ true
 used_known version [] tests kind e = absurd (false≢true e)
 used_known version (x ∷ xs) tests kind e =
     elim (one_of (is_some (contribution_to kind x)) (is_used xs kind) e) [

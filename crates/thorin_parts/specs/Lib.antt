@@ -9,3 +9,4 @@ pub mod Measures
 pub mod PartTests
 pub mod ReadBack
 pub mod Relocations
+pub mod ReadRows

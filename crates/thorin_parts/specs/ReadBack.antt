@@ -1,9 +1,6 @@
 -- An index that was written, as it is read again (DWARF 5, 7.3.5.3).
-use Rattle.std.specs.Prelude.{◌≡◌, ℕ, ◌^◌, ◌<◌, List, map, Ok}
-use Rattle.std.specs.List.{AllByRecursion}
-use Rattle.dwp_base.specs.declared.endian.Endianness.{Endianness}
+use Rattle.std.specs.Prelude.{ℕ, List, map}
 use Rattle.dwp_base.specs.declared.section.SectionKind.{SectionKind}
-use Rattle.dwp_table.specs.Objects.{identifier_of}
 use Rattle.dwp_table.specs.Table.{signature_of}
 use Rattle.dwp_index.specs.Index.{Index}
 use Rattle.thorin_parts.specs.declared.entry.IndexEntry.{IndexEntry}

@@ -1,4 +1,4 @@
-use Rattle.std.proofs.Common.{◌<◌, ◌∙◌, arith}
+use Rattle.std.proofs.Common.{◌∙◌, arith}
 use Rattle.thorin_parts.proofs.Signatures.{signature_at}
 use Rattle.thorin_parts.proofs.index_writer.signature.Goals as goal
 
