@@ -8,3 +8,4 @@ pub mod Readable
 pub mod Signatures
 pub mod Slots
 pub mod RowsAgain
+pub mod StringsAgain

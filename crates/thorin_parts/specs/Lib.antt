@@ -10,3 +10,4 @@ pub mod PartTests
 pub mod ReadBack
 pub mod Relocations
 pub mod ReadRows
+pub mod ReadStrings

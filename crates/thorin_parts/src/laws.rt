@@ -1,4 +1,4 @@
-ghost use Rattle.std.specs.Prelude.{◌≡◌, ℕ, ◌<◌, ◌^◌, List, Ok, slice_index};
+ghost use Rattle.std.specs.Prelude.{◌≡◌, ℕ, ◌<◌, ◌^◌, List, Ok, length, slice_index, take};
 ghost use Rattle.dwp_base.specs.declared.endian.Endianness.{Endianness};
 ghost use Rattle.dwp_reader.specs.declared.encoding.Encoding.{Encoding};
 ghost use Rattle.dwp_reader.specs.Encoding.{index_version_of};
@@ -10,6 +10,9 @@ ghost use Rattle.thorin_parts.specs.EntryTests.{tests_under};
 ghost use Rattle.thorin_parts.specs.IndexText.{IsIndexText, entry_ids, used_sections};
 ghost use Rattle.thorin_parts.specs.ReadBack.{index_with};
 ghost use Rattle.thorin_parts.specs.ReadRows.{HasEntries};
+ghost use Rattle.thorin_parts.specs.ReadStrings.{ReadsAlike};
+ghost use Rattle.thorin_strings.specs.StringOffsets.{remapped};
+ghost use Rattle.thorin_strings.specs.Strings.{IsTable, data_of};
 
 /// An index that was written of entries that passed the tests is read as the index with a row for each
 /// entry, in their order. Identifiers have 64 bits.
@@ -33,4 +36,16 @@ pub fn written_index_has_the_entries()
         → (index : Index)
         → index_of order bytes ≡ Ok index
         → HasEntries (index_version_of encoding.version) entries index }
+{}
+
+/// A range of string offsets that was rewritten is read as before, of each number, in the section of any
+/// table that begins with the strings after it.
+pub fn rewritten_strings_are_read_alike()
+    ensures { (order : Endianness) (encoding : Encoding) (section bytes : List ℕ) (before : List (List ℕ)) (rewritten : List ℕ) (after final : List (List ℕ))
+        → IsTable before
+        → remapped order encoding section bytes (length bytes) before ≡ Ok (rewritten, after)
+        → IsTable final
+        → take (length after) final ≡ after
+        → (i : ℕ)
+        → ReadsAlike order encoding section bytes (data_of final) rewritten i }
 {}
