@@ -1,6 +1,6 @@
 -- What looking a unit up in a package gives.
-use Rattle.std.proofs.Common.{◌≡◌, ◌≢◌, ℕ, suc, ◌+◌, ◌-◌, ◌<◌, ◌≤◌, Bool, true, false, cond, not, inl, inr, List, [], ◌∷◌, length, get_or, refl, sym, ap, subst, ◌∙◌, arith}
-use Rattle.std.specs.Prelude.{Option, Some, None, Result, Ok, Err, IfOk}
+use Rattle.std.proofs.Common.{◌≡◌, ℕ, ◌+◌, ◌≤◌, Bool, false, cond, not, inl, inr, List, [], ◌∷◌, length, refl, sym, ap, subst, ◌∙◌, arith}
+use Rattle.std.specs.Prelude.{Option, Some, None, Result, Ok, Err, IfOk, slice_range}
 use Rattle.std.specs.List.{find}
 use Rattle.std.specs.Option.{option_map_or}
 use Rattle.std.proofs.lemmas.Bool.{le-leb}
@@ -20,16 +20,8 @@ use Rattle.dwp_index.specs.declared.fault.PackageError.{PackageError}
 use Rattle.dwp_index.specs.declared.fault.PackageError.TheVariants as faults
 use Rattle.dwp_index.specs.Contents.{Sections, content}
 use Rattle.dwp_index.specs.Index.{Index, Ranges, row_in, range_in}
-use Rattle.dwp_index.specs.Package.{Package, UnitMeaning, as_fault, is_outside, first_outside, all_inside, encoding_in, unit_in, unit_at_row, unit_found, found_by, index_for, found_counted, found}
-use Rattle.dwp_index.specs.Finding.{row_after, own_place, own_bytes, LiesInside, unit_of, Indexes, GivesWithin, row_number, slots_for}
-use Rattle.dwp_index.proofs.Views.{row-within}
-
--- ---- the row
-row_in-after : (index : Index) (r : ℕ) → r < length index.offsets → row_in index (r + 1) ≡ Ok (row_after index r)
-row_in-after index r h =
-    let same : (r + 1) - 1 ≡ r = omega arith in
-    row-within index (r + 1) (omega arith) (omega arith)
-    ∙ ap (λ k. Ok (record { version = index.version; columns = index.columns; offsets = get_or index.offsets k []; sizes = get_or index.sizes k [] })) same
+use Rattle.dwp_index.specs.Package.{Package, UnitMeaning, as_fault, is_outside, first_outside, all_inside, encoding_in, part_of, row_bytes, unit_in, unit_at_row, unit_found, found_by, index_for, found_counted, found}
+use Rattle.dwp_index.specs.Finding.{own_place, own_bytes, LiesInside, unit_of, HasIndex, IsUnitOf, IsNotNamed, GivesWithin, row_number, slots_for}
 
 -- ---- the ranges
 not_outside : (bytes : List ℕ) (range : Option Contribution) → ((c : Contribution) → range ≡ Some c → c.offset.0 + c.size ≤ length bytes) → is_outside bytes range ≡ false
@@ -52,13 +44,13 @@ unit_in-inside pack object number row encoding inside read =
     ap (λ (o : Option SectionKind). all_inside o >>= λ x. as_fault faults.Unit (encoding_in pack.order (own_place object row) (own_bytes pack.contents object row)) >>= λ e. Ok (unit_of pack object number row e)) (none_outside pack.contents row inside)
     ∙ ap (λ (r : Result Encoding ReadError). as_fault faults.Unit r >>= λ e. Ok (unit_of pack object number row e)) read
 
-at_row : (pack : Package) (object : DwarfObject) (index : Index) (r count : ℕ) (encoding : Encoding) → r < length index.offsets → LiesInside pack.contents (row_after index r)
-    → encoding_in pack.order (own_place object (row_after index r)) (own_bytes pack.contents object (row_after index r)) ≡ Ok encoding
-    → unit_at_row pack object index (r + 1) count ≡ Ok (Some (unit_of pack object (r + 1) (row_after index r) encoding), count)
+at_row : (pack : Package) (object : DwarfObject) (index : Index) (number count : ℕ) (row : Ranges) (encoding : Encoding) → row_in index number ≡ Ok row → LiesInside pack.contents row
+    → encoding_in pack.order (own_place object row) (own_bytes pack.contents object row) ≡ Ok encoding
+    → unit_at_row pack object index number count ≡ Ok (Some (unit_of pack object number row encoding), count)
 unfolding unit_at_row
-at_row pack object index r count encoding h inside read =
-    ap (λ (x : Result Ranges ReadError). as_fault faults.Index x >>= λ row. unit_in pack object (r + 1) row >>= λ unit. Ok (Some unit, count)) (row_in-after index r h)
-    ∙ ap (λ (x : Result UnitMeaning PackageError). x >>= λ unit. Ok (Some unit, count)) (unit_in-inside pack object (r + 1) (row_after index r) encoding inside read)
+at_row pack object index number count row encoding there inside read =
+    ap (λ (x : Result Ranges ReadError). as_fault faults.Index x >>= λ y. unit_in pack object number y >>= λ unit. Ok (Some unit, count)) there
+    ∙ ap (λ (x : Result UnitMeaning PackageError). x >>= λ unit. Ok (Some unit, count)) (unit_in-inside pack object number row encoding inside read)
 
 -- ---- the look-up
 abbrev Row : DwarfObject → Index → Option ℕ
@@ -83,25 +75,35 @@ gives pack object unit count most few e = record {
   uncounted = ap (λ (x : Result (Option UnitMeaning × ℕ) PackageError). x >>= λ y. Ok y.0) e;
 }
 
-pub present_unit : (pack : Package) (object : DwarfObject) (ids : List ℕ) (index : Index) (r : ℕ) (encoding : Encoding) → Indexes pack object ids index
-    → r < length ids → get_or ids r 0 ≡ identifier_of object → LiesInside pack.contents (row_after index r)
-    → encoding_in pack.order (own_place object (row_after index r)) (own_bytes pack.contents object (row_after index r)) ≡ Ok encoding
-    → GivesWithin pack object (Some (unit_of pack object (r + 1) (row_after index r) encoding)) (r + 1)
-present_unit pack object ids index r encoding indexes within same inside read =
-    let exact = finds_exactly ids index.signatures index.rows (identifier_of object) indexes.slots in
-    gives pack object _ (Count object index) (r + 1) (exact.present_count r within same)
-    (by_row pack object index (Some (r + 1)) indexes.index_is (exact.present_row r within same)
-    ∙ at_row pack object index r (Count object index) encoding (omega (arith, indexes.units)) inside read)
+pub present_unit : (pack : Package) (object : DwarfObject) (ids : List ℕ) (index : Index) (r : ℕ) (row : Ranges) (encoding : Encoding) → HasIndex pack object ids index
+    → IsUnitOf pack object ids index r row encoding → GivesWithin pack object (Some (unit_of pack object (r + 1) row encoding)) (r + 1)
+present_unit pack object ids index r row encoding has unit =
+    let exact = finds_exactly ids index.signatures index.rows (identifier_of object) has.slots in
+    gives pack object _ (Count object index) (r + 1) (exact.present_count r unit.within unit.named)
+    (by_row pack object index (Some (r + 1)) has.index_is (exact.present_row r unit.within unit.named)
+    ∙ at_row pack object index (r + 1) (Count object index) row encoding unit.row_is unit.inside unit.header)
 
-pub absent_unit : (pack : Package) (object : DwarfObject) (ids : List ℕ) (index : Index) → Indexes pack object ids index
-    → ((r : ℕ) → r < length ids → get_or ids r 0 ≢ identifier_of object) → GivesWithin pack object None (length ids + 1)
-absent_unit pack object ids index indexes absent =
-    let exact = finds_exactly ids index.signatures index.rows (identifier_of object) indexes.slots in
-    gives pack object None (Count object index) (length ids + 1) (exact.absent_count absent) (by_row pack object index None indexes.index_is (exact.absent_row absent))
+pub absent_unit : (pack : Package) (object : DwarfObject) (ids : List ℕ) (index : Index) → HasIndex pack object ids index → IsNotNamed object ids → GivesWithin pack object None (length ids + 1)
+absent_unit pack object ids index has absent =
+    let exact = finds_exactly ids index.signatures index.rows (identifier_of object) has.slots in
+    gives pack object None (Count object index) (length ids + 1) (exact.absent_count absent) (by_row pack object index None has.index_is (exact.absent_row absent))
 
 pub no_index : (pack : Package) (object : DwarfObject) → index_for pack object ≡ None → GivesWithin pack object None 0
 unfolding found_counted
 no_index pack object e = gives pack object None 0 0 (omega arith) (ap (found_by pack object) e)
+
+-- ---- the parts
+part_inside : (bytes : List ℕ) (range : Contribution) (o : Option Contribution) → o ≡ Some range → range.offset.0 + range.size ≤ length bytes → part_of bytes o ≡ slice_range bytes range.offset.0 (range.offset.0 + range.size)
+part_inside bytes range o e inside = ap (part_of bytes) e ∙ ap (λ b. cond b (slice_range bytes range.offset.0 (range.offset.0 + range.size)) []) (le-leb (range.offset.0 + range.size) (length bytes) inside)
+
+pub row_bytes-part : (contents : Sections) (row : Ranges) (kind : SectionKind) (range : Contribution) → range_in row kind ≡ Some range → range.offset.0 + range.size ≤ length (content contents kind)
+    → row_bytes contents row kind ≡ slice_range (content contents kind) range.offset.0 (range.offset.0 + range.size)
+unfolding row_bytes
+row_bytes-part contents row kind range e inside = part_inside (content contents kind) range (range_in row kind) e inside
+
+pub row_bytes-absent : (contents : Sections) (row : Ranges) (kind : SectionKind) → range_in row kind ≡ None → row_bytes contents row kind ≡ []
+unfolding row_bytes
+row_bytes-absent contents row kind e = ap (part_of (content contents kind)) e
 
 -- ---- the number of slots
 pub count_within : (signatures rows : List ℕ) (x : ℕ) → look_count signatures rows x ≤ length rows

@@ -30,7 +30,7 @@ row-zero v r e = row-by v r false (ltb (r - 1) (length v.offsets)) (le-ltb 0 r (
 pub row-past : (v : Index) (r : ℕ) → length v.offsets < r → row_in v r ≡ Err RowOutOfRange
 row-past v r h = row-by v r true false (lt-ltb 0 r (omega arith)) (le-ltb _ _ (omega arith))
 
-pub row-within : (v : Index) (r : ℕ) → 0 < r → r ≤ length v.offsets → row_in v r ≡ Ok (Found v r)
+row-within : (v : Index) (r : ℕ) → 0 < r → r ≤ length v.offsets → row_in v r ≡ Ok (Found v r)
 row-within v r h k = row-by v r true true (lt-ltb 0 r h) (lt-ltb _ _ (omega arith))
 
 pub row_view : (u : Inside) (v : Index) (r : ℕ) (offsets sizes : List ℕ) → index_in u ≡ v → 0 < r → r ≤ u.unit_count

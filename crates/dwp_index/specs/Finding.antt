@@ -1,26 +1,18 @@
 -- What looking a unit up in a package gives, where the index of its kind is a table of distinct identifiers
 -- (DWARF 5, 7.3.5.3).
-use Rattle.std.specs.Prelude.{◌≡◌, ℕ, ◌+◌, ◌≤◌, List, [], length, slice_index_or, Option, Some, Ok}
+use Rattle.std.specs.Prelude.{◌≡◌, ◌≢◌, ℕ, ◌+◌, ◌<◌, ◌≤◌, List, length, slice_index, Option, Some, Ok}
 use Rattle.std.specs.Option.{option_map, option_map_or}
 use Rattle.dwp_base.specs.declared.section.SectionKind.{SectionKind}
 use Rattle.dwp_base.specs.declared.section.SectionKind.TheVariants as kinds
 use Rattle.dwp_base.specs.declared.section.Contribution.{Contribution}
 use Rattle.dwp_reader.specs.declared.encoding.Encoding.{Encoding}
 use Rattle.dwp_dwarf.specs.declared.header.UnitSection.{UnitSection}
+use Rattle.dwp_table.specs.Objects.{identifier_of}
 use Rattle.dwp_table.specs.Table.{IsIndex}
 use Rattle.dwp_table.specs.declared.object.DwarfObject.{DwarfObject}
 use Rattle.dwp_index.specs.Contents.{Sections, content}
-use Rattle.dwp_index.specs.Index.{Index, Ranges, range_in}
-use Rattle.dwp_index.specs.Package.{Package, UnitMeaning, place_of, kind_of, row_bytes, index_for, found_counted, found}
-
--- the row after r others
-abbrev pub row_after : Index → ℕ → Ranges
-row_after index r = record {
-  version = index.version;
-  columns = index.columns;
-  offsets = slice_index_or index.offsets r [];
-  sizes = slice_index_or index.sizes r [];
-}
+use Rattle.dwp_index.specs.Index.{Index, Ranges, row_in, range_in}
+use Rattle.dwp_index.specs.Package.{Package, UnitMeaning, place_of, kind_of, row_bytes, encoding_in, index_for, found_counted, found}
 
 -- where a unit's own bytes stand, and these bytes
 abbrev pub own_place : DwarfObject → Ranges → UnitSection
@@ -44,11 +36,22 @@ unit_of pack object number row encoding = record {
   encoding = encoding;
 }
 
--- the index of an object's kind has these distinct identifiers, and a row for each
-pub record Indexes (pack : Package) (object : DwarfObject) (ids : List ℕ) (index : Index) : Type 0 where
+-- the index of an object's kind is one of these distinct identifiers
+pub record HasIndex (pack : Package) (object : DwarfObject) (ids : List ℕ) (index : Index) : Type 0 where
   pub index_is : index_for pack object ≡ Some index
   pub slots : IsIndex ids index.signatures index.rows
-  pub units : length index.offsets ≡ length ids
+
+-- the object is the one of row r + 1: its ranges lie inside their sections, and its header can be read
+pub record IsUnitOf (pack : Package) (object : DwarfObject) (ids : List ℕ) (index : Index) (r : ℕ) (row : Ranges) (encoding : Encoding) : Type 0 where
+  pub within : r < length ids
+  pub named : slice_index ids r ≡ identifier_of object
+  pub row_is : row_in index (r + 1) ≡ Ok row
+  pub inside : LiesInside pack.contents row
+  pub header : encoding_in pack.order (own_place object row) (own_bytes pack.contents object row) ≡ Ok encoding
+
+-- no row is the object's
+abbrev pub IsNotNamed : DwarfObject → List ℕ → Type 0
+IsNotNamed object ids = (r : ℕ) → r < length ids → slice_index ids r ≢ identifier_of object
 
 -- looking the object up gives this unit or none, after at most so many slots
 pub record GivesWithin (pack : Package) (object : DwarfObject) (unit : Option UnitMeaning) (most : ℕ) : Type 0 where
