@@ -1,3 +1,9 @@
+ghost use Rattle.dwp_base.specs.Reading.{Answers};
+ghost use Rattle.dwp_dwarf.specs.Attributes.{root_of};
+ghost use Rattle.dwp_dwarf.specs.Declarations.{table_of};
+ghost use Rattle.dwp_dwarf.specs.Entries.{root_at};
+ghost use Rattle.dwp_dwarf.specs.Units.{unit_of};
+
 use super::*;
 use crate::value::read_value;
 use Endianness::Little;
@@ -216,6 +222,39 @@ static RELOCATIONS: [RelocationEntry; 4] = [
         },
     },
 ];
+
+/// The root of a unit that is read at a relocated reader.
+fn relocated_root<'a>(
+    unit: &UnitHeader<Relocate<'a, SliceReader<'a>>>,
+    table: &Abbreviations<Relocate<'a, SliceReader<'a>>>,
+) -> Result<Option<RootEntry<Relocate<'a, SliceReader<'a>>>>, ReadError>
+    ensures { Answers (root_of ⟦<Relocate<'a, SliceReader<'a>> as Reader>⟧.input) result
+        (root_at (unit_of ⟦<Relocate<'a, SliceReader<'a>> as Reader>⟧.input unit.now) (table_of ⟦<Relocate<'a, SliceReader<'a>> as Reader>⟧.input table.now)) }
+{
+    root(unit, table)
+}
+
+#[test]
+fn a_root_by_a_relocated_offset(rt: HostRuntime) -> Result<(), Fail> {
+    let relocations = [RelocationEntry {
+        offset: 6,
+        relocation: Relocation {
+            addend: 2,
+            implicit_addend: false,
+        },
+    }];
+    let units = b"\x10\0\0\0\x04\0\x77\x77\0\0\x08\x01\x05\0\0\0\0\0\0\0";
+    let section = SliceReader::new(b"\0\0\x01\x11\0\xb1\x42\x07\0\0\0", Little);
+    let reader = Relocate::new(&relocations, SliceReader::new(units, Little));
+    let unit = UnitHeaders::new(reader, UnitSection::Info)
+        .next()
+        .ok_or("a unit")??;
+    assert_eq!(rt; unit.abbrev_offset(), 2);
+    let table = Abbreviations::new(Relocate::new(&[], section), 2)?;
+    let entry = relocated_root(&unit, &table)?.ok_or("a root")?;
+    assert_eq!(rt; entry.tag, 0x11);
+    Ok(())
+}
 
 #[test]
 fn offsets_are_relocated_and_nothing_else(rt: HostRuntime) -> Result<(), Fail> {
