@@ -7,3 +7,4 @@ pub mod FirstSection
 pub mod StringEnds
 pub mod FirstUnit
 pub mod PackageLookUp
+pub mod UnitAlone

@@ -1,11 +1,15 @@
-ghost use Rattle.std.specs.Prelude.{◌≡◌, ℕ, ◌+◌, ◌≤◌, List, [], length, slice_range, Some, None};
+ghost use Rattle.std.specs.Prelude.{◌≡◌, ℕ, ◌+◌, ◌≤◌, List, [], length, slice_range, slice_get, Some, None, Ok};
 ghost use Rattle.dwp_base.specs.declared.section.SectionKind.{SectionKind};
 ghost use Rattle.dwp_base.specs.declared.section.Contribution.{Contribution};
+ghost use Rattle.dwp_base.specs.declared.endian.Endianness.{Endianness};
+ghost use Rattle.dwp_reader.specs.Input.{section};
 ghost use Rattle.dwp_reader.specs.declared.encoding.Encoding.{Encoding};
+ghost use Rattle.dwp_dwarf.specs.Units.{Unit, units, unit_bytes};
+ghost use Rattle.dwp_dwarf.specs.declared.header.UnitSection.{UnitSection};
 ghost use Rattle.dwp_table.specs.declared.object.DwarfObject.{DwarfObject};
 ghost use Rattle.dwp_index.specs.Contents.{Sections, content};
 ghost use Rattle.dwp_index.specs.Index.{Index, Ranges, range_in};
-ghost use Rattle.dwp_index.specs.Package.{Package, row_bytes, index_for};
+ghost use Rattle.dwp_index.specs.Package.{Package, row_bytes, encoding_in, index_for};
 ghost use Rattle.dwp_index.specs.Finding.{unit_of, HasIndex, IsUnitOf, IsNotNamed, GivesWithin};
 
 /// The law of packages: where the index of a kind is one of distinct identifiers, the unit of each is
@@ -34,4 +38,12 @@ pub fn ranges_are_parts()
     ensures absent { (contents : Sections) (row : Ranges) (kind : SectionKind)
         → range_in row kind ≡ None
         → row_bytes contents row kind ≡ [] }
+{}
+
+/// The law of units: a unit of a section is read from its own bytes alone, with the same encoding. It does
+/// nothing.
+pub fn units_are_read_alone()
+    ensures { (order : Endianness) (place : UnitSection) (bytes : List ℕ) (k : ℕ) (unit : Unit)
+        → slice_get (units place (section order bytes)) k ≡ Some (Ok unit)
+        → encoding_in order place (unit_bytes unit) ≡ Ok unit.encoding }
 {}
