@@ -8,3 +8,4 @@ pub mod StringEnds
 pub mod FirstUnit
 pub mod PackageLookUp
 pub mod UnitAlone
+pub mod UsedOnce

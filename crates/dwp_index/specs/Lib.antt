@@ -11,3 +11,4 @@ pub mod Package
 pub mod PackageFields
 pub mod UnitFields
 pub mod Finding
+pub mod Naming

@@ -1,4 +1,5 @@
-ghost use Rattle.std.specs.Prelude.{◌≡◌, ℕ, ◌+◌, ◌≤◌, List, [], length, slice_range, slice_get, Some, None, Ok};
+ghost use Rattle.std.specs.Prelude.{◌≡◌, ℕ, ◌+◌, ◌≤◌, List, [], length, slice_range, slice_get, Option, Some, None, Ok};
+ghost use Rattle.std.specs.List.Sorted.{IsPermutation};
 ghost use Rattle.dwp_base.specs.declared.section.SectionKind.{SectionKind};
 ghost use Rattle.dwp_base.specs.declared.section.Contribution.{Contribution};
 ghost use Rattle.dwp_base.specs.declared.endian.Endianness.{Endianness};
@@ -6,11 +7,15 @@ ghost use Rattle.dwp_reader.specs.Input.{section};
 ghost use Rattle.dwp_reader.specs.declared.encoding.Encoding.{Encoding};
 ghost use Rattle.dwp_dwarf.specs.Units.{Unit, units, unit_bytes};
 ghost use Rattle.dwp_dwarf.specs.declared.header.UnitSection.{UnitSection};
+ghost use Rattle.dwp_table.specs.Table.{IsIndex};
 ghost use Rattle.dwp_table.specs.declared.object.DwarfObject.{DwarfObject};
 ghost use Rattle.dwp_index.specs.Contents.{Sections, content};
 ghost use Rattle.dwp_index.specs.Index.{Index, Ranges, range_in};
 ghost use Rattle.dwp_index.specs.Package.{Package, row_bytes, encoding_in, index_for};
+ghost use Rattle.dwp_index.specs.Entries.{entries_from};
+ghost use Rattle.dwp_index.specs.Used.{used_in};
 ghost use Rattle.dwp_index.specs.Finding.{unit_of, HasIndex, IsUnitOf, IsNotNamed, GivesWithin};
+ghost use Rattle.dwp_index.specs.Naming.{numbered, entries_of, IsIndexOf};
 
 /// The law of packages: where the index of a kind is one of distinct identifiers, the unit of each is
 /// found, after at most as many slots as its row's number, if its ranges lie inside their sections and its
@@ -46,4 +51,16 @@ pub fn units_are_read_alone()
     ensures { (order : Endianness) (place : UnitSection) (bytes : List ℕ) (k : ℕ) (unit : Unit)
         → slice_get (units place (section order bytes)) k ≡ Some (Ok unit)
         → encoding_in order place (unit_bytes unit) ≡ Ok unit.encoding }
+{}
+
+/// The law of names: the used slots of an index of distinct identifiers name each of them once, with the
+/// number of its row; so do the units of a package. It does nothing.
+pub fn units_are_named_once()
+    ensures index { (ids : List ℕ) (index : Index)
+        → IsIndex ids index.signatures index.rows
+        → IsPermutation (numbered 1 ids) (used_in index 0) }
+    ensures package { (compilations types : Option Index) (ids signatures : List ℕ)
+        → IsIndexOf compilations ids
+        → IsIndexOf types signatures
+        → IsPermutation (entries_of ids signatures) (entries_from compilations types 0 0) }
 {}

@@ -18,7 +18,9 @@ pub use dwp_table::{
     slot_count, unused_slots_are_a_table,
 };
 pub use fault::PackageError;
-pub use laws::{packages_find_exactly, ranges_are_parts, units_are_read_alone};
+pub use laws::{
+    packages_find_exactly, ranges_are_parts, units_are_named_once, units_are_read_alone,
+};
 pub use package::PackageFile;
 pub use unit::PackagedUnit;
 pub use unit_index::{Row, UnitIndex};

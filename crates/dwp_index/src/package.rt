@@ -48,7 +48,9 @@ impl<'a> Model for PackageFile<'a> {
 }
 
 impl<'a> PackageFile<'a> {
+    ghost use Rattle.std.specs.List.Sorted.{IsPermutation};
     ghost use Rattle.dwp_index.specs.Entries.{units_left, entries_from};
+    ghost use Rattle.dwp_index.specs.Naming.{entries_of, IsIndexOf};
 
     /// Reads a package. `Elf` where the file, or the first section of one of the names of a package,
     /// can't be read or is compressed; `Index` where an index is malformed, the one of compilation
@@ -109,7 +111,10 @@ impl<'a> PackageFile<'a> {
 
     /// The units that the slots of both indexes name, in order of slot, those of the compilation index first.
     pub fn units(&self) -> Units<'_>
-        ensures { units_left result ≡ entries_from self.now.compilations self.now.types 0 0 }
+        ensures slots { units_left result ≡ entries_from self.now.compilations self.now.types 0 0 }
+
+        // In tables of distinct identifiers: each one once, with the number of its row.
+        ensures once { (ids signatures : List ℕ) → IsIndexOf self.now.compilations ids → IsIndexOf self.now.types signatures → IsPermutation (entries_of ids signatures) (units_left result) }
     {
         Units {
             compilations: self.compilations.as_ref(),
