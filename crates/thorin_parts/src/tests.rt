@@ -240,3 +240,36 @@ fn relocation_faults(rt: HostRuntime) -> Result<(), Fail> {
     assert!(rt; matches!(symbol, Err(Error::RelocationWithInvalidSymbol(_, 0))));
     Ok(())
 }
+
+#[test]
+fn a_refused_allocation_is_want_of_memory(rt: HostRuntime) -> Result<(), Fail> {
+    let alloc = rt.alloc();
+    let units = [DwoId(0x3_0000_0001), DwoId(0x1), DwoId(0x2_0000_0001)];
+    let refused = bucket(alloc, &units);
+    assert!(rt; matches!(refused, Ok(_) | Err(Error::Memory)));
+    assert_eq!(rt;
+        bucket(alloc, &units)?.looked.as_slice(),
+        [1, 2, 2].as_slice()
+    );
+    let rows = [entry(GNU, 0x5, part(0, 0x10))];
+    let refused = write_index(alloc, Endianness::Little, &rows);
+    assert!(rt; matches!(refused, Ok(_) | Err(Error::Memory)));
+    assert_eq!(rt; write_index(alloc, Endianness::Little, &rows)?.len(), 52);
+    let bytes = executable(alloc, RELA, &[8, 0x1_0000_0001, 0x100, 0, 10, 5])?;
+    let file = ElfFile::parse(&bytes)?;
+    let section = file.section_by_name(".debug_info").ok_or("no section")?;
+    let refused = add_relocations(alloc, &file, &section);
+    assert!(rt; matches!(refused, Ok(_) | Err(Error::Memory)));
+    assert_eq!(rt; add_relocations(alloc, &file, &section)?.len(), 2);
+    let bytes = executable(alloc, RELA, &[8, 1, 0, 8, 1, 0])?;
+    let file = ElfFile::parse(&bytes)?;
+    let section = file.section_by_name(".debug_info").ok_or("no section")?;
+    let refused = add_relocations(alloc, &file, &section);
+    assert!(rt;
+        matches!(
+            refused,
+            Err(Error::MultipleRelocations(_, 8) | Error::Memory)
+        )
+    );
+    Ok(())
+}

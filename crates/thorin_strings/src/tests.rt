@@ -173,3 +173,36 @@ fn many_strings_are_found_as_from_the_front(rt: HostRuntime) -> Result<(), Fail>
     assert!(rt; table.len() > 1024);
     Ok(())
 }
+
+/// Each string has two bytes; there are more than a chunk of positions holds.
+#[test]
+fn a_refused_allocation_leaves_the_table_as_it_was(rt: HostRuntime) -> Result<(), Fail> {
+    let little = Endianness::Little;
+    let mut section = [0u8; 3600];
+    let mut offsets = [0u8; 4800];
+    for i in 0..1200usize {
+        section[3 * i] = (1 + i % 250) as u8;
+        section[3 * i + 1] = (1 + i / 250) as u8;
+        offsets[4 * i] = (3 * i % 256) as u8;
+        offsets[4 * i + 1] = (3 * i / 256) as u8;
+    }
+    let mut table = PackageStringTable::new(rt.alloc());
+    let refused = table.get_or_insert(b"int");
+    if refused.is_err() {
+        assert!(rt; matches!(refused, Err(Error::Memory)));
+        assert!(rt; table.is_empty());
+        assert!(rt; table.data().is_empty());
+    }
+    assert_eq!(rt; table.get_or_insert(b"int")?.0, 0);
+    let refused = table.remap_str_offsets_section(&section, &offsets, 4800, little, GNU);
+    if refused.is_err() {
+        assert!(rt; matches!(refused, Err(Error::Memory)));
+        assert_eq!(rt; table.data(), b"int\0".as_slice());
+        assert_eq!(rt; table.find_counted(b"\x01\x01").0, None);
+    }
+    let range = table.remap_str_offsets_section(&section, &offsets, 4800, little, GNU)?;
+    assert_eq!(rt; range.get(..8), Some([4, 0, 0, 0, 7, 0, 0, 0].as_slice()));
+    assert_eq!(rt; table.len(), 1201);
+    assert_eq!(rt; table.data().get(4..), Some(section.as_slice()));
+    Ok(())
+}

@@ -2,6 +2,7 @@ use super::arena::read_into;
 use super::{ArenaSession, MemorySession, Session};
 use crate::fault::InputError;
 use bumpalo::Bump;
+use std::alloc::AllocError;
 use std::borrow::CowSlice;
 use std::collections::BTreeMap;
 use std::io::Read;
@@ -143,5 +144,34 @@ fn a_read_that_fails_in_the_middle(rt: HostRuntime) -> Result<(), Fail> {
             _ => panic!(&rt; "a fault of the reader"),
         }
     }
+    Ok(())
+}
+
+#[test]
+fn a_refused_allocation_is_want_of_memory(rt: HostRuntime) -> Result<(), Fail> {
+    let bump = Bump::new(rt.alloc());
+    let files = BTreeMap::new(rt.alloc());
+    let session = MemorySession::new(&bump, &files);
+    let numbers = [7u64; 100];
+    if session.alloc_relocation(&numbers).is_err() {
+        assert_eq!(&rt; session.alloc_relocation(&numbers)?.len(), 100);
+    }
+    let bytes = b"a few bytes".as_slice();
+    let owned = CowSlice::Owned(bytes.to_vec(rt.alloc())?);
+    match Session::<u64>::alloc_owned_cow(&session, owned) {
+        Ok(placed) => assert_eq!(&rt; placed, bytes),
+        Err(AllocError) => {
+            let again = bytes.to_vec(rt.alloc())?;
+            assert_eq!(&rt; Session::<u64>::alloc_data(&session, again)?, bytes);
+        }
+    }
+    let mut path = env::temp_dir(&rt)?;
+    path.push(format!(in rt.alloc(); "thorin_refused_{}", process::id(rt.process()))?)?;
+    fs::write(&rt, path.as_path(), bytes)?;
+    let refused = has_bytes(&rt, &bump, path.as_path(), bytes);
+    let again = has_bytes(&rt, &bump, path.as_path(), bytes);
+    fs::remove_file(&rt, path.as_path())?;
+    assert!(&rt; matches!(refused, Ok(true) | Err(InputError::Memory)));
+    assert!(&rt; again?);
     Ok(())
 }
