@@ -9,3 +9,4 @@ pub mod FirstUnit
 pub mod PackageLookUp
 pub mod UnitAlone
 pub mod UsedOnce
+pub mod HeldContents

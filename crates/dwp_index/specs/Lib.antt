@@ -12,3 +12,4 @@ pub mod PackageFields
 pub mod UnitFields
 pub mod Finding
 pub mod Naming
+pub mod Holding

@@ -1,6 +1,9 @@
-ghost use Rattle.std.specs.Prelude.{◌≡◌, ℕ, ◌+◌, ◌≤◌, List, [], length, slice_range, slice_get, Option, Some, None, Ok};
+ghost use Rattle.std.specs.Prelude.{◌≡◌, ℕ, ◌+◌, ◌<◌, ◌≤◌, List, [], length, slice_range, slice_get, Option, Some, None, Ok, false};
 ghost use Rattle.std.specs.List.Sorted.{IsPermutation};
+ghost use Rattle.dwp_base.specs.Sections.{name_of, same_kind, kind_named};
 ghost use Rattle.dwp_base.specs.declared.section.SectionKind.{SectionKind};
+ghost use Rattle.dwp_base.specs.declared.section.SectionKind.TheVariants as kinds;
+ghost use Rattle.dwp_elf_read.specs.Elf.{Elf, SectionMeaning, elf_of};
 ghost use Rattle.dwp_base.specs.declared.section.Contribution.{Contribution};
 ghost use Rattle.dwp_base.specs.declared.endian.Endianness.{Endianness};
 ghost use Rattle.dwp_reader.specs.Input.{section};
@@ -9,12 +12,14 @@ ghost use Rattle.dwp_dwarf.specs.Units.{Unit, units, unit_bytes};
 ghost use Rattle.dwp_dwarf.specs.declared.header.UnitSection.{UnitSection};
 ghost use Rattle.dwp_table.specs.Table.{IsIndex};
 ghost use Rattle.dwp_table.specs.declared.object.DwarfObject.{DwarfObject};
-ghost use Rattle.dwp_index.specs.Contents.{Sections, content};
+ghost use Rattle.dwp_index.specs.Contents.{Sections, content, is_of_kind};
 ghost use Rattle.dwp_index.specs.Index.{Index, Ranges, range_in};
-ghost use Rattle.dwp_index.specs.Package.{Package, row_bytes, encoding_in, index_for};
+ghost use Rattle.dwp_index.specs.IndexBytes.{index_of};
+ghost use Rattle.dwp_index.specs.Package.{Package, package_of, index_in_section, row_bytes, encoding_in, index_for};
 ghost use Rattle.dwp_index.specs.Entries.{entries_from};
 ghost use Rattle.dwp_index.specs.Used.{used_in};
 ghost use Rattle.dwp_index.specs.Finding.{unit_of, HasIndex, IsUnitOf, IsNotNamed, GivesWithin};
+ghost use Rattle.dwp_index.specs.Holding.{HasContent, sections_of};
 ghost use Rattle.dwp_index.specs.Naming.{numbered, entries_of, IsIndexOf};
 
 /// The law of packages: where the index of a kind is one of distinct identifiers, the unit of each is
@@ -63,4 +68,30 @@ pub fn units_are_named_once()
         → IsIndexOf compilations ids
         → IsIndexOf types signatures
         → IsPermutation (entries_of ids signatures) (entries_from compilations types 0 0) }
+{}
+
+/// The law of files: a file whose sections hold contents as they stand is read as the package of these
+/// contents, with the indexes that stand in them. A section of another name, of the name of another kind or
+/// of no bytes isn't of a kind. It does nothing.
+pub fn contents_are_read()
+    ensures package { (bytes : List ℕ) (file : Elf) (held : SectionKind → List ℕ) (compilations types : Option Index)
+        → elf_of bytes ≡ Ok file
+        → ((kind : SectionKind) → HasContent file.sections kind (held kind))
+        → index_in_section file.order (held kinds.CuIndex) ≡ Ok compilations
+        → index_in_section file.order (held kinds.TuIndex) ≡ Ok types
+        → package_of bytes ≡ Ok (record { order = file.order; contents = sections_of held; compilations = compilations; types = types }) }
+    ensures index { (order : Endianness) (bytes : List ℕ) (index : Index)
+        → 0 < length bytes
+        → index_of order bytes ≡ Ok index
+        → index_in_section order bytes ≡ Ok (Some index) }
+    ensures no_index { (order : Endianness) (bytes : List ℕ) → bytes ≡ [] → index_in_section order bytes ≡ Ok None }
+    ensures other { (section : SectionMeaning) (kind other : SectionKind)
+        → section.name ≡ Some (name_of other)
+        → same_kind other kind ≡ false
+        → is_of_kind kind section ≡ false }
+    ensures foreign { (section : SectionMeaning) (kind : SectionKind) (name : List ℕ)
+        → section.name ≡ Some name
+        → kind_named name ≡ None
+        → is_of_kind kind section ≡ false }
+    ensures empty { (section : SectionMeaning) (kind : SectionKind) → section.size ≡ 0 → is_of_kind kind section ≡ false }
 {}

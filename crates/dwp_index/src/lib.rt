@@ -19,7 +19,8 @@ pub use dwp_table::{
 };
 pub use fault::PackageError;
 pub use laws::{
-    packages_find_exactly, ranges_are_parts, units_are_named_once, units_are_read_alone,
+    contents_are_read, packages_find_exactly, ranges_are_parts, units_are_named_once,
+    units_are_read_alone,
 };
 pub use package::PackageFile;
 pub use unit::PackagedUnit;

@@ -1,0 +1,151 @@
+-- Reading the contents of a file whose sections hold them as they stand.
+use Rattle.std.proofs.Common.{◌≡◌, ℕ, zero, suc, ◌<◌, Bool, true, false, cond, not, eqb, ◌||◌, ◌&&◌, inl, inr, List, [], ◌∷◌, length, refl, sym, ap, subst, ◌∙◌, arith}
+use Rattle.std.specs.Prelude.{Option, Some, None, Result, Ok, Err, slice_get}
+use Rattle.std.specs.List.{find, list_all}
+use Rattle.std.specs.Option.{ok_or}
+use Rattle.std.specs.Str.{bytes_eq}
+use Rattle.std.proofs.lemmas.Bool.{ne_eqb}
+use Rattle.dwp_base.specs.Reading.{◌>>=◌}
+use Rattle.dwp_base.specs.Sections.{name_of, compressed_name_of, is_named, kind_named, all_kinds, same_kind, rank_of}
+use Rattle.dwp_base.specs.declared.section.SectionKind.{SectionKind}
+use Rattle.dwp_base.specs.declared.section.SectionKind.TheVariants.{Info, Types, Abbrev, Line, Loc, Loclists, Rnglists, StrOffsets, Macinfo, Macro, Str, CuIndex, TuIndex}
+use Rattle.dwp_elf_read.specs.Elf.{Elf, SectionMeaning, nobits, elf_of}
+use Rattle.dwp_elf_read.specs.declared.fault.ReadError.TheVariants.{SectionRange, Compressed}
+use Rattle.dwp_index.specs.declared.fault.PackageError.TheVariants as faults
+use Rattle.dwp_index.specs.Contents.{has_name, is_of_kind, has_older_name, used_bytes, bytes_of, content_of, contents_of}
+use Rattle.dwp_base.specs.declared.endian.Endianness.{Endianness}
+use Rattle.dwp_reader.specs.declared.fault.ReadError.{ReadError as UnitFault}
+use Rattle.dwp_index.specs.Index.{Index}
+use Rattle.dwp_index.specs.IndexBytes.{index_of}
+use Rattle.dwp_index.specs.Package.{as_fault, index_in_section, package_of}
+use Rattle.dwp_index.specs.Holding.{Holds, HasContent, sections_of}
+
+left_of : (a b : Bool) → (a && b) ≡ true → a ≡ true
+left_of true b e = refl
+left_of false b e = e
+
+right_of : (a b : Bool) → (a && b) ≡ true → b ≡ true
+right_of true b e = e
+right_of false b e = absurd cc
+
+-- ---- names
+passes : {X : Type 0} (p : X → Bool) (xs : List X) (i : ℕ) (x : X) → list_all p xs ≡ true → slice_get xs i ≡ Some x → p x ≡ true
+passes p [] i x all at = absurd cc
+passes p (y ∷ ys) zero x all at = let same : y ≡ x = cc in ap p (sym same) ∙ left_of (p y) (list_all p ys) all
+passes p (y ∷ ys) (suc i) x all at = passes p ys i x (right_of (p y) (list_all p ys) all) at
+
+at_rank : (kind : SectionKind) → slice_get all_kinds (rank_of kind) ≡ Some kind
+at_rank Info = refl
+at_rank Types = refl
+at_rank Abbrev = refl
+at_rank Line = refl
+at_rank Loc = refl
+at_rank Loclists = refl
+at_rank Rnglists = refl
+at_rank StrOffsets = refl
+at_rank Macinfo = refl
+at_rank Macro = refl
+at_rank Str = refl
+at_rank CuIndex = refl
+at_rank TuIndex = refl
+
+abbrev apart : SectionKind → SectionKind → Bool
+apart a b = same_kind a b || not (is_named (name_of a) b)
+
+all_apart : list_all (λ a. list_all (apart a) all_kinds) all_kinds ≡ true
+all_apart = refl
+
+abbrev own : SectionKind → Bool
+own kind = is_named (name_of kind) kind && not (bytes_eq (name_of kind) (compressed_name_of kind))
+
+all_own : list_all own all_kinds ≡ true
+all_own = refl
+
+own_kind : (kind : SectionKind) → own kind ≡ true
+own_kind kind = passes own all_kinds (rank_of kind) kind all_own (at_rank kind)
+
+is_false : (b : Bool) → not b ≡ true → b ≡ false
+is_false true e = absurd cc
+is_false false e = refl
+
+other_name : (a b : SectionKind) → same_kind a b ≡ false → is_named (name_of a) b ≡ false
+other_name a b e =
+    let row = passes (λ k. list_all (apart k) all_kinds) all_kinds (rank_of a) a all_apart (at_rank a) in
+    let both = passes (apart a) all_kinds (rank_of b) b row (at_rank b) in
+    is_false (is_named (name_of a) b) (subst (λ c. (c || not (is_named (name_of a) b)) ≡ true) e both)
+
+-- ---- which sections are of a kind
+not_both : (a : Bool) → (a && false) ≡ false
+not_both true = refl
+not_both false = refl
+
+nameless : (kind : SectionKind) (section : SectionMeaning) → has_name kind section.name ≡ false → is_of_kind kind section ≡ false
+unfolding is_of_kind
+nameless kind section e = ap (λ b. not (eqb section.size 0 || eqb section.kind nobits) && b) e ∙ not_both (not (eqb section.size 0 || eqb section.kind nobits))
+
+pub another_kind : (section : SectionMeaning) (kind other : SectionKind) → section.name ≡ Some (name_of other) → same_kind other kind ≡ false → is_of_kind kind section ≡ false
+another_kind section kind other e ne = nameless kind section (ap (has_name kind) e ∙ other_name other kind ne)
+
+found-step : {X : Type 0} (p : X → Bool) (y : X) (ys : List X) (x : X) (b : Bool) (k : ℕ) → ((j : ℕ) → find p ys ≡ None → slice_get ys j ≡ Some x → p x ≡ false)
+    → p y ≡ b → find p (y ∷ ys) ≡ None → slice_get (y ∷ ys) k ≡ Some x → p x ≡ false
+found-step p y ys x true k go e none at = absurd (let bad : Some y ≡ None = sym (ap (λ b. cond b (Some y) (find p ys)) e) ∙ none in cc)
+found-step p y ys x false zero go e none at = let same : y ≡ x = cc in ap p (sym same) ∙ e
+found-step p y ys x false (suc k) go e none at = go k (sym (ap (λ b. cond b (Some y) (find p ys)) e) ∙ none) at
+
+found-none : {X : Type 0} (p : X → Bool) (xs : List X) (i : ℕ) (x : X) → find p xs ≡ None → slice_get xs i ≡ Some x → p x ≡ false
+found-none p [] i x none at = absurd cc
+found-none p (y ∷ ys) i x none at = found-step p y ys x (p y) i (λ j n a. found-none p ys j x n a) refl none at
+
+pub foreign : (section : SectionMeaning) (kind : SectionKind) (name : List ℕ) → section.name ≡ Some name → kind_named name ≡ None → is_of_kind kind section ≡ false
+foreign section kind name e none = nameless kind section (ap (has_name kind) e ∙ found-none (is_named name) all_kinds (rank_of kind) kind none (at_rank kind))
+
+pub empty : (section : SectionMeaning) (kind : SectionKind) → section.size ≡ 0 → is_of_kind kind section ≡ false
+unfolding is_of_kind
+empty section kind e = ap (λ n. not (eqb n 0 || eqb section.kind nobits) && has_name kind section.name) e
+
+holds-kind : (section : SectionMeaning) (kind : SectionKind) (bytes : List ℕ) → Holds section kind bytes → is_of_kind kind section ≡ true
+unfolding is_of_kind
+holds-kind section kind bytes h =
+    ap (λ b. not (b || eqb section.kind nobits) && has_name kind section.name) (ne_eqb section.size 0 (λ e. omega (arith, h.size_is, h.some)))
+    ∙ ap (λ b. not b && has_name kind section.name) (ne_eqb section.kind nobits h.has_bytes)
+    ∙ ap (has_name kind) h.name_is ∙ left_of (is_named (name_of kind) kind) (not (bytes_eq (name_of kind) (compressed_name_of kind))) (own_kind kind)
+
+-- ---- the contents
+holds-used : (section : SectionMeaning) (kind : SectionKind) (bytes : List ℕ) → Holds section kind bytes → used_bytes kind section ≡ Ok bytes
+unfolding used_bytes
+holds-used section kind bytes h =
+    let older : has_older_name kind section.name ≡ false = ap (has_older_name kind) h.name_is ∙ is_false (bytes_eq (name_of kind) (compressed_name_of kind)) (right_of (is_named (name_of kind) kind) (not (bytes_eq (name_of kind) (compressed_name_of kind))) (own_kind kind)) in
+    ap (λ b. cond (b || has_older_name kind section.name) (Err Compressed) (ok_or section.content SectionRange)) h.stored
+    ∙ ap (λ b. cond b (Err Compressed) (ok_or section.content SectionRange)) older
+    ∙ ap (λ o. ok_or o SectionRange) h.content_is
+
+pub content_is : (sections : List SectionMeaning) (kind : SectionKind) (bytes : List ℕ) → HasContent sections kind bytes → content_of sections kind ≡ Ok bytes
+unfolding content_of
+content_is [] kind bytes h = ap (λ l. Ok l) (sym h)
+content_is (s ∷ ss) kind bytes (inl h) = ap (λ b. bytes_of kind (cond b (Some s) (find (is_of_kind kind) ss))) (holds-kind s kind bytes h) ∙ holds-used s kind bytes h
+content_is (s ∷ ss) kind bytes (inr h) = ap (λ b. bytes_of kind (cond b (Some s) (find (is_of_kind kind) ss))) h.0 ∙ content_is ss kind bytes h.1
+
+contents_are : (sections : List SectionMeaning) (bytes : SectionKind → List ℕ) → ((kind : SectionKind) → HasContent sections kind (bytes kind)) → contents_of sections ≡ Ok (sections_of bytes)
+unfolding contents_of
+contents_are sections bytes h =
+    let at = λ (kind : SectionKind). content_is sections kind (bytes kind) (h kind) in
+    rw (at Info, at Types, at Abbrev, at Line, at Loc, at Loclists, at Rnglists, at StrOffsets, at Macinfo, at Macro, at Str, at CuIndex, at TuIndex) refl
+
+pub package_is : (bytes : List ℕ) (file : Elf) (held : SectionKind → List ℕ) (compilations types : Option Index) → elf_of bytes ≡ Ok file
+    → ((kind : SectionKind) → HasContent file.sections kind (held kind))
+    → index_in_section file.order (held CuIndex) ≡ Ok compilations → index_in_section file.order (held TuIndex) ≡ Ok types
+    → package_of bytes ≡ Ok (record { order = file.order; contents = sections_of held; compilations = compilations; types = types })
+unfolding package_of
+package_is bytes file held compilations types e h c t =
+    let contents = contents_are file.sections held h in
+    rw (e, contents, c, t) refl
+
+pub index_there : (order : Endianness) (bytes : List ℕ) (index : Index) → 0 < length bytes → index_of order bytes ≡ Ok index → index_in_section order bytes ≡ Ok (Some index)
+unfolding index_in_section
+index_there order bytes index some e =
+    ap (λ b. cond b (Ok None) (as_fault faults.Index (index_of order bytes) >>= λ i. Ok (Some i))) (ne_eqb (length bytes) 0 (λ z. omega arith))
+    ∙ ap (λ (r : Result Index UnitFault). as_fault faults.Index r >>= λ i. Ok (Some i)) e
+
+pub index_missing : (order : Endianness) (bytes : List ℕ) → bytes ≡ [] → index_in_section order bytes ≡ Ok None
+unfolding index_in_section
+index_missing order bytes e = ap (λ b. cond (eqb (length b) 0) (Ok None) (as_fault faults.Index (index_of order b) >>= λ i. Ok (Some i))) e

@@ -1,0 +1,39 @@
+-- Files whose sections are contents as they stand (DWARF 5, 7.3.5).
+use Rattle.std.specs.Prelude.{◌≡◌, ◌≢◌, ◌⊎◌, ℕ, ◌<◌, false, List, [], ◌∷◌, length, Some}
+use Rattle.dwp_base.specs.Sections.{name_of}
+use Rattle.dwp_base.specs.declared.section.SectionKind.{SectionKind}
+use Rattle.dwp_base.specs.declared.section.SectionKind.TheVariants.{Info, Types, Abbrev, Line, Loc, Loclists, Rnglists, StrOffsets, Macinfo, Macro, Str, CuIndex, TuIndex}
+use Rattle.dwp_elf_read.specs.Elf.{SectionMeaning, nobits, has_compressed_flag}
+use Rattle.dwp_index.specs.Contents.{Sections, is_of_kind}
+
+-- a section has a kind's name and these bytes, which aren't compressed
+pub record Holds (section : SectionMeaning) (kind : SectionKind) (bytes : List ℕ) : Type 0 where
+  pub name_is : section.name ≡ Some (name_of kind)
+  pub size_is : section.size ≡ length bytes
+  pub content_is : section.content ≡ Some bytes
+  pub some : 0 < length bytes
+  pub has_bytes : section.kind ≢ nobits
+  pub stored : has_compressed_flag section ≡ false
+
+-- the first of these sections that is of a kind holds these bytes; there are none where no section is
+abbrev pub HasContent : List SectionMeaning → SectionKind → List ℕ → Type 0
+HasContent [] kind bytes = bytes ≡ []
+HasContent (s ∷ ss) kind bytes = Holds s kind bytes ⊎ ((is_of_kind kind s ≡ false) × HasContent ss kind bytes)
+
+-- these bytes of each kind
+abbrev pub sections_of : (SectionKind → List ℕ) → Sections
+sections_of bytes = record {
+  info = bytes Info;
+  types = bytes Types;
+  abbrev_bytes = bytes Abbrev;
+  line = bytes Line;
+  loc = bytes Loc;
+  loclists = bytes Loclists;
+  rnglists = bytes Rnglists;
+  str_offsets = bytes StrOffsets;
+  macinfo = bytes Macinfo;
+  macros = bytes Macro;
+  strings = bytes Str;
+  cu_index = bytes CuIndex;
+  tu_index = bytes TuIndex;
+}
