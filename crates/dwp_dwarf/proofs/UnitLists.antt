@@ -1,18 +1,18 @@
 -- The units of a section one after the other.
-use Rattle.std.proofs.Common.{◌≡◌, ℕ, zero, suc, ◌<◌, ◌≤◌, Bool, true, false, cond, List, [], ◌∷◌, ◌++◌, length, take, drop, Result, Ok, Err, eqb, map, append_assoc, refl, ap, sym, subst, ◌∙◌, arith}
+use Rattle.std.proofs.Common.{◌≡◌, ℕ, zero, suc, ◌+◌, ◌<◌, ◌≤◌, Bool, true, false, cond, List, [], ◌∷◌, ◌++◌, length, take, drop, Result, Ok, Err, eqb, map, append_assoc, length-append, refl, ap, sym, subst, ◌∙◌, arith}
 use Rattle.std.specs.Result.{is_err}
 use Rattle.std.specs.List.{flat_map}
-use Rattle.std.proofs.lemmas.List.{length-drop, take-append-drop, append-nil, nil_from_length}
+use Rattle.std.proofs.lemmas.List.{length-drop, length-take-le, take-append-drop, append-nil, nil_from_length}
 use Rattle.std.proofs.lemmas.List.Concat.{flat_map-cons}
 use Rattle.std.proofs.lemmas.Bool.{eqb-true}
 use Rattle.dwp_base.specs.Reading.{Reads}
 use Rattle.dwp_reader.specs.declared.fault.ReadError.{ReadError}
-use Rattle.dwp_reader.specs.Input.{Input}
+use Rattle.dwp_reader.specs.Input.{Input, after}
 use Rattle.dwp_dwarf.specs.declared.header.UnitSection.{UnitSection}
 use Rattle.dwp_dwarf.specs.declared.header.UnitHeader.{UnitHeader}
 use Rattle.dwp_dwarf.specs.declared.header.UnitHeaders.{UnitHeaders}
 use Rattle.dwp_dwarf.specs.Units.{Unit, unit_at, unit_of, unit_seen, units_left, units, units_within, listed, unit_bytes}
-use Rattle.dwp_dwarf.proofs.Forward.{by_test}
+use Rattle.dwp_dwarf.proofs.Forward.{by_test, IsBehind, IsBehind-then}
 use Rattle.dwp_dwarf.proofs.UnitsForward.{unit_is}
 
 -- a unit leaves less
@@ -98,14 +98,34 @@ unit_joined section i x e =
     let u = unit_is section i x e in
     ap (λ (w : Input). w.bytes ++ x.1.bytes) u.2 ∙ ap (λ (r : Input). take u.0 i.bytes ++ r.bytes) u.3.is ∙ take-append-drop u.0 i.bytes
 
+-- nothing was read
+after-none : (i : Input) → i ≡ after 0 i
+after-none i = let e : i.place + 0 ≡ i.place = omega arith in rw e refl
+
+-- a unit has as many bytes as were taken for it
+unit_taken : (section : UnitSection) (i : Input) (x : Unit × Input) → unit_at section i ≡ Ok x → IsBehind (length x.0.whole.bytes) i x.1
+unit_taken section i x e =
+    let u = unit_is section i x e in
+    let size : length x.0.whole.bytes ≡ u.0 = ap (λ (w : Input). length w.bytes) u.2 ∙ length-take-le u.0 i.bytes u.3.fits in
+    subst (λ (n : ℕ). IsBehind n i x.1) (sym size) u.3
+
 -- behind the units that were read stands what the others are read from
-pub units_behind : (section : UnitSection) (read : List Unit) (others : List (Result Unit ReadError)) (i : Input) → units section i ≡ map Ok read ++ others → (rest : Input) × (flat_map unit_bytes read ++ rest.bytes ≡ i.bytes) × (units section rest ≡ others)
-units_behind section [] others i e = (i, refl, e)
+pub units_behind : (section : UnitSection) (read : List Unit) (others : List (Result Unit ReadError)) (i : Input) → units section i ≡ map Ok read ++ others
+    → (rest : Input) × (flat_map unit_bytes read ++ rest.bytes ≡ i.bytes) × (units section rest ≡ others) × IsBehind (length (flat_map unit_bytes read)) i rest
+units_behind section [] others i e = (i, refl, e, record { fits = omega arith; is = after-none i })
 units_behind section (u ∷ us) others i e =
     let x = listed_ok (unit_at section i) (units section) u (map Ok us ++ others) (some_listed section i (Ok u) (map Ok us ++ others) e) in
     let r = units_behind section us others x.0.1 x.3 in
     let front : u.whole.bytes ++ x.0.1.bytes ≡ i.bytes = subst (λ (w : Unit). w.whole.bytes ++ x.0.1.bytes ≡ i.bytes) x.2 (unit_joined section i x.0 x.1) in
-    (r.0, ap (λ (l : List ℕ). l ++ r.0.bytes) (flat_map-cons unit_bytes u us) ∙ append_assoc u.whole.bytes (flat_map unit_bytes us) r.0.bytes ∙ ap (λ (l : List ℕ). u.whole.bytes ++ l) r.1 ∙ front, r.2)
+    let first : IsBehind (length u.whole.bytes) i x.0.1 = subst (λ (w : Unit). IsBehind (length w.whole.bytes) i x.0.1) x.2 (unit_taken section i x.0 x.1) in
+    let both : IsBehind (length u.whole.bytes + length (flat_map unit_bytes us)) i r.0 = IsBehind-then _ _ i x.0.1 r.0 first r.3 in
+    let size : length u.whole.bytes + length (flat_map unit_bytes us) ≡ length (flat_map unit_bytes (u ∷ us)) =
+    sym (ap length (flat_map-cons unit_bytes u us) ∙ length-append u.whole.bytes (flat_map unit_bytes us)) in (
+      r.0,
+      ap (λ (l : List ℕ). l ++ r.0.bytes) (flat_map-cons unit_bytes u us) ∙ append_assoc u.whole.bytes (flat_map unit_bytes us) r.0.bytes ∙ ap (λ (l : List ℕ). u.whole.bytes ++ l) r.1 ∙ front,
+      r.2,
+      subst (λ (n : ℕ). IsBehind n i r.0) size both,
+    )
 
 -- no unit stands where no byte is left
 no_byte : (section : UnitSection) (i : Input) → units section i ≡ [] → i.bytes ≡ []
@@ -119,7 +139,9 @@ units_whole section i read e =
     let r = units_behind section read [] i (e ∙ sym (append-nil (map Ok read))) in
     sym (append-nil (flat_map unit_bytes read)) ∙ ap (λ (l : List ℕ). flat_map unit_bytes read ++ l) (sym (no_byte section r.0 r.2)) ∙ r.1
 
-pub units_fault : (section : UnitSection) (i : Input) (read : List Unit) (f : ReadError) → units section i ≡ map Ok read ++ Err f ∷ [] → (rest : Input) × (flat_map unit_bytes read ++ rest.bytes ≡ i.bytes) × (unit_at section rest ≡ Err f)
+pub units_fault : (section : UnitSection) (i : Input) (read : List Unit) (f : ReadError) → units section i ≡ map Ok read ++ Err f ∷ []
+    → (flat_map unit_bytes read ++ drop (length (flat_map unit_bytes read)) i.bytes ≡ i.bytes) × (unit_at section (after (length (flat_map unit_bytes read)) i) ≡ Err f)
 units_fault section i read f e =
     let r = units_behind section read (Err f ∷ []) i e in
-    (r.0, r.1, listed_fault (unit_at section r.0) (units section) f [] (some_listed section r.0 (Err f) [] r.2))
+    let fault = listed_fault (unit_at section r.0) (units section) f [] (some_listed section r.0 (Err f) [] r.2) in
+    (ap (λ (x : Input). flat_map unit_bytes read ++ x.bytes) (sym r.3.is) ∙ r.1, ap (unit_at section) (sym r.3.is) ∙ fault)

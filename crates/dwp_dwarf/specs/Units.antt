@@ -1,8 +1,8 @@
 -- The units of a section: their headers, and the bytes that each has (DWARF 5, 7.4 and 7.5.1; DWARF 4, 7.5.1 for the units of versions 2 to 4).
-use Rattle.std.specs.Prelude.{◌≡◌, ℕ, zero, suc, ◌-◌, List, [], ◌∷◌, ◌++◌, length, map, Result, Ok, Err, nat_lt, nat_le, ◌==◌, ◌&&◌, if◌then◌else◌}
+use Rattle.std.specs.Prelude.{◌≡◌, ℕ, zero, suc, ◌-◌, List, [], ◌∷◌, ◌++◌, length, map, drop, Result, Ok, Err, nat_lt, nat_le, ◌==◌, ◌&&◌, if◌then◌else◌}
 use Rattle.std.specs.List.{flat_map}
 use Rattle.dwp_base.specs.Reading.{◌>>=◌}
-use Rattle.dwp_reader.specs.Input.{Input, split_at, byte_at, number_at, offset_at, is_address_size}
+use Rattle.dwp_reader.specs.Input.{Input, after, split_at, byte_at, number_at, offset_at, is_address_size}
 use Rattle.dwp_reader.specs.declared.encoding.Encoding.{Encoding}
 use Rattle.dwp_reader.specs.declared.encoding.Format.{Format}
 use Rattle.dwp_reader.specs.declared.encoding.Format.TheVariants.{Dwarf32, Dwarf64}
@@ -132,7 +132,8 @@ unit_bytes u = u.whole.bytes
 abbrev pub UnitsAreSection : Type 0
 UnitsAreSection = (section : UnitSection) (i : Input) (read : List Unit) → units section i ≡ map Ok read → flat_map unit_bytes read ≡ i.bytes
 
--- before the first fault of a section stand the bytes of its units, joined; there the next unit has that fault
+-- before the first fault of a section stand the bytes of its units, joined; the next unit, from there on, has that fault
 abbrev pub FaultIsNext : Type 0
 FaultIsNext = (section : UnitSection) (i : Input) (read : List Unit) (e : ReadError) → units section i ≡ map Ok read ++ Err e ∷ []
-    → (rest : Input) × (flat_map unit_bytes read ++ rest.bytes ≡ i.bytes) × (unit_at section rest ≡ Err e)
+    → (flat_map unit_bytes read ++ drop (length (flat_map unit_bytes read)) i.bytes ≡ i.bytes)
+    × (unit_at section (after (length (flat_map unit_bytes read)) i) ≡ Err e)
