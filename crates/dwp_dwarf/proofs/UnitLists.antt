@@ -1,17 +1,17 @@
 -- The units of a section one after the other.
-use Rattle.std.proofs.Common.{◌≡◌, ℕ, zero, suc, ◌+◌, ◌<◌, ◌≤◌, Bool, true, false, cond, List, [], ◌∷◌, ◌++◌, length, take, drop, Result, Ok, Err, eqb, map, append_assoc, length-append, refl, ap, sym, subst, ◌∙◌, arith}
+use Rattle.std.proofs.Common.{◌≡◌, ◌↔◌, ℕ, zero, suc, ◌+◌, ◌<◌, ◌≤◌, Bool, true, false, cond, List, [], ◌∷◌, ◌++◌, length, take, drop, Result, Ok, Err, eqb, map, append_assoc, length-append, refl, ap, sym, subst, ◌∙◌, arith}
 use Rattle.std.specs.Result.{is_err}
 use Rattle.std.specs.List.{flat_map}
 use Rattle.std.proofs.lemmas.List.{length-drop, length-take-le, take-append-drop, append-nil, nil_from_length}
 use Rattle.std.proofs.lemmas.List.Concat.{flat_map-cons}
-use Rattle.std.proofs.lemmas.Bool.{eqb-true}
+use Rattle.std.proofs.lemmas.Bool.{eqb-true, ne_eqb}
 use Rattle.dwp_base.specs.Reading.{Reads}
 use Rattle.dwp_reader.specs.declared.fault.ReadError.{ReadError}
 use Rattle.dwp_reader.specs.Input.{Input, after}
 use Rattle.dwp_dwarf.specs.declared.header.UnitSection.{UnitSection}
 use Rattle.dwp_dwarf.specs.declared.header.UnitHeader.{UnitHeader}
 use Rattle.dwp_dwarf.specs.declared.header.UnitHeaders.{UnitHeaders}
-use Rattle.dwp_dwarf.specs.Units.{Unit, unit_at, unit_of, unit_seen, units_left, units, units_within, listed, unit_bytes}
+use Rattle.dwp_dwarf.specs.Units.{Unit, unit_at, unit_of, unit_seen, units_left, units, units_within, listed, unit_bytes, UnitsLie}
 use Rattle.dwp_dwarf.proofs.Forward.{by_test, IsBehind, IsBehind-then}
 use Rattle.dwp_dwarf.proofs.UnitsForward.{unit_is}
 
@@ -145,3 +145,23 @@ units_fault section i read f e =
     let r = units_behind section read (Err f ∷ []) i e in
     let fault = listed_fault (unit_at section r.0) (units section) f [] (some_listed section r.0 (Err f) [] r.2) in
     (ap (λ (x : Input). flat_map unit_bytes read ++ x.bytes) (sym r.3.is) ∙ r.1, ap (unit_at section) (sym r.3.is) ∙ fault)
+
+-- ---- the one list
+
+-- a unit stands where a byte is left
+some_byte : (section : UnitSection) (i : Input) (x : Unit × Input) → unit_at section i ≡ Ok x → eqb (length i.bytes) 0 ≡ false
+some_byte section i x e = let shorter = unit_shorter section i x e in ne_eqb (length i.bytes) 0 (λ none. absurd (omega (arith, shorter)))
+
+lie_read : (section : UnitSection) (us : List Unit) (i : Input) → UnitsLie section i us → units section i ≡ map Ok us
+lie_read section [] i e = units-cases section i ∙ rw e refl
+lie_read section (u ∷ us) i l =
+    units-cases section i ∙ rw (some_byte section i (u, l.0) l.1, l.1) (ap (λ (xs : List (Result Unit ReadError)). Ok u ∷ xs) (lie_read section us l.0 l.2))
+
+read_lie : (section : UnitSection) (us : List Unit) (i : Input) → units section i ≡ map Ok us → UnitsLie section i us
+read_lie section [] i e = no_byte section i e
+read_lie section (u ∷ us) i e =
+    let x = listed_ok (unit_at section i) (units section) u (map Ok us) (some_listed section i (Ok u) (map Ok us) e) in
+    (x.0.1, x.1 ∙ ap (λ (w : Unit). Ok (w, x.0.1)) x.2, read_lie section us x.0.1 x.3)
+
+pub units_one : (section : UnitSection) (i : Input) (us : List Unit) → UnitsLie section i us ↔ (units section i ≡ map Ok us)
+units_one section i us = (lie_read section us i, read_lie section us i)

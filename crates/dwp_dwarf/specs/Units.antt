@@ -1,5 +1,5 @@
 -- The units of a section: their headers, and the bytes that each has (DWARF 5, 7.4 and 7.5.1; DWARF 4, 7.5.1 for the units of versions 2 to 4).
-use Rattle.std.specs.Prelude.{◌≡◌, ℕ, zero, suc, ◌-◌, List, [], ◌∷◌, ◌++◌, length, map, drop, Result, Ok, Err, nat_lt, nat_le, ◌==◌, ◌&&◌, if◌then◌else◌}
+use Rattle.std.specs.Prelude.{◌≡◌, ◌↔◌, ℕ, zero, suc, ◌-◌, List, [], ◌∷◌, ◌++◌, length, map, drop, Result, Ok, Err, nat_lt, nat_le, ◌==◌, ◌&&◌, if◌then◌else◌}
 use Rattle.std.specs.List.{flat_map}
 use Rattle.dwp_base.specs.Reading.{◌>>=◌}
 use Rattle.dwp_reader.specs.Input.{Input, after, split_at, byte_at, number_at, offset_at, is_address_size}
@@ -137,3 +137,12 @@ abbrev pub FaultIsNext : Type 0
 FaultIsNext = (section : UnitSection) (i : Input) (read : List Unit) (e : ReadError) → units section i ≡ map Ok read ++ Err e ∷ []
     → (flat_map unit_bytes read ++ drop (length (flat_map unit_bytes read)) i.bytes ≡ i.bytes)
     × (unit_at section (after (length (flat_map unit_bytes read)) i) ≡ Err e)
+
+-- units that lie in a section one after the other, from its start to its end
+abbrev pub UnitsLie : UnitSection → Input → List Unit → Type 0
+UnitsLie section i [] = i.bytes ≡ []
+UnitsLie section i (u ∷ us) = (rest : Input) × (unit_at section i ≡ Ok (u, rest)) × UnitsLie section rest us
+
+-- where a section has such a list, that is the one that is read
+abbrev pub UnitsAreOne : Type 0
+UnitsAreOne = (section : UnitSection) (i : Input) (us : List Unit) → UnitsLie section i us ↔ (units section i ≡ map Ok us)

@@ -1,4 +1,4 @@
-use Rattle.dwp_dwarf.proofs.UnitLists.{units_whole, units_fault}
+use Rattle.dwp_dwarf.proofs.UnitLists.{units_whole, units_fault, units_one}
 use Rattle.dwp_dwarf.proofs.units.units_have_all_bytes.Goals as goal
 
 pub returns-clause-whole : goal.returns-clause-whole
@@ -6,3 +6,6 @@ returns-clause-whole c = units_whole
 
 pub returns-clause-fault : goal.returns-clause-fault
 returns-clause-fault c = units_fault
+
+pub returns-clause-one : goal.returns-clause-one
+returns-clause-one c = units_one
