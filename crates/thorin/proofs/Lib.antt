@@ -1,1 +1,3 @@
 pub mod Sections
+pub mod Growth
+pub mod PartLemmas

@@ -1,3 +1,10 @@
 pub mod Used
 pub mod View
 pub mod Identity
+pub mod Growing
+pub mod Parts
+pub mod NewUnits
+pub mod UnitView
+pub mod State
+pub mod StateView
+pub mod Builder

@@ -1,7 +1,11 @@
 -- What the values of this crate stand for.
-use Rattle.std.specs.Prelude.{map}
+use Rattle.std.specs.Prelude.{ℕ, List, map}
+use Rattle.dwp_base.specs.declared.section.SectionKind.{SectionKind}
 use Rattle.thorin.specs.declared.object.UsedSection.{UsedSection}
 use Rattle.thorin.specs.declared.object.InputObject.{InputObject}
+use Rattle.thorin.specs.declared.parts.Part.{Part}
+use Rattle.thorin.specs.declared.parts.PartBytes.{PartBytes}
+use Rattle.thorin.specs.declared.parts.PartBytes.TheVariants.{Copied, Rewritten}
 use Rattle.thorin.specs.Used.{Used, Object}
 
 -- a section that is used
@@ -11,3 +15,11 @@ used s = record { kind = s.kind; bytes = s.bytes.now; address = s.address }
 -- an input whose sections are known
 abbrev pub object : InputObject → Object
 object o = record { order = o.order; sections = map used o.sections.items; has_strings = o.has_strings; has_abbreviations = o.has_abbreviations }
+
+-- the bytes of a part, and the part with its kind
+abbrev pub part_bytes : PartBytes → List ℕ
+part_bytes (Copied bytes) = bytes.now
+part_bytes (Rewritten bytes) = bytes.items
+
+abbrev pub part : Part → SectionKind × List ℕ
+part p = (p.kind, part_bytes p.bytes)

@@ -1,10 +1,12 @@
 //! Joining split DWARF objects into one package (DWARF 5, 7.3.5; the GNU page DebugFissionDWP).
 #![tactic(auto)]
 
+mod growing;
 mod identity;
 mod object;
 mod package;
 mod packing;
+mod parts;
 mod state;
 mod units;
 

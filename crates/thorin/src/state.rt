@@ -1,14 +1,24 @@
 //! A package while it is made.
 
-ghost use Rattle.std.specs.Prelude.{◌≡◌, length, take, IfOk};
+ghost use Rattle.std.specs.Prelude.{◌≡◌, [], length, map, take, IfOk, IfErr, OnOk, OnErr};
+ghost use Rattle.dwp_elf.specs.Contents.{content_of};
+ghost use Rattle.thorin_faults.specs.Answers.{Gives};
 ghost use Rattle.thorin_strings.specs.Marks.{mark_of};
+ghost use Rattle.thorin.specs.Growing as growing;
+ghost use Rattle.thorin.specs.Parts.{parts_of};
+ghost use Rattle.thorin.specs.State as spec;
+ghost use Rattle.thorin.specs.StateView.{package_of, mark_in};
+ghost use Rattle.thorin.specs.UnitView.{new_unit, new_of};
+ghost use Rattle.thorin.specs.View as view;
 
+use crate::growing::{lengths, put, restore, shared_row, sizes_of};
 use crate::object::InputObject;
-use crate::units::NewUnits;
-use dwp_base::{Class, Contribution, ContributionOffset, Endianness, SectionKind};
-use dwp_dwarf::Encoding;
+use crate::parts::{Part, parts_of, put_parts};
+use crate::units::{Held, NewUnit, NewUnits};
+use dwp_base::{Class, Endianness, SectionKind};
+use dwp_dwarf::{Encoding, UnitSection};
 use dwp_elf::WritableObject;
-use dwp_table::{DebugTypeSignature, DwarfObject, DwoId};
+use dwp_table::{DebugTypeSignature, DwarfObject};
 use indexmap::IndexSet;
 use std::alloc::Global;
 use std::fmt;
@@ -36,11 +46,21 @@ impl fmt::Debug for InProgressDwarfPackage {
 #[derive(Drop)]
 struct Mark {
     /// The length of each section, in their order.
-    sizes: Vec<usize>,
+    lengths: Vec<usize>,
     strings: TableMark,
+    names: usize,
     rows: usize,
     differing: usize,
-    contained: usize,
+}
+
+// The section of a place.
+fn kind_at(place: UnitSection) -> SectionKind
+    ensures { result ≡ spec.kind_at place }
+{
+    match place {
+        UnitSection::Info => SectionKind::Info,
+        UnitSection::Types => SectionKind::Types,
+    }
 }
 
 impl InProgressDwarfPackage {
@@ -50,7 +70,9 @@ impl InProgressDwarfPackage {
         class: Class,
         machine: u16,
         order: Endianness,
-    ) -> InProgressDwarfPackage {
+    ) -> InProgressDwarfPackage
+        ensures { package_of result [] ≡ spec.empty class machine order }
+    {
         InProgressDwarfPackage {
             alloc,
             object: WritableObject::new(alloc, class, machine, order),
@@ -61,201 +83,126 @@ impl InProgressDwarfPackage {
     }
 
     /// The byte order of the package.
-    pub(crate) fn endianness(&self) -> Endianness {
+    pub(crate) fn endianness(&self) -> Endianness
+        ensures { result ≡ (package_of self.now []).file.order }
+    {
         self.object.endianness()
     }
 
-    /// The bytes of the unit whose row stands at a place.
-    pub(crate) fn unit_bytes(&self, place: usize) -> &[u8] {
-        let Some(row) = self.rows.get(place) else {
-            return &[];
-        };
-        match (row.debug_types, row.debug_info) {
-            (Some(range), _) => self.bytes_at(SectionKind::Types, range),
-            (None, Some(range)) => self.bytes_at(SectionKind::Info, range),
-            (None, None) => &[],
-        }
-    }
-
-    // The bytes of a range of a section; none where it is outside.
-    fn bytes_at(&self, kind: SectionKind, range: Contribution) -> &[u8] {
-        let Ok(start) = usize::try_from(range.offset.0) else {
-            return &[];
-        };
-        let Ok(size) = usize::try_from(range.size) else {
-            return &[];
-        };
-        let Some(end) = start.checked_add(size) else {
-            return &[];
-        };
-        for section in self.object.sections() {
-            if section.0 == kind {
-                return section.1.get(start..end).unwrap_or(&[]);
-            }
-        }
-        &[]
-    }
-
     /// Adds the units of a plain object with all that belongs to them. An `Err` leaves the package
-    /// and the contained units as they were.
+    /// and the names of its units as they were.
     pub(crate) fn add_plain(
         &mut self,
-        contained: &mut IndexSet<DwarfObject>,
+        names: &mut IndexSet<DwarfObject>,
         object: &InputObject<'_>,
         encoding: Encoding,
-    ) -> Result<(), Error> {
-        let mark = self.mark(contained)?;
-        let added = self.try_add_plain(contained, object, encoding, &mark);
+    ) -> Result<(), Error>
+        ensures meaning { Gives (λ _. package_of self.new names.new.keys) result (spec.with_object (view.object object.now) encoding (package_of self.old names.old.keys)) }
+        ensures err { OnErr result (package_of self.new names.new.keys ≡ package_of self.old names.old.keys) }
+    {
+        let mark = self.mark(names)?;
+        let added = self.try_add_plain(names, object, encoding);
         if added.is_err() {
-            self.restore(contained, &mark);
+            self.restore(names, &mark);
         }
         added
     }
 
+    // The same, but an `Err` may leave more than there was.
+    #[tactic(auto, unfolding(crate::specs::State::with_object, crate::specs::State::with_all, crate::specs::State::abbreviations_test))]
     fn try_add_plain(
         &mut self,
-        contained: &mut IndexSet<DwarfObject>,
+        names: &mut IndexSet<DwarfObject>,
         object: &InputObject<'_>,
         encoding: Encoding,
-        mark: &Mark,
     ) -> Result<(), Error>
-        ensures kept { take (length self.old.strings) self.new.strings ≡ self.old.strings }
+        ensures meaning { Gives (λ _. package_of self.new names.new.keys) result (spec.with_object (view.object object.now) encoding (package_of self.old names.old.keys)) }
+        ensures extends { spec.Extends (package_of self.old names.old.keys) (package_of self.new names.new.keys) }
     {
-        let rewritten = self.rewritten(object, encoding)?;
+        let parts = parts_of(self.alloc, object, encoding, &mut self.strings)?;
         if !object.has_abbreviations {
             return Err(Error::MissingRequiredSection(SectionKind::Abbrev.name()));
         }
-        let new = NewUnits::read(self.alloc, object, self, contained)?;
-        self.append_sections(object, &rewritten)?;
-        let template = self.grown_since(mark, encoding);
-        self.append_units(contained, &new, template)?;
+        let held = Held {
+            names: &*names,
+            rows: &self.rows,
+            file: &self.object,
+        };
+        let new = NewUnits::read(self.alloc, object, held)?;
+        let before = sizes_of(&self.object);
+        put_parts(&mut self.object, &parts)?;
         self.differing.extend_from_slice(&new.differing)?;
-        Ok(())
+        let shared = shared_row(encoding, &before, &sizes_of(&self.object));
+        self.add_units(names, &new, shared)
     }
 
-    // The string offsets of an object, rewritten, one for each such section. Tests each section on the way.
-    fn rewritten(
+    // Adds units whose rows share what the row has.
+    fn add_units(
         &mut self,
-        object: &InputObject<'_>,
-        encoding: Encoding,
-    ) -> Result<Vec<Vec<u8>>, Error>
-        ensures kept { take (length self.old.strings) self.new.strings ≡ self.old.strings }
-    {
-        let mut rewritten = Vec::new(self.alloc);
-        for section in &object.sections {
-            if !is_in_format(encoding, section.kind) {
-                return Err(Error::SectionOutsideFormat(section.kind.name()));
-            }
-            if let SectionKind::StrOffsets = section.kind {
-                if !rewritten.is_empty() && encoding.is_std_dwarf_package_format() {
-                    return Err(Error::RepeatedSection(section.kind.name()));
-                }
-                if !object.has_strings {
-                    return Err(Error::MissingRequiredSection(SectionKind::Str.name()));
-                }
-                rewritten.push(
-                    self.strings.remap_str_offsets_section(
-                        object.first(SectionKind::Str),
-                        section.bytes,
-                        section.bytes.len() as u64,
-                        object.order,
-                        encoding,
-                    )?,
-                )?;
-            }
-        }
-        Ok(rewritten)
-    }
-
-    // Appends each section that units have contributions to, but those of units themselves, whole, in file order.
-    fn append_sections(
-        &mut self,
-        object: &InputObject<'_>,
-        rewritten: &[Vec<u8>],
-    ) -> Result<(), Error>
-        ensures strings { self.new.strings ≡ self.old.strings }
-    {
-        let mut rewritten = rewritten.iter();
-        for section in &object.sections {
-            match section.kind {
-                SectionKind::Info
-                | SectionKind::Types
-                | SectionKind::Str
-                | SectionKind::CuIndex
-                | SectionKind::TuIndex => {}
-                SectionKind::StrOffsets => {
-                    if let Some(bytes) = rewritten.next() {
-                        self.object.append(section.kind, bytes)?;
-                    }
-                }
-                _ => {
-                    self.object.append(section.kind, section.bytes)?;
-                }
-            }
-        }
-        Ok(())
-    }
-
-    // The row of an input's units, but for their own bytes: what each section has grown by.
-    fn grown_since(&self, mark: &Mark, encoding: Encoding) -> IndexEntry {
-        let mut row = empty_row(encoding);
-        for (i, section) in self.object.sections().iter().enumerate() {
-            let before = mark.sizes.get(i).copied().unwrap_or(0);
-            if section.1.len() > before {
-                let range = Contribution {
-                    offset: ContributionOffset(before as u64),
-                    size: (section.1.len() - before) as u64,
-                };
-                set_range(&mut row, section.0, range);
-            }
-        }
-        row
-    }
-
-    fn append_units(
-        &mut self,
-        contained: &mut IndexSet<DwarfObject>,
+        names: &mut IndexSet<DwarfObject>,
         new: &NewUnits<'_>,
-        template: IndexEntry,
+        shared: IndexEntry,
     ) -> Result<(), Error>
-        ensures strings { self.new.strings ≡ self.old.strings }
+        ensures meaning { OnOk result (package_of self.new names.new.keys ≡ spec.with_new_units shared (package_of self.old names.old.keys) (new_of new.now).units) }
+        ensures refused { IfErr result (λ e. e ≡ Error.Memory) }
+        ensures extends { (before : spec.Package) → spec.Extends before (package_of self.old names.old.keys) → spec.Extends before (package_of self.new names.new.keys) }
     {
-        for (name, unit) in new.names.iter().zip(new.units.iter()) {
-            let mut row = template;
-            row.id = *name;
-            if let Some(range) = self.object.append(unit.kind, unit.bytes)? {
-                set_range(&mut row, unit.kind, range);
-            }
-            self.rows.push(row)?;
-            contained.insert(*name)?;
+        for (name, unit) in new.units.iter() {
+            self.add_unit(names, *name, *unit, shared)?;
         }
         Ok(())
     }
 
-    fn mark(&self, contained: &IndexSet<DwarfObject>) -> Result<Mark, Error>
-        ensures strings { IfOk result (λ mark. mark.strings ≡ mark_of self.now.strings) }
+    // Adds a unit.
+    #[tactic(auto, unfolding(crate::specs::State::with_new_unit))]
+    fn add_unit(
+        &mut self,
+        names: &mut IndexSet<DwarfObject>,
+        name: DwarfObject,
+        unit: NewUnit<'_>,
+        shared: IndexEntry,
+    ) -> Result<(), Error>
+        ensures meaning { OnOk result (package_of self.new names.new.keys ≡ spec.with_new_unit shared (package_of self.old names.old.keys) (name, new_unit unit.entry)) }
+        ensures refused { IfErr result (λ e. e ≡ Error.Memory) }
+        ensures extends { (before : spec.Package) → spec.Extends before (package_of self.old names.old.keys) → spec.Extends before (package_of self.new names.new.keys) }
     {
-        let sections = self.object.sections();
+        let range = put(&mut self.object, kind_at(unit.place), unit.bytes)?;
+        let mut row = shared;
+        row.id = name;
+        match unit.place {
+            UnitSection::Info => row.debug_info = range,
+            UnitSection::Types => row.debug_types = range,
+        }
+        self.rows.push(row)?;
+        names.insert(name)?;
+        Ok(())
+    }
+
+    // How much of the package there is. It refuses for memory alone.
+    fn mark(&self, names: &IndexSet<DwarfObject>) -> Result<Mark, Error>
+        ensures mark { IfOk result (λ mark. mark_in mark ≡ spec.mark_of (package_of self.now names.now.keys)) }
+        ensures strings { IfOk result (λ mark. mark.strings ≡ mark_of self.now.strings) }
+        ensures refused { IfErr result (λ e. e ≡ Error.Memory) }
+    {
         Ok(Mark {
-            sizes: sections
-                .iter()
-                .map(|section| section.1.len())
-                .collect(self.alloc)?,
+            lengths: lengths(self.alloc, &self.object)?,
             strings: self.strings.mark(),
+            names: names.len(),
             rows: self.rows.len(),
             differing: self.differing.len(),
-            contained: contained.len(),
         })
     }
 
-    fn restore(&mut self, contained: &mut IndexSet<DwarfObject>, mark: &Mark)
+    // Takes back what was added since.
+    fn restore(&mut self, names: &mut IndexSet<DwarfObject>, mark: &Mark)
         requires { mark.now.strings ≡ mark_of (take mark.now.strings.strings self.old.strings) }
+        ensures { (before : spec.Package) → spec.Extends before (package_of self.old names.old.keys) → mark_in mark.now ≡ spec.mark_of before → package_of self.new names.new.keys ≡ before }
     {
-        self.object.truncate(&mark.sizes);
+        restore(&mut self.object, &mark.lengths);
         self.strings.truncate(mark.strings);
         self.rows.truncate(mark.rows);
         self.differing.truncate(mark.differing);
-        contained.truncate(mark.contained);
+        names.truncate(mark.names);
     }
 
     /// The sections with the strings and both indexes, each where it isn't empty. Refuses as
@@ -284,51 +231,5 @@ impl InProgressDwarfPackage {
         )?;
         object.append(SectionKind::TuIndex, &write_index(alloc, order, &types)?)?;
         Ok(object)
-    }
-}
-
-// Whether packages of an encoding's version have a column for a kind of section.
-fn is_in_format(encoding: Encoding, kind: SectionKind) -> bool {
-    match kind {
-        SectionKind::Loclists | SectionKind::Rnglists => encoding.is_std_dwarf_package_format(),
-        SectionKind::Types | SectionKind::Loc | SectionKind::Macinfo => {
-            encoding.is_gnu_extension_dwarf_package_format()
-        }
-        _ => true,
-    }
-}
-
-// A row with no ranges.
-fn empty_row(encoding: Encoding) -> IndexEntry {
-    IndexEntry {
-        encoding,
-        id: DwarfObject::Compilation(DwoId(0)),
-        debug_info: None,
-        debug_types: None,
-        debug_abbrev: None,
-        debug_line: None,
-        debug_loc: None,
-        debug_loclists: None,
-        debug_rnglists: None,
-        debug_str_offsets: None,
-        debug_macinfo: None,
-        debug_macro: None,
-    }
-}
-
-// Sets the range of a kind of section.
-fn set_range(row: &mut IndexEntry, kind: SectionKind, range: Contribution) {
-    match kind {
-        SectionKind::Info => row.debug_info = Some(range),
-        SectionKind::Types => row.debug_types = Some(range),
-        SectionKind::Abbrev => row.debug_abbrev = Some(range),
-        SectionKind::Line => row.debug_line = Some(range),
-        SectionKind::Loc => row.debug_loc = Some(range),
-        SectionKind::Loclists => row.debug_loclists = Some(range),
-        SectionKind::Rnglists => row.debug_rnglists = Some(range),
-        SectionKind::StrOffsets => row.debug_str_offsets = Some(range),
-        SectionKind::Macinfo => row.debug_macinfo = Some(range),
-        SectionKind::Macro => row.debug_macro = Some(range),
-        SectionKind::Str | SectionKind::CuIndex | SectionKind::TuIndex => {}
     }
 }

@@ -1,82 +1,180 @@
-//! The units of a plain object.
+//! The units that a plain object adds to a package.
 
+ghost use Rattle.std.specs.Prelude.{◌≡◌, [], option_map};
+ghost use Rattle.dwp_elf.specs.Contents.{content_of};
+ghost use Rattle.dwp_index.specs.Package.{part_of};
+ghost use Rattle.dwp_dwarf.specs.Units.{unit_seen};
+ghost use Rattle.dwp_reader.specs.Input.{section as input_of};
+ghost use Rattle.thorin_faults.specs.Answers.{Gives};
+ghost use Rattle.thorin.specs.NewUnits as spec;
+ghost use Rattle.thorin.specs.UnitView.{new_unit, new_of, held_of};
+ghost use Rattle.thorin.specs.View as view;
+
+use crate::growing::content;
 use crate::identity::dwo_identifier_of_unit;
 use crate::object::{InputObject, UsedSection};
-use crate::state::InProgressDwarfPackage;
-use dwp_base::SectionKind;
-use dwp_dwarf::{SliceReader, UnitHeaders, UnitSection};
+use dwp_base::{Contribution, SectionKind};
+use dwp_dwarf::{ReadError, Reader, SliceReader, UnitHeader, UnitHeaders, UnitSection};
+use dwp_elf::WritableObject;
 use dwp_table::{Bucketable, DebugTypeSignature, DwarfObject};
-use indexmap::IndexSet;
+use indexmap::{IndexMap, IndexSet};
 use std::alloc::Global;
 use thorin_faults::Error;
+use thorin_parts::IndexEntry;
 
-/// A unit that goes into the package: its bytes, and whether they go to types or to info.
+/// A unit that is added: whether it goes to info or to types, and its bytes.
 #[derive(Clone, Copy)]
 pub(crate) struct NewUnit<'a> {
-    pub kind: SectionKind,
+    pub place: UnitSection,
     pub bytes: &'a [u8],
 }
 
-/// What an input adds to the package: its units that aren't contained yet, in file order.
+/// What an object adds to the package: its units that aren't contained yet, in file order.
 #[derive(Drop)]
 pub(crate) struct NewUnits<'a> {
-    pub names: IndexSet<DwarfObject>,
-    pub units: Vec<NewUnit<'a>>,
+    pub units: IndexMap<DwarfObject, NewUnit<'a>>,
     /// The signatures of type units that were passed over and differ from those that are kept.
     pub differing: Vec<DebugTypeSignature>,
 }
 
+/// What a package holds: the names of its units, a row for each, and the contents.
+#[derive(Clone, Copy)]
+pub(crate) struct Held<'p> {
+    pub names: &'p IndexSet<DwarfObject>,
+    pub rows: &'p [IndexEntry],
+    pub file: &'p WritableObject,
+}
+
+// The bytes of a range of a section's content; none where it is absent or outside.
+fn part_of(content: &[u8], range: Option<Contribution>) -> &[u8]
+    ensures { result.now ≡ part_of content.now range }
+{
+    let Some(range) = range else {
+        return &[];
+    };
+    let size = content.len() as u64;
+    if range.offset.0 > size || size - range.offset.0 < range.size {
+        return &[];
+    }
+    let start = range.offset.0 as usize;
+    &content[start..start + range.size as usize]
+}
+
+impl<'p> Held<'p> {
+    // The bytes of the unit of a row.
+    fn row_bytes(self, row: &IndexEntry) -> &'p [u8]
+        ensures { result.now ≡ spec.row_bytes (held_of self.entry).contents row.now }
+    {
+        match row.debug_types {
+            Some(range) => part_of(content(self.file, SectionKind::Types), Some(range)),
+            None => part_of(content(self.file, SectionKind::Info), row.debug_info),
+        }
+    }
+
+    // The bytes of the unit of a name that is held.
+    fn bytes(self, name: DwarfObject) -> Option<&'p [u8]>
+        ensures { option_map (λ bytes. bytes.now) result ≡ spec.held_bytes (held_of self.entry) name }
+    {
+        let place = self.names.get_index_of(&name)?;
+        match self.rows.get(place) {
+            Some(row) => Some(self.row_bytes(row)),
+            None => Some(&[]),
+        }
+    }
+}
+
+// Type units go where they stand, every other unit to info.
+fn place_for(name: DwarfObject, kind: SectionKind) -> UnitSection
+    ensures { result ≡ spec.place_for name kind }
+{
+    match (name, kind) {
+        (DwarfObject::TypeUnit(_), SectionKind::Types) => UnitSection::Types,
+        _ => UnitSection::Info,
+    }
+}
+
+// The kinds of section that units stand in.
+fn unit_section(kind: SectionKind) -> Option<UnitSection>
+    ensures { result ≡ spec.unit_section kind }
+{
+    match kind {
+        SectionKind::Info => Some(UnitSection::Info),
+        SectionKind::Types => Some(UnitSection::Types),
+        _ => None,
+    }
+}
+
 impl<'a> NewUnits<'a> {
-    /// The new units of a plain object, or its first fault: `ParseUnitHeader`, what
+    /// The units that a plain object adds to what is held, or its first fault: `ParseUnitHeader`, what
     /// `dwo_identifier_of_unit` answers, `NotSplitUnit`, `DuplicateUnit`, `EmptyUnit`.
     pub fn read(
         alloc: Global,
         object: &InputObject<'a>,
-        package: &InProgressDwarfPackage,
-        contained: &IndexSet<DwarfObject>,
-    ) -> Result<NewUnits<'a>, Error> {
+        held: Held<'_>,
+    ) -> Result<NewUnits<'a>, Error>
+        ensures { Gives new_of result (spec.new_units (view.object object.now) (held_of held.entry)) }
+    {
         let mut new = NewUnits {
-            names: IndexSet::new(alloc),
-            units: Vec::new(alloc),
+            units: IndexMap::new(alloc),
             differing: Vec::new(alloc),
         };
-        let abbreviations = SliceReader::new(object.first(SectionKind::Abbrev), object.order);
         for section in &object.sections {
-            let unit_section = match section.kind {
-                SectionKind::Info => UnitSection::Info,
-                SectionKind::Types => UnitSection::Types,
-                _ => continue,
-            };
-            let reader = SliceReader::new(section.bytes, object.order);
-            let units = UnitHeaders::new(reader, unit_section);
-            for header in units {
-                let header = header.map_err(Error::ParseUnitHeader)?;
-                let name = dwo_identifier_of_unit(&abbreviations, &header)?;
-                let name = name.ok_or(Error::NotSplitUnit)?;
-                new.take(name, section, header.bytes().slice(), package, contained)?;
-            }
+            new.add_section(object, held, *section)?;
         }
         Ok(new)
     }
 
-    // Takes a unit in, or passes over a type unit that is contained.
-    fn take(
+    // Adds the units of a section.
+    #[tactic(auto, unfolding(crate::specs::NewUnits::with_section))]
+    fn add_section(
         &mut self,
+        object: &InputObject<'a>,
+        held: Held<'_>,
+        section: UsedSection<'a>,
+    ) -> Result<(), Error>
+        ensures { Gives (λ _. new_of self.new) result (spec.with_section (view.object object.now) (held_of held.entry) (new_of self.old) (view.used section.entry)) }
+    {
+        let Some(place) = unit_section(section.kind) else {
+            return Ok(());
+        };
+        let reader = SliceReader::new(section.bytes, object.order);
+        for read in UnitHeaders::new(reader, place) {
+            self.add_read(object, held, section, read)?;
+        }
+        Ok(())
+    }
+
+    // Adds the unit that was read next.
+    #[tactic(auto, unfolding(crate::specs::NewUnits::with_read))]
+    fn add_read(
+        &mut self,
+        object: &InputObject<'a>,
+        held: Held<'_>,
+        section: UsedSection<'a>,
+        read: Result<UnitHeader<SliceReader<'a>>, ReadError>,
+    ) -> Result<(), Error>
+        ensures { Gives (λ _. new_of self.new) result (spec.with_read (view.object object.now) (held_of held.entry) (view.used section.entry) (new_of self.old) (unit_seen ⟦<SliceReader<'a> as Reader>⟧.input read.entry)) }
+    {
+        let header = read.map_err(Error::ParseUnitHeader)?;
+        let abbreviations = SliceReader::new(object.first(SectionKind::Abbrev), object.order);
+        let name = dwo_identifier_of_unit(&abbreviations, &header)?.ok_or(Error::NotSplitUnit)?;
+        self.add_unit(held, section, name, header.bytes().slice())
+    }
+
+    // Adds a unit, or passes over a type unit that is kept already.
+    #[tactic(auto, unfolding(crate::specs::NewUnits::with_unit))]
+    fn add_unit(
+        &mut self,
+        held: Held<'_>,
+        section: UsedSection<'a>,
         name: DwarfObject,
-        section: &UsedSection<'a>,
         bytes: &'a [u8],
-        package: &InProgressDwarfPackage,
-        contained: &IndexSet<DwarfObject>,
-    ) -> Result<(), Error> {
-        let kept = match self.names.get_index_of(&name) {
-            Some(place) => match self.units.get(place) {
-                Some(unit) => Some(unit.bytes),
-                None => None,
-            },
-            None => match contained.get_index_of(&name) {
-                Some(place) => Some(package.unit_bytes(place)),
-                None => None,
-            },
+    ) -> Result<(), Error>
+        ensures { Gives (λ _. new_of self.new) result (spec.with_unit (spec.kept_bytes (held_of held.entry) (new_of self.old).units name) (view.used section.entry) name bytes.now (new_of self.old)) }
+    {
+        let kept = match self.units.get(&name) {
+            Some(unit) => Some(unit.bytes),
+            None => held.bytes(name),
         };
         match (kept, name) {
             (Some(_), DwarfObject::Compilation(id)) => Err(Error::DuplicateUnit(id.0)),
@@ -90,18 +188,10 @@ impl<'a> NewUnits<'a> {
                 if section.address != 0 {
                     return Err(Error::EmptyUnit(name.index()));
                 }
-                self.push(name, section.kind, bytes)
+                let place = place_for(name, section.kind);
+                self.units.insert(name, NewUnit { place, bytes })?;
+                Ok(())
             }
         }
-    }
-
-    fn push(&mut self, name: DwarfObject, kind: SectionKind, bytes: &'a [u8]) -> Result<(), Error> {
-        let kind = match (name, kind) {
-            (DwarfObject::TypeUnit(_), SectionKind::Types) => SectionKind::Types,
-            _ => SectionKind::Info,
-        };
-        self.units.push(NewUnit { kind, bytes })?;
-        self.names.insert(name)?;
-        Ok(())
     }
 }

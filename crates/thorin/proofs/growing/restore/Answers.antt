@@ -1,0 +1,7 @@
+use Rattle.std.proofs.Common.{◌≡◌, ◌∙◌, ap}
+use Rattle.dwp_elf.specs.Contents.{truncated}
+use Rattle.thorin.proofs.Growth.{truncated-begins}
+use Rattle.thorin.proofs.growing.restore.Goals as goal
+
+pub returns : goal.returns
+returns c before grown same = rw (c.truncate.ensures, same, truncated-begins before.contents c.args.file.now.contents grown.contents, grown.class, grown.machine, grown.order)

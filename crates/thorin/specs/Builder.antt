@@ -1,0 +1,92 @@
+-- What each input does to a package that is made, and what is written of it (DWARF 5, 7.3.5; the GNU page DebugFissionDWP).
+use Rattle.std.specs.Prelude.{◌≡◌, ℕ, Bool, true, false, not, List, [], ◌∷◌, Option, Some, None, Result, Ok, Err, unwrap_or, filter, find, if◌then◌else◌}
+use Rattle.std.specs.List.{list_any}
+use Rattle.std.specs.Option.{ok_or, option_map_or}
+use Rattle.dwp_base.specs.declared.endian.Endianness.{Endianness}
+use Rattle.dwp_base.specs.declared.endian.Endianness.TheVariants.{Little, Big}
+use Rattle.dwp_base.specs.declared.section.SectionKind.TheVariants.{Info, Str, CuIndex, TuIndex}
+use Rattle.dwp_base.specs.Reading.{◌>>=◌}
+use Rattle.dwp_elf.specs.FileText.{Object as File}
+use Rattle.dwp_elf_read.specs.Elf.{Elf}
+use Rattle.dwp_reader.specs.Input.{section}
+use Rattle.dwp_reader.specs.declared.encoding.Encoding.{Encoding}
+use Rattle.dwp_reader.specs.declared.fault.ReadError.{ReadError}
+use Rattle.dwp_dwarf.specs.Units.{Unit as DwarfUnit, units}
+use Rattle.dwp_dwarf.specs.declared.header.UnitSection.TheVariants as places
+use Rattle.dwp_table.specs.Objects.{identifier_of}
+use Rattle.dwp_table.specs.declared.object.DwarfObject.{DwarfObject}
+use Rattle.dwp_table.specs.declared.object.DwarfObject.TheVariants.{Compilation, TypeUnit}
+use Rattle.thorin_strings.specs.Strings.{data_of}
+use Rattle.thorin_parts.specs.declared.entry.IndexEntry.{IndexEntry}
+use Rattle.thorin_parts.specs.EntryTests.{index_tests}
+use Rattle.thorin_parts.specs.IndexText.{IsIndexOf}
+use Rattle.thorin_faults.specs.Fault.{Fault, ParseUnitHeader, NoCompilationUnits, MixedInputEncodings, NotYet, MissingReferencedUnit, NoOutputObjectCreated}
+use Rattle.thorin_faults.specs.Answers.{as_fault}
+use Rattle.thorin.specs.Growing.{Contents, with_bytes}
+use Rattle.thorin.specs.NewUnits.{same_name}
+use Rattle.thorin.specs.State.{Package, empty, with_object}
+use Rattle.thorin.specs.Used.{Object, opened, has_info, object_of, first, is_package}
+
+-- a builder: the package, where an input has begun one, and the units that executables refer to
+pub record State : Type 0 where
+  pub begun : Option Package
+  pub targets : List DwarfObject
+
+-- nothing has begun
+abbrev pub start : State
+start = record { begun = None; targets = [] }
+
+-- the package that a file begins
+abbrev pub begun_by : Elf → Package
+begun_by file = empty file.class file.machine file.order
+
+abbrev pub package_or_new : Elf → Option Package → Package
+package_or_new file begun = unwrap_or begun (begun_by file)
+
+-- the encoding of an input is that of its first unit
+abbrev pub first_encoding : List (Result DwarfUnit ReadError) → Result Encoding Fault
+first_encoding [] = Err NoCompilationUnits
+first_encoding (Ok unit ∷ others) = Ok unit.encoding
+first_encoding (Err e ∷ others) = Err (ParseUnitHeader e)
+
+unfoldable pub encoding_of : Object → Result Encoding Fault
+encoding_of object = first_encoding (units places.Info (section object.order (first Info object.sections)))
+
+abbrev pub same_order : Endianness → Endianness → Bool
+same_order Little Little = true
+same_order Big Big = true
+same_order _ _ = false
+
+-- an input has the byte order of the package
+abbrev pub order_of : Option Package → Endianness → Endianness
+order_of None order = order
+order_of (Some made) order = made.file.order
+
+unfoldable pub order_test : Endianness → Option Package → Result (Unit {0}) Fault
+order_test order begun = if same_order (order_of begun order) order then Ok tt else Err MixedInputEncodings
+
+-- a finished package as an input isn't taken yet
+unfoldable pub plain_test : Object → Result (Unit {0}) Fault
+plain_test object = if is_package object.sections then Err NotYet else Ok tt
+
+-- what an object with units makes of a package
+unfoldable pub with_units : Elf → Option Package → Result (Option Package) Fault
+with_units file begun = do
+  object ← object_of file
+  encoding ← encoding_of object
+  _ ← order_test object.order begun
+  _ ← plain_test object
+  made ← with_object object encoding (package_or_new file begun)
+  Ok (Some made)
+
+-- what an object's bytes make of a package, or the first fault; without an info section they only begin it
+unfoldable pub with_bytes_of : List ℕ → Option Package → Result (Option Package) Fault
+with_bytes_of bytes begun = do
+  file ← opened bytes
+  if has_info file then with_units file begun else Ok (Some (package_or_new file begun))
+
+-- the state once an object was taken
+unfoldable pub taken : List ℕ → State → Result State Fault
+taken bytes state = do
+  begun ← with_bytes_of bytes state.begun
+  Ok (record state { begun = begun })

@@ -1,0 +1,68 @@
+-- What a plain object adds to the sections of a package beside its units (DWARF 5, 7.3.5; the GNU page DebugFissionDWP).
+use Rattle.std.specs.Prelude.{ℕ, Bool, true, false, ◌&&◌, not, nat_le, List, [], ◌∷◌, ◌++◌, length, Result, Ok, Err, if◌then◌else◌}
+use Rattle.std.specs.List.{list_any}
+use Rattle.dwp_base.specs.declared.section.SectionKind.{SectionKind}
+use Rattle.dwp_base.specs.declared.section.SectionKind.TheVariants.{Info, Types, Abbrev, Line, Loc, Loclists, Rnglists, StrOffsets, Macinfo, Macro, Str, CuIndex, TuIndex}
+use Rattle.dwp_base.specs.Reading.{◌>>=◌}
+use Rattle.dwp_base.specs.Sections.{name_of, same_kind}
+use Rattle.dwp_reader.specs.declared.encoding.Encoding.{Encoding}
+use Rattle.thorin_strings.specs.StringOffsets.{remapped}
+use Rattle.thorin_faults.specs.Fault.{Fault, MissingRequiredSection, RepeatedSection, SectionOutsideFormat}
+use Rattle.thorin.specs.Growing.{Contents}
+use Rattle.thorin.specs.Used.{Used, Object, first}
+
+-- packages of an encoding's version have the section: location and range lists of DWARF 5 from version 5 on, type units,
+-- location lists and macros of older versions below it
+abbrev pub is_in_format : Encoding → SectionKind → Bool
+is_in_format encoding Loclists = nat_le 5 encoding.version
+is_in_format encoding Rnglists = nat_le 5 encoding.version
+is_in_format encoding Types = not (nat_le 5 encoding.version)
+is_in_format encoding Loc = not (nat_le 5 encoding.version)
+is_in_format encoding Macinfo = not (nat_le 5 encoding.version)
+is_in_format encoding _ = true
+
+-- a section that goes to the package whole and as it is
+abbrev pub is_copied : SectionKind → Bool
+is_copied Abbrev = true
+is_copied Line = true
+is_copied Loc = true
+is_copied Loclists = true
+is_copied Rnglists = true
+is_copied Macinfo = true
+is_copied Macro = true
+is_copied _ = false
+
+-- the parts so far, and the distinct strings so far
+abbrev pub Parts : Type 0
+Parts = Contents × List (List ℕ)
+
+-- a part for string offsets is there
+abbrev pub has_offsets : Contents → Bool
+has_offsets parts = list_any (λ part. same_kind part.0 StrOffsets) parts
+
+-- the parts with string offsets that name their strings among the distinct ones
+unfoldable pub with_offsets : Object → Encoding → Parts → List ℕ → Result Parts Fault
+with_offsets object encoding before bytes =
+    if nat_le 5 encoding.version && has_offsets before.0 then Err (RepeatedSection (name_of StrOffsets))
+    else (if not object.has_strings then Err (MissingRequiredSection (name_of Str))
+    else (remapped object.order encoding (first Str object.sections) bytes (length bytes) before.1
+        >>= λ written. Ok (before.0 ++ (StrOffsets, written.0) ∷ [], written.1)))
+
+-- the parts with what a section adds
+unfoldable pub with_part : Object → Encoding → Parts → Used → Result Parts Fault
+with_part object encoding before section =
+    if not (is_in_format encoding section.kind) then Err (SectionOutsideFormat (name_of section.kind))
+    else (if same_kind section.kind StrOffsets then with_offsets object encoding before section.bytes
+    else (if is_copied section.kind then Ok (before.0 ++ (section.kind, section.bytes) ∷ [], before.1)
+    else Ok before))
+
+-- the same for each of these sections, in file order
+unfoldable pub with_each_part : Object → Encoding → Parts → List Used → Result Parts Fault
+with_each_part object encoding before [] = Ok before
+with_each_part object encoding before (section ∷ sections) = do
+  next ← with_part object encoding before section
+  with_each_part object encoding next sections
+
+-- the parts of an object, and the distinct strings after those before
+abbrev pub parts_of : Object → Encoding → List (List ℕ) → Result Parts Fault
+parts_of object encoding strings = with_each_part object encoding ([], strings) object.sections
