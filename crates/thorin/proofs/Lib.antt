@@ -1,3 +1,5 @@
 pub mod Sections
 pub mod Growth
 pub mod PartLemmas
+pub mod Names
+pub mod NewUnitLemmas

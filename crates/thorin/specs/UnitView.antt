@@ -3,6 +3,8 @@ use Rattle.std.specs.Prelude.{map}
 use Rattle.thorin.specs.declared.units.NewUnit.{NewUnit}
 use Rattle.thorin.specs.declared.units.NewUnits.{NewUnits}
 use Rattle.thorin.specs.declared.units.Held.{Held}
+use Rattle.dwp_reader.specs.Input.{Input}
+use Rattle.dwp_reader.specs.declared.slice.SliceReader.{SliceReader}
 use Rattle.thorin.specs.NewUnits as spec
 
 abbrev pub new_unit : NewUnit → spec.NewUnit
@@ -13,3 +15,7 @@ new_of n = record { units = map (λ e. (e.0, new_unit e.1)) n.units.entries; dif
 
 abbrev pub held_of : Held → spec.Held
 held_of h = record { names = h.names.now.keys; rows = h.rows.now; contents = h.file.now.contents }
+
+-- what a reader of a section has left
+abbrev pub left_in : SliceReader → Input
+left_in r = record { order = r.order; relocated = λ place stored. stored; place = r.place; bytes = r.bytes.now }

@@ -107,6 +107,7 @@ fn unit_section(kind: SectionKind) -> Option<UnitSection>
 impl<'a> NewUnits<'a> {
     /// The units that a plain object adds to what is held, or its first fault: `ParseUnitHeader`, what
     /// `dwo_identifier_of_unit` answers, `NotSplitUnit`, `DuplicateUnit`, `EmptyUnit`.
+    #[tactic(auto, unfolding(crate::specs::NewUnits::with_each_section))]
     pub fn read(
         alloc: Global,
         object: &InputObject<'a>,
@@ -125,7 +126,7 @@ impl<'a> NewUnits<'a> {
     }
 
     // Adds the units of a section.
-    #[tactic(auto, unfolding(crate::specs::NewUnits::with_section))]
+    #[tactic(auto, unfolding(crate::specs::NewUnits::with_section, crate::specs::NewUnits::with_each_read))]
     fn add_section(
         &mut self,
         object: &InputObject<'a>,
@@ -161,6 +162,16 @@ impl<'a> NewUnits<'a> {
         self.add_unit(held, section, name, header.bytes().slice())
     }
 
+    // The bytes that are kept for a name: those of a unit that is added, else those that are held.
+    fn kept_bytes<'x>(&'x self, held: Held<'x>, name: DwarfObject) -> Option<&'x [u8]>
+        ensures { option_map (λ bytes. bytes.now) result ≡ spec.kept_bytes (held_of held.entry) (new_of self.now).units name }
+    {
+        match self.units.get(&name) {
+            Some(unit) => Some(unit.bytes),
+            None => held.bytes(name),
+        }
+    }
+
     // Adds a unit, or passes over a type unit that is kept already.
     #[tactic(auto, unfolding(crate::specs::NewUnits::with_unit))]
     fn add_unit(
@@ -172,10 +183,7 @@ impl<'a> NewUnits<'a> {
     ) -> Result<(), Error>
         ensures { Gives (λ _. new_of self.new) result (spec.with_unit (spec.kept_bytes (held_of held.entry) (new_of self.old).units name) (view.used section.entry) name bytes.now (new_of self.old)) }
     {
-        let kept = match self.units.get(&name) {
-            Some(unit) => Some(unit.bytes),
-            None => held.bytes(name),
-        };
+        let kept = self.kept_bytes(held, name);
         match (kept, name) {
             (Some(_), DwarfObject::Compilation(id)) => Err(Error::DuplicateUnit(id.0)),
             (Some(kept), DwarfObject::TypeUnit(signature)) => {
