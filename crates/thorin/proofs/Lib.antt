@@ -3,3 +3,4 @@ pub mod Growth
 pub mod PartLemmas
 pub mod Names
 pub mod NewUnitLemmas
+pub mod Extending

@@ -109,7 +109,7 @@ impl InProgressDwarfPackage {
     }
 
     // The same, but an `Err` may leave more than there was.
-    #[tactic(auto, unfolding(crate::specs::State::with_object, crate::specs::State::with_all, crate::specs::State::abbreviations_test))]
+    #[tactic(auto, unfolding(crate::specs::State::with_object, crate::specs::State::abbreviations_test))]
     fn try_add_plain(
         &mut self,
         names: &mut IndexSet<DwarfObject>,
@@ -133,10 +133,12 @@ impl InProgressDwarfPackage {
         put_parts(&mut self.object, &parts)?;
         self.differing.extend_from_slice(&new.differing)?;
         let shared = shared_row(encoding, &before, &sizes_of(&self.object));
-        self.add_units(names, &new, shared)
+        self.add_units(names, &new, shared)?;
+        Ok(())
     }
 
     // Adds units whose rows share what the row has.
+    #[tactic(auto, unfolding(crate::specs::State::with_new_units))]
     fn add_units(
         &mut self,
         names: &mut IndexSet<DwarfObject>,
