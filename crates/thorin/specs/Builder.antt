@@ -69,6 +69,12 @@ order_test order begun = if same_order (order_of begun order) order then Ok tt e
 unfoldable pub plain_test : Object → Result (Unit {0}) Fault
 plain_test object = if is_package object.sections then Err NotYet else Ok tt
 
+-- the package with the units of a plain object
+unfoldable pub with_plain : Elf → Object → Encoding → Option Package → Result (Option Package) Fault
+with_plain file object encoding begun = do
+  made ← with_object object encoding (package_or_new file begun)
+  Ok (Some made)
+
 -- what an object with units makes of a package
 unfoldable pub with_units : Elf → Option Package → Result (Option Package) Fault
 with_units file begun = do
@@ -76,17 +82,68 @@ with_units file begun = do
   encoding ← encoding_of object
   _ ← order_test object.order begun
   _ ← plain_test object
-  made ← with_object object encoding (package_or_new file begun)
-  Ok (Some made)
+  with_plain file object encoding begun
 
 -- what an object's bytes make of a package, or the first fault; without an info section they only begin it
-unfoldable pub with_bytes_of : List ℕ → Option Package → Result (Option Package) Fault
-with_bytes_of bytes begun = do
+unfoldable pub with_input : List ℕ → Option Package → Result (Option Package) Fault
+with_input bytes begun = do
   file ← opened bytes
   if has_info file then with_units file begun else Ok (Some (package_or_new file begun))
 
 -- the state once an object was taken
 unfoldable pub taken : List ℕ → State → Result State Fault
 taken bytes state = do
-  begun ← with_bytes_of bytes state.begun
+  begun ← with_input bytes state.begun
   Ok (record state { begun = begun })
+
+-- the names of a package's units, in order of acceptance
+abbrev pub names_in : Option Package → List DwarfObject
+names_in None = []
+names_in (Some made) = made.names
+
+-- whether a name is that of a compilation unit
+abbrev pub is_compilation : DwarfObject → Bool
+is_compilation (Compilation id) = true
+is_compilation (TypeUnit signature) = false
+
+-- the rows of compilation units, and those of type units
+abbrev pub compilations : List IndexEntry → List IndexEntry
+compilations rows = filter (λ row. is_compilation row.id) rows
+
+abbrev pub type_units : List IndexEntry → List IndexEntry
+type_units rows = filter (λ row. not (is_compilation row.id)) rows
+
+-- each unit that executables refer to is there; the first that isn't is named
+abbrev pub is_missing : List DwarfObject → DwarfObject → Bool
+is_missing names target = not (list_any (same_name target) names)
+
+abbrev pub none_missing : Option DwarfObject → Result (Unit {0}) Fault
+none_missing None = Ok tt
+none_missing (Some target) = Err (MissingReferencedUnit (identifier_of target))
+
+unfoldable pub targets_test : List DwarfObject → List DwarfObject → Result (Unit {0}) Fault
+targets_test names targets = none_missing (find (is_missing names) targets)
+
+-- the tests of both indexes, the compilation index first
+unfoldable pub indexes_test : Package → Result (Unit {0}) Fault
+indexes_test made = do
+  _ ← index_tests (compilations made.rows)
+  index_tests (type_units made.rows)
+
+-- what is tested before a package is finished
+unfoldable pub finish_test : State → Result Package Fault
+finish_test state = do
+  _ ← targets_test (names_in state.begun) state.targets
+  made ← ok_or state.begun NoOutputObjectCreated
+  _ ← indexes_test made
+  Ok made
+
+-- the contents with the strings and both indexes, each where it isn't empty
+pub record IsFinished (made : Package) (file : File) : Type 0 where
+  pub compilation_index : List ℕ
+  pub type_index : List ℕ
+  pub compilations : IsIndexOf made.file.order (compilations made.rows) compilation_index
+  pub types : IsIndexOf made.file.order (type_units made.rows) type_index
+  pub contents : file ≡ record made.file {
+    contents = with_bytes TuIndex type_index (with_bytes CuIndex compilation_index (with_bytes Str (data_of made.strings) made.file.contents));
+  }

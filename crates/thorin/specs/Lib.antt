@@ -8,3 +8,5 @@ pub mod UnitView
 pub mod State
 pub mod StateView
 pub mod Builder
+pub mod Building
+pub mod BuilderView

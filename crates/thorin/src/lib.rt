@@ -1,6 +1,7 @@
 //! Joining split DWARF objects into one package (DWARF 5, 7.3.5; the GNU page DebugFissionDWP).
 #![tactic(auto)]
 
+mod adding;
 mod growing;
 mod identity;
 mod object;

@@ -1,15 +1,18 @@
 //! The package builder.
 
-use crate::object::{InputObject, has_info, opened};
+ghost use Rattle.std.specs.Prelude.{◌≡◌, OnErr};
+ghost use Rattle.thorin_faults.specs.Answers.{Gives};
+ghost use Rattle.thorin.specs.Builder as spec;
+
+use crate::adding::add_input;
 use crate::state::InProgressDwarfPackage;
 use dwp_elf::WritableObject;
-use dwp_elf_read::ElfFile;
 use dwp_reader::RelocationEntry;
 use dwp_table::{Bucketable, DwarfObject};
 use indexmap::IndexSet;
 use std::alloc::Global;
 use std::fmt;
-use std::marker::PhantomData;
+use std::marker::{Model, PhantomData};
 use std::path::Path;
 use thorin_faults::{Error, InputError, Session};
 
@@ -22,6 +25,23 @@ pub struct DwarfPackage<'output, 'session: 'output, Sess: Session<RelocationEntr
     contained: IndexSet<DwarfObject>,
     targets: IndexSet<DwarfObject>,
     output: PhantomData<&'output ()>,
+}
+
+impl<'output, 'session: 'output, Sess: Session<RelocationEntry>> Model for DwarfPackage<
+    'output,
+    'session,
+    Sess,
+> {
+    ghost use Rattle.thorin.specs.Building.{Building};
+
+    ghost Value = { Building Sess };
+
+    ghost use Rattle.thorin.specs.BuilderView.{building};
+    ghost use Rattle.thorin.specs.StateView.{NamesFit};
+
+    ghost view = { building };
+
+    ghost invariant = { λ p. NamesFit p.in_progress p.contained.keys };
 }
 
 impl<'output, 'session: 'output, Sess: Session<RelocationEntry>> fmt::Debug
@@ -40,7 +60,10 @@ impl<'output, 'session: 'output, Sess: Session<RelocationEntry>> DwarfPackage<
     Sess,
 > {
     /// A package that nothing has begun. It takes no memory.
-    pub fn new(alloc: Global, session: &'session Sess) -> Self {
+    pub fn new(alloc: Global, session: &'session Sess) -> Self
+        ensures session { result.session ≡ session.now }
+        ensures state { result.state ≡ spec.start }
+    {
         DwarfPackage {
             alloc,
             session,
@@ -66,36 +89,18 @@ impl<'output, 'session: 'output, Sess: Session<RelocationEntry>> DwarfPackage<
     /// package as it was; it is the first fault from left to right: of the file's kind, the ELF file,
     /// the used sections, the first unit, the byte order, the indexes, the kinds of sections and
     /// the string offsets, the abbreviations, the units.
-    pub fn add_object_bytes(&mut self, bytes: &'session [u8]) -> Result<(), Error> {
-        let file = opened(bytes)?;
-        if !has_info(&file) {
-            if self.in_progress.is_none() {
-                self.in_progress = Some(begun_by(self.alloc, &file));
-            }
-            return Ok(());
-        }
-        let object = InputObject::read(self.alloc, &file)?;
-        let encoding = object.encoding()?;
-        match &mut self.in_progress {
-            Some(package) => {
-                if package.endianness() != object.order {
-                    return Err(Error::MixedInputEncodings);
-                }
-                if object.is_package() {
-                    return Err(Error::NotYet);
-                }
-                package.add_plain(&mut self.contained, &object, encoding)
-            }
-            None => {
-                if object.is_package() {
-                    return Err(Error::NotYet);
-                }
-                let mut package = begun_by(self.alloc, &file);
-                package.add_plain(&mut self.contained, &object, encoding)?;
-                self.in_progress = Some(package);
-                Ok(())
-            }
-        }
+    #[tactic(auto, unfolding(crate::specs::Builder::taken))]
+    pub fn add_object_bytes(&mut self, bytes: &'session [u8]) -> Result<(), Error>
+        ensures meaning { Gives (λ _. self.new.state) result (spec.taken bytes.now self.old.state) }
+        ensures err { OnErr result (self.new.state ≡ self.old.state) }
+        ensures session { self.new.session ≡ self.old.session }
+    {
+        add_input(
+            self.alloc,
+            &mut self.in_progress,
+            &mut self.contained,
+            bytes,
+        )
     }
 
     /// The object to be written. Refuses with `MissingReferencedUnit` for the first unit that an
@@ -122,12 +127,9 @@ impl<'output, 'session: 'output, Sess: Session<RelocationEntry>> DwarfPackage<
     }
 
     /// The units that the package contains, in order of acceptance. It takes no memory.
-    pub fn contained_units(&self) -> &IndexSet<DwarfObject> {
+    pub fn contained_units(&self) -> &IndexSet<DwarfObject>
+        ensures { result.now.keys ≡ spec.names_in self.now.state.begun }
+    {
         &self.contained
     }
-}
-
-// A package of the class, machine and byte order of its first input.
-fn begun_by(alloc: Global, file: &ElfFile<'_>) -> InProgressDwarfPackage {
-    InProgressDwarfPackage::new(alloc, file.class(), file.machine(), file.endianness())
 }

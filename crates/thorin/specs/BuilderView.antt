@@ -1,0 +1,8 @@
+-- What a caller sees of a package builder: its session, and the state of the package.
+use Rattle.thorin.specs.declared.package.DwarfPackage.TheInside.{Inside}
+use Rattle.thorin.specs.Builder.{State}
+use Rattle.thorin.specs.Building.{Building}
+use Rattle.thorin.specs.StateView.{begun_of}
+
+abbrev pub building : {Sess : Type 0} → Inside Sess → Building Sess
+building p = record { session = p.session.now; state = record { begun = begun_of p.in_progress p.contained.keys; targets = p.targets.keys } }
