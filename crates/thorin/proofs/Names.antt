@@ -1,6 +1,7 @@
 -- The names of units: what `==` says of them.
-use Rattle.std.proofs.Common.{◌≡◌, ℕ, Bool, true, false, cond, List, [], ◌∷◌, refl, ap, map, Option, Some, None}
-use Rattle.std.specs.Prelude.{option_map, slice_get, position}
+use Rattle.std.proofs.Common.{◌≡◌, ◌∙◌, Bool, true, false, cond, List, [], ◌∷◌, refl, ap, map, Option, Some, None}
+use Rattle.std.specs.Prelude.{option_map, find}
+use Rattle.std.specs.List.{list_any}
 use Rattle.std.specs.Map.{lookup}
 use Rattle.dwp_table.specs.declared.object.DwarfObject.{DwarfObject}
 use Rattle.dwp_table.specs.declared.object.DwarfObject.TheVariants.{Compilation, TypeUnit}
@@ -26,3 +27,17 @@ lookup-here f e false found other h = h
 pub lookup-map : {K X Y : Type 0} (test : K → Bool) (f : X → Y) (es : List (K × X)) → lookup test (map (λ e. (e.0, f e.1)) es) ≡ option_map f (lookup test es)
 lookup-map test f [] = refl
 lookup-map test f (e ∷ es) = lookup-here f e (test e.0) (lookup test es) (lookup test (map (λ d. (d.0, f d.1)) es)) (lookup-map test f es)
+
+-- a name is among others
+pub among-is : (a : DwarfObject) (names : List DwarfObject) → list_any (derived.eq-value.it a) names ≡ list_any (same_name a) names
+among-is a names = ap (λ f. list_any f names) (same_name-is a)
+
+find-here : (test : DwarfObject → Bool) (x : DwarfObject) (xs : List DwarfObject) (b : Bool) → test x ≡ b → find test (x ∷ xs) ≡ cond b (Some x) (find test xs)
+find-here test x xs b h = ap (λ e. cond e (Some x) (find test xs)) h
+
+-- the first that passes is found, and one that doesn't is passed over
+pub find-first : (test : DwarfObject → Bool) (x : DwarfObject) (xs all : List DwarfObject) → all ≡ x ∷ xs → test x ≡ true → find test all ≡ Some x
+find-first test x xs all h t = ap (find test) h ∙ find-here test x xs true t
+
+pub find-next : (test : DwarfObject → Bool) (x : DwarfObject) (xs all : List DwarfObject) → all ≡ x ∷ xs → test x ≡ false → find test all ≡ find test xs
+find-next test x xs all h t = ap (find test) h ∙ find-here test x xs false t

@@ -107,11 +107,18 @@ is_compilation (Compilation id) = true
 is_compilation (TypeUnit signature) = false
 
 -- the rows of compilation units, and those of type units
+abbrev pub is_chosen : Bool → IndexEntry → Bool
+is_chosen true row = is_compilation row.id
+is_chosen false row = not (is_compilation row.id)
+
+abbrev pub rows_of : Bool → List IndexEntry → List IndexEntry
+rows_of compilations rows = filter (is_chosen compilations) rows
+
 abbrev pub compilations : List IndexEntry → List IndexEntry
-compilations rows = filter (λ row. is_compilation row.id) rows
+compilations rows = rows_of true rows
 
 abbrev pub type_units : List IndexEntry → List IndexEntry
-type_units rows = filter (λ row. not (is_compilation row.id)) rows
+type_units rows = rows_of false rows
 
 -- each unit that executables refer to is there; the first that isn't is named
 abbrev pub is_missing : List DwarfObject → DwarfObject → Bool
@@ -131,12 +138,11 @@ indexes_test made = do
   index_tests (type_units made.rows)
 
 -- what is tested before a package is finished
-unfoldable pub finish_test : State → Result Package Fault
+unfoldable pub finish_test : State → Result (Unit {0}) Fault
 finish_test state = do
   _ ← targets_test (names_in state.begun) state.targets
   made ← ok_or state.begun NoOutputObjectCreated
-  _ ← indexes_test made
-  Ok made
+  indexes_test made
 
 -- the contents with the strings and both indexes, each where it isn't empty
 pub record IsFinished (made : Package) (file : File) : Type 0 where
@@ -147,3 +153,9 @@ pub record IsFinished (made : Package) (file : File) : Type 0 where
   pub contents : file ≡ record made.file {
     contents = with_bytes TuIndex type_index (with_bytes CuIndex compilation_index (with_bytes Str (data_of made.strings) made.file.contents));
   }
+
+-- the package of a state, finished
+pub record IsFinishedState (state : State) (file : File) : Type 0 where
+  pub made : Package
+  pub begun : state.begun ≡ Some made
+  pub finished : IsFinished made file

@@ -10,3 +10,4 @@ pub mod StateView
 pub mod Builder
 pub mod Building
 pub mod BuilderView
+pub mod Run

@@ -1,8 +1,11 @@
 //! The package builder.
 
-ghost use Rattle.std.specs.Prelude.{◌≡◌, OnErr};
+ghost use Rattle.std.specs.Prelude.{◌≡◌, IfOk, OnErr};
 ghost use Rattle.thorin_faults.specs.Answers.{Gives};
+ghost use Rattle.std.specs.Path.{path_bytes};
 ghost use Rattle.thorin.specs.Builder as spec;
+ghost use Rattle.thorin.specs.Builder.{IsFinishedState};
+ghost use Rattle.thorin.specs.Run.{TakesFile};
 
 use crate::adding::add_input;
 use crate::state::InProgressDwarfPackage;
@@ -76,7 +79,10 @@ impl<'output, 'session: 'output, Sess: Session<RelocationEntry>> DwarfPackage<
 
     /// Adds the object that the session reads at a path: `ReadInput` where it can't, else as
     /// `add_object_bytes`. An `Err` leaves the package as it was.
-    pub fn add_input_object(&mut self, path: Path<'_>) -> Result<(), Error> {
+    pub fn add_input_object(&mut self, path: Path<'_>) -> Result<(), Error>
+        ensures taken { TakesFile (Sess.offer self.old.session (path_bytes path.entry)) self.old.state result self.new.state }
+        ensures session { self.new.session ≡ self.old.session }
+    {
         match self.session.read_input(path) {
             Ok(bytes) => self.add_object_bytes(bytes),
             Err(InputError::Io(e)) => Err(Error::ReadInput(e)),
@@ -106,7 +112,11 @@ impl<'output, 'session: 'output, Sess: Session<RelocationEntry>> DwarfPackage<
     /// The object to be written. Refuses with `MissingReferencedUnit` for the first unit that an
     /// executable refers to and that isn't contained, with `NoOutputObjectCreated` where no input
     /// began a package, and as the writer of indexes does.
-    pub fn finish(self) -> Result<WritableObject, Error> {
+    #[tactic(auto, unfolding(crate::specs::Builder::finish_test))]
+    pub fn finish(self) -> Result<WritableObject, Error>
+        ensures refusal { Gives (λ _. tt) result (spec.finish_test self.entry.state) }
+        ensures finished { IfOk result (IsFinishedState self.entry.state) }
+    {
         let DwarfPackage {
             alloc: _,
             session: _,
@@ -115,11 +125,7 @@ impl<'output, 'session: 'output, Sess: Session<RelocationEntry>> DwarfPackage<
             targets,
             output: _,
         } = self;
-        for target in targets.iter() {
-            if !contained.contains(target) {
-                return Err(Error::MissingReferencedUnit(target.index()));
-            }
-        }
+        test_targets(&contained, &targets)?;
         match in_progress {
             Some(package) => package.finish(),
             None => Err(Error::NoOutputObjectCreated),
@@ -132,4 +138,20 @@ impl<'output, 'session: 'output, Sess: Session<RelocationEntry>> DwarfPackage<
     {
         &self.contained
     }
+}
+
+// `MissingReferencedUnit` for the first unit that executables refer to and that isn't contained.
+#[tactic(auto, unfolding(crate::specs::Builder::targets_test))]
+fn test_targets(
+    contained: &IndexSet<DwarfObject>,
+    targets: &IndexSet<DwarfObject>,
+) -> Result<(), Error>
+    ensures { Gives (λ _. tt) result (spec.targets_test contained.now.keys targets.now.keys) }
+{
+    for target in targets.iter() {
+        if !contained.contains(target) {
+            return Err(Error::MissingReferencedUnit(target.index()));
+        }
+    }
+    Ok(())
 }

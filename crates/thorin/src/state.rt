@@ -1,11 +1,10 @@
 //! A package while it is made.
 
-ghost use Rattle.std.specs.Prelude.{◌≡◌, [], length, map, take, IfOk, IfErr, OnOk, OnErr};
-ghost use Rattle.dwp_elf.specs.Contents.{content_of};
+ghost use Rattle.std.specs.Prelude.{◌≡◌, List, [], length, take, IfOk, IfErr, OnOk, OnErr};
 ghost use Rattle.thorin_faults.specs.Answers.{Gives};
 ghost use Rattle.thorin_strings.specs.Marks.{mark_of};
-ghost use Rattle.thorin.specs.Growing as growing;
-ghost use Rattle.thorin.specs.Parts.{parts_of};
+ghost use Rattle.dwp_table.specs.declared.object.DwarfObject.{DwarfObject};
+ghost use Rattle.thorin.specs.Builder.{IsFinished, indexes_test, is_compilation, rows_of};
 ghost use Rattle.thorin.specs.State as spec;
 ghost use Rattle.thorin.specs.StateView.{package_of, mark_in};
 ghost use Rattle.thorin.specs.UnitView.{new_unit, new_of};
@@ -209,7 +208,11 @@ impl InProgressDwarfPackage {
 
     /// The sections with the strings and both indexes, each where it isn't empty. Refuses as
     /// `write_index` does.
-    pub(crate) fn finish(self) -> Result<WritableObject, Error> {
+    #[tactic(auto, unfolding(crate::specs::Builder::indexes_test))]
+    pub(crate) fn finish(self) -> Result<WritableObject, Error>
+        ensures refusal { (names : List DwarfObject) → Gives (λ _. tt) result (indexes_test (package_of self names)) }
+        ensures finished { (names : List DwarfObject) → IfOk result (IsFinished (package_of self names)) }
+    {
         let InProgressDwarfPackage {
             alloc,
             mut object,
@@ -218,20 +221,39 @@ impl InProgressDwarfPackage {
             differing: _,
         } = self;
         let order = object.endianness();
-        object.append(SectionKind::Str, &strings.finish())?;
-        let mut compilations = Vec::new(alloc);
-        let mut types = Vec::new(alloc);
-        for row in &rows {
-            match row.id {
-                DwarfObject::Compilation(_) => compilations.push(*row)?,
-                DwarfObject::TypeUnit(_) => types.push(*row)?,
-            }
-        }
-        object.append(
-            SectionKind::CuIndex,
-            &write_index(alloc, order, &compilations)?,
-        )?;
-        object.append(SectionKind::TuIndex, &write_index(alloc, order, &types)?)?;
+        let compilations = write_index(alloc, order, &rows_of(alloc, &rows, true)?)?;
+        let types = write_index(alloc, order, &rows_of(alloc, &rows, false)?)?;
+        put(&mut object, SectionKind::Str, &strings.finish())?;
+        put(&mut object, SectionKind::CuIndex, &compilations)?;
+        put(&mut object, SectionKind::TuIndex, &types)?;
         Ok(object)
     }
+}
+
+// Whether a name is that of a compilation unit.
+fn is_compilation(name: DwarfObject) -> bool
+    ensures { result ≡ is_compilation name }
+{
+    match name {
+        DwarfObject::Compilation(_) => true,
+        DwarfObject::TypeUnit(_) => false,
+    }
+}
+
+// The rows of compilation units, or those of type units.
+fn rows_of(
+    alloc: Global,
+    rows: &[IndexEntry],
+    compilations: bool,
+) -> Result<Vec<IndexEntry>, Error>
+    ensures rows { IfOk result (λ chosen. chosen.items ≡ rows_of compilations rows.now) }
+    ensures refused { IfErr result (λ e. e ≡ Error.Memory) }
+{
+    let mut chosen = Vec::new(alloc);
+    for row in rows {
+        if is_compilation(row.id) == compilations {
+            chosen.push(*row)?;
+        }
+    }
+    Ok(chosen)
 }

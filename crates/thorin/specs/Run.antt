@@ -1,0 +1,85 @@
+-- A run of inputs, and what is written after it.
+use Rattle.std.specs.Prelude.{◌≡◌, ◌≢◌, ℕ, List, [], ◌∷◌, Option, Some, None, Result, Ok, Err, OnErr, ◌⊎◌}
+use Rattle.std.specs.Path.{path_bytes}
+use Rattle.std.specs.declared.io.Error.{Error as IoError}
+use Rattle.dwp_elf.specs.FileText.{Object as File, file_text}
+use Rattle.dwp_elf.specs.Numbers.{Fits}
+use Rattle.dwp_elf_read.specs.declared.fault.WriteError.TheVariants as writer
+use Rattle.thorin_faults.specs.declared.fault.Error.{Error}
+use Rattle.thorin_faults.specs.declared.fault.Error.TheVariants as error
+use Rattle.thorin_faults.specs.declared.fault.InputError.{InputError}
+use Rattle.thorin_faults.specs.declared.fault.InputError.TheVariants as input_error
+use Rattle.thorin_faults.specs.Fault.{Fault, fault_of, ObjectWrite}
+use Rattle.thorin_faults.specs.Answers.{Gives, MemoryAside}
+use Rattle.thorin_faults.specs.Sessions.{input_fault}
+use Rattle.thorin.specs.declared.packing.Input.{Input}
+use Rattle.thorin.specs.declared.packing.Input.TheVariants as inputs
+use Rattle.thorin.specs.Builder.{State, taken, finish_test, IsFinished}
+use Rattle.thorin.specs.State.{Package}
+
+-- what came of a call: nothing, or its error
+abbrev pub Outcome : Type 0
+Outcome = Result (Unit {0}) Error
+
+-- an object's bytes were taken, or refused for their first fault, want of memory aside, and then nothing changed
+pub record Takes (bytes : List ℕ) (old : State) (outcome : Outcome) (new : State) : Type 0 where
+  pub meaning : Gives (λ _. new) outcome (taken bytes old)
+  pub unchanged : OnErr outcome (new ≡ old)
+
+-- a read answered what may be answered there, want of memory aside
+abbrev pub MayRead : (Result (List ℕ) IoError → Type 0) → Result (List ℕ) InputError → Type 0
+MayRead offered (Ok bytes) = offered (Ok bytes)
+MayRead offered (Err (input_error.Io cause)) = offered (Err cause)
+MayRead offered (Err input_error.Memory) = Unit {0}
+
+-- what a read gave was taken; where it failed, that is the outcome, and nothing changed
+abbrev pub TakesRead : Result (List ℕ) InputError → State → Outcome → State → Type 0
+TakesRead (Ok bytes) old outcome new = Takes bytes old outcome new
+TakesRead (Err e) old outcome new = (outcome ≡ Err (input_fault e)) × (new ≡ old)
+
+-- the same for the object at a path, of which that may be read
+pub record TakesFile (offered : Result (List ℕ) IoError → Type 0) (old : State) (outcome : Outcome) (new : State) : Type 0 where
+  pub read : Result (List ℕ) InputError
+  pub within : MayRead offered read
+  pub taken : TakesRead read old outcome new
+
+-- what came of an input of a list; executables aren't taken yet
+abbrev pub TakesInput : (List ℕ → Result (List ℕ) IoError → Type 0) → Input → State → Outcome → State → Type 0
+TakesInput offer (inputs.Object path) old outcome new = TakesFile (offer (path_bytes path)) old outcome new
+TakesInput offer (inputs.Bytes bytes) old outcome new = Takes bytes.now old outcome new
+TakesInput offer (inputs.Executable path missing) old outcome new = (outcome ≡ Err error.NotYet) × (new ≡ old)
+
+-- a run: each input in order, refused ones passed over
+abbrev pub Ran : (List ℕ → Result (List ℕ) IoError → Type 0) → List Input → State → List Outcome → State → Type 0
+Ran offer [] old [] new = new ≡ old
+Ran offer [] old (outcome ∷ outcomes) new = ⊥
+Ran offer (input ∷ rest) old [] new = ⊥
+Ran offer (input ∷ rest) old (outcome ∷ outcomes) new =
+    (middle : State) × TakesInput offer input old outcome middle × Ran offer rest middle outcomes new
+
+-- the bytes are the file of the finished package
+pub record IsWritten (state : State) (bytes : List ℕ) : Type 0 where
+  pub made : Package
+  pub begun : state.begun ≡ Some made
+  pub tested : finish_test state ≡ Ok tt
+  pub file : File
+  pub finished : IsFinished made file
+  pub fits : Fits file
+  pub text : bytes ≡ file_text file
+
+-- a finished package whose numbers don't fit the class of its file
+pub record IsTooLarge (state : State) : Type 0 where
+  pub made : Package
+  pub begun : state.begun ≡ Some made
+  pub file : File
+  pub finished : IsFinished made file
+  pub unfit : ¬ Fits file
+
+-- why nothing was written: the first fault of finishing, or a number that doesn't fit
+abbrev pub RefusesToWrite : State → Fault → Type 0
+RefusesToWrite state fault = (finish_test state ≡ Err fault) ⊎ ((fault ≡ ObjectWrite writer.NumberTooLarge) × IsTooLarge state)
+
+-- what was written
+abbrev pub Writes : {V : Type 0} → (V → List ℕ) → State → Result V Error → Type 0
+Writes view state (Ok bytes) = IsWritten state (view bytes)
+Writes view state (Err e) = MemoryAside e (RefusesToWrite state (fault_of e))
