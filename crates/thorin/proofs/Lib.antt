@@ -4,3 +4,4 @@ pub mod PartLemmas
 pub mod Names
 pub mod NewUnitLemmas
 pub mod Extending
+pub mod Running

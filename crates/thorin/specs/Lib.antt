@@ -11,3 +11,4 @@ pub mod Builder
 pub mod Building
 pub mod BuilderView
 pub mod Run
+pub mod Packed

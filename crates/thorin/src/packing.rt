@@ -1,5 +1,9 @@
 //! Whole packages from lists of inputs.
 
+ghost use Rattle.std.specs.Prelude.{◌≡◌, IfOk, IfErr};
+ghost use Rattle.thorin.specs.Packed.{IsPacked};
+ghost use Rattle.thorin.specs.Run.{TakesInput, Writes};
+
 use crate::package::DwarfPackage;
 use dwp_reader::RelocationEntry;
 use std::alloc::Global;
@@ -32,22 +36,41 @@ pub fn pack<'s, Sess: Session<RelocationEntry>>(
     alloc: Global,
     session: &'s Sess,
     inputs: &[Input<'s>],
-) -> Result<Packed, Error> {
+) -> Result<Packed, Error>
+    ensures packed { IfOk result (IsPacked (Sess.offer session.now) inputs.now) }
+    ensures refused { IfErr result (λ e. e ≡ Error.Memory) }
+{
     let mut outcomes = Vec::with_capacity(alloc, inputs.len())?;
-    let mut package = DwarfPackage::new(alloc, session);
+    let mut builder = DwarfPackage::new(alloc, session);
     for input in inputs {
-        outcomes.push(match *input {
-            Input::Object(path) => package.add_input_object(path),
-            Input::Bytes(bytes) => package.add_object_bytes(bytes),
-            Input::Executable(_, _) => Err(Error::NotYet),
-        })?;
+        let outcome = take_input(&mut builder, *input);
+        outcomes.push(outcome)?;
     }
-    let file = written(package);
+    let file = written(builder);
     Ok(Packed { outcomes, file })
 }
 
+// Takes an input of a list.
+fn take_input<'o, 's: 'o, Sess: Session<RelocationEntry>>(
+    builder: &mut DwarfPackage<'o, 's, Sess>,
+    input: Input<'s>,
+) -> Result<(), Error>
+    ensures taken { TakesInput (Sess.offer builder.old.session) input.entry builder.old.state result builder.new.state }
+    ensures session { builder.new.session ≡ builder.old.session }
+{
+    match input {
+        Input::Object(path) => builder.add_input_object(path),
+        Input::Bytes(bytes) => builder.add_object_bytes(bytes),
+        Input::Executable(_, _) => Err(Error::NotYet),
+    }
+}
+
+// The file of the finished package.
 fn written<'o, 's: 'o, Sess: Session<RelocationEntry>>(
-    package: DwarfPackage<'o, 's, Sess>,
-) -> Result<Vec<u8>, Error> {
-    Ok(package.finish()?.write()?)
+    builder: DwarfPackage<'o, 's, Sess>,
+) -> Result<Vec<u8>, Error>
+    ensures { Writes (λ bytes. bytes.items) builder.entry.state result }
+{
+    let file = builder.finish()?;
+    Ok(file.write()?)
 }
