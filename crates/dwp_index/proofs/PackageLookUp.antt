@@ -1,9 +1,9 @@
 -- What looking a unit up in a package gives.
-use Rattle.std.proofs.Common.{◌≡◌, ℕ, ◌+◌, ◌≤◌, Bool, false, cond, not, inl, inr, List, [], ◌∷◌, length, refl, sym, ap, subst, ◌∙◌, arith}
+use Rattle.std.proofs.Common.{get_or, ◌≡◌, ℕ, ◌+◌, ◌≤◌, Bool, false, cond, not, inl, inr, List, [], ◌∷◌, length, refl, sym, ap, subst, ◌∙◌, arith, eqb}
 use Rattle.std.specs.Prelude.{Option, Some, None, Result, Ok, Err, IfOk, slice_range}
 use Rattle.std.specs.List.{find}
 use Rattle.std.specs.Option.{option_map_or}
-use Rattle.std.proofs.lemmas.Bool.{le-leb}
+use Rattle.std.proofs.lemmas.Bool.{le-leb, eqb-true, eqb-false}
 use Rattle.dwp_base.specs.Reading.{◌>>=◌, Answers}
 use Rattle.dwp_base.specs.declared.section.SectionKind.{SectionKind}
 use Rattle.dwp_base.specs.declared.section.Contribution.{Contribution}
@@ -115,6 +115,15 @@ count_within signatures rows x =
       | inr none ↦ let e = find-none ends (length rows) none in rw e (omega arith)
     ]
 
+-- at most one more than there are identifiers, whether one is there or not
+pub few_slots : (ids signatures rows : List ℕ) (x : ℕ) → IsIndex ids signatures rows → look_count signatures rows x ≤ length ids + 1
+few_slots ids signatures rows x index =
+    let exact = finds_exactly ids signatures rows x index in
+    elim (first_or_none (λ r. eqb (get_or ids r 0) x) (length ids)) [
+      | inl w ↦ omega (arith, w.1.within, exact.present_count w.0 w.1.within (eqb-true _ _ w.1.here))
+      | inr none ↦ exact.absent_count (λ r h. eqb-false _ _ (none r h))
+    ]
+
 -- ---- a look-up that was answered
 abbrev Answer : Type 0
 Answer = Result (Option UnitMeaning × ℕ) PackageError
@@ -161,6 +170,12 @@ counted_exactly pack object ids index unit looked h e slots =
     subst (λ (n : ℕ). FindsExactly ids (identifier_of object) (row_number unit) n) (sym tells.count_is)
     (subst (λ (o : Option ℕ). FindsExactly ids (identifier_of object) o (Count object index)) (sym tells.row_is) (finds_exactly ids index.signatures index.rows (identifier_of object) slots))
 
+pub counted_few : (pack : Package) (object : DwarfObject) (ids : List ℕ) (index : Index) (unit : Option UnitMeaning) (looked : ℕ) → found_counted pack object ≡ Ok (unit, looked)
+    → index_for pack object ≡ Some index → IsIndex ids index.signatures index.rows → looked ≤ length ids + 1
+counted_few pack object ids index unit looked h e slots =
+    let tells = found-tells pack object index (Row object index) (Count object index) unit looked (sym (by_index pack object index e) ∙ h) in
+    omega (arith, tells.count_is, few_slots ids index.signatures index.rows (identifier_of object) slots)
+
 counted-by : (pack : Package) (object : DwarfObject) (o : Option Index) (unit : Option UnitMeaning) (looked : ℕ) → found_by pack object o ≡ Ok (unit, looked) → looked ≤ option_map_or (λ index. length index.rows) o 0
 counted-by pack object None unit looked h = let tells = tells-same None unit 0 looked h in omega (arith, tells.count_is)
 counted-by pack object (Some index) unit looked h =
@@ -188,3 +203,8 @@ pub exactly : (pack : Package) (object : DwarfObject) (r : Answer) → Answers (
     → IfOk r (λ y. (ids : List ℕ) (index : Index) → index_for pack object ≡ Some index → IsIndex ids index.signatures index.rows → FindsExactly ids (identifier_of object) (row_number y.0) y.1)
 exactly pack object (Ok y) h = λ ids index e slots. counted_exactly pack object ids index y.0 y.1 h e slots
 exactly pack object (Err e) h = tt
+
+pub few : (pack : Package) (object : DwarfObject) (r : Answer) → Answers (λ y. y) r (found_counted pack object)
+    → IfOk r (λ y. (ids : List ℕ) (index : Index) → index_for pack object ≡ Some index → IsIndex ids index.signatures index.rows → y.1 ≤ length ids + 1)
+few pack object (Ok y) h = λ ids index e slots. counted_few pack object ids index y.0 y.1 h e slots
+few pack object (Err e) h = tt

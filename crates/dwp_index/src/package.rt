@@ -1,6 +1,6 @@
 //! Packages: the units that their indexes name, with all that belongs to each.
 
-ghost use Rattle.std.specs.Prelude.{◌≡◌, ◌≤◌, ℕ, List, IfOk};
+ghost use Rattle.std.specs.Prelude.{◌≡◌, ◌≤◌, ◌+◌, ℕ, List, length, IfOk};
 ghost use Rattle.std.specs.Option.{option_copied};
 ghost use Rattle.dwp_base.specs.Reading.{Answers};
 ghost use Rattle.dwp_elf_read.specs.Elf.{elf_of};
@@ -96,6 +96,7 @@ impl<'a> PackageFile<'a> {
 
         // In a table of distinct identifiers: each one's row, and none for any other.
         ensures exact { IfOk result (λ found. (ids : List ℕ) (index : Index) → index_for self.now object ≡ Some index → IsIndex ids index.signatures index.rows → FindsExactly ids (identifier_of object) (row_number found.0) found.1) }
+        ensures few { IfOk result (λ found. (ids : List ℕ) (index : Index) → index_for self.now object ≡ Some index → IsIndex ids index.signatures index.rows → found.1 ≤ length ids + 1) }
     {
         match self.index_for(object) {
             None => Ok((None, 0)),

@@ -218,13 +218,16 @@ fn damaged_packages(rt: HostRuntime) -> Result<(), Fail> {
         Some(PackageError::Index(ReadError::RowOutOfRange))
     );
 
-    let mut range = PACKAGE;
-    range[149] = 21;
-    let package = PackageFile::parse(&range)?;
-    assert_eq!(rt;
-        package.find(UNIT).err(),
-        Some(PackageError::Range(SectionKind::Info))
-    );
+    for (at, value, kind) in [
+        (141, 1, SectionKind::Info),
+        (149, 21, SectionKind::Info),
+        (153, 10, SectionKind::Abbrev),
+    ] {
+        let mut range = PACKAGE;
+        range[at] = value;
+        let package = PackageFile::parse(&range)?;
+        assert_eq!(rt; package.find(UNIT).err(), Some(PackageError::Range(kind)));
+    }
 
     let mut header = PACKAGE;
     header[77] = 6;

@@ -1,4 +1,4 @@
-ghost use Rattle.std.specs.Prelude.{◌≡◌, ◌<◌, ◌≤◌, ℕ, List, length, slice_index, is_some};
+ghost use Rattle.std.specs.Prelude.{◌≡◌, ◌<◌, ◌≤◌, ◌+◌, ℕ, List, length, slice_index, is_some};
 ghost use Rattle.dwp_base.specs.Reading.{Answers};
 ghost use Rattle.dwp_table.specs.Probing.{found_row, look_count};
 ghost use Rattle.dwp_table.specs.Table.{IsIndex, FindsExactly};
@@ -134,6 +134,7 @@ impl<'a> UnitIndex<'a> {
 
         // In a table of distinct identifiers: each one's row, and none for any other.
         ensures exact { (ids : List ℕ) → IsIndex ids self.now.signatures self.now.rows → FindsExactly ids identifier result.0 result.1 }
+        ensures few { (ids : List ℕ) → IsIndex ids self.now.signatures self.now.rows → result.1 ≤ length ids + 1 }
     {
         self.look_up(identifier)
     }

@@ -3,7 +3,7 @@ use Rattle.std.specs.Prelude.{Option}
 use Rattle.dwp_table.specs.Probing.{look_count}
 use Rattle.dwp_table.specs.Table.{FindsExactly}
 use Rattle.dwp_table.proofs.Tables.{finds_exactly}
-use Rattle.dwp_index.proofs.PackageLookUp.{count_within}
+use Rattle.dwp_index.proofs.PackageLookUp.{count_within, few_slots}
 use Rattle.dwp_index.proofs.unit_index.UnitIndex.find_counted.Goals as goal
 
 pub returns-clause-exact : goal.returns-clause-exact
@@ -17,3 +17,8 @@ pub returns-clause-bound : goal.returns-clause-bound
 returns-clause-bound c =
     let v = c.args.self.now in
     omega (arith, c.look_up.ensures.count, count_within v.signatures v.rows c.args.identifier)
+
+pub returns-clause-few : goal.returns-clause-few
+returns-clause-few c = λ ids index.
+    let v = c.args.self.now in
+    omega (arith, c.look_up.ensures.count, few_slots ids v.signatures v.rows c.args.identifier index)
