@@ -9,3 +9,4 @@ pub mod Signatures
 pub mod Slots
 pub mod RowsAgain
 pub mod StringsAgain
+pub mod OffsetsJoined

@@ -1,10 +1,11 @@
-ghost use Rattle.std.specs.Prelude.{◌≡◌, ℕ, ◌<◌, ◌^◌, List, Ok, length, slice_index, take};
+ghost use Rattle.std.specs.Prelude.{◌≡◌, ℕ, ◌-◌, ◌*◌, ◌<◌, ◌^◌, List, ◌++◌, Ok, length, slice_index, take, nat_lt, if◌then◌else◌};
 ghost use Rattle.dwp_base.specs.declared.endian.Endianness.{Endianness};
 ghost use Rattle.dwp_reader.specs.declared.encoding.Encoding.{Encoding};
-ghost use Rattle.dwp_reader.specs.Encoding.{index_version_of};
+ghost use Rattle.dwp_reader.specs.Encoding.{index_version_of, offset_size};
 ghost use Rattle.dwp_table.specs.Table.{AreDistinct};
 ghost use Rattle.dwp_index.specs.Index.{Index};
 ghost use Rattle.dwp_index.specs.IndexBytes.{index_of};
+ghost use Rattle.dwp_index.specs.Strings.{string_in};
 ghost use Rattle.thorin_parts.specs.declared.entry.IndexEntry.{IndexEntry};
 ghost use Rattle.thorin_parts.specs.EntryTests.{tests_under};
 ghost use Rattle.thorin_parts.specs.IndexText.{IsIndexText, entry_ids, used_sections};
@@ -48,4 +49,16 @@ pub fn rewritten_strings_are_read_alike()
         → take (length after) final ≡ after
         → (i : ℕ)
         → ReadsAlike order encoding section bytes (data_of final) rewritten i }
+{}
+
+/// Two ranges of string offsets before DWARF 5, which have no header, joined are read in turn: the first
+/// has `n` whole entries.
+pub fn joined_string_offsets_are_read_in_turn()
+    ensures { (order : Endianness) (encoding : Encoding) (strings first second : List ℕ) (n i : ℕ)
+        → encoding.version < 5
+        → length first ≡ n * offset_size encoding.format
+        → string_in order encoding strings (first ++ second) i
+        ≡ (if nat_lt i n
+        then string_in order encoding strings first i
+        else string_in order encoding strings second (i - n)) }
 {}
