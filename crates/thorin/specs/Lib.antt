@@ -12,3 +12,4 @@ pub mod Building
 pub mod BuilderView
 pub mod Run
 pub mod Packed
+pub mod Meaning
