@@ -4,7 +4,7 @@ use Rattle.std.specs.Prelude.{Option, Some, None, Result, Ok, Err, slice_get}
 use Rattle.std.specs.List.{find, list_all}
 use Rattle.std.specs.Option.{ok_or}
 use Rattle.std.specs.Str.{bytes_eq}
-use Rattle.std.proofs.lemmas.Bool.{ne_eqb}
+use Rattle.std.proofs.lemmas.Bool.{ne_eqb, eqb-true}
 use Rattle.dwp_base.specs.Reading.{◌>>=◌}
 use Rattle.dwp_base.specs.Sections.{name_of, compressed_name_of, is_named, kind_named, all_kinds, same_kind, rank_of}
 use Rattle.dwp_base.specs.declared.section.SectionKind.{SectionKind}
@@ -18,7 +18,7 @@ use Rattle.dwp_reader.specs.declared.fault.ReadError.{ReadError as UnitFault}
 use Rattle.dwp_index.specs.Index.{Index}
 use Rattle.dwp_index.specs.IndexBytes.{index_of}
 use Rattle.dwp_index.specs.Package.{as_fault, index_in_section, package_of}
-use Rattle.dwp_index.specs.Holding.{Holds, HasContent, sections_of}
+use Rattle.dwp_index.specs.Holding.{Holds, HasContent, HoldsInOrder, held_of, sections_of}
 
 left_of : (a b : Bool) → (a && b) ≡ true → a ≡ true
 left_of true b e = refl
@@ -124,6 +124,23 @@ unfolding content_of
 content_is [] kind bytes h = ap (λ l. Ok l) (sym h)
 content_is (s ∷ ss) kind bytes (inl h) = ap (λ b. bytes_of kind (cond b (Some s) (find (is_of_kind kind) ss))) (holds-kind s kind bytes h) ∙ holds-used s kind bytes h
 content_is (s ∷ ss) kind bytes (inr h) = ap (λ b. bytes_of kind (cond b (Some s) (find (is_of_kind kind) ss))) h.0 ∙ content_is ss kind bytes h.1
+
+same_is : (a b : SectionKind) → same_kind a b ≡ true → a ≡ b
+same_is a b e =
+    let ranks : rank_of a ≡ rank_of b = eqb-true (rank_of a) (rank_of b) e in
+    let both : Some a ≡ Some b = sym (at_rank a) ∙ ap (slice_get all_kinds) ranks ∙ at_rank b in
+    cc
+
+held-by : (section : SectionMeaning) (sections : List SectionMeaning) (kind : SectionKind) (content : SectionKind × List ℕ) (rest : List ℕ) (b : Bool) → same_kind content.0 kind ≡ b
+    → Holds section content.0 content.1 → HasContent sections kind rest → HasContent (section ∷ sections) kind (cond b content.1 rest)
+held-by section sections kind content rest true e h others = inl (subst (λ k. Holds section k content.1) (same_is content.0 kind e) h)
+held-by section sections kind content rest false e h others = inr (another_kind section kind content.0 h.name_is e, others)
+
+pub held_in_order : (sections : List SectionMeaning) (contents : List (SectionKind × List ℕ)) → HoldsInOrder sections contents → (kind : SectionKind) → HasContent sections kind (held_of kind contents)
+held_in_order [] contents h kind = ap (held_of kind) h
+held_in_order (s ∷ ss) [] h kind = inr (h.0 kind, held_in_order ss [] h.1 kind)
+held_in_order (s ∷ ss) (c ∷ cs) (inl h) kind = inr (h.0 kind, held_in_order ss (c ∷ cs) h.1 kind)
+held_in_order (s ∷ ss) (c ∷ cs) (inr h) kind = held-by s ss kind c (held_of kind cs) (same_kind c.0 kind) refl h.0 (held_in_order ss cs h.1 kind)
 
 contents_are : (sections : List SectionMeaning) (bytes : SectionKind → List ℕ) → ((kind : SectionKind) → HasContent sections kind (bytes kind)) → contents_of sections ≡ Ok (sections_of bytes)
 unfolding contents_of

@@ -19,7 +19,7 @@ ghost use Rattle.dwp_index.specs.Package.{Package, package_of, index_in_section,
 ghost use Rattle.dwp_index.specs.Entries.{entries_from};
 ghost use Rattle.dwp_index.specs.Used.{used_in};
 ghost use Rattle.dwp_index.specs.Finding.{unit_of, HasIndex, IsUnitOf, IsNotNamed, GivesWithin};
-ghost use Rattle.dwp_index.specs.Holding.{HasContent, sections_of};
+ghost use Rattle.dwp_index.specs.Holding.{HasContent, HoldsInOrder, held_of, sections_of};
 ghost use Rattle.dwp_index.specs.Naming.{numbered, entries_of, IsIndexOf};
 
 /// The law of packages: where the index of a kind is one of distinct identifiers, the unit of each is
@@ -85,6 +85,9 @@ pub fn contents_are_read()
         → index_of order bytes ≡ Ok index
         → index_in_section order bytes ≡ Ok (Some index) }
     ensures no_index { (order : Endianness) (bytes : List ℕ) → bytes ≡ [] → index_in_section order bytes ≡ Ok None }
+    ensures in_order { (sections : List SectionMeaning) (contents : List (SectionKind × List ℕ))
+        → HoldsInOrder sections contents
+        → (kind : SectionKind) → HasContent sections kind (held_of kind contents) }
     ensures other { (section : SectionMeaning) (kind other : SectionKind)
         → section.name ≡ Some (name_of other)
         → same_kind other kind ≡ false

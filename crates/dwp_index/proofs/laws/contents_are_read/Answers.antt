@@ -1,4 +1,4 @@
-use Rattle.dwp_index.proofs.HeldContents.{package_is, index_there, index_missing, another_kind, foreign, empty}
+use Rattle.dwp_index.proofs.HeldContents.{package_is, index_there, index_missing, held_in_order, another_kind, foreign, empty}
 use Rattle.dwp_index.proofs.laws.contents_are_read.Goals as goal
 
 pub returns-clause-package : goal.returns-clause-package
@@ -18,3 +18,6 @@ returns-clause-index c = index_there
 
 pub returns-clause-no_index : goal.returns-clause-no_index
 returns-clause-no_index c = index_missing
+
+pub returns-clause-in_order : goal.returns-clause-in_order
+returns-clause-in_order c = held_in_order
