@@ -1,6 +1,8 @@
 -- What a refusal to write means.
-use Rattle.std.specs.Prelude.{ℕ, List, Option}
+use Rattle.std.specs.Prelude.{ℕ, List, Option, ⊤}
 use Rattle.std.specs.Io.KnownBytes.{Keeps}
+use Rattle.std.specs.IoError.{error_kind}
+use Rattle.std.specs.declared.io.ErrorKind.{ErrorKind}
 use Rattle.dwp_elf_read.specs.declared.fault.WriteError.{WriteError}
 use Rattle.dwp_elf_read.specs.declared.fault.WriteError.TheVariants.{NumberTooLarge, Memory, Io}
 use Rattle.dwp_elf.specs.FileText.{Object, file_text}
@@ -19,3 +21,9 @@ abbrev pub RefusesWriter : Object → Option (List ℕ) → Option (List ℕ) �
 RefusesWriter o old new NumberTooLarge = (¬ Fits o) × Keeps old new
 RefusesWriter o old new Memory = ⊥
 RefusesWriter o old new (Io e) = Fits o × AppendsPart old new (file_text o)
+
+-- an error of a writer is one at which a write failed; `failed` are the kinds of those
+abbrev pub Blames : (ErrorKind → Type 0) → WriteError → Type 0
+Blames failed NumberTooLarge = ⊤
+Blames failed Memory = ⊤
+Blames failed (Io e) = failed (error_kind e)

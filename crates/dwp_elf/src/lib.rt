@@ -8,6 +8,7 @@ mod law;
 mod object;
 mod output;
 mod places;
+mod writer;
 
 pub use dwp_base::{Class, Contribution, ContributionOffset, Endianness, SectionKind};
 pub use dwp_elf_read::{
@@ -15,6 +16,7 @@ pub use dwp_elf_read::{
 };
 pub use law::written_contents_are_read_back;
 pub use object::WritableObject;
+pub use writer::{Output, Watched};
 
 #[cfg(test)]
 mod tests;

@@ -1,14 +1,15 @@
 //! Objects that are made section by section, and written as ELF files.
 ghost use Rattle.std.specs.Prelude.{◌≡◌, ℕ, ◌+◌, ◌≤◌, ◌<◌, ◌^◌, ◌*◌, [], List, length, IfOk, IfErr, OnOk, OnErr, MatchResult, Some, None, Ok, Err, OkIff};
 ghost use Rattle.std.specs.Io.KnownBytes.{Appends};
+ghost use Rattle.std.specs.declared.io.ErrorKind.{ErrorKind};
 ghost use Rattle.dwp_elf_read.specs.Elf.{elf_of};
 ghost use Rattle.dwp_elf_read.specs.declared.fault.WriteError.TheVariants.{NumberTooLarge, Memory};
 ghost use Rattle.dwp_elf.specs.Contents.{KindsDiffer, contents_of, content_of, appended, truncated};
 ghost use Rattle.dwp_elf.specs.FileText.{file_text};
 ghost use Rattle.dwp_elf.specs.Numbers.{Fits};
 ghost use Rattle.dwp_elf.specs.Places.{ArePlaces};
-ghost use Rattle.dwp_elf.specs.Refusals.{RefusesFile, RefusesWriter};
-ghost use Rattle.dwp_elf.specs.Writing.{Writes};
+ghost use Rattle.dwp_elf.specs.Refusals.{RefusesFile, RefusesWriter, Blames};
+ghost use Rattle.dwp_elf.specs.Writing.{Writes, Faults};
 ghost use Rattle.dwp_elf.specs.Written.{written_elf};
 
 use crate::contents::{append_to, truncate_to};
@@ -17,11 +18,11 @@ use crate::output::{
     write_contents, write_name_table, write_section_headers, write_whole, write_zeros,
 };
 use crate::places::{Places, places_of};
+use crate::writer::Output;
 use dwp_base::{Class, Contribution, ContributionOffset, Endianness, SectionKind};
 use dwp_elf_read::WriteError;
 use std::alloc::Global;
 use std::io;
-use std::io::Write;
 use std::marker::Model;
 
 /// An ELF file that is being made: the contents of its sections, in order of first append.
@@ -157,13 +158,15 @@ impl WritableObject {
 
     /// Hands the file to a writer, large contents whole. It takes no memory, and calls no `write` again that failed.
     ///
-    /// NumberTooLarge where `file_size` refuses, and then nothing is written; Io where the writer failed or took no bytes, and
-    /// then it has a beginning of the file.
-    pub fn write_to<W: Write>(&self, out: &mut W) -> Result<(), WriteError>
+    /// NumberTooLarge where `file_size` refuses, and then nothing is written; Io just where a write failed or took no bytes, and
+    /// then the writer has a beginning of the file.
+    pub fn write_to<O: Output>(&self, out: &mut O) -> Result<(), WriteError>
         ensures fits { OnOk result (Fits self.now) }
-        ensures text { OnOk result (Appends (W.contents out.old) (W.contents out.new) (file_text self.now)) }
+        ensures text { OnOk result (Appends (O.contents out.old) (O.contents out.new) (file_text self.now)) }
         ensures read_back { OnOk result (elf_of (file_text self.now) ≡ Ok (written_elf self.now)) }
-        ensures refused { IfErr result (RefusesWriter self.now (W.contents out.old) (W.contents out.new)) }
+        ensures refused { IfErr result (RefusesWriter self.now (O.contents out.old) (O.contents out.new)) }
+        ensures blamed { IfErr result (Blames (O.failed out.new)) }
+        ensures no_fault { OnOk result ((kind : ErrorKind) → O.failed out.new kind → O.failed out.old kind) }
         ensures untouched { result ≡ Err NumberTooLarge → out.new ≡ out.old }
     {
         let places = self.places()?;
@@ -182,9 +185,10 @@ impl WritableObject {
     }
 
     /// Hands the parts of the file to a writer, one after the other.
-    fn write_parts<W: Write>(&self, places: &Places, out: &mut W) -> io::Result<()>
+    fn write_parts<O: Output>(&self, places: &Places, out: &mut O) -> io::Result<()>
         requires { ArePlaces self.now.class self.now.contents places.now }
-        ensures { Writes result (W.contents out.old) (W.contents out.new) (file_text self.now) }
+        ensures text { Writes result (O.contents out.old) (O.contents out.new) (file_text self.now) }
+        ensures fault { Faults result (O.failed out.old) (O.failed out.new) }
     {
         let count = self.sections.len() as u16 + 2;
         let header = file_header(

@@ -3,12 +3,13 @@ ghost use Rattle.std.specs.Prelude.{◌≡◌, ◌+◌, ◌*◌, ◌^◌, ◌<�
 ghost use Rattle.dwp_elf.specs.Contents.{contents_of};
 ghost use Rattle.dwp_elf_read.specs.Layout.{header_size, word_size};
 ghost use Rattle.dwp_elf.specs.FileText.{content_bytes, names_of, name_table, headers_from};
-ghost use Rattle.dwp_elf.specs.Writing.{Writes};
+ghost use Rattle.dwp_elf.specs.Writing.{Writes, Faults};
 
 use crate::headers::{header_size, section_header};
+use crate::writer::Output;
 use dwp_base::{Class, Endianness, SectionKind};
 use std::io;
-use std::io::{ErrorKind, Write};
+use std::io::ErrorKind;
 
 /// Bytes of the program's own, as a content has.
 const PROGBITS: u32 = 1;
@@ -24,12 +25,13 @@ pub const NAMES: &[u8; 10] = b".shstrtab\0";
 /// Hands all of the bytes to the writer, in as many calls as it takes, and none of them twice.
 ///
 /// It stops at the first call that fails or takes no bytes.
-pub fn write_whole<W: Write>(out: &mut W, bytes: &[u8]) -> io::Result<()>
-    ensures { Writes result (W.contents out.old) (W.contents out.new) bytes.now }
+pub fn write_whole<O: Output>(out: &mut O, bytes: &[u8]) -> io::Result<()>
+    ensures text { Writes result (O.contents out.old) (O.contents out.new) bytes.now }
+    ensures fault { Faults result (O.failed out.old) (O.failed out.new) }
 {
     let mut rest = bytes;
     while !rest.is_empty() {
-        let taken = out.write(rest)?;
+        let taken = out.put(rest)?;
         if taken == 0 {
             return Err(io::Error::from(ErrorKind::WriteZero));
         }
@@ -39,16 +41,18 @@ pub fn write_whole<W: Write>(out: &mut W, bytes: &[u8]) -> io::Result<()>
 }
 
 /// Writes zeros, at most 64 of them.
-pub fn write_zeros<W: Write>(out: &mut W, count: usize) -> io::Result<()>
+pub fn write_zeros<O: Output>(out: &mut O, count: usize) -> io::Result<()>
     requires { count ≤ 64 }
-    ensures { Writes result (W.contents out.old) (W.contents out.new) (replicate count 0) }
+    ensures text { Writes result (O.contents out.old) (O.contents out.new) (replicate count 0) }
+    ensures fault { Faults result (O.failed out.old) (O.failed out.new) }
 {
     write_whole(out, &ZEROS[..count])
 }
 
 /// Writes the contents, one after the other.
-pub fn write_contents<W: Write>(out: &mut W, sections: &[(SectionKind, Vec<u8>)]) -> io::Result<()>
-    ensures { Writes result (W.contents out.old) (W.contents out.new) (content_bytes (contents_of sections.now)) }
+pub fn write_contents<O: Output>(out: &mut O, sections: &[(SectionKind, Vec<u8>)]) -> io::Result<()>
+    ensures text { Writes result (O.contents out.old) (O.contents out.new) (content_bytes (contents_of sections.now)) }
+    ensures fault { Faults result (O.failed out.old) (O.failed out.new) }
 {
     for section in sections {
         write_whole(out, &section.1)?;
@@ -57,8 +61,9 @@ pub fn write_contents<W: Write>(out: &mut W, sections: &[(SectionKind, Vec<u8>)]
 }
 
 /// Writes the names of the contents, each ended by a zero byte.
-fn write_names<W: Write>(out: &mut W, sections: &[(SectionKind, Vec<u8>)]) -> io::Result<()>
-    ensures { Writes result (W.contents out.old) (W.contents out.new) (names_of (contents_of sections.now)) }
+fn write_names<O: Output>(out: &mut O, sections: &[(SectionKind, Vec<u8>)]) -> io::Result<()>
+    ensures text { Writes result (O.contents out.old) (O.contents out.new) (names_of (contents_of sections.now)) }
+    ensures fault { Faults result (O.failed out.old) (O.failed out.new) }
 {
     for section in sections {
         write_whole(out, section.0.name().as_bytes())?;
@@ -68,11 +73,12 @@ fn write_names<W: Write>(out: &mut W, sections: &[(SectionKind, Vec<u8>)]) -> io
 }
 
 /// Writes the content of `.shstrtab`.
-pub fn write_name_table<W: Write>(
-    out: &mut W,
+pub fn write_name_table<O: Output>(
+    out: &mut O,
     sections: &[(SectionKind, Vec<u8>)],
 ) -> io::Result<()>
-    ensures { Writes result (W.contents out.old) (W.contents out.new) (name_table (contents_of sections.now)) }
+    ensures text { Writes result (O.contents out.old) (O.contents out.new) (name_table (contents_of sections.now)) }
+    ensures fault { Faults result (O.failed out.old) (O.failed out.new) }
 {
     write_whole(out, &[0])?;
     write_names(out, sections)?;
@@ -80,8 +86,8 @@ pub fn write_name_table<W: Write>(
 }
 
 /// Writes the headers of the contents and of `.shstrtab`, whose content has `names_size` bytes.
-pub fn write_section_headers<W: Write>(
-    out: &mut W,
+pub fn write_section_headers<O: Output>(
+    out: &mut O,
     class: Class,
     endianness: Endianness,
     names_size: u64,
@@ -90,8 +96,9 @@ pub fn write_section_headers<W: Write>(
     requires few { length sections.now ≤ 13 }
     requires places_fit { header_size class + length (content_bytes (contents_of sections.now)) < 2 ^ (8 * word_size class) }
     requires names_fit { names_size < 2 ^ (8 * word_size class) }
-    ensures { Writes result (W.contents out.old) (W.contents out.new)
+    ensures text { Writes result (O.contents out.old) (O.contents out.new)
         (headers_from class endianness names_size 1 (header_size class) (contents_of sections.now)) }
+    ensures fault { Faults result (O.failed out.old) (O.failed out.new) }
 {
     let mut name = 1;
     let mut place = u64::from(header_size(class));

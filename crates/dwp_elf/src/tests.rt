@@ -2,7 +2,8 @@
 ghost use Rattle.std.specs.Prelude.{Some};
 
 use crate::{
-    Class, Contribution, ContributionOffset, Endianness, SectionKind, WritableObject, WriteError,
+    Class, Contribution, ContributionOffset, Endianness, SectionKind, Watched, WritableObject,
+    WriteError,
 };
 use std::alloc::{AllocError, Global};
 use std::io;
@@ -202,13 +203,22 @@ impl Write for Limited {
     }
 }
 
-fn make_writer(alloc: Global, at_once: usize, room: usize, fails: bool) -> Limited {
-    Limited {
-        bytes: Vec::new(alloc),
-        at_once,
-        room,
-        fails,
-    }
+/// With memory for the whole package, so that no write is refused for want of it.
+fn make_writer(
+    alloc: Global,
+    at_once: usize,
+    room: usize,
+    fails: bool,
+) -> Result<Watched<Limited>, AllocError> {
+    Ok(Watched {
+        writer: Limited {
+            bytes: Vec::with_capacity(alloc, 544)?,
+            at_once,
+            room,
+            fails,
+        },
+        fault: None,
+    })
 }
 
 #[test]
@@ -299,35 +309,41 @@ fn is_content(
 #[test]
 fn a_slow_writer_gets_the_whole_file(rt: HostRuntime) -> Result<(), Fail> {
     let alloc = rt.alloc();
-    let mut writer = make_writer(alloc, 7, usize::MAX, true);
+    let mut writer = make_writer(alloc, 7, usize::MAX, true)?;
     package(alloc)?.write_to(&mut writer)?;
-    assert_eq!(rt; writer.bytes.as_slice(), joined(alloc, PACKAGE)?.as_slice());
+    assert_eq!(rt;
+        writer.writer.bytes.as_slice(),
+        joined(alloc, PACKAGE)?.as_slice()
+    );
+    assert_eq!(rt; writer.fault, None);
     Ok(())
 }
 
 #[test]
 fn a_writer_that_fails_has_a_beginning(rt: HostRuntime) -> Result<(), Fail> {
     let alloc = rt.alloc();
-    let mut writer = make_writer(alloc, usize::MAX, 100, true);
+    let mut writer = make_writer(alloc, usize::MAX, 100, true)?;
     match package(alloc)?.write_to(&mut writer) {
         Err(WriteError::Io(error)) => assert_eq!(rt; error.kind(), ErrorKind::Other),
         _ => panic!(rt; "the writer failed"),
     }
     let file = joined(alloc, PACKAGE)?;
-    assert_eq!(rt; writer.bytes.len(), 100);
-    assert!(rt; file.starts_with(&writer.bytes));
+    assert_eq!(rt; writer.writer.bytes.len(), 100);
+    assert!(rt; file.starts_with(&writer.writer.bytes));
+    assert_eq!(rt; writer.fault, Some(ErrorKind::Other));
     Ok(())
 }
 
 #[test]
 fn a_writer_that_takes_nothing_gets_nothing(rt: HostRuntime) -> Result<(), Fail> {
     let alloc = rt.alloc();
-    let mut writer = make_writer(alloc, usize::MAX, 0, false);
+    let mut writer = make_writer(alloc, usize::MAX, 0, false)?;
     match package(alloc)?.write_to(&mut writer) {
         Err(WriteError::Io(error)) => assert_eq!(rt; error.kind(), ErrorKind::WriteZero),
         _ => panic!(rt; "the writer took nothing"),
     }
-    assert_eq!(rt; writer.bytes.len(), 0);
+    assert_eq!(rt; writer.writer.bytes.len(), 0);
+    assert_eq!(rt; writer.fault, Some(ErrorKind::WriteZero));
     Ok(())
 }
 

@@ -14,15 +14,15 @@ section_header-header-requires-clause-size_fits g c =
     let step = length-content_bytes-drop _ _ _ c.loop-section-test.true c.section-item.is in
     omega (arith, step, x.1.ok.0, c.len-size.ensures, c.loop-section.invariant.place_left, c.requires.places_fit)
 
-pub returns-in_err-write_whole : goal.returns-in_err-write_whole
-returns-in_err-write_whole g c =
+pub returns-in_err-write_whole-clause-text : goal.returns-in_err-write_whole-clause-text
+returns-in_err-write_whole-clause-text g c =
     let x = c.section-item.result in
     let size : c.len-size.result ≡ length x.1.items = omega (arith, x.1.ok.0, c.len-size.ensures) in
     let header : c.as_slice.result.now ≡ section_header c.args.class c.args.endianness c.loop-section.name 1 c.loop-section.place (length x.1.items) =
     c.as_slice.ensures ∙ c.section_header-header.ensures ∙ ap (section_header c.args.class c.args.endianness c.loop-section.name 1 c.loop-section.place) size in
     let split = headers_from-drop c.args.class c.args.endianness c.args.names_size c.loop-section.name c.loop-section.place _ _ _ _ _ c.loop-section-test.true c.section-item.is refl refl in
     let p = err_from_is_err_and c.from_residual.result c.from_residual.ensures.1 in
-    rw p.1 (so_far_part _ _ _ _ c.loop-section.invariant.written split (rw header at c.in_err-write_whole.ensures))
+    rw p.1 (so_far_part _ _ _ _ c.loop-section.invariant.written split (rw header at c.in_err-write_whole.ensures.text))
 
 pub overflow_add-place : goal.overflow_add-place
 overflow_add-place g c =
@@ -42,14 +42,15 @@ loop-section-preserved g c =
     c.loop-section-test.true c.section-item.is (omega (arith, name)) (omega (arith, size)) in
     let step = length-content_bytes-drop _ _ _ c.loop-section-test.true c.section-item.is in
     record {
-      written = so_far_more _ _ _ _ c.loop-section.invariant.written split (rw header at c.in_ok-write_whole.ensures);
+      written = so_far_more _ _ _ _ c.loop-section.invariant.written split (rw header at c.in_ok-write_whole.ensures.text);
+      fault = λ kind f. c.loop-section.invariant.fault kind (c.in_ok-write_whole.ensures.fault kind f);
       place_left = omega (arith, step, size, c.loop-section.invariant.place_left);
       name_small = omega (arith, name, length-name_of x.0, c.loop-section.invariant.name_small);
     }
 
-pub returns : goal.returns
-returns g c =
+pub returns-clause-text : goal.returns-clause-text
+returns-clause-text g c =
     let header : c.as_slice-2.result.now ≡ section_header c.args.class c.args.endianness c.loop-section.name 3 c.loop-section.place c.args.names_size =
     c.as_slice-2.ensures ∙ c.section_header-header-2.ensures in
     let end = headers_from-end c.args.class c.args.endianness c.args.names_size c.loop-section.name c.loop-section.place _ _ c.loop-section-test.false in
-    Writes-so_far _ _ _ _ _ _ c.loop-section.invariant.written (rw (end, ← header) c.write_whole-2.ensures)
+    Writes-so_far _ _ _ _ _ _ c.loop-section.invariant.written (rw (end, ← header) c.write_whole-2.ensures.text)

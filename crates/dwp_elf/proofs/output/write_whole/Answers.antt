@@ -6,23 +6,27 @@ use Rattle.dwp_elf.proofs.SoFar.{so_far_none, so_far_more, so_far_stop, Keeps-fr
 use Rattle.dwp_elf.proofs.output.write_whole.Goals as goal
 
 pub loop-rest-init : goal.loop-rest-init
-loop-rest-init g c = so_far_none _ _
+loop-rest-init g c = record { text = so_far_none _ _; fault = λ kind f. f }
 
-pub returns-in_err-taken : goal.returns-in_err-taken
-returns-in_err-taken g c =
+pub returns-in_err-taken-clause-text : goal.returns-in_err-taken-clause-text
+returns-in_err-taken-clause-text g c =
     let some : 0 < length c.loop-rest.rest.now = grind (arith, nat_tests) in
     let p = err_from_is_err_and c.from_residual.result c.from_residual.ensures.1 in
-    rw p.1 (so_far_stop _ c.loop-rest.invariant some c.in_err-taken.ensures.bytes)
+    rw p.1 (so_far_stop _ c.loop-rest.invariant.text some c.in_err-taken.ensures.bytes)
 
-pub returns-then-taken-eq0 : goal.returns-then-taken-eq0
-returns-then-taken-eq0 g c =
+pub returns-then-taken-eq0-clause-text : goal.returns-then-taken-eq0-clause-text
+returns-then-taken-eq0-clause-text g c =
     let some : 0 < length c.loop-rest.rest.now = grind (arith, nat_tests) in
-    so_far_stop _ c.loop-rest.invariant some
+    so_far_stop _ c.loop-rest.invariant.text some
     (Keeps-from_none _ _ _ _ c.if-taken-eq0.true c.in_ok-taken.ensures.bytes)
 
 pub loop-rest-preserved : goal.loop-rest-preserved
 loop-rest-preserved g c =
     let rest = c.loop-rest.rest.now in
     let n = c.in_ok-taken.taken in
-    so_far_more _ rest (take n rest) _ c.loop-rest.invariant
-    (sym (take-append-drop n rest) ∙ ap (λ l. take n rest ++ l) (sym (take_rest rest n))) c.in_ok-taken.ensures.bytes
+    let some : 0 < n = grind (arith, nat_tests) in
+    record {
+      text = so_far_more _ rest (take n rest) _ c.loop-rest.invariant.text
+          (sym (take-append-drop n rest) ∙ ap (λ l. take n rest ++ l) (sym (take_rest rest n))) c.in_ok-taken.ensures.bytes;
+      fault = λ kind f. c.loop-rest.invariant.fault kind (c.in_ok-taken.ensures.some some kind f);
+    }
