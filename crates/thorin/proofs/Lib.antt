@@ -5,3 +5,4 @@ pub mod Names
 pub mod NewUnitLemmas
 pub mod Extending
 pub mod Running
+pub mod ReadingFile

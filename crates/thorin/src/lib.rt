@@ -4,6 +4,7 @@
 mod adding;
 mod growing;
 mod identity;
+mod laws;
 mod object;
 mod package;
 mod packing;
@@ -12,6 +13,7 @@ mod state;
 mod units;
 
 pub use identity::dwo_identifier_of_unit;
+pub use laws::written_packages_are_read;
 pub use package::DwarfPackage;
 pub use packing::{Input, Packed, pack};
 pub use state::InProgressDwarfPackage;
