@@ -1,7 +1,7 @@
 -- A unit that was read from a section is read again from its own bytes alone.
 use Rattle.std.proofs.Common.{◌≡◌, ℕ, zero, suc, ◌+◌, ◌-◌, ◌≤◌, Bool, true, false, cond, ltb, leb, eqb, ◌&&◌, List, length, get_or, take, drop, Result, Ok, Err, refl, sym, ap, subst, ◌∙◌, inl, inr, arith}
 use Rattle.std.specs.Prelude.{[], Some, slice_get}
-use Rattle.std.proofs.lemmas.Bool.{le-ltb, ltb-false}
+use Rattle.std.proofs.lemmas.Bool.{le-ltb, ltb-false, eqb-false}
 use Rattle.std.proofs.lemmas.List.{get_or-take, drop-take, drop-drop, length-take-le, length-drop}
 use Rattle.std.proofs.Math.Seq.{take-length}
 use Rattle.dwp_base.specs.Numbers.{number}
@@ -13,7 +13,8 @@ use Rattle.dwp_reader.specs.Encoding.{offset_size}
 use Rattle.dwp_reader.specs.declared.encoding.Format.{Format}
 use Rattle.dwp_reader.specs.declared.encoding.Format.TheVariants.{Dwarf32, Dwarf64}
 use Rattle.dwp_reader.specs.declared.fault.ReadError.{ReadError}
-use Rattle.dwp_reader.specs.declared.fault.ReadError.TheVariants.{UnexpectedEof, ReservedLength}
+use Rattle.dwp_reader.specs.declared.fault.ReadError.TheVariants.{UnexpectedEof, ReservedLength, UnknownVersion}
+use Rattle.dwp_reader.specs.declared.encoding.Encoding.{Encoding}
 use Rattle.dwp_dwarf.specs.Units.{Unit, initial_length_at, address_size_at, type_at, older_type_at, unit_code_at, unit_type_at, older_at, newer_at, header_at, unit_at, listed, units_within, units}
 use Rattle.dwp_dwarf.specs.declared.header.UnitSection.{UnitSection}
 use Rattle.dwp_dwarf.specs.declared.header.UnitSection.TheVariants.{Info, Types}
@@ -414,3 +415,73 @@ module _ (order : Endianness) (place : UnitSection) (u : Unit) where
   pub units_alone : (bytes : List ℕ) (k : ℕ) → slice_get (units place (section order bytes)) k ≡ Some (Ok u) → Goal
   unfolding units
   units_alone bytes k given = within_alone (length bytes) 0 bytes k given
+
+-- ---- a unit of version 5 is read the same in either section
+abbrev read_unit : Unit → Result Unit ReadError
+read_unit u = Ok u
+
+same_unit : (x y : Unit) → read_unit x ≡ read_unit y → x ≡ y
+same_unit x y h = cc
+
+older_version : (place : UnitSection) (format : Format) (version : ℕ) (whole i : Input) (u : Unit) → older_at place format version whole i ≡ Ok u → u.encoding.version ≡ version
+unfolding older_at
+older_version place format version whole i u e =
+    let a = bind_ok (offset_at format i) _ u e in
+    let b = bind_ok (address_size_at a.0.1) _ u a.2 in
+    let c = bind_ok (older_type_at place format b.0.1) _ u b.2 in
+    sym (ap (λ (x : Unit). x.encoding.version) (same_unit _ u c.2))
+
+-- what a version goes on to
+abbrev by_version : UnitSection → Format → Input → ℕ → Input → Result Unit ReadError
+by_version place format whole version i = cond (eqb version 5) (newer_at format whole i) (cond (leb 2 version && leb version 4) (older_at place format version whole i) (Err UnknownVersion))
+
+header_by : (place : UnitSection) (format : Format) (whole i : Input) → header_at place format whole i ≡ (number_at 2 i >>= λ version. by_version place format whole version.0 version.1)
+unfolding header_at
+header_by place format whole i = refl
+
+newer_anywhere : (place other : UnitSection) (format : Format) (whole i : Input) (version : ℕ) (u : Unit) → u.encoding.version ≡ 5 → by_version place format whole version i ≡ Ok u → by_version other format whole version i ≡ Ok u
+newer_anywhere place other format whole i version u five e =
+    elim (chosen (eqb version 5) (newer_at format whole i) (cond (leb 2 version && leb version 4) (older_at place format version whole i) (Err UnknownVersion)) (Ok u) e) [
+      | inl newer ↦ ap (λ b. cond b (newer_at format whole i) (cond (leb 2 version && leb version 4) (older_at other format version whole i) (Err UnknownVersion))) newer.0 ∙ newer.1
+      | inr older ↦
+          elim (chosen (leb 2 version && leb version 4) (older_at place format version whole i) (Err UnknownVersion) (Ok u) older.1) [
+            | inl some ↦ absurd (eqb-false version 5 older.0 (sym (older_version place format version whole i u some.1) ∙ five))
+            | inr none ↦ absurd cc
+          ]
+    ]
+
+header_anywhere : (place other : UnitSection) (format : Format) (whole i : Input) (u : Unit) → u.encoding.version ≡ 5 → header_at place format whole i ≡ Ok u → header_at other format whole i ≡ Ok u
+header_anywhere place other format whole i u five e =
+    let a = bind_ok (number_at 2 i) (λ version. by_version place format whole version.0 version.1) u (sym (header_by place format whole i) ∙ e) in
+    header_by other format whole i ∙ ap (λ (r : Result (ℕ × Input) ReadError). r >>= λ version. by_version other format whole version.0 version.1) a.1
+    ∙ newer_anywhere place other format whole a.0.1 a.0.0 u five a.2
+
+abbrev read_pair : Unit × Input → Units
+read_pair x = Ok x
+
+same_pair : (x y : Unit × Input) → read_pair x ≡ read_pair y → x ≡ y
+same_pair x y h = cc
+
+-- the next step after one that gave a
+goes_to : {A B : Type 0} (r : Result A ReadError) (f : A → Result B ReadError) (a : A) (b : B) → r ≡ Ok a → f a ≡ Ok b → (r >>= f) ≡ Ok b
+goes_to {A} {B} r f a b e h = ap (λ (x : Result A ReadError). x >>= f) e ∙ h
+
+unit_anywhere : (place other : UnitSection) (i : Input) (x : Unit × Input) → x.0.encoding.version ≡ 5 → unit_at place i ≡ Ok x → unit_at other i ≡ Ok x
+unit_anywhere place other i x five e =
+    let a = bind_ok (initial_length_at i) (from_length place i) x (sym (by_length place i) ∙ e) in
+    let b = bind_ok (split_at a.0.0.1 a.0.1) (from_body place i a.0.0.0) x a.2 in
+    let c = bind_ok (split_at (b.0.1.place - i.place) i) (λ w. header_at place a.0.0.0 w.0 b.0.0 >>= λ unit. Ok (unit, b.0.1)) x b.2 in
+    let d = bind_ok (header_at place a.0.0.0 c.0.0 b.0.0) (λ unit. Ok (unit, b.0.1)) x c.2 in
+    let version : d.0.encoding.version ≡ 5 = ap (λ (y : Unit × Input). y.0.encoding.version) (same_pair (d.0, b.0.1) x d.2) ∙ five in
+    by_length other i
+    ∙ goes_to (initial_length_at i) (from_length other i) a.0 x a.1
+    (goes_to (split_at a.0.0.1 a.0.1) (from_body other i a.0.0.0) b.0 x b.1
+    (goes_to (split_at (b.0.1.place - i.place) i) (λ w. header_at other a.0.0.0 w.0 b.0.0 >>= λ unit. Ok (unit, b.0.1)) c.0 x c.1
+    (goes_to (header_at other a.0.0.0 c.0.0 b.0.0) (λ unit. Ok (unit, b.0.1)) d.0 x (header_anywhere place other a.0.0.0 c.0.0 b.0.0 d.0 version d.1) d.2)))
+
+pub encoding_anywhere : (order : Endianness) (place other : UnitSection) (bytes : List ℕ) (encoding : Encoding) → encoding.version ≡ 5 → encoding_in order place bytes ≡ Ok encoding → encoding_in order other bytes ≡ Ok encoding
+unfolding encoding_in
+encoding_anywhere order place other bytes encoding five e =
+    let a = bind_ok (unit_at place (section order bytes)) (λ unit. Ok unit.0.encoding) encoding e in
+    let same : a.0.0.encoding ≡ encoding = cc in
+    ap (λ (r : Units). r >>= λ unit. Ok unit.0.encoding) (unit_anywhere place other (section order bytes) a.0 (ap (λ (x : Encoding). x.version) same ∙ five) a.1) ∙ a.2

@@ -50,12 +50,16 @@ pub fn ranges_are_parts()
         → row_bytes contents row kind ≡ [] }
 {}
 
-/// The law of units: a unit of a section is read from its own bytes alone, with the same encoding. It does
-/// nothing.
+/// The law of units: a unit of a section is read from its own bytes alone, with the same encoding; one of
+/// version 5 also where it stands in the other section. It does nothing.
 pub fn units_are_read_alone()
-    ensures { (order : Endianness) (place : UnitSection) (bytes : List ℕ) (k : ℕ) (unit : Unit)
+    ensures alone { (order : Endianness) (place : UnitSection) (bytes : List ℕ) (k : ℕ) (unit : Unit)
         → slice_get (units place (section order bytes)) k ≡ Some (Ok unit)
         → encoding_in order place (unit_bytes unit) ≡ Ok unit.encoding }
+    ensures anywhere { (order : Endianness) (place other : UnitSection) (bytes : List ℕ) (encoding : Encoding)
+        → encoding.version ≡ 5
+        → encoding_in order place bytes ≡ Ok encoding
+        → encoding_in order other bytes ≡ Ok encoding }
 {}
 
 /// The law of names: the used slots of an index of distinct identifiers name each of them once, with the
