@@ -6,3 +6,4 @@ pub mod NewUnitLemmas
 pub mod Extending
 pub mod Running
 pub mod ReadingFile
+pub mod PartMeaning
