@@ -7,3 +7,4 @@ pub mod Extending
 pub mod Running
 pub mod ReadingFile
 pub mod PartMeaning
+pub mod Joining

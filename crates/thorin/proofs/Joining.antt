@@ -1,0 +1,203 @@
+-- What a plain object adds to a package: its units, joined to the names that are there.
+use Rattle.std.proofs.Common.{◌≡◌, ◌∙◌, ℕ, ◌+◌, ◌<◌, Bool, true, false, not, cond, ltb, eqb, ◌||◌, ◌==◌, List, [], ◌∷◌, ◌++◌, length, map, get_or, All, AllPairs, Option, Some, None, is_some, option_map, Result, Ok, Err, ap, ap₂, sym, subst, refl, arith, eq-eqb, eqb-true, append_assoc, append-nil, position}
+use Rattle.std.specs.List.{list_any, position_from}
+use Rattle.std.specs.Map.{lookup}
+use Rattle.std.specs.Str.{bytes_eq}
+use Rattle.std.proofs.lemmas.Iterator.Adapters.{position_from-zero}
+use Rattle.std.proofs.lemmas.List.Elements.{All-get_or, filter_passes}
+use Rattle.std.proofs.lemmas.List.Folds.{list_any-append, list_any_at}
+use Rattle.std.proofs.lemmas.List.Kept.{AllPairs-filter}
+use Rattle.std.proofs.lemmas.List.Quantifiers.{all_pairs_push}
+use Rattle.std.proofs.lemmas.Map.Made.{is_some-lookup}
+use Rattle.dwp_base.specs.Reading.{◌>>=◌}
+use Rattle.dwp_base.specs.declared.section.SectionKind.TheVariants.{Abbrev}
+use Rattle.dwp_reader.specs.Input.{section}
+use Rattle.dwp_reader.specs.declared.fault.ReadError.{ReadError}
+use Rattle.dwp_dwarf.specs.Units.{Unit, units}
+use Rattle.dwp_dwarf.specs.declared.header.UnitSection.{UnitSection}
+use Rattle.dwp_table.specs.Objects.{identifier_of}
+use Rattle.dwp_table.specs.Table.{AreDistinct}
+use Rattle.dwp_table.specs.declared.object.DwarfObject.{DwarfObject}
+use Rattle.dwp_table.specs.declared.object.DwarfObject.TheVariants.{Compilation, TypeUnit}
+use Rattle.thorin_parts.specs.declared.entry.IndexEntry.{IndexEntry}
+use Rattle.thorin_parts.specs.IndexText.{entry_ids}
+use Rattle.std.specs.Option.{ok_or}
+use Rattle.std.proofs.lemmas.List.{map-append}
+use Rattle.thorin_faults.specs.Fault.{Fault, ParseUnitHeader, NotSplitUnit, EmptyUnit, DuplicateUnit}
+use Rattle.thorin_faults.specs.Answers.{as_fault}
+use Rattle.thorin_strings.proofs.NamedEntries.{bind_ok}
+use Rattle.thorin.specs.Identity.{identity}
+use Rattle.thorin.specs.Builder.{is_compilation, is_chosen, rows_of}
+use Rattle.thorin.specs.Meaning.{joining, named_unit, named_each, named_at, named_sections, object_units}
+use Rattle.thorin.specs.NewUnits.{NewUnit, New, Held, same_name, or_held, held_bytes, kept_bytes, place_for, with_unit, with_read, with_each_read, unit_section, with_section_at, with_section, with_each_section, new_units}
+use Rattle.thorin.specs.State.{Package, with_name, with_new_unit, with_new_units}
+use Rattle.thorin.specs.Used.{Used, Object, first}
+
+-- one name is the other
+
+pub same_name-true : (a b : DwarfObject) → same_name a b ≡ true → a ≡ b
+same_name-true (Compilation a) (Compilation b) h = ap (λ n. Compilation (record { 0 = n })) (eqb-true a.0 b.0 h)
+same_name-true (TypeUnit a) (TypeUnit b) h = ap (λ n. TypeUnit (record { 0 = n })) (eqb-true a.0 b.0 h)
+same_name-true (Compilation a) (TypeUnit b) h = cc
+same_name-true (TypeUnit a) (Compilation b) h = cc
+
+same_name-self : (a : DwarfObject) → same_name a a ≡ true
+same_name-self (Compilation a) = eq-eqb a.0 a.0 refl
+same_name-self (TypeUnit a) = eq-eqb a.0 a.0 refl
+
+pub same_name-equal : (a b : DwarfObject) → a ≡ b → same_name a b ≡ true
+same_name-equal a b h = subst (λ c. same_name a c ≡ true) h (same_name-self a)
+
+same_name-sym : (a b : DwarfObject) → same_name a b ≡ true → same_name b a ≡ true
+same_name-sym a b h = same_name-equal b a (sym (same_name-true a b h))
+
+-- joining
+
+-- more units are joined to the names of those before them, too
+joining-append : {X : Type 0} (names : List DwarfObject) (us vs : List (DwarfObject × X))
+    → joining names (us ++ vs) ≡ joining names us ++ joining (names ++ map (λ u. u.0) (joining names us)) vs
+joining-append names [] vs = ap (λ n. joining n vs) (sym (append-nil names))
+joining-append {X} names (u ∷ us) vs = by (list_any (same_name u.0) names) (joining-append names us vs) (joining-append (names ++ u.0 ∷ []) us vs)
+  where
+    by : (b : Bool)
+        → joining names (us ++ vs) ≡ joining names us ++ joining (names ++ map (λ e. e.0) (joining names us)) vs
+        → joining (names ++ u.0 ∷ []) (us ++ vs) ≡ joining (names ++ u.0 ∷ []) us ++ joining ((names ++ u.0 ∷ []) ++ map (λ e. e.0) (joining (names ++ u.0 ∷ []) us)) vs
+        → cond b (joining names (us ++ vs)) (u ∷ joining (names ++ u.0 ∷ []) (us ++ vs))
+        ≡ cond b (joining names us) (u ∷ joining (names ++ u.0 ∷ []) us) ++ joining (names ++ map (λ e. e.0) (cond b (joining names us) (u ∷ joining (names ++ u.0 ∷ []) us))) vs
+    by true here there = here
+    by false here there = ap (λ l. u ∷ l) (there ∙ ap (λ n. joining (names ++ u.0 ∷ []) us ++ joining n vs) (append_assoc names (u.0 ∷ []) (map (λ e. e.0) (joining (names ++ u.0 ∷ []) us))))
+
+-- what is kept
+
+position_from-some : (test : DwarfObject → Bool) (i : ℕ) (xs : List DwarfObject) → is_some (position_from test i xs) ≡ list_any test xs
+position_from-some test i [] = refl
+position_from-some test i (x ∷ xs) = by (test x) (position_from-some test (i + 1) xs)
+  where
+    by : (b : Bool) → is_some (position_from test (i + 1) xs) ≡ list_any test xs → is_some (cond b (Some i) (position_from test (i + 1) xs)) ≡ (b || list_any test xs)
+    by true rest = refl
+    by false rest = rest
+
+position-some : (test : DwarfObject → Bool) (xs : List DwarfObject) → is_some (position test xs) ≡ list_any test xs
+position-some test xs = ap is_some (position_from-zero test xs) ∙ position_from-some test 0 xs
+
+option_map-some : {X Y : Type 0} (f : X → Y) (o : Option X) → is_some (option_map f o) ≡ is_some o
+option_map-some f None = refl
+option_map-some f (Some x) = refl
+
+or_held-some : (a : Option NewUnit) (b : Option (List ℕ)) → is_some (or_held a b) ≡ (is_some b || is_some a)
+or_held-some None None = refl
+or_held-some None (Some b) = refl
+or_held-some (Some a) None = refl
+or_held-some (Some a) (Some b) = refl
+
+-- something is kept for the names that are held, and those of the units that are added
+kept-some : (held : Held) (us : List (DwarfObject × NewUnit)) (name : DwarfObject)
+    → is_some (kept_bytes held us name) ≡ list_any (same_name name) (held.names ++ map (λ u. u.0) us)
+kept-some held us name =
+    or_held-some (lookup (same_name name) us) (held_bytes held name)
+    ∙ ap₂ (λ a b. a || b) (option_map-some _ (position (same_name name) held.names) ∙ position-some (same_name name) held.names) (is_some-lookup (same_name name) us)
+    ∙ sym (list_any-append (same_name name) held.names (map (λ u. u.0) us))
+
+-- what was joined so far, and then more
+joined-more : (names : List DwarfObject) (before mid after us vs : List (DwarfObject × NewUnit))
+    → mid ≡ before ++ joining (names ++ map (λ u. u.0) before) us
+    → after ≡ mid ++ joining (names ++ map (λ u. u.0) mid) vs
+    → after ≡ before ++ joining (names ++ map (λ u. u.0) before) (us ++ vs)
+joined-more names before mid after us vs h k =
+    let keys = λ (l : List (DwarfObject × NewUnit)). map {B = DwarfObject} (λ u. u.0) l in
+    let added = joining (names ++ keys before) us in
+    k
+    ∙ ap (λ m. m ++ joining (names ++ keys m) vs) h
+    ∙ append_assoc before added (joining (names ++ keys (before ++ added)) vs)
+    ∙ ap (λ n. before ++ (added ++ joining n vs)) (ap (λ m. names ++ m) (map-append _ before added) ∙ sym (append_assoc names (keys before) (keys added)))
+    ∙ ap (λ t. before ++ t) (sym (joining-append (names ++ keys before) us vs))
+
+-- the units of a meaning are joined to those before
+abbrev Joined : Held → New → New → Result (List (DwarfObject × NewUnit)) Fault → Type 0
+Joined held before after meaning =
+    (us : List (DwarfObject × NewUnit)) × (meaning ≡ Ok us) × (after.units ≡ before.units ++ joining (held.names ++ map (λ u. u.0) before.units) us)
+
+abbrev ok : New → Result New Fault
+ok new = Ok new
+
+same-new : (held : Held) (before after : New) → ok before ≡ ok after → Joined held before after (Ok [])
+same-new held before after h = ([], refl, (let e : after ≡ before = cc in ap (λ n. n.units) e ∙ sym (append-nil before.units)))
+
+bind-is : {A B E : Type 0} (r : Result A E) (x : A) (f : A → Result B E) → r ≡ Ok x → (r >>= f) ≡ f x
+bind-is r x f h = ap (λ q. q >>= f) h
+
+passed-over : (e : Bool) (new other next : New) → other.units ≡ new.units → ok (cond e new other) ≡ ok next → next.units ≡ new.units
+passed-over true new other next s h = let e : next ≡ new = cc in ap (λ n. n.units) e
+passed-over false new other next s h = let e : next ≡ other = cc in ap (λ n. n.units) e ∙ s
+
+added-unit : (e : Bool) (f : Fault) (new next : New) → cond e (Ok new) (Err f) ≡ Ok next → next.units ≡ new.units
+added-unit true f new next h = let e : next ≡ new = cc in ap (λ n. n.units) e
+added-unit false f new next h = absurd cc
+
+-- one more unit, where nothing is kept for its name
+with_unit-units : (kept : Option (List ℕ)) (from : Used) (name : DwarfObject) (bytes : List ℕ) (new next : New) (u : NewUnit)
+    → u ≡ record { place = place_for name from.kind; bytes = bytes }
+    → with_unit kept from name bytes new ≡ Ok next → next.units ≡ new.units ++ cond (is_some kept) [] ((name, u) ∷ [])
+unfolding with_unit
+with_unit-units (Some kept) from (Compilation id) bytes new next u is h = absurd cc
+with_unit-units (Some kept) from (TypeUnit signature) bytes new next u is h = passed-over (bytes_eq kept bytes) new _ next refl h ∙ sym (append-nil new.units)
+with_unit-units None from name bytes new next u is h =
+    added-unit (from.address == 0) (EmptyUnit (identifier_of name)) _ next h ∙ ap (λ v. new.units ++ (name, v) ∷ []) (sym is)
+
+read-joined : (object : Object) (held : Held) (from : Used) (before after : New) (read : Result Unit ReadError)
+    → with_read object held from before read ≡ Ok after
+    → (u : DwarfObject × NewUnit) × (named_unit object from read ≡ Ok u) × (after.units ≡ before.units ++ joining (held.names ++ map (λ e. e.0) before.units) (u ∷ []))
+unfolding with_read named_unit
+read-joined object held from before after read h =
+    let unit = bind_ok (as_fault ParseUnitHeader read) _ after h in
+    let found = bind_ok (identity (section object.order (first Abbrev object.sections)) unit.0) _ after unit.2 in
+    let name = bind_ok (ok_or found.0 NotSplitUnit) _ after found.2 in
+    let u : NewUnit = record { place = place_for name.0 from.kind; bytes = unit.0.whole.bytes } in (
+      (name.0, u),
+      bind-is (as_fault ParseUnitHeader read) unit.0 _ unit.1 ∙ bind-is (identity (section object.order (first Abbrev object.sections)) unit.0) found.0 _ found.1 ∙ bind-is (ok_or found.0 NotSplitUnit) name.0 _ name.1,
+      with_unit-units (kept_bytes held before.units name.0) from name.0 unit.0.whole.bytes before after u refl name.2
+          ∙ ap (λ b. before.units ++ cond b [] ((name.0, u) ∷ [])) (kept-some held before.units name.0),
+    )
+
+each-joined : (object : Object) (held : Held) (from : Used) (before after : New) (reads : List (Result Unit ReadError))
+    → with_each_read object held from before reads ≡ Ok after → Joined held before after (named_each object from reads)
+unfolding with_each_read named_each
+each-joined object held from before after [] h = same-new held before after h
+each-joined object held from before after (read ∷ rest) h =
+    let here = bind_ok (with_read object held from before read) _ after h in
+    let one = read-joined object held from before here.0 read here.1 in
+    let others = each-joined object held from here.0 after rest here.2 in (
+      one.0 ∷ others.0,
+      bind-is (named_unit object from read) one.0 _ one.1 ∙ bind-is (named_each object from rest) others.0 _ others.1,
+      joined-more held.names before.units here.0.units after.units (one.0 ∷ []) others.0 one.2 others.2,
+    )
+
+section_at-joined : (object : Object) (held : Held) (from : Used) (before after : New) (place : Option UnitSection)
+    → with_section_at object held from before place ≡ Ok after → Joined held before after (named_at object from place)
+section_at-joined object held from before after None h = same-new held before after h
+section_at-joined object held from before after (Some place) h = each-joined object held from before after (units place (section object.order from.bytes)) h
+
+section-joined : (object : Object) (held : Held) (from : Used) (before after : New)
+    → with_section object held before from ≡ Ok after → Joined held before after (named_at object from (unit_section from.kind))
+unfolding with_section
+section-joined object held from before after h = section_at-joined object held from before after (unit_section from.kind) h
+
+sections-joined : (object : Object) (held : Held) (before after : New) (sections : List Used)
+    → with_each_section object held before sections ≡ Ok after → Joined held before after (named_sections object sections)
+unfolding with_each_section named_sections
+sections-joined object held before after [] h = same-new held before after h
+sections-joined object held before after (from ∷ rest) h =
+    let here = bind_ok (with_section object held before from) _ after h in
+    let one = section-joined object held from before here.0 here.1 in
+    let others = sections-joined object held here.0 after rest here.2 in (
+      one.0 ++ others.0,
+      bind-is (named_at object from (unit_section from.kind)) one.0 _ one.1 ∙ bind-is (named_sections object rest) others.0 _ others.1,
+      joined-more held.names before.units here.0.units after.units one.0 others.0 one.2 others.2,
+    )
+
+-- the units that an object adds are its units, joined to the names that are held
+pub joined_units : (object : Object) (held : Held) (new : New) → new_units object held ≡ Ok new
+    → (all : List (DwarfObject × NewUnit)) × (object_units object ≡ Ok all) × (new.units ≡ joining held.names all)
+joined_units object held new h =
+    let all = sections-joined object held (record { units = []; differing = [] }) new object.sections h in
+    (all.0, all.1, all.2 ∙ ap (λ n. joining n all.0) (append-nil held.names))
