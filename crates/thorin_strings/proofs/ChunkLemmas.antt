@@ -6,7 +6,7 @@ use Rattle.std.proofs.lemmas.List.Edits.{insert-append_left, insert-append_right
 use Rattle.std.proofs.lemmas.List.Elements.{filter-append, All-nil, All-cons, All-weaker}
 use Rattle.std.proofs.lemmas.List.Sums.{length-filter, count_by-le-length}
 use Rattle.std.proofs.lemmas.Bool.{cases_lt}
-use Rattle.thorin_strings.specs.Chunks.{starts_from, IsPieceOf, IsChunked}
+use Rattle.thorin_strings.specs.Chunks.{starts_from, IsPieceOf, AreShort, IsChunked}
 
 pub length-starts_from : (n : ℕ) (ps : List (List ℕ)) → length (starts_from n ps) ≡ length ps
 length-starts_from n [] = refl
@@ -222,8 +222,8 @@ chunk_goes ps starts rank at begun piece within =
     (place.there, piece.low, omega (arith, place.low, place.high))
 
 -- the chunks once it stands there
-pub chunk_inserted : (ps qs : List (List ℕ)) (starts new : List ℕ) (count rank at v : ℕ) → starts ≡ starts_from 0 ps → count ≡ length (concat ps) → IsPieceOf starts rank at → rank ≤ length (concat ps) → qs ≡ set ps at (insert (get_or ps at []) (rank - get_or starts at 0) v) → new ≡ raised (at + 1) starts → (concat qs ≡ insert (concat ps) rank v) × IsChunked qs new (count + 1)
-chunk_inserted ps qs starts new count rank at v begun counted piece within put raise =
+pub chunk_inserted : (ps qs : List (List ℕ)) (starts new : List ℕ) (count rank at v : ℕ) → starts ≡ starts_from 0 ps → count ≡ length (concat ps) → IsPieceOf starts rank at → rank ≤ length (concat ps) → qs ≡ set ps at (insert (get_or ps at []) (rank - get_or starts at 0) v) → new ≡ raised (at + 1) starts → AreShort qs → (concat qs ≡ insert (concat ps) rank v) × IsChunked qs new (count + 1)
+chunk_inserted ps qs starts new count rank at v begun counted piece within put raise short =
     let place = placed ps rank at (subst (λ l. IsPieceOf l rank at) begun piece) within in
     let start : get_or starts at 0 ≡ length (concat (take at ps)) = ap (λ l. get_or l at 0) begun ∙ place.start in
     let is : qs ≡ set ps at (insert (get_or ps at []) (rank - length (concat (take at ps))) v) = put ∙ ap (λ n. set ps at (insert (get_or ps at []) (rank - n) v)) start in
@@ -234,6 +234,7 @@ chunk_inserted ps qs starts new count rank at v begun counted piece within put r
       record {
         begun = raise ∙ ap₂ raised next begun ∙ sym (starts_grown 0 ps at _ place.there longer) ∙ ap (starts_from 0) (sym is);
         counted = omega (arith, counted, ap length whole, length-insert (concat ps) rank v within);
+        short = short;
       },
     )
 
@@ -248,12 +249,13 @@ kept_within f ps i =
 pub kept_all : (f : List ℕ → List ℕ) (ps qs : List (List ℕ)) (i : ℕ) → length ps ≤ i → qs ≡ map f (take i ps) ++ drop i ps → qs ≡ map f ps
 kept_all f ps qs i past so_far = so_far ∙ ap₂ (λ l r. map f l ++ r) (take_all i ps past) (drop_all i ps past) ∙ append-nil (map f ps)
 
-pub chunked_all : (f : List ℕ → List ℕ) (ps qs : List (List ℕ)) (old starts : List ℕ) (i total : ℕ) → length ps ≤ i → length old ≡ length ps → qs ≡ map f (take i ps) ++ drop i ps → starts ≡ starts_from 0 (map f (take i ps)) ++ drop i old → total ≡ length (concat (map f (take i ps))) → IsChunked qs starts total
-chunked_all f ps qs old starts i total past long kept begun counted =
+pub chunked_all : (f : List ℕ → List ℕ) (ps qs : List (List ℕ)) (old starts : List ℕ) (i total : ℕ) → length ps ≤ i → length old ≡ length ps → qs ≡ map f (take i ps) ++ drop i ps → starts ≡ starts_from 0 (map f (take i ps)) ++ drop i old → total ≡ length (concat (map f (take i ps))) → AreShort (map f ps) → IsChunked qs starts total
+chunked_all f ps qs old starts i total past long kept begun counted short =
     let all : map f (take i ps) ≡ qs = ap (map f) (take_all i ps past) ∙ sym (kept_all f ps qs i past kept) in
     record {
       begun = begun ∙ ap₂ (λ l r. starts_from 0 l ++ r) all (drop_all i old (omega arith)) ∙ append-nil (starts_from 0 qs);
       counted = counted ∙ ap (λ l. length (concat l)) all;
+      short = subst AreShort (sym (kept_all f ps qs i past kept)) short;
     }
 
 -- as many pieces as before

@@ -11,3 +11,4 @@ pub mod PieceLemmas
 pub mod Named
 pub mod NamedEntries
 pub mod NamedBytes
+pub mod ShortLemmas

@@ -1,6 +1,6 @@
 ghost use Rattle.std.specs.Prelude.{◌≡◌, ◌≤◌, ◌<◌, ◌+◌, ◌^◌, List, [], ◌++◌, All, length, slice_index, slice_index_or, slice_set, vec_len, insert, map, filter, nat_lt, take, drop, OnOk, OnErr, IfOk};
 ghost use Rattle.std.specs.List.{concat};
-ghost use Rattle.thorin_strings.specs.Chunks.{pieces, starts_from, IsPieceOf, IsChunked};
+ghost use Rattle.thorin_strings.specs.Chunks.{pieces, starts_from, AreShort, IsHalved, IsPieceOf, IsChunked};
 
 use std::alloc::{AllocError, Global};
 use std::marker::Model;
@@ -85,9 +85,11 @@ fn cut(
     requires chunk { at < vec_len chunks.old }
     requires begun { starts.old.items ≡ starts_from 0 (pieces chunks.old.items) }
     requires small { length (concat (pieces chunks.old.items)) < 2 ^ 64 }
+    requires short { AreShort (pieces chunks.old.items) }
     ensures begun { starts.new.items ≡ starts_from 0 (pieces chunks.new.items) }
     ensures same { concat (pieces chunks.new.items) ≡ concat (pieces chunks.old.items) }
-    ensures some { 0 < vec_len chunks.new }
+    ensures short { AreShort (pieces chunks.new.items) }
+    ensures halved { OnOk result (IsHalved (pieces chunks.old.items) (pieces chunks.new.items) at) }
 {
     chunks.reserve(1)?;
     starts.reserve(1)?;
@@ -110,9 +112,12 @@ fn room_at(
 ) -> Result<usize, AllocError>
     requires begun { starts.old.items ≡ starts_from 0 (pieces chunks.old.items) }
     requires small { length (concat (pieces chunks.old.items)) < 2 ^ 64 }
+    requires short { AreShort (pieces chunks.old.items) }
     ensures begun { starts.new.items ≡ starts_from 0 (pieces chunks.new.items) }
     ensures same { concat (pieces chunks.new.items) ≡ concat (pieces chunks.old.items) }
+    ensures short { AreShort (pieces chunks.new.items) }
     ensures at { IfOk result (IsPieceOf starts.new.items rank) }
+    ensures room { IfOk result (λ at. length (slice_index_or (pieces chunks.new.items) at []) < 1024) }
 {
     if chunks.is_empty() {
         chunks.reserve(1)?;
@@ -125,7 +130,7 @@ fn room_at(
         return Ok(at);
     }
     cut(alloc, chunks, starts, at)?;
-    Ok(chunk_of(starts, rank))
+    Ok(if rank < starts[at + 1] { at } else { at + 1 })
 }
 
 /// Keeps the numbers of a chunk that are below a limit.
@@ -142,6 +147,7 @@ fn keep(chunks: &mut Vec<Vec<u64>>, at: usize, limit: u64)
 fn keep_all(chunks: &mut Vec<Vec<u64>>, starts: &mut [usize], limit: u64) -> usize
     requires begun { starts.old ≡ starts_from 0 (pieces chunks.old.items) }
     requires small { length (concat (pieces chunks.old.items)) < 2 ^ 64 }
+    requires short { AreShort (pieces chunks.old.items) }
     ensures kept { pieces chunks.new.items
         ≡ map (filter (λ p. nat_lt p limit)) (pieces chunks.old.items) }
     ensures chunked { IsChunked (pieces chunks.new.items) starts.new result }

@@ -1,6 +1,7 @@
 use Rattle.std.proofs.Common.{◌≡◌, ◌<◌, ◌+◌, length, get_or, [], filter, nat_lt, ap, ◌∙◌, arith}
 use Rattle.thorin_strings.specs.Chunks.{pieces}
 use Rattle.thorin_strings.proofs.ChunkLemmas.{length-starts_from, pieces_long, set_long, kept_step, kept_within, kept_all, chunked_all}
+use Rattle.thorin_strings.proofs.ShortLemmas.{short_map, filter_fewer}
 use Rattle.thorin_strings.proofs.PieceLemmas.{length-pieces, piece_read}
 use Rattle.thorin_strings.proofs.positions.keep_all.Goals as goal
 
@@ -55,3 +56,4 @@ returns-clause-chunked c =
     let ps = pieces c.args.chunks.now.items in
     let count : length c.args.starts.now ≡ length ps = ap length c.requires.begun ∙ length-starts_from 0 ps in
     chunked_all (filter (λ p. nat_lt p c.args.limit)) ps (pieces c.loop-at.chunks.items) c.args.starts.now c.loop-at.starts c.loop-at.at c.loop-at.total (omega (arith, count)) count c.loop-at.invariant.kept c.loop-at.invariant.begun c.loop-at.invariant.counted
+    (short_map (filter (λ p. nat_lt p c.args.limit)) ps (filter_fewer (λ p. nat_lt p c.args.limit)) c.requires.short)
