@@ -6,7 +6,8 @@
 For each unit of each package's indexes `THORIN find` has to print the ranges that llvm-dwarfdump lists for it, the
 version and the address size of the header that stands at its range of info or types (read here by readelf), and at
 most one slot more than there are units; `THORIN list` has to give these units with their sizes, and no others.
-It prints a line for each package, and ends with status 1 at a difference.
+It prints a line for each package, and ends with status 1 at a difference. Packages are little endian, their units of
+the 32-bit format.
 
 Packages of other programs, of one source SOURCE.cpp (for DWARF 5 write -gdwarf-5; binutils 2.40's dwp knows only the
 GNU form):
