@@ -1,18 +1,25 @@
 -- What the parts of an object mean for the contents that they are added to.
-use Rattle.std.proofs.Common.{◌≡◌, ◌∙◌, ℕ, ◌+◌, ◌-◌, ◌<◌, ◌≤◌, Bool, true, false, cond, eqb, ltb, leb, List, [], ◌∷◌, ◌++◌, length, slice_range, get_or, not, ◌&&◌, nat_le, Result, Ok, Err, Some, None, refl, sym, ap, if◌then◌else◌, ◌⊎◌, inl, inr, ⊎_elim, true≢false, arith}
-use Rattle.std.proofs.lemmas.List.{append_assoc, append-nil, length-append, drop_at}
+use Rattle.std.proofs.Common.{◌≡◌, ◌∙◌, ℕ, ◌+◌, ◌-◌, ◌<◌, ◌≤◌, Bool, true, false, cond, eqb, ltb, leb, List, [], ◌∷◌, ◌++◌, length, slice_range, get_or, take, min, subst, ◌*◌, not, ◌&&◌, nat_le, nat_lt, Result, Ok, Err, Some, None, refl, sym, ap, if◌then◌else◌, ◌⊎◌, inl, inr, ⊎_elim, true≢false, arith}
+use Rattle.std.proofs.lemmas.List.{append_assoc, append-nil, length-append, length-take, take-take, drop_at}
 use Rattle.std.proofs.Math.Seq.{take-length}
 use Rattle.std.proofs.lemmas.Option.{none-some, same_Some}
 use Rattle.std.proofs.lemmas.Bool.{ltb-true, ltb-false, le-leb, eqb-true, eqb-false, ne_eqb}
 use Rattle.dwp_base.specs.declared.section.SectionKind.{SectionKind}
 use Rattle.dwp_base.specs.declared.section.SectionKind.TheVariants.{Info, Types, Abbrev, Line, Loc, Loclists, Rnglists, StrOffsets, Macinfo, Macro, Str, CuIndex, TuIndex}
 use Rattle.dwp_base.specs.Sections.{same_kind, rank_of, all_kinds, name_of}
+use Rattle.dwp_base.specs.declared.endian.Endianness.{Endianness}
 use Rattle.dwp_base.specs.Reading.{◌>>=◌}
 use Rattle.dwp_base.specs.declared.section.Contribution.{Contribution}
 use Rattle.dwp_elf.specs.Contents.{content_of, appended}
 use Rattle.dwp_index.specs.Package.{part_of, is_outside}
 use Rattle.dwp_reader.specs.declared.encoding.Encoding.{Encoding}
+use Rattle.dwp_reader.specs.Encoding.{offset_size}
+use Rattle.dwp_index.specs.Strings.{string_in, entry_in, string_for, entry_count, header_size}
+use Rattle.thorin_parts.specs.ReadStrings.{ReadsAlike}
+use Rattle.thorin_strings.specs.Rewritten.{NamesTheSame}
+use Rattle.thorin_strings.specs.Strings.{IsTable, data_of}
 use Rattle.thorin_strings.specs.StringOffsets.{remapped}
+use Rattle.thorin_strings.specs.StringOffsets as writer
 use Rattle.thorin_faults.specs.Fault.{Fault, MissingRequiredSection, RepeatedSection, SectionOutsideFormat}
 use Rattle.thorin.specs.Growing.{Contents, with_bytes, with_parts, between, grown}
 use Rattle.thorin.specs.Meaning.{joined_parts, joined}
@@ -290,3 +297,69 @@ parts-copied object encoding strings parts after h kind copied = each-copied obj
 pub parts-none : (object : Object) (encoding : Encoding) (strings : List (List ℕ)) (parts : Contents) (after : List (List ℕ)) → parts_of object encoding strings ≡ Ok (parts, after)
     → (kind : SectionKind) → is_copied kind ≡ false → same_kind StrOffsets kind ≡ false → joined_parts kind parts ≡ []
 parts-none object encoding strings parts after h kind none apart = each-other object encoding kind object.sections ([], strings) (parts, after) none apart h
+
+-- ---- strings and string offsets
+-- a rewritten range names the same (a law of the string table)
+abbrev pub NamesTheSameLaw : Type 0
+NamesTheSameLaw = (order : Endianness) (encoding : Encoding) (section bytes : List ℕ) (size : ℕ) (before : List (List ℕ)) (rewritten : List ℕ) (after : List (List ℕ))
+    → IsTable before
+    → remapped order encoding section bytes size before ≡ Ok (rewritten, after)
+    → NamesTheSame order encoding section bytes size before rewritten after
+
+-- it is read alike (a law of the parts)
+abbrev pub ReadsAlikeLaw : Type 0
+ReadsAlikeLaw = (order : Endianness) (encoding : Encoding) (section bytes : List ℕ) (before : List (List ℕ)) (rewritten : List ℕ) (after final : List (List ℕ))
+    → IsTable before
+    → remapped order encoding section bytes (length bytes) before ≡ Ok (rewritten, after)
+    → IsTable final
+    → take (length after) final ≡ after
+    → (i : ℕ)
+    → ReadsAlike order encoding section bytes (data_of final) rewritten i
+
+-- ranges without a header, joined, are read in turn (a law of the parts)
+abbrev pub ReadInTurnLaw : Type 0
+ReadInTurnLaw = (order : Endianness) (encoding : Encoding) (strings first second : List ℕ) (n i : ℕ)
+    → encoding.version < 5
+    → length first ≡ n * offset_size encoding.format
+    → string_in order encoding strings (first ++ second) i
+    ≡ (if nat_lt i n
+    then string_in order encoding strings first i
+    else string_in order encoding strings second (i - n))
+
+-- what stands in front of what stands in front
+front-front : {A : Type 0} (a b c : List A) → take (length a) b ≡ a → take (length b) c ≡ b → take (length a) c ≡ a
+front-front a b c first second =
+    let long : length a ≡ min (length a) (length b) = ap length (sym first) ∙ length-take (length a) b in
+    let short : length a ≤ length b = omega (arith, long) in
+    sym (take-take (length a) (length b) c short) ∙ ap (take (length a)) second ∙ first
+
+-- a table of strings, with the one before in front
+pub record Follows (before after : List (List ℕ)) : Type 0 where
+  pub table : IsTable after
+  pub kept : take (length before) after ≡ before
+
+follows-refl : (a : List (List ℕ)) → IsTable a → Follows a a
+follows-refl a table = record { table = table; kept = take-length a }
+
+module _ (names : NamesTheSameLaw) (object : Object) (encoding : Encoding) where
+  step-strings : (before : Parts) (s : Used) (next : Parts) → IsTable before.1 → Step object encoding before s next → Follows before.1 next.1
+  step-strings before s next table (inl (o, w)) =
+      let same : w.written.1 ≡ next.1 = ap (λ (n : Parts). n.1) (sym w.is) in
+      let law = names object.order encoding (first Str object.sections) s.bytes (length s.bytes) before.1 w.written.0 w.written.1 table w.rewrites in
+      subst (Follows before.1) same (record { table = law.table; kept = law.kept })
+  step-strings before s next table (inr (inl (o, c, is))) = subst (λ (n : Parts). Follows before.1 n.1) (sym is) (follows-refl before.1 table)
+  step-strings before s next table (inr (inr (o, c, is))) = subst (λ (n : Parts). Follows before.1 n.1) (sym is) (follows-refl before.1 table)
+
+  each-strings : (sections : List Used) (before after : Parts) → IsTable before.1 → with_each_part object encoding before sections ≡ Ok after → Follows before.1 after.1
+  unfolding with_each_part
+  each-strings [] before after table h =
+      let same : before ≡ after = cc in
+      subst (λ (n : Parts). Follows before.1 n.1) same (follows-refl before.1 table)
+  each-strings (s ∷ ss) before after table h =
+      let next = bound (with_part object encoding before s) _ after h in
+      let here = step-strings before s next.0 table (step object encoding before s next.0 next.1) in
+      let later = each-strings ss next.0 after here.table next.2 in
+      record { table = later.table; kept = front-front before.1 next.0.1 after.1 here.kept later.kept }
+
+  pub parts-strings : (strings : List (List ℕ)) (parts : Contents) (after : List (List ℕ)) → IsTable strings → parts_of object encoding strings ≡ Ok (parts, after) → Follows strings after
+  parts-strings strings parts after table h = each-strings object.sections ([], strings) (parts, after) table h
