@@ -8,3 +8,5 @@ pub mod Running
 pub mod ReadingFile
 pub mod PartMeaning
 pub mod Joining
+pub mod Keeping
+pub mod UnitAdded

@@ -13,3 +13,5 @@ pub mod BuilderView
 pub mod Run
 pub mod Packed
 pub mod Meaning
+pub mod Join
+pub mod Represents
