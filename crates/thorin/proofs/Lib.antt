@@ -10,3 +10,4 @@ pub mod PartMeaning
 pub mod Joining
 pub mod Keeping
 pub mod UnitAdded
+pub mod UnitsAdded
