@@ -11,3 +11,4 @@ pub mod Joining
 pub mod Keeping
 pub mod UnitAdded
 pub mod UnitsAdded
+pub mod ObjectAdded
