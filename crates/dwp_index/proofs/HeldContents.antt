@@ -12,7 +12,7 @@ use Rattle.dwp_base.specs.declared.section.SectionKind.TheVariants.{Info, Types,
 use Rattle.dwp_elf_read.specs.Elf.{Elf, SectionMeaning, nobits, elf_of}
 use Rattle.dwp_elf_read.specs.declared.fault.ReadError.TheVariants.{SectionRange, Compressed}
 use Rattle.dwp_index.specs.declared.fault.PackageError.TheVariants as faults
-use Rattle.dwp_index.specs.Contents.{has_name, is_of_kind, has_older_name, used_bytes, bytes_of, content_of, contents_of}
+use Rattle.dwp_index.specs.Contents.{content, has_name, is_of_kind, has_older_name, used_bytes, bytes_of, content_of, contents_of}
 use Rattle.dwp_base.specs.declared.endian.Endianness.{Endianness}
 use Rattle.dwp_reader.specs.declared.fault.ReadError.{ReadError as UnitFault}
 use Rattle.dwp_index.specs.Index.{Index}
@@ -166,3 +166,18 @@ index_there order bytes index some e =
 pub index_missing : (order : Endianness) (bytes : List ℕ) → bytes ≡ [] → index_in_section order bytes ≡ Ok None
 unfolding index_in_section
 index_missing order bytes e = ap (λ b. cond (eqb (length b) 0) (Ok None) (as_fault faults.Index (index_of order b) >>= λ i. Ok (Some i))) e
+
+pub held_content : (held : SectionKind → List ℕ) (kind : SectionKind) → content (sections_of held) kind ≡ held kind
+held_content held Info = refl
+held_content held Types = refl
+held_content held Abbrev = refl
+held_content held Line = refl
+held_content held Loc = refl
+held_content held Loclists = refl
+held_content held Rnglists = refl
+held_content held StrOffsets = refl
+held_content held Macinfo = refl
+held_content held Macro = refl
+held_content held Str = refl
+held_content held CuIndex = refl
+held_content held TuIndex = refl

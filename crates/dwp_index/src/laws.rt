@@ -84,6 +84,7 @@ pub fn contents_are_read()
         → index_in_section file.order (held kinds.CuIndex) ≡ Ok compilations
         → index_in_section file.order (held kinds.TuIndex) ≡ Ok types
         → package_of bytes ≡ Ok (record { order = file.order; contents = sections_of held; compilations = compilations; types = types }) }
+    ensures held { (held : SectionKind → List ℕ) (kind : SectionKind) → content (sections_of held) kind ≡ held kind }
     ensures index { (order : Endianness) (bytes : List ℕ) (index : Index)
         → 0 < length bytes
         → index_of order bytes ≡ Ok index

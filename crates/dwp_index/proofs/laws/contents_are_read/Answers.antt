@@ -1,4 +1,4 @@
-use Rattle.dwp_index.proofs.HeldContents.{package_is, index_there, index_missing, held_in_order, another_kind, foreign, empty}
+use Rattle.dwp_index.proofs.HeldContents.{package_is, index_there, index_missing, held_in_order, held_content, another_kind, foreign, empty}
 use Rattle.dwp_index.proofs.laws.contents_are_read.Goals as goal
 
 pub returns-clause-package : goal.returns-clause-package
@@ -21,3 +21,6 @@ returns-clause-no_index c = index_missing
 
 pub returns-clause-in_order : goal.returns-clause-in_order
 returns-clause-in_order c = held_in_order
+
+pub returns-clause-held : goal.returns-clause-held
+returns-clause-held c = held_content
