@@ -12,3 +12,4 @@ pub mod Keeping
 pub mod UnitAdded
 pub mod UnitsAdded
 pub mod ObjectAdded
+pub mod InputJoined
