@@ -49,7 +49,7 @@ pub extends-with : (before p : Package) (f : File) (strings : List (List ℕ)) (
     → Extends before (record p { file = f; strings = strings; differing = differing })
 extends-with before p f strings differing hf hs hd hn hr = record { file = hf; strings = hs; names = hn; rows = hr; differing = hd }
 
-bind-ok : {A B E : Type 0} (r : Result A E) (x : A) (f : A → Result B E) → r ≡ Ok x → (r >>= f) ≡ f x
+pub bind-ok : {A B E : Type 0} (r : Result A E) (x : A) (f : A → Result B E) → r ≡ Ok x → (r >>= f) ≡ f x
 bind-ok r x f h = ap (λ q. q >>= f) h
 
 abbreviations-there : (object : Object) → object.has_abbreviations ≡ true → abbreviations_test object ≡ Ok tt

@@ -32,7 +32,7 @@ err-ok {X} {E} e x h = true≢false (ap is_it (sym h))
     is_it (Ok y) = true
     is_it (Err y) = false
 
-ok-eq : {X E : Type 0} (x y : X) → ◌≡◌ {A = Result X E} (Ok x) (Ok y) → x ≡ y
+pub ok-eq : {X E : Type 0} (x y : X) → ◌≡◌ {A = Result X E} (Ok x) (Ok y) → x ≡ y
 ok-eq {X} {E} x y h = ap or_x h
   where
     or_x : Result X E → X
@@ -79,7 +79,7 @@ object-order file object h =
     let s = bind-inv (used_from [] file.sections) _ object h in
     sym (ap (λ (o : Object). o.order) (ok-eq _ object s.then))
 
-made-order : (file : Elf) (object : Object) (begun : Option Package) → object_of file ≡ Ok object → order_test object.order begun ≡ Ok tt → object.order ≡ (package_or_new file begun).file.order
+pub made-order : (file : Elf) (object : Object) (begun : Option Package) → object_of file ≡ Ok object → order_test object.order begun ≡ Ok tt → object.order ≡ (package_or_new file begun).file.order
 made-order file object None h t = object-order file object h
 made-order file object (Some made) h t = sym (tested-order object.order (Some made) t)
 
@@ -90,7 +90,7 @@ empty-has class machine order table = record {
   apart = apart-none;
 }
 
-new-has : (file : Elf) (begun : Option Package) (ms : List (DwarfObject × UnitMeaning)) → IsTable [] → StateHas begun ms → HasUnits (package_or_new file begun) ms
+pub new-has : (file : Elf) (begun : Option Package) (ms : List (DwarfObject × UnitMeaning)) → IsTable [] → StateHas begun ms → HasUnits (package_or_new file begun) ms
 new-has file None ms table h = rw h (empty-has file.class file.machine file.order table)
 new-has file (Some made) ms table h = h
 

@@ -13,3 +13,4 @@ pub mod UnitAdded
 pub mod UnitsAdded
 pub mod ObjectAdded
 pub mod InputJoined
+pub mod RunJoined
