@@ -10,3 +10,4 @@ pub mod Slots
 pub mod RowsAgain
 pub mod StringsAgain
 pub mod OffsetsJoined
+pub mod StringsJoined

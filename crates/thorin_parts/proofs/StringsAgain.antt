@@ -20,10 +20,9 @@ use Rattle.thorin_faults.specs.Fault.{Fault}
 use Rattle.thorin_faults.specs.Answers.{as_fault}
 use Rattle.thorin_strings.specs.Strings.{data_of, IsTable}
 use Rattle.thorin_strings.specs.StringOffsets as writer
-use Rattle.thorin_strings.specs.StringOffsets.{length_size, offset_at, named_at, remapped}
+use Rattle.thorin_strings.specs.StringOffsets.{length_size, offset_at, named_at}
 use Rattle.thorin_strings.specs.Rewritten.{NamesTheSame}
-use Rattle.thorin_strings.proofs.NamedEntries.{bind_ok}
-use Rattle.thorin_strings.proofs.NamedBytes.{range_named}
+use Rattle.thorin_parts.proofs.Each.{bind_ok}
 use Rattle.thorin_parts.specs.ReadStrings.{ReadsAlike}
 
 -- ---- the string at an offset
@@ -53,10 +52,10 @@ front_same : (format : Format) → standard_header_size format ≡ length_size f
 front_same Dwarf32 = refl
 front_same Dwarf64 = refl
 
-header_same : (encoding : Encoding) → reader.header_size encoding ≡ writer.header_size encoding
+pub header_same : (encoding : Encoding) → reader.header_size encoding ≡ writer.header_size encoding
 header_same encoding = ap (λ n. cond (leb 5 encoding.version) n 0) (front_same encoding.format)
 
-count_same : (encoding : Encoding) (size : ℕ) → reader.entry_count encoding size ≡ writer.entry_count encoding size
+pub count_same : (encoding : Encoding) (size : ℕ) → reader.entry_count encoding size ≡ writer.entry_count encoding size
 count_same encoding size = ap (λ n. (size - n) / offset_size encoding.format) (header_same encoding)
 
 as_fault_ok : {A E : Type 0} (f : E → Fault) (r : Result A E) (x : A) → as_fault f r ≡ Ok x → r ≡ Ok x
@@ -85,15 +84,14 @@ named_read order encoding section bytes i string less h =
     rw (there, number_is, read) refl
 
 -- past the last there is none
-past_read : (order : Endianness) (encoding : Encoding) (section bytes : List ℕ) (i : ℕ) → writer.entry_count encoding (length bytes) ≤ i → string_in order encoding section bytes i ≡ Ok None
+pub past_read : (order : Endianness) (encoding : Encoding) (section bytes : List ℕ) (i : ℕ) → writer.entry_count encoding (length bytes) ≤ i → string_in order encoding section bytes i ≡ Ok None
 unfolding string_in entry_in
 past_read order encoding section bytes i past =
     let none : ltb i (reader.entry_count encoding (length bytes)) ≡ false = le-ltb i _ (omega (arith, count_same encoding (length bytes))) in
     rw none refl
 
-pub strings_again : (order : Endianness) (encoding : Encoding) (section bytes : List ℕ) (before : List (List ℕ)) (rewritten : List ℕ) (after final : List (List ℕ)) → IsTable before → remapped order encoding section bytes (length bytes) before ≡ Ok (rewritten, after) → IsTable final → take (length after) final ≡ after → (i : ℕ) → ReadsAlike order encoding section bytes (data_of final) rewritten i
-strings_again order encoding section bytes before rewritten after final table ok final_table kept i =
-    let names : NamesTheSame order encoding section bytes (length bytes) before rewritten after = range_named order encoding section bytes (length bytes) before (rewritten, after) table ok in
+pub strings_again : (order : Endianness) (encoding : Encoding) (section bytes : List ℕ) (before : List (List ℕ)) (rewritten : List ℕ) (after final : List (List ℕ)) → NamesTheSame order encoding section bytes (length bytes) before rewritten after → IsTable final → take (length after) final ≡ after → (i : ℕ) → ReadsAlike order encoding section bytes (data_of final) rewritten i
+strings_again order encoding section bytes before rewritten after final names final_table kept i =
     ⊎_elim
     (λ less. let one = names.named i less in
     let old = named_read order encoding section bytes i one.string less one.old in

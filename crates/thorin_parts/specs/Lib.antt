@@ -11,3 +11,4 @@ pub mod ReadBack
 pub mod Relocations
 pub mod ReadRows
 pub mod ReadStrings
+pub mod JoinedStrings

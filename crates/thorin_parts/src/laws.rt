@@ -1,4 +1,4 @@
-ghost use Rattle.std.specs.Prelude.{◌≡◌, ℕ, ◌-◌, ◌*◌, ◌<◌, ◌^◌, List, ◌++◌, Ok, length, slice_index, take, nat_lt, if◌then◌else◌};
+ghost use Rattle.std.specs.Prelude.{◌≡◌, ℕ, ◌-◌, ◌*◌, ◌<◌, ◌≤◌, ◌^◌, List, ◌++◌, Ok, length, slice_index, take, nat_lt, if◌then◌else◌};
 ghost use Rattle.dwp_base.specs.declared.endian.Endianness.{Endianness};
 ghost use Rattle.dwp_reader.specs.declared.encoding.Encoding.{Encoding};
 ghost use Rattle.dwp_reader.specs.Encoding.{index_version_of, offset_size};
@@ -11,9 +11,12 @@ ghost use Rattle.thorin_parts.specs.EntryTests.{tests_under};
 ghost use Rattle.thorin_parts.specs.IndexText.{IsIndexText, entry_ids, used_sections};
 ghost use Rattle.thorin_parts.specs.ReadBack.{index_with};
 ghost use Rattle.thorin_parts.specs.ReadRows.{HasEntries};
+ghost use Rattle.thorin_parts.specs.JoinedStrings.{RewrittenInTurn, remapped_each};
 ghost use Rattle.thorin_parts.specs.ReadStrings.{ReadsAlike};
 ghost use Rattle.thorin_strings.specs.StringOffsets.{remapped};
 ghost use Rattle.thorin_strings.specs.Strings.{IsTable, data_of};
+
+use thorin_strings::rewritten_offsets_name_the_same;
 
 /// An index that was written of entries that passed the tests is read as the index with a row for each
 /// entry, in their order. Identifiers have 64 bits.
@@ -49,7 +52,9 @@ pub fn rewritten_strings_are_read_alike()
         → take (length after) final ≡ after
         → (i : ℕ)
         → ReadsAlike order encoding section bytes (data_of final) rewritten i }
-{}
+{
+    rewritten_offsets_name_the_same();
+}
 
 /// Two ranges of string offsets before DWARF 5, which have no header, joined are read in turn: the first
 /// has `n` whole entries.
@@ -62,3 +67,15 @@ pub fn joined_string_offsets_are_read_in_turn()
         then string_in order encoding strings first i
         else string_in order encoding strings second (i - n)) }
 {}
+
+/// Ranges of string offsets that were rewritten one after the other and joined, as those of one object
+/// are, are read as their whole entries joined before. From DWARF 5 on there is one range at most.
+pub fn joined_ranges_are_read_alike()
+    ensures { (order : Endianness) (encoding : Encoding) (section : List ℕ) (ranges before rewritten after : List (List ℕ))
+        → (5 ≤ encoding.version → length ranges ≤ 1)
+        → IsTable before
+        → remapped_each order encoding section ranges before ≡ Ok (rewritten, after)
+        → RewrittenInTurn order encoding section ranges before rewritten after }
+{
+    rewritten_offsets_name_the_same();
+}

@@ -83,36 +83,53 @@ fn slot_counts(rt: HostRuntime) -> Result<(), Fail> {
     Ok(())
 }
 
-#[test]
-fn index_bytes(rt: HostRuntime) -> Result<(), Fail> {
-    let alloc = rt.alloc();
-    let gnu = IndexEntry {
+/// The index of unit 0x5, which has 0x20 bytes of info and 0x10 of abbreviations.
+fn index_of_one(alloc: Global, order: Endianness, encoding: Encoding) -> Result<Vec<u8>, Error> {
+    let one = IndexEntry {
         debug_info: part(0, 0x20),
-        ..entry(GNU, 0x5, part(0, 0x10))
+        ..entry(encoding, 0x5, part(0, 0x10))
     };
-    let expected = [
+    write_index(alloc, order, &[one])
+}
+
+#[test]
+fn gnu_index_bytes(rt: HostRuntime) -> Result<(), Fail> {
+    let alloc = rt.alloc();
+    let little = [
         2, 0, 0, 0, 2, 0, 0, 0, 1, 0, 0, 0, 2, 0, 0, 0, 0, 0, 0, 0, 0, 0, 0, 0, 5, 0, 0, 0, 0, 0,
         0, 0, 0, 0, 0, 0, 1, 0, 0, 0, 1, 0, 0, 0, 3, 0, 0, 0, 0, 0, 0, 0, 0, 0, 0, 0, 0x20, 0, 0,
         0, 0x10, 0, 0, 0,
     ];
-    assert_eq!(rt;
-        write_index(alloc, Endianness::Little, &[gnu])?.as_slice(),
-        expected.as_slice()
-    );
-    let standard = IndexEntry {
-        encoding: DWARF5,
-        ..gnu
-    };
-    let expected = [
+    let big = [
+        0, 0, 0, 2, 0, 0, 0, 2, 0, 0, 0, 1, 0, 0, 0, 2, 0, 0, 0, 0, 0, 0, 0, 0, 0, 0, 0, 0, 0, 0,
+        0, 5, 0, 0, 0, 0, 0, 0, 0, 1, 0, 0, 0, 1, 0, 0, 0, 3, 0, 0, 0, 0, 0, 0, 0, 0, 0, 0, 0,
+        0x20, 0, 0, 0, 0x10,
+    ];
+    let index = index_of_one(alloc, Endianness::Little, GNU)?;
+    assert_eq!(rt; index.as_slice(), little.as_slice());
+    let index = index_of_one(alloc, Endianness::Big, GNU)?;
+    assert_eq!(rt; index.as_slice(), big.as_slice());
+    assert!(rt; write_index(alloc, Endianness::Big, &[])?.is_empty());
+    Ok(())
+}
+
+#[test]
+fn standard_index_bytes(rt: HostRuntime) -> Result<(), Fail> {
+    let alloc = rt.alloc();
+    let little = [
+        5, 0, 0, 0, 2, 0, 0, 0, 1, 0, 0, 0, 2, 0, 0, 0, 0, 0, 0, 0, 0, 0, 0, 0, 5, 0, 0, 0, 0, 0,
+        0, 0, 0, 0, 0, 0, 1, 0, 0, 0, 1, 0, 0, 0, 3, 0, 0, 0, 0, 0, 0, 0, 0, 0, 0, 0, 0x20, 0, 0,
+        0, 0x10, 0, 0, 0,
+    ];
+    let big = [
         0, 5, 0, 0, 0, 0, 0, 2, 0, 0, 0, 1, 0, 0, 0, 2, 0, 0, 0, 0, 0, 0, 0, 0, 0, 0, 0, 0, 0, 0,
         0, 5, 0, 0, 0, 0, 0, 0, 0, 1, 0, 0, 0, 1, 0, 0, 0, 3, 0, 0, 0, 0, 0, 0, 0, 0, 0, 0, 0,
         0x20, 0, 0, 0, 0x10,
     ];
-    assert_eq!(rt;
-        write_index(alloc, Endianness::Big, &[standard])?.as_slice(),
-        expected.as_slice()
-    );
-    assert!(rt; write_index(alloc, Endianness::Big, &[])?.is_empty());
+    let index = index_of_one(alloc, Endianness::Little, DWARF5)?;
+    assert_eq!(rt; index.as_slice(), little.as_slice());
+    let index = index_of_one(alloc, Endianness::Big, DWARF5)?;
+    assert_eq!(rt; index.as_slice(), big.as_slice());
     Ok(())
 }
 

@@ -2,7 +2,7 @@
 use Rattle.std.proofs.Common.{◌≡◌, ℕ, zero, suc, ◌+◌, ◌-◌, ◌*◌, ◌/◌, ◌<◌, ◌≤◌, Bool, true, false, cond, eqb, ltb, List, [], ◌∷◌, ◌++◌, length, drop, get_or, Ok, Err, ap, sym, subst, refl, ◌∙◌, ⊎_elim, arith, append_assoc, length-append}
 use Rattle.std.proofs.lemmas.List.{drop_at, drop-drop, take_all}
 use Rattle.std.proofs.Math.Nat.{zero-mul, suc-mul}
-use Rattle.std.proofs.lemmas.Bool.{eqb-true, le-ltb, lt-ltb}
+use Rattle.std.proofs.lemmas.Bool.{eqb-true, eqb-false, le-ltb, lt-ltb}
 use Rattle.std.proofs.lemmas.Bool.Decides.{leb_tells}
 use Rattle.std.proofs.lemmas.Nat.{row_fits, from_le_bytes-to_le_bytes_4, from_le_bytes-to_le_bytes_8, from_be_bytes-to_be_bytes_4, from_be_bytes-to_be_bytes_8}
 use Rattle.dwp_base.specs.declared.endian.Endianness.{Endianness}
@@ -127,10 +127,10 @@ module _ (order : Endianness) (encoding : Encoding) (section bytes : List ℕ) w
             rw (inside, read, entry.place, found) refl);
       }
 
-  whole_named : (size : ℕ) (before : List (List ℕ)) (header : List ℕ) (entries : List ℕ × List (List ℕ)) → IsTable before → header_of order encoding (entry_count encoding size * offset_size encoding.format) ≡ Ok header
+  whole_named : (size : ℕ) (before : List (List ℕ)) (header : List ℕ) (entries : List ℕ × List (List ℕ)) → (size ≡ 0 → ⊥) → IsTable before → header_of order encoding (entry_count encoding size * offset_size encoding.format) ≡ Ok header
       → remapped_entries order encoding section bytes (entry_count encoding size) before ≡ Ok entries
       → NamesTheSame order encoding section bytes size before (header ++ entry_bytes order encoding.format entries.0) entries.1
-  whole_named size before header entries table headed all =
+  whole_named size before header entries some table headed all =
       let n = entry_count encoding size in
       let keep = entries_keep order encoding section bytes n before entries table all in
       let front = header_long order encoding (n * offset_size encoding.format) header headed in
@@ -142,7 +142,8 @@ module _ (order : Endianness) (encoding : Encoding) (section bytes : List ℕ) w
         table = keep.table;
         kept = keep.kept;
         count = count_again encoding.format (header_size encoding) n _ long;
-        long = λ some. long;
+        none = λ is_zero. absurd (some is_zero);
+        long = λ _. long;
         named = λ i less. one_named header entries.0 entries.1 i n front keep.long less (keep.each i less);
       }
 
@@ -158,6 +159,7 @@ module _ (order : Endianness) (encoding : Encoding) (section bytes : List ℕ) w
         table = table;
         kept = take_all (length before) before (omega arith);
         count = none ∙ sym no_entry;
+        none = λ _. refl;
         long = λ some. absurd (some is_zero);
         named = λ i less. absurd (omega (arith, no_entry));
       })
@@ -166,7 +168,7 @@ module _ (order : Endianness) (encoding : Encoding) (section bytes : List ℕ) w
       let header = bind_ok (header_of order encoding (entry_count encoding size * offset_size encoding.format)) _ range h in
       let entries = bind_ok (remapped_entries order encoding section bytes (entry_count encoding size) before) _ range header.2 in
       let whole : (header.0 ++ entry_bytes order encoding.format entries.0.0, entries.0.1) ≡ range = cc in
-      subst (λ (r : List ℕ × List (List ℕ)). NamesTheSame order encoding section bytes size before r.0 r.1) whole (whole_named size before header.0 entries.0 table header.1 entries.1)
+      subst (λ (r : List ℕ × List (List ℕ)). NamesTheSame order encoding section bytes size before r.0 r.1) whole (whole_named size before header.0 entries.0 (eqb-false size 0 some) table header.1 entries.1)
 
   pub range_named : (size : ℕ) (before : List (List ℕ)) (range : List ℕ × List (List ℕ)) → IsTable before → remapped order encoding section bytes size before ≡ Ok range → NamesTheSame order encoding section bytes size before range.0 range.1
   unfolding remapped

@@ -1,5 +1,5 @@
 -- What a rewritten range of string offsets keeps: an entry names the string that it named before (DWARF 5, 7.26).
-use Rattle.std.specs.Prelude.{◌≡◌, ◌≢◌, ℕ, ◌+◌, ◌*◌, ◌<◌, List, length, take, Ok, Contains}
+use Rattle.std.specs.Prelude.{◌≡◌, ◌≢◌, ℕ, ◌+◌, ◌*◌, ◌<◌, List, [], length, take, Ok, Contains}
 use Rattle.dwp_base.specs.declared.endian.Endianness.{Endianness}
 use Rattle.dwp_reader.specs.Encoding.{offset_size}
 use Rattle.dwp_reader.specs.declared.encoding.Encoding.{Encoding}
@@ -18,5 +18,6 @@ pub record NamesTheSame (order : Endianness) (encoding : Encoding) (section byte
   pub table : IsTable after
   pub kept : take (length before) after ≡ before
   pub count : entry_count encoding (length rewritten) ≡ entry_count encoding size
+  pub none : size ≡ 0 → rewritten ≡ []
   pub long : size ≢ 0 → length rewritten ≡ header_size encoding + entry_count encoding size * offset_size encoding.format
   pub named : (index : ℕ) → index < entry_count encoding size → NamesOneString order encoding section bytes rewritten after index

@@ -84,8 +84,10 @@ fn dwarf_5_offsets_keep_their_header(rt: HostRuntime) -> Result<(), Fail> {
     assert_eq!(rt; range.as_slice(), narrow.as_slice());
     let range = table.remap_str_offsets_section(b"a\0", &wide, 24, little, DWARF5_64)?;
     assert_eq!(rt; range.as_slice(), wide.as_slice());
-    let range = table.remap_str_offsets_section(b"a\0", &[], 0, little, DWARF5)?;
-    assert!(rt; range.is_empty());
+    for encoding in [DWARF5, DWARF5_64] {
+        let range = table.remap_str_offsets_section(b"a\0", &[], 0, little, encoding)?;
+        assert!(rt; range.is_empty());
+    }
     Ok(())
 }
 
@@ -94,8 +96,10 @@ fn a_refusal_forgets_what_came_before_it(rt: HostRuntime) -> Result<(), Fail> {
     let little = Endianness::Little;
     let mut table = PackageStringTable::new(rt.alloc());
     table.get_or_insert(b"kept")?;
-    let short = table.remap_str_offsets_section(b"a\0", &[0; 5], 5, little, DWARF5);
-    assert!(rt; matches!(short, Err(Error::BadStringOffsets(0))));
+    for encoding in [DWARF5, DWARF5_64] {
+        let short = table.remap_str_offsets_section(b"a\0", &[0; 5], 5, little, encoding);
+        assert!(rt; matches!(short, Err(Error::BadStringOffsets(0))));
+    }
     let long = table.remap_str_offsets_section(b"a\0", &[], 0xffff_fff4, little, DWARF5);
     assert!(rt; matches!(long, Err(Error::NumberTooLarge(_, 0xffff_fff0))));
     let cut = table.remap_str_offsets_section(b"a\0", &[0; 6], 8, little, GNU);
