@@ -217,3 +217,33 @@ fn texts_of_causes(rt: HostRuntime) -> Result<(), Fail> {
     assert!(&rt; !MissingReferencedObjectBehaviour::Error.skip_missing());
     Ok(())
 }
+
+#[test]
+fn debug_texts(rt: HostRuntime) -> Result<(), Fail> {
+    let name = String::from_str(rt.alloc(), ".debug_info")?;
+    let rows = [
+        (Error::NoDie, "NoDie"),
+        (Error::DuplicateUnit(0x2a), "DuplicateUnit(42)"),
+        (
+            Error::ParseUnitHeader(DwarfReadError::UnexpectedEof),
+            "ParseUnitHeader(UnexpectedEof)",
+        ),
+        (
+            Error::MultipleRelocations(name, 8),
+            "MultipleRelocations(\".debug_info\", 8)",
+        ),
+        (
+            Error::NumberTooLarge("string offset", 0x1_0000_0000),
+            "NumberTooLarge(\"string offset\", 4294967296)",
+        ),
+    ];
+    for (error, text) in &rows {
+        let printed = format!(in rt.alloc(); "{error:?}")?;
+        assert_eq!(&rt; printed.as_str(), *text);
+    }
+    let skip = MissingReferencedObjectBehaviour::Skip;
+    assert_eq!(&rt; format!(in rt.alloc(); "{skip:?}")?.as_str(), "Skip");
+    let memory = InputError::Memory;
+    assert_eq!(&rt; format!(in rt.alloc(); "{memory:?}")?.as_str(), "Memory");
+    Ok(())
+}
