@@ -14,3 +14,4 @@ pub mod UnitsAdded
 pub mod ObjectAdded
 pub mod InputJoined
 pub mod RunJoined
+pub mod HeadersRead
