@@ -1,5 +1,5 @@
 -- What each input does to a package that is made, and what is written of it (DWARF 5, 7.3.5; the GNU page DebugFissionDWP).
-use Rattle.std.specs.Prelude.{◌≡◌, ℕ, Bool, true, false, not, List, [], ◌∷◌, Option, Some, None, Result, Ok, Err, unwrap_or, filter, find, if◌then◌else◌}
+use Rattle.std.specs.Prelude.{◌≡◌, ℕ, ◌<◌, ◌^◌, Bool, true, false, not, List, [], ◌∷◌, Option, Some, None, Result, Ok, Err, unwrap_or, filter, find, if◌then◌else◌}
 use Rattle.std.specs.List.{list_any}
 use Rattle.std.specs.Option.{ok_or, option_map_or}
 use Rattle.dwp_base.specs.declared.endian.Endianness.{Endianness}
@@ -119,6 +119,11 @@ compilations rows = rows_of true rows
 
 abbrev pub type_units : List IndexEntry → List IndexEntry
 type_units rows = rows_of false rows
+
+-- the identifiers of rows have 64 bits (DWARF 5, 7.3.5.3)
+abbrev pub IdentifiersFit : List IndexEntry → Type 0
+IdentifiersFit [] = Unit {0}
+IdentifiersFit (row ∷ rows) = (identifier_of row.id < 2 ^ 64) × IdentifiersFit rows
 
 -- each unit that executables refer to is there; the first that isn't is named
 abbrev pub is_missing : List DwarfObject → DwarfObject → Bool

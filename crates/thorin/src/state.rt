@@ -4,7 +4,7 @@ ghost use Rattle.std.specs.Prelude.{◌≡◌, List, [], length, take, IfOk, IfE
 ghost use Rattle.thorin_faults.specs.Answers.{Gives};
 ghost use Rattle.thorin_strings.specs.Marks.{mark_of};
 ghost use Rattle.dwp_table.specs.declared.object.DwarfObject.{DwarfObject};
-ghost use Rattle.thorin.specs.Builder.{IsFinished, indexes_test, is_compilation, rows_of};
+ghost use Rattle.thorin.specs.Builder.{IsFinished, indexes_test, IdentifiersFit, is_compilation, rows_of};
 ghost use Rattle.thorin.specs.State as spec;
 ghost use Rattle.thorin.specs.StateView.{package_of, mark_in};
 ghost use Rattle.thorin.specs.UnitView.{new_unit, new_of};
@@ -17,7 +17,7 @@ use crate::units::{Held, NewUnit, NewUnits};
 use dwp_base::{Class, Endianness, SectionKind};
 use dwp_dwarf::{Encoding, UnitSection};
 use dwp_elf::WritableObject;
-use dwp_table::{DebugTypeSignature, DwarfObject};
+use dwp_table::{Bucketable, DebugTypeSignature, DwarfObject};
 use indexmap::IndexSet;
 use std::alloc::Global;
 use std::fmt;
@@ -212,6 +212,7 @@ impl InProgressDwarfPackage {
     pub(crate) fn finish(self) -> Result<WritableObject, Error>
         ensures refusal { (names : List DwarfObject) → Gives (λ _. tt) result (indexes_test (package_of self names)) }
         ensures finished { (names : List DwarfObject) → IfOk result (IsFinished (package_of self names)) }
+        ensures identifiers { IdentifiersFit self.rows.items }
     {
         let InProgressDwarfPackage {
             alloc,
@@ -221,6 +222,7 @@ impl InProgressDwarfPackage {
             differing: _,
         } = self;
         let order = object.endianness();
+        identifiers_fit(&rows);
         let compilations = write_index(alloc, order, &rows_of(alloc, &rows, true)?)?;
         let types = write_index(alloc, order, &rows_of(alloc, &rows, false)?)?;
         put(&mut object, SectionKind::Str, &strings.finish())?;
@@ -256,4 +258,13 @@ fn rows_of(
         }
     }
     Ok(chosen)
+}
+
+// The identifiers of rows have 64 bits, as their type says.
+fn identifiers_fit(rows: &[IndexEntry])
+    ensures { IdentifiersFit rows.now }
+{
+    for row in rows {
+        let _identifier = row.index();
+    }
 }
