@@ -10,4 +10,3 @@ pub mod Slots
 pub mod RowsAgain
 pub mod StringsAgain
 pub mod OffsetsJoined
-pub mod StringsJoined

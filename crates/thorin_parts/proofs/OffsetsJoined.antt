@@ -14,7 +14,7 @@ use Rattle.dwp_reader.specs.Encoding.{offset_size}
 use Rattle.dwp_index.specs.Strings.{header_size, entry_count, entry_in, string_for, string_in}
 
 -- a number in front doesn't depend on what follows it
-pub number_front : (order : Endianness) (format : Format) (xs ys : List ℕ) → offset_size format ≤ length xs → number order (offset_size format) (xs ++ ys) ≡ number order (offset_size format) xs
+number_front : (order : Endianness) (format : Format) (xs ys : List ℕ) → offset_size format ≤ length xs → number order (offset_size format) (xs ++ ys) ≡ number order (offset_size format) xs
 number_front Little Dwarf32 xs ys within =
     let at = λ (k : ℕ) (h : k < 4). get_or_append_left xs ys 0 k (omega arith) in
     rw (at 0 (omega arith), at 1 (omega arith), at 2 (omega arith), at 3 (omega arith)) refl
@@ -28,7 +28,7 @@ number_front Big Dwarf64 xs ys within =
     let at = λ (k : ℕ) (h : k < 8). get_or_append_left xs ys 0 k (omega arith) in
     rw (at 0 (omega arith), at 1 (omega arith), at 2 (omega arith), at 3 (omega arith), at 4 (omega arith), at 5 (omega arith), at 6 (omega arith), at 7 (omega arith)) refl
 
-pub no_header : (encoding : Encoding) → encoding.version < 5 → header_size encoding ≡ 0
+no_header : (encoding : Encoding) → encoding.version < 5 → header_size encoding ≡ 0
 no_header encoding old =
     let gnu : leb 5 encoding.version ≡ false = lt-leb 5 encoding.version old in
     rw gnu refl

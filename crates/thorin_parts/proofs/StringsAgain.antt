@@ -52,10 +52,10 @@ front_same : (format : Format) → standard_header_size format ≡ length_size f
 front_same Dwarf32 = refl
 front_same Dwarf64 = refl
 
-pub header_same : (encoding : Encoding) → reader.header_size encoding ≡ writer.header_size encoding
+header_same : (encoding : Encoding) → reader.header_size encoding ≡ writer.header_size encoding
 header_same encoding = ap (λ n. cond (leb 5 encoding.version) n 0) (front_same encoding.format)
 
-pub count_same : (encoding : Encoding) (size : ℕ) → reader.entry_count encoding size ≡ writer.entry_count encoding size
+count_same : (encoding : Encoding) (size : ℕ) → reader.entry_count encoding size ≡ writer.entry_count encoding size
 count_same encoding size = ap (λ n. (size - n) / offset_size encoding.format) (header_same encoding)
 
 as_fault_ok : {A E : Type 0} (f : E → Fault) (r : Result A E) (x : A) → as_fault f r ≡ Ok x → r ≡ Ok x
@@ -84,7 +84,7 @@ named_read order encoding section bytes i string less h =
     rw (there, number_is, read) refl
 
 -- past the last there is none
-pub past_read : (order : Endianness) (encoding : Encoding) (section bytes : List ℕ) (i : ℕ) → writer.entry_count encoding (length bytes) ≤ i → string_in order encoding section bytes i ≡ Ok None
+past_read : (order : Endianness) (encoding : Encoding) (section bytes : List ℕ) (i : ℕ) → writer.entry_count encoding (length bytes) ≤ i → string_in order encoding section bytes i ≡ Ok None
 unfolding string_in entry_in
 past_read order encoding section bytes i past =
     let none : ltb i (reader.entry_count encoding (length bytes)) ≡ false = le-ltb i _ (omega (arith, count_same encoding (length bytes))) in

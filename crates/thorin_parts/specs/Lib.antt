@@ -11,4 +11,3 @@ pub mod ReadBack
 pub mod Relocations
 pub mod ReadRows
 pub mod ReadStrings
-pub mod JoinedStrings

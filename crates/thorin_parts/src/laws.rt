@@ -1,4 +1,4 @@
-ghost use Rattle.std.specs.Prelude.{◌≡◌, ℕ, ◌-◌, ◌*◌, ◌<◌, ◌≤◌, ◌^◌, List, ◌++◌, Ok, length, slice_index, take, nat_lt, if◌then◌else◌};
+ghost use Rattle.std.specs.Prelude.{◌≡◌, ℕ, ◌-◌, ◌*◌, ◌<◌, ◌^◌, List, ◌++◌, Ok, length, slice_index, take, nat_lt, if◌then◌else◌};
 ghost use Rattle.dwp_base.specs.declared.endian.Endianness.{Endianness};
 ghost use Rattle.dwp_reader.specs.declared.encoding.Encoding.{Encoding};
 ghost use Rattle.dwp_reader.specs.Encoding.{index_version_of, offset_size};
@@ -11,7 +11,6 @@ ghost use Rattle.thorin_parts.specs.EntryTests.{tests_under};
 ghost use Rattle.thorin_parts.specs.IndexText.{IsIndexText, entry_ids, used_sections};
 ghost use Rattle.thorin_parts.specs.ReadBack.{index_with};
 ghost use Rattle.thorin_parts.specs.ReadRows.{HasEntries};
-ghost use Rattle.thorin_parts.specs.JoinedStrings.{RewrittenInTurn, remapped_each};
 ghost use Rattle.thorin_parts.specs.ReadStrings.{ReadsAlike};
 ghost use Rattle.thorin_strings.specs.StringOffsets.{remapped};
 ghost use Rattle.thorin_strings.specs.Strings.{IsTable, data_of};
@@ -67,15 +66,3 @@ pub fn joined_string_offsets_are_read_in_turn()
         then string_in order encoding strings first i
         else string_in order encoding strings second (i - n)) }
 {}
-
-/// Ranges of string offsets that were rewritten one after the other and joined, as those of one object
-/// are, are read as their whole entries joined before. From DWARF 5 on there is one range at most.
-pub fn joined_ranges_are_read_alike()
-    ensures { (order : Endianness) (encoding : Encoding) (section : List ℕ) (ranges before rewritten after : List (List ℕ))
-        → (5 ≤ encoding.version → length ranges ≤ 1)
-        → IsTable before
-        → remapped_each order encoding section ranges before ≡ Ok (rewritten, after)
-        → RewrittenInTurn order encoding section ranges before rewritten after }
-{
-    rewritten_offsets_name_the_same();
-}
