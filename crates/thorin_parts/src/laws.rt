@@ -18,7 +18,7 @@ ghost use Rattle.thorin_strings.specs.Strings.{IsTable, data_of};
 use thorin_strings::rewritten_offsets_name_the_same;
 
 /// An index that was written of entries that passed the tests is read as the index with a row for each
-/// entry, in their order. Identifiers have 64 bits.
+/// entry, in their order. Identifiers have 64 bits. It does nothing.
 pub fn written_index_is_read()
     ensures { (order : Endianness) (encoding : Encoding) (entries : List IndexEntry) (bytes : List ℕ)
         → tests_under encoding entries ≡ Ok tt
@@ -29,7 +29,7 @@ pub fn written_index_is_read()
 
 /// What is read of an index that was written of entries that passed the tests, no two of which have one
 /// identifier: a row for each entry, in their order, with the entry's parts that have bytes, and a table
-/// of their identifiers. Identifiers have 64 bits.
+/// of their identifiers. Identifiers have 64 bits. It does nothing.
 pub fn written_index_has_the_entries()
     ensures { (order : Endianness) (encoding : Encoding) (entries : List IndexEntry) (bytes : List ℕ)
         → tests_under encoding entries ≡ Ok tt
@@ -42,7 +42,7 @@ pub fn written_index_has_the_entries()
 {}
 
 /// A range of string offsets that was rewritten is read as before, of each number, in the section of any
-/// table that begins with the strings after it.
+/// table that begins with the strings after it. It does nothing.
 pub fn rewritten_strings_are_read_alike()
     ensures { (order : Endianness) (encoding : Encoding) (section bytes : List ℕ) (before : List (List ℕ)) (rewritten : List ℕ) (after final : List (List ℕ))
         → IsTable before
@@ -56,7 +56,7 @@ pub fn rewritten_strings_are_read_alike()
 }
 
 /// Two ranges of string offsets before DWARF 5, which have no header, joined are read in turn: the first
-/// has `n` whole entries.
+/// has `n` whole entries. It does nothing.
 pub fn joined_string_offsets_are_read_in_turn()
     ensures { (order : Endianness) (encoding : Encoding) (strings first second : List ℕ) (n i : ℕ)
         → encoding.version < 5

@@ -5,8 +5,9 @@ ghost use Rattle.thorin_strings.specs.Rewritten.{NamesTheSame};
 ghost use Rattle.thorin_strings.specs.StringOffsets.{remapped};
 ghost use Rattle.thorin_strings.specs.Strings.{IsTable};
 
-/// A range of string offsets that was rewritten has as many entries as before, and each names the same
-/// string, in the section of any table that begins with the strings after it.
+/// The law of rewriting: a range of string offsets that was rewritten has as many entries as before, and
+/// each names the same string, in the section of any table that begins with the strings after it. It
+/// does nothing.
 pub fn rewritten_offsets_name_the_same()
     ensures { (order : Endianness) (encoding : Encoding) (section bytes : List ℕ) (size : ℕ) (before : List (List ℕ)) (rewritten : List ℕ) (after : List (List ℕ))
         → IsTable before
