@@ -25,7 +25,7 @@ use Rattle.thorin.proofs.Joining.{joined_units, joining_names, AreApart, apart-n
 use Rattle.thorin.proofs.ObjectAdded.{PartsMean, object-added}
 use Rattle.thorin.proofs.UnitsAdded.{AllCanBeAdded}
 
-err-ok : {X E : Type 0} (e : E) (x : X) → Err e ≡ Ok x → ⊥
+pub err-ok : {X E : Type 0} (e : E) (x : X) → Err e ≡ Ok x → ⊥
 err-ok {X} {E} e x h = true≢false (ap is_it (sym h))
   where
     is_it : Result X E → Bool

@@ -15,3 +15,6 @@ pub mod ObjectAdded
 pub mod InputJoined
 pub mod RunJoined
 pub mod HeadersRead
+pub mod IndexesRead
+pub mod RowsFound
+pub mod PackageFound

@@ -184,3 +184,13 @@ package_read back read other foreign empty o h machine fits compilations types c
     let few : length o.contents < 60000 = omega (arith, at_most_13 o.contents h) in
     read (file_text o) (written_elf o) (λ kind. content_of kind o.contents) compilations types
     (back o machine (fitting o.class o.machine o.order o.contents fits) few) (held other foreign empty o h) c t
+
+-- the same of any bytes that mean the written file
+pub package_held : ContentsRead → OtherKind → ForeignName → NoBytes
+    → (bytes : List ℕ) (o : Object) → KindsDiffer o.contents → elf_of bytes ≡ Ok (written_elf o)
+    → (compilations types : Option Index)
+    → index_in_section o.order (content_of CuIndex o.contents) ≡ Ok compilations
+    → index_in_section o.order (content_of TuIndex o.contents) ≡ Ok types
+    → package_of bytes ≡ Ok (record { order = o.order; contents = sections_of (λ kind. content_of kind o.contents); compilations = compilations; types = types })
+package_held read other foreign empty bytes o h back compilations types c t =
+    read bytes (written_elf o) (λ kind. content_of kind o.contents) compilations types back (held other foreign empty o h) c t

@@ -1,5 +1,5 @@
 use Rattle.thorin.proofs.Keeping.{grows-with_bytes, keep-lie}
-use Rattle.thorin.proofs.RunJoined.{run-joins}
+use Rattle.thorin.proofs.PackageFound.{package-finds}
 use Rattle.thorin.proofs.scratch.scratch.Goals as goal
 
 pub returns : goal.returns
