@@ -164,3 +164,4 @@ pub record IsFinishedState (state : State) (file : File) : Type 0 where
   pub made : Package
   pub begun : state.begun ≡ Some made
   pub finished : IsFinished made file
+  pub identifiers : IdentifiersFit made.rows

@@ -3,7 +3,10 @@ use Rattle.std.specs.Prelude.{◌≡◌, ◌≢◌, ℕ, List, [], ◌∷◌, Op
 use Rattle.std.specs.Path.{path_bytes}
 use Rattle.std.specs.declared.io.Error.{Error as IoError}
 use Rattle.dwp_elf.specs.FileText.{Object as File, file_text}
+use Rattle.dwp_elf.specs.Contents.{KindsDiffer}
 use Rattle.dwp_elf.specs.Numbers.{Fits}
+use Rattle.dwp_elf.specs.Written.{written_elf}
+use Rattle.dwp_elf_read.specs.Elf.{elf_of}
 use Rattle.dwp_elf_read.specs.declared.fault.WriteError.TheVariants as writer
 use Rattle.thorin_faults.specs.declared.fault.Error.{Error}
 use Rattle.thorin_faults.specs.declared.fault.Error.TheVariants as error
@@ -14,8 +17,7 @@ use Rattle.thorin_faults.specs.Answers.{Gives, MemoryAside}
 use Rattle.thorin_faults.specs.Sessions.{input_fault}
 use Rattle.thorin.specs.declared.packing.Input.{Input}
 use Rattle.thorin.specs.declared.packing.Input.TheVariants as inputs
-use Rattle.thorin.specs.Builder.{State, taken, finish_test, IsFinished}
-use Rattle.thorin.specs.State.{Package}
+use Rattle.thorin.specs.Builder.{State, taken, finish_test, IsFinishedState}
 
 -- what came of a call: nothing, or its error
 abbrev pub Outcome : Type 0
@@ -57,22 +59,20 @@ Ran offer (input ∷ rest) old [] new = ⊥
 Ran offer (input ∷ rest) old (outcome ∷ outcomes) new =
     (middle : State) × TakesInput offer input old outcome middle × Ran offer rest middle outcomes new
 
--- the bytes are the file of the finished package
+-- the bytes are the file of the finished package, and a reader finds in them what was written
 pub record IsWritten (state : State) (bytes : List ℕ) : Type 0 where
-  pub made : Package
-  pub begun : state.begun ≡ Some made
-  pub tested : finish_test state ≡ Ok tt
   pub file : File
-  pub finished : IsFinished made file
+  pub tested : finish_test state ≡ Ok tt
+  pub finished : IsFinishedState state file
+  pub kinds : KindsDiffer file.contents
   pub fits : Fits file
   pub text : bytes ≡ file_text file
+  pub read_back : elf_of bytes ≡ Ok (written_elf file)
 
 -- a finished package whose numbers don't fit the class of its file
 pub record IsTooLarge (state : State) : Type 0 where
-  pub made : Package
-  pub begun : state.begun ≡ Some made
   pub file : File
-  pub finished : IsFinished made file
+  pub finished : IsFinishedState state file
   pub unfit : ¬ Fits file
 
 -- why nothing was written: the first fault of finishing, or a number that doesn't fit

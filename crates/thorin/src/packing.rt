@@ -72,5 +72,7 @@ fn written<'o, 's: 'o, Sess: Session<RelocationEntry>>(
     ensures { Writes (λ bytes. bytes.items) builder.entry.state result }
 {
     let file = builder.finish()?;
-    Ok(file.write()?)
+    let bytes = file.write()?;
+    let _sections = file.sections();
+    Ok(bytes)
 }
