@@ -18,3 +18,4 @@ pub mod HeadersRead
 pub mod IndexesRead
 pub mod RowsFound
 pub mod PackageFound
+pub mod Headline

@@ -117,3 +117,9 @@ pub record IsPackageOf (units : List (DwarfObject × UnitMeaning)) (bytes : List
   pub pack : Package
   pub parsed : package_of bytes ≡ Ok pack
   pub finds : (name : DwarfObject) → MatchOption (lookup (same_name name) units) (GivesNone pack name (look_limit units name)) (GivesUnit pack name (look_limit units name))
+
+-- the bytes are a package of the accepted inputs, joined
+pub record IsJoinOf (offer : List ℕ → Result (List ℕ) IoError → Type 0) (inputs : List Input) (outcomes : List Outcome) (bytes : List ℕ) : Type 0 where
+  pub units : List (DwarfObject × UnitMeaning)
+  pub joined : Joined offer inputs outcomes [] units
+  pub is : IsPackageOf units bytes

@@ -9,14 +9,12 @@ mod object;
 mod package;
 mod packing;
 mod parts;
-mod scratch;
 mod state;
 
 mod units;
 
 pub use identity::dwo_identifier_of_unit;
-pub use laws::written_packages_are_read;
+pub use laws::{packages_are_the_join, written_packages_are_read};
 pub use package::DwarfPackage;
 pub use packing::{Input, Packed, pack};
 pub use state::InProgressDwarfPackage;
-pub use scratch::scratch as scratch_law;

@@ -1,9 +1,11 @@
 //! Whole packages from lists of inputs.
 
 ghost use Rattle.std.specs.Prelude.{◌≡◌, IfOk, IfErr};
+ghost use Rattle.thorin.specs.Join.{IsJoinOf};
 ghost use Rattle.thorin.specs.Packed.{IsPacked};
 ghost use Rattle.thorin.specs.Run.{TakesInput, Writes};
 
+use crate::laws::packages_are_the_join;
 use crate::package::DwarfPackage;
 use dwp_reader::RelocationEntry;
 use std::alloc::Global;
@@ -38,6 +40,7 @@ pub fn pack<'s, Sess: Session<RelocationEntry>>(
     inputs: &[Input<'s>],
 ) -> Result<Packed, Error>
     ensures packed { IfOk result (IsPacked (Sess.offer session.now) inputs.now) }
+    ensures joined { IfOk result (λ packed. IfOk packed.file (λ bytes. IsJoinOf (Sess.offer session.now) inputs.now packed.outcomes.items bytes.items)) }
     ensures refused { IfErr result (λ e. e ≡ Error.Memory) }
 {
     let mut outcomes = Vec::with_capacity(alloc, inputs.len())?;
@@ -47,6 +50,7 @@ pub fn pack<'s, Sess: Session<RelocationEntry>>(
         outcomes.push(outcome)?;
     }
     let file = written(builder);
+    packages_are_the_join(session);
     Ok(Packed { outcomes, file })
 }
 

@@ -1,0 +1,171 @@
+-- What is written after a run means the join of the accepted inputs.
+use Rattle.std.proofs.Common.{◌≡◌, ◌∙◌, ℕ, ◌+◌, ◌<◌, ◌^◌, Bool, true, false, List, [], ◌∷◌, ◌++◌, length, map, take, ap, sym, refl, subst, Result, Ok, Err, Option, Some, None, arith}
+use Rattle.std.proofs.Math.Seq.{take-length}
+use Rattle.std.specs.Option.{ok_or}
+use Rattle.std.specs.declared.io.Error.{Error as IoError}
+use Rattle.dwp_base.specs.Reading.{◌>>=◌}
+use Rattle.dwp_base.specs.declared.section.SectionKind.{SectionKind}
+use Rattle.dwp_base.specs.declared.section.SectionKind.TheVariants as kinds
+use Rattle.dwp_elf.specs.Contents.{content_of}
+use Rattle.dwp_elf.specs.FileText.{Object as File}
+use Rattle.dwp_elf.specs.Written.{written_elf}
+use Rattle.dwp_elf_read.specs.Elf.{elf_of}
+use Rattle.dwp_reader.specs.declared.encoding.Encoding.{Encoding}
+use Rattle.dwp_table.specs.Table.{AreDistinct}
+use Rattle.dwp_table.specs.declared.object.DwarfObject.{DwarfObject}
+use Rattle.dwp_index.specs.Holding.{sections_of}
+use Rattle.dwp_index.specs.Package.{Package as Pack, package_of, index_in_section}
+use Rattle.thorin_strings.specs.Strings.{IsTable, data_of}
+use Rattle.thorin_parts.specs.EntryTests.{index_tests}
+use Rattle.thorin_parts.specs.IndexText.{entry_ids}
+use Rattle.thorin_faults.specs.Fault.{NoOutputObjectCreated}
+use Rattle.thorin.specs.declared.packing.Input.{Input}
+use Rattle.thorin.specs.Builder.{State, start, IsFinished, IsFinishedState, finish_test, targets_test, indexes_test, names_in, rows_of, compilations, type_units}
+use Rattle.thorin.specs.Growing.{Contents, with_bytes, with_parts, shared_row}
+use Rattle.thorin.specs.Join.{UnitMeaning, IsPackageOf, IsJoinOf}
+use Rattle.thorin.specs.Meaning.{joining, object_units}
+use Rattle.thorin.specs.NewUnits.{NewUnit}
+use Rattle.thorin.specs.Parts.{parts_of}
+use Rattle.thorin.specs.Run.{Outcome, Ran, IsWritten}
+use Rattle.thorin.specs.State.{Package}
+use Rattle.thorin.specs.Used.{Object}
+use Rattle.thorin.proofs.HeadersRead.{ReadAlone, ReadAnywhere, headers_read, headers-joining, can_be_added}
+use Rattle.thorin.proofs.IndexesRead.{IndexIsRead, IndexHasEntries, SomeIndex, NoIndex, IndexRead, index-read, chosen-fit}
+use Rattle.thorin.proofs.InputJoined.{bind-inv, ok-eq, HasUnits, StateHas, PartsLaw, UnitsLaw}
+use Rattle.thorin.proofs.Joining.{AreApart, distinct_chosen}
+use Rattle.thorin.proofs.Keeping.{Grows, grows-trans, grows-with_bytes, keep-rows}
+use Rattle.thorin.proofs.ObjectAdded.{PartsMean}
+use Rattle.thorin.proofs.PackageFound.{PresentLaw, AbsentLaw, NoIndexLaw, IsRead, package-finds}
+use Rattle.thorin.proofs.PartMeaning.{NamesTheSameLaw, ReadsAlikeLaw, ReadInTurnLaw, content-with_bytes, parts-copied, parts-none, parts-strings, parts-read}
+use Rattle.thorin.proofs.ReadingFile.{ContentsRead, OtherKind, ForeignName, NoBytes, package_held}
+use Rattle.thorin.proofs.RowsFound.{row-names}
+use Rattle.thorin.proofs.RunJoined.{Offer, Members, run-joins}
+
+-- what the parts of an object mean, by the laws of the crates below
+pub parts-mean : NamesTheSameLaw → ReadsAlikeLaw → ReadInTurnLaw → PartsLaw
+parts-mean names alike in_turn object encoding strings parts after table h =
+    let follows = parts-strings names object encoding strings parts after table h in
+    record {
+      copied = parts-copied object encoding strings parts after h;
+      no_strings = parts-none object encoding strings parts after h kinds.Str refl refl;
+      no_compilations = parts-none object encoding strings parts after h kinds.CuIndex refl refl;
+      no_types = parts-none object encoding strings parts after h kinds.TuIndex refl refl;
+      table = follows.table;
+      longer = follows.kept;
+      reads = λ final t begins i. (parts-read names alike in_turn object encoding strings parts after table h final t begins i).0;
+    }
+
+-- so do its units
+pub units-mean : ReadAlone → ReadAnywhere → UnitsLaw
+units-mean alone anywhere object encoding before now names all h =
+    can_be_added object.order encoding before now (joining names all) (headers-joining object.order names all (headers_read alone anywhere object all h))
+
+-- the tests of finishing
+some-ok : {X E : Type 0} (e : E) (x y : X) → ok_or (Some x) e ≡ Ok y → x ≡ y
+some-ok e x y h = ok-eq x y h
+
+pub record Tested (made : Package) : Type 0 where
+  pub compilation_rows : index_tests (rows_of true made.rows) ≡ Ok tt
+  pub type_rows : index_tests (rows_of false made.rows) ≡ Ok tt
+
+tested-indexes : (made : Package) → indexes_test made ≡ Ok tt → Tested made
+unfolding indexes_test
+tested-indexes made h =
+    let s = bind-inv (index_tests (compilations made.rows)) _ tt h in
+    record { compilation_rows = s.is; type_rows = s.then }
+
+tested-state : (state : State) (made : Package) → state.begun ≡ Some made → finish_test state ≡ Ok tt → Tested made
+unfolding finish_test
+tested-state state made begun h =
+    let s1 = bind-inv (targets_test (names_in state.begun) state.targets) _ tt h in
+    let s2 = bind-inv (ok_or state.begun NoOutputObjectCreated) _ tt s1.then in
+    let same : made ≡ s2.value = some-ok NoOutputObjectCreated made s2.value (sym (ap (λ b. ok_or b NoOutputObjectCreated) begun) ∙ s2.is) in
+    tested-indexes made (subst (λ m. indexes_test m ≡ Ok tt) (sym same) s2.then)
+
+-- the contents of the finished file
+module _ (made : Package) (file : File) (f : IsFinished made file) where
+  abbrev with_strings : Contents
+  with_strings = with_bytes kinds.Str (data_of made.strings) made.file.contents
+
+  abbrev with_compilations : Contents
+  with_compilations = with_bytes kinds.CuIndex f.compilation_index with_strings
+
+  contents-are : file.contents ≡ with_bytes kinds.TuIndex f.type_index with_compilations
+  contents-are = ap (λ (o : File). o.contents) f.contents
+
+  pub finished-order : file.order ≡ made.file.order
+  finished-order = ap (λ (o : File). o.order) f.contents
+
+  pub finished-grows : Grows made.file.contents file.contents
+  finished-grows = subst (Grows made.file.contents) (sym contents-are)
+      (grows-trans made.file.contents with_strings (with_bytes kinds.TuIndex f.type_index with_compilations) (grows-with_bytes kinds.Str (data_of made.strings) made.file.contents)
+        (grows-trans with_strings with_compilations (with_bytes kinds.TuIndex f.type_index with_compilations) (grows-with_bytes kinds.CuIndex f.compilation_index with_strings) (grows-with_bytes kinds.TuIndex f.type_index with_compilations)))
+
+  pub finished-strings : content_of kinds.Str made.file.contents ≡ [] → content_of kinds.Str file.contents ≡ data_of made.strings
+  finished-strings none = ap (content_of kinds.Str) contents-are
+      ∙ content-with_bytes kinds.Str kinds.TuIndex f.type_index with_compilations
+      ∙ content-with_bytes kinds.Str kinds.CuIndex f.compilation_index with_strings
+      ∙ content-with_bytes kinds.Str kinds.Str (data_of made.strings) made.file.contents
+      ∙ ap (λ l. l ++ data_of made.strings) none
+
+  pub finished-compilations : content_of kinds.CuIndex made.file.contents ≡ [] → content_of kinds.CuIndex file.contents ≡ f.compilation_index
+  finished-compilations none = ap (content_of kinds.CuIndex) contents-are
+      ∙ content-with_bytes kinds.CuIndex kinds.TuIndex f.type_index with_compilations
+      ∙ content-with_bytes kinds.CuIndex kinds.CuIndex f.compilation_index with_strings
+      ∙ ap (λ l. l ++ f.compilation_index) (content-with_bytes kinds.CuIndex kinds.Str (data_of made.strings) made.file.contents ∙ none)
+
+  pub finished-types : content_of kinds.TuIndex made.file.contents ≡ [] → content_of kinds.TuIndex file.contents ≡ f.type_index
+  finished-types none = ap (content_of kinds.TuIndex) contents-are
+      ∙ content-with_bytes kinds.TuIndex kinds.TuIndex f.type_index with_compilations
+      ∙ ap (λ l. l ++ f.type_index) (content-with_bytes kinds.TuIndex kinds.CuIndex f.compilation_index with_strings ∙ content-with_bytes kinds.TuIndex kinds.Str (data_of made.strings) made.file.contents ∙ none)
+
+-- the written file of a state is a package of its units
+pub written-is : IndexIsRead → IndexHasEntries → SomeIndex → NoIndex → ContentsRead → OtherKind → ForeignName → NoBytes → PresentLaw → AbsentLaw → NoIndexLaw
+    → (state : State) (bytes : List ℕ) (ms : Members) → StateHas state.begun ms → IsWritten state bytes → IsPackageOf ms bytes
+written-is is_read has_entries some_index none_index contents other foreign empty present absent none state bytes ms has w =
+    let made = w.finished.made in
+    let file = w.file in
+    let f = w.finished.finished in
+    let units : HasUnits made ms = subst (λ b. StateHas b ms) w.finished.begun has in
+    let tested = tested-state state made w.finished.begun w.tested in
+    let names = row-names made.file.order made.file.contents made.strings made.rows ms units.units.rows ∙ sym units.units.names in
+    let c = index-read is_read has_entries some_index none_index made.file.order (rows_of true made.rows) f.compilation_index f.compilations tested.compilation_rows
+          (distinct_chosen true made.rows made.names names units.apart) (chosen-fit true made.rows w.finished.identifiers) in
+    let t = index-read is_read has_entries some_index none_index made.file.order (rows_of false made.rows) f.type_index f.types tested.type_rows
+          (distinct_chosen false made.rows made.names names units.apart) (chosen-fit false made.rows w.finished.identifiers) in
+    let order = finished-order made file f in
+    let c_read : index_in_section file.order (content_of kinds.CuIndex file.contents) ≡ Ok c.index =
+      (λ i. index_in_section (order i) (finished-compilations made file f units.units.no_compilations i)) ∙ c.read in
+    let t_read : index_in_section file.order (content_of kinds.TuIndex file.contents) ≡ Ok t.index =
+      (λ i. index_in_section (order i) (finished-types made file f units.units.no_types i)) ∙ t.read in
+    let pack : Pack = record { order = file.order; contents = sections_of (λ kind. content_of kind file.contents); compilations = c.index; types = t.index } in
+    let read : IsRead pack made.file.order file.contents made.rows made.strings = record {
+      order_is = order;
+      contents_are = refl;
+      strings_are = finished-strings made file f units.units.no_strings;
+      compilations = c.has;
+      types = t.has;
+    } in
+    let rows = keep-rows made.file.order made.file.contents file.contents made.strings made.strings made.rows ms (finished-grows made file f) (take-length made.strings) units.units.rows in
+    record {
+      pack = pack;
+      parsed = package_held contents other foreign empty bytes file w.kinds w.read_back c.index t.index c_read t_read;
+      finds = package-finds present absent none pack made.file.order file.contents made.rows made.strings ms read units.units.table rows;
+    }
+
+-- a table of no strings
+pub no_strings : IsTable []
+no_strings = record { distinct = λ i j d before within. absurd (omega arith); zero_free = λ k d within. absurd (omega arith) }
+
+-- a run and what is written after it
+pub headline : NamesTheSameLaw → ReadsAlikeLaw → ReadInTurnLaw → ReadAlone → ReadAnywhere
+    → IndexIsRead → IndexHasEntries → SomeIndex → NoIndex → ContentsRead → OtherKind → ForeignName → NoBytes → PresentLaw → AbsentLaw → NoIndexLaw
+    → (offer : Offer) (list : List Input) (outcomes : List Outcome) (state : State) (bytes : List ℕ) → Ran offer list start outcomes state → IsWritten state bytes
+    → IsJoinOf offer list outcomes bytes
+headline names alike in_turn alone anywhere is_read has_entries some_index none_index contents other foreign empty present absent none offer list outcomes state bytes ran written =
+    let all = run-joins (parts-mean names alike in_turn) (units-mean alone anywhere) no_strings offer list start state outcomes [] ran refl in
+    record {
+      units = all.now;
+      joined = all.joined;
+      is = written-is is_read has_entries some_index none_index contents other foreign empty present absent none state bytes all.now all.has written;
+    }
