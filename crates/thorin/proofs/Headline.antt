@@ -99,7 +99,7 @@ module _ (made : Package) (file : File) (f : IsFinished made file) where
   pub finished-grows : Grows made.file.contents file.contents
   finished-grows = subst (Grows made.file.contents) (sym contents-are)
       (grows-trans made.file.contents with_strings (with_bytes kinds.TuIndex f.type_index with_compilations) (grows-with_bytes kinds.Str (data_of made.strings) made.file.contents)
-        (grows-trans with_strings with_compilations (with_bytes kinds.TuIndex f.type_index with_compilations) (grows-with_bytes kinds.CuIndex f.compilation_index with_strings) (grows-with_bytes kinds.TuIndex f.type_index with_compilations)))
+      (grows-trans with_strings with_compilations (with_bytes kinds.TuIndex f.type_index with_compilations) (grows-with_bytes kinds.CuIndex f.compilation_index with_strings) (grows-with_bytes kinds.TuIndex f.type_index with_compilations)))
 
   pub finished-strings : content_of kinds.Str made.file.contents ≡ [] → content_of kinds.Str file.contents ≡ data_of made.strings
   finished-strings none = ap (content_of kinds.Str) contents-are
@@ -130,14 +130,14 @@ written-is is_read has_entries some_index none_index contents other foreign empt
     let tested = tested-state state made w.finished.begun w.tested in
     let names = row-names made.file.order made.file.contents made.strings made.rows ms units.units.rows ∙ sym units.units.names in
     let c = index-read is_read has_entries some_index none_index made.file.order (rows_of true made.rows) f.compilation_index f.compilations tested.compilation_rows
-          (distinct_chosen true made.rows made.names names units.apart) (chosen-fit true made.rows w.finished.identifiers) in
+    (distinct_chosen true made.rows made.names names units.apart) (chosen-fit true made.rows w.finished.identifiers) in
     let t = index-read is_read has_entries some_index none_index made.file.order (rows_of false made.rows) f.type_index f.types tested.type_rows
-          (distinct_chosen false made.rows made.names names units.apart) (chosen-fit false made.rows w.finished.identifiers) in
+    (distinct_chosen false made.rows made.names names units.apart) (chosen-fit false made.rows w.finished.identifiers) in
     let order = finished-order made file f in
     let c_read : index_in_section file.order (content_of kinds.CuIndex file.contents) ≡ Ok c.index =
-      (λ i. index_in_section (order i) (finished-compilations made file f units.units.no_compilations i)) ∙ c.read in
+    (λ i. index_in_section (order i) (finished-compilations made file f units.units.no_compilations i)) ∙ c.read in
     let t_read : index_in_section file.order (content_of kinds.TuIndex file.contents) ≡ Ok t.index =
-      (λ i. index_in_section (order i) (finished-types made file f units.units.no_types i)) ∙ t.read in
+    (λ i. index_in_section (order i) (finished-types made file f units.units.no_types i)) ∙ t.read in
     let pack : Pack = record { order = file.order; contents = sections_of (λ kind. content_of kind file.contents); compilations = c.index; types = t.index } in
     let read : IsRead pack made.file.order file.contents made.rows made.strings = record {
       order_is = order;

@@ -106,7 +106,7 @@ pub joining-meant : (object : Object) (encoding : Encoding) (names : List DwarfO
 joining-meant object encoding names [] = refl
 joining-meant object encoding names (u ∷ us) =
     joining-cond object encoding u (joining names us) (joining (names ++ u.0 ∷ []) us) _ _ (list_any (same_name u.0) names)
-      (joining-meant object encoding names us) (joining-meant object encoding (names ++ u.0 ∷ []) us)
+    (joining-meant object encoding names us) (joining-meant object encoding (names ++ u.0 ∷ []) us)
 
 -- what the lower crates' laws give of an object
 abbrev pub PartsLaw : Type 0
@@ -144,13 +144,13 @@ object-joins parts_law units_law object encoding before made ms has same h =
     let now = with_parts parts.0 before.file.contents in
     let shared = shared_row encoding before.file.contents now in
     let can : AllCanBeAdded before.file.order shared new.units =
-      subst (λ o. AllCanBeAdded o shared new.units) same (subst (λ us. AllCanBeAdded object.order shared us) (sym j.2) (units_law object encoding before.file.contents now before.names all j.1)) in
+    subst (λ o. AllCanBeAdded o shared new.units) same (subst (λ us. AllCanBeAdded object.order shared us) (sym j.2) (units_law object encoding before.file.contents now before.names all j.1)) in
     let names = added-names encoding before parts new all j.2 in
     let rep = object-added object encoding before parts.0 parts.1 new (Compilation (record { 0 = 0 })) ms has.units same mean can names in
     let members : ms ++ map {B = DwarfObject × UnitMeaning} (meant object encoding) new.units ≡ ms ++ joining (map (λ u. u.0) ms) (map {B = DwarfObject × UnitMeaning} (meant object encoding) all) =
-      ap (λ l. ms ++ l) (ap (map {B = DwarfObject × UnitMeaning} (meant object encoding)) j.2
-        ∙ ap (λ ns. map {B = DwarfObject × UnitMeaning} (meant object encoding) (joining ns all)) has.units.names
-        ∙ sym (joining-meant object encoding (map (λ u. u.0) ms) all)) in
+    ap (λ l. ms ++ l) (ap (map {B = DwarfObject × UnitMeaning} (meant object encoding)) j.2
+    ∙ ap (λ ns. map {B = DwarfObject × UnitMeaning} (meant object encoding) (joining ns all)) has.units.names
+    ∙ sym (joining-meant object encoding (map (λ u. u.0) ms) all)) in
     record {
       all = all;
       units = j.1;

@@ -112,7 +112,7 @@ pub keep-shares : (order : Endianness) (c d : Contents) (s t : List (List ℕ)) 
 keep-shares order c d s t row unit grows longer lie shares = record {
   content = λ kind copied. keep-part c d row grows lie kind ∙ shares.content kind copied;
   string = λ final table begins i. ap (λ part. string_in order unit.encoding (data_of final) part i) (keep-part c d row grows lie StrOffsets)
-    ∙ shares.string final table (begins-trans s t final longer begins) i;
+      ∙ shares.string final table (begins-trans s t final longer begins) i;
 }
 
 pub keep-owns : (order : Endianness) (c d : Contents) (name : DwarfObject) (row : IndexEntry) (unit : UnitMeaning) → Grows c d → LieInside c row

@@ -93,10 +93,10 @@ shared-shares object encoding p parts after name mean same =
     record {
       content = λ kind copied. ap (part_of (content_of kind n)) (shared-copied encoding b n kind copied) ∙ grown-part kind b parts ∙ mean.copied kind copied;
       string = λ final table begins i.
-        ap (λ part. string_in p.file.order encoding (data_of final) (part_of (content_of kinds.StrOffsets n) part) i) (shared-offsets encoding b n)
-        ∙ ap (λ bytes. string_in p.file.order encoding (data_of final) bytes i) (grown-part kinds.StrOffsets b parts)
-        ∙ ap (λ order. string_in order encoding (data_of final) (joined_parts kinds.StrOffsets parts) i) (sym same)
-        ∙ mean.reads final table begins i;
+          ap (λ part. string_in p.file.order encoding (data_of final) (part_of (content_of kinds.StrOffsets n) part) i) (shared-offsets encoding b n)
+          ∙ ap (λ bytes. string_in p.file.order encoding (data_of final) bytes i) (grown-part kinds.StrOffsets b parts)
+          ∙ ap (λ order. string_in order encoding (data_of final) (joined_parts kinds.StrOffsets parts) i) (sym same)
+          ∙ mean.reads final table begins i;
     }
 
 none-added : (kind : SectionKind) (parts c : Contents) → joined_parts kind parts ≡ [] → content_of kind c ≡ [] → content_of kind (with_parts parts c) ≡ []

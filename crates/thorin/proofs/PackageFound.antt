@@ -98,7 +98,6 @@ part-there (Some part) some = by part.size refl
 module _ (pack : Package) (order : Endianness) (contents : Contents) (rows : List IndexEntry) (strings : List (List ℕ)) (name : DwarfObject) (unit : UnitMeaning)
     (read : IsRead pack order contents rows strings) (table : IsTable strings)
     (f : RowFound order contents strings rows name unit) (index : Index) (version : ℕ) (has : HasEntries version (rows_of (is_compilation name) rows) index) where
-
   parts : HasParts index (f.place + 1) f.row
   parts = has.each f.place f.row f.at
 
@@ -144,8 +143,8 @@ module _ (pack : Package) (order : Endianness) (contents : Contents) (rows : Lis
     bytes = own-are;
     content = λ kind copied. bytes-are kind ∙ f.is.shares.content kind copied;
     string = λ same i.
-      (λ j. string_in (read.order_is j) (same j) ((held-is kinds.Str ∙ read.strings_are) j) (bytes-are kinds.StrOffsets j) i)
-      ∙ f.is.shares.string strings table (take-length strings) i;
+        (λ j. string_in (read.order_is j) (same j) ((held-is kinds.Str ∙ read.strings_are) j) (bytes-are kinds.StrOffsets j) i)
+        ∙ f.is.shares.string strings table (take-length strings) i;
   }
 
 no-rows : {X : Type 0} (index : Option Index) (rows : List IndexEntry) (place : ℕ) (row : IndexEntry) → HasRows index rows → slice_get rows place ≡ Some row
@@ -158,14 +157,14 @@ by-row : PresentLaw → (pack : Package) (order : Endianness) (contents : Conten
     → GivesUnit pack name (look_limit ms name) unit
 by-row present pack order contents rows strings ms name unit read table are f =
     no-rows (index_for pack name) (rows_of (is_compilation name) rows) f.place f.row (sort-rows pack order contents rows strings name read) f.at (λ i there has.
-      let gives = present pack name (entry_ids (rows_of (is_compilation name) rows)) i f.place _ f.is.owns.encoding
-            (record { index_is = there; slots = has.1.slots })
-            (found-unit pack order contents rows strings name unit read table f i has.0 has.1) in
-      let within = (id-at (rows_of (is_compilation name) rows) f.place f.row f.at).0 in
-      let counted = ids-counted (rows_of (is_compilation name) rows) in
-      let as_many = rows-counted order contents strings rows ms name are in
-      let few = gives.few in
-      record { found = _; count = gives.count; few = omega arith; counted = gives.counted; is = found-is pack order contents rows strings name unit read table f i has.0 has.1 })
+    let gives = present pack name (entry_ids (rows_of (is_compilation name) rows)) i f.place _ f.is.owns.encoding
+    (record { index_is = there; slots = has.1.slots })
+    (found-unit pack order contents rows strings name unit read table f i has.0 has.1) in
+    let within = (id-at (rows_of (is_compilation name) rows) f.place f.row f.at).0 in
+    let counted = ids-counted (rows_of (is_compilation name) rows) in
+    let as_many = rows-counted order contents strings rows ms name are in
+    let few = gives.few in
+    record { found = _; count = gives.count; few = omega arith; counted = gives.counted; is = found-is pack order contents rows strings name unit read table f i has.0 has.1 })
 
 -- a name is looked up
 absent-by : AbsentLaw → NoIndexLaw → (pack : Package) (name : DwarfObject) (rows : List IndexEntry) (most : ℕ) (index : Option Index) → index_for pack name ≡ index → HasRows index rows
@@ -188,4 +187,4 @@ package-finds present absent none pack order contents rows strings ms read table
         let counted = ids-counted (rows_of (is_compilation name) rows) in
         let as_many = rows-counted order contents strings rows ms name are in
         absent-by absent none pack name (rows_of (is_compilation name) rows) (look_limit ms name) (index_for pack name) refl (sort-rows pack order contents rows strings name read)
-          (omega arith) (no-row order contents strings rows ms name are h)
+        (omega arith) (no-row order contents strings rows ms name are h)

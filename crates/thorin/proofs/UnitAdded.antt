@@ -126,7 +126,7 @@ row-own shared c name x places.Types = refl
 
 row-part : (shared : IndexEntry) (c : Contents) (name : DwarfObject) (x : List ℕ) (place : UnitSection) (kind : SectionKind)
     → (contribution_to kind (row_at shared c name x place) ≡ contribution_to kind shared)
-      ⊎ ((kind ≡ kind_at place) × (contribution_to kind (row_at shared c name x place) ≡ place_of (kind_at place) x c))
+    ⊎ ((kind ≡ kind_at place) × (contribution_to kind (row_at shared c name x place) ≡ place_of (kind_at place) x c))
 row-part shared c name x places.Info kinds.Info = inr (refl, refl)
 row-part shared c name x places.Info kinds.Types = inl refl
 row-part shared c name x places.Types kinds.Info = inl refl

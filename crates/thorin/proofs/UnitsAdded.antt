@@ -60,10 +60,10 @@ rows-added object encoding shared p name (u ∷ us) ms lie shares can rows =
     let before = keep-rows p.file.order c d p.strings p.strings p.rows ms (grows-with_bytes k u.1.bytes c) (take-length p.strings) rows in
     let all = rows-next p.file.order d p.strings p.rows ms _ m before row in
     rw (sym (append_assoc ms (m ∷ []) (map {B = DwarfObject × UnitMeaning} (meant object encoding) us)))
-      (rows-added object encoding shared (with_new_unit shared p u) name us (ms ++ m ∷ [])
-        (keep-lie c d shared (grows-with_bytes k u.1.bytes c) lie)
-        (keep-shares p.file.order c d p.strings p.strings shared (meant object encoding (no_unit name)).1 (grows-with_bytes k u.1.bytes c) (take-length p.strings) lie shares)
-        can.1 all)
+    (rows-added object encoding shared (with_new_unit shared p u) name us (ms ++ m ∷ [])
+    (keep-lie c d shared (grows-with_bytes k u.1.bytes c) lie)
+    (keep-shares p.file.order c d p.strings p.strings shared (meant object encoding (no_unit name)).1 (grows-with_bytes k u.1.bytes c) (take-length p.strings) lie shares)
+    can.1 all)
 
 -- the rest of the package
 pub strings-added : (shared : IndexEntry) (p : Package) (us : List (DwarfObject × NewUnit)) → (with_new_units shared p us).strings ≡ p.strings

@@ -34,12 +34,15 @@ pub record UnitMeaning : Type 0 where
 
 -- a unit of an object, with all that belongs to it
 abbrev pub meant : Object → Encoding → DwarfObject × NewUnit → DwarfObject × UnitMeaning
-meant object encoding unit = (unit.0, record {
-  bytes = unit.1.bytes;
-  content = λ kind. joined kind object.sections;
-  string = object_string object encoding;
-  encoding = encoding;
-})
+meant object encoding unit = (
+  unit.0,
+  record {
+    bytes = unit.1.bytes;
+    content = λ kind. joined kind object.sections;
+    string = object_string object encoding;
+    encoding = encoding;
+  },
+)
 
 -- the units of an object, each with all that belongs to it, in file order
 unfoldable pub object_meaning : Object → Result (List (DwarfObject × UnitMeaning)) Fault

@@ -46,7 +46,7 @@ with_offsets object encoding before bytes =
     if nat_le 5 encoding.version && has_offsets before.0 then Err (RepeatedSection (name_of StrOffsets))
     else (if not object.has_strings then Err (MissingRequiredSection (name_of Str))
     else (remapped object.order encoding (first Str object.sections) bytes (length bytes) before.1
-        >>= λ written. Ok (before.0 ++ (StrOffsets, written.0) ∷ [], written.1)))
+    >>= λ written. Ok (before.0 ++ (StrOffsets, written.0) ∷ [], written.1)))
 
 -- the parts with what a section adds
 unfoldable pub with_part : Object → Encoding → Parts → Used → Result Parts Fault

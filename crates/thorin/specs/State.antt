@@ -68,8 +68,8 @@ unfoldable pub with_all : Encoding → Package → Contents × List (List ℕ) �
 with_all encoding made parts new =
     let contents = with_parts parts.0 made.file.contents in
     with_new_units (shared_row encoding made.file.contents contents)
-      (record made { file = record made.file { contents = contents }; strings = parts.1; differing = made.differing ++ new.differing })
-      new.units
+    (record made { file = record made.file { contents = contents }; strings = parts.1; differing = made.differing ++ new.differing })
+    new.units
 
 -- the package with the units of a plain object, or its first fault
 unfoldable pub with_object : Object → Encoding → Package → Result Package Fault

@@ -37,10 +37,7 @@ fn is_same_order(a: Endianness, b: Endianness) -> bool
 
 // `MixedInputEncodings` where the package has another byte order.
 #[tactic(auto, unfolding(crate::specs::Builder::order_test))]
-fn test_order(
-    in_progress: &Option<InProgressDwarfPackage>,
-    order: Endianness,
-) -> Result<(), Error>
+fn test_order(in_progress: &Option<InProgressDwarfPackage>, order: Endianness) -> Result<(), Error>
     ensures { (names : List DwarfObject) → Gives (λ _. tt) result (spec.order_test order (begun_of in_progress.now names)) }
 {
     match in_progress {

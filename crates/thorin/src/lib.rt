@@ -10,7 +10,6 @@ mod package;
 mod packing;
 mod parts;
 mod state;
-
 mod units;
 
 pub use identity::dwo_identifier_of_unit;

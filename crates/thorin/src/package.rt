@@ -30,11 +30,8 @@ pub struct DwarfPackage<'output, 'session: 'output, Sess: Session<RelocationEntr
     output: PhantomData<&'output ()>,
 }
 
-impl<'output, 'session: 'output, Sess: Session<RelocationEntry>> Model for DwarfPackage<
-    'output,
-    'session,
-    Sess,
-> {
+impl<'output, 'session: 'output, Sess: Session<RelocationEntry>> Model
+    for DwarfPackage<'output, 'session, Sess> {
     ghost use Rattle.thorin.specs.Building.{Building};
 
     ghost Value = { Building Sess };

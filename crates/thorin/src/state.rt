@@ -243,11 +243,7 @@ fn is_compilation(name: DwarfObject) -> bool
 }
 
 // The rows of compilation units, or those of type units.
-fn rows_of(
-    alloc: Global,
-    rows: &[IndexEntry],
-    compilations: bool,
-) -> Result<Vec<IndexEntry>, Error>
+fn rows_of(alloc: Global, rows: &[IndexEntry], compilations: bool) -> Result<Vec<IndexEntry>, Error>
     ensures rows { IfOk result (λ chosen. chosen.items ≡ rows_of compilations rows.now) }
     ensures refused { IfErr result (λ e. e ≡ Error.Memory) }
 {

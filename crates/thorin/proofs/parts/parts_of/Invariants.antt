@@ -7,5 +7,5 @@ use Rattle.thorin.proofs.parts.parts_of.Given as goal
 abbrev pub invariant-loop-section : goal.invariant-loop-section
 invariant-loop-section l =
     (with_each_part (object l.object) l.encoding (map part l.parts.items, l.strings) (map used (drop l.section-index l.object.sections.items))
-      ≡ parts_of (object l.object) l.encoding l.fn.strings)
+    ≡ parts_of (object l.object) l.encoding l.fn.strings)
     × (take (length l.fn.strings) l.strings ≡ l.fn.strings)

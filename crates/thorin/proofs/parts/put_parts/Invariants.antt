@@ -8,5 +8,5 @@ use Rattle.thorin.proofs.parts.put_parts.Given as goal
 abbrev pub invariant-loop-part : goal.invariant-loop-part
 invariant-loop-part l =
     (record l.file { contents = with_parts (map part (drop l.part-index l.parts)) l.file.contents }
-      ≡ record l.fn.file { contents = with_parts (map part l.parts) l.fn.file.contents })
+    ≡ record l.fn.file { contents = with_parts (map part l.parts) l.fn.file.contents })
     × ((before : Object) → IsGrown before l.fn.file → IsGrown before l.file)

@@ -10,5 +10,5 @@ use Rattle.thorin.proofs.state.InProgressDwarfPackage.add_units.Given as goal
 abbrev pub invariant-loop-name : goal.invariant-loop-name
 invariant-loop-name l =
     (with_new_units l.shared (package_of l.self l.names.keys) (map {B = DwarfObject × NewUnit} (λ e. (e.0, new_unit e.1)) l.name-iterator)
-      ≡ with_new_units l.shared (package_of l.fn.self l.fn.names.keys) (new_of l.new).units)
+    ≡ with_new_units l.shared (package_of l.fn.self l.fn.names.keys) (new_of l.new).units)
     × ((before : Package) → Extends before (package_of l.fn.self l.fn.names.keys) → Extends before (package_of l.self l.names.keys))

@@ -45,14 +45,14 @@ pub returns-in_err-add_units-clause-extends : goal.returns-in_err-add_units-clau
 returns-in_err-add_units-clause-extends c =
     let p = package_of c.args.self.now c.args.names.now.keys in
     let more : map (λ (s : DebugTypeSignature). s.0) c.extend_from_slice.new.self.items ≡ p.differing ++ map (λ (s : DebugTypeSignature). s.0) c.in_ok-new.new.differing.items =
-      signatures c.args.self.now.differing.items c.in_ok-new.new.differing.items c.extend_from_slice.new.self.items (search (rules, c.in_ok-extend_from_slice.ensures.items, c.deref-3.ensures)) in
+    signatures c.args.self.now.differing.items c.in_ok-new.new.differing.items c.extend_from_slice.new.self.items (search (rules, c.in_ok-extend_from_slice.ensures.items, c.deref-3.ensures)) in
     c.add_units.ensures.extends p (extends-with p p c.put_parts.new.file c.parts_of.new.strings _ (c.put_parts.ensures.grown p.file (is_grown-refl p.file)) c.parts_of.ensures.kept (rw more (front-append p.differing p.differing _ (take-length p.differing))) (take-length p.names) (take-length p.rows))
 
 pub returns-clause-extends : goal.returns-clause-extends
 returns-clause-extends c =
     let p = package_of c.args.self.now c.args.names.now.keys in
     let more : map (λ (s : DebugTypeSignature). s.0) c.extend_from_slice.new.self.items ≡ p.differing ++ map (λ (s : DebugTypeSignature). s.0) c.in_ok-new.new.differing.items =
-      signatures c.args.self.now.differing.items c.in_ok-new.new.differing.items c.extend_from_slice.new.self.items (search (rules, c.in_ok-extend_from_slice.ensures.items, c.deref-3.ensures)) in
+    signatures c.args.self.now.differing.items c.in_ok-new.new.differing.items c.extend_from_slice.new.self.items (search (rules, c.in_ok-extend_from_slice.ensures.items, c.deref-3.ensures)) in
     c.add_units.ensures.extends p (extends-with p p c.put_parts.new.file c.parts_of.new.strings _ (c.put_parts.ensures.grown p.file (is_grown-refl p.file)) c.parts_of.ensures.kept (rw more (front-append p.differing p.differing _ (take-length p.differing))) (take-length p.names) (take-length p.rows))
 
 pub returns-clause-meaning : goal.returns-clause-meaning
@@ -62,11 +62,11 @@ returns-clause-meaning c =
     let parts : Contents × List (List ℕ) = (map view.part c.in_ok-parts.parts.items, c.parts_of.new.strings) in
     let new = new_of c.in_ok-new.new in
     let more : map (λ (s : DebugTypeSignature). s.0) c.extend_from_slice.new.self.items ≡ p.differing ++ new.differing =
-      signatures c.args.self.now.differing.items c.in_ok-new.new.differing.items c.extend_from_slice.new.self.items (search (rules, c.in_ok-extend_from_slice.ensures.items, c.deref-3.ensures)) in
+    signatures c.args.self.now.differing.items c.in_ok-new.new.differing.items c.extend_from_slice.new.self.items (search (rules, c.in_ok-extend_from_slice.ensures.items, c.deref-3.ensures)) in
     let file : c.put_parts.new.file ≡ record p.file { contents = with_parts parts.0 p.file.contents } = search (rules, c.in_ok-put_parts.ensures.contents) in
     let shared = c.shared_row-shared.ensures p.file.contents c.put_parts.new.file.contents (sym c.sizes_of-before.ensures) (sym c.sizes_of.ensures) in
     let read : new_units object (held p) ≡ Ok new = search (rules, c.in_ok-new.ensures, c.deref.ensures) in
     let steps = with_object-is object c.args.encoding p parts new c.in_ok-parts.ensures.meaning (search (rules)) read in
     let all = with_all-is c.args.encoding p parts new c.put_parts.new.file c.shared_row-shared.result _ (package_of c.add_units.new.self c.add_units.new.names.keys) file shared
-      (ap (λ d. record p { file = c.put_parts.new.file; strings = c.parts_of.new.strings; differing = d }) more) c.in_ok-add_units.ensures.meaning in
+    (ap (λ d. record p { file = c.put_parts.new.file; strings = c.parts_of.new.strings; differing = d }) more) c.in_ok-add_units.ensures.meaning in
     steps ∙ ap Ok all
