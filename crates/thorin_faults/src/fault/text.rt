@@ -32,6 +32,22 @@ impl fmt::Display for Error {
                 f,
                 "Unsupported relocation for section {section} at offset 0x{place:08x}"
             ),
+            _ => self.write_unit_text(f),
+        }
+    }
+}
+
+#[tactic(auto, using(crate::proofs::Hex::hex8_written))]
+impl Error {
+    ghost use Rattle.std.specs.Fmt.{DisplaysOnOk};
+    ghost use Rattle.thorin_faults.specs.Fault.{fault_of};
+    ghost use Rattle.thorin_faults.specs.Text.{unit_text, index_text, section_text};
+
+    /// The texts of faults of units.
+    fn write_unit_text<W: fmt::Write>(&self, f: &mut fmt::Formatter<W>) -> fmt::Result
+        ensures { DisplaysOnOk W.write_str_gives f.old result (unit_text (fault_of self.now)) f.new }
+    {
+        match self {
             Error::MissingDwoName(unit) => write!(
                 f,
                 "Missing path attribute to DWARF object (0x{unit:08x})"
@@ -43,13 +59,33 @@ impl fmt::Display for Error {
             Error::TopLevelDieNotUnit => f.write_str(
                 "Top-level debugging information entry is not a compilation/type unit",
             ),
-            Error::MissingRequiredSection(section) => write!(
-                f,
-                "Input object missing required section `{section}`"
-            ),
             Error::ParseUnitAbbreviations(_) => f.write_str("Failed to parse unit abbreviations"),
             Error::ParseUnitHeader(_) => f.write_str("Failed to parse unit header"),
             Error::ParseUnit(_) => f.write_str("Failed to parse unit"),
+            Error::EmptyUnit(unit) => write!(
+                f,
+                "Unit 0x{unit:08x} in input DWARF object with no data"
+            ),
+            Error::NotSplitUnit => f.write_str(
+                "Regular compilation unit in object (missing dwo identifier)",
+            ),
+            Error::DuplicateUnit(unit) => write!(
+                f,
+                "Duplicate split compilation unit (0x{unit:08x})"
+            ),
+            Error::MissingReferencedUnit(unit) => write!(
+                f,
+                "Unit 0x{unit:08x} referenced by executable was not found"
+            ),
+            _ => self.write_index_text(f),
+        }
+    }
+
+    /// The texts of faults of indexes and string offsets.
+    fn write_index_text<W: fmt::Write>(&self, f: &mut fmt::Formatter<W>) -> fmt::Result
+        ensures { DisplaysOnOk W.write_str_gives f.old result (index_text (fault_of self.now)) f.new }
+    {
+        match self {
             Error::IncompatibleIndexVersion(section, expected, found) => write!(
                 f,
                 "Incompatible `{section}` index version: found version {found}, expected version {expected}"
@@ -72,24 +108,31 @@ impl fmt::Display for Error {
                 "Row {row} found in index's hash table not present in index"
             ),
             Error::SectionNotInRow => f.write_str("Section not found in unit's row in index"),
-            Error::EmptyUnit(unit) => write!(
+            Error::BadStringOffsets(place) => write!(
                 f,
-                "Unit 0x{unit:08x} in input DWARF object with no data"
+                "Bad string offsets at offset 0x{place:08x}"
+            ),
+            Error::OverlappingStringOffsets(place) => write!(
+                f,
+                "Overlapping string offsets at offset 0x{place:08x}"
+            ),
+            _ => self.write_section_text(f),
+        }
+    }
+
+    /// The texts of faults of sections and of what a package is made of, and of causes; the other kinds have
+    /// theirs above.
+    fn write_section_text<W: fmt::Write>(&self, f: &mut fmt::Formatter<W>) -> fmt::Result
+        ensures { DisplaysOnOk W.write_str_gives f.old result (section_text (fault_of self.now)) f.new }
+    {
+        match self {
+            Error::MissingRequiredSection(section) => write!(
+                f,
+                "Input object missing required section `{section}`"
             ),
             Error::MultipleDebugInfoSection => f.write_str("Multiple `.debug_info.dwo` sections"),
             Error::MultipleDebugTypesSection => f.write_str(
                 "Multiple `.debug_types.dwo` sections in a package",
-            ),
-            Error::NotSplitUnit => f.write_str(
-                "Regular compilation unit in object (missing dwo identifier)",
-            ),
-            Error::DuplicateUnit(unit) => write!(
-                f,
-                "Duplicate split compilation unit (0x{unit:08x})"
-            ),
-            Error::MissingReferencedUnit(unit) => write!(
-                f,
-                "Unit 0x{unit:08x} referenced by executable was not found"
             ),
             Error::NoOutputObjectCreated => f.write_str("No output object was created from inputs"),
             Error::MixedInputEncodings => f.write_str("Input objects haved mixed encodings"),
@@ -109,15 +152,8 @@ impl fmt::Display for Error {
                 "Section {section} is not part of the package format"
             ),
             Error::RepeatedSection(section) => write!(f, "Repeated section {section}"),
-            Error::BadStringOffsets(place) => write!(
-                f,
-                "Bad string offsets at offset 0x{place:08x}"
-            ),
-            Error::OverlappingStringOffsets(place) => write!(
-                f,
-                "Overlapping string offsets at offset 0x{place:08x}"
-            ),
             Error::NotYet => f.write_str("Not supported yet"),
+            _ => Ok(()),
         }
     }
 }
