@@ -1,5 +1,5 @@
 -- The texts of faults.
-use Rattle.std.specs.Prelude.{ℕ, ◌-◌, List, ◌++◌, Option, Some, None, codes, length, false, replicate}
+use Rattle.std.specs.Prelude.{ℕ, ◌-◌, Bool, true, false, List, ◌++◌, Option, Some, None, codes, length, replicate}
 use Rattle.std.specs.Fmt.{digits, decimal}
 use Rattle.thorin_faults.specs.Fault.{Fault, ReadInput, ParseFileKind, ParseObjectFile, InvalidInputKind, DecompressData, NamelessSection, RelocationWithInvalidSymbol, MultipleRelocations, UnsupportedRelocation, MissingDwoName, NoCompilationUnits, NoDie, TopLevelDieNotUnit, MissingRequiredSection, ParseUnitAbbreviations, ParseUnitHeader, ParseUnit, IncompatibleIndexVersion, OffsetAtIndex, StrAtOffset, ParseIndex, UnitNotInIndex, RowNotInIndex, SectionNotInRow, EmptyUnit, MultipleDebugInfoSection, MultipleDebugTypesSection, NotSplitUnit, DuplicateUnit, MissingReferencedUnit, NoOutputObjectCreated, MixedInputEncodings, Io, ObjectRead, ObjectWrite, GimliRead, GimliWrite, Memory, NumberTooLarge, BadContribution, SectionOutsideFormat, RepeatedSection, BadStringOffsets, OverlappingStringOffsets, NotYet}
 
@@ -68,3 +68,12 @@ fault_text (RelocationWithInvalidSymbol section place) = Some (codes "Relocation
 fault_text (MultipleRelocations section place) = Some (codes "Multiple relocations for section `" ++ (section ++ (codes "` at offset 0x" ++ hex8 place)))
 fault_text (UnsupportedRelocation section place) = Some (codes "Unsupported relocation for section " ++ (section ++ (codes " at offset 0x" ++ hex8 place)))
 fault_text fault = unit_text fault
+
+-- a fault that only passes on a cause
+abbrev pub is_passed_on : Fault → Bool
+is_passed_on (Io _) = true
+is_passed_on (ObjectRead _) = true
+is_passed_on (ObjectWrite _) = true
+is_passed_on (GimliRead _) = true
+is_passed_on (GimliWrite _) = true
+is_passed_on _ = false

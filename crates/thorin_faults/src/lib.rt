@@ -4,5 +4,7 @@
 mod fault;
 mod session;
 
-pub use fault::{Error, InputError, MissingReferencedObjectBehaviour, Result};
+pub use fault::{
+    Error, InputError, MissingReferencedObjectBehaviour, Result, every_fault_has_a_text,
+};
 pub use session::{ArenaSession, MemorySession, Session};
