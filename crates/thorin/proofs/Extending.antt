@@ -1,5 +1,5 @@
 -- A package that loses nothing of what it had.
-use Rattle.std.proofs.Common.{◌≡◌, ◌∙◌, ℕ, ◌≤◌, Bool, true, false, cond, List, [], ◌∷◌, ◌++◌, length, take, min, ap, sym, refl, arith, Ok}
+use Rattle.std.proofs.Common.{◌≡◌, ◌∙◌, ℕ, ◌≤◌, Bool, true, false, cond, List, [], ◌∷◌, ◌++◌, length, take, min, ap, sym, arith, Ok}
 use Rattle.std.specs.Prelude.{Result}
 use Rattle.dwp_base.specs.Reading.{◌>>=◌}
 use Rattle.std.proofs.lemmas.List.{length-take, take-append-le}

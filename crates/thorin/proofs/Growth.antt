@@ -1,12 +1,12 @@
 -- Contents that grow, and what is taken back.
-use Rattle.std.proofs.Common.{◌≡◌, ◌∙◌, ℕ, Bool, true, false, cond, List, [], ◌∷◌, ◌++◌, length, refl, sym, ap, nat_eq, ◌==◌, if◌then◌else◌}
+use Rattle.std.proofs.Common.{◌≡◌, ◌∙◌, ℕ, Bool, true, false, cond, List, [], ◌∷◌, ◌++◌, length, refl, sym, ap, ◌==◌}
 use Rattle.std.proofs.Math.Seq.{take-append_seam}
 use Rattle.std.proofs.lemmas.List.{append_assoc, append-nil}
 use Rattle.dwp_base.specs.declared.section.SectionKind.{SectionKind}
 use Rattle.dwp_base.specs.Sections.{same_kind}
 use Rattle.dwp_elf.specs.Contents.{appended, truncated}
 use Rattle.dwp_elf.specs.FileText.{Object}
-use Rattle.thorin.specs.Growing.{Contents, Begins, HasFront, IsGrown, with_bytes, lengths}
+use Rattle.thorin.specs.Growing.{Contents, Begins, IsGrown, with_bytes, lengths}
 
 pub begins-refl : (a : Contents) → Begins a a
 begins-refl [] = tt

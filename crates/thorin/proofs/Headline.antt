@@ -1,44 +1,37 @@
 -- What is written after a run means the join of the accepted inputs.
-use Rattle.std.proofs.Common.{◌≡◌, ◌∙◌, ℕ, ◌+◌, ◌<◌, ◌^◌, Bool, true, false, List, [], ◌∷◌, ◌++◌, length, map, take, ap, sym, refl, subst, Result, Ok, Err, Option, Some, None, arith}
+use Rattle.std.proofs.Common.{◌≡◌, ◌∙◌, ℕ, true, false, List, [], ◌++◌, ap, sym, refl, subst, Ok, Option, Some, None, arith}
 use Rattle.std.proofs.Math.Seq.{take-length}
 use Rattle.std.specs.Option.{ok_or}
-use Rattle.std.specs.declared.io.Error.{Error as IoError}
-use Rattle.dwp_base.specs.Reading.{◌>>=◌}
-use Rattle.dwp_base.specs.declared.section.SectionKind.{SectionKind}
 use Rattle.dwp_base.specs.declared.section.SectionKind.TheVariants as kinds
 use Rattle.dwp_elf.specs.Contents.{content_of}
 use Rattle.dwp_elf.specs.FileText.{Object as File}
-use Rattle.dwp_elf.specs.Written.{written_elf}
-use Rattle.dwp_elf_read.specs.Elf.{elf_of}
-use Rattle.dwp_reader.specs.declared.encoding.Encoding.{Encoding}
-use Rattle.dwp_table.specs.Table.{AreDistinct}
-use Rattle.dwp_table.specs.declared.object.DwarfObject.{DwarfObject}
+use Rattle.std.specs.List.Sorted.{IsPermutation}
+use Rattle.dwp_index.specs.Entries.{entries_from}
 use Rattle.dwp_index.specs.Holding.{sections_of}
-use Rattle.dwp_index.specs.Package.{Package as Pack, package_of, index_in_section}
+use Rattle.dwp_index.specs.Index.{Index}
+use Rattle.dwp_index.specs.Naming.{IsIndexOf, entries_of}
+use Rattle.thorin_parts.specs.declared.entry.IndexEntry.{IndexEntry}
+use Rattle.dwp_index.specs.Package.{Package as Pack, index_in_section}
 use Rattle.thorin_strings.specs.Strings.{IsTable, data_of}
 use Rattle.thorin_parts.specs.EntryTests.{index_tests}
 use Rattle.thorin_parts.specs.IndexText.{entry_ids}
 use Rattle.thorin_faults.specs.Fault.{NoOutputObjectCreated}
 use Rattle.thorin.specs.declared.packing.Input.{Input}
-use Rattle.thorin.specs.Builder.{State, start, IsFinished, IsFinishedState, finish_test, targets_test, indexes_test, names_in, rows_of, compilations, type_units}
-use Rattle.thorin.specs.Growing.{Contents, with_bytes, with_parts, shared_row}
-use Rattle.thorin.specs.Join.{UnitMeaning, IsPackageOf, IsJoinOf}
-use Rattle.thorin.specs.Meaning.{joining, object_units}
-use Rattle.thorin.specs.NewUnits.{NewUnit}
-use Rattle.thorin.specs.Parts.{parts_of}
+use Rattle.thorin.specs.Builder.{State, start, IsFinished, finish_test, targets_test, indexes_test, names_in, rows_of, compilations}
+use Rattle.thorin.specs.Growing.{Contents, with_bytes}
+use Rattle.thorin.specs.Join.{IsPackageOf, IsJoinOf}
+use Rattle.thorin.specs.Meaning.{joining}
 use Rattle.thorin.specs.Run.{Outcome, Ran, IsWritten}
 use Rattle.thorin.specs.State.{Package}
-use Rattle.thorin.specs.Used.{Object}
 use Rattle.thorin.proofs.HeadersRead.{ReadAlone, ReadAnywhere, headers_read, headers-joining, can_be_added}
-use Rattle.thorin.proofs.IndexesRead.{IndexIsRead, IndexHasEntries, SomeIndex, NoIndex, IndexRead, index-read, chosen-fit}
+use Rattle.thorin.proofs.IndexesRead.{HasRows, IndexIsRead, IndexHasEntries, SomeIndex, NoIndex, index-read, chosen-fit}
 use Rattle.thorin.proofs.InputJoined.{bind-inv, ok-eq, HasUnits, StateHas, PartsLaw, UnitsLaw}
-use Rattle.thorin.proofs.Joining.{AreApart, distinct_chosen}
+use Rattle.thorin.proofs.Joining.{distinct_chosen}
 use Rattle.thorin.proofs.Keeping.{Grows, grows-trans, grows-with_bytes, keep-rows}
-use Rattle.thorin.proofs.ObjectAdded.{PartsMean}
 use Rattle.thorin.proofs.PackageFound.{PresentLaw, AbsentLaw, NoIndexLaw, IsRead, package-finds}
 use Rattle.thorin.proofs.PartMeaning.{NamesTheSameLaw, ReadsAlikeLaw, ReadInTurnLaw, content-with_bytes, parts-copied, parts-none, parts-strings, parts-read}
 use Rattle.thorin.proofs.ReadingFile.{ContentsRead, OtherKind, ForeignName, NoBytes, package_held}
-use Rattle.thorin.proofs.RowsFound.{row-names}
+use Rattle.thorin.proofs.RowsFound.{row-names, chosen-compilations, chosen-types}
 use Rattle.thorin.proofs.RunJoined.{Offer, Members, run-joins}
 
 -- what the parts of an object mean, by the laws of the crates below
@@ -53,6 +46,7 @@ parts-mean names alike in_turn object encoding strings parts after table h =
       table = follows.table;
       longer = follows.kept;
       reads = λ final t begins i. (parts-read names alike in_turn object encoding strings parts after table h final t begins i).0;
+      readable = λ i. (parts-read names alike in_turn object encoding strings parts after table h after follows.table (take-length after) i).1;
     }
 
 -- so do its units
@@ -119,10 +113,21 @@ module _ (made : Package) (file : File) (f : IsFinished made file) where
       ∙ content-with_bytes kinds.TuIndex kinds.TuIndex f.type_index with_compilations
       ∙ ap (λ l. l ++ f.type_index) (content-with_bytes kinds.TuIndex kinds.CuIndex f.compilation_index with_strings ∙ content-with_bytes kinds.TuIndex kinds.Str (data_of made.strings) made.file.contents ∙ none)
 
+-- the law of the names in a package
+abbrev pub NamedOnce : Type 0
+NamedOnce = (compilations types : Option Index) (ids signatures : List ℕ)
+    → IsIndexOf compilations ids
+    → IsIndexOf types signatures
+    → IsPermutation (entries_of ids signatures) (entries_from compilations types 0 0)
+
+index-ids : (index : Option Index) (rows : List IndexEntry) → HasRows index rows → IsIndexOf index (entry_ids rows)
+index-ids None rows has = ap entry_ids has
+index-ids (Some index) rows has = has.1.slots
+
 -- the written file of a state is a package of its units
-pub written-is : IndexIsRead → IndexHasEntries → SomeIndex → NoIndex → ContentsRead → OtherKind → ForeignName → NoBytes → PresentLaw → AbsentLaw → NoIndexLaw
+pub written-is : IndexIsRead → IndexHasEntries → SomeIndex → NoIndex → ContentsRead → OtherKind → ForeignName → NoBytes → PresentLaw → AbsentLaw → NoIndexLaw → NamedOnce
     → (state : State) (bytes : List ℕ) (ms : Members) → StateHas state.begun ms → IsWritten state bytes → IsPackageOf ms bytes
-written-is is_read has_entries some_index none_index contents other foreign empty present absent none state bytes ms has w =
+written-is is_read has_entries some_index none_index contents other foreign empty present absent none once state bytes ms has w =
     let made = w.finished.made in
     let file = w.file in
     let f = w.finished.finished in
@@ -150,6 +155,8 @@ written-is is_read has_entries some_index none_index contents other foreign empt
     record {
       pack = pack;
       parsed = package_held contents other foreign empty bytes file w.kinds w.read_back c.index t.index c_read t_read;
+      named = rw (← chosen-compilations made.file.order made.file.contents made.strings made.rows ms units.units.rows, ← chosen-types made.file.order made.file.contents made.strings made.rows ms units.units.rows)
+          (once c.index t.index (entry_ids (rows_of true made.rows)) (entry_ids (rows_of false made.rows)) (index-ids c.index (rows_of true made.rows) c.has) (index-ids t.index (rows_of false made.rows) t.has));
       finds = package-finds present absent none pack made.file.order file.contents made.rows made.strings ms read units.units.table rows;
     }
 
@@ -159,13 +166,13 @@ no_strings = record { distinct = λ i j d before within. absurd (omega arith); z
 
 -- a run and what is written after it
 pub headline : NamesTheSameLaw → ReadsAlikeLaw → ReadInTurnLaw → ReadAlone → ReadAnywhere
-    → IndexIsRead → IndexHasEntries → SomeIndex → NoIndex → ContentsRead → OtherKind → ForeignName → NoBytes → PresentLaw → AbsentLaw → NoIndexLaw
+    → IndexIsRead → IndexHasEntries → SomeIndex → NoIndex → ContentsRead → OtherKind → ForeignName → NoBytes → PresentLaw → AbsentLaw → NoIndexLaw → NamedOnce
     → (offer : Offer) (list : List Input) (outcomes : List Outcome) (state : State) (bytes : List ℕ) → Ran offer list start outcomes state → IsWritten state bytes
     → IsJoinOf offer list outcomes bytes
-headline names alike in_turn alone anywhere is_read has_entries some_index none_index contents other foreign empty present absent none offer list outcomes state bytes ran written =
+headline names alike in_turn alone anywhere is_read has_entries some_index none_index contents other foreign empty present absent none once offer list outcomes state bytes ran written =
     let all = run-joins (parts-mean names alike in_turn) (units-mean alone anywhere) no_strings offer list start state outcomes [] ran refl in
     record {
       units = all.now;
       joined = all.joined;
-      is = written-is is_read has_entries some_index none_index contents other foreign empty present absent none state bytes all.now all.has written;
+      is = written-is is_read has_entries some_index none_index contents other foreign empty present absent none once state bytes all.now all.has written;
     }

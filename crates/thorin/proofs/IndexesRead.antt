@@ -1,11 +1,9 @@
 -- The indexes of a finished package, as they are read.
-use Rattle.std.proofs.Common.{◌≡◌, ◌∙◌, ℕ, zero, suc, ◌+◌, ◌<◌, ◌^◌, Bool, true, false, cond, true≢false, List, [], ◌∷◌, length, map, ap, sym, refl, subst, Result, Ok, Err, Option, Some, None, nat_eq, arith, get_or}
-use Rattle.std.specs.Prelude.{slice_index, slice_get, MatchOption}
-use Rattle.std.proofs.Math.Dec.{eqb-suc-zero}
+use Rattle.std.proofs.Common.{◌≡◌, ◌∙◌, ℕ, zero, suc, ◌<◌, ◌^◌, Bool, true, false, cond, List, [], ◌∷◌, length, sym, refl, Ok, Err, Option, Some, None, arith}
+use Rattle.std.specs.Prelude.{slice_index}
 use Rattle.dwp_base.specs.declared.endian.Endianness.{Endianness}
 use Rattle.dwp_reader.specs.Encoding.{index_version_of}
 use Rattle.dwp_reader.specs.declared.encoding.Encoding.{Encoding}
-use Rattle.dwp_reader.specs.declared.fault.ReadError.{ReadError}
 use Rattle.dwp_reader.specs.declared.fault.ReadError.TheVariants.{UnexpectedEof}
 use Rattle.dwp_table.specs.Objects.{identifier_of}
 use Rattle.dwp_table.specs.Table.{AreDistinct}

@@ -1,6 +1,5 @@
 -- An input that is taken joins its units to those of the package.
-use Rattle.std.proofs.Common.{◌≡◌, ◌∙◌, ℕ, ◌<◌, Bool, true, false, cond, true≢false, List, [], ◌∷◌, ◌++◌, length, take, map, ap, sym, refl, subst, Result, Ok, Err, Option, Some, None}
-use Rattle.std.proofs.lemmas.List.{append-nil}
+use Rattle.std.proofs.Common.{◌≡◌, ◌∙◌, ℕ, Bool, true, false, cond, true≢false, List, [], ◌∷◌, ◌++◌, map, ap, sym, refl, subst, Result, Ok, Err, Option, Some, None}
 use Rattle.std.specs.List.{list_any}
 use Rattle.dwp_base.specs.Reading.{◌>>=◌}
 use Rattle.dwp_base.specs.declared.endian.Endianness.{Endianness}
@@ -12,15 +11,15 @@ use Rattle.dwp_table.specs.declared.object.DwarfObject.{DwarfObject}
 use Rattle.dwp_table.specs.declared.object.DwarfObject.TheVariants.{Compilation}
 use Rattle.thorin_strings.specs.Strings.{IsTable}
 use Rattle.thorin_faults.specs.Fault.{Fault, MixedInputEncodings}
-use Rattle.thorin.specs.Builder.{State, begun_by, package_or_new, encoding_of, order_of, same_order, order_test, plain_test, with_plain, with_units, with_input, taken}
+use Rattle.thorin.specs.Builder.{package_or_new, order_of, same_order, order_test}
 use Rattle.thorin.specs.Growing.{Contents, with_parts, shared_row}
-use Rattle.thorin.specs.Join.{UnitMeaning, meant, object_meaning, input_meaning}
+use Rattle.thorin.specs.Join.{UnitMeaning, meant}
 use Rattle.thorin.specs.Meaning.{joining, object_units}
 use Rattle.thorin.specs.NewUnits.{New, NewUnit, same_name, new_units}
 use Rattle.thorin.specs.Parts.{parts_of}
 use Rattle.thorin.specs.Represents.{Represents}
 use Rattle.thorin.specs.State.{Package, empty, held, with_object, with_all, abbreviations_test}
-use Rattle.thorin.specs.Used.{Object, opened, has_info, object_of, used_from}
+use Rattle.thorin.specs.Used.{Object, object_of, used_from}
 use Rattle.thorin.proofs.Joining.{joined_units, joining_names, AreApart, apart-none, joined_distinct}
 use Rattle.thorin.proofs.ObjectAdded.{PartsMean, object-added}
 use Rattle.thorin.proofs.UnitsAdded.{AllCanBeAdded}

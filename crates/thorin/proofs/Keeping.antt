@@ -1,6 +1,6 @@
 -- What stands in a package stays when more is added.
-use Rattle.std.proofs.Common.{◌≡◌, ◌∙◌, ℕ, ◌+◌, ◌-◌, ◌≤◌, ◌<◌, Bool, true, false, cond, List, [], ◌∷◌, ◌++◌, length, take, drop, min, ap, sym, refl, arith, length-append, Some, None, Option, nat_eq}
-use Rattle.std.specs.Prelude.{slice_range, nat_le}
+use Rattle.std.proofs.Common.{◌≡◌, ◌∙◌, ℕ, ◌+◌, ◌-◌, ◌≤◌, Bool, true, false, cond, List, [], ◌∷◌, ◌++◌, length, take, drop, min, ap, sym, refl, arith, length-append, Some, None, Option, nat_eq}
+use Rattle.std.specs.Prelude.{slice_range}
 use Rattle.std.proofs.lemmas.Bool.{le-leb}
 use Rattle.std.proofs.lemmas.List.{append_assoc, append-nil, drop-append-le, take-append-le, length-drop, length-take, take-take}
 use Rattle.dwp_base.specs.declared.section.SectionKind.{SectionKind}
@@ -113,6 +113,7 @@ keep-shares order c d s t row unit grows longer lie shares = record {
   content = λ kind copied. keep-part c d row grows lie kind ∙ shares.content kind copied;
   string = λ final table begins i. ap (λ part. string_in order unit.encoding (data_of final) part i) (keep-part c d row grows lie StrOffsets)
       ∙ shares.string final table (begins-trans s t final longer begins) i;
+  readable = shares.readable;
 }
 
 pub keep-owns : (order : Endianness) (c d : Contents) (name : DwarfObject) (row : IndexEntry) (unit : UnitMeaning) → Grows c d → LieInside c row

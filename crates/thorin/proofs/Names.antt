@@ -1,5 +1,5 @@
 -- The names of units: what `==` says of them.
-use Rattle.std.proofs.Common.{◌≡◌, ◌∙◌, Bool, true, false, cond, List, [], ◌∷◌, refl, ap, map, Option, Some, None}
+use Rattle.std.proofs.Common.{◌≡◌, ◌∙◌, Bool, true, false, cond, List, [], ◌∷◌, refl, ap, map, Option, Some}
 use Rattle.std.specs.Prelude.{option_map, find}
 use Rattle.std.specs.List.{list_any}
 use Rattle.std.specs.Map.{lookup}

@@ -1,11 +1,11 @@
 -- What is kept for the name of a unit.
-use Rattle.std.proofs.Common.{◌≡◌, ◌∙◌, ℕ, Bool, List, Option, Some, None, ap, sym, refl, map, [], ◌∷◌, ◌++◌}
+use Rattle.std.proofs.Common.{◌≡◌, ◌∙◌, ℕ, List, Option, Some, None, ap, sym, refl, map, [], ◌∷◌, ◌++◌}
 use Rattle.std.proofs.lemmas.List.{map-append}
 use Rattle.std.specs.Prelude.{option_map}
 use Rattle.std.specs.Map.{lookup}
 use Rattle.std.proofs.lemmas.Option.{none-some}
 use Rattle.dwp_table.specs.declared.object.DwarfObject.{DwarfObject}
-use Rattle.thorin.specs.NewUnits.{NewUnit, Held, same_name, or_held, held_bytes, kept_bytes}
+use Rattle.thorin.specs.NewUnits.{NewUnit, Held, same_name, or_held, kept_bytes}
 use Rattle.thorin.specs.declared.units.NewUnit.{NewUnit as CodeUnit}
 use Rattle.thorin.specs.UnitView.{new_unit}
 use Rattle.thorin.proofs.Names.{lookup-map}

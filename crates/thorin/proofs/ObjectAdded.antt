@@ -1,26 +1,24 @@
 -- A package with a plain object has the object's units too.
-use Rattle.std.proofs.Common.{◌≡◌, ◌∙◌, ℕ, ◌+◌, ◌<◌, ◌≤◌, Bool, true, false, true≢false, List, [], ◌∷◌, ◌++◌, length, take, map, ap, sym, refl, Ok, Option, Some, None}
+use Rattle.std.proofs.Common.{◌≡◌, ◌∙◌, ℕ, true, true≢false, List, [], ◌∷◌, ◌++◌, length, take, map, ap, sym, refl, Some}
 use Rattle.std.proofs.lemmas.List.{append-nil, map-append}
 use Rattle.std.proofs.lemmas.Option.{none-some}
 use Rattle.dwp_base.specs.declared.section.SectionKind.{SectionKind}
 use Rattle.dwp_base.specs.declared.section.SectionKind.TheVariants as kinds
 use Rattle.dwp_base.specs.declared.section.Contribution.{Contribution}
+use Rattle.std.specs.Prelude.{IsOk}
 use Rattle.dwp_elf.specs.Contents.{content_of}
-use Rattle.dwp_elf.specs.FileText.{Object as File}
 use Rattle.dwp_reader.specs.declared.encoding.Encoding.{Encoding}
 use Rattle.dwp_index.specs.Package.{part_of}
 use Rattle.dwp_index.specs.Strings.{string_in}
 use Rattle.dwp_table.specs.declared.object.DwarfObject.{DwarfObject}
-use Rattle.dwp_table.specs.declared.object.DwarfObject.TheVariants.{Compilation}
 use Rattle.thorin_strings.specs.Strings.{IsTable, data_of}
 use Rattle.thorin_parts.specs.Entries.{contribution_to}
-use Rattle.thorin_parts.specs.declared.entry.IndexEntry.{IndexEntry}
 use Rattle.thorin.specs.Growing.{Contents, with_parts, grown, shared_row}
 use Rattle.thorin.specs.Join.{UnitMeaning, meant}
 use Rattle.thorin.specs.Meaning.{joined, joined_parts, object_string}
 use Rattle.thorin.specs.NewUnits.{New, NewUnit}
 use Rattle.thorin.specs.Parts.{is_copied}
-use Rattle.thorin.specs.Represents.{LieInside, Shares, Represents, AreRowsOf}
+use Rattle.thorin.specs.Represents.{LieInside, Shares, Represents}
 use Rattle.thorin.specs.State.{Package, with_all, with_new_units}
 use Rattle.thorin.specs.Used.{Object}
 use Rattle.thorin.proofs.Keeping.{Grows, keep-rows}
@@ -83,6 +81,7 @@ pub record PartsMean (object : Object) (encoding : Encoding) (strings : List (Li
   pub longer : take (length strings) after ≡ strings
   pub reads : (final : List (List ℕ)) → IsTable final → take (length after) final ≡ after → (i : ℕ)
       → string_in object.order encoding (data_of final) (joined_parts kinds.StrOffsets parts) i ≡ object_string object encoding i
+  pub readable : (i : ℕ) → IsOk (object_string object encoding i)
 
 pub shared-shares : (object : Object) (encoding : Encoding) (p : Package) (parts : Contents) (after : List (List ℕ)) (name : DwarfObject)
     → PartsMean object encoding p.strings parts after → object.order ≡ p.file.order
@@ -97,6 +96,7 @@ shared-shares object encoding p parts after name mean same =
           ∙ ap (λ bytes. string_in p.file.order encoding (data_of final) bytes i) (grown-part kinds.StrOffsets b parts)
           ∙ ap (λ order. string_in order encoding (data_of final) (joined_parts kinds.StrOffsets parts) i) (sym same)
           ∙ mean.reads final table begins i;
+      readable = mean.readable;
     }
 
 none-added : (kind : SectionKind) (parts c : Contents) → joined_parts kind parts ≡ [] → content_of kind c ≡ [] → content_of kind (with_parts parts c) ≡ []

@@ -1,6 +1,6 @@
 -- A written package means the units that it represents.
-use Rattle.std.proofs.Common.{◌≡◌, ◌∙◌, ℕ, zero, suc, ◌+◌, ◌<◌, ◌≤◌, ◌^◌, Bool, true, false, List, [], ◌∷◌, ◌++◌, length, map, filter, take, ap, sym, refl, subst, Result, Ok, Option, Some, None, arith, cond, nat_eq}
-use Rattle.std.specs.Prelude.{slice_index, slice_get, MatchOption}
+use Rattle.std.proofs.Common.{◌≡◌, ◌∙◌, ℕ, zero, suc, ◌+◌, ◌<◌, ◌≤◌, true, false, List, length, ap, sym, refl, subst, Ok, Option, Some, None, arith, cond, nat_eq}
+use Rattle.std.specs.Prelude.{slice_get, MatchOption}
 use Rattle.std.specs.Map.{lookup}
 use Rattle.std.proofs.Math.Seq.{take-length}
 use Rattle.std.proofs.lemmas.Option.{none-some}
@@ -10,18 +10,17 @@ use Rattle.dwp_base.specs.declared.section.SectionKind.TheVariants as kinds
 use Rattle.dwp_base.specs.declared.section.Contribution.{Contribution}
 use Rattle.dwp_base.specs.declared.endian.Endianness.{Endianness}
 use Rattle.dwp_elf.specs.Contents.{content_of}
-use Rattle.dwp_elf.specs.FileText.{Object as File}
 use Rattle.dwp_reader.specs.declared.encoding.Encoding.{Encoding}
 use Rattle.dwp_dwarf.specs.declared.header.UnitSection.{UnitSection}
 use Rattle.dwp_dwarf.specs.declared.header.UnitSection.TheVariants as places
 use Rattle.dwp_table.specs.Objects.{identifier_of}
 use Rattle.dwp_table.specs.declared.object.DwarfObject.{DwarfObject}
 use Rattle.dwp_table.specs.declared.object.DwarfObject.TheVariants.{Compilation, TypeUnit}
-use Rattle.dwp_index.specs.Contents.{Sections, content}
+use Rattle.dwp_index.specs.Contents.{content}
 use Rattle.dwp_index.specs.Finding.{own_place, own_bytes, LiesInside, unit_of, HasIndex, IsUnitOf, IsNotNamed, GivesWithin}
 use Rattle.dwp_index.specs.Holding.{sections_of}
-use Rattle.dwp_index.specs.Index.{Index, Ranges, row_in, range_in}
-use Rattle.dwp_index.specs.Package.{Package, part_of, place_of, kind_of, row_bytes, encoding_in, index_for, found_counted}
+use Rattle.dwp_index.specs.Index.{Index, Ranges, range_in}
+use Rattle.dwp_index.specs.Package.{Package, part_of, place_of, kind_of, row_bytes, encoding_in, index_for}
 use Rattle.dwp_index.specs.Strings.{string_in}
 use Rattle.thorin_strings.specs.Strings.{IsTable, data_of}
 use Rattle.thorin_parts.specs.Entries.{contribution_to}
@@ -30,10 +29,9 @@ use Rattle.thorin_parts.specs.IndexText.{entry_ids}
 use Rattle.thorin_parts.specs.ReadRows.{HasEntries, HasParts, non_empty}
 use Rattle.thorin.specs.Builder.{is_compilation, rows_of}
 use Rattle.thorin.specs.Growing.{Contents}
-use Rattle.thorin.specs.Join.{UnitMeaning, IsUnit, GivesUnit, GivesNone, look_limit, same_sort}
+use Rattle.thorin.specs.Join.{UnitMeaning, IsUnit, GivesUnit, GivesNone, look_limit}
 use Rattle.thorin.specs.NewUnits.{same_name}
-use Rattle.thorin.specs.Parts.{is_copied}
-use Rattle.thorin.specs.Represents.{LieInside, Shares, Owns, IsRowOf, AreRowsOf}
+use Rattle.thorin.specs.Represents.{AreRowsOf}
 use Rattle.thorin.specs.State.{kind_at}
 use Rattle.thorin.proofs.IndexesRead.{HasRows}
 use Rattle.thorin.proofs.RowsFound.{Members, RowFound, find-row, id-at, no-row, rows-counted, ids-counted}
@@ -145,6 +143,7 @@ module _ (pack : Package) (order : Endianness) (contents : Contents) (rows : Lis
     string = λ same i.
         (λ j. string_in (read.order_is j) (same j) ((held-is kinds.Str ∙ read.strings_are) j) (bytes-are kinds.StrOffsets j) i)
         ∙ f.is.shares.string strings table (take-length strings) i;
+    readable = f.is.shares.readable;
   }
 
 no-rows : {X : Type 0} (index : Option Index) (rows : List IndexEntry) (place : ℕ) (row : IndexEntry) → HasRows index rows → slice_get rows place ≡ Some row

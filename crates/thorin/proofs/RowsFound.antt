@@ -1,9 +1,9 @@
 -- The row of a name, and the names without one.
-use Rattle.std.proofs.Common.{◌≡◌, ◌≢◌, ◌∙◌, ℕ, zero, suc, ◌+◌, ◌<◌, ◌≤◌, Bool, true, false, cond, not, true≢false, List, [], ◌∷◌, length, map, filter, ap, sym, refl, subst, Option, Some, None, nat_eq, arith}
+use Rattle.std.proofs.Common.{◌≡◌, ◌∙◌, ℕ, zero, suc, ◌<◌, Bool, true, false, cond, not, true≢false, List, [], ◌∷◌, length, map, filter, ap, sym, refl, subst, Option, Some, None, arith}
 use Rattle.std.specs.Prelude.{slice_index, slice_get}
 use Rattle.std.specs.Map.{lookup}
 use Rattle.std.proofs.lemmas.Option.{none-some}
-use Rattle.std.proofs.lemmas.Bool.{eq-eqb, eqb-true}
+use Rattle.std.proofs.lemmas.Bool.{eq-eqb}
 use Rattle.dwp_base.specs.declared.endian.Endianness.{Endianness}
 use Rattle.dwp_table.specs.Objects.{identifier_of}
 use Rattle.dwp_table.specs.declared.object.DwarfObject.{DwarfObject}
@@ -13,10 +13,10 @@ use Rattle.thorin_parts.specs.declared.entry.IndexEntry.{IndexEntry}
 use Rattle.thorin_parts.specs.IndexText.{entry_ids}
 use Rattle.thorin.specs.Builder.{is_compilation, is_chosen, rows_of}
 use Rattle.thorin.specs.Growing.{Contents}
-use Rattle.thorin.specs.Join.{UnitMeaning, same_sort}
+use Rattle.thorin.specs.Join.{UnitMeaning, same_sort, identifiers, signatures}
 use Rattle.thorin.specs.NewUnits.{same_name}
 use Rattle.thorin.specs.Represents.{IsRowOf, AreRowsOf}
-use Rattle.thorin.proofs.Joining.{same_name-true, same_name-equal}
+use Rattle.thorin.proofs.Joining.{same_name-true}
 
 abbrev pub Members : Type 0
 Members = List (DwarfObject × UnitMeaning)
@@ -149,3 +149,27 @@ row-names order contents strings [] [] are = refl
 row-names order contents strings [] (m ∷ ms) are = absurd are
 row-names order contents strings (r ∷ rs) [] are = absurd are
 row-names order contents strings (r ∷ rs) (m ∷ ms) are = λ i. are.0.name i ∷ row-names order contents strings rs ms are.1 i
+
+-- the identifiers of the rows of a sort are those of the units
+chosen-by : (b : Bool) (row : IndexEntry) (m : DwarfObject × UnitMeaning) (rows : List IndexEntry) (ms : Members) (e : Bool) → row.id ≡ m.0
+    → entry_ids rows ≡ map (λ u. identifier_of u.0) ms → entry_ids (cond e (row ∷ rows) rows) ≡ map (λ u. identifier_of u.0) (cond e (m ∷ ms) ms)
+chosen-by b row m rows ms true same h = λ i. identifier_of (same i) ∷ h i
+chosen-by b row m rows ms false same h = h
+
+pub chosen-compilations : (order : Endianness) (contents : Contents) (strings : List (List ℕ)) (rows : List IndexEntry) (ms : Members)
+    → AreRowsOf order contents strings rows ms → entry_ids (rows_of true rows) ≡ identifiers ms
+chosen-compilations order contents strings [] [] are = refl
+chosen-compilations order contents strings [] (m ∷ ms) are = absurd are
+chosen-compilations order contents strings (r ∷ rs) [] are = absurd are
+chosen-compilations order contents strings (r ∷ rs) (m ∷ ms) are =
+    ap (λ e. entry_ids (cond e (r ∷ rows_of true rs) (rows_of true rs))) (ap is_compilation are.0.name)
+    ∙ chosen-by true r m (rows_of true rs) (filter (λ u. is_compilation u.0) ms) (is_compilation m.0) are.0.name (chosen-compilations order contents strings rs ms are.1)
+
+pub chosen-types : (order : Endianness) (contents : Contents) (strings : List (List ℕ)) (rows : List IndexEntry) (ms : Members)
+    → AreRowsOf order contents strings rows ms → entry_ids (rows_of false rows) ≡ signatures ms
+chosen-types order contents strings [] [] are = refl
+chosen-types order contents strings [] (m ∷ ms) are = absurd are
+chosen-types order contents strings (r ∷ rs) [] are = absurd are
+chosen-types order contents strings (r ∷ rs) (m ∷ ms) are =
+    ap (λ e. entry_ids (cond e (r ∷ rows_of false rs) (rows_of false rs))) (ap (λ n. not (is_compilation n)) are.0.name)
+    ∙ chosen-by false r m (rows_of false rs) (filter (λ u. not (is_compilation u.0)) ms) (not (is_compilation m.0)) are.0.name (chosen-types order contents strings rs ms are.1)

@@ -1,5 +1,5 @@
 -- The inputs of a run are joined, as their meanings are.
-use Rattle.std.proofs.Common.{◌≡◌, ◌∙◌, ℕ, Bool, true, false, cond, List, [], ◌∷◌, ◌++◌, map, ap, sym, refl, subst, Result, Ok, Err, Option, Some, None}
+use Rattle.std.proofs.Common.{◌≡◌, ◌∙◌, ℕ, Bool, true, false, cond, List, [], ◌∷◌, ◌++◌, map, ap, sym, refl, subst, Result, Ok, Err, Option, Some}
 use Rattle.std.proofs.lemmas.List.{append-nil}
 use Rattle.std.specs.declared.io.Error.{Error as IoError}
 use Rattle.dwp_base.specs.Reading.{◌>>=◌}
@@ -12,10 +12,10 @@ use Rattle.thorin_faults.specs.declared.fault.InputError.{InputError}
 use Rattle.thorin.specs.declared.packing.Input.{Input}
 use Rattle.thorin.specs.declared.packing.Input.TheVariants as inputs
 use Rattle.thorin.specs.Builder.{State, package_or_new, encoding_of, order_test, plain_test, with_plain, with_units, with_input, taken}
-use Rattle.thorin.specs.Join.{UnitMeaning, meant, object_meaning, input_meaning, HasBytes, Joins, JoinsIfOk, Joined}
+use Rattle.thorin.specs.Join.{UnitMeaning, meant, object_meaning, input_meaning, HasBytes, JoinsIfOk, Joined}
 use Rattle.thorin.specs.Meaning.{joining, object_units}
 use Rattle.thorin.specs.NewUnits.{NewUnit}
-use Rattle.thorin.specs.Run.{Outcome, Takes, MayRead, TakesRead, TakesFile, TakesInput, Ran}
+use Rattle.thorin.specs.Run.{Outcome, Takes, MayRead, TakesRead, TakesInput, Ran}
 use Rattle.std.specs.Path.{path_bytes}
 use Rattle.thorin.specs.State.{Package, with_object}
 use Rattle.thorin.specs.Used.{Object, opened, has_info, object_of}

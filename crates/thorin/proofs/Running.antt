@@ -1,5 +1,5 @@
 -- A run, one input after the other.
-use Rattle.std.proofs.Common.{◌≡◌, ◌∙◌, ℕ, List, [], ◌∷◌, ◌++◌, refl, sym, ap, Result, ◌<◌, ◌+◌, suc, add-one, length, take, get_or}
+use Rattle.std.proofs.Common.{◌≡◌, ◌∙◌, ℕ, List, [], ◌∷◌, ◌++◌, refl, sym, ap, Result, ◌<◌, ◌+◌, add-one, length, take, get_or}
 use Rattle.std.proofs.Math.Seq.{take-suc}
 use Rattle.std.specs.declared.io.Error.{Error as IoError}
 use Rattle.thorin.specs.declared.packing.Input.{Input}

@@ -1,5 +1,5 @@
 -- The sections of a file, with the file beside each or without.
-use Rattle.std.proofs.Common.{◌≡◌, ℕ, Bool, List, [], ◌∷◌, map, refl, ap, Ok, Err}
+use Rattle.std.proofs.Common.{◌≡◌, Bool, List, [], ◌∷◌, map, refl, ap, Ok, Err}
 use Rattle.std.specs.List.{list_any}
 use Rattle.dwp_elf_read.specs.Elf.{Elf, SectionMeaning}
 use Rattle.dwp_elf_read.specs.View.{Placed, placed_sections}

@@ -1,14 +1,13 @@
 -- A unit that is added stands in its row.
-use Rattle.std.proofs.Common.{◌≡◌, ◌∙◌, ℕ, zero, suc, ◌+◌, ◌-◌, ◌≤◌, ◌<◌, Bool, true, false, cond, true≢false, List, [], ◌∷◌, ◌++◌, length, take, drop, ap, sym, refl, arith, length-append, Some, None, Option, Ok, nat_eq, subst, ◌⊎◌, inl, inr}
+use Rattle.std.proofs.Common.{◌≡◌, ◌∙◌, ℕ, ◌+◌, ◌-◌, ◌≤◌, ◌<◌, Bool, true, false, cond, true≢false, List, [], ◌∷◌, ◌++◌, length, take, drop, ap, sym, refl, arith, length-append, Some, None, Option, Ok, nat_eq, subst, ◌⊎◌, inl, inr}
 use Rattle.std.specs.Prelude.{slice_range, unwrap_or}
-use Rattle.std.proofs.lemmas.Option.{none-some}
 use Rattle.std.proofs.Math.Dec.{eqb-suc-zero}
 use Rattle.std.proofs.Math.Seq.{drop-append_seam, take-length}
 use Rattle.dwp_base.specs.declared.section.SectionKind.{SectionKind}
 use Rattle.dwp_base.specs.declared.section.SectionKind.TheVariants as kinds
 use Rattle.dwp_base.specs.declared.section.Contribution.{Contribution}
 use Rattle.dwp_base.specs.declared.endian.Endianness.{Endianness}
-use Rattle.dwp_base.specs.Sections.{same_kind, rank_of}
+use Rattle.dwp_base.specs.Sections.{same_kind}
 use Rattle.dwp_elf.specs.Contents.{appended, content_of}
 use Rattle.dwp_reader.specs.declared.encoding.Encoding.{Encoding}
 use Rattle.dwp_dwarf.specs.declared.header.UnitSection.{UnitSection}
@@ -21,12 +20,12 @@ use Rattle.dwp_table.specs.declared.object.DwarfObject.TheVariants.{Compilation,
 use Rattle.thorin_strings.specs.Strings.{data_of}
 use Rattle.thorin_parts.specs.Entries.{contribution_to}
 use Rattle.thorin_parts.specs.declared.entry.IndexEntry.{IndexEntry}
-use Rattle.thorin.specs.Growing.{Contents, HasFront, with_bytes, place_of}
+use Rattle.thorin.specs.Growing.{Contents, with_bytes, place_of}
 use Rattle.thorin.specs.Join.{UnitMeaning}
 use Rattle.thorin.specs.Parts.{is_copied}
-use Rattle.thorin.specs.Represents.{LieInside, Shares, Owns, IsRowOf}
+use Rattle.thorin.specs.Represents.{LieInside, Shares, IsRowOf}
 use Rattle.thorin.specs.State.{kind_at, row_at}
-use Rattle.thorin.proofs.Keeping.{Grows, grows-with_bytes, keep-lie, keep-shares, part-inside}
+use Rattle.thorin.proofs.Keeping.{grows-with_bytes, keep-lie, keep-shares, part-inside}
 
 -- the content of the kind that bytes are added to
 content-here : (k : SectionKind) (x : List ℕ) (c : SectionKind × List ℕ) (cs : Contents) (b : Bool) → same_kind c.0 k ≡ b → content_of k (appended k x cs) ≡ content_of k cs ++ x
@@ -212,6 +211,7 @@ unit-added order c s shared name place unit encoding lie shares fits header =
       shares = record {
         content = λ kind copied. ap (part_of (content_of kind d)) (row-shared shared c name x place kind copied) ∙ kept.content kind copied;
         string = λ final table begins i. ap (λ p. string_in order unit.encoding (data_of final) (part_of (content_of kinds.StrOffsets d) p) i) (row-offsets shared c name x place) ∙ kept.string final table begins i;
+        readable = kept.readable;
       };
       owns = record {
         place = place;

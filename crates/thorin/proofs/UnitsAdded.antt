@@ -1,5 +1,5 @@
 -- The units of an input that are added stand in their rows.
-use Rattle.std.proofs.Common.{◌≡◌, ◌∙◌, ℕ, ◌<◌, Bool, true, false, List, [], ◌∷◌, ◌++◌, length, take, map, ap, sym, refl, Ok, Option, None}
+use Rattle.std.proofs.Common.{◌≡◌, ◌∙◌, ℕ, false, List, [], ◌∷◌, ◌++◌, map, sym, refl, Ok}
 use Rattle.std.proofs.lemmas.List.{append_assoc, append-nil}
 use Rattle.std.proofs.Math.Seq.{take-length}
 use Rattle.dwp_base.specs.declared.section.SectionKind.{SectionKind}
@@ -7,7 +7,6 @@ use Rattle.dwp_base.specs.declared.section.SectionKind.TheVariants.{Str, CuIndex
 use Rattle.dwp_base.specs.declared.endian.Endianness.{Endianness}
 use Rattle.dwp_base.specs.Sections.{same_kind}
 use Rattle.dwp_elf.specs.Contents.{content_of}
-use Rattle.dwp_elf.specs.FileText.{Object as File}
 use Rattle.dwp_reader.specs.declared.encoding.Encoding.{Encoding}
 use Rattle.dwp_dwarf.specs.declared.header.UnitSection.{UnitSection}
 use Rattle.dwp_dwarf.specs.declared.header.UnitSection.TheVariants as places
@@ -20,7 +19,7 @@ use Rattle.thorin.specs.NewUnits.{NewUnit}
 use Rattle.thorin.specs.Represents.{LieInside, Shares, AreRowsOf}
 use Rattle.thorin.specs.State.{Package, kind_at, with_new_unit, with_new_units}
 use Rattle.thorin.specs.Used.{Object}
-use Rattle.thorin.proofs.Keeping.{Grows, grows-with_bytes, grows-trans, grows-refl, keep-lie, keep-shares, keep-rows, rows-next}
+use Rattle.thorin.proofs.Keeping.{grows-with_bytes, keep-lie, keep-shares, keep-rows, rows-next}
 use Rattle.thorin.proofs.PartMeaning.{content-with_bytes}
 use Rattle.thorin.proofs.UnitAdded.{Fits, unit-added}
 
@@ -37,7 +36,7 @@ AllCanBeAdded order shared (u ∷ us) = CanBeAdded order shared u × AllCanBeAdd
 -- what units of one object share is the same
 any-unit : (object : Object) (encoding : Encoding) (order : Endianness) (c : Contents) (s : List (List ℕ)) (row : IndexEntry) (u v : DwarfObject × NewUnit)
     → Shares order c s row (meant object encoding u).1 → Shares order c s row (meant object encoding v).1
-any-unit object encoding order c s row u v shares = record { content = shares.content; string = shares.string }
+any-unit object encoding order c s row u v shares = record { content = shares.content; string = shares.string; readable = shares.readable }
 
 -- the unit that stands for all, of no bytes
 abbrev pub no_unit : DwarfObject → DwarfObject × NewUnit

@@ -1,7 +1,7 @@
 -- What each input does to a package that is made, and what is written of it (DWARF 5, 7.3.5; the GNU page DebugFissionDWP).
 use Rattle.std.specs.Prelude.{◌≡◌, ℕ, ◌<◌, ◌^◌, Bool, true, false, not, List, [], ◌∷◌, Option, Some, None, Result, Ok, Err, unwrap_or, filter, find, if◌then◌else◌}
 use Rattle.std.specs.List.{list_any}
-use Rattle.std.specs.Option.{ok_or, option_map_or}
+use Rattle.std.specs.Option.{ok_or}
 use Rattle.dwp_base.specs.declared.endian.Endianness.{Endianness}
 use Rattle.dwp_base.specs.declared.endian.Endianness.TheVariants.{Little, Big}
 use Rattle.dwp_base.specs.declared.section.SectionKind.TheVariants.{Info, Str, CuIndex, TuIndex}
@@ -21,8 +21,7 @@ use Rattle.thorin_parts.specs.declared.entry.IndexEntry.{IndexEntry}
 use Rattle.thorin_parts.specs.EntryTests.{index_tests}
 use Rattle.thorin_parts.specs.IndexText.{IsIndexOf}
 use Rattle.thorin_faults.specs.Fault.{Fault, ParseUnitHeader, NoCompilationUnits, MixedInputEncodings, NotYet, MissingReferencedUnit, NoOutputObjectCreated}
-use Rattle.thorin_faults.specs.Answers.{as_fault}
-use Rattle.thorin.specs.Growing.{Contents, with_bytes}
+use Rattle.thorin.specs.Growing.{with_bytes}
 use Rattle.thorin.specs.NewUnits.{same_name}
 use Rattle.thorin.specs.State.{Package, empty, with_object}
 use Rattle.thorin.specs.Used.{Object, opened, has_info, object_of, first, is_package}

@@ -1,6 +1,5 @@
 -- What a caller sees of a package builder: its session, and the state of the package.
 use Rattle.thorin.specs.declared.package.DwarfPackage.TheInside.{Inside}
-use Rattle.thorin.specs.Builder.{State}
 use Rattle.thorin.specs.Building.{Building}
 use Rattle.thorin.specs.StateView.{begun_of}
 

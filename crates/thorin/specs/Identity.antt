@@ -14,8 +14,6 @@ use Rattle.dwp_dwarf.specs.Entries.{DebugAttribute, DebugEntry, entry, root_code
 use Rattle.dwp_dwarf.specs.Offsets.{from_at}
 use Rattle.dwp_table.specs.declared.object.DwarfObject.{DwarfObject}
 use Rattle.dwp_table.specs.declared.object.DwarfObject.TheVariants.{Compilation, TypeUnit}
-use Rattle.dwp_table.specs.declared.object.DwoId.{DwoId}
-use Rattle.dwp_table.specs.declared.object.DebugTypeSignature.{DebugTypeSignature}
 use Rattle.thorin_faults.specs.Fault.{Fault, NoDie, TopLevelDieNotUnit, ParseUnitAbbreviations, GimliRead}
 use Rattle.thorin_faults.specs.Answers.{as_fault}
 

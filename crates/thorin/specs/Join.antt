@@ -1,23 +1,25 @@
 -- A list of inputs as the join of what they mean: the first accepted unit of a name stays. And a package that means it.
-use Rattle.std.specs.Prelude.{◌≡◌, ℕ, ◌+◌, ◌≤◌, Bool, true, false, List, [], ◌∷◌, ◌++◌, map, length, filter, Option, Some, None, Result, Ok, Err, MatchOption, if◌then◌else◌}
+use Rattle.std.specs.Prelude.{◌≡◌, ℕ, ◌+◌, ◌≤◌, Bool, true, false, List, [], ◌∷◌, ◌++◌, not, map, length, filter, Option, Some, None, Result, Ok, Err, IsOk, IsPermutation, MatchOption, if◌then◌else◌}
 use Rattle.std.specs.Map.{lookup}
 use Rattle.std.specs.Path.{path_bytes}
 use Rattle.std.specs.declared.io.Error.{Error as IoError}
 use Rattle.dwp_base.specs.Reading.{◌>>=◌}
 use Rattle.dwp_base.specs.declared.section.SectionKind.{SectionKind}
 use Rattle.dwp_base.specs.declared.section.SectionKind.TheVariants.{StrOffsets}
-use Rattle.dwp_elf_read.specs.Elf.{Elf}
 use Rattle.dwp_reader.specs.declared.encoding.Encoding.{Encoding}
 use Rattle.dwp_reader.specs.declared.fault.ReadError.{ReadError}
 use Rattle.dwp_index.specs.Package as index
 use Rattle.dwp_index.specs.Package.{Package, package_of, found_counted, row_bytes}
 use Rattle.dwp_index.specs.Strings.{string_in}
+use Rattle.dwp_index.specs.Entries.{entries_from}
+use Rattle.dwp_index.specs.Naming.{entries_of}
+use Rattle.dwp_table.specs.Objects.{identifier_of}
 use Rattle.dwp_table.specs.declared.object.DwarfObject.{DwarfObject}
 use Rattle.dwp_table.specs.declared.object.DwarfObject.TheVariants.{Compilation, TypeUnit}
 use Rattle.thorin_faults.specs.Fault.{Fault}
 use Rattle.thorin.specs.declared.packing.Input.{Input}
 use Rattle.thorin.specs.declared.packing.Input.TheVariants as inputs
-use Rattle.thorin.specs.Builder.{encoding_of}
+use Rattle.thorin.specs.Builder.{encoding_of, is_compilation}
 use Rattle.thorin.specs.Meaning.{object_units, object_string, joined, joining}
 use Rattle.thorin.specs.NewUnits.{NewUnit, same_name}
 use Rattle.thorin.specs.Parts.{is_copied}
@@ -90,6 +92,7 @@ pub record IsUnit (found : index.UnitMeaning) (unit : UnitMeaning) : Type 0 wher
   pub content : (kind : SectionKind) → is_copied kind ≡ true → row_bytes found.contents found.row kind ≡ unit.content kind
   pub string : found.encoding ≡ unit.encoding → (i : ℕ)
       → string_in found.order found.encoding found.contents.strings (row_bytes found.contents found.row StrOffsets) i ≡ unit.string i
+  pub readable : (i : ℕ) → IsOk (unit.string i)
 
 -- a look-up gave that unit
 pub record GivesUnit (pack : Package) (name : DwarfObject) (most : ℕ) (unit : UnitMeaning) : Type 0 where
@@ -115,10 +118,18 @@ same_sort _ _ = false
 abbrev pub look_limit : List (DwarfObject × UnitMeaning) → DwarfObject → ℕ
 look_limit units name = length (filter (λ u. same_sort name u.0) units) + 1
 
--- the bytes of a file are a package in which looking up any name gives just the unit of that name among these, or none
+-- the identifiers of compilation units among these, and those of type units
+abbrev pub identifiers : List (DwarfObject × UnitMeaning) → List ℕ
+identifiers units = map (λ u. identifier_of u.0) (filter (λ u. is_compilation u.0) units)
+
+abbrev pub signatures : List (DwarfObject × UnitMeaning) → List ℕ
+signatures units = map (λ u. identifier_of u.0) (filter (λ u. not (is_compilation u.0)) units)
+
+-- the bytes of a file are a package whose used slots name just these units, each once, with the numbers of their rows, and in which looking up any name gives just the unit of that name among these, or none
 pub record IsPackageOf (units : List (DwarfObject × UnitMeaning)) (bytes : List ℕ) : Type 0 where
   pub pack : Package
   pub parsed : package_of bytes ≡ Ok pack
+  pub named : IsPermutation (entries_of (identifiers units) (signatures units)) (entries_from pack.compilations pack.types 0 0)
   pub finds : (name : DwarfObject) → MatchOption (lookup (same_name name) units) (GivesNone pack name (look_limit units name)) (GivesUnit pack name (look_limit units name))
 
 -- the bytes are a package of the accepted inputs, joined

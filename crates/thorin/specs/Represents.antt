@@ -1,13 +1,12 @@
 -- A package that is made has what belongs to each of its units (used in proofs).
-use Rattle.std.specs.Prelude.{◌≡◌, ℕ, ◌+◌, ◌<◌, ◌≤◌, Bool, true, List, [], ◌∷◌, map, take, length, Option, Some, None, Result, Ok}
+use Rattle.std.specs.Prelude.{◌≡◌, ℕ, ◌+◌, ◌<◌, ◌≤◌, true, List, [], ◌∷◌, map, take, length, Some, Ok, IsOk}
 use Rattle.dwp_base.specs.declared.section.SectionKind.{SectionKind}
-use Rattle.dwp_base.specs.declared.section.SectionKind.TheVariants.{Info, Types, StrOffsets, Str, CuIndex, TuIndex}
+use Rattle.dwp_base.specs.declared.section.SectionKind.TheVariants.{Types, StrOffsets, Str, CuIndex, TuIndex}
 use Rattle.dwp_base.specs.declared.section.Contribution.{Contribution}
 use Rattle.dwp_base.specs.declared.endian.Endianness.{Endianness}
 use Rattle.dwp_elf.specs.Contents.{content_of}
 use Rattle.dwp_reader.specs.declared.encoding.Encoding.{Encoding}
 use Rattle.dwp_dwarf.specs.declared.header.UnitSection.{UnitSection}
-use Rattle.dwp_dwarf.specs.declared.header.UnitSection.TheVariants as places
 use Rattle.dwp_index.specs.Package.{part_of, encoding_in, place_of}
 use Rattle.dwp_index.specs.Strings.{string_in}
 use Rattle.dwp_table.specs.declared.object.DwarfObject.{DwarfObject}
@@ -16,7 +15,6 @@ use Rattle.thorin_parts.specs.Entries.{contribution_to}
 use Rattle.thorin_parts.specs.declared.entry.IndexEntry.{IndexEntry}
 use Rattle.thorin.specs.Growing.{Contents}
 use Rattle.thorin.specs.Join.{UnitMeaning}
-use Rattle.thorin.specs.NewUnits.{same_name}
 use Rattle.thorin.specs.Parts.{is_copied}
 use Rattle.thorin.specs.State.{Package, kind_at}
 
@@ -30,6 +28,7 @@ pub record Shares (order : Endianness) (contents : Contents) (strings : List (Li
   pub content : (kind : SectionKind) → is_copied kind ≡ true → part_of (content_of kind contents) (contribution_to kind row) ≡ unit.content kind
   pub string : (final : List (List ℕ)) → IsTable final → take (length strings) final ≡ strings → (i : ℕ)
       → string_in order unit.encoding (data_of final) (part_of (content_of StrOffsets contents) (contribution_to StrOffsets row)) i ≡ unit.string i
+  pub readable : (i : ℕ) → IsOk (unit.string i)
 
 -- a unit's own bytes stand in a row's range of info or of types, and their header can be read
 pub record Owns (order : Endianness) (contents : Contents) (name : DwarfObject) (row : IndexEntry) (unit : UnitMeaning) : Type 0 where

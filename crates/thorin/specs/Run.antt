@@ -1,5 +1,5 @@
 -- A run of inputs, and what is written after it.
-use Rattle.std.specs.Prelude.{◌≡◌, ◌≢◌, ℕ, List, [], ◌∷◌, Option, Some, None, Result, Ok, Err, OnErr, ◌⊎◌}
+use Rattle.std.specs.Prelude.{◌≡◌, ℕ, List, [], ◌∷◌, Result, Ok, Err, OnErr, ◌⊎◌}
 use Rattle.std.specs.Path.{path_bytes}
 use Rattle.std.specs.declared.io.Error.{Error as IoError}
 use Rattle.dwp_elf.specs.FileText.{Object as File, file_text}

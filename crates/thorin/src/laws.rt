@@ -12,7 +12,9 @@ ghost use Rattle.thorin.specs.Run.{Outcome, Ran, IsWritten};
 ghost use Rattle.thorin.specs.declared.packing.Input.{Input};
 
 use dwp_elf::written_contents_are_read_back;
-use dwp_index::{contents_are_read, packages_find_exactly, units_are_read_alone};
+use dwp_index::{
+    contents_are_read, packages_find_exactly, units_are_named_once, units_are_read_alone,
+};
 use dwp_reader::RelocationEntry;
 use thorin_faults::Session;
 use thorin_parts::{
@@ -52,4 +54,5 @@ pub fn packages_are_the_join<Sess: Session<RelocationEntry>>(session: &Sess)
     written_index_has_the_entries();
     contents_are_read();
     packages_find_exactly();
+    units_are_named_once();
 }

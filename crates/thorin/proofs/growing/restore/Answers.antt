@@ -1,5 +1,3 @@
-use Rattle.std.proofs.Common.{◌≡◌, ◌∙◌, ap}
-use Rattle.dwp_elf.specs.Contents.{truncated}
 use Rattle.thorin.proofs.Growth.{truncated-begins}
 use Rattle.thorin.proofs.growing.restore.Goals as goal
 

@@ -19,4 +19,5 @@ returns g c = headline
     c.packages_find_exactly.ensures.present
     c.packages_find_exactly.ensures.absent
     c.packages_find_exactly.ensures.no_index
+    c.units_are_named_once.ensures.package
     (g.Sess.Session.offer c.args.session.now)

@@ -1,5 +1,5 @@
-use Rattle.std.proofs.Common.{◌≡◌, ◌∙◌, ℕ, suc, add-one, ◌+◌, ◌++◌, ◌∷◌, ◌<◌, ◌^◌, [], List, length, take, get_or, ap, sym, subst, rules}
-use Rattle.std.proofs.Math.Seq.{take-suc, take-length}
+use Rattle.std.proofs.Common.{◌∙◌, ℕ, add-one, ◌+◌, ◌++◌, ◌∷◌, ◌<◌, ◌^◌, [], List, length, take, get_or, ap, sym, subst}
+use Rattle.std.proofs.Math.Seq.{take-suc}
 use Rattle.dwp_table.specs.Objects.{identifier_of}
 use Rattle.thorin_parts.specs.declared.entry.IndexEntry.{IndexEntry}
 use Rattle.thorin.specs.Builder.{IdentifiersFit}

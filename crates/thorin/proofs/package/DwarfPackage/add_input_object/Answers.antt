@@ -1,4 +1,4 @@
-use Rattle.std.proofs.Common.{◌≡◌, refl, rules, Ok, Err}
+use Rattle.std.proofs.Common.{refl, rules, Ok, Err}
 use Rattle.thorin_faults.specs.declared.fault.InputError.TheVariants.{Io, Memory}
 use Rattle.thorin.proofs.package.DwarfPackage.add_input_object.Goals as goal
 

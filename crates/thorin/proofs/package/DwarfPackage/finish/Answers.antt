@@ -1,4 +1,4 @@
-use Rattle.std.proofs.Common.{◌≡◌, ◌∙◌, ap, sym, rules, Result, Ok, Err, Some}
+use Rattle.std.proofs.Common.{◌≡◌, rules, Result, Ok, Err, Some}
 use Rattle.std.specs.Result.{IfOk}
 use Rattle.dwp_elf.specs.FileText.{Object as File}
 use Rattle.thorin.specs.Builder.{State, IsFinished, IsFinishedState, IdentifiersFit}

@@ -1,4 +1,4 @@
-use Rattle.std.proofs.Common.{◌≡◌, ◌∙◌, ap, sym, rules, Result, Ok, Err, true, false, true≢false}
+use Rattle.std.proofs.Common.{◌≡◌, rules, Result, Ok, Err, false, true≢false}
 use Rattle.std.specs.Result.{OnErr, is_err}
 use Rattle.thorin.specs.StateView.{package_of}
 use Rattle.thorin.proofs.state.InProgressDwarfPackage.add_plain.Goals.{then-is_err, else-is_err}

@@ -1,8 +1,7 @@
-use Rattle.std.proofs.Common.{◌≡◌, ◌∙◌, ap, sym, rules, take, length, ◌++◌, ◌∷◌, []}
+use Rattle.std.proofs.Common.{◌≡◌, rules}
 use Rattle.thorin.specs.Growing.{with_bytes}
 use Rattle.thorin.specs.State.{with_name}
 use Rattle.thorin.proofs.Growth.{is_grown-with_bytes}
-use Rattle.thorin.proofs.Names.{same_name-is}
 use Rattle.thorin.proofs.Extending.{front-append, front-with_name}
 use Rattle.thorin.proofs.state.InProgressDwarfPackage.add_unit.Goals as goal
 

@@ -1,4 +1,4 @@
-use Rattle.std.proofs.Common.{◌≡◌, ◌∙◌, ℕ, ap, sym, map, take, length}
+use Rattle.std.proofs.Common.{◌∙◌, ℕ, ap, sym, map, take, length}
 use Rattle.std.specs.List.{take-map}
 use Rattle.dwp_table.specs.declared.object.DebugTypeSignature.{DebugTypeSignature}
 use Rattle.thorin.proofs.state.InProgressDwarfPackage.restore.Goals as goal

@@ -1,8 +1,7 @@
-use Rattle.std.proofs.Common.{◌≡◌, ◌∙◌, ℕ, List, Some, None, ap, sym, refl, rules}
+use Rattle.std.proofs.Common.{◌≡◌, ◌∙◌, Some, None, ap, sym, refl}
 use Rattle.std.proofs.lemmas.Option.{slice_get_past, slice_get_read}
-use Rattle.std.specs.Prelude.{slice_get, position, option_map}
-use Rattle.std.specs.Option.{option_map_or}
-use Rattle.thorin.specs.NewUnits.{same_name, row_bytes, held_bytes}
+use Rattle.std.specs.Prelude.{slice_get, position}
+use Rattle.thorin.specs.NewUnits.{same_name, row_bytes}
 use Rattle.thorin.specs.UnitView.{held_of}
 use Rattle.thorin.proofs.Names.{same_name-is}
 use Rattle.thorin.proofs.units.Held.bytes.Goals as goal

@@ -1,8 +1,8 @@
-use Rattle.std.proofs.Common.{◌≡◌, ◌∙◌, ap, sym, map, Some, None, Ok, rules, ◌++◌, ◌∷◌, []}
+use Rattle.std.proofs.Common.{◌≡◌, ◌∙◌, ap, None, rules}
 use Rattle.std.specs.Map.{lookup}
 use Rattle.indexmap.proofs.CallerLemmas.{insert_entry-new}
 use Rattle.thorin.specs.NewUnits.{same_name, kept_bytes, with_unit}
-use Rattle.thorin.specs.UnitView.{new_unit, new_of, held_of}
+use Rattle.thorin.specs.UnitView.{new_of, held_of}
 use Rattle.thorin.proofs.Names.{same_name-is}
 use Rattle.thorin.proofs.NewUnitLemmas.{not_added, added_last}
 use Rattle.thorin.proofs.units.NewUnits.add_unit.Goals as goal
