@@ -6,6 +6,7 @@ pub mod NewUnitLemmas
 pub mod Extending
 pub mod Running
 pub mod ReadingFile
+pub mod PartGrowth
 pub mod PartMeaning
 pub mod Joining
 pub mod Keeping
