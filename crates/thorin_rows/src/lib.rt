@@ -9,3 +9,5 @@ mod many_objects;
 mod objects;
 #[cfg(test)]
 mod one_object;
+#[cfg(test)]
+mod refused;

@@ -1,9 +1,11 @@
 //! Packages of several objects.
 
 use crate::objects::{
-    ABBREVIATIONS, TYPE_UNIT, cu, made, object, package, packed, part, plain, tu, unit,
+    ABBREVIATIONS, TYPE_UNIT, cu, made, object, package, packed, part, plain, renamed, split_unit,
+    tu, unit, with_strings, with_types,
 };
 use dwp_elf::{Class, Endianness, SectionKind};
+use dwp_reader::ReadError;
 use dwp_table::DwarfObject;
 use std::alloc::Global;
 use std::test::Fail;
@@ -46,23 +48,24 @@ fn a_unit_that_comes_again_is_refused(rt: HostRuntime) -> Result<(), Fail> {
 #[test]
 fn a_type_unit_that_comes_again_is_passed_over(rt: HostRuntime) -> Result<(), Fail> {
     let alloc = rt.alloc();
-    let z = object(
-        alloc,
-        &[
-            (SectionKind::Info, unit(7).as_slice()),
-            (SectionKind::Types, TYPE_UNIT.as_slice()),
-            (SectionKind::Abbrev, ABBREVIATIONS.as_slice()),
-        ],
-    )?;
-    let w = object(
-        alloc,
-        &[
-            (SectionKind::Info, unit(8).as_slice()),
-            (SectionKind::Types, TYPE_UNIT.as_slice()),
-            (SectionKind::Abbrev, ABBREVIATIONS.as_slice()),
-        ],
-    )?;
-    let file = packed(alloc, &[z.as_slice(), z.as_slice(), w.as_slice()])?.file?;
+    let z = with_types(alloc, unit(7).as_slice(), TYPE_UNIT.as_slice())?;
+    // The unit of the same signature in this one is longer.
+    let mut other = [0u8; 24];
+    for (to, from) in other.iter_mut().zip(TYPE_UNIT) {
+        *to = from;
+    }
+    other[0] = 0x14;
+    let w = with_types(alloc, unit(8).as_slice(), other.as_slice())?;
+    let packed = packed(alloc, &[z.as_slice(), z.as_slice(), w.as_slice()])?;
+    let mut refused = 0u32;
+    for outcome in &packed.outcomes {
+        if let Err(fault) = outcome {
+            assert!(rt; matches!(fault, Error::DuplicateUnit(7)));
+            refused = refused.saturating_add(1);
+        }
+    }
+    assert_eq!(rt; (packed.outcomes.len(), refused), (3, 1));
+    let file = packed.file?;
     let package = package(file.as_slice())?;
     let (found, slots) = package.find_counted(tu(0x11))?;
     let found = found.ok_or("the type unit is there")?;
@@ -70,6 +73,12 @@ fn a_type_unit_that_comes_again_is_passed_over(rt: HostRuntime) -> Result<(), Fa
     assert_eq!(rt; found.bytes(), TYPE_UNIT.as_slice());
     let types = found.range(SectionKind::Types).ok_or("it has types")?;
     assert_eq!(rt; (types.offset.0, types.size), (0, 0x17));
+    let abbrev = found
+        .range(SectionKind::Abbrev)
+        .ok_or("it has abbreviations")?;
+    assert_eq!(rt; (abbrev.offset.0, abbrev.size), (0, 9));
+    let eight = package.find(cu(8))?.ok_or("unit 8 is there")?;
+    assert_eq!(rt; eight.bytes(), unit(8).as_slice());
     let mut listed = 0u32;
     for entry in package.units() {
         if let DwarfObject::TypeUnit(_) = entry.object {
@@ -104,6 +113,101 @@ fn another_byte_order_is_refused(rt: HostRuntime) -> Result<(), Fail> {
     Ok(())
 }
 
+#[test]
+fn a_cut_object_is_passed_over(rt: HostRuntime) -> Result<(), Fail> {
+    let alloc = rt.alloc();
+    let cut = made(
+        alloc,
+        Class::Elf32,
+        8,
+        Endianness::Big,
+        &[
+            (SectionKind::Info, [0, 0, 0, 0x10, 0, 4].as_slice()),
+            (SectionKind::Abbrev, ABBREVIATIONS.as_slice()),
+        ],
+    )?;
+    let five = plain(alloc, 5)?;
+    let packed = packed(alloc, &[cut.as_slice(), five.as_slice()])?;
+    assert_eq!(rt; packed.outcomes.len(), 2);
+    let mut refused = 0u32;
+    for outcome in &packed.outcomes {
+        if let Err(fault) = outcome {
+            assert!(rt; matches!(fault, Error::ParseUnitHeader(ReadError::UnexpectedEof)));
+            refused = refused.saturating_add(1);
+        }
+    }
+    assert_eq!(rt; refused, 1);
+    // Neither the class nor the byte order is those of the cut object.
+    let file = packed.file?;
+    assert_eq!(rt; file.len(), 544);
+    assert_eq!(rt; part(file.as_slice(), 73, 93), unit(5).as_slice());
+    Ok(())
+}
+
+#[test]
+fn strings_of_two_objects_are_kept_once(rt: HostRuntime) -> Result<(), Fail> {
+    let alloc = rt.alloc();
+    let first = with_strings(alloc, 5)?;
+    let second = object(
+        alloc,
+        &[
+            (SectionKind::Info, unit(6).as_slice()),
+            (SectionKind::Abbrev, ABBREVIATIONS.as_slice()),
+            (SectionKind::Str, b"b\0".as_slice()),
+            (SectionKind::StrOffsets, [0, 0, 0, 0].as_slice()),
+        ],
+    )?;
+    let file = packed(alloc, &[first.as_slice(), second.as_slice()])?.file?;
+    let bytes = file.as_slice();
+    // Abbreviations of 18 bytes at 64, string offsets of 12, info of 40, strings of 4.
+    assert_eq!(rt;
+        part(bytes, 82, 94),
+        [0u8, 0, 0, 0, 2, 0, 0, 0, 0, 0, 0, 0].as_slice()
+    );
+    assert_eq!(rt; part(bytes, 134, 138), b"b\0a\0".as_slice());
+    let package = package(bytes)?;
+    let six = package.find(cu(6))?.ok_or("unit 6 is there")?;
+    let offsets = six.range(SectionKind::StrOffsets).ok_or("it has strings")?;
+    assert_eq!(rt; (offsets.offset.0, offsets.size), (8, 4));
+    assert_eq!(rt; six.string(0)?, Some(b"b".as_slice()));
+    assert_eq!(rt; six.string(1)?, None);
+    Ok(())
+}
+
+#[test]
+fn repeated_sections_make_one_range(rt: HostRuntime) -> Result<(), Fail> {
+    let alloc = rt.alloc();
+    let first = object(
+        alloc,
+        &[
+            (SectionKind::Info, split_unit(5).as_slice()),
+            (SectionKind::Abbrev, [0u8; 0x10].as_slice()),
+        ],
+    )?;
+    let second = object(
+        alloc,
+        &[
+            (SectionKind::Info, split_unit(7).as_slice()),
+            (SectionKind::Abbrev, [0u8; 4].as_slice()),
+            (SectionKind::Macinfo, [0u8; 5].as_slice()),
+        ],
+    )?;
+    let second = renamed(
+        alloc,
+        second.as_slice(),
+        b".debug_macinfo.dwo",
+        b".debug_abbrev.dwo\0",
+    )?;
+    let file = packed(alloc, &[first.as_slice(), second.as_slice()])?.file?;
+    let package = package(file.as_slice())?;
+    let seven = package.find(cu(7))?.ok_or("unit 7 is there")?;
+    let abbrev = seven
+        .range(SectionKind::Abbrev)
+        .ok_or("it has abbreviations")?;
+    assert_eq!(rt; (abbrev.offset.0, abbrev.size), (0x10, 9));
+    Ok(())
+}
+
 // An object of the compilation unit 5 of a class, an order and a format.
 fn combination(
     alloc: Global,
@@ -123,7 +227,7 @@ fn combination(
     info.extend_from_slice(if is_wide { &[0u8; 8] } else { &[0u8; 4] })?;
     info.extend_from_slice(&[8, 1])?;
     info.extend_from_slice(&order.bytes_of_u64(5))?;
-    made(
+    Ok(made(
         alloc,
         class,
         62,
@@ -132,7 +236,7 @@ fn combination(
             (SectionKind::Info, info.as_slice()),
             (SectionKind::Abbrev, ABBREVIATIONS.as_slice()),
         ],
-    )
+    )?)
 }
 
 #[test]

@@ -1,7 +1,7 @@
 //! The small objects that the tests pack.
 
 use bumpalo::Bump;
-use dwp_elf::{Class, Endianness, SectionKind, WritableObject};
+use dwp_elf::{Class, Endianness, SectionKind, WritableObject, WriteError};
 use dwp_index::PackageFile;
 use dwp_table::{DebugTypeSignature, DwarfObject, DwoId};
 use std::alloc::Global;
@@ -20,13 +20,20 @@ pub fn unit(id: u8) -> [u8; 20] {
     ]
 }
 
+/// A split compilation unit of version 5 with no entry, and its identifier.
+pub fn split_unit(id: u8) -> [u8; 20] {
+    [
+        0x10, 0, 0, 0, 5, 0, 5, 8, 0, 0, 0, 0, id, 0, 0, 0, 0, 0, 0, 0,
+    ]
+}
+
 /// A type unit of version 4 with the signature 0x11 and no entry.
 pub const TYPE_UNIT: [u8; 23] = [
     0x13, 0, 0, 0, 4, 0, 0, 0, 0, 0, 8, 0x11, 0, 0, 0, 0, 0, 0, 0, 0, 0, 0, 0,
 ];
 
 /// A file of 64 bits, little endian, for x86-64, with these sections.
-pub fn object(alloc: Global, sections: &[(SectionKind, &[u8])]) -> Result<Vec<u8>, Fail> {
+pub fn object(alloc: Global, sections: &[(SectionKind, &[u8])]) -> Result<Vec<u8>, WriteError> {
     made(alloc, Class::Elf64, 62, Endianness::Little, sections)
 }
 
@@ -37,20 +44,49 @@ pub fn made(
     machine: u16,
     order: Endianness,
     sections: &[(SectionKind, &[u8])],
-) -> Result<Vec<u8>, Fail> {
+) -> Result<Vec<u8>, WriteError> {
     let mut object = WritableObject::new(alloc, class, machine, order);
     for section in sections {
         object.append(section.0, section.1)?;
     }
-    Ok(object.write()?)
+    object.write()
 }
 
 /// The object with the compilation unit of an identifier.
-pub fn plain(alloc: Global, id: u8) -> Result<Vec<u8>, Fail> {
+pub fn plain(alloc: Global, id: u8) -> Result<Vec<u8>, WriteError> {
     object(
         alloc,
         &[
             (SectionKind::Info, unit(id).as_slice()),
+            (SectionKind::Abbrev, ABBREVIATIONS.as_slice()),
+        ],
+    )
+}
+
+/// The object with the compilation unit of an identifier and two strings, `b` and `a`.
+pub fn with_strings(alloc: Global, id: u8) -> Result<Vec<u8>, WriteError> {
+    object(
+        alloc,
+        &[
+            (SectionKind::Info, unit(id).as_slice()),
+            (SectionKind::Abbrev, ABBREVIATIONS.as_slice()),
+            (SectionKind::Str, b"a\0b\0".as_slice()),
+            (SectionKind::StrOffsets, [2, 0, 0, 0, 0, 0, 0, 0].as_slice()),
+        ],
+    )
+}
+
+/// The object with a compilation unit and a type unit.
+pub fn with_types<'a>(
+    alloc: Global,
+    info: &'a [u8],
+    types: &'a [u8],
+) -> Result<Vec<u8>, WriteError> {
+    object(
+        alloc,
+        &[
+            (SectionKind::Info, info),
+            (SectionKind::Types, types),
             (SectionKind::Abbrev, ABBREVIATIONS.as_slice()),
         ],
     )
@@ -71,6 +107,19 @@ pub fn packed(alloc: Global, objects: &[&[u8]]) -> Result<Packed, Error> {
 /// The bytes from one place to another; none where they aren't there.
 pub fn part(bytes: &[u8], from: usize, to: usize) -> &[u8] {
     bytes.get(from..to).unwrap_or(&[])
+}
+
+/// The file with the first of these bytes replaced by others, which aren't more.
+pub fn renamed(alloc: Global, file: &[u8], from: &[u8], to: &[u8]) -> Result<Vec<u8>, Fail> {
+    for place in 0..file.len() {
+        if part(file, place, place.saturating_add(from.len())) == from {
+            let mut bytes = part(file, 0, place).to_vec(alloc)?;
+            bytes.extend_from_slice(to)?;
+            bytes.extend_from_slice(part(file, place.saturating_add(to.len()), file.len()))?;
+            return Ok(bytes);
+        }
+    }
+    Err("the bytes are there".into())
 }
 
 /// The compilation unit of an identifier, and the type unit of a signature.

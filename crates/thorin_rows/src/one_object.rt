@@ -1,7 +1,11 @@
 //! Packages of one object.
 
-use crate::objects::{ABBREVIATIONS, cu, made, object, package, packed, part, plain, unit};
+use crate::objects::{
+    ABBREVIATIONS, cu, made, object, package, packed, part, plain, renamed, split_unit, unit,
+    with_strings,
+};
 use dwp_elf::{Class, Endianness, SectionKind};
+use std::alloc::Global;
 use std::test::Fail;
 use thorin_faults::Error;
 
@@ -48,15 +52,7 @@ fn one_unit_makes_544_bytes(rt: HostRuntime) -> Result<(), Fail> {
 #[test]
 fn two_strings_make_728_bytes(rt: HostRuntime) -> Result<(), Fail> {
     let alloc = rt.alloc();
-    let input = object(
-        alloc,
-        &[
-            (SectionKind::Info, unit(5).as_slice()),
-            (SectionKind::Abbrev, ABBREVIATIONS.as_slice()),
-            (SectionKind::Str, b"a\0b\0".as_slice()),
-            (SectionKind::StrOffsets, [2, 0, 0, 0, 0, 0, 0, 0].as_slice()),
-        ],
-    )?;
+    let input = with_strings(alloc, 5)?;
     let packed = packed(alloc, &[input.as_slice()])?;
     let file = packed.file?;
     let bytes = file.as_slice();
@@ -71,6 +67,70 @@ fn two_strings_make_728_bytes(rt: HostRuntime) -> Result<(), Fail> {
     assert_eq!(rt; unit5.string(1)?, Some(b"a".as_slice()));
     assert_eq!(rt; unit5.string(2)?, None);
     Ok(())
+}
+
+#[test]
+fn other_sections_are_left_out(rt: HostRuntime) -> Result<(), Fail> {
+    let alloc = rt.alloc();
+    let with_code = object(
+        alloc,
+        &[
+            (SectionKind::Line, [0x90].as_slice()),
+            (SectionKind::Info, unit(5).as_slice()),
+            (SectionKind::Abbrev, ABBREVIATIONS.as_slice()),
+        ],
+    )?;
+    let with_code = renamed(alloc, with_code.as_slice(), b".debug_line.dwo", b".text\0")?;
+    let file = packed(alloc, &[with_code.as_slice()])?.file?;
+    assert_eq!(rt; file.len(), 544);
+    let five = plain(alloc, 5)?;
+    let without = packed(alloc, &[five.as_slice()])?.file?;
+    assert!(rt; file.as_slice() == without.as_slice());
+    Ok(())
+}
+
+#[test]
+fn sections_outside_the_format_are_named(rt: HostRuntime) -> Result<(), Fail> {
+    let alloc = rt.alloc();
+    let gnu = [SectionKind::Loclists, SectionKind::Rnglists];
+    let standard = [SectionKind::Types, SectionKind::Loc, SectionKind::Macinfo];
+    let five = split_unit(7);
+    for kind in gnu {
+        assert!(rt; is_outside(alloc, unit(5).as_slice(), kind)?, "{kind:?}");
+        assert!(rt; !is_outside(alloc, five.as_slice(), kind)?, "{kind:?}");
+    }
+    for kind in standard {
+        assert!(rt; is_outside(alloc, five.as_slice(), kind)?, "{kind:?}");
+    }
+    for kind in [
+        SectionKind::Loc,
+        SectionKind::Macinfo,
+        SectionKind::Macro,
+        SectionKind::Line,
+    ] {
+        assert!(rt; !is_outside(alloc, unit(5).as_slice(), kind)?, "{kind:?}");
+    }
+    Ok(())
+}
+
+// Whether an object of this unit is refused for a section of a kind; else it is accepted.
+fn is_outside(alloc: Global, info: &[u8], kind: SectionKind) -> Result<bool, Fail> {
+    let input = object(
+        alloc,
+        &[
+            (SectionKind::Info, info),
+            (SectionKind::Abbrev, ABBREVIATIONS.as_slice()),
+            (kind, [0xaa].as_slice()),
+        ],
+    )?;
+    let mut is_refused = false;
+    for outcome in packed(alloc, &[input.as_slice()])?.outcomes {
+        match outcome {
+            Err(Error::SectionOutsideFormat(name)) => is_refused = name == kind.name(),
+            other => other?,
+        }
+    }
+    Ok(is_refused)
 }
 
 #[test]
