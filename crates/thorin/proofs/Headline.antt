@@ -1,5 +1,5 @@
 -- What is written after a run means the join of the accepted inputs.
-use Rattle.std.proofs.Common.{◌≡◌, ◌∙◌, ℕ, true, false, List, [], ◌++◌, ap, sym, refl, subst, Ok, Option, Some, None, arith}
+use Rattle.std.proofs.Common.{◌≡◌, ◌∙◌, ℕ, true, false, List, [], ◌++◌, ap, sym, refl, subst, Ok, Option, Some, None, arith, map}
 use Rattle.std.proofs.Math.Seq.{take-length}
 use Rattle.std.specs.Option.{ok_or}
 use Rattle.dwp_base.specs.declared.section.SectionKind.TheVariants as kinds
@@ -19,7 +19,7 @@ use Rattle.thorin_faults.specs.Fault.{NoOutputObjectCreated}
 use Rattle.thorin.specs.declared.packing.Input.{Input}
 use Rattle.thorin.specs.Builder.{State, start, IsFinished, finish_test, targets_test, indexes_test, names_in, rows_of, compilations}
 use Rattle.thorin.specs.Growing.{Contents, with_bytes}
-use Rattle.thorin.specs.Join.{IsPackageOf, IsJoinOf}
+use Rattle.thorin.specs.Join.{IsPackageOf, IsJoinOf, ContainsJoin}
 use Rattle.thorin.specs.Meaning.{joining}
 use Rattle.thorin.specs.Run.{Outcome, Ran, IsWritten}
 use Rattle.thorin.specs.State.{Package}
@@ -176,3 +176,15 @@ headline names alike in_turn alone anywhere is_read has_entries some_index none_
       joined = all.joined;
       is = written-is is_read has_entries some_index none_index contents other foreign empty present absent none once state bytes all.now all.has written;
     }
+
+names-of : (begun : Option Package) (ms : Members) → StateHas begun ms → names_in begun ≡ map (λ u. u.0) ms
+names-of None ms has = sym (ap (map (λ u. u.0)) has)
+names-of (Some made) ms has = has.units.names
+
+-- the names after a run
+pub run-names : NamesTheSameLaw → ReadsAlikeLaw → ReadInTurnLaw → ReadAlone → ReadAnywhere
+    → (offer : Offer) (list : List Input) (outcomes : List Outcome) (state : State) → Ran offer list start outcomes state
+    → ContainsJoin offer list outcomes (names_in state.begun)
+run-names names alike in_turn alone anywhere offer list outcomes state ran =
+    let all = run-joins (parts-mean names alike in_turn) (units-mean alone anywhere) no_strings offer list start state outcomes [] ran refl in
+    record { units = all.now; joined = all.joined; are = names-of state.begun all.now all.has }

@@ -137,3 +137,9 @@ pub record IsJoinOf (offer : List ℕ → Result (List ℕ) IoError → Type 0) 
   pub units : List (DwarfObject × UnitMeaning)
   pub joined : Joined offer inputs outcomes [] units
   pub is : IsPackageOf units bytes
+
+-- these are the names of the accepted inputs' units, joined in order
+pub record ContainsJoin (offer : List ℕ → Result (List ℕ) IoError → Type 0) (inputs : List Input) (outcomes : List Outcome) (names : List DwarfObject) : Type 0 where
+  pub units : List (DwarfObject × UnitMeaning)
+  pub joined : Joined offer inputs outcomes [] units
+  pub are : names ≡ map (λ u. u.0) units

@@ -72,6 +72,7 @@ pub record IsWritten (state : State) (bytes : List ℕ) : Type 0 where
 -- a finished package whose numbers don't fit the class of its file
 pub record IsTooLarge (state : State) : Type 0 where
   pub file : File
+  pub tested : finish_test state ≡ Ok tt
   pub finished : IsFinishedState state file
   pub unfit : ¬ Fits file
 

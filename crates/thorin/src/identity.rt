@@ -1,4 +1,6 @@
-ghost use Rattle.std.specs.Prelude.{◌≡◌};
+//! Which unit a unit of a split object is.
+
+ghost use Rattle.std.specs.Prelude.{◌≢◌, IfErr};
 ghost use Rattle.thorin_faults.specs.Answers.{Gives};
 ghost use Rattle.dwp_dwarf.specs.Units.{unit_of};
 ghost use Rattle.dwp_dwarf.specs.Attributes.{entry_of};
@@ -25,7 +27,8 @@ pub fn dwo_identifier_of_unit<R: Reader>(
     debug_abbrev: &R,
     header: &UnitHeader<R>,
 ) -> Result<Option<DwarfObject>, Error>
-    ensures { Gives (λ name. name) result (identity (R.input debug_abbrev.now) (unit_of R.input header.now)) }
+    ensures meaning { Gives (λ name. name) result (identity (R.input debug_abbrev.now) (unit_of R.input header.now)) }
+    ensures memory { IfErr result (λ e. e ≢ Error.Memory) }
 {
     match header.unit_type() {
         UnitType::Skeleton(id) | UnitType::SplitCompilation(id) => {
@@ -44,7 +47,8 @@ fn root_identifier<R: Reader>(
     debug_abbrev: &R,
     header: &UnitHeader<R>,
 ) -> Result<Option<DwarfObject>, Error>
-    ensures { Gives (λ name. name) result (root_identity (R.input debug_abbrev.now) (unit_of R.input header.now)) }
+    ensures meaning { Gives (λ name. name) result (root_identity (R.input debug_abbrev.now) (unit_of R.input header.now)) }
+    ensures memory { IfErr result (λ e. e ≢ Error.Memory) }
 {
     let table = Abbreviations::new(*debug_abbrev, header.abbrev_offset()).map_err(
         Error::ParseUnitAbbreviations,
@@ -60,7 +64,8 @@ fn root_identifier<R: Reader>(
 // The identifier in an entry of a unit.
 #[tactic(auto, unfolding(crate::specs::Identity::entry_identity))]
 fn entry_identifier<R: Reader>(entry: RootEntry<R>) -> Result<Option<DwarfObject>, Error>
-    ensures { Gives (λ name. name) result (entry_identity (entry_of R.input entry)) }
+    ensures meaning { Gives (λ name. name) result (entry_identity (entry_of R.input entry)) }
+    ensures memory { IfErr result (λ e. e ≢ Error.Memory) }
 {
     if entry.tag != DW_TAG_COMPILE_UNIT && entry.tag != DW_TAG_TYPE_UNIT {
         return Err(Error::TopLevelDieNotUnit);

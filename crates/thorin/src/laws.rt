@@ -1,3 +1,5 @@
+//! What packing means, as laws.
+
 ghost use Rattle.std.specs.Prelude.{◌≡◌, ℕ, ◌^◌, ◌<◌, List, Option, Ok};
 ghost use Rattle.dwp_base.specs.declared.section.SectionKind.TheVariants.{CuIndex, TuIndex};
 ghost use Rattle.dwp_elf.specs.FileText.{Object, file_text};
@@ -6,8 +8,8 @@ ghost use Rattle.dwp_elf.specs.Numbers.{Fits};
 ghost use Rattle.dwp_index.specs.Index.{Index};
 ghost use Rattle.dwp_index.specs.Holding.{sections_of};
 ghost use Rattle.dwp_index.specs.Package.{package_of, index_in_section};
-ghost use Rattle.thorin.specs.Builder.{State, start};
-ghost use Rattle.thorin.specs.Join.{IsJoinOf};
+ghost use Rattle.thorin.specs.Builder.{State, start, names_in};
+ghost use Rattle.thorin.specs.Join.{IsJoinOf, ContainsJoin};
 ghost use Rattle.thorin.specs.Run.{Outcome, Ran, IsWritten};
 ghost use Rattle.thorin.specs.declared.packing.Input.{Input};
 
@@ -38,13 +40,17 @@ pub fn written_packages_are_read()
 
 /// The law of packing: what is written after a run of inputs is a package of the accepted inputs, joined:
 /// looking up any name by the standard's probing finds just the first accepted unit of that name, with its
-/// bytes, the contents of its input's sections and its strings, or nothing. `session` says what reads of
-/// paths may answer. It does nothing.
+/// bytes, its input's abbreviations, line tables, location and range lists and macros, and, where it has its
+/// input's encoding, its strings; or nothing. The contained units are the names of the join, in order.
+/// `session` says what reads of paths may answer. It does nothing.
 pub fn packages_are_the_join<Sess: Session<RelocationEntry>>(session: &Sess)
-    ensures { (inputs : List Input) (outcomes : List Outcome) (state : State) (bytes : List ℕ)
+    ensures file { (inputs : List Input) (outcomes : List Outcome) (state : State) (bytes : List ℕ)
         → Ran (Sess.offer session.now) inputs start outcomes state
         → IsWritten state bytes
         → IsJoinOf (Sess.offer session.now) inputs outcomes bytes }
+    ensures names { (inputs : List Input) (outcomes : List Outcome) (state : State)
+        → Ran (Sess.offer session.now) inputs start outcomes state
+        → ContainsJoin (Sess.offer session.now) inputs outcomes (names_in state.begun) }
 {
     rewritten_offsets_name_the_same();
     rewritten_strings_are_read_alike();

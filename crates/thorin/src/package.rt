@@ -74,8 +74,8 @@ impl<'output, 'session: 'output, Sess: Session<RelocationEntry>> DwarfPackage<
         }
     }
 
-    /// Adds the object that the session reads at a path: `ReadInput` where it can't, else as
-    /// `add_object_bytes`. An `Err` leaves the package as it was.
+    /// Adds the object that the session reads at a path: `ReadInput` where it can't, `Memory` where the
+    /// session has none, else as `add_object_bytes`. An `Err` leaves the package as it was.
     pub fn add_input_object(&mut self, path: Path<'_>) -> Result<(), Error>
         ensures taken { TakesFile (Sess.offer self.old.session (path_bytes path.entry)) self.old.state result self.new.state }
         ensures session { self.new.session ≡ self.old.session }
@@ -87,11 +87,16 @@ impl<'output, 'session: 'output, Sess: Session<RelocationEntry>> DwarfPackage<
         }
     }
 
-    /// Adds an object: its units that aren't contained, with all that belongs to them. An object
-    /// without split units' info section adds nothing and begins the package. An `Err` leaves the
-    /// package as it was; it is the first fault from left to right: of the file's kind, the ELF file,
-    /// the used sections, the first unit, the byte order, the indexes, the kinds of sections and
-    /// the string offsets, the abbreviations, the units.
+    /// Adds an object: its units that aren't contained, with all that belongs to them (DWARF 5, 7.3.5).
+    /// An object without split units' info section adds nothing and begins the package. An `Err` leaves
+    /// the package as it was; it is `Memory`, or the first fault from left to right: of the file's kind
+    /// (`ParseFileKind`, `InvalidInputKind`), the ELF file (`ParseObjectFile`), the used sections
+    /// (`DecompressData`, `ObjectRead`), the first unit (`ParseUnitHeader`, `NoCompilationUnits`), the
+    /// byte order (`MixedInputEncodings`), a finished package as the input (`NotYet`), each section's
+    /// kind and string offsets (`SectionOutsideFormat`, `RepeatedSection`, `MissingRequiredSection`,
+    /// `BadStringOffsets`, `OffsetAtIndex`, `StrAtOffset`, `NumberTooLarge`), the abbreviations
+    /// (`MissingRequiredSection`), the units in file order (`ParseUnitHeader`, what
+    /// `dwo_identifier_of_unit` answers, `NotSplitUnit`, `DuplicateUnit`, `EmptyUnit`).
     #[tactic(auto, unfolding(crate::specs::Builder::taken))]
     pub fn add_object_bytes(&mut self, bytes: &'session [u8]) -> Result<(), Error>
         ensures meaning { Gives (λ _. self.new.state) result (spec.taken bytes.now self.old.state) }
@@ -108,7 +113,8 @@ impl<'output, 'session: 'output, Sess: Session<RelocationEntry>> DwarfPackage<
 
     /// The object to be written. Refuses with `MissingReferencedUnit` for the first unit that an
     /// executable refers to and that isn't contained, with `NoOutputObjectCreated` where no input
-    /// began a package, and as the writer of indexes does.
+    /// began a package, for the rows of each index with `NumberTooLarge`, `MixedInputEncodings` and
+    /// `SectionOutsideFormat`, as `write_index` does, and with `Memory`.
     #[tactic(auto, unfolding(crate::specs::Builder::finish_test))]
     pub fn finish(self) -> Result<WritableObject, Error>
         ensures refusal { Gives (λ _. tt) result (spec.finish_test self.entry.state) }

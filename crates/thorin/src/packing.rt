@@ -19,16 +19,16 @@ pub enum Input<'a> {
     Object(Path<'a>),
     /// An object's bytes.
     Bytes(&'a [u8]),
-    /// The objects that the executable at a path refers to.
+    /// The objects that the executable at a path refers to: not built yet, refused with `NotYet`.
     Executable(Path<'a>, MissingReferencedObjectBehaviour),
 }
 
 /// What came of packing: an outcome for each input, in order, and the package's bytes.
 #[derive(Debug, Drop)]
 pub struct Packed {
-    /// For each input, whether it was accepted or its first fault.
+    /// For each input, whether it was accepted, or its first fault or `Memory`.
     pub outcomes: Vec<Result<(), Error>>,
-    /// The written package, or the first fault of finishing or writing it.
+    /// The written package, or the first fault of finishing or writing it or `Memory`.
     pub file: Result<Vec<u8>, Error>,
 }
 

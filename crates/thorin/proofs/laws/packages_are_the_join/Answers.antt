@@ -1,8 +1,8 @@
-use Rattle.thorin.proofs.Headline.{headline}
+use Rattle.thorin.proofs.Headline.{headline, run-names}
 use Rattle.thorin.proofs.laws.packages_are_the_join.Goals as goal
 
-pub returns : goal.returns
-returns g c = headline
+pub returns-clause-file : goal.returns-clause-file
+returns-clause-file g c = headline
     c.rewritten_offsets_name_the_same.ensures
     c.rewritten_strings_are_read_alike.ensures
     c.joined_string_offsets_are_read_in_turn.ensures
@@ -20,4 +20,13 @@ returns g c = headline
     c.packages_find_exactly.ensures.absent
     c.packages_find_exactly.ensures.no_index
     c.units_are_named_once.ensures.package
+    (g.Sess.Session.offer c.args.session.now)
+
+pub returns-clause-names : goal.returns-clause-names
+returns-clause-names g c = run-names
+    c.rewritten_offsets_name_the_same.ensures
+    c.rewritten_strings_are_read_alike.ensures
+    c.joined_string_offsets_are_read_in_turn.ensures
+    c.units_are_read_alone.ensures.alone
+    c.units_are_read_alone.ensures.anywhere
     (g.Sess.Session.offer c.args.session.now)

@@ -38,5 +38,5 @@ returns-clause-joined g c =
     let ran : Ran offer c.args.inputs.now start c.loop-input.outcomes.items c.loop-input.builder.state =
     subst (λ list. Ran offer list start c.loop-input.outcomes.items c.loop-input.builder.state) (take_all c.loop-input.input-index c.args.inputs.now c.loop-input-test.false) c.loop-input.invariant.0 in
     of_written offer c.args.inputs.now c.loop-input.outcomes.items c.loop-input.builder.state c.written-file.result
-    (λ bytes written. c.packages_are_the_join.ensures c.args.inputs.now c.loop-input.outcomes.items c.loop-input.builder.state bytes ran written)
+    (λ bytes written. c.packages_are_the_join.ensures.file c.args.inputs.now c.loop-input.outcomes.items c.loop-input.builder.state bytes ran written)
     c.written-file.ensures
