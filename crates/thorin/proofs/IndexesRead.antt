@@ -45,7 +45,7 @@ NoIndex = (order : Endianness) (bytes : List ℕ) → bytes ≡ [] → index_in_
 -- what is read of the index of these rows
 abbrev pub HasRows : Option Index → List IndexEntry → Type 0
 HasRows None rows = rows ≡ []
-HasRows (Some index) rows = (version : ℕ) × HasEntries version rows index
+HasRows (Some index) rows = (version : ℕ) × HasEntries version rows index × (0 < length rows)
 
 pub record IndexRead (order : Endianness) (rows : List IndexEntry) (bytes : List ℕ) : Type 0 where
   pub index : Option Index
@@ -70,7 +70,7 @@ index-read is_read has some none order (row ∷ rows) bytes text tested distinct
     record {
       index = Some index;
       read = some order bytes index (some-bytes order bytes index read) read;
-      has = (index_version_of row.encoding.version, has order row.encoding (row ∷ rows) bytes tested distinct fit text index read);
+      has = (index_version_of row.encoding.version, has order row.encoding (row ∷ rows) bytes tested distinct fit text index read, omega arith);
     }
 
 -- the identifiers of chosen rows have 64 bits

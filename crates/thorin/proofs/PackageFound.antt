@@ -1,5 +1,5 @@
 -- A written package means the units that it represents.
-use Rattle.std.proofs.Common.{◌≡◌, ◌∙◌, ℕ, zero, suc, ◌+◌, ◌<◌, ◌≤◌, true, false, List, length, ap, sym, refl, subst, Ok, Option, Some, None, arith, cond, nat_eq}
+use Rattle.std.proofs.Common.{◌≡◌, ◌∙◌, ℕ, zero, suc, ◌+◌, ◌<◌, ◌≤◌, true, false, List, length, ap, sym, refl, subst, Ok, Option, Some, None, arith, cond, nat_eq, filter}
 use Rattle.std.specs.Prelude.{slice_get, MatchOption}
 use Rattle.std.specs.Map.{lookup}
 use Rattle.std.proofs.Math.Seq.{take-length}
@@ -29,7 +29,7 @@ use Rattle.thorin_parts.specs.IndexText.{entry_ids}
 use Rattle.thorin_parts.specs.ReadRows.{HasEntries, HasParts, non_empty}
 use Rattle.thorin.specs.Builder.{is_compilation, rows_of}
 use Rattle.thorin.specs.Growing.{Contents}
-use Rattle.thorin.specs.Join.{UnitMeaning, IsUnit, GivesUnit, GivesNone, look_limit}
+use Rattle.thorin.specs.Join.{UnitMeaning, IsUnit, GivesUnit, GivesNone, look_limit, limit_of, same_sort}
 use Rattle.thorin.specs.NewUnits.{same_name}
 use Rattle.thorin.specs.Represents.{AreRowsOf}
 use Rattle.thorin.specs.State.{kind_at}
@@ -146,8 +146,20 @@ module _ (pack : Package) (order : Endianness) (contents : Contents) (rows : Lis
     readable = f.is.shares.readable;
   }
 
+-- the limit is above each row that there is
+row-limit : (n place count : ℕ) → place < n → count ≤ place + 1 → count ≤ limit_of n
+row-limit zero place count h k = absurd (omega arith)
+row-limit (suc n) place count h k = omega arith
+
+some-limit : (n count : ℕ) → 0 < n → count ≤ n + 1 → count ≤ limit_of n
+some-limit zero count h k = absurd (omega arith)
+some-limit (suc n) count h k = k
+
+none-limit : (n count : ℕ) → count ≤ 0 → count ≤ limit_of n
+none-limit n count h = omega arith
+
 no-rows : {X : Type 0} (index : Option Index) (rows : List IndexEntry) (place : ℕ) (row : IndexEntry) → HasRows index rows → slice_get rows place ≡ Some row
-    → ((i : Index) → index ≡ Some i → (version : ℕ) × HasEntries version rows i → X) → X
+    → ((i : Index) → index ≡ Some i → (version : ℕ) × HasEntries version rows i × (0 < length rows) → X) → X
 no-rows None rows place row has at then = absurd (none-some row (ap (λ l. slice_get l place) (sym has) ∙ at))
 no-rows (Some i) rows place row has at then = then i refl has
 
@@ -159,21 +171,28 @@ by-row present pack order contents rows strings ms name unit read table are f =
     let gives = present pack name (entry_ids (rows_of (is_compilation name) rows)) i f.place _ f.is.owns.encoding
     (record { index_is = there; slots = has.1.slots })
     (found-unit pack order contents rows strings name unit read table f i has.0 has.1) in
-    let within = (id-at (rows_of (is_compilation name) rows) f.place f.row f.at).0 in
-    let counted = ids-counted (rows_of (is_compilation name) rows) in
-    let as_many = rows-counted order contents strings rows ms name are in
-    let few = gives.few in
-    record { found = _; count = gives.count; few = omega arith; counted = gives.counted; is = found-is pack order contents rows strings name unit read table f i has.0 has.1 })
+    let units = filter (λ u. same_sort name u.0) ms in
+    let counted : length (entry_ids (rows_of (is_compilation name) rows)) ≡ length units =
+    ids-counted (rows_of (is_compilation name) rows) ∙ rows-counted order contents strings rows ms name are in
+    let within : f.place < length units = subst (λ n. f.place < n) counted (id-at (rows_of (is_compilation name) rows) f.place f.row f.at).0 in
+    record {
+      found = _;
+      count = gives.count;
+      few = row-limit (length units) f.place gives.count within gives.few;
+      counted = gives.counted;
+      is = found-is pack order contents rows strings name unit read table f i has.0 has.1;
+    })
 
--- a name is looked up
-absent-by : AbsentLaw → NoIndexLaw → (pack : Package) (name : DwarfObject) (rows : List IndexEntry) (most : ℕ) (index : Option Index) → index_for pack name ≡ index → HasRows index rows
-    → length (entry_ids rows) + 1 ≤ most → IsNotNamed name (entry_ids rows) → GivesNone pack name most
-absent-by absent none pack name rows most None there has room not_there =
-    let gives = none pack name there in let few = gives.few in record { count = gives.count; few = omega arith; counted = gives.counted }
-absent-by absent none pack name rows most (Some i) there has room not_there =
+-- a name that no unit has
+absent-by : AbsentLaw → NoIndexLaw → (pack : Package) (name : DwarfObject) (rows : List IndexEntry) (n : ℕ) (index : Option Index) → index_for pack name ≡ index → HasRows index rows
+    → length rows ≡ n → IsNotNamed name (entry_ids rows) → GivesNone pack name (limit_of n)
+absent-by absent none pack name rows n None there has counted not_there =
+    let gives = none pack name there in
+    record { count = gives.count; few = none-limit n gives.count gives.few; counted = gives.counted }
+absent-by absent none pack name rows n (Some i) there has counted not_there =
     let gives = absent pack name (entry_ids rows) i (record { index_is = there; slots = has.1.slots }) not_there in
-    let few = gives.few in
-    record { count = gives.count; few = omega arith; counted = gives.counted }
+    let few : gives.count ≤ n + 1 = subst (λ m. gives.count ≤ m + 1) (ids-counted rows ∙ counted) gives.few in
+    record { count = gives.count; few = some-limit n gives.count (subst (λ m. 0 < m) counted has.2) few; counted = gives.counted }
 
 pub package-finds : PresentLaw → AbsentLaw → NoIndexLaw → (pack : Package) (order : Endianness) (contents : Contents) (rows : List IndexEntry) (strings : List (List ℕ)) (ms : Members)
     → IsRead pack order contents rows strings → IsTable strings → AreRowsOf order contents strings rows ms
@@ -183,7 +202,5 @@ package-finds present absent none pack order contents rows strings ms read table
     by : (found : Option UnitMeaning) → lookup (same_name name) ms ≡ found → MatchOption found (GivesNone pack name (look_limit ms name)) (GivesUnit pack name (look_limit ms name))
     by (Some unit) h = by-row present pack order contents rows strings ms name unit read table are (find-row order contents strings rows ms name unit are h)
     by None h =
-        let counted = ids-counted (rows_of (is_compilation name) rows) in
-        let as_many = rows-counted order contents strings rows ms name are in
-        absent-by absent none pack name (rows_of (is_compilation name) rows) (look_limit ms name) (index_for pack name) refl (sort-rows pack order contents rows strings name read)
-        (omega arith) (no-row order contents strings rows ms name are h)
+        absent-by absent none pack name (rows_of (is_compilation name) rows) (length (filter (λ u. same_sort name u.0) ms)) (index_for pack name) refl (sort-rows pack order contents rows strings name read)
+        (rows-counted order contents strings rows ms name are) (no-row order contents strings rows ms name are h)

@@ -46,10 +46,10 @@ unfolding with_units with_plain
 units-join parts_law units_law table bytes file begun now ms has opens info h =
     let s1 = bind-inv (object_of file) _ now h in
     let s2 = bind-inv (encoding_of s1.value) _ now s1.then in
-    let s3 = bind-inv (order_test s1.value.order begun) _ now s2.then in
-    let s4 = bind-inv (plain_test s1.value) _ now s3.then in
+    let s3 = bind-inv (plain_test s1.value) _ now s2.then in
+    let s4 = bind-inv (order_test s1.value.order begun) _ now s3.then in
     let s5 = bind-inv (with_object s1.value s2.value (package_or_new file begun)) _ now s4.then in
-    let order = made-order file s1.value begun s1.is s3.is in
+    let order = made-order file s1.value begun s1.is s4.is in
     let j = object-joins parts_law units_law s1.value s2.value (package_or_new file begun) s5.value ms (new-has file begun ms table has) order s5.is in
     record {
       units = map {B = DwarfObject × UnitMeaning} (meant s1.value s2.value) j.all;

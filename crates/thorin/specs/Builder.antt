@@ -79,8 +79,8 @@ unfoldable pub with_units : Elf → Option Package → Result (Option Package) F
 with_units file begun = do
   object ← object_of file
   encoding ← encoding_of object
-  _ ← order_test object.order begun
   _ ← plain_test object
+  _ ← order_test object.order begun
   with_plain file object encoding begun
 
 -- what an object's bytes make of a package, or the first fault; without an info section they only begin it

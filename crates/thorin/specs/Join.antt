@@ -1,5 +1,5 @@
 -- A list of inputs as the join of what they mean: the first accepted unit of a name stays. And a package that means it.
-use Rattle.std.specs.Prelude.{◌≡◌, ℕ, ◌+◌, ◌≤◌, Bool, true, false, List, [], ◌∷◌, ◌++◌, not, map, length, filter, Option, Some, None, Result, Ok, Err, IsOk, IsPermutation, MatchOption, if◌then◌else◌}
+use Rattle.std.specs.Prelude.{◌≡◌, ℕ, zero, suc, ◌+◌, ◌≤◌, Bool, true, false, List, [], ◌∷◌, ◌++◌, not, map, length, filter, Option, Some, None, Result, Ok, Err, IsOk, IsPermutation, MatchOption, if◌then◌else◌}
 use Rattle.std.specs.Map.{lookup}
 use Rattle.std.specs.Path.{path_bytes}
 use Rattle.std.specs.declared.io.Error.{Error as IoError}
@@ -114,9 +114,13 @@ same_sort (Compilation a) (Compilation b) = true
 same_sort (TypeUnit a) (TypeUnit b) = true
 same_sort _ _ = false
 
--- how many slots are looked at at most: one more than there are units of the name's kind
+-- how many slots are looked at at most: one more than there are units of the name's kind, and none where there are none
+abbrev pub limit_of : ℕ → ℕ
+limit_of zero = zero
+limit_of (suc n) = suc n + 1
+
 abbrev pub look_limit : List (DwarfObject × UnitMeaning) → DwarfObject → ℕ
-look_limit units name = length (filter (λ u. same_sort name u.0) units) + 1
+look_limit units name = limit_of (length (filter (λ u. same_sort name u.0) units))
 
 -- the identifiers of compilation units among these, and those of type units
 abbrev pub identifiers : List (DwarfObject × UnitMeaning) → List ℕ

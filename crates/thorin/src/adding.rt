@@ -93,10 +93,10 @@ fn add_units(
 {
     let object = InputObject::read(alloc, file)?;
     let encoding = object.encoding()?;
-    test_order(in_progress, object.order)?;
     if object.is_package() {
         return Err(Error::NotYet);
     }
+    test_order(in_progress, object.order)?;
     add_plain(alloc, in_progress, names, file, &object, encoding)
 }
 

@@ -91,8 +91,8 @@ impl<'output, 'session: 'output, Sess: Session<RelocationEntry>> DwarfPackage<
     /// An object without split units' info section adds nothing and begins the package. An `Err` leaves
     /// the package as it was; it is `Memory`, or the first fault from left to right: of the file's kind
     /// (`ParseFileKind`, `InvalidInputKind`), the ELF file (`ParseObjectFile`), the used sections
-    /// (`DecompressData`, `ObjectRead`), the first unit (`ParseUnitHeader`, `NoCompilationUnits`), the
-    /// byte order (`MixedInputEncodings`), a finished package as the input (`NotYet`), each section's
+    /// (`DecompressData`, `ObjectRead`), the first unit (`ParseUnitHeader`, `NoCompilationUnits`), a
+    /// finished package as the input (`NotYet`), the byte order (`MixedInputEncodings`), each section's
     /// kind and string offsets (`SectionOutsideFormat`, `RepeatedSection`, `MissingRequiredSection`,
     /// `BadStringOffsets`, `OffsetAtIndex`, `StrAtOffset`, `NumberTooLarge`), the abbreviations
     /// (`MissingRequiredSection`), the units in file order (`ParseUnitHeader`, what
