@@ -1,7 +1,5 @@
 -- A package that loses nothing of what it had.
 use Rattle.std.proofs.Common.{◌≡◌, ◌∙◌, ℕ, ◌≤◌, Bool, true, false, cond, List, [], ◌∷◌, ◌++◌, length, take, min, ap, sym, arith, Ok}
-use Rattle.std.specs.Prelude.{Result}
-use Rattle.dwp_base.specs.Reading.{◌>>=◌}
 use Rattle.std.proofs.lemmas.List.{length-take, take-append-le}
 use Rattle.std.proofs.Math.Seq.{take-length}
 use Rattle.std.specs.List.{list_any}
@@ -15,6 +13,7 @@ use Rattle.thorin.specs.Parts.{parts_of}
 use Rattle.thorin.specs.State.{Package, Extends, with_name, with_object, with_all, with_new_units, abbreviations_test, held}
 use Rattle.thorin.specs.Used.{Object}
 use Rattle.thorin.proofs.Growth.{is_grown-refl}
+use Rattle.thorin.proofs.Steps.{bind-ok}
 
 -- what stands at the front of a list isn't longer than it
 at_most : {A : Type 0} (a b : List A) → take (length a) b ≡ a → length a ≤ length b
@@ -48,9 +47,6 @@ pub extends-with : (before p : Package) (f : File) (strings : List (List ℕ)) (
     → take (length before.names) p.names ≡ before.names → take (length before.rows) p.rows ≡ before.rows
     → Extends before (record p { file = f; strings = strings; differing = differing })
 extends-with before p f strings differing hf hs hd hn hr = record { file = hf; strings = hs; names = hn; rows = hr; differing = hd }
-
-pub bind-ok : {A B E : Type 0} (r : Result A E) (x : A) (f : A → Result B E) → r ≡ Ok x → (r >>= f) ≡ f x
-bind-ok r x f h = ap (λ q. q >>= f) h
 
 abbreviations-there : (object : Object) → object.has_abbreviations ≡ true → abbreviations_test object ≡ Ok tt
 unfolding abbreviations_test

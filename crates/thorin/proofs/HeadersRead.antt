@@ -16,7 +16,6 @@ use Rattle.dwp_dwarf.specs.declared.header.UnitSection.{UnitSection}
 use Rattle.dwp_dwarf.specs.declared.header.UnitSection.TheVariants as places
 use Rattle.dwp_dwarf.specs.declared.header.UnitType.{UnitType}
 use Rattle.dwp_dwarf.specs.declared.header.UnitType.TheVariants as unit_types
-use Rattle.dwp_dwarf.proofs.Forward.{bind_ok, by_choice}
 use Rattle.dwp_index.specs.Package.{encoding_in}
 use Rattle.dwp_table.specs.declared.object.DwarfObject.{DwarfObject}
 use Rattle.dwp_table.specs.declared.object.DwarfObject.TheVariants.{Compilation, TypeUnit}
@@ -28,6 +27,7 @@ use Rattle.thorin.specs.Identity.{identity, identity_by, type_unit}
 use Rattle.thorin.specs.Meaning.{named_unit, named_each, named_at, named_sections, object_units, joining}
 use Rattle.thorin.specs.NewUnits.{NewUnit, same_name, place_for, unit_section}
 use Rattle.thorin.specs.Used.{Used, Object, first}
+use Rattle.thorin.proofs.Steps.{bind-inv, by-choice}
 use Rattle.thorin.proofs.UnitsAdded.{AllCanBeAdded}
 
 -- a unit's header can be read from its bytes, and only a type unit goes to types
@@ -77,25 +77,25 @@ same-ok x y h = cc
 older-type : (format : Format) (i : Input) (t : UnitType × Input) → older_type_at places.Types format i ≡ Ok t → (signature offset : ℕ) × (t.0 ≡ unit_types.TypeUnit signature offset)
 unfolding older_type_at
 older-type format i t h =
-    let a = bind_ok (type_at format i) _ t h in
+    let a = bind-inv (type_at format i) _ t h in
     (a.0.0.0, a.0.0.1, ap (λ (x : UnitType × Input). x.0) (sym (same-ok _ t a.2)))
 
 older-five : (format : Format) (version : ℕ) (whole i : Input) (u : Header) → older_at places.Types format version whole i ≡ Ok u → FiveOrType u
 unfolding older_at
 older-five format version whole i u h =
-    let a = bind_ok (offset_at format i) _ u h in
-    let b = bind_ok (address_size_at a.0.1) _ u a.2 in
-    let c = bind_ok (older_type_at places.Types format b.0.1) _ u b.2 in
+    let a = bind-inv (offset_at format i) _ u h in
+    let b = bind-inv (address_size_at a.0.1) _ u a.2 in
+    let c = bind-inv (older_type_at places.Types format b.0.1) _ u b.2 in
     let t = older-type format b.0.1 c.0 c.1 in
     inr (t.0, t.1, sym (ap (λ (x : Header). x.unit_type) (same-ok _ u c.2)) ∙ t.2)
 
 newer-five : (format : Format) (whole i : Input) (u : Header) → newer_at format whole i ≡ Ok u → u.encoding.version ≡ 5
 unfolding newer_at
 newer-five format whole i u h =
-    let a = bind_ok (unit_code_at i) _ u h in
-    let b = bind_ok (address_size_at a.0.1) _ u a.2 in
-    let c = bind_ok (offset_at format b.0.1) _ u b.2 in
-    let d = bind_ok (unit_type_at a.0.0 format c.0.1) _ u c.2 in
+    let a = bind-inv (unit_code_at i) _ u h in
+    let b = bind-inv (address_size_at a.0.1) _ u a.2 in
+    let c = bind-inv (offset_at format b.0.1) _ u b.2 in
+    let d = bind-inv (unit_type_at a.0.0 format c.0.1) _ u c.2 in
     sym (ap (λ (x : Header). x.encoding.version) (same-ok _ u d.2))
 
 no_header : (P : Type 0) (u : Header) → ◌≡◌ {A = Result Header ReadError} (Err UnknownVersion) (Ok u) → P
@@ -104,20 +104,20 @@ no_header P u h = absurd cc
 header-five : (format : Format) (whole i : Input) (u : Header) → header_at places.Types format whole i ≡ Ok u → FiveOrType u
 unfolding header_at
 header-five format whole i u h =
-    let a = bind_ok (number_at 2 i) _ u h in
+    let a = bind-inv (number_at 2 i) _ u h in
     let older : Result Header ReadError = older_at places.Types format a.0.0 whole a.0.1 in
     let others : Result Header ReadError = cond (leb 2 a.0.0 && leb a.0.0 4) older (Err UnknownVersion) in
-    by_choice (FiveOrType u) (eqb a.0.0 5) (newer_at format whole a.0.1) others (Ok u) a.2
+    by-choice (FiveOrType u) (eqb a.0.0 5) (newer_at format whole a.0.1) others (Ok u) a.2
     (λ newer. inl (newer-five format whole a.0.1 u newer))
-    (λ other. by_choice (FiveOrType u) (leb 2 a.0.0 && leb a.0.0 4) older (Err UnknownVersion) (Ok u) other (older-five format a.0.0 whole a.0.1 u) (no_header (FiveOrType u) u))
+    (λ other. by-choice (FiveOrType u) (leb 2 a.0.0 && leb a.0.0 4) older (Err UnknownVersion) (Ok u) other (older-five format a.0.0 whole a.0.1 u) (no_header (FiveOrType u) u))
 
 unit-five : (i : Input) (x : Header × Input) → unit_at places.Types i ≡ Ok x → FiveOrType x.0
 unfolding unit_at
 unit-five i x h =
-    let a = bind_ok (initial_length_at i) _ x h in
-    let b = bind_ok (split_at a.0.0.1 a.0.1) _ x a.2 in
-    let c = bind_ok (split_at (b.0.1.place - i.place) i) _ x b.2 in
-    let d = bind_ok (header_at places.Types a.0.0.0 c.0.0 b.0.0) _ x c.2 in
+    let a = bind-inv (initial_length_at i) _ x h in
+    let b = bind-inv (split_at a.0.0.1 a.0.1) _ x a.2 in
+    let c = bind-inv (split_at (b.0.1.place - i.place) i) _ x b.2 in
+    let d = bind-inv (header_at places.Types a.0.0.0 c.0.0 b.0.0) _ x c.2 in
     subst FiveOrType (ap (λ (y : Header × Input). y.0) (same-ok _ x d.2)) (header-five a.0.0.0 c.0.0 b.0.0 d.0 d.1)
 
 abbrev Listed : Type 0
@@ -219,10 +219,10 @@ named-header : ReadAnywhere → (object : Object) (from : Used) (place : UnitSec
     → named_unit object from read ≡ Ok u → HasHeader object.order u
 unfolding named_unit
 named-header anywhere object from place read u at known h =
-    let a = bind_ok (as_fault ParseUnitHeader read) _ u h in
+    let a = bind-inv (as_fault ParseUnitHeader read) _ u h in
     let abbreviations = section object.order (first kinds.Abbrev object.sections) in
-    let b = bind_ok (identity abbreviations a.0) _ u a.2 in
-    let c = bind_ok (ok_or b.0 NotSplitUnit) _ u b.2 in
+    let b = bind-inv (identity abbreviations a.0) _ u a.2 in
+    let c = bind-inv (ok_or b.0 NotSplitUnit) _ u b.2 in
     let unit = a.0 in
     let name = c.0 in
     let is : identity abbreviations unit ≡ Ok (Some name) = b.1 ∙ ap Ok (ok_or-some b.0 NotSplitUnit name c.1) in
@@ -242,8 +242,8 @@ each-headers : ReadAnywhere → (object : Object) (from : Used) (place : UnitSec
 unfolding named_each
 each-headers anywhere object from place [] us at known h = subst (AllHeaders object.order) (same-ok [] us h) tt
 each-headers anywhere object from place (read ∷ rest) us at known h =
-    let a = bind_ok (named_unit object from read) _ us h in
-    let b = bind_ok (named_each object from rest) _ us a.2 in
+    let a = bind-inv (named_unit object from read) _ us h in
+    let b = bind-inv (named_each object from rest) _ us a.2 in
     let one = named-header anywhere object from place read a.0 at (λ unit is. known 0 unit (ap Some is)) a.1 in
     let others = each-headers anywhere object from place rest b.0 at (λ k unit is. known (suc k) unit is) b.1 in
     subst (AllHeaders object.order) (same-ok (a.0 ∷ b.0) us b.2) (one, others)
@@ -263,8 +263,8 @@ sections-headers : ReadAlone → ReadAnywhere → (object : Object) (sections : 
 unfolding named_sections
 sections-headers alone anywhere object [] us h = subst (AllHeaders object.order) (same-ok [] us h) tt
 sections-headers alone anywhere object (from ∷ rest) us h =
-    let a = bind_ok (named_at object from (unit_section from.kind)) _ us h in
-    let b = bind_ok (named_sections object rest) _ us a.2 in
+    let a = bind-inv (named_at object from (unit_section from.kind)) _ us h in
+    let b = bind-inv (named_sections object rest) _ us a.2 in
     subst (AllHeaders object.order) (same-ok (a.0 ++ b.0) us b.2)
     (headers-append object.order a.0 b.0
     (at-headers alone anywhere object from (unit_section from.kind) a.0 refl a.1)

@@ -25,14 +25,16 @@ use Rattle.thorin.specs.Run.{Outcome, Ran, IsWritten}
 use Rattle.thorin.specs.State.{Package}
 use Rattle.thorin.proofs.HeadersRead.{ReadAlone, ReadAnywhere, headers_read, headers-joining, can_be_added}
 use Rattle.thorin.proofs.IndexesRead.{HasRows, IndexIsRead, IndexHasEntries, SomeIndex, NoIndex, index-read, chosen-fit}
-use Rattle.thorin.proofs.InputJoined.{bind-inv, ok-eq, HasUnits, StateHas, PartsLaw, UnitsLaw}
+use Rattle.thorin.proofs.InputJoined.{HasUnits, StateHas, PartsLaw, UnitsLaw}
+use Rattle.thorin.proofs.Steps.{ok-eq, bind-inv}
 use Rattle.thorin.proofs.Joining.{distinct_chosen}
 use Rattle.thorin.proofs.Keeping.{Grows, grows-trans, grows-with_bytes, keep-rows}
 use Rattle.thorin.proofs.PackageFound.{PresentLaw, AbsentLaw, NoIndexLaw, IsRead, package-finds}
 use Rattle.thorin.proofs.PartMeaning.{NamesTheSameLaw, ReadsAlikeLaw, ReadInTurnLaw, content-with_bytes, parts-copied, parts-none, parts-strings, parts-read}
 use Rattle.thorin.proofs.ReadingFile.{ContentsRead, OtherKind, ForeignName, NoBytes, package_held}
 use Rattle.thorin.proofs.RowsFound.{row-names, chosen-compilations, chosen-types}
-use Rattle.thorin.proofs.RunJoined.{Offer, Members, run-joins}
+use Rattle.thorin.proofs.Represents.{Members}
+use Rattle.thorin.proofs.RunJoined.{Offer, run-joins}
 
 -- what the parts of an object mean, by the laws of the crates below
 pub parts-mean : NamesTheSameLaw → ReadsAlikeLaw → ReadInTurnLaw → PartsLaw
@@ -66,15 +68,15 @@ tested-indexes : (made : Package) → indexes_test made ≡ Ok tt → Tested mad
 unfolding indexes_test
 tested-indexes made h =
     let s = bind-inv (index_tests (compilations made.rows)) _ tt h in
-    record { compilation_rows = s.is; type_rows = s.then }
+    record { compilation_rows = s.1; type_rows = s.2 }
 
 tested-state : (state : State) (made : Package) → state.begun ≡ Some made → finish_test state ≡ Ok tt → Tested made
 unfolding finish_test
 tested-state state made begun h =
     let s1 = bind-inv (targets_test (names_in state.begun) state.targets) _ tt h in
-    let s2 = bind-inv (ok_or state.begun NoOutputObjectCreated) _ tt s1.then in
-    let same : made ≡ s2.value = some-ok NoOutputObjectCreated made s2.value (sym (ap (λ b. ok_or b NoOutputObjectCreated) begun) ∙ s2.is) in
-    tested-indexes made (subst (λ m. indexes_test m ≡ Ok tt) (sym same) s2.then)
+    let s2 = bind-inv (ok_or state.begun NoOutputObjectCreated) _ tt s1.2 in
+    let same : made ≡ s2.0 = some-ok NoOutputObjectCreated made s2.0 (sym (ap (λ b. ok_or b NoOutputObjectCreated) begun) ∙ s2.1) in
+    tested-indexes made (subst (λ m. indexes_test m ≡ Ok tt) (sym same) s2.2)
 
 -- the contents of the finished file
 module _ (made : Package) (file : File) (f : IsFinished made file) where

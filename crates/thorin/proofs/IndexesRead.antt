@@ -16,7 +16,7 @@ use Rattle.thorin_parts.specs.IndexText.{IsIndexText, IsIndexOf, entry_ids, used
 use Rattle.thorin_parts.specs.ReadBack.{index_with}
 use Rattle.thorin_parts.specs.ReadRows.{HasEntries}
 use Rattle.thorin.specs.Builder.{IdentifiersFit, rows_of, is_chosen}
-use Rattle.thorin.proofs.InputJoined.{err-ok}
+use Rattle.thorin.proofs.Steps.{err-ok}
 
 -- the laws of written indexes
 abbrev pub IndexIsRead : Type 0

@@ -1,7 +1,6 @@
 -- An input that is taken joins its units to those of the package.
 use Rattle.std.proofs.Common.{◌≡◌, ◌∙◌, ℕ, Bool, true, false, cond, true≢false, List, [], ◌∷◌, ◌++◌, map, ap, sym, refl, subst, Result, Ok, Err, Option, Some, None}
 use Rattle.std.specs.List.{list_any}
-use Rattle.dwp_base.specs.Reading.{◌>>=◌}
 use Rattle.dwp_base.specs.declared.endian.Endianness.{Endianness}
 use Rattle.dwp_base.specs.declared.endian.Endianness.TheVariants.{Little, Big}
 use Rattle.dwp_base.specs.declared.class.Class.{Class}
@@ -17,36 +16,13 @@ use Rattle.thorin.specs.Join.{UnitMeaning, meant}
 use Rattle.thorin.specs.Meaning.{joining, object_units}
 use Rattle.thorin.specs.NewUnits.{New, NewUnit, same_name, new_units}
 use Rattle.thorin.specs.Parts.{parts_of}
-use Rattle.thorin.specs.Represents.{Represents}
+use Rattle.thorin.proofs.Represents.{Represents}
 use Rattle.thorin.specs.State.{Package, empty, held, with_object, with_all, abbreviations_test}
 use Rattle.thorin.specs.Used.{Object, object_of, used_from}
 use Rattle.thorin.proofs.Joining.{joined_units, joining_names, AreApart, apart-none, joined_distinct}
 use Rattle.thorin.proofs.ObjectAdded.{PartsMean, object-added}
+use Rattle.thorin.proofs.Steps.{err-ok, ok-eq, bind-inv}
 use Rattle.thorin.proofs.UnitsAdded.{AllCanBeAdded}
-
-pub err-ok : {X E : Type 0} (e : E) (x : X) → Err e ≡ Ok x → ⊥
-err-ok {X} {E} e x h = true≢false (ap is_it (sym h))
-  where
-    is_it : Result X E → Bool
-    is_it (Ok y) = true
-    is_it (Err y) = false
-
-pub ok-eq : {X E : Type 0} (x y : X) → ◌≡◌ {A = Result X E} (Ok x) (Ok y) → x ≡ y
-ok-eq {X} {E} x y h = ap or_x h
-  where
-    or_x : Result X E → X
-    or_x (Ok z) = z
-    or_x (Err e) = x
-
--- what a step gave, and what came of it
-pub record Steps {A B E : Type 0} (r : Result A E) (f : A → Result B E) (y : B) : Type 0 where
-  pub value : A
-  pub is : r ≡ Ok value
-  pub then : f value ≡ Ok y
-
-pub bind-inv : {A B E : Type 0} (r : Result A E) (f : A → Result B E) (y : B) → (r >>= f) ≡ Ok y → Steps r f y
-bind-inv (Ok x) f y h = record { value = x; is = refl; then = h }
-bind-inv (Err e) f y h = absurd (err-ok e y h)
 
 -- a package that represents units, none twice
 pub record HasUnits (made : Package) (ms : List (DwarfObject × UnitMeaning)) : Type 0 where
@@ -76,7 +52,7 @@ object-order : (file : Elf) (object : Object) → object_of file ≡ Ok object �
 unfolding object_of
 object-order file object h =
     let s = bind-inv (used_from [] file.sections) _ object h in
-    sym (ap (λ (o : Object). o.order) (ok-eq _ object s.then))
+    sym (ap (λ (o : Object). o.order) (ok-eq _ object s.2))
 
 pub made-order : (file : Elf) (object : Object) (begun : Option Package) → object_of file ≡ Ok object → order_test object.order begun ≡ Ok tt → object.order ≡ (package_or_new file begun).file.order
 made-order file object None h t = object-order file object h
@@ -132,14 +108,14 @@ pub object-joins : PartsLaw → UnitsLaw → (object : Object) (encoding : Encod
 unfolding with_object
 object-joins parts_law units_law object encoding before made ms has same h =
     let s1 = bind-inv (parts_of object encoding before.strings) _ made h in
-    let s2 = bind-inv (abbreviations_test object) _ made s1.then in
-    let s3 = bind-inv (new_units object (held before)) _ made s2.then in
-    let parts = s1.value in
-    let new = s3.value in
-    let is : with_all encoding before parts new ≡ made = ok-eq _ made s3.then in
-    let j = joined_units object (held before) new s3.is in
+    let s2 = bind-inv (abbreviations_test object) _ made s1.2 in
+    let s3 = bind-inv (new_units object (held before)) _ made s2.2 in
+    let parts = s1.0 in
+    let new = s3.0 in
+    let is : with_all encoding before parts new ≡ made = ok-eq _ made s3.2 in
+    let j = joined_units object (held before) new s3.1 in
     let all = j.0 in
-    let mean = parts_law object encoding before.strings parts.0 parts.1 has.units.table s1.is in
+    let mean = parts_law object encoding before.strings parts.0 parts.1 has.units.table s1.1 in
     let now = with_parts parts.0 before.file.contents in
     let shared = shared_row encoding before.file.contents now in
     let can : AllCanBeAdded before.file.order shared new.units =

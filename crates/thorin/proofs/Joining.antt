@@ -10,7 +10,6 @@ use Rattle.std.proofs.lemmas.List.Folds.{list_any-append, list_any_at}
 use Rattle.std.proofs.lemmas.List.Kept.{AllPairs-filter}
 use Rattle.std.proofs.lemmas.List.Quantifiers.{all_pairs_push}
 use Rattle.std.proofs.lemmas.Map.Made.{is_some-lookup}
-use Rattle.dwp_base.specs.Reading.{◌>>=◌}
 use Rattle.dwp_base.specs.declared.section.SectionKind.TheVariants.{Abbrev}
 use Rattle.dwp_reader.specs.Input.{section}
 use Rattle.dwp_reader.specs.declared.fault.ReadError.{ReadError}
@@ -27,13 +26,13 @@ use Rattle.std.proofs.lemmas.List.{map-append, length-map, get_or-map as get_or-
 use Rattle.std.proofs.Math.ListN.{get_or-map}
 use Rattle.thorin_faults.specs.Fault.{Fault, ParseUnitHeader, NotSplitUnit, EmptyUnit}
 use Rattle.thorin_faults.specs.Answers.{as_fault}
-use Rattle.thorin_strings.proofs.NamedEntries.{bind_ok}
 use Rattle.thorin.specs.Identity.{identity}
 use Rattle.thorin.specs.Builder.{is_compilation, is_chosen, rows_of}
 use Rattle.thorin.specs.Meaning.{joining, named_unit, named_each, named_at, named_sections, object_units}
 use Rattle.thorin.specs.NewUnits.{NewUnit, New, Held, same_name, or_held, held_bytes, kept_bytes, place_for, with_unit, with_read, with_each_read, unit_section, with_section_at, with_section, with_each_section, new_units}
 use Rattle.thorin.specs.State.{Package, with_name, with_new_unit, with_new_units}
 use Rattle.thorin.specs.Used.{Used, Object, first}
+use Rattle.thorin.proofs.Steps.{bind-ok, bind-inv}
 
 -- one name is the other
 
@@ -125,9 +124,6 @@ ok new = Ok new
 same-new : (held : Held) (before after : New) → ok before ≡ ok after → Joined held before after (Ok [])
 same-new held before after h = ([], refl, (let e : after ≡ before = cc in ap (λ n. n.units) e ∙ sym (append-nil before.units)))
 
-bind-is : {A B E : Type 0} (r : Result A E) (x : A) (f : A → Result B E) → r ≡ Ok x → (r >>= f) ≡ f x
-bind-is r x f h = ap (λ q. q >>= f) h
-
 passed-over : (e : Bool) (new other next : New) → other.units ≡ new.units → ok (cond e new other) ≡ ok next → next.units ≡ new.units
 passed-over true new other next s h = let e : next ≡ new = cc in ap (λ n. n.units) e
 passed-over false new other next s h = let e : next ≡ other = cc in ap (λ n. n.units) e ∙ s
@@ -151,12 +147,12 @@ read-joined : (object : Object) (held : Held) (from : Used) (before after : New)
     → (u : DwarfObject × NewUnit) × (named_unit object from read ≡ Ok u) × (after.units ≡ before.units ++ joining (held.names ++ map (λ e. e.0) before.units) (u ∷ []))
 unfolding with_read named_unit
 read-joined object held from before after read h =
-    let unit = bind_ok (as_fault ParseUnitHeader read) _ after h in
-    let found = bind_ok (identity (section object.order (first Abbrev object.sections)) unit.0) _ after unit.2 in
-    let name = bind_ok (ok_or found.0 NotSplitUnit) _ after found.2 in
+    let unit = bind-inv (as_fault ParseUnitHeader read) _ after h in
+    let found = bind-inv (identity (section object.order (first Abbrev object.sections)) unit.0) _ after unit.2 in
+    let name = bind-inv (ok_or found.0 NotSplitUnit) _ after found.2 in
     let u : NewUnit = record { place = place_for name.0 from.kind; bytes = unit.0.whole.bytes } in (
       (name.0, u),
-      bind-is (as_fault ParseUnitHeader read) unit.0 _ unit.1 ∙ bind-is (identity (section object.order (first Abbrev object.sections)) unit.0) found.0 _ found.1 ∙ bind-is (ok_or found.0 NotSplitUnit) name.0 _ name.1,
+      bind-ok (as_fault ParseUnitHeader read) unit.0 _ unit.1 ∙ bind-ok (identity (section object.order (first Abbrev object.sections)) unit.0) found.0 _ found.1 ∙ bind-ok (ok_or found.0 NotSplitUnit) name.0 _ name.1,
       with_unit-units (kept_bytes held before.units name.0) from name.0 unit.0.whole.bytes before after u refl name.2
           ∙ ap (λ b. before.units ++ cond b [] ((name.0, u) ∷ [])) (kept-some held before.units name.0),
     )
@@ -166,11 +162,11 @@ each-joined : (object : Object) (held : Held) (from : Used) (before after : New)
 unfolding with_each_read named_each
 each-joined object held from before after [] h = same-new held before after h
 each-joined object held from before after (read ∷ rest) h =
-    let here = bind_ok (with_read object held from before read) _ after h in
+    let here = bind-inv (with_read object held from before read) _ after h in
     let one = read-joined object held from before here.0 read here.1 in
     let others = each-joined object held from here.0 after rest here.2 in (
       one.0 ∷ others.0,
-      bind-is (named_unit object from read) one.0 _ one.1 ∙ bind-is (named_each object from rest) others.0 _ others.1,
+      bind-ok (named_unit object from read) one.0 _ one.1 ∙ bind-ok (named_each object from rest) others.0 _ others.1,
       joined-more held.names before.units here.0.units after.units (one.0 ∷ []) others.0 one.2 others.2,
     )
 
@@ -189,11 +185,11 @@ sections-joined : (object : Object) (held : Held) (before after : New) (sections
 unfolding with_each_section named_sections
 sections-joined object held before after [] h = same-new held before after h
 sections-joined object held before after (from ∷ rest) h =
-    let here = bind_ok (with_section object held before from) _ after h in
+    let here = bind-inv (with_section object held before from) _ after h in
     let one = section-joined object held from before here.0 here.1 in
     let others = sections-joined object held here.0 after rest here.2 in (
       one.0 ++ others.0,
-      bind-is (named_at object from (unit_section from.kind)) one.0 _ one.1 ∙ bind-is (named_sections object rest) others.0 _ others.1,
+      bind-ok (named_at object from (unit_section from.kind)) one.0 _ one.1 ∙ bind-ok (named_sections object rest) others.0 _ others.1,
       joined-more held.names before.units here.0.units after.units one.0 others.0 one.2 others.2,
     )
 

@@ -18,7 +18,7 @@ use Rattle.thorin_parts.specs.Entries.{contribution_to}
 use Rattle.thorin_parts.specs.declared.entry.IndexEntry.{IndexEntry}
 use Rattle.thorin.specs.Growing.{Contents, HasFront, with_bytes}
 use Rattle.thorin.specs.Join.{UnitMeaning}
-use Rattle.thorin.specs.Represents.{LieInside, Shares, Owns, IsRowOf, AreRowsOf}
+use Rattle.thorin.proofs.Represents.{LieInside, Shares, Owns, IsRowOf, AreRowsOf}
 
 -- each content has at its front what it was
 abbrev pub Grows : Contents → Contents → Type 0

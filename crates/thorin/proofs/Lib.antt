@@ -20,3 +20,5 @@ pub mod IndexesRead
 pub mod RowsFound
 pub mod PackageFound
 pub mod Headline
+pub mod Steps
+pub mod Represents

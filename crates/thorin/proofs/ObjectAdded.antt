@@ -15,14 +15,14 @@ use Rattle.thorin_strings.specs.Strings.{IsTable, data_of}
 use Rattle.thorin_parts.specs.Entries.{contribution_to}
 use Rattle.thorin.specs.Growing.{Contents, with_parts, grown, shared_row}
 use Rattle.thorin.specs.Join.{UnitMeaning, meant}
-use Rattle.thorin.specs.Meaning.{joined, joined_parts, object_string}
+use Rattle.thorin.specs.Meaning.{joined, object_string}
 use Rattle.thorin.specs.NewUnits.{New, NewUnit}
 use Rattle.thorin.specs.Parts.{is_copied}
-use Rattle.thorin.specs.Represents.{LieInside, Shares, Represents}
+use Rattle.thorin.proofs.Represents.{LieInside, Shares, Represents}
 use Rattle.thorin.specs.State.{Package, with_all, with_new_units}
 use Rattle.thorin.specs.Used.{Object}
 use Rattle.thorin.proofs.Keeping.{Grows, keep-rows}
-use Rattle.thorin.proofs.PartMeaning.{content-with_parts, grown-part, grown-inside}
+use Rattle.thorin.proofs.PartMeaning.{joined_parts, content-with_parts, grown-part, grown-inside}
 use Rattle.thorin.proofs.UnitsAdded.{AllCanBeAdded, no_unit, rows-added, strings-added, order-added, content-added, str-other, cu-other, tu-other}
 
 pub grows-with_parts : (parts c : Contents) → Grows c (with_parts parts c)

@@ -31,10 +31,10 @@ use Rattle.thorin.specs.Builder.{is_compilation, rows_of}
 use Rattle.thorin.specs.Growing.{Contents}
 use Rattle.thorin.specs.Join.{UnitMeaning, IsUnit, GivesUnit, GivesNone, look_limit, limit_of, same_sort}
 use Rattle.thorin.specs.NewUnits.{same_name}
-use Rattle.thorin.specs.Represents.{AreRowsOf}
+use Rattle.thorin.proofs.Represents.{Members, AreRowsOf}
 use Rattle.thorin.specs.State.{kind_at}
 use Rattle.thorin.proofs.IndexesRead.{HasRows}
-use Rattle.thorin.proofs.RowsFound.{Members, RowFound, find-row, id-at, no-row, rows-counted, ids-counted}
+use Rattle.thorin.proofs.RowsFound.{RowFound, find-row, id-at, no-row, rows-counted, ids-counted}
 
 -- the laws of look-ups in packages
 abbrev pub PresentLaw : Type 0

@@ -15,9 +15,15 @@ use Rattle.dwp_reader.specs.declared.encoding.Encoding.{Encoding}
 use Rattle.thorin_strings.specs.StringOffsets.{remapped}
 use Rattle.thorin_faults.specs.Fault.{Fault, MissingRequiredSection, RepeatedSection, SectionOutsideFormat}
 use Rattle.thorin.specs.Growing.{Contents, with_bytes, with_parts, between, grown}
-use Rattle.thorin.specs.Meaning.{joined_parts, joined}
+use Rattle.thorin.specs.Meaning.{joined}
 use Rattle.thorin.specs.Parts.{Parts, is_in_format, is_copied, has_offsets, with_offsets, with_part, with_each_part, parts_of}
 use Rattle.thorin.specs.Used.{Used, Object, first}
+use Rattle.thorin.proofs.Steps.{bind-inv}
+
+-- what parts add to the section of a kind, joined in their order
+abbrev pub joined_parts : SectionKind → Contents → List ℕ
+joined_parts kind [] = []
+joined_parts kind (part ∷ parts) = if same_kind part.0 kind then part.1 ++ joined_parts kind parts else joined_parts kind parts
 
 pub either : (b : Bool) → (b ≡ true) ⊎ (b ≡ false)
 either true = inl refl
@@ -167,10 +173,6 @@ differ a b apart = ⊎_elim (λ same. absurd (apart (same-kind a b same))) (λ o
 pub copied-differ : (a b : SectionKind) → is_copied a ≡ true → is_copied b ≡ false → same_kind b a ≡ false
 copied-differ a b copied not_copied = differ b a (λ e. true≢false (sym copied ∙ ap is_copied (sym e) ∙ not_copied))
 
-pub bound : {A B E : Type 0} (r : Result A E) (f : A → Result B E) (y : B) → (r >>= f) ≡ Ok y → (x : A) × (r ≡ Ok x) × (f x ≡ Ok y)
-bound (Ok x) f y e = (x, refl, e)
-bound (Err d) f y e = absurd cc
-
 pub joined-by : (same : Bool) (x a b : List ℕ) → cond same (x ++ (a ++ b)) (a ++ b) ≡ cond same (x ++ a) a ++ b
 joined-by true x a b = sym (append_assoc x a b)
 joined-by false x a b = refl
@@ -209,7 +211,7 @@ module _ (object : Object) (encoding : Encoding) where
   rewritten-by true there before bytes next one h = absurd cc
   rewritten-by false true before bytes next one h = absurd cc
   rewritten-by false false before bytes next one h =
-      let w = bound (remapped object.order encoding (first Str object.sections) bytes (length bytes) before.1) _ next h in
+      let w = bind-inv (remapped object.order encoding (first Str object.sections) bytes (length bytes) before.1) _ next h in
       let same : ◌≡◌ {A = Result Parts Fault} (Ok (before.0 ++ (StrOffsets, w.0.0) ∷ [], w.0.1)) (Ok next) = w.2 in
       record { written = w.0; once = one; rewrites = w.1; is = cc }
 
@@ -256,7 +258,7 @@ module _ (object : Object) (encoding : Encoding) where
       let same : before ≡ after = cc in
       ap (λ (n : Parts). joined_parts kind n.0) (sym same) ∙ sym (append-nil (joined_parts kind before.0))
   each-copied kind (s ∷ ss) before after copied h =
-      let next = bound (with_part object encoding before s) _ after h in
+      let next = bind-inv (with_part object encoding before s) _ after h in
       each-copied kind ss next.0 after copied next.2
       ∙ ap (λ v. v ++ joined kind ss) (step-copied kind before s next.0 copied (step before s next.0 next.1))
       ∙ append_assoc (joined_parts kind before.0) (cond (same_kind s.kind kind) s.bytes []) (joined kind ss)
@@ -278,7 +280,7 @@ module _ (object : Object) (encoding : Encoding) where
       let same : before ≡ after = cc in
       ap (λ (n : Parts). joined_parts kind n.0) (sym same)
   each-other kind (s ∷ ss) before after none apart h =
-      let next = bound (with_part object encoding before s) _ after h in
+      let next = bind-inv (with_part object encoding before s) _ after h in
       each-other kind ss next.0 after none apart next.2 ∙ step-other kind before s next.0 none apart (step before s next.0 next.1)
 
 -- sections that are copied, joined

@@ -22,10 +22,11 @@ use Rattle.thorin_strings.specs.StringOffsets.{remapped}
 use Rattle.thorin_strings.specs.StringOffsets as writer
 use Rattle.thorin_faults.specs.Fault.{Fault}
 use Rattle.thorin.specs.Growing.{Contents}
-use Rattle.thorin.specs.Meaning.{joined_parts, whole_entries, joined_offsets, object_string}
+use Rattle.thorin.specs.Meaning.{whole_entries, joined_offsets, object_string}
 use Rattle.thorin.specs.Parts.{Parts, has_offsets, with_part, with_each_part, parts_of}
 use Rattle.thorin.specs.Used.{Used, Object, first}
-pub use Rattle.thorin.proofs.PartGrowth.{either, kind-like, kind-unlike, content-here, content-later, content-empty, content-step, content-appended, no-bytes, same-both, content-with_bytes, with-front, content-with_parts, place, part-by, part-there, part-between, grown-part, IsGrowth, growth-by, grown-inside, outside-by, grown-not_outside, kind-back, same-kind, differ, copied-differ, bound, joined-by, joined-front, joined_parts-append, joined_parts-more, joined_parts-other, Rewritten, rewritten-by, is-rewritten, Step, step-by, step, step-copied, each-copied, step-other, each-other, parts-copied, parts-none}
+use Rattle.thorin.proofs.Steps.{bind-inv}
+pub use Rattle.thorin.proofs.PartGrowth.{joined_parts, either, kind-like, kind-unlike, content-here, content-later, content-empty, content-step, content-appended, no-bytes, same-both, content-with_bytes, with-front, content-with_parts, place, part-by, part-there, part-between, grown-part, IsGrowth, growth-by, grown-inside, outside-by, grown-not_outside, kind-back, same-kind, differ, copied-differ, joined-by, joined-front, joined_parts-append, joined_parts-more, joined_parts-other, Rewritten, rewritten-by, is-rewritten, Step, step-by, step, step-copied, each-copied, step-other, each-other, parts-copied, parts-none}
 
 -- ---- strings and string offsets
 -- a rewritten range names the same (a law of the string table)
@@ -85,7 +86,7 @@ module _ (names : NamesTheSameLaw) (object : Object) (encoding : Encoding) where
       let same : before ≡ after = cc in
       subst (λ (n : Parts). Follows before.1 n.1) same (follows-refl before.1 table)
   each-strings (s ∷ ss) before after table h =
-      let next = bound (with_part object encoding before s) _ after h in
+      let next = bind-inv (with_part object encoding before s) _ after h in
       let here = step-strings before s next.0 table (step object encoding before s next.0 next.1) in
       let later = each-strings ss next.0 after here.table next.2 in
       record { table = later.table; kept = front-front before.1 next.0.1 after.1 here.kept later.kept }
@@ -333,7 +334,7 @@ module _ (names : NamesTheSameLaw) (alike : ReadsAlikeLaw) (in_turn : ReadInTurn
       let same : before ≡ after = cc in
       subst (λ (n : Parts). ReadsBy n (old ++ [])) same (subst (ReadsBy before) (sym (append-nil old)) so_far)
   each-reads (s ∷ ss) before after old so_far h =
-      let next = bound (with_part object encoding before s) _ after h in
+      let next = bind-inv (with_part object encoding before s) _ after h in
       let here = old ++ cond (same_kind s.kind StrOffsets) (whole_entries encoding s.bytes) [] in
       let together : here ++ joined_offsets encoding ss ≡ old ++ joined_offsets encoding (s ∷ ss) =
       append_assoc old (cond (same_kind s.kind StrOffsets) (whole_entries encoding s.bytes) []) (joined_offsets encoding ss)

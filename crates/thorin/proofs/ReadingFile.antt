@@ -1,4 +1,5 @@
 -- A written file is read as the package of its contents.
+use Rattle.std.proofs.lemmas.Option.{same_Some}
 use Rattle.std.proofs.Common.{◌≡◌, ℕ, ◌+◌, ◌^◌, ◌<◌, ◌≤◌, Bool, true, false, cond, inl, inr, List, [], ◌∷◌, length, refl, sym, ap, ◌∙◌, arith}
 use Rattle.std.specs.Prelude.{Option, Some, None, Ok, codes, slice_get}
 use Rattle.std.proofs.lemmas.Bool.{eqb-true}
@@ -69,11 +70,8 @@ at_rank Str = refl
 at_rank CuIndex = refl
 at_rank TuIndex = refl
 
-of_some : {A : Type 0} (a b : A) → Some a ≡ Some b → a ≡ b
-of_some a b e = cc
-
 is_same : (a b : SectionKind) → same_kind a b ≡ true → a ≡ b
-is_same a b e = of_some a b (sym (at_rank a) ∙ ap (slice_get all_kinds) (eqb-true (rank_of a) (rank_of b) e) ∙ at_rank b)
+is_same a b e = same_Some _ _ (sym (at_rank a) ∙ ap (slice_get all_kinds) (eqb-true (rank_of a) (rank_of b) e) ∙ at_rank b)
 
 -- ---- at most 13 contents
 

@@ -1,8 +1,8 @@
 -- The row of a name, and the names without one.
-use Rattle.std.proofs.Common.{◌≡◌, ◌∙◌, ℕ, zero, suc, ◌<◌, Bool, true, false, cond, not, true≢false, List, [], ◌∷◌, length, map, filter, ap, sym, refl, subst, Option, Some, None, arith}
+use Rattle.std.proofs.Common.{◌≡◌, ◌∙◌, ℕ, zero, suc, ◌<◌, Bool, true, false, cond, not, true≢false, List, [], ◌∷◌, length, map, filter, ap, sym, refl, subst, Some, None, arith}
 use Rattle.std.specs.Prelude.{slice_index, slice_get}
 use Rattle.std.specs.Map.{lookup}
-use Rattle.std.proofs.lemmas.Option.{none-some}
+use Rattle.std.proofs.lemmas.Option.{none-some, same_Some}
 use Rattle.std.proofs.lemmas.Bool.{eq-eqb}
 use Rattle.dwp_base.specs.declared.endian.Endianness.{Endianness}
 use Rattle.dwp_table.specs.Objects.{identifier_of}
@@ -15,11 +15,8 @@ use Rattle.thorin.specs.Builder.{is_compilation, is_chosen, rows_of}
 use Rattle.thorin.specs.Growing.{Contents}
 use Rattle.thorin.specs.Join.{UnitMeaning, same_sort, identifiers, signatures}
 use Rattle.thorin.specs.NewUnits.{same_name}
-use Rattle.thorin.specs.Represents.{IsRowOf, AreRowsOf}
+use Rattle.thorin.proofs.Represents.{Members, IsRowOf, AreRowsOf}
 use Rattle.thorin.proofs.Joining.{same_name-true}
-
-abbrev pub Members : Type 0
-Members = List (DwarfObject × UnitMeaning)
 
 -- a row is among those of its sort
 sort-chosen : (name : DwarfObject) (row : IndexEntry) → is_chosen (is_compilation name) row ≡ same_sort name row.id
@@ -69,13 +66,6 @@ found-later order contents strings row rows name unit false chosen f = record {
   is = f.is;
 }
 
-some-eq : {X : Type 0} (a b : X) → Some a ≡ Some b → a ≡ b
-some-eq {X} a b h = ap or_a h
-  where
-    or_a : Option X → X
-    or_a None = a
-    or_a (Some x) = x
-
 pub find-row : (order : Endianness) (contents : Contents) (strings : List (List ℕ)) (rows : List IndexEntry) (ms : Members) (name : DwarfObject) (unit : UnitMeaning)
     → AreRowsOf order contents strings rows ms → lookup (same_name name) ms ≡ Some unit → RowFound order contents strings rows name unit
 find-row order contents strings [] [] name unit are h = absurd (none-some unit h)
@@ -87,7 +77,7 @@ find-row order contents strings (r ∷ rs) (m ∷ ms) name unit are h = by (same
         → (lookup (same_name name) ms ≡ Some unit → RowFound order contents strings rs name unit) → RowFound order contents strings (r ∷ rs) name unit
     by true same k rest =
         let name_is : name ≡ m.0 = same_name-true name m.0 same in
-        let unit_is : m.1 ≡ unit = some-eq m.1 unit k in
+        let unit_is : m.1 ≡ unit = same_Some _ _ k in
         let is : IsRowOf order contents strings r (name, unit) = subst (λ u. IsRowOf order contents strings r (name, u)) unit_is (subst (λ n. IsRowOf order contents strings r (n, m.1)) (sym name_is) are.0) in
         found-here order contents strings r rs name unit (sort-chosen name r ∙ ap (same_sort name) is.name ∙ sort-self name) is
     by false other k rest = found-later order contents strings r rs name unit (is_chosen (is_compilation name) r) refl (rest k)
@@ -95,7 +85,7 @@ find-row order contents strings (r ∷ rs) (m ∷ ms) name unit are h = by (same
 -- the identifier at the place of a row
 pub id-at : (rows : List IndexEntry) (place : ℕ) (row : IndexEntry) → slice_get rows place ≡ Some row → (place < length (entry_ids rows)) × (slice_index (entry_ids rows) place ≡ identifier_of row.id)
 id-at [] place row h = absurd (none-some row h)
-id-at (r ∷ rs) zero row h = (omega arith, ap (λ (x : IndexEntry). identifier_of x.id) (some-eq r row h))
+id-at (r ∷ rs) zero row h = (omega arith, ap (λ (x : IndexEntry). identifier_of x.id) (same_Some _ _ h))
 id-at (r ∷ rs) (suc place) row h = let rest = id-at rs place row h in (omega arith, rest.1)
 
 -- two names of one sort with one identifier are the same

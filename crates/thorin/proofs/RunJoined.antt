@@ -19,11 +19,9 @@ use Rattle.thorin.specs.Run.{Outcome, Takes, MayRead, TakesRead, TakesInput, Ran
 use Rattle.std.specs.Path.{path_bytes}
 use Rattle.thorin.specs.State.{Package, with_object}
 use Rattle.thorin.specs.Used.{Object, opened, has_info, object_of}
-use Rattle.thorin.proofs.Extending.{bind-ok}
-use Rattle.thorin.proofs.InputJoined.{ok-eq, bind-inv, StateHas, PartsLaw, UnitsLaw, new-has, made-order, object-joins}
-
-abbrev pub Members : Type 0
-Members = List (DwarfObject × UnitMeaning)
+use Rattle.thorin.proofs.InputJoined.{StateHas, PartsLaw, UnitsLaw, new-has, made-order, object-joins}
+use Rattle.thorin.proofs.Represents.{Members}
+use Rattle.thorin.proofs.Steps.{ok-eq, bind-ok, bind-inv}
 
 -- an input that was taken
 pub record InputJoins (bytes : List ℕ) (now : Option Package) (ms : Members) : Type 0 where
@@ -45,16 +43,16 @@ units-join : PartsLaw → UnitsLaw → IsTable [] → (bytes : List ℕ) (file :
 unfolding with_units with_plain
 units-join parts_law units_law table bytes file begun now ms has opens info h =
     let s1 = bind-inv (object_of file) _ now h in
-    let s2 = bind-inv (encoding_of s1.value) _ now s1.then in
-    let s3 = bind-inv (plain_test s1.value) _ now s2.then in
-    let s4 = bind-inv (order_test s1.value.order begun) _ now s3.then in
-    let s5 = bind-inv (with_object s1.value s2.value (package_or_new file begun)) _ now s4.then in
-    let order = made-order file s1.value begun s1.is s4.is in
-    let j = object-joins parts_law units_law s1.value s2.value (package_or_new file begun) s5.value ms (new-has file begun ms table has) order s5.is in
+    let s2 = bind-inv (encoding_of s1.0) _ now s1.2 in
+    let s3 = bind-inv (plain_test s1.0) _ now s2.2 in
+    let s4 = bind-inv (order_test s1.0.order begun) _ now s3.2 in
+    let s5 = bind-inv (with_object s1.0 s2.0 (package_or_new file begun)) _ now s4.2 in
+    let order = made-order file s1.0 begun s1.1 s4.1 in
+    let j = object-joins parts_law units_law s1.0 s2.0 (package_or_new file begun) s5.0 ms (new-has file begun ms table has) order s5.1 in
     record {
-      units = map {B = DwarfObject × UnitMeaning} (meant s1.value s2.value) j.all;
-      meaning = meaning-at bytes file true opens info ∙ bind-ok (object_of file) s1.value _ s1.is ∙ object-means s1.value s2.value j.all s2.is j.units;
-      has = subst (λ n. StateHas n (ms ++ joining (map (λ u. u.0) ms) (map {B = DwarfObject × UnitMeaning} (meant s1.value s2.value) j.all))) (ok-eq _ now s5.then) j.has;
+      units = map {B = DwarfObject × UnitMeaning} (meant s1.0 s2.0) j.all;
+      meaning = meaning-at bytes file true opens info ∙ bind-ok (object_of file) s1.0 _ s1.1 ∙ object-means s1.0 s2.0 j.all s2.1 j.units;
+      has = subst (λ n. StateHas n (ms ++ joining (map (λ u. u.0) ms) (map {B = DwarfObject × UnitMeaning} (meant s1.0 s2.0) j.all))) (ok-eq _ now s5.2) j.has;
     }
 
 none-join : IsTable [] → (bytes : List ℕ) (file : Elf) (begun now : Option Package) (ms : Members)
@@ -75,7 +73,7 @@ pub input-joins : PartsLaw → UnitsLaw → IsTable [] → (bytes : List ℕ) (b
 unfolding with_input
 input-joins parts_law units_law table bytes begun now ms has h =
     let s = bind-inv (opened bytes) _ now h in
-    by-info parts_law units_law table bytes s.value begun now ms (has_info s.value) has s.is refl s.then
+    by-info parts_law units_law table bytes s.0 begun now ms (has_info s.0) has s.1 refl s.2
 
 -- one input of a run
 abbrev pub Offer : Type 1
@@ -91,11 +89,11 @@ takes-ok : PartsLaw → UnitsLaw → IsTable [] → (offer : Offer) (input : Inp
 unfolding taken
 takes-ok parts_law units_law table offer input bytes old new x ms given h has =
     let s = bind-inv (with_input bytes old.begun) _ new h in
-    let j = input-joins parts_law units_law table bytes old.begun s.value ms has s.is in
+    let j = input-joins parts_law units_law table bytes old.begun s.0 ms has s.1 in
     record {
       now = ms ++ joining (map (λ u. u.0) ms) j.units;
       joins = record { bytes = bytes; has = given; units = j.units; meaning = j.meaning; join = refl };
-      has = subst (λ (n : State). StateHas n.begun (ms ++ joining (map (λ u. u.0) ms) j.units)) (ok-eq (record old { begun = s.value }) new s.then) j.has;
+      has = subst (λ (n : State). StateHas n.begun (ms ++ joining (map (λ u. u.0) ms) j.units)) (ok-eq (record old { begun = s.0 }) new s.2) j.has;
     }
 
 same-state : (offer : Offer) (input : Input) (outcome : Outcome) (old new : State) (ms : Members) → ((now : Members) → now ≡ ms → JoinsIfOk offer input outcome ms now) → new ≡ old

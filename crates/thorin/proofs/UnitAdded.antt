@@ -1,6 +1,7 @@
 -- A unit that is added stands in its row.
 use Rattle.std.proofs.Common.{◌≡◌, ◌∙◌, ℕ, ◌+◌, ◌-◌, ◌≤◌, ◌<◌, Bool, true, false, cond, true≢false, List, [], ◌∷◌, ◌++◌, length, take, drop, ap, sym, refl, arith, length-append, Some, None, Option, Ok, nat_eq, subst, ◌⊎◌, inl, inr}
-use Rattle.std.specs.Prelude.{slice_range, unwrap_or}
+use Rattle.std.specs.Prelude.{slice_range}
+use Rattle.std.proofs.lemmas.Option.{same_Some}
 use Rattle.std.proofs.Math.Dec.{eqb-suc-zero}
 use Rattle.std.proofs.Math.Seq.{drop-append_seam, take-length}
 use Rattle.dwp_base.specs.declared.section.SectionKind.{SectionKind}
@@ -8,7 +9,7 @@ use Rattle.dwp_base.specs.declared.section.SectionKind.TheVariants as kinds
 use Rattle.dwp_base.specs.declared.section.Contribution.{Contribution}
 use Rattle.dwp_base.specs.declared.endian.Endianness.{Endianness}
 use Rattle.dwp_base.specs.Sections.{same_kind}
-use Rattle.dwp_elf.specs.Contents.{appended, content_of}
+use Rattle.dwp_elf.specs.Contents.{content_of}
 use Rattle.dwp_reader.specs.declared.encoding.Encoding.{Encoding}
 use Rattle.dwp_dwarf.specs.declared.header.UnitSection.{UnitSection}
 use Rattle.dwp_dwarf.specs.declared.header.UnitSection.TheVariants as places
@@ -23,16 +24,12 @@ use Rattle.thorin_parts.specs.declared.entry.IndexEntry.{IndexEntry}
 use Rattle.thorin.specs.Growing.{Contents, with_bytes, place_of}
 use Rattle.thorin.specs.Join.{UnitMeaning}
 use Rattle.thorin.specs.Parts.{is_copied}
-use Rattle.thorin.specs.Represents.{LieInside, Shares, IsRowOf}
+use Rattle.thorin.proofs.Represents.{LieInside, Shares, IsRowOf}
 use Rattle.thorin.specs.State.{kind_at, row_at}
 use Rattle.thorin.proofs.Keeping.{grows-with_bytes, keep-lie, keep-shares, part-inside}
+use Rattle.thorin.proofs.PartGrowth.{content-with_bytes}
 
 -- the content of the kind that bytes are added to
-content-here : (k : SectionKind) (x : List ℕ) (c : SectionKind × List ℕ) (cs : Contents) (b : Bool) → same_kind c.0 k ≡ b → content_of k (appended k x cs) ≡ content_of k cs ++ x
-    → content_of k (cond b ((c.0, c.1 ++ x) ∷ cs) (c ∷ appended k x cs)) ≡ cond b c.1 (content_of k cs) ++ x
-content-here k x c cs true h later = ap (λ e. cond e (c.1 ++ x) (content_of k cs)) h
-content-here k x c cs false h later = ap (λ e. cond e c.1 (content_of k (appended k x cs))) h ∙ later
-
 same-self : (k : SectionKind) → same_kind k k ≡ true
 same-self kinds.Info = refl
 same-self kinds.Types = refl
@@ -48,19 +45,12 @@ same-self kinds.Str = refl
 same-self kinds.CuIndex = refl
 same-self kinds.TuIndex = refl
 
-content-appended : (k : SectionKind) (x : List ℕ) (c : Contents) → content_of k (appended k x c) ≡ content_of k c ++ x
-content-appended k x [] = ap (λ e. cond e x []) (same-self k)
-content-appended k x (c ∷ cs) = content-here k x c cs (same_kind c.0 k) refl (content-appended k x cs)
-
-content-cond : (k : SectionKind) (x : List ℕ) (c : Contents) (b : Bool) → b ≡ false → content_of k (cond b c (appended k x c)) ≡ content_of k c ++ x
-content-cond k x c b h = ap (λ e. content_of k (cond e c (appended k x c))) h ∙ content-appended k x c
-
 not_empty : (x : List ℕ) → 0 < length x → nat_eq (length x) 0 ≡ false
 not_empty [] h = absurd (omega arith)
 not_empty (y ∷ ys) h = eqb-suc-zero (length ys)
 
-pub content-put : (k : SectionKind) (x : List ℕ) (c : Contents) → 0 < length x → content_of k (with_bytes k x c) ≡ content_of k c ++ x
-content-put k x c h = content-cond k x c (nat_eq (length x) 0) (not_empty x h)
+pub content-put : (k : SectionKind) (x : List ℕ) (c : Contents) → content_of k (with_bytes k x c) ≡ content_of k c ++ x
+content-put k x c = content-with_bytes k k x c ∙ ap (λ e. cond e (content_of k c ++ x) (content_of k c)) (same-self k)
 
 -- where they lie
 abbrev pub range_for : SectionKind → List ℕ → Contents → Contribution
@@ -81,7 +71,7 @@ pub part-put : (k : SectionKind) (x : List ℕ) (c : Contents) → 0 < length x 
 part-put k x c h =
     let long : length (content_of k c) + length x ≤ length (content_of k c ++ x) = let e = length-append (content_of k c) x in omega arith in
     ap (λ p. part_of (content_of k (with_bytes k x c)) p) (place-put k x c h)
-    ∙ ap (λ l. part_of l (Some (range_for k x c))) (content-put k x c h)
+    ∙ ap (λ l. part_of l (Some (range_for k x c))) (content-put k x c)
     ∙ part-inside (content_of k c ++ x) (range_for k x c) long
     ∙ own-bytes (content_of k c) x
 
@@ -170,14 +160,11 @@ own-place shared c name x places.Types fits =
     let t = fits.types_only refl in
     sym (ap (λ n. index.place_of n (place_of kinds.Types x c)) t.1 ∙ ap (index.place_of (TypeUnit (record { 0 = t.0 }))) (place-put kinds.Types x c fits.some))
 
-some-eq : {X : Type 0} (a b : X) → Some a ≡ Some b → a ≡ b
-some-eq a b h = ap (λ o. unwrap_or o a) h
-
 own-inside : (k : SectionKind) (x : List ℕ) (c : Contents) (range : Contribution) → 0 < length x → place_of k x c ≡ Some range
     → (range.offset.0 + range.size ≤ length (content_of k (with_bytes k x c))) × (0 < range.size)
 own-inside k x c range some is =
-    let same : range_for k x c ≡ range = some-eq (range_for k x c) range (sym (place-put k x c some) ∙ is) in
-    let long : length (content_of k (with_bytes k x c)) ≡ length (content_of k c) + length x = ap length (content-put k x c some) ∙ length-append (content_of k c) x in
+    let same : range_for k x c ≡ range = same_Some _ _ (sym (place-put k x c some) ∙ is) in
+    let long : length (content_of k (with_bytes k x c)) ≡ length (content_of k c) + length x = ap length (content-put k x c) ∙ length-append (content_of k c) x in
     let offset : length (content_of k c) ≡ range.offset.0 = ap (λ r. r.offset.0) same in
     let size : length x ≡ range.size = ap (λ r. r.size) same in
     (omega arith, omega arith)

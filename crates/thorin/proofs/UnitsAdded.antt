@@ -16,7 +16,7 @@ use Rattle.thorin_parts.specs.declared.entry.IndexEntry.{IndexEntry}
 use Rattle.thorin.specs.Growing.{Contents, with_bytes}
 use Rattle.thorin.specs.Join.{UnitMeaning, meant}
 use Rattle.thorin.specs.NewUnits.{NewUnit}
-use Rattle.thorin.specs.Represents.{LieInside, Shares, AreRowsOf}
+use Rattle.thorin.proofs.Represents.{LieInside, Shares, AreRowsOf}
 use Rattle.thorin.specs.State.{Package, kind_at, with_new_unit, with_new_units}
 use Rattle.thorin.specs.Used.{Object}
 use Rattle.thorin.proofs.Keeping.{grows-with_bytes, keep-lie, keep-shares, keep-rows, rows-next}

@@ -14,4 +14,3 @@ pub mod Run
 pub mod Packed
 pub mod Meaning
 pub mod Join
-pub mod Represents

@@ -17,7 +17,6 @@ use Rattle.dwp_table.specs.declared.object.DwarfObject.{DwarfObject}
 use Rattle.dwp_index.specs.Strings.{header_size, entry_count, string_in}
 use Rattle.thorin_faults.specs.Fault.{Fault, ParseUnitHeader, NotSplitUnit}
 use Rattle.thorin_faults.specs.Answers.{as_fault}
-use Rattle.thorin.specs.Growing.{Contents}
 use Rattle.thorin.specs.Identity.{identity}
 use Rattle.thorin.specs.NewUnits.{NewUnit, same_name, place_for, unit_section}
 use Rattle.thorin.specs.Used.{Used, Object, first}
@@ -65,11 +64,6 @@ joining names (unit ∷ rest) =
 abbrev pub joined : SectionKind → List Used → List ℕ
 joined kind [] = []
 joined kind (s ∷ ss) = if same_kind s.kind kind then s.bytes ++ joined kind ss else joined kind ss
-
--- the same of parts
-abbrev pub joined_parts : SectionKind → Contents → List ℕ
-joined_parts kind [] = []
-joined_parts kind (part ∷ parts) = if same_kind part.0 kind then part.1 ++ joined_parts kind parts else joined_parts kind parts
 
 -- a section of string offsets without the bytes past its last whole entry
 abbrev pub whole_entries : Encoding → List ℕ → List ℕ

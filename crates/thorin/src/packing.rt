@@ -77,6 +77,7 @@ fn written<'o, 's: 'o, Sess: Session<RelocationEntry>>(
 {
     let file = builder.finish()?;
     let bytes = file.write()?;
+    // Its contract tells that no two contents are of one kind.
     let _sections = file.sections();
     Ok(bytes)
 }

@@ -256,7 +256,7 @@ fn rows_of(alloc: Global, rows: &[IndexEntry], compilations: bool) -> Result<Vec
     Ok(chosen)
 }
 
-// The identifiers of rows have 64 bits, as their type says.
+// The identifiers of rows have 64 bits, as their type says: what the law of written indexes asks of numbers.
 fn identifiers_fit(rows: &[IndexEntry])
     ensures { IdentifiersFit rows.now }
 {

@@ -1,4 +1,4 @@
--- A package that is made has what belongs to each of its units (used in proofs).
+-- A package that is made has what belongs to each of its units.
 use Rattle.std.specs.Prelude.{◌≡◌, ℕ, ◌+◌, ◌<◌, ◌≤◌, true, List, [], ◌∷◌, map, take, length, Some, Ok, IsOk}
 use Rattle.dwp_base.specs.declared.section.SectionKind.{SectionKind}
 use Rattle.dwp_base.specs.declared.section.SectionKind.TheVariants.{Types, StrOffsets, Str, CuIndex, TuIndex}
@@ -17,6 +17,10 @@ use Rattle.thorin.specs.Growing.{Contents}
 use Rattle.thorin.specs.Join.{UnitMeaning}
 use Rattle.thorin.specs.Parts.{is_copied}
 use Rattle.thorin.specs.State.{Package, kind_at}
+
+-- units by their names, with all that belongs to each
+abbrev pub Members : Type 0
+Members = List (DwarfObject × UnitMeaning)
 
 -- the ranges of a row have bytes and lie inside the contents
 pub record LieInside (contents : Contents) (row : IndexEntry) : Type 0 where
