@@ -145,6 +145,7 @@ impl WritableObject {
         ensures text { IfOk result (λ file. file.items ≡ file_text self.now) }
         ensures read_back { IfOk result (λ file. elf_of file.items ≡ Ok (written_elf self.now)) }
         ensures fits { OnOk result (Fits self.now) }
+        ensures distinct { OnOk result (KindsDiffer self.now.contents) }
         ensures refused { IfErr result (RefusesFile self.now) }
     {
         let places = self.places()?;

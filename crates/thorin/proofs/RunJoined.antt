@@ -11,7 +11,8 @@ use Rattle.thorin_faults.specs.Fault.{Fault}
 use Rattle.thorin_faults.specs.declared.fault.InputError.{InputError}
 use Rattle.thorin.specs.declared.packing.Input.{Input}
 use Rattle.thorin.specs.declared.packing.Input.TheVariants as inputs
-use Rattle.thorin.specs.Builder.{State, package_or_new, encoding_of, order_test, plain_test, with_plain, with_units, with_input, taken}
+use Rattle.thorin.specs.Encodings.{encoding_of, own_encoding}
+use Rattle.thorin.specs.Builder.{State, package_or_new, own_after, order_test, plain_test, with_plain, with_units, with_input, taken}
 use Rattle.thorin.specs.Join.{UnitMeaning, meant, object_meaning, input_meaning, HasBytes, JoinsIfOk, Joined}
 use Rattle.thorin.specs.Meaning.{joining, object_units}
 use Rattle.thorin.specs.NewUnits.{NewUnit}
@@ -89,11 +90,12 @@ takes-ok : PartsLaw → UnitsLaw → IsTable [] → (offer : Offer) (input : Inp
 unfolding taken
 takes-ok parts_law units_law table offer input bytes old new x ms given h has =
     let s = bind-inv (with_input bytes old.begun) _ new h in
+    let t = bind-inv (own_encoding bytes) _ new s.2 in
     let j = input-joins parts_law units_law table bytes old.begun s.0 ms has s.1 in
     record {
       now = ms ++ joining (map (λ u. u.0) ms) j.units;
       joins = record { bytes = bytes; has = given; units = j.units; meaning = j.meaning; join = refl };
-      has = subst (λ (n : State). StateHas n.begun (ms ++ joining (map (λ u. u.0) ms) j.units)) (ok-eq (record old { begun = s.0 }) new s.2) j.has;
+      has = subst (λ (n : State). StateHas n.begun (ms ++ joining (map (λ u. u.0) ms) j.units)) (ok-eq (record old { begun = s.0; own = own_after old s.0 t.0 }) new t.2) j.has;
     }
 
 same-state : (offer : Offer) (input : Input) (outcome : Outcome) (old new : State) (ms : Members) → ((now : Members) → now ≡ ms → JoinsIfOk offer input outcome ms now) → new ≡ old

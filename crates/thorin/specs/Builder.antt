@@ -1,18 +1,14 @@
 -- What each input does to a package that is made, and what is written of it (DWARF 5, 7.3.5; the GNU page DebugFissionDWP).
-use Rattle.std.specs.Prelude.{◌≡◌, ℕ, ◌<◌, ◌^◌, Bool, true, false, not, List, [], ◌∷◌, Option, Some, None, Result, Ok, Err, unwrap_or, filter, find, if◌then◌else◌}
+use Rattle.std.specs.Prelude.{◌≡◌, ℕ, ◌<◌, ◌^◌, Bool, true, false, not, List, [], ◌∷◌, Option, Some, None, Result, Ok, Err, unwrap_or, filter, find, length, nat_lt, if◌then◌else◌}
 use Rattle.std.specs.List.{list_any}
 use Rattle.std.specs.Option.{ok_or}
 use Rattle.dwp_base.specs.declared.endian.Endianness.{Endianness}
 use Rattle.dwp_base.specs.declared.endian.Endianness.TheVariants.{Little, Big}
-use Rattle.dwp_base.specs.declared.section.SectionKind.TheVariants.{Info, Str, CuIndex, TuIndex}
+use Rattle.dwp_base.specs.declared.section.SectionKind.TheVariants.{Str, CuIndex, TuIndex}
 use Rattle.dwp_base.specs.Reading.{◌>>=◌}
 use Rattle.dwp_elf.specs.FileText.{Object as File}
 use Rattle.dwp_elf_read.specs.Elf.{Elf}
-use Rattle.dwp_reader.specs.Input.{section}
 use Rattle.dwp_reader.specs.declared.encoding.Encoding.{Encoding}
-use Rattle.dwp_reader.specs.declared.fault.ReadError.{ReadError}
-use Rattle.dwp_dwarf.specs.Units.{Unit as DwarfUnit, units}
-use Rattle.dwp_dwarf.specs.declared.header.UnitSection.TheVariants as places
 use Rattle.dwp_table.specs.Objects.{identifier_of}
 use Rattle.dwp_table.specs.declared.object.DwarfObject.{DwarfObject}
 use Rattle.dwp_table.specs.declared.object.DwarfObject.TheVariants.{Compilation, TypeUnit}
@@ -20,20 +16,23 @@ use Rattle.thorin_strings.specs.Strings.{data_of}
 use Rattle.thorin_parts.specs.declared.entry.IndexEntry.{IndexEntry}
 use Rattle.thorin_parts.specs.EntryTests.{index_tests}
 use Rattle.thorin_parts.specs.IndexText.{IsIndexOf}
-use Rattle.thorin_faults.specs.Fault.{Fault, ParseUnitHeader, NoCompilationUnits, MixedInputEncodings, NotYet, MissingReferencedUnit, NoOutputObjectCreated}
+use Rattle.thorin_faults.specs.Fault.{Fault, MixedInputEncodings, NotYet, MissingReferencedUnit, NoOutputObjectCreated}
+use Rattle.thorin.specs.Encodings.{encoding_of, own_encoding, common}
 use Rattle.thorin.specs.Growing.{with_bytes}
 use Rattle.thorin.specs.NewUnits.{same_name}
 use Rattle.thorin.specs.State.{Package, empty, with_object}
-use Rattle.thorin.specs.Used.{Object, opened, has_info, object_of, first, is_package}
+use Rattle.thorin.specs.Used.{Object, opened, has_info, object_of, is_package}
 
--- a builder: the package, where an input has begun one, and the units that executables refer to
+-- a builder: the package, where an input has begun one, the units that executables refer to, and the one encoding of all
+-- units of the accepted inputs, those passed over too, where there is one and each input was a plain object that added a unit
 pub record State : Type 0 where
   pub begun : Option Package
   pub targets : List DwarfObject
+  pub own : Option Encoding
 
 -- nothing has begun
 abbrev pub start : State
-start = record { begun = None; targets = [] }
+start = record { begun = None; targets = []; own = None }
 
 -- the package that a file begins
 abbrev pub begun_by : Elf → Package
@@ -41,15 +40,6 @@ begun_by file = empty file.class file.machine file.order
 
 abbrev pub package_or_new : Elf → Option Package → Package
 package_or_new file begun = unwrap_or begun (begun_by file)
-
--- the encoding of an input is that of its first unit
-abbrev pub first_encoding : List (Result DwarfUnit ReadError) → Result Encoding Fault
-first_encoding [] = Err NoCompilationUnits
-first_encoding (Ok unit ∷ others) = Ok unit.encoding
-first_encoding (Err e ∷ others) = Err (ParseUnitHeader e)
-
-unfoldable pub encoding_of : Object → Result Encoding Fault
-encoding_of object = first_encoding (units places.Info (section object.order (first Info object.sections)))
 
 abbrev pub same_order : Endianness → Endianness → Bool
 same_order Little Little = true
@@ -89,16 +79,27 @@ with_input bytes begun = do
   file ← opened bytes
   if has_info file then with_units file begun else Ok (Some (package_or_new file begun))
 
--- the state once an object was taken
-unfoldable pub taken : List ℕ → State → Result State Fault
-taken bytes state = do
-  begun ← with_input bytes state.begun
-  Ok (record state { begun = begun })
-
 -- the names of a package's units, in order of acceptance
 abbrev pub names_in : Option Package → List DwarfObject
 names_in None = []
 names_in (Some made) = made.names
+
+-- the one encoding after an object, which has this one for its units
+abbrev pub with_own : Option Package → Option Encoding → Option Encoding → Option Encoding
+with_own None own encoding = encoding
+with_own (Some made) own encoding = common own encoding
+
+-- an object that added no unit leaves none
+abbrev pub own_after : State → Option Package → Option Encoding → Option Encoding
+own_after state begun encoding =
+    if nat_lt (length (names_in state.begun)) (length (names_in begun)) then with_own state.begun state.own encoding else None
+
+-- the state once an object was taken
+unfoldable pub taken : List ℕ → State → Result State Fault
+taken bytes state = do
+  begun ← with_input bytes state.begun
+  encoding ← own_encoding bytes
+  Ok (record state { begun = begun; own = own_after state begun encoding })
 
 -- whether a name is that of a compilation unit
 abbrev pub is_compilation : DwarfObject → Bool

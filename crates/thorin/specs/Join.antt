@@ -19,7 +19,8 @@ use Rattle.dwp_table.specs.declared.object.DwarfObject.TheVariants.{Compilation,
 use Rattle.thorin_faults.specs.Fault.{Fault}
 use Rattle.thorin.specs.declared.packing.Input.{Input}
 use Rattle.thorin.specs.declared.packing.Input.TheVariants as inputs
-use Rattle.thorin.specs.Builder.{encoding_of, is_compilation}
+use Rattle.thorin.specs.Builder.{is_compilation}
+use Rattle.thorin.specs.Encodings.{encoding_of}
 use Rattle.thorin.specs.Meaning.{object_units, object_string, joined, joining}
 use Rattle.thorin.specs.NewUnits.{NewUnit, same_name}
 use Rattle.thorin.specs.Parts.{is_copied}

@@ -7,6 +7,7 @@ pub mod NewUnits
 pub mod UnitView
 pub mod State
 pub mod StateView
+pub mod Encodings
 pub mod Builder
 pub mod Building
 pub mod BuilderView

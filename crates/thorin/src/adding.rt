@@ -1,10 +1,11 @@
 //! What an object's bytes make of a package.
 
-ghost use Rattle.std.specs.Prelude.{◌≡◌, List, [], OnErr};
+ghost use Rattle.std.specs.Prelude.{◌≡◌, List, [], Ok, OnErr, IfOk};
 ghost use Rattle.dwp_elf_read.specs.View.{elf};
 ghost use Rattle.dwp_table.specs.declared.object.DwarfObject.{DwarfObject};
 ghost use Rattle.thorin_faults.specs.Answers.{Gives};
 ghost use Rattle.thorin.specs.Builder as spec;
+ghost use Rattle.thorin.specs.Encodings.{file_encoding, own_encoding};
 ghost use Rattle.thorin.specs.StateView.{package_of, begun_of, NamesFit};
 ghost use Rattle.thorin.specs.View as view;
 
@@ -78,15 +79,16 @@ fn add_plain(
     }
 }
 
-// Adds an object with units.
-#[tactic(auto, unfolding(crate::specs::Builder::with_units, crate::specs::Builder::plain_test))]
+// Adds an object with units, and gives the one encoding of all of them, where there is one.
+#[tactic(auto, unfolding(crate::specs::Builder::with_units, crate::specs::Builder::plain_test, crate::specs::Encodings::file_encoding))]
 fn add_units(
     alloc: Global,
     in_progress: &mut Option<InProgressDwarfPackage>,
     names: &mut IndexSet<DwarfObject>,
     file: &ElfFile<'_>,
-) -> Result<(), Error>
+) -> Result<Option<Encoding>, Error>
     requires fit { NamesFit in_progress.old names.old.keys }
+    ensures own { IfOk result (λ own. file_encoding (elf file.now) ≡ Ok own) }
     ensures meaning { Gives (λ _. begun_of in_progress.new names.new.keys) result (spec.with_units (elf file.now) (begun_of in_progress.old names.old.keys)) }
     ensures err { OnErr result (begun_of in_progress.new names.new.keys ≡ begun_of in_progress.old names.old.keys) }
     ensures fit { NamesFit in_progress.new names.new.keys }
@@ -97,21 +99,24 @@ fn add_units(
         return Err(Error::NotYet);
     }
     test_order(in_progress, object.order)?;
-    add_plain(alloc, in_progress, names, file, &object, encoding)
+    add_plain(alloc, in_progress, names, file, &object, encoding)?;
+    Ok(object.one_encoding(encoding))
 }
 
 /// Adds an object: its units that aren't there, with all that belongs to them; without an info section
-/// it only begins the package. The first fault from left to right: of the file's kind, the ELF file, the
-/// used sections, the first unit, the byte order, the indexes, the kinds of sections and the string
-/// offsets, the abbreviations, the units. An `Err` leaves the package as it was.
-#[tactic(auto, unfolding(crate::specs::Builder::with_input))]
+/// it only begins the package. Gives the one encoding of all its units, where there is one. The first
+/// fault from left to right: of the file's kind, the ELF file, the used sections, the first unit, the
+/// byte order, the indexes, the kinds of sections and the string offsets, the abbreviations, the units.
+/// An `Err` leaves the package as it was.
+#[tactic(auto, unfolding(crate::specs::Builder::with_input, crate::specs::Encodings::own_encoding))]
 pub(crate) fn add_input(
     alloc: Global,
     in_progress: &mut Option<InProgressDwarfPackage>,
     names: &mut IndexSet<DwarfObject>,
     bytes: &[u8],
-) -> Result<(), Error>
+) -> Result<Option<Encoding>, Error>
     requires fit { NamesFit in_progress.old names.old.keys }
+    ensures own { IfOk result (λ own. own_encoding bytes.now ≡ Ok own) }
     ensures meaning { Gives (λ _. begun_of in_progress.new names.new.keys) result (spec.with_input bytes.now (begun_of in_progress.old names.old.keys)) }
     ensures err { OnErr result (begun_of in_progress.new names.new.keys ≡ begun_of in_progress.old names.old.keys) }
     ensures fit { NamesFit in_progress.new names.new.keys }
@@ -123,5 +128,5 @@ pub(crate) fn add_input(
     if in_progress.is_none() {
         *in_progress = Some(begun_by(alloc, &file));
     }
-    Ok(())
+    Ok(None)
 }

@@ -2,6 +2,7 @@
 #![tactic(auto)]
 
 mod adding;
+mod encodings;
 mod growing;
 mod identity;
 mod laws;

@@ -3,12 +3,10 @@
 ghost use Rattle.std.specs.Prelude.{◌≡◌, [], map, find, option_map};
 ghost use Rattle.dwp_elf_read.specs.View.{elf, section as meaning};
 ghost use Rattle.thorin_faults.specs.Answers.{Gives};
-ghost use Rattle.thorin.specs.Builder.{encoding_of};
 ghost use Rattle.thorin.specs.Used as spec;
 ghost use Rattle.thorin.specs.View.{used, object};
 
 use dwp_base::{Endianness, SectionKind};
-use dwp_dwarf::{Encoding, SliceReader, UnitHeaders, UnitSection};
 use dwp_elf_read::{ElfFile, FileKind, ReadError, Section};
 use std::alloc::Global;
 use thorin_faults::Error;
@@ -173,21 +171,6 @@ impl<'a> InputObject<'a> {
         match self.find(kind) {
             Some(section) => section.bytes,
             None => &[],
-        }
-    }
-
-    /// The encoding of the input: that of its first unit. `NoCompilationUnits` where there is none,
-    /// `ParseUnitHeader` where its header can't be read.
-    #[tactic(auto, unfolding(crate::specs::Builder::encoding_of))]
-    pub fn encoding(&self) -> Result<Encoding, Error>
-        ensures { Gives (λ encoding. encoding) result (encoding_of (object self.now)) }
-    {
-        let info = SliceReader::new(self.first(SectionKind::Info), self.order);
-        let mut units = UnitHeaders::new(info, UnitSection::Info);
-        match units.next() {
-            None => Err(Error::NoCompilationUnits),
-            Some(Err(e)) => Err(Error::ParseUnitHeader(e)),
-            Some(Ok(header)) => Ok(header.encoding()),
         }
     }
 

@@ -8,7 +8,9 @@ ghost use Rattle.thorin.specs.Builder.{IsFinishedState};
 ghost use Rattle.thorin.specs.Run.{TakesFile};
 
 use crate::adding::add_input;
+use crate::encodings::common;
 use crate::state::InProgressDwarfPackage;
+use dwp_dwarf::Encoding;
 use dwp_elf::WritableObject;
 use dwp_reader::RelocationEntry;
 use dwp_table::{Bucketable, DwarfObject};
@@ -27,6 +29,7 @@ pub struct DwarfPackage<'output, 'session: 'output, Sess: Session<RelocationEntr
     in_progress: Option<InProgressDwarfPackage>,
     contained: IndexSet<DwarfObject>,
     targets: IndexSet<DwarfObject>,
+    own: Option<Encoding>,
     output: PhantomData<&'output ()>,
 }
 
@@ -70,6 +73,7 @@ impl<'output, 'session: 'output, Sess: Session<RelocationEntry>> DwarfPackage<
             in_progress: None,
             contained: IndexSet::new(alloc),
             targets: IndexSet::new(alloc),
+            own: None,
             output: PhantomData,
         }
     }
@@ -103,12 +107,22 @@ impl<'output, 'session: 'output, Sess: Session<RelocationEntry>> DwarfPackage<
         ensures err { OnErr result (self.new.state ≡ self.old.state) }
         ensures session { self.new.session ≡ self.old.session }
     {
-        add_input(
+        let is_first = self.in_progress.is_none();
+        let units = self.contained.len();
+        let encoding = add_input(
             self.alloc,
             &mut self.in_progress,
             &mut self.contained,
             bytes,
-        )
+        )?;
+        self.own = if self.contained.len() <= units {
+            None
+        } else if is_first {
+            encoding
+        } else {
+            common(self.own, encoding)
+        };
+        Ok(())
     }
 
     /// The object to be written. Refuses with `MissingReferencedUnit` for the first unit that an
@@ -126,6 +140,7 @@ impl<'output, 'session: 'output, Sess: Session<RelocationEntry>> DwarfPackage<
             in_progress,
             contained,
             targets,
+            own: _,
             output: _,
         } = self;
         test_targets(&contained, &targets)?;

@@ -76,8 +76,5 @@ fn written<'o, 's: 'o, Sess: Session<RelocationEntry>>(
     ensures { Writes (λ bytes. bytes.items) builder.entry.state result }
 {
     let file = builder.finish()?;
-    let bytes = file.write()?;
-    // Its contract tells that no two contents are of one kind.
-    let _sections = file.sections();
-    Ok(bytes)
+    Ok(file.write()?)
 }

@@ -93,8 +93,8 @@ fn place_for(name: DwarfObject, kind: SectionKind) -> UnitSection
     }
 }
 
-// The kinds of section that units stand in.
-fn unit_section(kind: SectionKind) -> Option<UnitSection>
+/// The kinds of section that units stand in.
+pub(crate) fn unit_section(kind: SectionKind) -> Option<UnitSection>
     ensures { result ≡ spec.unit_section kind }
 {
     match kind {
