@@ -10,7 +10,7 @@ use Rattle.thorin_parts.specs.declared.entry.IndexEntry.{IndexEntry}
 use Rattle.thorin.specs.Growing.{Contents, IsGrown, with_parts, shared_row}
 use Rattle.thorin.specs.NewUnits.{New, same_name, new_units}
 use Rattle.thorin.specs.Parts.{parts_of}
-use Rattle.thorin.specs.State.{Package, Extends, with_name, with_object, with_all, with_new_units, abbreviations_test, held}
+use Rattle.thorin.specs.State.{InProgress, Extends, with_name, with_object, with_all, with_new_units, abbreviations_test, held}
 use Rattle.thorin.specs.Used.{Object}
 use Rattle.thorin.proofs.Growth.{is_grown-refl}
 use Rattle.thorin.proofs.Steps.{bind-ok}
@@ -32,7 +32,7 @@ front-cond a b n false h = front-append a b (n ∷ []) h
 pub front-with_name : (a b : List DwarfObject) (n : DwarfObject) → take (length a) b ≡ a → take (length a) (with_name b n) ≡ a
 front-with_name a b n h = front-cond a b n (list_any (same_name n) b) h
 
-pub extends-refl : (p : Package) → Extends p p
+pub extends-refl : (p : InProgress) → Extends p p
 extends-refl p = record {
   file = is_grown-refl p.file;
   strings = take-length p.strings;
@@ -42,7 +42,7 @@ extends-refl p = record {
 }
 
 -- a file that grew, and more strings and signatures
-pub extends-with : (before p : Package) (f : File) (strings : List (List ℕ)) (differing : List ℕ) → IsGrown before.file f
+pub extends-with : (before p : InProgress) (f : File) (strings : List (List ℕ)) (differing : List ℕ) → IsGrown before.file f
     → take (length before.strings) strings ≡ before.strings → take (length before.differing) differing ≡ before.differing
     → take (length before.names) p.names ≡ before.names → take (length before.rows) p.rows ≡ before.rows
     → Extends before (record p { file = f; strings = strings; differing = differing })
@@ -53,7 +53,7 @@ unfolding abbreviations_test
 abbreviations-there object h = rw h
 
 -- the steps of an object
-pub with_object-is : (object : Object) (encoding : Encoding) (p : Package) (parts : Contents × List (List ℕ)) (new : New)
+pub with_object-is : (object : Object) (encoding : Encoding) (p : InProgress) (parts : Contents × List (List ℕ)) (new : New)
     → parts_of object encoding p.strings ≡ Ok parts → object.has_abbreviations ≡ true → new_units object (held p) ≡ Ok new
     → with_object object encoding p ≡ Ok (with_all encoding p parts new)
 unfolding with_object
@@ -61,7 +61,7 @@ with_object-is object encoding p parts new hp ha hn =
     bind-ok (parts_of object encoding p.strings) parts _ hp ∙ bind-ok (abbreviations_test object) tt _ (abbreviations-there object ha) ∙ bind-ok (new_units object (held p)) new _ hn
 
 -- what is added, one after the other
-pub with_all-is : (encoding : Encoding) (p : Package) (parts : Contents × List (List ℕ)) (new : New) (f : File) (shared : IndexEntry) (q r : Package)
+pub with_all-is : (encoding : Encoding) (p : InProgress) (parts : Contents × List (List ℕ)) (new : New) (f : File) (shared : IndexEntry) (q r : InProgress)
     → f ≡ record p.file { contents = with_parts parts.0 p.file.contents }
     → shared ≡ shared_row encoding p.file.contents f.contents
     → q ≡ record p { file = f; strings = parts.1; differing = p.differing ++ new.differing }

@@ -22,7 +22,7 @@ use Rattle.thorin.specs.Growing.{Contents, with_bytes}
 use Rattle.thorin.specs.Join.{IsPackageOf, IsJoinOf, ContainsJoin}
 use Rattle.thorin.specs.Meaning.{joining}
 use Rattle.thorin.specs.Run.{Outcome, Ran, IsWritten}
-use Rattle.thorin.specs.State.{Package}
+use Rattle.thorin.specs.State.{InProgress}
 use Rattle.thorin.proofs.HeadersRead.{ReadAlone, ReadAnywhere, headers_read, headers-joining, can_be_added}
 use Rattle.thorin.proofs.IndexesRead.{HasRows, IndexIsRead, IndexHasEntries, SomeIndex, NoIndex, index-read, chosen-fit}
 use Rattle.thorin.proofs.InputJoined.{HasUnits, StateHas, PartsLaw, UnitsLaw}
@@ -60,17 +60,17 @@ units-mean alone anywhere object encoding before now names all h =
 some-ok : {X E : Type 0} (e : E) (x y : X) → ok_or (Some x) e ≡ Ok y → x ≡ y
 some-ok e x y h = ok-eq x y h
 
-pub record Tested (made : Package) : Type 0 where
+pub record Tested (made : InProgress) : Type 0 where
   pub compilation_rows : index_tests (rows_of true made.rows) ≡ Ok tt
   pub type_rows : index_tests (rows_of false made.rows) ≡ Ok tt
 
-tested-indexes : (made : Package) → indexes_test made ≡ Ok tt → Tested made
+tested-indexes : (made : InProgress) → indexes_test made ≡ Ok tt → Tested made
 unfolding indexes_test
 tested-indexes made h =
     let s = bind-inv (index_tests (compilations made.rows)) _ tt h in
     record { compilation_rows = s.1; type_rows = s.2 }
 
-tested-state : (state : State) (made : Package) → state.begun ≡ Some made → finish_test state ≡ Ok tt → Tested made
+tested-state : (state : State) (made : InProgress) → state.begun ≡ Some made → finish_test state ≡ Ok tt → Tested made
 unfolding finish_test
 tested-state state made begun h =
     let s1 = bind-inv (targets_test (names_in state.begun) state.targets) _ tt h in
@@ -79,7 +79,7 @@ tested-state state made begun h =
     tested-indexes made (subst (λ m. indexes_test m ≡ Ok tt) (sym same) s2.2)
 
 -- the contents of the finished file
-module _ (made : Package) (file : File) (f : IsFinished made file) where
+module _ (made : InProgress) (file : File) (f : IsFinished made file) where
   abbrev with_strings : Contents
   with_strings = with_bytes kinds.Str (data_of made.strings) made.file.contents
 
@@ -179,7 +179,7 @@ headline names alike in_turn alone anywhere is_read has_entries some_index none_
       is = written-is is_read has_entries some_index none_index contents other foreign empty present absent none once state bytes all.now all.has written;
     }
 
-names-of : (begun : Option Package) (ms : Members) → StateHas begun ms → names_in begun ≡ map (λ u. u.0) ms
+names-of : (begun : Option InProgress) (ms : Members) → StateHas begun ms → names_in begun ≡ map (λ u. u.0) ms
 names-of None ms has = sym (ap (map (λ u. u.0)) has)
 names-of (Some made) ms has = has.units.names
 

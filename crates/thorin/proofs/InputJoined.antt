@@ -17,7 +17,7 @@ use Rattle.thorin.specs.Meaning.{joining, object_units}
 use Rattle.thorin.specs.NewUnits.{New, NewUnit, same_name, new_units}
 use Rattle.thorin.specs.Parts.{parts_of}
 use Rattle.thorin.proofs.Represents.{Represents}
-use Rattle.thorin.specs.State.{Package, empty, held, with_object, with_all, abbreviations_test}
+use Rattle.thorin.specs.State.{InProgress, empty, held, with_object, with_all, abbreviations_test}
 use Rattle.thorin.specs.Used.{Object, object_of, used_from}
 use Rattle.thorin.proofs.Joining.{joined_units, joining_names, AreApart, apart-none, joined_distinct}
 use Rattle.thorin.proofs.ObjectAdded.{PartsMean, object-added}
@@ -25,12 +25,12 @@ use Rattle.thorin.proofs.Steps.{err-ok, ok-eq, bind-inv}
 use Rattle.thorin.proofs.UnitsAdded.{AllCanBeAdded}
 
 -- a package that represents units, none twice
-pub record HasUnits (made : Package) (ms : List (DwarfObject × UnitMeaning)) : Type 0 where
+pub record HasUnits (made : InProgress) (ms : List (DwarfObject × UnitMeaning)) : Type 0 where
   pub units : Represents made ms
   pub apart : AreApart made.names
 
 -- the same where it may not be begun
-abbrev pub StateHas : Option Package → List (DwarfObject × UnitMeaning) → Type 0
+abbrev pub StateHas : Option InProgress → List (DwarfObject × UnitMeaning) → Type 0
 StateHas None ms = ms ≡ []
 StateHas (Some made) ms = HasUnits made ms
 
@@ -44,7 +44,7 @@ order-cond : (b : Bool) → ◌≡◌ {A = Result (Unit {0}) Fault} (cond b (Ok 
 order-cond true h = refl
 order-cond false h = absurd (err-ok MixedInputEncodings tt h)
 
-tested-order : (order : Endianness) (begun : Option Package) → order_test order begun ≡ Ok tt → order_of begun order ≡ order
+tested-order : (order : Endianness) (begun : Option InProgress) → order_test order begun ≡ Ok tt → order_of begun order ≡ order
 unfolding order_test
 tested-order order begun h = order-eq (order_of begun order) order (order-cond (same_order (order_of begun order) order) h)
 
@@ -54,7 +54,7 @@ object-order file object h =
     let s = bind-inv (used_from [] file.sections) _ object h in
     sym (ap (λ (o : Object). o.order) (ok-eq _ object s.2))
 
-pub made-order : (file : Elf) (object : Object) (begun : Option Package) → object_of file ≡ Ok object → order_test object.order begun ≡ Ok tt → object.order ≡ (package_or_new file begun).file.order
+pub made-order : (file : Elf) (object : Object) (begun : Option InProgress) → object_of file ≡ Ok object → order_test object.order begun ≡ Ok tt → object.order ≡ (package_or_new file begun).file.order
 made-order file object None h t = object-order file object h
 made-order file object (Some made) h t = sym (tested-order object.order (Some made) t)
 
@@ -65,7 +65,7 @@ empty-has class machine order table = record {
   apart = apart-none;
 }
 
-pub new-has : (file : Elf) (begun : Option Package) (ms : List (DwarfObject × UnitMeaning)) → IsTable [] → StateHas begun ms → HasUnits (package_or_new file begun) ms
+pub new-has : (file : Elf) (begun : Option InProgress) (ms : List (DwarfObject × UnitMeaning)) → IsTable [] → StateHas begun ms → HasUnits (package_or_new file begun) ms
 new-has file None ms table h = rw h (empty-has file.class file.machine file.order table)
 new-has file (Some made) ms table h = h
 
@@ -92,18 +92,18 @@ abbrev pub UnitsLaw : Type 0
 UnitsLaw = (object : Object) (encoding : Encoding) (before now : Contents) (names : List DwarfObject) (all : List (DwarfObject × NewUnit)) → object_units object ≡ Ok all
     → AllCanBeAdded object.order (shared_row encoding before now) (joining names all)
 
-added-names : (encoding : Encoding) (p : Package) (parts : Contents × List (List ℕ)) (new : New) (all : List (DwarfObject × NewUnit)) → new.units ≡ joining p.names all
+added-names : (encoding : Encoding) (p : InProgress) (parts : Contents × List (List ℕ)) (new : New) (all : List (DwarfObject × NewUnit)) → new.units ≡ joining p.names all
     → (with_all encoding p parts new).names ≡ p.names ++ map (λ u. u.0) new.units
 unfolding with_all
 added-names encoding p parts new all h = rw h (joining_names _ _ all)
 
 -- a plain object
-pub record ObjectJoins (object : Object) (encoding : Encoding) (made : Package) (ms : List (DwarfObject × UnitMeaning)) : Type 0 where
+pub record ObjectJoins (object : Object) (encoding : Encoding) (made : InProgress) (ms : List (DwarfObject × UnitMeaning)) : Type 0 where
   pub all : List (DwarfObject × NewUnit)
   pub units : object_units object ≡ Ok all
   pub has : HasUnits made (ms ++ joining (map (λ u. u.0) ms) (map {B = DwarfObject × UnitMeaning} (meant object encoding) all))
 
-pub object-joins : PartsLaw → UnitsLaw → (object : Object) (encoding : Encoding) (before made : Package) (ms : List (DwarfObject × UnitMeaning))
+pub object-joins : PartsLaw → UnitsLaw → (object : Object) (encoding : Encoding) (before made : InProgress) (ms : List (DwarfObject × UnitMeaning))
     → HasUnits before ms → object.order ≡ before.file.order → with_object object encoding before ≡ Ok made → ObjectJoins object encoding made ms
 unfolding with_object
 object-joins parts_law units_law object encoding before made ms has same h =
@@ -131,6 +131,6 @@ object-joins parts_law units_law object encoding before made ms has same h =
       units = j.1;
       has = record {
         units = subst (λ l. Represents made l) members (subst (λ m. Represents m (ms ++ map {B = DwarfObject × UnitMeaning} (meant object encoding) new.units)) is rep);
-        apart = subst AreApart (sym (ap (λ (m : Package). m.names) (sym is) ∙ names ∙ ap (λ us. before.names ++ map (λ u. u.0) us) j.2)) (joined_distinct before.names all has.apart);
+        apart = subst AreApart (sym (ap (λ (m : InProgress). m.names) (sym is) ∙ names ∙ ap (λ us. before.names ++ map (λ u. u.0) us) j.2)) (joined_distinct before.names all has.apart);
       };
     }

@@ -30,7 +30,7 @@ use Rattle.thorin.specs.Identity.{identity}
 use Rattle.thorin.specs.Builder.{is_compilation, is_chosen, rows_of}
 use Rattle.thorin.specs.Meaning.{joining, named_unit, named_each, named_at, named_sections, object_units}
 use Rattle.thorin.specs.NewUnits.{NewUnit, New, Held, same_name, or_held, held_bytes, kept_bytes, place_for, with_unit, with_read, with_each_read, unit_section, with_section_at, with_section, with_each_section, new_units}
-use Rattle.thorin.specs.State.{Package, with_name, with_new_unit, with_new_units}
+use Rattle.thorin.specs.State.{InProgress, with_name, with_new_unit, with_new_units}
 use Rattle.thorin.specs.Used.{Used, Object, first}
 use Rattle.thorin.proofs.Steps.{bind-ok, bind-inv}
 
@@ -202,13 +202,13 @@ joined_units object held new h =
 
 -- each of the joined units isn't there when it is added
 
-with_new_unit-names : (shared : IndexEntry) (p : Package) (u : DwarfObject × NewUnit) (names : List DwarfObject)
+with_new_unit-names : (shared : IndexEntry) (p : InProgress) (u : DwarfObject × NewUnit) (names : List DwarfObject)
     → p.names ≡ names → list_any (same_name u.0) names ≡ false → (with_new_unit shared p u).names ≡ names ++ u.0 ∷ []
 unfolding with_new_unit
 with_new_unit-names shared p u names h e =
     ap (λ n. with_name n u.0) h ∙ ap (λ b. cond b names (names ++ u.0 ∷ [])) e
 
-names-joined : (shared : IndexEntry) (p : Package) (names : List DwarfObject) (all : List (DwarfObject × NewUnit))
+names-joined : (shared : IndexEntry) (p : InProgress) (names : List DwarfObject) (all : List (DwarfObject × NewUnit))
     → p.names ≡ names → (with_new_units shared p (joining names all)).names ≡ names ++ map (λ u. u.0) (joining names all)
 unfolding with_new_units
 names-joined shared p names [] h = h ∙ sym (append-nil names)
@@ -226,7 +226,7 @@ names-joined shared p names (u ∷ rest) h =
     by false e there new = new (with_new_unit-names shared p u names h e) ∙ append_assoc names (u.0 ∷ []) (map (λ d. d.0) (joining (names ++ u.0 ∷ []) rest))
 
 -- the names of a package with joined units
-pub joining_names : (shared : IndexEntry) (p : Package) (all : List (DwarfObject × NewUnit))
+pub joining_names : (shared : IndexEntry) (p : InProgress) (all : List (DwarfObject × NewUnit))
     → (with_new_units shared p (joining p.names all)).names ≡ p.names ++ map (λ u. u.0) (joining p.names all)
 joining_names shared p all = names-joined shared p p.names all refl
 

@@ -15,11 +15,11 @@ use Rattle.thorin_strings.specs.Strings.{IsTable, data_of}
 use Rattle.thorin_parts.specs.Entries.{contribution_to}
 use Rattle.thorin.specs.Growing.{Contents, with_parts, grown, shared_row}
 use Rattle.thorin.specs.Join.{UnitMeaning, meant}
-use Rattle.thorin.specs.Meaning.{joined, object_string}
+use Rattle.thorin.specs.Meaning.{joined_content, object_string}
 use Rattle.thorin.specs.NewUnits.{New, NewUnit}
 use Rattle.thorin.specs.Parts.{is_copied}
 use Rattle.thorin.proofs.Represents.{LieInside, Shares, Represents}
-use Rattle.thorin.specs.State.{Package, with_all, with_new_units}
+use Rattle.thorin.specs.State.{InProgress, with_all, with_new_units}
 use Rattle.thorin.specs.Used.{Object}
 use Rattle.thorin.proofs.Keeping.{Grows, keep-rows}
 use Rattle.thorin.proofs.PartMeaning.{joined_parts, content-with_parts, grown-part, grown-inside}
@@ -73,7 +73,7 @@ shared-lie encoding b n = record {
 
 -- what the parts of an object are
 pub record PartsMean (object : Object) (encoding : Encoding) (strings : List (List ℕ)) (parts : Contents) (after : List (List ℕ)) : Type 0 where
-  pub copied : (kind : SectionKind) → is_copied kind ≡ true → joined_parts kind parts ≡ joined kind object.sections
+  pub copied : (kind : SectionKind) → is_copied kind ≡ true → joined_parts kind parts ≡ joined_content kind object.sections
   pub no_strings : joined_parts kinds.Str parts ≡ []
   pub no_compilations : joined_parts kinds.CuIndex parts ≡ []
   pub no_types : joined_parts kinds.TuIndex parts ≡ []
@@ -83,7 +83,7 @@ pub record PartsMean (object : Object) (encoding : Encoding) (strings : List (Li
       → string_in object.order encoding (data_of final) (joined_parts kinds.StrOffsets parts) i ≡ object_string object encoding i
   pub readable : (i : ℕ) → IsOk (object_string object encoding i)
 
-pub shared-shares : (object : Object) (encoding : Encoding) (p : Package) (parts : Contents) (after : List (List ℕ)) (name : DwarfObject)
+pub shared-shares : (object : Object) (encoding : Encoding) (p : InProgress) (parts : Contents) (after : List (List ℕ)) (name : DwarfObject)
     → PartsMean object encoding p.strings parts after → object.order ≡ p.file.order
     → Shares p.file.order (with_parts parts p.file.contents) after (shared_row encoding p.file.contents (with_parts parts p.file.contents)) (meant object encoding (no_unit name)).1
 shared-shares object encoding p parts after name mean same =
@@ -103,14 +103,14 @@ none-added : (kind : SectionKind) (parts c : Contents) → joined_parts kind par
 none-added kind parts c h k = content-with_parts kind parts c ∙ ap (λ l. content_of kind c ++ l) h ∙ append-nil (content_of kind c) ∙ k
 
 -- the package with the parts, before its units
-abbrev pub with_all_parts : Package → Contents → List (List ℕ) → List ℕ → Package
+abbrev pub with_all_parts : InProgress → Contents → List (List ℕ) → List ℕ → InProgress
 with_all_parts p parts after differing = record p {
   file = record p.file { contents = with_parts parts p.file.contents };
   strings = after;
   differing = differing;
 }
 
-pub object-added : (object : Object) (encoding : Encoding) (p : Package) (parts : Contents) (after : List (List ℕ)) (new : New) (name : DwarfObject) (ms : List (DwarfObject × UnitMeaning))
+pub object-added : (object : Object) (encoding : Encoding) (p : InProgress) (parts : Contents) (after : List (List ℕ)) (new : New) (name : DwarfObject) (ms : List (DwarfObject × UnitMeaning))
     → Represents p ms → object.order ≡ p.file.order → PartsMean object encoding p.strings parts after
     → AllCanBeAdded p.file.order (shared_row encoding p.file.contents (with_parts parts p.file.contents)) new.units
     → (with_all encoding p (parts, after) new).names ≡ p.names ++ map (λ u. u.0) new.units

@@ -15,7 +15,7 @@ use Rattle.dwp_reader.specs.declared.encoding.Encoding.{Encoding}
 use Rattle.thorin_strings.specs.StringOffsets.{remapped}
 use Rattle.thorin_faults.specs.Fault.{Fault, MissingRequiredSection, RepeatedSection, SectionOutsideFormat}
 use Rattle.thorin.specs.Growing.{Contents, with_bytes, with_parts, between, grown}
-use Rattle.thorin.specs.Meaning.{joined}
+use Rattle.thorin.specs.Meaning.{joined_content}
 use Rattle.thorin.specs.Parts.{Parts, is_in_format, is_copied, has_offsets, with_offsets, with_part, with_each_part, parts_of}
 use Rattle.thorin.specs.Used.{Used, Object, first}
 use Rattle.thorin.proofs.Steps.{bind-inv}
@@ -252,7 +252,7 @@ module _ (object : Object) (encoding : Encoding) where
       ap (λ (n : Parts). joined_parts kind n.0) is ∙ rw other (sym (append-nil (joined_parts kind before.0)))
 
   pub each-copied : (kind : SectionKind) (sections : List Used) (before after : Parts) → is_copied kind ≡ true → with_each_part object encoding before sections ≡ Ok after
-      → joined_parts kind after.0 ≡ joined_parts kind before.0 ++ joined kind sections
+      → joined_parts kind after.0 ≡ joined_parts kind before.0 ++ joined_content kind sections
   unfolding with_each_part
   each-copied kind [] before after copied h =
       let same : before ≡ after = cc in
@@ -260,9 +260,9 @@ module _ (object : Object) (encoding : Encoding) where
   each-copied kind (s ∷ ss) before after copied h =
       let next = bind-inv (with_part object encoding before s) _ after h in
       each-copied kind ss next.0 after copied next.2
-      ∙ ap (λ v. v ++ joined kind ss) (step-copied kind before s next.0 copied (step before s next.0 next.1))
-      ∙ append_assoc (joined_parts kind before.0) (cond (same_kind s.kind kind) s.bytes []) (joined kind ss)
-      ∙ ap (λ v. joined_parts kind before.0 ++ v) (joined-front (same_kind s.kind kind) s.bytes (joined kind ss))
+      ∙ ap (λ v. v ++ joined_content kind ss) (step-copied kind before s next.0 copied (step before s next.0 next.1))
+      ∙ append_assoc (joined_parts kind before.0) (cond (same_kind s.kind kind) s.bytes []) (joined_content kind ss)
+      ∙ ap (λ v. joined_parts kind before.0 ++ v) (joined-front (same_kind s.kind kind) s.bytes (joined_content kind ss))
 
   -- ---- sections of which no part is made
   pub step-other : (kind : SectionKind) (before : Parts) (s : Used) (next : Parts) → is_copied kind ≡ false → same_kind StrOffsets kind ≡ false → Step before s next
@@ -285,7 +285,7 @@ module _ (object : Object) (encoding : Encoding) where
 
 -- sections that are copied, joined
 pub parts-copied : (object : Object) (encoding : Encoding) (strings : List (List ℕ)) (parts : Contents) (after : List (List ℕ)) → parts_of object encoding strings ≡ Ok (parts, after)
-    → (kind : SectionKind) → is_copied kind ≡ true → joined_parts kind parts ≡ joined kind object.sections
+    → (kind : SectionKind) → is_copied kind ≡ true → joined_parts kind parts ≡ joined_content kind object.sections
 parts-copied object encoding strings parts after h kind copied = each-copied object encoding kind object.sections ([], strings) (parts, after) copied h
 
 -- of units, strings and indexes there is no part

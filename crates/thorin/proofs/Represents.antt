@@ -16,7 +16,7 @@ use Rattle.thorin_parts.specs.declared.entry.IndexEntry.{IndexEntry}
 use Rattle.thorin.specs.Growing.{Contents}
 use Rattle.thorin.specs.Join.{UnitMeaning}
 use Rattle.thorin.specs.Parts.{is_copied}
-use Rattle.thorin.specs.State.{Package, kind_at}
+use Rattle.thorin.specs.State.{InProgress, kind_at}
 
 -- units by their names, with all that belongs to each
 abbrev pub Members : Type 0
@@ -57,7 +57,7 @@ AreRowsOf order contents strings (r ∷ rs) [] = ⊥
 AreRowsOf order contents strings (r ∷ rs) (m ∷ ms) = IsRowOf order contents strings r m × AreRowsOf order contents strings rs ms
 
 -- a package has these units
-pub record Represents (made : Package) (members : List (DwarfObject × UnitMeaning)) : Type 0 where
+pub record Represents (made : InProgress) (members : List (DwarfObject × UnitMeaning)) : Type 0 where
   pub names : made.names ≡ map (λ u. u.0) members
   pub table : IsTable made.strings
   pub no_strings : content_of Str made.file.contents ≡ []

@@ -18,14 +18,14 @@ use Rattle.thorin.specs.Meaning.{joining, object_units}
 use Rattle.thorin.specs.NewUnits.{NewUnit}
 use Rattle.thorin.specs.Run.{Outcome, Takes, MayRead, TakesRead, TakesInput, Ran}
 use Rattle.std.specs.Path.{path_bytes}
-use Rattle.thorin.specs.State.{Package, with_object}
+use Rattle.thorin.specs.State.{InProgress, with_object}
 use Rattle.thorin.specs.Used.{Object, opened, has_info, object_of}
 use Rattle.thorin.proofs.InputJoined.{StateHas, PartsLaw, UnitsLaw, new-has, made-order, object-joins}
 use Rattle.thorin.proofs.Represents.{Members}
 use Rattle.thorin.proofs.Steps.{ok-eq, bind-ok, bind-inv}
 
 -- an input that was taken
-pub record InputJoins (bytes : List ℕ) (now : Option Package) (ms : Members) : Type 0 where
+pub record InputJoins (bytes : List ℕ) (now : Option InProgress) (ms : Members) : Type 0 where
   pub units : Members
   pub meaning : input_meaning bytes ≡ Ok units
   pub has : StateHas now (ms ++ joining (map (λ u. u.0) ms) units)
@@ -39,7 +39,7 @@ object-means : (object : Object) (encoding : Encoding) (all : List (DwarfObject 
 unfolding object_meaning
 object-means object encoding all h k = bind-ok (encoding_of object) encoding _ h ∙ bind-ok (object_units object) all _ k
 
-units-join : PartsLaw → UnitsLaw → IsTable [] → (bytes : List ℕ) (file : Elf) (begun now : Option Package) (ms : Members)
+units-join : PartsLaw → UnitsLaw → IsTable [] → (bytes : List ℕ) (file : Elf) (begun now : Option InProgress) (ms : Members)
     → StateHas begun ms → opened bytes ≡ Ok file → has_info file ≡ true → with_units file begun ≡ Ok now → InputJoins bytes now ms
 unfolding with_units with_plain
 units-join parts_law units_law table bytes file begun now ms has opens info h =
@@ -56,20 +56,20 @@ units-join parts_law units_law table bytes file begun now ms has opens info h =
       has = subst (λ n. StateHas n (ms ++ joining (map (λ u. u.0) ms) (map {B = DwarfObject × UnitMeaning} (meant s1.0 s2.0) j.all))) (ok-eq _ now s5.2) j.has;
     }
 
-none-join : IsTable [] → (bytes : List ℕ) (file : Elf) (begun now : Option Package) (ms : Members)
-    → StateHas begun ms → opened bytes ≡ Ok file → has_info file ≡ false → ◌≡◌ {A = Result (Option Package) Fault} (Ok (Some (package_or_new file begun))) (Ok now) → InputJoins bytes now ms
+none-join : IsTable [] → (bytes : List ℕ) (file : Elf) (begun now : Option InProgress) (ms : Members)
+    → StateHas begun ms → opened bytes ≡ Ok file → has_info file ≡ false → ◌≡◌ {A = Result (Option InProgress) Fault} (Ok (Some (package_or_new file begun))) (Ok now) → InputJoins bytes now ms
 none-join table bytes file begun now ms has opens info h = record {
   units = [];
   meaning = meaning-at bytes file false opens info;
   has = subst (λ n. StateHas n (ms ++ [])) (ok-eq _ now h) (subst (StateHas (Some (package_or_new file begun))) (sym (append-nil ms)) (new-has file begun ms table has));
 }
 
-by-info : PartsLaw → UnitsLaw → IsTable [] → (bytes : List ℕ) (file : Elf) (begun now : Option Package) (ms : Members) (b : Bool)
+by-info : PartsLaw → UnitsLaw → IsTable [] → (bytes : List ℕ) (file : Elf) (begun now : Option InProgress) (ms : Members) (b : Bool)
     → StateHas begun ms → opened bytes ≡ Ok file → has_info file ≡ b → cond b (with_units file begun) (Ok (Some (package_or_new file begun))) ≡ Ok now → InputJoins bytes now ms
 by-info parts_law units_law table bytes file begun now ms true has opens info h = units-join parts_law units_law table bytes file begun now ms has opens info h
 by-info parts_law units_law table bytes file begun now ms false has opens info h = none-join table bytes file begun now ms has opens info h
 
-pub input-joins : PartsLaw → UnitsLaw → IsTable [] → (bytes : List ℕ) (begun now : Option Package) (ms : Members)
+pub input-joins : PartsLaw → UnitsLaw → IsTable [] → (bytes : List ℕ) (begun now : Option InProgress) (ms : Members)
     → StateHas begun ms → with_input bytes begun ≡ Ok now → InputJoins bytes now ms
 unfolding with_input
 input-joins parts_law units_law table bytes begun now ms has h =

@@ -21,7 +21,7 @@ use Rattle.dwp_table.specs.declared.object.DwarfObject.TheVariants.{Compilation,
 use Rattle.thorin_strings.specs.Strings.{data_of}
 use Rattle.thorin_parts.specs.Entries.{contribution_to}
 use Rattle.thorin_parts.specs.declared.entry.IndexEntry.{IndexEntry}
-use Rattle.thorin.specs.Growing.{Contents, with_bytes, place_of}
+use Rattle.thorin.specs.Growing.{Contents, with_bytes, range_put}
 use Rattle.thorin.specs.Join.{UnitMeaning}
 use Rattle.thorin.specs.Parts.{is_copied}
 use Rattle.thorin.proofs.Represents.{LieInside, Shares, IsRowOf}
@@ -59,7 +59,7 @@ range_for k x c = record { offset = record { 0 = length (content_of k c) }; size
 place-cond : (k : SectionKind) (x : List ℕ) (c : Contents) (b : Bool) → b ≡ false → cond b None (Some (range_for k x c)) ≡ Some (range_for k x c)
 place-cond k x c b h = rw h
 
-pub place-put : (k : SectionKind) (x : List ℕ) (c : Contents) → 0 < length x → place_of k x c ≡ Some (range_for k x c)
+pub place-put : (k : SectionKind) (x : List ℕ) (c : Contents) → 0 < length x → range_put k x c ≡ Some (range_for k x c)
 place-put k x c h = place-cond k x c (nat_eq (length x) 0) (not_empty x h)
 
 own-bytes : (a x : List ℕ) → slice_range (a ++ x) (length a) (length a + length x) ≡ x
@@ -67,7 +67,7 @@ own-bytes a x =
     let e : length a + length x - length a ≡ length x = omega arith in
     ap (λ n. take n (drop (length a) (a ++ x))) e ∙ ap (take (length x)) (drop-append_seam a x) ∙ take-length x
 
-pub part-put : (k : SectionKind) (x : List ℕ) (c : Contents) → 0 < length x → part_of (content_of k (with_bytes k x c)) (place_of k x c) ≡ x
+pub part-put : (k : SectionKind) (x : List ℕ) (c : Contents) → 0 < length x → part_of (content_of k (with_bytes k x c)) (range_put k x c) ≡ x
 part-put k x c h =
     let long : length (content_of k c) + length x ≤ length (content_of k c ++ x) = let e = length-append (content_of k c) x in omega arith in
     ap (λ p. part_of (content_of k (with_bytes k x c)) p) (place-put k x c h)
@@ -109,13 +109,13 @@ row-name shared c name x places.Info = refl
 row-name shared c name x places.Types = refl
 
 -- its other parts are those that it shares, and its own
-row-own : (shared : IndexEntry) (c : Contents) (name : DwarfObject) (x : List ℕ) (place : UnitSection) → contribution_to (kind_at place) (row_at shared c name x place) ≡ place_of (kind_at place) x c
+row-own : (shared : IndexEntry) (c : Contents) (name : DwarfObject) (x : List ℕ) (place : UnitSection) → contribution_to (kind_at place) (row_at shared c name x place) ≡ range_put (kind_at place) x c
 row-own shared c name x places.Info = refl
 row-own shared c name x places.Types = refl
 
 row-part : (shared : IndexEntry) (c : Contents) (name : DwarfObject) (x : List ℕ) (place : UnitSection) (kind : SectionKind)
     → (contribution_to kind (row_at shared c name x place) ≡ contribution_to kind shared)
-    ⊎ ((kind ≡ kind_at place) × (contribution_to kind (row_at shared c name x place) ≡ place_of (kind_at place) x c))
+    ⊎ ((kind ≡ kind_at place) × (contribution_to kind (row_at shared c name x place) ≡ range_put (kind_at place) x c))
 row-part shared c name x places.Info kinds.Info = inr (refl, refl)
 row-part shared c name x places.Info kinds.Types = inl refl
 row-part shared c name x places.Types kinds.Info = inl refl
@@ -158,9 +158,9 @@ own-place : (shared : IndexEntry) (c : Contents) (name : DwarfObject) (x : List 
 own-place shared c name x places.Info fits = info-place name ∙ ap (index.place_of name) (sym fits.no_types)
 own-place shared c name x places.Types fits =
     let t = fits.types_only refl in
-    sym (ap (λ n. index.place_of n (place_of kinds.Types x c)) t.1 ∙ ap (index.place_of (TypeUnit (record { 0 = t.0 }))) (place-put kinds.Types x c fits.some))
+    sym (ap (λ n. index.place_of n (range_put kinds.Types x c)) t.1 ∙ ap (index.place_of (TypeUnit (record { 0 = t.0 }))) (place-put kinds.Types x c fits.some))
 
-own-inside : (k : SectionKind) (x : List ℕ) (c : Contents) (range : Contribution) → 0 < length x → place_of k x c ≡ Some range
+own-inside : (k : SectionKind) (x : List ℕ) (c : Contents) (range : Contribution) → 0 < length x → range_put k x c ≡ Some range
     → (range.offset.0 + range.size ≤ length (content_of k (with_bytes k x c))) × (0 < range.size)
 own-inside k x c range some is =
     let same : range_for k x c ≡ range = same_Some _ _ (sym (place-put k x c some) ∙ is) in
@@ -171,7 +171,7 @@ own-inside k x c range some is =
 
 lie-by : (shared : IndexEntry) (c : Contents) (k : SectionKind) (x : List ℕ) (kind : SectionKind) (part : Option Contribution) (range : Contribution)
     → 0 < length x → LieInside c shared → part ≡ Some range
-    → (part ≡ contribution_to kind shared) ⊎ ((kind ≡ k) × (part ≡ place_of k x c))
+    → (part ≡ contribution_to kind shared) ⊎ ((kind ≡ k) × (part ≡ range_put k x c))
     → (range.offset.0 + range.size ≤ length (content_of kind (with_bytes k x c))) × (0 < range.size)
 lie-by shared c k x kind part range some lie is (inl h) =
     let there = keep-lie c (with_bytes k x c) shared (grows-with_bytes k x c) lie in

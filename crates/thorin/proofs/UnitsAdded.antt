@@ -17,7 +17,7 @@ use Rattle.thorin.specs.Growing.{Contents, with_bytes}
 use Rattle.thorin.specs.Join.{UnitMeaning, meant}
 use Rattle.thorin.specs.NewUnits.{NewUnit}
 use Rattle.thorin.proofs.Represents.{LieInside, Shares, AreRowsOf}
-use Rattle.thorin.specs.State.{Package, kind_at, with_new_unit, with_new_units}
+use Rattle.thorin.specs.State.{InProgress, kind_at, with_new_unit, with_new_units}
 use Rattle.thorin.specs.Used.{Object}
 use Rattle.thorin.proofs.Keeping.{grows-with_bytes, keep-lie, keep-shares, keep-rows, rows-next}
 use Rattle.thorin.proofs.PartMeaning.{content-with_bytes}
@@ -42,7 +42,7 @@ any-unit object encoding order c s row u v shares = record { content = shares.co
 abbrev pub no_unit : DwarfObject → DwarfObject × NewUnit
 no_unit name = (name, record { place = places.Info; bytes = [] })
 
-pub rows-added : (object : Object) (encoding : Encoding) (shared : IndexEntry) (p : Package) (name : DwarfObject) (us : List (DwarfObject × NewUnit)) (ms : List (DwarfObject × UnitMeaning))
+pub rows-added : (object : Object) (encoding : Encoding) (shared : IndexEntry) (p : InProgress) (name : DwarfObject) (us : List (DwarfObject × NewUnit)) (ms : List (DwarfObject × UnitMeaning))
     → LieInside p.file.contents shared
     → Shares p.file.order p.file.contents p.strings shared (meant object encoding (no_unit name)).1
     → AllCanBeAdded p.file.order shared us
@@ -65,12 +65,12 @@ rows-added object encoding shared p name (u ∷ us) ms lie shares can rows =
     can.1 all)
 
 -- the rest of the package
-pub strings-added : (shared : IndexEntry) (p : Package) (us : List (DwarfObject × NewUnit)) → (with_new_units shared p us).strings ≡ p.strings
+pub strings-added : (shared : IndexEntry) (p : InProgress) (us : List (DwarfObject × NewUnit)) → (with_new_units shared p us).strings ≡ p.strings
 unfolding with_new_units with_new_unit
 strings-added shared p [] = refl
 strings-added shared p (u ∷ us) = strings-added shared (with_new_unit shared p u) us
 
-pub order-added : (shared : IndexEntry) (p : Package) (us : List (DwarfObject × NewUnit)) → (with_new_units shared p us).file.order ≡ p.file.order
+pub order-added : (shared : IndexEntry) (p : InProgress) (us : List (DwarfObject × NewUnit)) → (with_new_units shared p us).file.order ≡ p.file.order
 unfolding with_new_units with_new_unit
 order-added shared p [] = refl
 order-added shared p (u ∷ us) = order-added shared (with_new_unit shared p u) us
@@ -79,7 +79,7 @@ order-added shared p (u ∷ us) = order-added shared (with_new_unit shared p u) 
 abbrev pub IsOther : SectionKind → Type 0
 IsOther kind = (place : UnitSection) → same_kind (kind_at place) kind ≡ false
 
-pub content-added : (kind : SectionKind) → IsOther kind → (shared : IndexEntry) (p : Package) (us : List (DwarfObject × NewUnit))
+pub content-added : (kind : SectionKind) → IsOther kind → (shared : IndexEntry) (p : InProgress) (us : List (DwarfObject × NewUnit))
     → content_of kind (with_new_units shared p us).file.contents ≡ content_of kind p.file.contents
 unfolding with_new_units with_new_unit
 content-added kind other shared p [] = refl

@@ -20,13 +20,13 @@ use Rattle.thorin_faults.specs.Fault.{Fault, MixedInputEncodings, NotYet, Missin
 use Rattle.thorin.specs.Encodings.{encoding_of, own_encoding, common}
 use Rattle.thorin.specs.Growing.{with_bytes}
 use Rattle.thorin.specs.NewUnits.{same_name}
-use Rattle.thorin.specs.State.{Package, empty, with_object}
+use Rattle.thorin.specs.State.{InProgress, empty, with_object}
 use Rattle.thorin.specs.Used.{Object, opened, has_info, object_of, is_package}
 
 -- a builder: the package, where an input has begun one, the units that executables refer to, and the one encoding of all
 -- units of the accepted inputs, those passed over too, where there is one and each input was a plain object that added a unit
 pub record State : Type 0 where
-  pub begun : Option Package
+  pub begun : Option InProgress
   pub targets : List DwarfObject
   pub own : Option Encoding
 
@@ -35,10 +35,10 @@ abbrev pub start : State
 start = record { begun = None; targets = []; own = None }
 
 -- the package that a file begins
-abbrev pub begun_by : Elf → Package
+abbrev pub begun_by : Elf → InProgress
 begun_by file = empty file.class file.machine file.order
 
-abbrev pub package_or_new : Elf → Option Package → Package
+abbrev pub package_or_new : Elf → Option InProgress → InProgress
 package_or_new file begun = unwrap_or begun (begun_by file)
 
 abbrev pub same_order : Endianness → Endianness → Bool
@@ -47,11 +47,11 @@ same_order Big Big = true
 same_order _ _ = false
 
 -- an input has the byte order of the package
-abbrev pub order_of : Option Package → Endianness → Endianness
+abbrev pub order_of : Option InProgress → Endianness → Endianness
 order_of None order = order
 order_of (Some made) order = made.file.order
 
-unfoldable pub order_test : Endianness → Option Package → Result (Unit {0}) Fault
+unfoldable pub order_test : Endianness → Option InProgress → Result (Unit {0}) Fault
 order_test order begun = if same_order (order_of begun order) order then Ok tt else Err MixedInputEncodings
 
 -- a finished package as an input isn't taken yet
@@ -59,13 +59,13 @@ unfoldable pub plain_test : Object → Result (Unit {0}) Fault
 plain_test object = if is_package object.sections then Err NotYet else Ok tt
 
 -- the package with the units of a plain object
-unfoldable pub with_plain : Elf → Object → Encoding → Option Package → Result (Option Package) Fault
+unfoldable pub with_plain : Elf → Object → Encoding → Option InProgress → Result (Option InProgress) Fault
 with_plain file object encoding begun = do
   made ← with_object object encoding (package_or_new file begun)
   Ok (Some made)
 
 -- what an object with units makes of a package
-unfoldable pub with_units : Elf → Option Package → Result (Option Package) Fault
+unfoldable pub with_units : Elf → Option InProgress → Result (Option InProgress) Fault
 with_units file begun = do
   object ← object_of file
   encoding ← encoding_of object
@@ -74,23 +74,23 @@ with_units file begun = do
   with_plain file object encoding begun
 
 -- what an object's bytes make of a package, or the first fault; without an info section they only begin it
-unfoldable pub with_input : List ℕ → Option Package → Result (Option Package) Fault
+unfoldable pub with_input : List ℕ → Option InProgress → Result (Option InProgress) Fault
 with_input bytes begun = do
   file ← opened bytes
   if has_info file then with_units file begun else Ok (Some (package_or_new file begun))
 
 -- the names of a package's units, in order of acceptance
-abbrev pub names_in : Option Package → List DwarfObject
+abbrev pub names_in : Option InProgress → List DwarfObject
 names_in None = []
 names_in (Some made) = made.names
 
 -- the one encoding after an object, which has this one for its units
-abbrev pub with_own : Option Package → Option Encoding → Option Encoding → Option Encoding
+abbrev pub with_own : Option InProgress → Option Encoding → Option Encoding → Option Encoding
 with_own None own encoding = encoding
 with_own (Some made) own encoding = common own encoding
 
 -- an object that added no unit leaves none
-abbrev pub own_after : State → Option Package → Option Encoding → Option Encoding
+abbrev pub own_after : State → Option InProgress → Option Encoding → Option Encoding
 own_after state begun encoding =
     if nat_lt (length (names_in state.begun)) (length (names_in begun)) then with_own state.begun state.own encoding else None
 
@@ -137,7 +137,7 @@ unfoldable pub targets_test : List DwarfObject → List DwarfObject → Result (
 targets_test names targets = none_missing (find (is_missing names) targets)
 
 -- the tests of both indexes, the compilation index first
-unfoldable pub indexes_test : Package → Result (Unit {0}) Fault
+unfoldable pub indexes_test : InProgress → Result (Unit {0}) Fault
 indexes_test made = do
   _ ← index_tests (compilations made.rows)
   index_tests (type_units made.rows)
@@ -150,7 +150,7 @@ finish_test state = do
   indexes_test made
 
 -- the contents with the strings and both indexes, each where it isn't empty
-pub record IsFinished (made : Package) (file : File) : Type 0 where
+pub record IsFinished (made : InProgress) (file : File) : Type 0 where
   pub compilation_index : List ℕ
   pub type_index : List ℕ
   pub compilations : IsIndexOf made.file.order (compilations made.rows) compilation_index
@@ -161,7 +161,7 @@ pub record IsFinished (made : Package) (file : File) : Type 0 where
 
 -- the package of a state, finished
 pub record IsFinishedState (state : State) (file : File) : Type 0 where
-  pub made : Package
+  pub made : InProgress
   pub begun : state.begun ≡ Some made
   pub finished : IsFinished made file
   pub identifiers : IdentifiersFit made.rows

@@ -19,8 +19,8 @@ abbrev pub with_bytes : SectionKind → List ℕ → Contents → Contents
 with_bytes kind bytes contents = if length bytes == 0 then contents else appended kind bytes contents
 
 -- where they lie in the section; none where there are no bytes
-abbrev pub place_of : SectionKind → List ℕ → Contents → Option Contribution
-place_of kind bytes contents =
+abbrev pub range_put : SectionKind → List ℕ → Contents → Option Contribution
+range_put kind bytes contents =
     if length bytes == 0 then None
     else Some (record { offset = record { 0 = length (content_of kind contents) }; size = length bytes })
 

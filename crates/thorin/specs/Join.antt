@@ -21,7 +21,7 @@ use Rattle.thorin.specs.declared.packing.Input.{Input}
 use Rattle.thorin.specs.declared.packing.Input.TheVariants as inputs
 use Rattle.thorin.specs.Builder.{is_compilation}
 use Rattle.thorin.specs.Encodings.{encoding_of}
-use Rattle.thorin.specs.Meaning.{object_units, object_string, joined, joining}
+use Rattle.thorin.specs.Meaning.{object_units, object_string, joined_content, joining}
 use Rattle.thorin.specs.NewUnits.{NewUnit, same_name}
 use Rattle.thorin.specs.Parts.{is_copied}
 use Rattle.thorin.specs.Run.{Outcome}
@@ -41,7 +41,7 @@ meant object encoding unit = (
   unit.0,
   record {
     bytes = unit.1.bytes;
-    content = λ kind. joined kind object.sections;
+    content = λ kind. joined_content kind object.sections;
     string = object_string object encoding;
     encoding = encoding;
   },

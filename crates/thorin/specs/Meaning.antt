@@ -61,9 +61,9 @@ joining names (unit ∷ rest) =
     else unit ∷ joining (names ++ unit.0 ∷ []) rest
 
 -- the contents of all sections of a kind, joined in file order
-abbrev pub joined : SectionKind → List Used → List ℕ
-joined kind [] = []
-joined kind (s ∷ ss) = if same_kind s.kind kind then s.bytes ++ joined kind ss else joined kind ss
+abbrev pub joined_content : SectionKind → List Used → List ℕ
+joined_content kind [] = []
+joined_content kind (s ∷ ss) = if same_kind s.kind kind then s.bytes ++ joined_content kind ss else joined_content kind ss
 
 -- a section of string offsets without the bytes past its last whole entry
 abbrev pub whole_entries : Encoding → List ℕ → List ℕ

@@ -51,12 +51,12 @@ abbrev pub bytes_by : Contents → (types info : Option Contribution) → List �
 bytes_by contents (Some range) info = part_of (content_of kinds.Types contents) (Some range)
 bytes_by contents None info = part_of (content_of kinds.Info contents) info
 
-abbrev pub row_bytes : Contents → IndexEntry → List ℕ
-row_bytes contents row = bytes_by contents row.debug_types row.debug_info
+abbrev pub unit_bytes : Contents → IndexEntry → List ℕ
+unit_bytes contents row = bytes_by contents row.debug_types row.debug_info
 
 -- the bytes of the unit of a name that is held
 abbrev pub held_bytes : Held → DwarfObject → Option (List ℕ)
-held_bytes held name = option_map (λ i. option_map_or (row_bytes held.contents) (slice_get held.rows i) []) (position (same_name name) held.names)
+held_bytes held name = option_map (λ i. option_map_or (unit_bytes held.contents) (slice_get held.rows i) []) (position (same_name name) held.names)
 
 -- the bytes of a unit that is added
 abbrev pub or_held : Option NewUnit → Option (List ℕ) → Option (List ℕ)

@@ -14,14 +14,14 @@ use Rattle.dwp_dwarf.specs.declared.header.UnitSection.TheVariants as places
 use Rattle.dwp_table.specs.declared.object.DwarfObject.{DwarfObject}
 use Rattle.thorin_parts.specs.declared.entry.IndexEntry.{IndexEntry}
 use Rattle.thorin_faults.specs.Fault.{Fault, MissingRequiredSection}
-use Rattle.thorin.specs.Growing.{Contents, IsGrown, lengths, with_bytes, place_of, with_parts, shared_row}
+use Rattle.thorin.specs.Growing.{Contents, IsGrown, lengths, with_bytes, range_put, with_parts, shared_row}
 use Rattle.thorin.specs.NewUnits.{New, NewUnit, Held, new_units, same_name}
 use Rattle.thorin.specs.Parts.{parts_of}
 use Rattle.thorin.specs.Used.{Object}
 
 -- a package that was begun: the file so far, the distinct strings, the names of its units with a row for each, and the
 -- signatures of type units that were passed over and differ from those kept
-pub record Package : Type 0 where
+pub record InProgress : Type 0 where
   pub file : File
   pub strings : List (List ℕ)
   pub names : List DwarfObject
@@ -35,15 +35,15 @@ kind_at places.Types = kinds.Types
 
 -- the row of a unit: what its input's units share, and where its own bytes lie
 abbrev pub row_at : IndexEntry → Contents → DwarfObject → List ℕ → UnitSection → IndexEntry
-row_at shared contents name bytes places.Info = record shared { id = name; debug_info = place_of kinds.Info bytes contents }
-row_at shared contents name bytes places.Types = record shared { id = name; debug_types = place_of kinds.Types bytes contents }
+row_at shared contents name bytes places.Info = record shared { id = name; debug_info = range_put kinds.Info bytes contents }
+row_at shared contents name bytes places.Types = record shared { id = name; debug_types = range_put kinds.Types bytes contents }
 
 -- a name goes last, where it isn't there
 abbrev pub with_name : List DwarfObject → DwarfObject → List DwarfObject
 with_name names name = if list_any (same_name name) names then names else names ++ name ∷ []
 
 -- the package with one more unit
-unfoldable pub with_new_unit : IndexEntry → Package → DwarfObject × NewUnit → Package
+unfoldable pub with_new_unit : IndexEntry → InProgress → DwarfObject × NewUnit → InProgress
 with_new_unit shared made unit = record made {
   file = record made.file { contents = with_bytes (kind_at unit.1.place) unit.1.bytes made.file.contents };
   names = with_name made.names unit.0;
@@ -51,7 +51,7 @@ with_new_unit shared made unit = record made {
 }
 
 -- and with each of these
-unfoldable pub with_new_units : IndexEntry → Package → List (DwarfObject × NewUnit) → Package
+unfoldable pub with_new_units : IndexEntry → InProgress → List (DwarfObject × NewUnit) → InProgress
 with_new_units shared made [] = made
 with_new_units shared made (unit ∷ units) = with_new_units shared (with_new_unit shared made unit) units
 
@@ -60,11 +60,11 @@ unfoldable pub abbreviations_test : Object → Result (Unit {0}) Fault
 abbreviations_test object = if object.has_abbreviations then Ok tt else Err (MissingRequiredSection (name_of kinds.Abbrev))
 
 -- what a package holds of its units
-abbrev pub held : Package → Held
+abbrev pub held : InProgress → Held
 held made = record { names = made.names; rows = made.rows; contents = made.file.contents }
 
 -- the package with these parts, these strings and these units of an input
-unfoldable pub with_all : Encoding → Package → Contents × List (List ℕ) → New → Package
+unfoldable pub with_all : Encoding → InProgress → Contents × List (List ℕ) → New → InProgress
 with_all encoding made parts new =
     let contents = with_parts parts.0 made.file.contents in
     with_new_units (shared_row encoding made.file.contents contents)
@@ -72,7 +72,7 @@ with_all encoding made parts new =
     new.units
 
 -- the package with the units of a plain object, or its first fault
-unfoldable pub with_object : Object → Encoding → Package → Result Package Fault
+unfoldable pub with_object : Object → Encoding → InProgress → Result InProgress Fault
 with_object object encoding made = do
   parts ← parts_of object encoding made.strings
   _ ← abbreviations_test object
@@ -80,7 +80,7 @@ with_object object encoding made = do
   Ok (with_all encoding made parts new)
 
 -- nothing of what a package had is lost
-pub record Extends (before now : Package) : Type 0 where
+pub record Extends (before now : InProgress) : Type 0 where
   pub file : IsGrown before.file now.file
   pub strings : take (length before.strings) now.strings ≡ before.strings
   pub names : take (length before.names) now.names ≡ before.names
@@ -88,7 +88,7 @@ pub record Extends (before now : Package) : Type 0 where
   pub differing : take (length before.differing) now.differing ≡ before.differing
 
 -- a package with nothing in it
-abbrev pub empty : Class → ℕ → Endianness → Package
+abbrev pub empty : Class → ℕ → Endianness → InProgress
 empty class machine order = record {
   file = record { class = class; machine = machine; order = order; contents = [] };
   strings = [];
@@ -105,7 +105,7 @@ pub record Amount : Type 0 where
   pub rows : ℕ
   pub differing : ℕ
 
-abbrev pub mark_of : Package → Amount
+abbrev pub mark_of : InProgress → Amount
 mark_of made = record {
   lengths = lengths made.file.contents;
   strings = length made.strings;

@@ -3,10 +3,10 @@ use Rattle.std.specs.Prelude.{◌≡◌, List, [], map, Option, Some, None}
 use Rattle.dwp_table.specs.declared.object.DwarfObject.{DwarfObject}
 use Rattle.thorin.specs.declared.state.InProgressDwarfPackage.{InProgressDwarfPackage}
 use Rattle.thorin.specs.declared.state.Mark.{Mark}
-use Rattle.thorin.specs.State.{Package, Amount}
+use Rattle.thorin.specs.State.{InProgress, Amount}
 
-abbrev pub package_of : InProgressDwarfPackage → List DwarfObject → Package
-package_of p names = record {
+abbrev pub in_progress_of : InProgressDwarfPackage → List DwarfObject → InProgress
+in_progress_of p names = record {
   file = p.object;
   strings = p.strings;
   names = names;
@@ -18,9 +18,9 @@ abbrev pub mark_in : Mark → Amount
 mark_in m = record { lengths = m.lengths.items; strings = m.strings.strings; names = m.names; rows = m.rows; differing = m.differing }
 
 -- the package, where an input has begun one
-abbrev pub begun_of : Option InProgressDwarfPackage → List DwarfObject → Option Package
+abbrev pub begun_of : Option InProgressDwarfPackage → List DwarfObject → Option InProgress
 begun_of None names = None
-begun_of (Some p) names = Some (package_of p names)
+begun_of (Some p) names = Some (in_progress_of p names)
 
 -- a package that isn't begun has no units
 abbrev pub NamesFit : Option InProgressDwarfPackage → List DwarfObject → Type 0

@@ -6,7 +6,7 @@ ghost use Rattle.dwp_table.specs.declared.object.DwarfObject.{DwarfObject};
 ghost use Rattle.thorin_faults.specs.Answers.{Gives};
 ghost use Rattle.thorin.specs.Builder as spec;
 ghost use Rattle.thorin.specs.Encodings.{file_encoding, own_encoding};
-ghost use Rattle.thorin.specs.StateView.{package_of, begun_of, NamesFit};
+ghost use Rattle.thorin.specs.StateView.{in_progress_of, begun_of, NamesFit};
 ghost use Rattle.thorin.specs.View as view;
 
 use crate::object::{InputObject, has_info, opened};
@@ -21,7 +21,7 @@ use thorin_faults::Error;
 
 // A package of the class, machine and byte order of its first input.
 fn begun_by(alloc: Global, file: &ElfFile<'_>) -> InProgressDwarfPackage
-    ensures { package_of result [] ≡ spec.begun_by (elf file.now) }
+    ensures { in_progress_of result [] ≡ spec.begun_by (elf file.now) }
 {
     InProgressDwarfPackage::new(alloc, file.class(), file.machine(), file.endianness())
 }

@@ -46,7 +46,7 @@ pub(crate) fn put(
     kind: SectionKind,
     bytes: &[u8],
 ) -> Result<Option<Contribution>, Error>
-    ensures place { IfOk result (λ place. place ≡ spec.place_of kind bytes.now file.old.contents) }
+    ensures place { IfOk result (λ place. place ≡ spec.range_put kind bytes.now file.old.contents) }
     ensures contents { OnOk result (file.new ≡ record file.old { contents = spec.with_bytes kind bytes.now file.old.contents }) }
     ensures refused { IfErr result (λ e. (e ≡ Error.Memory) × (file.new ≡ file.old)) }
 {

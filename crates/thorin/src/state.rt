@@ -6,7 +6,7 @@ ghost use Rattle.thorin_strings.specs.Marks.{mark_of};
 ghost use Rattle.dwp_table.specs.declared.object.DwarfObject.{DwarfObject};
 ghost use Rattle.thorin.specs.Builder.{IsFinished, indexes_test, IdentifiersFit, is_compilation, rows_of};
 ghost use Rattle.thorin.specs.State as spec;
-ghost use Rattle.thorin.specs.StateView.{package_of, mark_in};
+ghost use Rattle.thorin.specs.StateView.{in_progress_of, mark_in};
 ghost use Rattle.thorin.specs.UnitView.{new_unit, new_of};
 ghost use Rattle.thorin.specs.View as view;
 
@@ -70,7 +70,7 @@ impl InProgressDwarfPackage {
         machine: u16,
         order: Endianness,
     ) -> InProgressDwarfPackage
-        ensures { package_of result [] ≡ spec.empty class machine order }
+        ensures { in_progress_of result [] ≡ spec.empty class machine order }
     {
         InProgressDwarfPackage {
             alloc,
@@ -83,7 +83,7 @@ impl InProgressDwarfPackage {
 
     /// The byte order of the package.
     pub(crate) fn endianness(&self) -> Endianness
-        ensures { result ≡ (package_of self.now []).file.order }
+        ensures { result ≡ (in_progress_of self.now []).file.order }
     {
         self.object.endianness()
     }
@@ -96,8 +96,8 @@ impl InProgressDwarfPackage {
         object: &InputObject<'_>,
         encoding: Encoding,
     ) -> Result<(), Error>
-        ensures meaning { Gives (λ _. package_of self.new names.new.keys) result (spec.with_object (view.object object.now) encoding (package_of self.old names.old.keys)) }
-        ensures err { OnErr result (package_of self.new names.new.keys ≡ package_of self.old names.old.keys) }
+        ensures meaning { Gives (λ _. in_progress_of self.new names.new.keys) result (spec.with_object (view.object object.now) encoding (in_progress_of self.old names.old.keys)) }
+        ensures err { OnErr result (in_progress_of self.new names.new.keys ≡ in_progress_of self.old names.old.keys) }
     {
         let mark = self.mark(names)?;
         let added = self.try_add_plain(names, object, encoding);
@@ -115,8 +115,8 @@ impl InProgressDwarfPackage {
         object: &InputObject<'_>,
         encoding: Encoding,
     ) -> Result<(), Error>
-        ensures meaning { Gives (λ _. package_of self.new names.new.keys) result (spec.with_object (view.object object.now) encoding (package_of self.old names.old.keys)) }
-        ensures extends { spec.Extends (package_of self.old names.old.keys) (package_of self.new names.new.keys) }
+        ensures meaning { Gives (λ _. in_progress_of self.new names.new.keys) result (spec.with_object (view.object object.now) encoding (in_progress_of self.old names.old.keys)) }
+        ensures extends { spec.Extends (in_progress_of self.old names.old.keys) (in_progress_of self.new names.new.keys) }
     {
         let parts = parts_of(self.alloc, object, encoding, &mut self.strings)?;
         if !object.has_abbreviations {
@@ -144,9 +144,9 @@ impl InProgressDwarfPackage {
         new: &NewUnits<'_>,
         shared: IndexEntry,
     ) -> Result<(), Error>
-        ensures meaning { OnOk result (package_of self.new names.new.keys ≡ spec.with_new_units shared (package_of self.old names.old.keys) (new_of new.now).units) }
+        ensures meaning { OnOk result (in_progress_of self.new names.new.keys ≡ spec.with_new_units shared (in_progress_of self.old names.old.keys) (new_of new.now).units) }
         ensures refused { IfErr result (λ e. e ≡ Error.Memory) }
-        ensures extends { (before : spec.Package) → spec.Extends before (package_of self.old names.old.keys) → spec.Extends before (package_of self.new names.new.keys) }
+        ensures extends { (before : spec.InProgress) → spec.Extends before (in_progress_of self.old names.old.keys) → spec.Extends before (in_progress_of self.new names.new.keys) }
     {
         for (name, unit) in new.units.iter() {
             self.add_unit(names, *name, *unit, shared)?;
@@ -163,9 +163,9 @@ impl InProgressDwarfPackage {
         unit: NewUnit<'_>,
         shared: IndexEntry,
     ) -> Result<(), Error>
-        ensures meaning { OnOk result (package_of self.new names.new.keys ≡ spec.with_new_unit shared (package_of self.old names.old.keys) (name, new_unit unit.entry)) }
+        ensures meaning { OnOk result (in_progress_of self.new names.new.keys ≡ spec.with_new_unit shared (in_progress_of self.old names.old.keys) (name, new_unit unit.entry)) }
         ensures refused { IfErr result (λ e. e ≡ Error.Memory) }
-        ensures extends { (before : spec.Package) → spec.Extends before (package_of self.old names.old.keys) → spec.Extends before (package_of self.new names.new.keys) }
+        ensures extends { (before : spec.InProgress) → spec.Extends before (in_progress_of self.old names.old.keys) → spec.Extends before (in_progress_of self.new names.new.keys) }
     {
         let range = put(&mut self.object, kind_at(unit.place), unit.bytes)?;
         let mut row = shared;
@@ -181,7 +181,7 @@ impl InProgressDwarfPackage {
 
     // How much of the package there is. It refuses for memory alone.
     fn mark(&self, names: &IndexSet<DwarfObject>) -> Result<Mark, Error>
-        ensures mark { IfOk result (λ mark. mark_in mark ≡ spec.mark_of (package_of self.now names.now.keys)) }
+        ensures mark { IfOk result (λ mark. mark_in mark ≡ spec.mark_of (in_progress_of self.now names.now.keys)) }
         ensures strings { IfOk result (λ mark. mark.strings ≡ mark_of self.now.strings) }
         ensures refused { IfErr result (λ e. e ≡ Error.Memory) }
     {
@@ -197,7 +197,7 @@ impl InProgressDwarfPackage {
     // Takes back what was added since.
     fn restore(&mut self, names: &mut IndexSet<DwarfObject>, mark: &Mark)
         requires { mark.now.strings ≡ mark_of (take mark.now.strings.strings self.old.strings) }
-        ensures { (before : spec.Package) → spec.Extends before (package_of self.old names.old.keys) → mark_in mark.now ≡ spec.mark_of before → package_of self.new names.new.keys ≡ before }
+        ensures { (before : spec.InProgress) → spec.Extends before (in_progress_of self.old names.old.keys) → mark_in mark.now ≡ spec.mark_of before → in_progress_of self.new names.new.keys ≡ before }
     {
         restore(&mut self.object, &mark.lengths);
         self.strings.truncate(mark.strings);
@@ -210,8 +210,8 @@ impl InProgressDwarfPackage {
     /// `write_index` does.
     #[tactic(auto, unfolding(crate::specs::Builder::indexes_test))]
     pub(crate) fn finish(self) -> Result<WritableObject, Error>
-        ensures refusal { (names : List DwarfObject) → Gives (λ _. tt) result (indexes_test (package_of self names)) }
-        ensures finished { (names : List DwarfObject) → IfOk result (IsFinished (package_of self names)) }
+        ensures refusal { (names : List DwarfObject) → Gives (λ _. tt) result (indexes_test (in_progress_of self names)) }
+        ensures finished { (names : List DwarfObject) → IfOk result (IsFinished (in_progress_of self names)) }
         ensures identifiers { IdentifiersFit self.rows.items }
     {
         let InProgressDwarfPackage {

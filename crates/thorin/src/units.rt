@@ -62,8 +62,8 @@ fn part_of(content: &[u8], range: Option<Contribution>) -> &[u8]
 
 impl<'p> Held<'p> {
     // The bytes of the unit of a row.
-    fn row_bytes(self, row: &IndexEntry) -> &'p [u8]
-        ensures { result.now ≡ spec.row_bytes (held_of self.entry).contents row.now }
+    fn unit_bytes(self, row: &IndexEntry) -> &'p [u8]
+        ensures { result.now ≡ spec.unit_bytes (held_of self.entry).contents row.now }
     {
         match row.debug_types {
             Some(range) => part_of(content(self.file, SectionKind::Types), Some(range)),
@@ -77,7 +77,7 @@ impl<'p> Held<'p> {
     {
         let place = self.names.get_index_of(&name)?;
         match self.rows.get(place) {
-            Some(row) => Some(self.row_bytes(row)),
+            Some(row) => Some(self.unit_bytes(row)),
             None => Some(&[]),
         }
     }

@@ -1,6 +1,6 @@
 use Rattle.std.proofs.Common.{◌≡◌, rules, Result, Ok, Err, false, true≢false}
 use Rattle.std.specs.Result.{OnErr, is_err}
-use Rattle.thorin.specs.StateView.{package_of}
+use Rattle.thorin.specs.StateView.{in_progress_of}
 use Rattle.thorin.proofs.state.InProgressDwarfPackage.add_plain.Goals.{then-is_err, else-is_err}
 use Rattle.thorin.proofs.state.InProgressDwarfPackage.add_plain.Goals as goal
 
@@ -15,7 +15,7 @@ no_err P (Err e) h = absurd (true≢false h)
 pub returns-clause-err : goal.returns-clause-err
 returns-clause-err c = elim c.if-is_err.branch [
   | then-is_err w ↦
-      let p = package_of c.args.self.now c.args.names.now.keys in
+      let p = in_progress_of c.args.self.now c.args.names.now.keys in
       any_result _ c.try_add_plain-added.result (rw (w.self-is, w.names-is) (w.restore.ensures p c.try_add_plain-added.ensures.extends c.in_ok-mark.ensures.mark))
   | else-is_err w ↦ no_err _ c.try_add_plain-added.result (search (rules, c.is_err.ensures, w.if-is_err))
 ]

@@ -1,14 +1,14 @@
 use Rattle.std.proofs.Common.{◌≡◌, map}
 use Rattle.dwp_table.specs.declared.object.DwarfObject.{DwarfObject}
 use Rattle.thorin.specs.NewUnits.{NewUnit}
-use Rattle.thorin.specs.State.{Package, Extends, with_new_units}
-use Rattle.thorin.specs.StateView.{package_of}
+use Rattle.thorin.specs.State.{InProgress, Extends, with_new_units}
+use Rattle.thorin.specs.StateView.{in_progress_of}
 use Rattle.thorin.specs.UnitView.{new_unit, new_of}
 use Rattle.thorin.proofs.state.InProgressDwarfPackage.add_units.Given as goal
 
 -- the package with the units that are left is the one with all; and nothing was lost
 abbrev pub invariant-loop-name : goal.invariant-loop-name
 invariant-loop-name l =
-    (with_new_units l.shared (package_of l.self l.names.keys) (map {B = DwarfObject × NewUnit} (λ e. (e.0, new_unit e.1)) l.name-iterator)
-    ≡ with_new_units l.shared (package_of l.fn.self l.fn.names.keys) (new_of l.new).units)
-    × ((before : Package) → Extends before (package_of l.fn.self l.fn.names.keys) → Extends before (package_of l.self l.names.keys))
+    (with_new_units l.shared (in_progress_of l.self l.names.keys) (map {B = DwarfObject × NewUnit} (λ e. (e.0, new_unit e.1)) l.name-iterator)
+    ≡ with_new_units l.shared (in_progress_of l.fn.self l.fn.names.keys) (new_of l.new).units)
+    × ((before : InProgress) → Extends before (in_progress_of l.fn.self l.fn.names.keys) → Extends before (in_progress_of l.self l.names.keys))
