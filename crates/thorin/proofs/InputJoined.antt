@@ -1,5 +1,5 @@
 -- An input that is taken joins its units to those of the package.
-use Rattle.std.proofs.Common.{◌≡◌, ◌∙◌, ℕ, Bool, true, false, cond, true≢false, List, [], ◌∷◌, ◌++◌, map, ap, sym, refl, subst, Result, Ok, Err, Option, Some, None}
+use Rattle.std.proofs.Common.{◌≡◌, ◌∙◌, ℕ, Bool, true, false, cond, not, ◌&&◌, true≢false, List, [], ◌∷◌, ◌++◌, map, ap, ap₂, sym, refl, subst, Result, Ok, Err, Option, Some, None}
 use Rattle.std.specs.List.{list_any}
 use Rattle.dwp_base.specs.declared.endian.Endianness.{Endianness}
 use Rattle.dwp_base.specs.declared.endian.Endianness.TheVariants.{Little, Big}
@@ -13,8 +13,8 @@ use Rattle.thorin_faults.specs.Fault.{Fault, MixedInputEncodings}
 use Rattle.thorin.specs.Builder.{package_or_new, order_of, same_order, order_test}
 use Rattle.thorin.specs.Growing.{Contents, with_parts, shared_row}
 use Rattle.thorin.specs.Join.{UnitMeaning, meant}
-use Rattle.thorin.specs.Meaning.{joining, object_units}
-use Rattle.thorin.specs.NewUnits.{New, NewUnit, same_name, new_units}
+use Rattle.thorin.specs.Meaning.{joining, can_join, object_units}
+use Rattle.thorin.specs.NewUnits.{New, NewUnit, same_name, is_compilation, new_units}
 use Rattle.thorin.specs.Parts.{parts_of}
 use Rattle.thorin.proofs.Represents.{Represents}
 use Rattle.thorin.specs.State.{InProgress, empty, held, with_object, with_all, abbreviations_test}
@@ -83,6 +83,12 @@ joining-meant object encoding names (u ∷ us) =
     joining-cond object encoding u (joining names us) (joining (names ++ u.0 ∷ []) us) _ _ (list_any (same_name u.0) names)
     (joining-meant object encoding names us) (joining-meant object encoding (names ++ u.0 ∷ []) us)
 
+pub can_join-meant : (object : Object) (encoding : Encoding) (names : List DwarfObject) (us : List (DwarfObject × NewUnit))
+    → can_join names (map {B = DwarfObject × UnitMeaning} (meant object encoding) us) ≡ can_join names us
+can_join-meant object encoding names [] = refl
+can_join-meant object encoding names (u ∷ us) =
+    ap₂ (λ a b. cond (list_any (same_name u.0) names) (not (is_compilation u.0) && a) b) (can_join-meant object encoding names us) (can_join-meant object encoding (names ++ u.0 ∷ []) us)
+
 -- what the lower crates' laws give of an object
 abbrev pub PartsLaw : Type 0
 PartsLaw = (object : Object) (encoding : Encoding) (strings : List (List ℕ)) (parts : Contents) (after : List (List ℕ)) → IsTable strings
@@ -101,6 +107,7 @@ added-names encoding p parts new all h = rw h (joining_names _ _ all)
 pub record ObjectJoins (object : Object) (encoding : Encoding) (made : InProgress) (ms : List (DwarfObject × UnitMeaning)) : Type 0 where
   pub all : List (DwarfObject × NewUnit)
   pub units : object_units object ≡ Ok all
+  pub defined : can_join (map (λ u. u.0) ms) (map {B = DwarfObject × UnitMeaning} (meant object encoding) all) ≡ true
   pub has : HasUnits made (ms ++ joining (map (λ u. u.0) ms) (map {B = DwarfObject × UnitMeaning} (meant object encoding) all))
 
 pub object-joins : PartsLaw → UnitsLaw → (object : Object) (encoding : Encoding) (before made : InProgress) (ms : List (DwarfObject × UnitMeaning))
@@ -129,6 +136,7 @@ object-joins parts_law units_law object encoding before made ms has same h =
     record {
       all = all;
       units = j.1;
+      defined = can_join-meant object encoding (map (λ u. u.0) ms) all ∙ ap (λ ns. can_join ns all) (sym has.units.names) ∙ j.3;
       has = record {
         units = subst (λ l. Represents made l) members (subst (λ m. Represents m (ms ++ map {B = DwarfObject × UnitMeaning} (meant object encoding) new.units)) is rep);
         apart = subst AreApart (sym (ap (λ (m : InProgress). m.names) (sym is) ∙ names ∙ ap (λ us. before.names ++ map (λ u. u.0) us) j.2)) (joined_distinct before.names all has.apart);

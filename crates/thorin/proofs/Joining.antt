@@ -1,5 +1,5 @@
 -- What a plain object adds to a package: its units, joined to the names that are there.
-use Rattle.std.proofs.Common.{◌≡◌, ◌∙◌, ℕ, ◌+◌, ◌<◌, Bool, true, false, not, cond, ◌||◌, ◌==◌, List, [], ◌∷◌, ◌++◌, length, map, true≢false, subst₂, inl, inr, get_or, All, AllPairs, Option, Some, None, is_some, option_map, Result, Ok, Err, ap, ap₂, sym, subst, refl, arith, eq-eqb, eqb-true, append_assoc, append-nil, position}
+use Rattle.std.proofs.Common.{◌≡◌, ◌∙◌, ℕ, ◌+◌, ◌<◌, Bool, true, false, not, cond, ◌||◌, ◌&&◌, ◌==◌, List, [], ◌∷◌, ◌++◌, length, map, true≢false, subst₂, inl, inr, get_or, All, AllPairs, Option, Some, None, is_some, option_map, Result, Ok, Err, ap, ap₂, sym, subst, refl, arith, eq-eqb, eqb-true, append_assoc, append-nil, position}
 use Rattle.std.specs.List.{list_any, position_from}
 use Rattle.std.specs.Map.{lookup}
 use Rattle.std.specs.Str.{bytes_eq}
@@ -27,9 +27,9 @@ use Rattle.std.proofs.Math.ListN.{get_or-map}
 use Rattle.thorin_faults.specs.Fault.{Fault, ParseUnitHeader, NotSplitUnit, EmptyUnit}
 use Rattle.thorin_faults.specs.Answers.{as_fault}
 use Rattle.thorin.specs.Identity.{identity}
-use Rattle.thorin.specs.Builder.{is_compilation, is_chosen, rows_of}
-use Rattle.thorin.specs.Meaning.{joining, named_unit, named_each, named_at, named_sections, object_units}
-use Rattle.thorin.specs.NewUnits.{NewUnit, New, Held, same_name, or_held, held_bytes, kept_bytes, place_for, with_unit, with_read, with_each_read, unit_section, with_section_at, with_section, with_each_section, new_units}
+use Rattle.thorin.specs.Builder.{is_chosen, rows_of}
+use Rattle.thorin.specs.Meaning.{joining, can_join, named_unit, named_each, named_at, named_sections, object_units}
+use Rattle.thorin.specs.NewUnits.{NewUnit, New, Held, same_name, is_compilation, or_held, held_bytes, kept_bytes, place_for, with_unit, with_read, with_each_read, unit_section, with_section_at, with_section, with_each_section, new_units}
 use Rattle.thorin.specs.State.{InProgress, with_name, with_new_unit, with_new_units}
 use Rattle.thorin.specs.Used.{Used, Object, first}
 use Rattle.thorin.proofs.Steps.{bind-ok, bind-inv}
@@ -67,6 +67,21 @@ joining-append {X} names (u ∷ us) vs = by (list_any (same_name u.0) names) (jo
         ≡ cond b (joining names us) (u ∷ joining (names ++ u.0 ∷ []) us) ++ joining (names ++ map (λ e. e.0) (cond b (joining names us) (u ∷ joining (names ++ u.0 ∷ []) us))) vs
     by true here there = here
     by false here there = ap (λ l. u ∷ l) (there ∙ ap (λ n. joining (names ++ u.0 ∷ []) us ++ joining n vs) (append_assoc names (u.0 ∷ []) (map (λ e. e.0) (joining (names ++ u.0 ∷ []) us))))
+
+-- a list can be joined where its front can, and then what follows
+can_join-append : {X : Type 0} (names : List DwarfObject) (us vs : List (DwarfObject × X))
+    → can_join names (us ++ vs) ≡ (can_join names us && can_join (names ++ map (λ u. u.0) (joining names us)) vs)
+can_join-append names [] vs = ap (λ n. can_join n vs) (sym (append-nil names))
+can_join-append {X} names (u ∷ us) vs = by (list_any (same_name u.0) names) (not (is_compilation u.0)) (can_join-append names us vs) (can_join-append (names ++ u.0 ∷ []) us vs)
+  where
+    by : (b c : Bool)
+        → can_join names (us ++ vs) ≡ (can_join names us && can_join (names ++ map (λ e. e.0) (joining names us)) vs)
+        → can_join (names ++ u.0 ∷ []) (us ++ vs) ≡ (can_join (names ++ u.0 ∷ []) us && can_join ((names ++ u.0 ∷ []) ++ map (λ e. e.0) (joining (names ++ u.0 ∷ []) us)) vs)
+        → cond b (c && can_join names (us ++ vs)) (can_join (names ++ u.0 ∷ []) (us ++ vs))
+        ≡ (cond b (c && can_join names us) (can_join (names ++ u.0 ∷ []) us) && can_join (names ++ map (λ e. e.0) (cond b (joining names us) (u ∷ joining (names ++ u.0 ∷ []) us))) vs)
+    by true true here there = here
+    by true false here there = refl
+    by false c here there = there ∙ ap (λ n. can_join (names ++ u.0 ∷ []) us && can_join n vs) (append_assoc names (u.0 ∷ []) (map (λ e. e.0) (joining (names ++ u.0 ∷ []) us)))
 
 -- what is kept
 
@@ -113,16 +128,31 @@ joined-more names before mid after us vs h k =
     ∙ ap (λ n. before ++ (added ++ joining n vs)) (ap (λ m. names ++ m) (map-append _ before added) ∙ sym (append_assoc names (keys before) (keys added)))
     ∙ ap (λ t. before ++ t) (sym (joining-append (names ++ keys before) us vs))
 
+-- the same that can be joined
+can_join-more : (names : List DwarfObject) (before mid us vs : List (DwarfObject × NewUnit))
+    → mid ≡ before ++ joining (names ++ map (λ u. u.0) before) us
+    → can_join (names ++ map (λ u. u.0) before) us ≡ true
+    → can_join (names ++ map (λ u. u.0) mid) vs ≡ true
+    → can_join (names ++ map (λ u. u.0) before) (us ++ vs) ≡ true
+can_join-more names before mid us vs is here there =
+    let keys = λ (l : List (DwarfObject × NewUnit)). map {B = DwarfObject} (λ u. u.0) l in
+    let added = joining (names ++ keys before) us in
+    let all : names ++ keys mid ≡ (names ++ keys before) ++ keys added =
+    ap (λ m. names ++ keys m) is ∙ ap (λ m. names ++ m) (map-append _ before added) ∙ sym (append_assoc names (keys before) (keys added)) in
+    can_join-append (names ++ keys before) us vs ∙ ap₂ (λ a b. a && b) here (ap (λ n. can_join n vs) (sym all) ∙ there)
+
 -- the units of a meaning are joined to those before
-abbrev Joined : Held → New → New → Result (List (DwarfObject × NewUnit)) Fault → Type 0
-Joined held before after meaning =
-    (us : List (DwarfObject × NewUnit)) × (meaning ≡ Ok us) × (after.units ≡ before.units ++ joining (held.names ++ map (λ u. u.0) before.units) us)
+record AreJoined (held : Held) (before after : New) (meaning : Result (List (DwarfObject × NewUnit)) Fault) : Type 0 where
+  pub all : List (DwarfObject × NewUnit)
+  pub is : meaning ≡ Ok all
+  pub joined : after.units ≡ before.units ++ joining (held.names ++ map (λ u. u.0) before.units) all
+  pub defined : can_join (held.names ++ map (λ u. u.0) before.units) all ≡ true
 
 abbrev ok : New → Result New Fault
 ok new = Ok new
 
-same-new : (held : Held) (before after : New) → ok before ≡ ok after → Joined held before after (Ok [])
-same-new held before after h = ([], refl, (let e : after ≡ before = cc in ap (λ n. n.units) e ∙ sym (append-nil before.units)))
+same-new : (held : Held) (before after : New) → ok before ≡ ok after → AreJoined held before after (Ok [])
+same-new held before after h = record { all = []; is = refl; joined = (let e : after ≡ before = cc in ap (λ n. n.units) e ∙ sym (append-nil before.units)); defined = refl }
 
 passed-over : (e : Bool) (new other next : New) → other.units ≡ new.units → ok (cond e new other) ≡ ok next → next.units ≡ new.units
 passed-over true new other next s h = let e : next ≡ new = cc in ap (λ n. n.units) e
@@ -142,9 +172,18 @@ with_unit-units (Some kept) from (TypeUnit signature) bytes new next u is h = pa
 with_unit-units None from name bytes new next u is h =
     added-unit (from.address == 0) (EmptyUnit (identifier_of name)) _ next h ∙ ap (λ v. new.units ++ (name, v) ∷ []) (sym is)
 
+-- no compilation unit is passed over
+with_unit-defined : (kept : Option (List ℕ)) (from : Used) (name : DwarfObject) (bytes : List ℕ) (new next : New)
+    → with_unit kept from name bytes new ≡ Ok next → cond (is_some kept) (not (is_compilation name) && true) true ≡ true
+unfolding with_unit
+with_unit-defined (Some kept) from (Compilation id) bytes new next h = absurd cc
+with_unit-defined (Some kept) from (TypeUnit signature) bytes new next h = refl
+with_unit-defined None from name bytes new next h = refl
+
 read-joined : (object : Object) (held : Held) (from : Used) (before after : New) (read : Result Unit ReadError)
     → with_read object held from before read ≡ Ok after
     → (u : DwarfObject × NewUnit) × (named_unit object from read ≡ Ok u) × (after.units ≡ before.units ++ joining (held.names ++ map (λ e. e.0) before.units) (u ∷ []))
+    × (can_join (held.names ++ map (λ e. e.0) before.units) (u ∷ []) ≡ true)
 unfolding with_read named_unit
 read-joined object held from before after read h =
     let unit = bind-inv (as_fault ParseUnitHeader read) _ after h in
@@ -155,50 +194,56 @@ read-joined object held from before after read h =
       bind-ok (as_fault ParseUnitHeader read) unit.0 _ unit.1 ∙ bind-ok (identity (section object.order (first Abbrev object.sections)) unit.0) found.0 _ found.1 ∙ bind-ok (ok_or found.0 NotSplitUnit) name.0 _ name.1,
       with_unit-units (kept_bytes held before.units name.0) from name.0 unit.0.whole.bytes before after u refl name.2
           ∙ ap (λ b. before.units ++ cond b [] ((name.0, u) ∷ [])) (kept-some held before.units name.0),
+      ap (λ b. cond b (not (is_compilation name.0) && true) true) (sym (kept-some held before.units name.0))
+          ∙ with_unit-defined (kept_bytes held before.units name.0) from name.0 unit.0.whole.bytes before after name.2,
     )
 
 each-joined : (object : Object) (held : Held) (from : Used) (before after : New) (reads : List (Result Unit ReadError))
-    → with_each_read object held from before reads ≡ Ok after → Joined held before after (named_each object from reads)
+    → with_each_read object held from before reads ≡ Ok after → AreJoined held before after (named_each object from reads)
 unfolding with_each_read named_each
 each-joined object held from before after [] h = same-new held before after h
 each-joined object held from before after (read ∷ rest) h =
     let here = bind-inv (with_read object held from before read) _ after h in
     let one = read-joined object held from before here.0 read here.1 in
-    let others = each-joined object held from here.0 after rest here.2 in (
-      one.0 ∷ others.0,
-      bind-ok (named_unit object from read) one.0 _ one.1 ∙ bind-ok (named_each object from rest) others.0 _ others.1,
-      joined-more held.names before.units here.0.units after.units (one.0 ∷ []) others.0 one.2 others.2,
-    )
+    let others = each-joined object held from here.0 after rest here.2 in
+    record {
+      all = one.0 ∷ others.all;
+      is = bind-ok (named_unit object from read) one.0 _ one.1 ∙ bind-ok (named_each object from rest) others.all _ others.is;
+      joined = joined-more held.names before.units here.0.units after.units (one.0 ∷ []) others.all one.2 others.joined;
+      defined = can_join-more held.names before.units here.0.units (one.0 ∷ []) others.all one.2 one.3 others.defined;
+    }
 
 section_at-joined : (object : Object) (held : Held) (from : Used) (before after : New) (place : Option UnitSection)
-    → with_section_at object held from before place ≡ Ok after → Joined held before after (named_at object from place)
+    → with_section_at object held from before place ≡ Ok after → AreJoined held before after (named_at object from place)
 section_at-joined object held from before after None h = same-new held before after h
 section_at-joined object held from before after (Some place) h = each-joined object held from before after (units place (section object.order from.bytes)) h
 
 section-joined : (object : Object) (held : Held) (from : Used) (before after : New)
-    → with_section object held before from ≡ Ok after → Joined held before after (named_at object from (unit_section from.kind))
+    → with_section object held before from ≡ Ok after → AreJoined held before after (named_at object from (unit_section from.kind))
 unfolding with_section
 section-joined object held from before after h = section_at-joined object held from before after (unit_section from.kind) h
 
 sections-joined : (object : Object) (held : Held) (before after : New) (sections : List Used)
-    → with_each_section object held before sections ≡ Ok after → Joined held before after (named_sections object sections)
+    → with_each_section object held before sections ≡ Ok after → AreJoined held before after (named_sections object sections)
 unfolding with_each_section named_sections
 sections-joined object held before after [] h = same-new held before after h
 sections-joined object held before after (from ∷ rest) h =
     let here = bind-inv (with_section object held before from) _ after h in
     let one = section-joined object held from before here.0 here.1 in
-    let others = sections-joined object held here.0 after rest here.2 in (
-      one.0 ++ others.0,
-      bind-ok (named_at object from (unit_section from.kind)) one.0 _ one.1 ∙ bind-ok (named_sections object rest) others.0 _ others.1,
-      joined-more held.names before.units here.0.units after.units one.0 others.0 one.2 others.2,
-    )
+    let others = sections-joined object held here.0 after rest here.2 in
+    record {
+      all = one.all ++ others.all;
+      is = bind-ok (named_at object from (unit_section from.kind)) one.all _ one.is ∙ bind-ok (named_sections object rest) others.all _ others.is;
+      joined = joined-more held.names before.units here.0.units after.units one.all others.all one.joined others.joined;
+      defined = can_join-more held.names before.units here.0.units one.all others.all one.joined one.defined others.defined;
+    }
 
 -- the units that an object adds are its units, joined to the names that are held
 pub joined_units : (object : Object) (held : Held) (new : New) → new_units object held ≡ Ok new
-    → (all : List (DwarfObject × NewUnit)) × (object_units object ≡ Ok all) × (new.units ≡ joining held.names all)
+    → (all : List (DwarfObject × NewUnit)) × (object_units object ≡ Ok all) × (new.units ≡ joining held.names all) × (can_join held.names all ≡ true)
 joined_units object held new h =
-    let all = sections-joined object held (record { units = []; differing = [] }) new object.sections h in
-    (all.0, all.1, all.2 ∙ ap (λ n. joining n all.0) (append-nil held.names))
+    let j = sections-joined object held (record { units = []; differing = [] }) new object.sections h in
+    (j.all, j.is, j.joined ∙ ap (λ n. joining n j.all) (append-nil held.names), ap (λ n. can_join n j.all) (sym (append-nil held.names)) ∙ j.defined)
 
 -- each of the joined units isn't there when it is added
 

@@ -27,7 +27,8 @@ use Rattle.thorin_parts.specs.Entries.{contribution_to}
 use Rattle.thorin_parts.specs.declared.entry.IndexEntry.{IndexEntry}
 use Rattle.thorin_parts.specs.IndexText.{entry_ids}
 use Rattle.thorin_parts.specs.ReadRows.{HasEntries, HasParts, non_empty}
-use Rattle.thorin.specs.Builder.{is_compilation, rows_of}
+use Rattle.thorin.specs.Builder.{rows_of}
+use Rattle.thorin.specs.NewUnits.{is_compilation}
 use Rattle.thorin.specs.Growing.{Contents}
 use Rattle.thorin.specs.Join.{UnitMeaning, IsUnit, GivesUnit, GivesNone, look_limit, limit_of, same_sort}
 use Rattle.thorin.specs.NewUnits.{same_name}

@@ -11,7 +11,8 @@ use Rattle.dwp_table.specs.declared.object.DwarfObject.TheVariants.{Compilation,
 use Rattle.dwp_index.specs.Finding.{IsNotNamed}
 use Rattle.thorin_parts.specs.declared.entry.IndexEntry.{IndexEntry}
 use Rattle.thorin_parts.specs.IndexText.{entry_ids}
-use Rattle.thorin.specs.Builder.{is_compilation, is_chosen, rows_of}
+use Rattle.thorin.specs.Builder.{is_chosen, rows_of}
+use Rattle.thorin.specs.NewUnits.{is_compilation}
 use Rattle.thorin.specs.Growing.{Contents}
 use Rattle.thorin.specs.Join.{UnitMeaning, same_sort, identifiers, signatures}
 use Rattle.thorin.specs.NewUnits.{same_name}

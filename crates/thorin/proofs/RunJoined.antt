@@ -14,7 +14,7 @@ use Rattle.thorin.specs.declared.packing.Input.TheVariants as inputs
 use Rattle.thorin.specs.Encodings.{encoding_of, own_encoding}
 use Rattle.thorin.specs.Builder.{State, package_or_new, own_after, order_test, plain_test, with_plain, with_units, with_input, taken}
 use Rattle.thorin.specs.Join.{UnitMeaning, meant, object_meaning, input_meaning, HasBytes, JoinsIfOk, Joined}
-use Rattle.thorin.specs.Meaning.{joining, object_units}
+use Rattle.thorin.specs.Meaning.{joining, can_join, object_units}
 use Rattle.thorin.specs.NewUnits.{NewUnit}
 use Rattle.thorin.specs.Run.{Outcome, Takes, MayRead, TakesRead, TakesInput, Ran}
 use Rattle.std.specs.Path.{path_bytes}
@@ -28,6 +28,7 @@ use Rattle.thorin.proofs.Steps.{ok-eq, bind-ok, bind-inv}
 pub record InputJoins (bytes : List ℕ) (now : Option InProgress) (ms : Members) : Type 0 where
   pub units : Members
   pub meaning : input_meaning bytes ≡ Ok units
+  pub defined : can_join (map (λ u. u.0) ms) units ≡ true
   pub has : StateHas now (ms ++ joining (map (λ u. u.0) ms) units)
 
 meaning-at : (bytes : List ℕ) (file : Elf) (b : Bool) → opened bytes ≡ Ok file → has_info file ≡ b → input_meaning bytes ≡ cond b (object_of file >>= object_meaning) (Ok [])
@@ -53,6 +54,7 @@ units-join parts_law units_law table bytes file begun now ms has opens info h =
     record {
       units = map {B = DwarfObject × UnitMeaning} (meant s1.0 s2.0) j.all;
       meaning = meaning-at bytes file true opens info ∙ bind-ok (object_of file) s1.0 _ s1.1 ∙ object-means s1.0 s2.0 j.all s2.1 j.units;
+      defined = j.defined;
       has = subst (λ n. StateHas n (ms ++ joining (map (λ u. u.0) ms) (map {B = DwarfObject × UnitMeaning} (meant s1.0 s2.0) j.all))) (ok-eq _ now s5.2) j.has;
     }
 
@@ -61,6 +63,7 @@ none-join : IsTable [] → (bytes : List ℕ) (file : Elf) (begun now : Option I
 none-join table bytes file begun now ms has opens info h = record {
   units = [];
   meaning = meaning-at bytes file false opens info;
+  defined = refl;
   has = subst (λ n. StateHas n (ms ++ [])) (ok-eq _ now h) (subst (StateHas (Some (package_or_new file begun))) (sym (append-nil ms)) (new-has file begun ms table has));
 }
 
@@ -94,7 +97,7 @@ takes-ok parts_law units_law table offer input bytes old new x ms given h has =
     let j = input-joins parts_law units_law table bytes old.begun s.0 ms has s.1 in
     record {
       now = ms ++ joining (map (λ u. u.0) ms) j.units;
-      joins = record { bytes = bytes; has = given; units = j.units; meaning = j.meaning; join = refl };
+      joins = record { bytes = bytes; has = given; units = j.units; meaning = j.meaning; defined = j.defined; join = refl };
       has = subst (λ (n : State). StateHas n.begun (ms ++ joining (map (λ u. u.0) ms) j.units)) (ok-eq (record old { begun = s.0; own = own_after old s.0 t.0 }) new t.2) j.has;
     }
 

@@ -11,7 +11,6 @@ use Rattle.dwp_elf_read.specs.Elf.{Elf}
 use Rattle.dwp_reader.specs.declared.encoding.Encoding.{Encoding}
 use Rattle.dwp_table.specs.Objects.{identifier_of}
 use Rattle.dwp_table.specs.declared.object.DwarfObject.{DwarfObject}
-use Rattle.dwp_table.specs.declared.object.DwarfObject.TheVariants.{Compilation, TypeUnit}
 use Rattle.thorin_strings.specs.Strings.{data_of}
 use Rattle.thorin_parts.specs.declared.entry.IndexEntry.{IndexEntry}
 use Rattle.thorin_parts.specs.EntryTests.{index_tests}
@@ -19,7 +18,7 @@ use Rattle.thorin_parts.specs.IndexText.{IsIndexOf}
 use Rattle.thorin_faults.specs.Fault.{Fault, MixedInputEncodings, NotYet, MissingReferencedUnit, NoOutputObjectCreated}
 use Rattle.thorin.specs.Encodings.{encoding_of, own_encoding, common}
 use Rattle.thorin.specs.Growing.{with_bytes}
-use Rattle.thorin.specs.NewUnits.{same_name}
+use Rattle.thorin.specs.NewUnits.{same_name, is_compilation}
 use Rattle.thorin.specs.State.{InProgress, empty, with_object}
 use Rattle.thorin.specs.Used.{Object, opened, has_info, object_of, is_package}
 
@@ -100,11 +99,6 @@ taken bytes state = do
   begun ← with_input bytes state.begun
   encoding ← own_encoding bytes
   Ok (record state { begun = begun; own = own_after state begun encoding })
-
--- whether a name is that of a compilation unit
-abbrev pub is_compilation : DwarfObject → Bool
-is_compilation (Compilation id) = true
-is_compilation (TypeUnit signature) = false
 
 -- the rows of compilation units, and those of type units
 abbrev pub is_chosen : Bool → IndexEntry → Bool

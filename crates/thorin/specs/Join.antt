@@ -19,10 +19,9 @@ use Rattle.dwp_table.specs.declared.object.DwarfObject.TheVariants.{Compilation,
 use Rattle.thorin_faults.specs.Fault.{Fault}
 use Rattle.thorin.specs.declared.packing.Input.{Input}
 use Rattle.thorin.specs.declared.packing.Input.TheVariants as inputs
-use Rattle.thorin.specs.Builder.{is_compilation}
 use Rattle.thorin.specs.Encodings.{encoding_of}
-use Rattle.thorin.specs.Meaning.{object_units, object_string, joined_content, joining}
-use Rattle.thorin.specs.NewUnits.{NewUnit, same_name}
+use Rattle.thorin.specs.Meaning.{object_units, object_string, joined_content, joining, can_join}
+use Rattle.thorin.specs.NewUnits.{NewUnit, same_name, is_compilation}
 use Rattle.thorin.specs.Parts.{is_copied}
 use Rattle.thorin.specs.Run.{Outcome}
 use Rattle.thorin.specs.Used.{Object, opened, has_info, object_of}
@@ -66,12 +65,13 @@ HasBytes offer (inputs.Object path) bytes = offer (path_bytes path) (Ok bytes)
 HasBytes offer (inputs.Bytes given) bytes = bytes ≡ given.now
 HasBytes offer (inputs.Executable path missing) bytes = ⊥
 
--- an accepted input joins its units to those before: one whose name is there is passed over
+-- an accepted input joins its units to those before: a type unit whose name is there is passed over, and no compilation unit is
 pub record Joins (offer : List ℕ → Result (List ℕ) IoError → Type 0) (input : Input) (before now : List (DwarfObject × UnitMeaning)) : Type 0 where
   pub bytes : List ℕ
   pub has : HasBytes offer input bytes
   pub units : List (DwarfObject × UnitMeaning)
   pub meaning : input_meaning bytes ≡ Ok units
+  pub defined : can_join (map (λ u. u.0) before) units ≡ true
   pub join : now ≡ before ++ joining (map (λ u. u.0) before) units
 
 -- a refused one adds nothing

@@ -1,6 +1,6 @@
 -- What a plain object means: its units by name, with what belongs to each; and how such lists are joined
 -- (DWARF 5, 7.3.5; the GNU page DebugFissionDWP).
-use Rattle.std.specs.Prelude.{ℕ, ◌+◌, ◌*◌, List, [], ◌∷◌, ◌++◌, take, length, Option, Some, None, Result, Ok, if◌then◌else◌}
+use Rattle.std.specs.Prelude.{ℕ, Bool, true, not, ◌&&◌, ◌+◌, ◌*◌, List, [], ◌∷◌, ◌++◌, take, length, Option, Some, None, Result, Ok, if◌then◌else◌}
 use Rattle.std.specs.List.{list_any}
 use Rattle.std.specs.Option.{ok_or}
 use Rattle.dwp_base.specs.declared.section.SectionKind.{SectionKind}
@@ -18,7 +18,7 @@ use Rattle.dwp_index.specs.Strings.{header_size, entry_count, string_in}
 use Rattle.thorin_faults.specs.Fault.{Fault, ParseUnitHeader, NotSplitUnit}
 use Rattle.thorin_faults.specs.Answers.{as_fault}
 use Rattle.thorin.specs.Identity.{identity}
-use Rattle.thorin.specs.NewUnits.{NewUnit, same_name, place_for, unit_section}
+use Rattle.thorin.specs.NewUnits.{NewUnit, same_name, is_compilation, place_for, unit_section}
 use Rattle.thorin.specs.Used.{Used, Object, first}
 
 -- a unit that was read, by its name
@@ -59,6 +59,13 @@ joining names [] = []
 joining names (unit ∷ rest) =
     if list_any (same_name unit.0) names then joining names rest
     else unit ∷ joining (names ++ unit.0 ∷ []) rest
+
+-- there is a join: no compilation unit of the list has a name that is there, or came before
+abbrev pub can_join : {X : Type 0} → List DwarfObject → List (DwarfObject × X) → Bool
+can_join names [] = true
+can_join names (unit ∷ rest) =
+    if list_any (same_name unit.0) names then not (is_compilation unit.0) && can_join names rest
+    else can_join (names ++ unit.0 ∷ []) rest
 
 -- the contents of all sections of a kind, joined in file order
 abbrev pub joined_content : SectionKind → List Used → List ℕ

@@ -1,5 +1,5 @@
 -- The units that a plain object adds to a package (DWARF 5, 7.3.5 and 7.5.1).
-use Rattle.std.specs.Prelude.{ℕ, Bool, false, ◌==◌, List, [], ◌∷◌, ◌++◌, Option, Some, None, Result, Ok, Err, option_map, if◌then◌else◌, slice_get, position}
+use Rattle.std.specs.Prelude.{ℕ, Bool, true, false, ◌==◌, List, [], ◌∷◌, ◌++◌, Option, Some, None, Result, Ok, Err, option_map, if◌then◌else◌, slice_get, position}
 use Rattle.std.specs.Map.{lookup}
 use Rattle.std.specs.Option.{ok_or, option_map_or}
 use Rattle.std.specs.Str.{bytes_eq}
@@ -45,6 +45,11 @@ abbrev pub same_name : DwarfObject → DwarfObject → Bool
 same_name (Compilation a) (Compilation b) = a.0 == b.0
 same_name (TypeUnit a) (TypeUnit b) = a.0 == b.0
 same_name _ _ = false
+
+-- whether a name is that of a compilation unit
+abbrev pub is_compilation : DwarfObject → Bool
+is_compilation (Compilation id) = true
+is_compilation (TypeUnit signature) = false
 
 -- a unit's bytes by its ranges: those in types, where it has a range there, else those in info
 abbrev pub bytes_by : Contents → (types info : Option Contribution) → List ℕ

@@ -4,7 +4,8 @@ ghost use Rattle.std.specs.Prelude.{◌≡◌, List, [], length, take, IfOk, IfE
 ghost use Rattle.thorin_faults.specs.Answers.{Gives};
 ghost use Rattle.thorin_strings.specs.Marks.{mark_of};
 ghost use Rattle.dwp_table.specs.declared.object.DwarfObject.{DwarfObject};
-ghost use Rattle.thorin.specs.Builder.{IsFinished, indexes_test, IdentifiersFit, is_compilation, rows_of};
+ghost use Rattle.thorin.specs.Builder.{IsFinished, indexes_test, IdentifiersFit, rows_of};
+ghost use Rattle.thorin.specs.NewUnits.{is_compilation};
 ghost use Rattle.thorin.specs.State as spec;
 ghost use Rattle.thorin.specs.StateView.{in_progress_of, mark_in};
 ghost use Rattle.thorin.specs.UnitView.{new_unit, new_of};
