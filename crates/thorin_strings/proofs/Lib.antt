@@ -1,8 +1,10 @@
+pub mod CompareLemmas
 pub mod Digits
 pub mod StringLemmas
 pub mod Permutations
 pub mod OffsetLemmas
 pub mod TableLemmas
+pub mod PlaceLemmas
 pub mod SearchLemmas
 pub mod RemapLemmas
 pub mod SectionLemmas

@@ -37,6 +37,6 @@ tied (x ∷ xs) [] h = cc
 tied (x ∷ xs) (y ∷ ys) h = ties x y xs ys (nat_cmp x y) refl h (tied xs ys)
 
 -- what a comparison with the string at a position says
-pub compared : (bytes positions s candidate : List ℕ) (m p : ℕ) (o answer : Ordering) → candidate ≡ string_from bytes p → p ≡ get_or positions m 0 → o ≡ slice_cmp nat_cmp candidate s → o ≡ answer → slice_cmp nat_cmp (string_from bytes (get_or positions m 0)) s ≡ answer
-compared bytes positions s candidate m p o answer is_candidate is_position is_order is_answer =
-    ap (λ t. slice_cmp nat_cmp t s) (sym (is_candidate ∙ ap (string_from bytes) is_position)) ∙ sym is_order ∙ is_answer
+pub compared : (bytes positions s : List ℕ) (m p : ℕ) (o answer : Ordering) → p ≡ get_or positions m 0 → o ≡ slice_cmp nat_cmp (string_from bytes p) s → o ≡ answer → slice_cmp nat_cmp (string_from bytes (get_or positions m 0)) s ≡ answer
+compared bytes positions s m p o answer is_position is_order is_answer =
+    ap (λ n. slice_cmp nat_cmp (string_from bytes n) s) (sym is_position) ∙ sym is_order ∙ is_answer

@@ -1,5 +1,6 @@
 -- The strings of a section in which each is ended by a zero byte.
 use Rattle.std.proofs.Common.{◌≡◌, ◌≢◌, ℕ, ◌-◌, ◌<◌, ◌≤◌, Bool, true, false, cond, eqb, List, [], ◌∷◌, ◌++◌, length, take, drop, get_or, Option, Some, None, MatchOption, All, Decides, ap, sym, refl, ◌∙◌, arith, append_assoc, length-append}
+use Rattle.std.specs.Option.{is_some}
 use Rattle.std.specs.List.{before_first, onto_first, list_any, HoldsAt}
 use Rattle.std.proofs.lemmas.List.{take_all, take_rest, take_at, drop_at, get_or_at, get_or_append_left, get_or_default, get_or-take, length-take}
 use Rattle.std.proofs.lemmas.List.Sums.{position_or_len_is}
@@ -83,3 +84,8 @@ zero_there xs end h =
 -- one that found none
 pub zero_nowhere : (xs : List ℕ) → IsFirstByte (is_byte 0) xs None → list_any (λ b. eqb b 0) xs ≡ false
 zero_nowhere xs h = false_from_ne_true _ (λ there. let at = (any_zero xs).0 there in h at.0 (omega arith) at.1 (eq-eqb _ 0 (at.2 0)))
+
+-- bytes in which one was found aren't a table's string
+pub zero_within : (xs : List ℕ) (r : Option ℕ) → IsFirstByte (is_byte 0) xs r → is_some r ≡ true → IsZeroFree xs → ⊥
+zero_within xs None h some free = cc
+zero_within xs (Some end) h some free = free end 0 h.0.high (eqb-true _ 0 h.1)

@@ -1,5 +1,5 @@
 -- The positions of a table's strings, in the strings' order.
-use Rattle.std.proofs.Common.{◌≡◌, ◌≢◌, ℕ, ◌+◌, ◌-◌, ◌<◌, ◌≤◌, true, false, ltb, List, [], ◌∷◌, ◌++◌, length, take, drop, get_or, map, filter, insert, All, AllPairs, Contains, IsPermutation, Less, Equal, Result, Ok, Err, IfOk, IfErr, ap, sym, subst, refl, ◌∙◌, ⊎_elim, arith, append_assoc, length-append}
+use Rattle.std.proofs.Common.{◌≡◌, ◌≢◌, ℕ, ◌+◌, ◌-◌, ◌<◌, ◌≤◌, false, ltb, List, [], ◌∷◌, ◌++◌, length, take, drop, get_or, map, filter, insert, All, AllPairs, Contains, IsPermutation, Less, Equal, Result, Ok, Err, IfOk, IfErr, ap, sym, subst, refl, ◌∙◌, ⊎_elim, arith, append_assoc, length-append}
 use Rattle.std.specs.List.{list_any}
 use Rattle.std.specs.Str.{bytes_eq}
 use Rattle.std.specs.Ordering.{nat_cmp}
@@ -11,6 +11,7 @@ use Rattle.std.proofs.lemmas.List.Quantifiers.{all_pairs_push}
 use Rattle.std.proofs.lemmas.List.Kept.{AllPairs-filter}
 use Rattle.std.proofs.lemmas.List.Sorted.{IsPermutation-trans, IsPermutation-sym, IsPermutation-cons, IsPermutation-map, IsPermutation-insert, IsPermutation-to_front, length_permutation, All-permutation, Contains-permutation}
 use Rattle.std.proofs.lemmas.Bool.{cases_lt, cases_order, false_from_ne_true, cond-true, cond-false}
+use Rattle.std.proofs.lemmas.Result.{IfOk-at_ok}
 use Rattle.std.proofs.lemmas.Cmp.{nat_list_cmp_total, tied_itself}
 use Rattle.thorin_strings.specs.Strings.{terminated, data_of, offset_of, IsZeroFree, IsTable, string_from, strings_in, offsets_from, with_string, IsWithinDigits, IsBefore, IsIndexed, StandsAt}
 use Rattle.thorin_strings.proofs.StringLemmas.{strings_in-data_of, zero_free-strings_in, string_from-ended}
@@ -45,21 +46,25 @@ not_before_itself s t same h =
     let apart : Less ≡ Equal = sym less ∙ own in
     cc
 
--- the string at a position has its offset there
-pub position_known : (bytes positions : List ℕ) → IsIndexed bytes positions → (r : ℕ) → r < length positions → (Contains (strings_in bytes) (string_from bytes (get_or positions r 0))) × (offset_of (strings_in bytes) (string_from bytes (get_or positions r 0)) ≡ get_or positions r 0)
-position_known bytes positions table r within =
-    let p = get_or positions r 0 in
+-- the string that begins at an offset has that offset
+pub known_offset : (bytes positions s : List ℕ) (p : ℕ) → IsIndexed bytes positions → Contains (offsets_from 0 (strings_in bytes)) p → string_from bytes p ≡ s → Contains (strings_in bytes) s × (p ≡ offset_of (strings_in bytes) s)
+known_offset bytes positions s p table there is =
     let ss = strings_in bytes in
-    let there = Contains-permutation positions (offsets_from 0 ss) p (IsPermutation-sym _ _ table.moved) (Contains-get_or positions r 0 within) in
     let i = there.0 in
     let inside : i < length (offsets_from 0 ss) = there.1 in
     let within_ss : i < length ss = omega (arith, length-offsets_from 0 ss) in
-    let is_string : get_or ss i [] ≡ string_from bytes p =
-    ap (λ l. get_or l i []) (sym (strings_here bytes table.ended)) ∙ get_or-map (string_from bytes) (offsets_from 0 ss) i p [] inside ∙ ap (string_from bytes) there.2 in
+    let is_string : get_or ss i [] ≡ s =
+    ap (λ l. get_or l i []) (sym (strings_here bytes table.ended)) ∙ get_or-map (string_from bytes) (offsets_from 0 ss) i p [] inside ∙ ap (string_from bytes) there.2 ∙ is in
     let offset = offset_of-at ss 0 i [] p table.distinct within_ss in (
       subst (Contains ss) is_string (Contains-get_or ss i [] within_ss),
-      ap (offset_of ss) (sym is_string) ∙ omega (arith, offset) ∙ there.2,
+      sym (ap (offset_of ss) (sym is_string) ∙ omega (arith, offset) ∙ there.2),
     )
+
+-- a position is such an offset
+pub known_position : (bytes positions s : List ℕ) (r p : ℕ) → IsIndexed bytes positions → r < length positions → p ≡ get_or positions r 0 → string_from bytes p ≡ s → Contains (strings_in bytes) s × (p ≡ offset_of (strings_in bytes) s)
+known_position bytes positions s r p table within is_position is =
+    let there : Contains positions p = subst (Contains positions) (sym is_position) (Contains-get_or positions r 0 within) in
+    known_offset bytes positions s p table (Contains-permutation positions (offsets_from 0 (strings_in bytes)) p (IsPermutation-sym _ _ table.moved) there) is
 
 not_behind_itself : (s t : List ℕ) → t ≡ s → IsBefore s t → ⊥
 not_behind_itself s t same h = not_before_itself s s refl (subst (λ u. IsBefore s u) same h)
@@ -189,14 +194,11 @@ pub count_within : (bytes positions : List ℕ) (count : ℕ) → IsIndexed byte
 count_within bytes positions count table within = λ k few. within k (omega (arith, length-positions bytes positions table))
 
 -- what a search that found a string says
-pub found_there : (bytes now positions s : List ℕ) (r p : ℕ) (answer : Result ℕ ℕ) → IsIndexed bytes positions → now ≡ bytes → answer ≡ Ok r → IfOk answer (λ rank. (rank < length positions) × (string_from now (get_or positions rank 0) ≡ s)) → p ≡ get_or positions r 0 → Contains (strings_in bytes) s × (p ≡ offset_of (strings_in bytes) s) × (with_string (strings_in bytes) s ≡ strings_in bytes)
-found_there bytes now positions s r p answer table same is_ok found is_position =
-    let at : (r < length positions) × (string_from now (get_or positions r 0) ≡ s) = rw is_ok at found in
-    let is_string : string_from bytes (get_or positions r 0) ≡ s = ap (λ l. string_from l (get_or positions r 0)) (sym same) ∙ at.1 in
-    let known = position_known bytes positions table r at.0 in
-    let there : Contains (strings_in bytes) s = subst (Contains (strings_in bytes)) is_string known.0 in
-    let has : list_any (λ t. bytes_eq t s) (strings_in bytes) ≡ true = (has_Decides (strings_in bytes) s).1 there in
-    (there, is_position ∙ sym known.1 ∙ ap (offset_of (strings_in bytes)) is_string, cond-true _ _ _ has)
+pub found_there : (bytes now s : List ℕ) (p : ℕ) (answer : Result ℕ ℕ) → now ≡ bytes → answer ≡ Ok p → IfOk answer (λ place. Contains (strings_in now) s × (place ≡ offset_of (strings_in now) s)) → Contains (strings_in bytes) s × (p ≡ offset_of (strings_in bytes) s) × (with_string (strings_in bytes) s ≡ strings_in bytes)
+found_there bytes now s p answer same is_ok found =
+    let at : Contains (strings_in bytes) s × (p ≡ offset_of (strings_in bytes) s) =
+    subst (λ l. Contains (strings_in l) s × (p ≡ offset_of (strings_in l) s)) same (IfOk-at_ok (λ place. Contains (strings_in now) s × (place ≡ offset_of (strings_in now) s)) is_ok found) in
+    (at.0, at.1, cond-true _ _ _ ((has_Decides (strings_in bytes) s).1 at.0))
 
 -- what a search that didn't says
 pub absent_there : (bytes now positions s : List ℕ) (r : ℕ) (answer : Result ℕ ℕ) → IsIndexed bytes positions → now ≡ bytes → answer ≡ Err r → IfErr answer (StandsAt now positions s) → StandsAt bytes positions s r

@@ -1,5 +1,5 @@
 -- The strings of a package, as `.debug_str.dwo` holds them: each is ended by a zero byte (DWARF 5, 7.26).
-use Rattle.std.specs.Prelude.{◌≡◌, ◌≢◌, ℕ, ◌+◌, ◌^◌, ◌<◌, ◌≤◌, if◌then◌else◌, ◌==◌, List, [], ◌∷◌, ◌++◌, length, drop, slice_index, All, AllPairs, IsPermutation}
+use Rattle.std.specs.Prelude.{◌≡◌, ◌≢◌, ℕ, ◌+◌, ◌-◌, ◌^◌, ◌<◌, ◌≤◌, if◌then◌else◌, ◌==◌, List, [], ◌∷◌, ◌++◌, length, drop, slice_index, All, AllPairs, IsPermutation}
 use Rattle.std.specs.List.{flat_map, before_first, list_any, onto_first}
 use Rattle.std.specs.Str.{bytes_eq}
 use Rattle.std.specs.Ordering.{nat_cmp}
@@ -39,6 +39,11 @@ IsWithinDigits count n = (k : ℕ) → n < 2 ^ k → count ≤ k
 -- the string at a place of a section: the bytes before the next zero
 abbrev pub string_from : List ℕ → ℕ → List ℕ
 string_from bytes at = before_first (λ b. b == 0) (drop at bytes)
+
+-- a string begins at a place of a section of ended strings: at its front, or behind the zero byte that ends another
+pub record BeginsAt (bytes : List ℕ) (at : ℕ) : Type 0 where
+  pub within : at < length bytes
+  pub behind : 0 < at → slice_index bytes (at - 1) ≡ 0
 
 -- the strings that a section of ended strings holds
 abbrev pub strings_in : List ℕ → List (List ℕ)

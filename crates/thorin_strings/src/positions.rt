@@ -32,14 +32,17 @@ impl Model for Positions {
     ghost invariant = { λ p. IsChunked (pieces p.chunks.items) p.starts.items p.len };
 }
 
-/// The chunk in which a rank is, or goes.
-fn chunk_of(starts: &[usize], rank: usize) -> usize
+/// The chunk in which a rank is, or goes. The chunk `near` is tried first.
+fn chunk_of(starts: &[usize], rank: usize, near: usize) -> usize
     requires some { 0 < length starts.now }
     requires first { slice_index starts.now 0 ≤ rank }
     ensures { IsPieceOf starts.now rank result }
 {
     let mut low = 0;
     let mut high = starts.len();
+    if near < high && starts[near] <= rank && (near + 1 == high || rank < starts[near + 1]) {
+        return near;
+    }
     while high - low > 1 {
         let middle = low + (high - low) / 2;
         if starts[middle] <= rank {
@@ -125,7 +128,7 @@ fn room_at(
         chunks.push(Vec::new(alloc)).unwrap();
         return Ok(0);
     }
-    let at = chunk_of(starts, rank);
+    let at = chunk_of(starts, rank, 0);
     if chunks[at].len() < CHUNK {
         return Ok(at);
     }
@@ -181,14 +184,14 @@ impl Positions {
         self.len
     }
 
-    /// The number of a rank.
-    pub fn get(&self, rank: usize) -> u64
+    /// The number of a rank, and its chunk. The chunk `near` is tried first.
+    pub fn get_near(&self, rank: usize, near: usize) -> (u64, usize)
         requires { rank < length self.now }
-        ensures { result ≡ slice_index self.now rank }
+        ensures { result.0 ≡ slice_index self.now rank }
     {
-        let at = chunk_of(self.starts.as_slice(), rank);
+        let at = chunk_of(self.starts.as_slice(), rank, near);
         let chunk = &self.chunks[at];
-        chunk[rank - self.starts[at]]
+        (chunk[rank - self.starts[at]], at)
     }
 
     /// Puts a number at a rank, and moves those from there on up by one.

@@ -1,51 +1,67 @@
-ghost use Rattle.std.specs.Prelude.{◌≡◌, ◌≤◌, ◌<◌, ℕ, length, slice_index, All, AllPairs, IfOk, IfErr};
-ghost use Rattle.thorin_strings.specs.Strings.{string_from, IsBefore, StandsAt, IsWithinDigits};
+ghost use Rattle.std.specs.Prelude.{◌≡◌, ◌≤◌, ◌↔◌, length, Contains, IfOk, IfErr, IsTrue};
+ghost use Rattle.std.specs.Ordering.{nat_cmp};
+ghost use Rattle.std.specs.Cmp.Lexicographic.{slice_cmp};
+ghost use Rattle.thorin_strings.specs.Strings.{string_from, strings_in, offset_of, IsZeroFree, IsIndexed, BeginsAt, StandsAt, IsWithinDigits};
 
 use crate::positions::Positions;
-use memchr::memchr;
 use std::cmp::Ordering;
 
-/// The bytes from a place up to the next zero byte, or to the end where there is none.
-pub(crate) fn string_from(bytes: &[u8], at: usize) -> &[u8]
-    requires { at ≤ length bytes.now }
-    ensures { result.now ≡ string_from bytes.now at }
+/// How the string at a place stands to one without zero bytes. Its end isn't looked for: as many bytes as
+/// the other has decide, and where they are the same, whether a zero follows them.
+fn compare_at(bytes: &[u8], at: usize, string: &[u8]) -> Ordering
+    requires within { at ≤ length bytes.now }
+    requires zero_free { IsZeroFree string.now }
+    ensures { result ≡ slice_cmp nat_cmp (string_from bytes.now at) string.now }
 {
     let rest = &bytes[at..];
-    match memchr(0, rest) {
-        Some(end) => &rest[..end],
-        None => rest,
+    if rest.len() <= string.len() {
+        return rest.cmp(&string);
+    }
+    match rest[..string.len()].cmp(&string) {
+        Ordering::Equal => rest[string.len()].cmp(&0),
+        order => order,
     }
 }
 
-/// What a search found: the rank of the string, or the rank at which it would stand, and how many
+/// Whether a string begins at a place of a section of ended strings.
+fn begins_at(bytes: &[u8], at: usize) -> bool
+    ensures { IsTrue result ↔ BeginsAt bytes.now at }
+{
+    at < bytes.len() && (at == 0 || bytes[at - 1] == 0)
+}
+
+/// What a search found: where the string begins, or the rank at which it would stand, and how many
 /// strings were compared.
 #[derive(Drop)]
 pub(crate) struct Found {
-    pub rank: Result<usize, usize>,
+    pub place: Result<usize, usize>,
     pub compared: u32,
 }
 
-/// Looks for a string among those that begin at the positions, which are in the strings' order.
+/// Looks for a string of a table by halving the list of positions, which is in the strings' order.
 pub(crate) fn search(bytes: &[u8], positions: &Positions, string: &[u8]) -> Found
-    requires within { All (λ p. p ≤ length bytes.now) positions.now }
-    requires sorted { AllPairs (λ p q. IsBefore (string_from bytes.now p) (string_from bytes.now q)) positions.now }
-    ensures found { IfOk result.rank (λ rank. (rank < length positions.now)
-        × (string_from bytes.now (slice_index positions.now rank) ≡ string.now)) }
-    ensures absent { IfErr result.rank (StandsAt bytes.now positions.now string.now) }
+    requires table { IsIndexed bytes.now positions.now }
+    requires zero_free { IsZeroFree string.now }
+    ensures found { IfOk result.place (λ place. Contains (strings_in bytes.now) string.now
+        × (place ≡ offset_of (strings_in bytes.now) string.now)) }
+    ensures absent { IfErr result.place (StandsAt bytes.now positions.now string.now) }
     ensures count { IsWithinDigits result.compared (length positions.now) }
 {
     let mut low = 0;
     let mut high = positions.len();
+    let mut chunk = 0;
     let mut compared = 0;
     while low < high {
         let middle = low + (high - low) / 2;
-        let candidate = string_from(bytes, positions.get(middle) as usize);
+        let (position, at) = positions.get_near(middle, chunk);
+        let place = position as usize;
+        chunk = at;
         compared += 1;
-        match candidate.cmp(&string) {
+        match compare_at(bytes, place, string) {
             Ordering::Less => low = middle + 1,
             Ordering::Equal => {
                 return Found {
-                    rank: Ok(middle),
+                    place: Ok(place),
                     compared,
                 };
             }
@@ -53,7 +69,26 @@ pub(crate) fn search(bytes: &[u8], positions: &Positions, string: &[u8]) -> Foun
         }
     }
     Found {
-        rank: Err(low),
+        place: Err(low),
         compared,
     }
+}
+
+/// Looks for a string of a table at a place, and where it isn't there, among all.
+pub(crate) fn find_near(
+    bytes: &[u8],
+    positions: &Positions,
+    near: usize,
+    string: &[u8],
+) -> Result<usize, usize>
+    requires table { IsIndexed bytes.now positions.now }
+    requires zero_free { IsZeroFree string.now }
+    ensures found { IfOk result (λ place. Contains (strings_in bytes.now) string.now
+        × (place ≡ offset_of (strings_in bytes.now) string.now)) }
+    ensures absent { IfErr result (StandsAt bytes.now positions.now string.now) }
+{
+    if begins_at(bytes, near) && compare_at(bytes, near, string).is_eq() {
+        return Ok(near);
+    }
+    search(bytes, positions, string).place
 }

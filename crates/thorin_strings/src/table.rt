@@ -3,7 +3,8 @@ ghost use Rattle.thorin_strings.specs.Strings.{data_of, offset_of, with_string, 
 ghost use Rattle.thorin_strings.specs.Marks.{mark_of};
 
 use crate::positions::Positions;
-use crate::search::search;
+use crate::search::{find_near, search};
+use memchr::memchr;
 use std::alloc::Global;
 use std::marker::Model;
 use thorin_faults::Error;
@@ -24,12 +25,14 @@ pub struct TableMark {
 /// The distinct strings of a package, in order of first use. A clause sees the table as their list.
 ///
 /// No string is copied but into the data; beside it the table keeps where each begins, in the order
-/// of the strings.
+/// of the strings, and the place behind the string that was put in or found last: inputs that share
+/// strings often use them in the same order, so a string is looked for there first.
 #[derive(Drop)]
 pub struct PackageStringTable {
     alloc: Global,
     bytes: Vec<u8>,
     positions: Positions,
+    next: usize,
 }
 
 impl Model for PackageStringTable {
@@ -52,6 +55,7 @@ impl PackageStringTable {
             alloc,
             bytes: Vec::new(alloc),
             positions: Positions::new(alloc),
+            next: 0,
         }
     }
 
@@ -88,9 +92,13 @@ impl PackageStringTable {
         ensures offset { IfSome result.0 (λ o. o.0 ≡ offset_of self.now string.now) }
         ensures count { IsWithinDigits result.1 (length self.now) }
     {
-        let found = search(self.bytes.as_slice(), &self.positions, string);
-        let offset = match found.rank {
-            Ok(rank) => Some(PackageStringOffset(self.positions.get(rank) as usize)),
+        let bytes = self.bytes.as_slice();
+        if memchr(0, string).is_some() {
+            return (None, 0);
+        }
+        let found = search(bytes, &self.positions, string);
+        let offset = match found.place {
+            Ok(place) => Some(PackageStringOffset(place)),
             Err(_) => None,
         };
         (offset, found.compared)
@@ -105,15 +113,18 @@ impl PackageStringTable {
         ensures kept { take (length self.old) self.new ≡ self.old }
         ensures err { IfErr result (λ e. (e ≡ Error.Memory) × (self.new ≡ self.old)) }
     {
-        let found = search(self.bytes.as_slice(), &self.positions, string);
-        match found.rank {
-            Ok(rank) => Ok(PackageStringOffset(self.positions.get(rank) as usize)),
+        match find_near(self.bytes.as_slice(), &self.positions, self.next, string) {
+            Ok(offset) => {
+                self.next = offset + string.len() + 1;
+                Ok(PackageStringOffset(offset))
+            }
             Err(rank) => {
                 let offset = self.bytes.len();
                 self.bytes.reserve(string.len() + 1)?;
                 self.positions.insert(rank, offset as u64)?;
                 self.bytes.extend_from_slice(string).unwrap();
                 self.bytes.push(0).unwrap();
+                self.next = self.bytes.len();
                 Ok(PackageStringOffset(offset))
             }
         }

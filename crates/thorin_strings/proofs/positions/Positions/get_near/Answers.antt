@@ -3,7 +3,7 @@ use Rattle.std.proofs.lemmas.List.{get_or_read}
 use Rattle.thorin_strings.specs.Chunks.{pieces, IsPieceOf}
 use Rattle.thorin_strings.proofs.ChunkLemmas.{first_start, some_piece, chunk_got}
 use Rattle.thorin_strings.proofs.PieceLemmas.{length-pieces, piece_read}
-use Rattle.thorin_strings.proofs.positions.Positions.get.Goals as goal
+use Rattle.thorin_strings.proofs.positions.Positions.get_near.Goals as goal
 
 pub chunk_of-at-requires-clause-some : goal.chunk_of-at-requires-clause-some
 chunk_of-at-requires-clause-some c =
