@@ -7,13 +7,16 @@ use Rattle.std.proofs.lemmas.List.Concat.{flat_map-cons}
 use Rattle.std.proofs.lemmas.Bool.{eqb-true, ne_eqb}
 use Rattle.dwp_base.specs.Reading.{Reads}
 use Rattle.dwp_reader.specs.declared.fault.ReadError.{ReadError}
-use Rattle.dwp_reader.specs.Input.{Input, after}
+use Rattle.dwp_reader.specs.Input.{Input, Goes, front, after}
 use Rattle.dwp_dwarf.specs.declared.header.UnitSection.{UnitSection}
 use Rattle.dwp_dwarf.specs.declared.header.UnitHeader.{UnitHeader}
 use Rattle.dwp_dwarf.specs.declared.header.UnitHeaders.{UnitHeaders}
 use Rattle.dwp_dwarf.specs.Units.{Unit, unit_at, unit_of, unit_seen, units_left, units, units_within, listed, unit_bytes, UnitsLie}
 use Rattle.dwp_dwarf.proofs.Forward.{by_test, IsBehind, IsBehind-then}
 use Rattle.dwp_dwarf.proofs.UnitsForward.{unit_is}
+
+pub unit_taken : (section : UnitSection) (i rest : Input) (u : Unit) → unit_at section i ≡ Ok (u, rest) → (goes : Goes 1 i rest) × (u.whole ≡ front goes.taken i)
+unit_taken section i rest u e = let read = unit_is section i (u, rest) e in (record { taken = read.0; some = omega (arith, read.1); enough = read.3.fits; is = read.3.is }, read.2)
 
 -- a unit leaves less
 unit_shorter : (section : UnitSection) (i : Input) (p : Unit × Input) → unit_at section i ≡ Ok p → length p.1.bytes < length i.bytes
@@ -103,8 +106,8 @@ after-none : (i : Input) → i ≡ after 0 i
 after-none i = let e : i.place + 0 ≡ i.place = omega arith in rw e refl
 
 -- a unit has as many bytes as were taken for it
-unit_taken : (section : UnitSection) (i : Input) (x : Unit × Input) → unit_at section i ≡ Ok x → IsBehind (length x.0.whole.bytes) i x.1
-unit_taken section i x e =
+unit_size : (section : UnitSection) (i : Input) (x : Unit × Input) → unit_at section i ≡ Ok x → IsBehind (length x.0.whole.bytes) i x.1
+unit_size section i x e =
     let u = unit_is section i x e in
     let size : length x.0.whole.bytes ≡ u.0 = ap (λ (w : Input). length w.bytes) u.2 ∙ length-take-le u.0 i.bytes u.3.fits in
     subst (λ (n : ℕ). IsBehind n i x.1) (sym size) u.3
@@ -117,7 +120,7 @@ units_behind section (u ∷ us) others i e =
     let x = listed_ok (unit_at section i) (units section) u (map Ok us ++ others) (some_listed section i (Ok u) (map Ok us ++ others) e) in
     let r = units_behind section us others x.0.1 x.3 in
     let front : u.whole.bytes ++ x.0.1.bytes ≡ i.bytes = subst (λ (w : Unit). w.whole.bytes ++ x.0.1.bytes ≡ i.bytes) x.2 (unit_joined section i x.0 x.1) in
-    let first : IsBehind (length u.whole.bytes) i x.0.1 = subst (λ (w : Unit). IsBehind (length w.whole.bytes) i x.0.1) x.2 (unit_taken section i x.0 x.1) in
+    let first : IsBehind (length u.whole.bytes) i x.0.1 = subst (λ (w : Unit). IsBehind (length w.whole.bytes) i x.0.1) x.2 (unit_size section i x.0 x.1) in
     let both : IsBehind (length u.whole.bytes + length (flat_map unit_bytes us)) i r.0 = IsBehind-then _ _ i x.0.1 r.0 first r.3 in
     let size : length u.whole.bytes + length (flat_map unit_bytes us) ≡ length (flat_map unit_bytes (u ∷ us)) =
     sym (ap length (flat_map-cons unit_bytes u us) ∙ length-append u.whole.bytes (flat_map unit_bytes us)) in (

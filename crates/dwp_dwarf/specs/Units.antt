@@ -2,7 +2,7 @@
 use Rattle.std.specs.Prelude.{◌≡◌, ◌↔◌, ℕ, zero, suc, ◌-◌, List, [], ◌∷◌, ◌++◌, length, map, drop, Result, Ok, Err, nat_lt, nat_le, ◌==◌, ◌&&◌, if◌then◌else◌}
 use Rattle.std.specs.List.{flat_map}
 use Rattle.dwp_base.specs.Reading.{◌>>=◌}
-use Rattle.dwp_reader.specs.Input.{Input, after, split_at, byte_at, number_at, offset_at, is_address_size}
+use Rattle.dwp_reader.specs.Input.{Input, Goes, front, after, split_at, byte_at, number_at, offset_at, is_address_size}
 use Rattle.dwp_reader.specs.declared.encoding.Encoding.{Encoding}
 use Rattle.dwp_reader.specs.declared.encoding.Format.{Format}
 use Rattle.dwp_reader.specs.declared.encoding.Format.TheVariants.{Dwarf32, Dwarf64}
@@ -127,6 +127,10 @@ unit_seen input (Err e) = Err e
 -- all bytes of a unit
 abbrev pub unit_bytes : Unit → List ℕ
 unit_bytes u = u.whole.bytes
+
+-- a unit takes at least a byte of the front, and its bytes are those that it takes
+abbrev pub UnitsAreTaken : Type 0
+UnitsAreTaken = (section : UnitSection) (i rest : Input) (u : Unit) → unit_at section i ≡ Ok (u, rest) → (goes : Goes 1 i rest) × (u.whole ≡ front goes.taken i)
 
 -- a section without a fault is the bytes of its units, joined
 abbrev pub UnitsAreSection : Type 0

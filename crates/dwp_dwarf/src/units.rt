@@ -1,7 +1,7 @@
 ghost use Rattle.std.specs.Prelude.{◌≡◌, ◌≤◌, length};
 ghost use Rattle.std.specs.Iterator.{YieldsFirstBy, item_count};
 ghost use Rattle.dwp_base.specs.Reading.{Answers, Reads};
-ghost use Rattle.dwp_dwarf.specs.Units.{initial_length_at, address_size_at, type_at, older_type_at, unit_code_at, unit_type_at, older_at, newer_at, header_at, unit_at, units, units_left, unit_of, unit_seen, UnitsAreSection, FaultIsNext, UnitsAreOne};
+ghost use Rattle.dwp_dwarf.specs.Units.{initial_length_at, address_size_at, type_at, older_type_at, unit_code_at, unit_type_at, older_at, newer_at, header_at, unit_at, units, units_left, unit_of, unit_seen, UnitsAreTaken, UnitsAreSection, FaultIsNext, UnitsAreOne};
 
 use crate::header::{UnitHeader, UnitHeaders, UnitSection, UnitType};
 use dwp_reader::{Encoding, Format, ReadError, Reader};
@@ -269,8 +269,10 @@ impl<R: Reader> Iterator for UnitHeaders<R> {
 }
 
 /// The units of a section have all its bytes, each byte once and in order; where one can't be read, all bytes before it.
-/// There is no other list of units that goes from the section's start to its end.
+/// There is no other list of units that goes from the section's start to its end. A unit has the bytes that
+/// reading it takes, at least one. It does nothing.
 pub fn units_have_all_bytes()
+    ensures taken { UnitsAreTaken }
     ensures whole { UnitsAreSection }
     ensures fault { FaultIsNext }
     ensures one { UnitsAreOne }

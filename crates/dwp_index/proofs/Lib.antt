@@ -7,6 +7,7 @@ pub mod FirstSection
 pub mod StringEnds
 pub mod FirstUnit
 pub mod PackageLookUp
+pub mod Steps
 pub mod TwoPlaces
 pub mod UnitAlone
 pub mod UsedOnce

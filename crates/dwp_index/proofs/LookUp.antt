@@ -1,15 +1,38 @@
 -- Where a look-up ends.
-use Rattle.std.proofs.Common.{◌≡◌, ℕ, zero, suc, ◌+◌, ◌<◌, ◌≤◌, Bool, true, false, eqb, ◌||◌, List, length, get_or, refl, sym, ap, ◌∙◌, eq-eqb, arith}
-use Rattle.std.specs.Prelude.{Some, None}
+use Rattle.std.proofs.Common.{◌≡◌, ℕ, zero, suc, ◌+◌, ◌-◌, ◌<◌, ◌≤◌, Bool, true, false, cond, eqb, ◌||◌, List, length, get_or, refl, sym, ap, ◌∙◌, eq-eqb, arith}
+use Rattle.std.specs.Prelude.{Option, Some, None}
+use Rattle.std.specs.List.{find, range_with_len}
 use Rattle.std.specs.Option.{option_map_or, option_and_then}
 use Rattle.std.proofs.lemmas.Bool.{ne_eqb}
-use Rattle.std.proofs.Math.Decide.{dec_lt}
 use Rattle.dwp_table.specs.Probing.{place, is_end, first_end, found_row, look_count, row_of}
-use Rattle.dwp_table.proofs.Finding.{find-first, find-none}
 
--- the first places of x don't end its look-up
-abbrev pub NoEndBefore : List ℕ → List ℕ → ℕ → ℕ → Type 0
-NoEndBefore signatures rows x i = (j : ℕ) → j < i → is_end signatures rows x (place (length rows) x j) ≡ false
+-- from the i-th place on it ends at the first that ends it
+abbrev pub end_from : List ℕ → List ℕ → ℕ → ℕ → Option ℕ
+end_from signatures rows x i = find (λ j. is_end signatures rows x (place (length rows) x j)) (range_with_len i (length rows - i))
+
+pub end-start : (signatures rows : List ℕ) (x : ℕ) → first_end signatures rows x ≡ end_from signatures rows x 0
+unfolding first_end
+end-start signatures rows x = let all : length rows ≡ length rows - 0 = omega arith in ap (λ n. find (λ j. is_end signatures rows x (place (length rows) x j)) (range_with_len 0 n)) all
+
+end-step : (signatures rows : List ℕ) (x i : ℕ) → i < length rows → end_from signatures rows x i ≡ cond (is_end signatures rows x (place (length rows) x i)) (Some i) (end_from signatures rows x (i + 1))
+end-step signatures rows x i within =
+    let more : length rows - i ≡ suc (length rows - (i + 1)) = omega arith in
+    ap (λ n. find (λ j. is_end signatures rows x (place (length rows) x j)) (range_with_len i n)) more
+
+end-by : (signatures rows : List ℕ) (x i at : ℕ) (b : Bool) → i < length rows → at ≡ place (length rows) x i → is_end signatures rows x at ≡ b → end_from signatures rows x i ≡ cond b (Some i) (end_from signatures rows x (i + 1))
+end-by signatures rows x i at b within same e =
+    end-step signatures rows x i within
+    ∙ ap (λ c. cond c (Some i) (end_from signatures rows x (i + 1))) (ap (is_end signatures rows x) (sym same) ∙ e)
+
+pub end-here : (signatures rows : List ℕ) (x i at : ℕ) → i < length rows → first_end signatures rows x ≡ end_from signatures rows x i → at ≡ place (length rows) x i → is_end signatures rows x at ≡ true → first_end signatures rows x ≡ Some i
+end-here signatures rows x i at within rest same e = rest ∙ end-by signatures rows x i at true within same e
+
+pub end-on : (signatures rows : List ℕ) (x i at : ℕ) → i < length rows → first_end signatures rows x ≡ end_from signatures rows x i → at ≡ place (length rows) x i → is_end signatures rows x at ≡ false
+    → first_end signatures rows x ≡ end_from signatures rows x (i + 1)
+end-on signatures rows x i at within rest same e = rest ∙ end-by signatures rows x i at false within same e
+
+pub end-none : (signatures rows : List ℕ) (x i : ℕ) → length rows ≤ i → first_end signatures rows x ≡ end_from signatures rows x i → first_end signatures rows x ≡ None
+end-none signatures rows x i past rest = let none : length rows - i ≡ 0 = omega arith in rest ∙ ap (λ n. find (λ j. is_end signatures rows x (place (length rows) x j)) (range_with_len i n)) none
 
 -- a slot with a row ends the look-up of its signature alone, one without it each
 pub unused_ends : (signatures rows : List ℕ) (x k : ℕ) → get_or rows k 0 ≡ 0 → is_end signatures rows x k ≡ true
@@ -25,21 +48,6 @@ found_ends signatures rows x k e = either (eqb (get_or rows k 0) 0) (eqb (get_or
 pub other_goes_on : (signatures rows : List ℕ) (x k : ℕ) → (get_or rows k 0 ≡ 0 → ⊥) → (get_or signatures k 0 ≡ x → ⊥) → is_end signatures rows x k ≡ false
 other_goes_on signatures rows x k used other = let a = ne_eqb _ _ used in let b = ne_eqb _ _ other in rw a b
 
--- one more that doesn't
-pub one_more : (signatures rows : List ℕ) (x i at : ℕ) → NoEndBefore signatures rows x i → at ≡ place (length rows) x i → is_end signatures rows x at ≡ false → NoEndBefore signatures rows x (i + 1)
-one_more signatures rows x i at before same e j h = elim (dec_lt j i) [
-  | yes p ↦ before j p
-  | no p ↦ let last : i ≡ j = omega arith in ap (is_end signatures rows x) (ap (place (length rows) x) (sym last) ∙ sym same) ∙ e
-]
-
-pub end-first : (signatures rows : List ℕ) (x i at : ℕ) → i < length rows → NoEndBefore signatures rows x i → at ≡ place (length rows) x i → is_end signatures rows x at ≡ true → first_end signatures rows x ≡ Some i
-unfolding first_end
-end-first signatures rows x i at within before same here = find-first (λ j. is_end signatures rows x (place (length rows) x j)) (length rows) i (record {
-  within = within;
-  here = ap (is_end signatures rows x) (sym same) ∙ here;
-  earlier = before;
-})
-
 pub row-first : (signatures rows : List ℕ) (x i at : ℕ) → first_end signatures rows x ≡ Some i → at ≡ place (length rows) x i → found_row signatures rows x ≡ row_of (get_or rows at 0)
 unfolding found_row
 row-first signatures rows x i at e same = ap (λ o. option_and_then (λ j. row_of (get_or rows (place (length rows) x j) 0)) o) e ∙ ap (λ k. row_of (get_or rows k 0)) (sym same)
@@ -47,10 +55,6 @@ row-first signatures rows x i at e same = ap (λ o. option_and_then (λ j. row_o
 pub count-first : (signatures rows : List ℕ) (x i : ℕ) → first_end signatures rows x ≡ Some i → look_count signatures rows x ≡ i + 1
 unfolding look_count
 count-first signatures rows x i e = let one : suc i ≡ i + 1 = omega arith in ap (λ o. option_map_or suc o (length rows)) e ∙ one
-
-pub end-none : (signatures rows : List ℕ) (x i : ℕ) → length rows ≤ i → NoEndBefore signatures rows x i → first_end signatures rows x ≡ None
-unfolding first_end
-end-none signatures rows x i past before = find-none (λ j. is_end signatures rows x (place (length rows) x j)) (length rows) (λ j h. before j (omega arith))
 
 pub row-none : (signatures rows : List ℕ) (x : ℕ) → first_end signatures rows x ≡ None → found_row signatures rows x ≡ None
 unfolding found_row

@@ -1,9 +1,10 @@
 -- What looking a unit up in a package gives.
-use Rattle.std.proofs.Common.{get_or, ◌≡◌, ℕ, ◌+◌, ◌≤◌, Bool, false, cond, not, inl, inr, List, [], ◌∷◌, length, refl, sym, ap, subst, ◌∙◌, arith, eqb}
+use Rattle.std.proofs.Common.{◌≡◌, ℕ, ◌+◌, ◌≤◌, Bool, false, cond, not, List, [], ◌∷◌, length, refl, sym, ap, subst, ◌∙◌, arith}
 use Rattle.std.specs.Prelude.{Option, Some, None, Result, Ok, Err, IfOk, slice_range}
 use Rattle.std.specs.List.{find}
 use Rattle.std.specs.Option.{option_map_or}
-use Rattle.std.proofs.lemmas.Bool.{le-leb, eqb-true, eqb-false}
+use Rattle.std.proofs.lemmas.Bool.{le-leb}
+use Rattle.std.proofs.lemmas.Option.{same_Some}
 use Rattle.dwp_base.specs.Reading.{◌>>=◌, Answers}
 use Rattle.dwp_base.specs.declared.section.SectionKind.{SectionKind}
 use Rattle.dwp_base.specs.declared.section.Contribution.{Contribution}
@@ -11,11 +12,9 @@ use Rattle.dwp_reader.specs.declared.encoding.Encoding.{Encoding}
 use Rattle.dwp_reader.specs.declared.fault.ReadError.{ReadError}
 use Rattle.dwp_table.specs.Columns.{contribution_kinds}
 use Rattle.dwp_table.specs.Objects.{identifier_of}
-use Rattle.dwp_table.specs.Probing.{place, is_end, first_end, found_row, look_count}
+use Rattle.dwp_table.specs.Probing.{found_row, look_count}
 use Rattle.dwp_table.specs.Table.{IsIndex, FindsExactly}
 use Rattle.dwp_table.specs.declared.object.DwarfObject.{DwarfObject}
-use Rattle.dwp_table.proofs.Finding.{first_or_none, find-first, find-none}
-use Rattle.dwp_table.proofs.Tables.{finds_exactly}
 use Rattle.dwp_index.specs.declared.fault.PackageError.{PackageError}
 use Rattle.dwp_index.specs.declared.fault.PackageError.TheVariants as faults
 use Rattle.dwp_index.specs.Contents.{Sections, content}
@@ -75,17 +74,21 @@ gives pack object unit count most few e = record {
   uncounted = ap (λ (x : Result (Option UnitMeaning × ℕ) PackageError). x >>= λ y. Ok y.0) e;
 }
 
-pub present_unit : (pack : Package) (object : DwarfObject) (ids : List ℕ) (index : Index) (r : ℕ) (row : Ranges) (encoding : Encoding) → HasIndex pack object ids index
+-- what the law of look-up says
+abbrev pub FindsLaw : Type 0
+FindsLaw = (ids signatures rows : List ℕ) (x : ℕ) → IsIndex ids signatures rows → FindsExactly ids x (found_row signatures rows x) (look_count signatures rows x)
+
+pub present_unit : FindsLaw → (pack : Package) (object : DwarfObject) (ids : List ℕ) (index : Index) (r : ℕ) (row : Ranges) (encoding : Encoding) → HasIndex pack object ids index
     → IsUnitOf pack object ids index r row encoding → GivesWithin pack object (Some (unit_of pack object (r + 1) row encoding)) (r + 1)
-present_unit pack object ids index r row encoding has unit =
-    let exact = finds_exactly ids index.signatures index.rows (identifier_of object) has.slots in
+present_unit finds pack object ids index r row encoding has unit =
+    let exact = finds ids index.signatures index.rows (identifier_of object) has.slots in
     gives pack object _ (Count object index) (r + 1) (exact.present_count r unit.within unit.named)
     (by_row pack object index (Some (r + 1)) has.index_is (exact.present_row r unit.within unit.named)
     ∙ at_row pack object index (r + 1) (Count object index) row encoding unit.row_is unit.inside unit.header)
 
-pub absent_unit : (pack : Package) (object : DwarfObject) (ids : List ℕ) (index : Index) → HasIndex pack object ids index → IsNotNamed object ids → GivesWithin pack object None (length ids + 1)
-absent_unit pack object ids index has absent =
-    let exact = finds_exactly ids index.signatures index.rows (identifier_of object) has.slots in
+pub absent_unit : FindsLaw → (pack : Package) (object : DwarfObject) (ids : List ℕ) (index : Index) → HasIndex pack object ids index → IsNotNamed object ids → GivesWithin pack object None (length ids + 1)
+absent_unit finds pack object ids index has absent =
+    let exact = finds ids index.signatures index.rows (identifier_of object) has.slots in
     gives pack object None (Count object index) (length ids + 1) (exact.absent_count absent) (by_row pack object index None has.index_is (exact.absent_row absent))
 
 pub no_index : (pack : Package) (object : DwarfObject) → index_for pack object ≡ None → GivesWithin pack object None 0
@@ -104,25 +107,6 @@ row_bytes-part contents row kind range e inside = part_inside (content contents 
 pub row_bytes-absent : (contents : Sections) (row : Ranges) (kind : SectionKind) → range_in row kind ≡ None → row_bytes contents row kind ≡ []
 unfolding row_bytes
 row_bytes-absent contents row kind e = ap (part_of (content contents kind)) e
-
--- ---- the number of slots
-pub count_within : (signatures rows : List ℕ) (x : ℕ) → look_count signatures rows x ≤ length rows
-unfolding look_count first_end
-count_within signatures rows x =
-    let ends = λ (i : ℕ). is_end signatures rows x (place (length rows) x i) in
-    elim (first_or_none ends (length rows)) [
-      | inl w ↦ let e = find-first ends (length rows) w.0 w.1 in rw e (omega (arith, w.1.within))
-      | inr none ↦ let e = find-none ends (length rows) none in rw e (omega arith)
-    ]
-
--- at most one more than there are identifiers, whether one is there or not
-pub few_slots : (ids signatures rows : List ℕ) (x : ℕ) → IsIndex ids signatures rows → look_count signatures rows x ≤ length ids + 1
-few_slots ids signatures rows x index =
-    let exact = finds_exactly ids signatures rows x index in
-    elim (first_or_none (λ r. eqb (get_or ids r 0) x) (length ids)) [
-      | inl w ↦ omega (arith, w.1.within, exact.present_count w.0 w.1.within (eqb-true _ _ w.1.here))
-      | inr none ↦ exact.absent_count (λ r h. eqb-false _ _ (none r h))
-    ]
 
 -- ---- a look-up that was answered
 abbrev Answer : Type 0
@@ -158,53 +142,43 @@ unfolding unit_in
 rowed pack object number count (Ok row) unit looked h = ranged pack object number count row (first_outside pack.contents row) unit looked h
 rowed pack object number count (Err e) unit looked h = absurd cc
 
-found-tells : (pack : Package) (object : DwarfObject) (index : Index) (row : Option ℕ) (count : ℕ) (unit : Option UnitMeaning) (looked : ℕ) → unit_found pack object index row count ≡ Ok (unit, looked) → Tells row count unit looked
+row-tells : (pack : Package) (object : DwarfObject) (index : Index) (number count : ℕ) (unit : Option UnitMeaning) (looked : ℕ) → unit_at_row pack object index number count ≡ Ok (unit, looked) → Tells (Some number) count unit looked
 unfolding unit_at_row
-found-tells pack object index None count unit looked h = tells-same None unit count looked h
-found-tells pack object index (Some number) count unit looked h = rowed pack object number count (row_in index number) unit looked h
+row-tells pack object index number count unit looked h = rowed pack object number count (row_in index number) unit looked h
 
-pub counted_exactly : (pack : Package) (object : DwarfObject) (ids : List ℕ) (index : Index) (unit : Option UnitMeaning) (looked : ℕ) → found_counted pack object ≡ Ok (unit, looked)
-    → index_for pack object ≡ Some index → IsIndex ids index.signatures index.rows → FindsExactly ids (identifier_of object) (row_number unit) looked
-counted_exactly pack object ids index unit looked h e slots =
-    let tells = found-tells pack object index (Row object index) (Count object index) unit looked (sym (by_index pack object index e) ∙ h) in
-    subst (λ (n : ℕ). FindsExactly ids (identifier_of object) (row_number unit) n) (sym tells.count_is)
-    (subst (λ (o : Option ℕ). FindsExactly ids (identifier_of object) o (Count object index)) (sym tells.row_is) (finds_exactly ids index.signatures index.rows (identifier_of object) slots))
+-- ---- what a call answered, where the index has the row of a number
+module _ (pack : Package) (object : DwarfObject) (index : Index) (number count : ℕ) (there : index_for pack object ≡ Some index) where
+  abbrev Answered : Answer → Type 0
+  Answered r = Answers (λ y. y) r (unit_at_row pack object index number count)
 
-pub counted_few : (pack : Package) (object : DwarfObject) (ids : List ℕ) (index : Index) (unit : Option UnitMeaning) (looked : ℕ) → found_counted pack object ≡ Ok (unit, looked)
-    → index_for pack object ≡ Some index → IsIndex ids index.signatures index.rows → looked ≤ length ids + 1
-counted_few pack object ids index unit looked h e slots =
-    let tells = found-tells pack object index (Row object index) (Count object index) unit looked (sym (by_index pack object index e) ∙ h) in
-    omega (arith, tells.count_is, few_slots ids index.signatures index.rows (identifier_of object) slots)
+  pub within_slots : (r : Answer) → Answered r → count ≤ length index.rows → IfOk r (λ y. y.1 ≤ slots_for pack object)
+  within_slots (Ok y) h within =
+      let tells = row-tells pack object index number count y.0 y.1 h in
+      let slots : slots_for pack object ≡ length index.rows = ap (λ o. option_map_or (λ (i : Index). length i.rows) o 0) there in
+      omega (arith, tells.count_is, slots)
+  within_slots (Err e) h within = tt
 
-counted-by : (pack : Package) (object : DwarfObject) (o : Option Index) (unit : Option UnitMeaning) (looked : ℕ) → found_by pack object o ≡ Ok (unit, looked) → looked ≤ option_map_or (λ index. length index.rows) o 0
-counted-by pack object None unit looked h = let tells = tells-same None unit 0 looked h in omega (arith, tells.count_is)
-counted-by pack object (Some index) unit looked h =
-    let tells = found-tells pack object index (Row object index) (Count object index) unit looked h in
-    omega (arith, tells.count_is, count_within index.signatures index.rows (identifier_of object))
+  -- in a table of distinct identifiers, what was found of x there
+  abbrev Given_index : (List ℕ → Type 0) → Type 0
+  Given_index P = (ids : List ℕ) (other : Index) → index_for pack object ≡ Some other → IsIndex ids other.signatures other.rows → P ids
 
-pub counted_within : (pack : Package) (object : DwarfObject) (unit : Option UnitMeaning) (looked : ℕ) → found_counted pack object ≡ Ok (unit, looked) → looked ≤ slots_for pack object
-unfolding found_counted
-counted_within pack object unit looked h = counted-by pack object (index_for pack object) unit looked h
+  same_index : (other : Index) → index_for pack object ≡ Some other → other ≡ index
+  same_index other e = same_Some other index (sym e ∙ there)
 
--- ---- what a call answered
-pub answered : (pack : Package) (object : DwarfObject) (index : Index) (number count x : ℕ) (r : Answer) → index_for pack object ≡ Some index → x ≡ identifier_of object
-    → Some number ≡ found_row index.signatures index.rows x → count ≡ look_count index.signatures index.rows x
-    → Answers (λ y. y) r (unit_at_row pack object index number count) → Answers (λ y. y) r (found_counted pack object)
-answered pack object index number count x r e same row looked h =
-    let row_is : Row object index ≡ Some number = ap (λ n. found_row index.signatures index.rows n) (sym same) ∙ sym row in
-    let count_is : Count object index ≡ count = ap (λ n. look_count index.signatures index.rows n) (sym same) ∙ sym looked in
-    subst (λ (m : Answer). Answers (λ y. y) r m) (sym (by_row pack object index (Some number) e row_is ∙ ap (λ n. unit_at_row pack object index number n) count_is)) h
+  slots_of : (ids : List ℕ) (other : Index) → index_for pack object ≡ Some other → IsIndex ids other.signatures other.rows → IsIndex ids index.signatures index.rows
+  slots_of ids other e slots = subst (λ (i : Index). IsIndex ids i.signatures i.rows) (same_index other e) slots
 
-pub within_slots : (pack : Package) (object : DwarfObject) (r : Answer) → Answers (λ y. y) r (found_counted pack object) → IfOk r (λ y. y.1 ≤ slots_for pack object)
-within_slots pack object (Ok y) h = counted_within pack object y.0 y.1 h
-within_slots pack object (Err e) h = tt
+  pub exactly : (x : ℕ) (row : Option ℕ) (r : Answer) → x ≡ identifier_of object → row ≡ Some number → ((ids : List ℕ) → IsIndex ids index.signatures index.rows → FindsExactly ids x row count)
+      → Answered r → IfOk r (λ y. Given_index (λ ids. FindsExactly ids (identifier_of object) (row_number y.0) y.1))
+  exactly x row (Ok y) same found exact h = λ ids other e slots.
+      let tells = row-tells pack object index number count y.0 y.1 h in
+      subst (λ (n : ℕ). FindsExactly ids (identifier_of object) (row_number y.0) n) (sym tells.count_is)
+      (subst (λ (o : Option ℕ). FindsExactly ids (identifier_of object) o count) (found ∙ sym tells.row_is)
+      (subst (λ (n : ℕ). FindsExactly ids n row count) same (exact ids (slots_of ids other e slots))))
+  exactly x row (Err e) same found exact h = tt
 
-pub exactly : (pack : Package) (object : DwarfObject) (r : Answer) → Answers (λ y. y) r (found_counted pack object)
-    → IfOk r (λ y. (ids : List ℕ) (index : Index) → index_for pack object ≡ Some index → IsIndex ids index.signatures index.rows → FindsExactly ids (identifier_of object) (row_number y.0) y.1)
-exactly pack object (Ok y) h = λ ids index e slots. counted_exactly pack object ids index y.0 y.1 h e slots
-exactly pack object (Err e) h = tt
-
-pub few : (pack : Package) (object : DwarfObject) (r : Answer) → Answers (λ y. y) r (found_counted pack object)
-    → IfOk r (λ y. (ids : List ℕ) (index : Index) → index_for pack object ≡ Some index → IsIndex ids index.signatures index.rows → y.1 ≤ length ids + 1)
-few pack object (Ok y) h = λ ids index e slots. counted_few pack object ids index y.0 y.1 h e slots
-few pack object (Err e) h = tt
+  pub few : (r : Answer) → ((ids : List ℕ) → IsIndex ids index.signatures index.rows → count ≤ length ids + 1) → Answered r → IfOk r (λ y. Given_index (λ ids. y.1 ≤ length ids + 1))
+  few (Ok y) least h = λ ids other e slots.
+      let tells = row-tells pack object index number count y.0 y.1 h in
+      omega (arith, tells.count_is, least ids (slots_of ids other e slots))
+  few (Err e) least h = tt

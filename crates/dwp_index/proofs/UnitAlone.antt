@@ -14,11 +14,10 @@ use Rattle.dwp_reader.specs.declared.encoding.Format.TheVariants.{Dwarf32, Dwarf
 use Rattle.dwp_reader.specs.declared.fault.ReadError.{ReadError}
 use Rattle.dwp_reader.specs.declared.fault.ReadError.TheVariants.{UnexpectedEof, ReservedLength, UnknownVersion}
 use Rattle.dwp_reader.specs.declared.encoding.Encoding.{Encoding}
-use Rattle.dwp_dwarf.specs.Units.{Unit, initial_length_at, address_size_at, older_type_at, older_at, newer_at, header_at, unit_at, listed, units_within, units}
+use Rattle.dwp_dwarf.specs.Units.{Unit, initial_length_at, address_size_at, older_type_at, older_at, newer_at, header_at, unit_at, listed, units_within, units, UnitsAreTaken}
 use Rattle.dwp_dwarf.specs.declared.header.UnitSection.{UnitSection}
-use Rattle.dwp_dwarf.proofs.Forward.{bind_ok, guard_ok, chosen}
-use Rattle.dwp_dwarf.proofs.UnitsForward.{unit_is}
 use Rattle.dwp_index.specs.Package.{encoding_in}
+use Rattle.dwp_index.proofs.Steps.{bind_ok, guard_ok, chosen}
 use Rattle.dwp_index.proofs.TwoPlaces.{plain, SameEncoding, header_agrees}
 
 -- ---- a number at the front of a beginning
@@ -249,14 +248,15 @@ module _ (order : Endianness) (place : UnitSection) (p : ℕ) (bytes : List ℕ)
         header = ap (λ (x : Input × Input). header_at place a.0.0.0 c.0.0 x.0) inverse.1 ∙ d.1 ∙ ap (λ (x : Unit). Ok x) unit;
       }
 
-  pub unit_alone : (u : Unit) (rest : Input) → unit_at place (plain order p bytes) ≡ Ok (u, rest) → encoding_in order place u.whole.bytes ≡ Ok u.encoding
+  -- `taken` is the lower crate's law
+  pub unit_alone : UnitsAreTaken → (u : Unit) (rest : Input) → unit_at place (plain order p bytes) ≡ Ok (u, rest) → encoding_in order place u.whole.bytes ≡ Ok u.encoding
   unfolding encoding_in
-  unit_alone u rest e =
+  unit_alone taken u rest e =
       let read = is_read u rest e in
-      let total = unit_is place (plain order p bytes) (u, rest) e in
-      let all : rest.place ≡ p + total.0 = ap (λ (x : Input). x.place) total.3.is in
-      let count : total.0 ≡ read.m + read.n = omega (arith, read.behind) in
-      let own : u.whole.bytes ≡ take (read.m + read.n) bytes = ap (λ (x : Input). x.bytes) total.2 ∙ ap (λ k. take k bytes) count in
+      let total = taken place (plain order p bytes) rest u e in
+      let all : rest.place ≡ p + total.0.taken = ap (λ (x : Input). x.place) total.0.is in
+      let count : total.0.taken ≡ read.m + read.n = omega (arith, read.behind) in
+      let own : u.whole.bytes ≡ take (read.m + read.n) bytes = ap (λ (x : Input). x.bytes) total.1 ∙ ap (λ k. take k bytes) count in
       let j = plain order 0 (take (read.m + read.n) bytes) in
       let tail = plain order (read.m + read.n) (drop read.n (drop read.m (take (read.m + read.n) bytes))) in
       let again = header_at place read.format (plain order 0 (take (read.m + read.n) (take (read.m + read.n) bytes))) (plain order read.m (take read.n (drop read.m bytes))) in
@@ -272,7 +272,7 @@ module _ (order : Endianness) (place : UnitSection) (p : ℕ) (bytes : List ℕ)
 abbrev Listed : Type 0
 Listed = List (Result Unit ReadError)
 
-module _ (order : Endianness) (place : UnitSection) (u : Unit) where
+module _ (taken : UnitsAreTaken) (order : Endianness) (place : UnitSection) (u : Unit) where
   abbrev Goal : Type 0
   Goal = encoding_in order place u.whole.bytes ≡ Ok u.encoding
 
@@ -282,10 +282,10 @@ module _ (order : Endianness) (place : UnitSection) (u : Unit) where
   listed_alone others p bytes true r k go e given = absurd cc
   listed_alone others p bytes false (Ok x) zero go e given =
       let same : x.0 ≡ u = cc in
-      unit_alone order place p bytes u x.1 (sym e ∙ ap (λ (v : Unit). Ok (v, x.1)) same)
+      unit_alone order place p bytes taken u x.1 (sym e ∙ ap (λ (v : Unit). Ok (v, x.1)) same)
   listed_alone others p bytes false (Ok x) (suc k) go e given =
-      let total = unit_is place (plain order p bytes) x (sym e) in
-      go (p + total.0) (drop total.0 bytes) k (subst (λ (i : Input). slice_get (others i) k ≡ Some (Ok u)) total.3.is given)
+      let n = (taken place (plain order p bytes) x.1 x.0 (sym e)).0 in
+      go (p + n.taken) (drop n.taken bytes) k (subst (λ (i : Input). slice_get (others i) k ≡ Some (Ok u)) n.is given)
   listed_alone others p bytes false (Err f) zero go e given = absurd cc
   listed_alone others p bytes false (Err f) (suc k) go e given = absurd cc
 

@@ -12,7 +12,6 @@ use Rattle.std.proofs.lemmas.List.Elements.{filter-append}
 use Rattle.std.proofs.lemmas.List.Sorted.{IsPermutation-refl, IsPermutation-sym, IsPermutation-cons, IsPermutation-to_front, IsPermutation-trans, IsPermutation-middle, IsPermutation-map, IsPermutation-append}
 use Rattle.dwp_table.specs.Table.{IsTable, IsIndex, signature_of}
 use Rattle.dwp_table.specs.Probing.{place}
-use Rattle.dwp_table.proofs.Places.{place-lt}
 use Rattle.dwp_index.specs.Index.{Index}
 use Rattle.dwp_index.specs.Used.{slot_at, used_in, used_from}
 use Rattle.dwp_index.specs.Entries.{compilation_entry, type_entry, entries_from}
@@ -118,12 +117,17 @@ each_once (suc n) xs has =
 abbrev named : List ℕ → ℕ → ℕ × ℕ
 named ids r = (signature_of ids r, r)
 
+-- a slot with a row is one of the slots
+slot-within : (rows : List ℕ) (k r : ℕ) → get_or rows k 0 ≡ suc r → k < length rows
+slot-within rows k r e = elim (dec_lt k (length rows)) [ yes p ↦ p | no p ↦ absurd (omega (arith, e, get_or-eq_default rows 0 {n = k} (omega arith))) ]
+
 pub rows_have_each : (ids rows : List ℕ) → IsTable ids rows → HasEach (length ids) rows
 rows_have_each ids rows table = record {
   each = λ r h.
       let at = table.placed r h in
-      let same : r + 1 ≡ suc r = omega arith in
-      (place (length rows) (get_or ids r 0) at.0, place-lt (length rows) (get_or ids r 0) at.0 table.power, at.1.here ∙ same);
+      let slot = place (length rows) (get_or ids r 0) at.0 in
+      let row : get_or rows slot 0 ≡ suc r = omega (arith, at.1.here) in
+      (slot, slot-within rows slot r row, row);
   most = table.only;
   once = table.once;
 }

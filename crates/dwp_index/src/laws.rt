@@ -22,6 +22,9 @@ ghost use Rattle.dwp_index.specs.Finding.{unit_of, HasIndex, IsUnitOf, IsNotName
 ghost use Rattle.dwp_index.specs.Holding.{HasContent, HoldsInOrder, held_of, sections_of};
 ghost use Rattle.dwp_index.specs.Naming.{numbered, entries_of, IsIndexOf};
 
+use dwp_dwarf::units_have_all_bytes;
+use dwp_table::look_up_finds_exactly;
+
 /// The law of packages: where the index of a kind is one of distinct identifiers, the unit of each is
 /// found, after at most as many slots as its row's number, if its ranges lie inside their sections and its
 /// header can be read; every other is absent, after at most one slot more than there are identifiers.
@@ -36,7 +39,9 @@ pub fn packages_find_exactly()
         → IsNotNamed object ids
         → GivesWithin pack object None (length ids + 1) }
     ensures no_index { (pack : Package) (object : DwarfObject) → index_for pack object ≡ None → GivesWithin pack object None 0 }
-{}
+{
+    look_up_finds_exactly();
+}
 
 /// The law of parts: the bytes of a row's range are that part of the section, and none where it has no
 /// range there. It does nothing.
@@ -60,7 +65,9 @@ pub fn units_are_read_alone()
         → encoding.version ≡ 5
         → encoding_in order place bytes ≡ Ok encoding
         → encoding_in order other bytes ≡ Ok encoding }
-{}
+{
+    units_have_all_bytes();
+}
 
 /// The law of names: the used slots of an index of distinct identifiers name each of them once, with the
 /// number of its row; so do the units of a package. It does nothing.

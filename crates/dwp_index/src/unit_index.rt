@@ -11,7 +11,7 @@ use crate::parsing::{
 };
 use dwp_base::{Contribution, ContributionOffset, Endianness, SectionKind};
 use dwp_reader::ReadError;
-use dwp_table::{column_of, first_place, place_after};
+use dwp_table::{column_of, first_place, look_up_finds_exactly, place_after};
 use std::marker::Model;
 
 /// An index of a package: a hash table from identifiers to rows, and for each row its ranges in the
@@ -136,6 +136,7 @@ impl<'a> UnitIndex<'a> {
         ensures exact { (ids : List ℕ) → IsIndex ids self.now.signatures self.now.rows → FindsExactly ids identifier result.0 result.1 }
         ensures few { (ids : List ℕ) → IsIndex ids self.now.signatures self.now.rows → result.1 ≤ length ids + 1 }
     {
+        look_up_finds_exactly();
         self.look_up(identifier)
     }
 

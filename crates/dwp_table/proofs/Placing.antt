@@ -27,60 +27,71 @@ at_length old new x r i e within here used smaller =
       earlier_smaller = λ j h. omega (arith, slot j, smaller j h);
     }
 
-module _ (ids rows : List ℕ) (x i : ℕ) (table : IsTable ids rows) (free : IsFree rows x i) (room : length ids + 1 < length rows) where
+-- ---- one more row in an unused slot
+module _ (rows : List ℕ) (x i row : ℕ) (free : IsFree rows x i) where
   abbrev slot : ℕ
   slot = place (length rows) x i
 
   abbrev new : List ℕ
-  new = set rows slot (length ids + 1)
-
-  in_rows : slot < length rows
-  in_rows = place-lt (length rows) x i table.power
-
-  written : get_or new slot 0 ≡ length ids + 1
-  written = get_or-set_same rows slot (length ids + 1) 0 in_rows
+  new = set rows slot row
 
   -- a slot that was used stays as it was
   kept : (k : ℕ) → 0 < get_or rows k 0 → get_or new k 0 ≡ get_or rows k 0
-  kept k used = get_or-set_other rows slot k (length ids + 1) 0 (λ e. omega (arith, ap (λ n. get_or rows n 0) e, free.here))
+  kept k used = get_or-set_other rows slot k row 0 (λ e. omega (arith, ap (λ n. get_or rows n 0) e, free.here))
 
-  old_stays : (y r j : ℕ) → IsPlacedAfter rows y (r + 1) j → IsPlacedAfter new y (r + 1) j
-  old_stays y r j at =
-      at_length rows new y (r + 1) j (length-set rows slot (length ids + 1)) at.within
+  -- and so does each row at its place
+  pub stays : (y r j : ℕ) → 0 < r → IsPlacedAfter rows y r j → IsPlacedAfter new y r j
+  stays y r j some at =
+      at_length rows new y r j (length-set rows slot row) at.within
       (kept _ (omega (arith, at.here)) ∙ at.here)
       (λ k h. omega (arith, kept _ (at.earlier_used k h), at.earlier_used k h))
       (λ k h. omega (arith, kept _ (at.earlier_used k h), at.earlier_smaller k h))
 
-  last_placed : IsPlacedAfter new x (length ids + 1) i
-  last_placed =
-      at_length rows new x (length ids + 1) i (length-set rows slot (length ids + 1)) free.within written
+  -- the row stands there, behind rows that are smaller
+  pub stands : IsTrue (is_power_of_two (length rows)) → ((k : ℕ) → get_or rows k 0 < row) → IsPlacedAfter new x row i
+  stands power more =
+      at_length rows new x row i (length-set rows slot row) free.within (get_or-set_same rows slot row 0 (place-lt (length rows) x i power))
       (λ k h. omega (arith, kept _ (free.earlier k h), free.earlier k h))
-      (λ k h. omega (arith, kept _ (free.earlier k h), table.only (place (length rows) x k)))
+      (λ k h. omega (arith, kept _ (free.earlier k h), more (place (length rows) x k)))
+
+-- ---- one more identifier
+module _ (ids rows : List ℕ) (x i : ℕ) (table : IsTable ids rows) (free : IsFree rows x i) (room : length ids + 1 < length rows) where
+  abbrev last_slot : ℕ
+  last_slot = place (length rows) x i
+
+  abbrev with_last : List ℕ
+  with_last = set rows last_slot (length ids + 1)
+
+  written : get_or with_last last_slot 0 ≡ length ids + 1
+  written = get_or-set_same rows last_slot (length ids + 1) 0 (place-lt (length rows) x i table.power)
+
+  last_placed : IsPlacedAfter with_last x (length ids + 1) i
+  last_placed = stands rows x i (length ids + 1) free table.power (λ k. omega (arith, table.only k))
 
   abbrev After : ℕ → Type 0
-  After k = ((k ≡ slot) × (get_or new k 0 ≡ length ids + 1)) ⊎ ((k ≢ slot) × (get_or new k 0 ≡ get_or rows k 0))
+  After k = ((k ≡ last_slot) × (get_or with_last k 0 ≡ length ids + 1)) ⊎ ((k ≢ last_slot) × (get_or with_last k 0 ≡ get_or rows k 0))
 
   after : (k : ℕ) → After k
-  after k = elim (cases_eq k slot) [
-    | inl e ↦ inl (e, ap (λ n. get_or new n 0) e ∙ written)
-    | inr ne ↦ inr (ne, get_or-set_other rows slot k (length ids + 1) 0 ne)
+  after k = elim (cases_eq k last_slot) [
+    | inl e ↦ inl (e, ap (λ n. get_or with_last n 0) e ∙ written)
+    | inr ne ↦ inr (ne, get_or-set_other rows last_slot k (length ids + 1) 0 ne)
   ]
 
-  all_placed : (r : ℕ) → r < length (ids ++ x ∷ []) → (j : ℕ) × IsPlacedAfter new (get_or (ids ++ x ∷ []) r 0) (r + 1) j
+  all_placed : (r : ℕ) → r < length (ids ++ x ∷ []) → (j : ℕ) × IsPlacedAfter with_last (get_or (ids ++ x ∷ []) r 0) (r + 1) j
   all_placed r within = elim (dec_lt r (length ids)) [
     | yes p ↦
         let at = table.placed r p in
-        (at.0, subst (λ y. IsPlacedAfter new y (r + 1) at.0) (sym (get_or-append ids (x ∷ []) 0 r p)) (old_stays _ r at.0 at.1))
+        (at.0, subst (λ y. IsPlacedAfter with_last y (r + 1) at.0) (sym (get_or-append ids (x ∷ []) 0 r p)) (stays rows x i (length ids + 1) free _ (r + 1) at.0 (omega arith) at.1))
     | no p ↦
         let last : length ids ≡ r = omega (arith, length-append ids (x ∷ [])) in
         let same : x ≡ get_or (ids ++ x ∷ []) r 0 = sym (get_or-append_seam ids x [] 0) ∙ ap (λ n. get_or (ids ++ x ∷ []) n 0) last in
-        (i, subst (λ y. IsPlacedAfter new y (r + 1) i) same (subst (λ n. IsPlacedAfter new x (n + 1) i) last last_placed))
+        (i, subst (λ y. IsPlacedAfter with_last y (r + 1) i) same (subst (λ n. IsPlacedAfter with_last x (n + 1) i) last last_placed))
   ]
 
-  pub placed_table : IsTable (ids ++ x ∷ []) new
+  pub placed_table : IsTable (ids ++ x ∷ []) with_last
   placed_table =
       let more = length-append ids (x ∷ []) in
-      let same = length-set rows slot (length ids + 1) in
+      let same = length-set rows last_slot (length ids + 1) in
       record {
         power = subst (λ n. IsTrue (is_power_of_two n)) (sym same) table.power;
         room = omega (arith, more, same);
@@ -146,6 +157,14 @@ written-rows old rows x r i at same at_place free = ap (λ l. set l at r) same �
 pub written_table : (ids old : List ℕ) (x r : ℕ) (i : ℕ) → IsFree old x i → IsTable ids old → r ≡ length ids + 1 → r < length old → IsTable (ids ++ x ∷ []) (rows_with old x r)
 written_table ids old x r i free table last room =
     subst (λ l. IsTable (ids ++ x ∷ []) l) (ap (λ n. set old (place (length old) x i) n) (sym last) ∙ sym (rows_with-free old x r i free)) (placed_table ids old x i table free (omega arith))
+
+-- what writing it does to the rows that were there, and where it stands
+pub stays_written : (old : List ℕ) (x v i : ℕ) → IsFree old x i → (y r j : ℕ) → 0 < r → IsPlacedAfter old y r j → IsPlacedAfter (rows_with old x v) y r j
+stays_written old x v i free y r j some at = subst (λ l. IsPlacedAfter l y r j) (sym (rows_with-free old x v i free)) (stays old x i v free y r j some at)
+
+pub stands_written : (ids old : List ℕ) (x r i : ℕ) → IsFree old x i → IsTable ids old → r ≡ length ids + 1 → IsPlacedAfter (rows_with old x r) x r i
+stands_written ids old x r i free table last =
+    subst (λ l. IsPlacedAfter l x r i) (sym (rows_with-free old x r i free)) (stands old x i r free table.power (λ k. omega (arith, table.only k)))
 
 -- ---- no identifier yet
 abbrev zeros : ℕ → List ℕ

@@ -5,7 +5,7 @@ use Rattle.std.specs.Option.{option_map_or, option_and_then}
 use Rattle.std.proofs.lemmas.Bool.{eqb-true, eqb-false, ne_eqb}
 use Rattle.dwp_table.specs.Probing.{place, is_end, first_end, found_row, look_count, row_of}
 use Rattle.dwp_table.specs.Table.{IsPlacedAfter, IsTable, IsIndex, FindsExactly, signature_of}
-use Rattle.dwp_table.proofs.Finding.{IsFirst, first_or_none, find-first}
+use Rattle.dwp_table.proofs.Finding.{IsFirst, first_or_none, find-first, find-none}
 use Rattle.dwp_table.proofs.Numbers.{pigeonhole}
 use Rattle.dwp_table.proofs.Places.{place-lt, places_apart}
 
@@ -127,3 +127,22 @@ module _ (ids signatures rows : List ℕ) (x : ℕ) (index : IsIndex ids signatu
     absent_row = λ absent. let free = has_free ids rows x index.table in found-end free.0 _ (absent_end free.0 absent free.1) (ap row_of free.1.here);
     absent_count = λ absent. let free = has_free ids rows x index.table in omega (arith, count-end free.0 (absent_end free.0 absent free.1), free_early ids rows x free.0 index.table free.1);
   }
+
+-- ---- the number of slots
+pub count_within : (signatures rows : List ℕ) (x : ℕ) → look_count signatures rows x ≤ length rows
+unfolding look_count first_end
+count_within signatures rows x =
+    let ends = λ (i : ℕ). is_end signatures rows x (place (length rows) x i) in
+    elim (first_or_none ends (length rows)) [
+      | inl w ↦ let e = find-first ends (length rows) w.0 w.1 in rw e (omega (arith, w.1.within))
+      | inr none ↦ let e = find-none ends (length rows) none in rw e (omega arith)
+    ]
+
+-- at most one more than there are identifiers, whether one is there or not
+pub few_slots : (ids signatures rows : List ℕ) (x : ℕ) → IsIndex ids signatures rows → look_count signatures rows x ≤ length ids + 1
+few_slots ids signatures rows x index =
+    let exact = finds_exactly ids signatures rows x index in
+    elim (first_or_none (λ r. eqb (get_or ids r 0) x) (length ids)) [
+      | inl w ↦ omega (arith, w.1.within, exact.present_count w.0 w.1.within (eqb-true _ _ w.1.here))
+      | inr none ↦ exact.absent_count (λ r h. eqb-false _ _ (none r h))
+    ]

@@ -1,8 +1,8 @@
-ghost use Rattle.std.specs.Prelude.{◌≡◌, ℕ, List, [], ◌∷◌, ◌++◌, ◌+◌, ◌<◌, ◌≤◌, ◌^◌, length, IsTrue, IsSomeAnd};
+ghost use Rattle.std.specs.Prelude.{◌≡◌, ℕ, List, [], ◌∷◌, ◌++◌, ◌+◌, ◌-◌, ◌<◌, ◌≤◌, ◌^◌, length, IsTrue, IsSomeAnd};
 ghost use Rattle.std.specs.Int.{is_power_of_two};
 ghost use Rattle.std.specs.Option.{option_map};
 ghost use Rattle.dwp_table.specs.Probing.{place};
-ghost use Rattle.dwp_table.specs.Table.{IsTable, first_unused, rows_with};
+ghost use Rattle.dwp_table.specs.Table.{IsPlacedAfter, IsTable, first_unused, rows_with};
 
 /// The slot that the look-up of `x` looks at first, in a table of `size` slots.
 #[tactic(auto, unfolding(crate::specs::Probing::place))]
@@ -34,8 +34,12 @@ pub fn place_row(slots: &mut [u32], x: u64, row: u32) -> Option<u32>
     ensures looked { result ≡ option_map (λ i. i + 1) (first_unused slots.old x) }
     ensures placed { slots.new ≡ rows_with slots.old x row }
 
-    // A table keeps what was placed before, and has the identifier as its last.
+    // What was placed stays at its place.
+    ensures kept { (y r i : ℕ) → 0 < r → IsPlacedAfter slots.old y r i → IsPlacedAfter slots.new y r i }
+
+    // A table has the identifier as its last then, in the last slot that was looked at.
     ensures table { (ids : List ℕ) → IsTable ids slots.old → row ≡ length ids + 1 → row < length slots.old → IsTable (ids ++ x ∷ []) slots.new }
+    ensures last { (ids : List ℕ) → IsTable ids slots.old → row ≡ length ids + 1 → IsSomeAnd result (λ looked. (0 < looked) × IsPlacedAfter slots.new x row (looked - 1)) }
     ensures count { (ids : List ℕ) → IsTable ids slots.old → IsSomeAnd result (λ looked. looked ≤ length ids + 1) }
 {
     let size = slots.len() as u32;

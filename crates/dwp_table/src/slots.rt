@@ -1,4 +1,5 @@
-ghost use Rattle.std.specs.Prelude.{◌≡◌, ◌+◌, ◌*◌, ◌≤◌, ◌<◌, ◌^◌};
+ghost use Rattle.std.specs.Prelude.{◌≡◌, ◌+◌, ◌*◌, ◌≤◌, ◌<◌, ◌^◌, IsTrue};
+ghost use Rattle.std.specs.Int.{is_power_of_two};
 ghost use Rattle.dwp_table.specs.Table.{HasSlots};
 
 /// How many slots a table of that many identifiers is written with: 2 below two identifiers, else the
@@ -6,6 +7,7 @@ ghost use Rattle.dwp_table.specs.Table.{HasSlots};
 pub fn slot_count(units: u32) -> u32
     requires { units ≤ 1431655765 }
     ensures slots { HasSlots units result }
+    ensures power { IsTrue (is_power_of_two result) }
     ensures room { units < result }
 {
     let wanted = units * 3;

@@ -6,7 +6,6 @@ pub mod Looks
 pub mod ReadAgain
 pub mod Readable
 pub mod Signatures
-pub mod Slots
 pub mod RowsAgain
 pub mod StringsAgain
 pub mod OffsetsJoined

@@ -1,84 +1,45 @@
 -- One more row: how many slots were looked at for each.
-use Rattle.std.proofs.Common.{◌≡◌, ℕ, ◌+◌, ◌<◌, List, [], ◌∷◌, ◌++◌, length, get_or, set, take, map, Some, Option, inl, inr, sym, ap, subst, ◌∙◌, arith}
-use Rattle.std.specs.Option.{option_map}
+use Rattle.std.proofs.Common.{◌≡◌, ℕ, ◌+◌, ◌-◌, ◌<◌, ◌≤◌, List, [], ◌∷◌, ◌++◌, length, get_or, take, map, Some, Option, inl, inr, sym, ap, subst, ◌∙◌, arith}
+use Rattle.std.specs.Option.{IsSomeAnd}
 use Rattle.std.proofs.lemmas.Bool.{cases_lt}
-use Rattle.std.proofs.lemmas.List.{length-set, get_or-set_same, get_or-set_other, get_or_append_left, get_or_push, take_more, map-append, length_push, length-map, length-take-le}
-use Rattle.dwp_table.specs.Probing.{place}
-use Rattle.dwp_table.specs.Table.{IsPlacedAfter, IsTable, first_unused, rows_with}
-use Rattle.dwp_table.proofs.Places.{place-lt}
-use Rattle.dwp_table.proofs.Tables.{IsFree, has_free, free_early}
-use Rattle.dwp_table.proofs.Placing.{first_unused-free, rows_with-free}
+use Rattle.std.proofs.lemmas.List.{get_or_append_left, get_or_push, take_more, map-append, length_push, length-map, length-take-le}
+use Rattle.dwp_table.specs.Table.{IsPlacedAfter, IsTable}
 use Rattle.thorin_parts.specs.Buckets.{LooksAt, IsLooked}
 
-module _ (ids rows : List ℕ) (x i : ℕ) (table : IsTable ids rows) (free : IsFree rows x i) where
-  abbrev slot : ℕ
-  slot = place (length rows) x i
+-- what was placed stays at its place
+abbrev Stays : List ℕ → List ℕ → Type 0
+Stays old new = (y r j : ℕ) → 0 < r → IsPlacedAfter old y r j → IsPlacedAfter new y r j
 
-  abbrev new : List ℕ
-  new = set rows slot (length ids + 1)
-
-  -- a slot that was used stays as it was
-  kept : (k : ℕ) → 0 < get_or rows k 0 → get_or new k 0 ≡ get_or rows k 0
-  kept k used = get_or-set_other rows slot k (length ids + 1) 0 (λ e. omega (arith, ap (λ (n : ℕ). get_or rows n 0) e, free.here))
-
-  pub old_stays : (y r j : ℕ) → IsPlacedAfter rows y (r + 1) j → IsPlacedAfter new y (r + 1) j
-  old_stays y r j at = record {
-    within = omega (arith, at.within, length-set rows slot (length ids + 1));
-    here = ap (λ (n : ℕ). get_or new (place n y j) 0) (length-set rows slot (length ids + 1)) ∙ kept (place (length rows) y j) (omega (arith, at.here)) ∙ at.here;
-    earlier_used = λ k h. omega (arith, ap (λ (n : ℕ). get_or new (place n y k) 0) (length-set rows slot (length ids + 1)), kept (place (length rows) y k) (at.earlier_used k h), at.earlier_used k h);
-    earlier_smaller = λ k h. omega (arith, ap (λ (n : ℕ). get_or new (place n y k) 0) (length-set rows slot (length ids + 1)), kept (place (length rows) y k) (at.earlier_used k h), at.earlier_smaller k h);
-  }
-
-  pub last_placed : IsPlacedAfter new x (length ids + 1) i
-  last_placed = record {
-    within = omega (arith, free.within, length-set rows slot (length ids + 1));
-    here = ap (λ (n : ℕ). get_or new (place n x i) 0) (length-set rows slot (length ids + 1)) ∙ get_or-set_same rows slot (length ids + 1) 0 (place-lt (length rows) x i table.power);
-    earlier_used = λ k h. omega (arith, ap (λ (n : ℕ). get_or new (place n x k) 0) (length-set rows slot (length ids + 1)), kept (place (length rows) x k) (free.earlier k h), free.earlier k h);
-    earlier_smaller = λ k h. omega (arith, ap (λ (n : ℕ). get_or new (place n x k) 0) (length-set rows slot (length ids + 1)), kept (place (length rows) x k) (free.earlier k h), table.only (place (length rows) x k));
-  }
-
-  looks_at : (looked : List ℕ) → IsLooked ids rows looked → (r : ℕ) → r < length (ids ++ x ∷ []) → LooksAt (ids ++ x ∷ []) new r (get_or (looked ++ (i + 1) ∷ []) r 0)
+-- and the last row stands in the slot that was looked at last
+module _ (ids old new : List ℕ) (x l : ℕ) (stays : Stays old new) (some : 0 < l) (stands : IsPlacedAfter new x (length ids + 1) (l - 1)) (few : l ≤ length ids + 1) where
+  looks_at : (looked : List ℕ) → IsLooked ids old looked → (r : ℕ) → r < length (ids ++ x ∷ []) → LooksAt (ids ++ x ∷ []) new r (get_or (looked ++ l ∷ []) r 0)
   looks_at looked looks r within = elim (cases_lt r (length ids)) [
     | inl lt ↦
         let at = looks.each r lt in
         record {
           others = at.others;
-          count = get_or_append_left looked ((i + 1) ∷ []) 0 r (omega (arith, looks.length_is)) ∙ at.count;
+          count = get_or_append_left looked (l ∷ []) 0 r (omega (arith, looks.length_is)) ∙ at.count;
           early = at.early;
-          placed = subst (λ (y : ℕ). IsPlacedAfter new y (r + 1) at.others) (sym (get_or_append_left ids (x ∷ []) 0 r lt)) (old_stays (get_or ids r 0) r at.others at.placed);
+          placed = subst (λ (y : ℕ). IsPlacedAfter new y (r + 1) at.others) (sym (get_or_append_left ids (x ∷ []) 0 r lt)) (stays (get_or ids r 0) (r + 1) at.others (omega arith) at.placed);
         }
     | inr le ↦
         let last : length ids ≡ r = omega (arith, length_push ids x) in
         record {
-          others = i;
-          count = get_or_push looked (i + 1) 0 r (looks.length_is ∙ last);
-          early = omega (arith, free_early ids rows x i table free);
-          placed = subst (λ (y : ℕ). IsPlacedAfter new y (r + 1) i) (sym (get_or_push ids x 0 r last)) (subst (λ (n : ℕ). IsPlacedAfter new x (n + 1) i) last last_placed);
+          others = l - 1;
+          count = get_or_push looked l 0 r (looks.length_is ∙ last) ∙ omega (arith, some);
+          early = omega (arith, few);
+          placed = subst (λ (y : ℕ). IsPlacedAfter new y (r + 1) (l - 1)) (sym (get_or_push ids x 0 r last)) (subst (λ (n : ℕ). IsPlacedAfter new x (n + 1) (l - 1)) last stands);
         }
   ]
 
-  pub looked_more : (looked : List ℕ) → IsLooked ids rows looked → IsLooked (ids ++ x ∷ []) new (looked ++ (i + 1) ∷ [])
+  pub looked_more : (looked : List ℕ) → IsLooked ids old looked → IsLooked (ids ++ x ∷ []) new (looked ++ l ∷ [])
   looked_more looked looks = record {
-    length_is = omega (arith, looks.length_is, length_push looked (i + 1), length_push ids x);
+    length_is = omega (arith, looks.length_is, length_push looked l, length_push ids x);
     each = looks_at looked looks;
   }
 
-abbrev some : ℕ → Option ℕ
-some n = Some n
-
-some_is : (m n : ℕ) → some m ≡ some n → m ≡ n
-some_is m n e = cc
-
--- the same, by what placing the row answered
-pub looks_more : (ids old new looked : List ℕ) (x r l : ℕ) (answer : Option ℕ) → IsTable ids old → IsLooked ids old looked → r ≡ length ids + 1
-    → answer ≡ option_map (λ i. i + 1) (first_unused old x) → answer ≡ Some l → new ≡ rows_with old x r → IsLooked (ids ++ x ∷ []) new (looked ++ l ∷ [])
-looks_more ids old new looked x r l answer table looks row answered is placed =
-    let free = has_free ids old x table in
-    let i = free.0 in
-    let l-is : i + 1 ≡ l = some_is (i + 1) l (sym (ap (option_map (λ n. n + 1)) (first_unused-free old x i free.1)) ∙ sym answered ∙ is) in
-    let new-is : set old (place (length old) x i) (length ids + 1) ≡ new = sym (placed ∙ ap (λ (n : ℕ). rows_with old x n) row ∙ rows_with-free old x (length ids + 1) i free.1) in
-    subst (λ (rows : List ℕ). IsLooked (ids ++ x ∷ []) rows (looked ++ l ∷ [])) new-is
-    (subst (λ (n : ℕ). IsLooked (ids ++ x ∷ []) (set old (place (length old) x i) (length ids + 1)) (looked ++ n ∷ [])) l-is (looked_more ids old x i table free.1 looked looks))
+some_and : (answer : Option ℕ) (l : ℕ) → answer ≡ Some l → (P : ℕ → Type 0) → IsSomeAnd answer P → P l
+some_and answer l is P h = subst (λ (o : Option ℕ). IsSomeAnd o P) is h
 
 -- ---- in the order of units that have these identifiers
 ids_more : {B : Type 0} (id : B → ℕ) (units : List B) (i x : ℕ) (unit : B) → i < length units → unit ≡ get_or units i unit → x ≡ id unit → map id (take i units) ++ x ∷ [] ≡ map id (take (i + 1) units)
@@ -96,12 +57,19 @@ table_next id units i x unit old new within item same room table more =
     (more (map id (take i units)) table (omega (arith, ids_count id units i within)) (omega arith))
 
 pub looks_next : {B : Type 0} (id : B → ℕ) (units : List B) (i x : ℕ) (unit : B) (old new looked all : List ℕ) (l : ℕ) (answer : Option ℕ) → i < length units → unit ≡ get_or units i unit → x ≡ id unit
-    → IsTable (map id (take i units)) old → IsLooked (map id (take i units)) old looked
-    → answer ≡ option_map (λ n. n + 1) (first_unused old x) → answer ≡ Some l → new ≡ rows_with old x (i + 1) → all ≡ looked ++ l ∷ [] → IsLooked (map id (take (i + 1) units)) new all
-looks_next id units i x unit old new looked all l answer within item same table looks answered is placed all-is =
+    → IsTable (map id (take i units)) old → IsLooked (map id (take i units)) old looked → answer ≡ Some l → all ≡ looked ++ l ∷ []
+    → Stays old new
+    → ((ids : List ℕ) → IsTable ids old → i + 1 ≡ length ids + 1 → IsSomeAnd answer (λ n. (0 < n) × IsPlacedAfter new x (i + 1) (n - 1)))
+    → ((ids : List ℕ) → IsTable ids old → IsSomeAnd answer (λ n. n ≤ length ids + 1))
+    → IsLooked (map id (take (i + 1) units)) new all
+looks_next id units i x unit old new looked all l answer within item same table looks is all-is stays last few =
+    let ids = map id (take i units) in
+    let count : i + 1 ≡ length ids + 1 = omega (arith, ids_count id units i within) in
+    let stands = some_and answer l is (λ n. (0 < n) × IsPlacedAfter new x (i + 1) (n - 1)) (last ids table count) in
+    let early = some_and answer l is (λ n. n ≤ length ids + 1) (few ids table) in
     subst (λ (ids : List ℕ). IsLooked ids new all) (ids_more id units i x unit within item same)
-    (subst (λ (every : List ℕ). IsLooked (map id (take i units) ++ x ∷ []) new every) (sym all-is)
-    (looks_more (map id (take i units)) old new looked x (i + 1) l answer table looks (omega (arith, ids_count id units i within)) answered is placed))
+    (subst (λ (every : List ℕ). IsLooked (ids ++ x ∷ []) new every) (sym all-is)
+    (looked_more ids old new x l stays stands.0 (subst (λ r. IsPlacedAfter new x r (l - 1)) count stands.1) early looked looks))
 
 pub none_looked : (rows looked : List ℕ) → looked ≡ [] → IsLooked [] rows looked
 none_looked rows looked e = record { length_is = ap length e; each = λ r h. absurd (omega arith) }

@@ -1,8 +1,8 @@
 -- A rewritten range of string offsets reads as it read before.
-use Rattle.std.proofs.Common.{◌≡◌, ℕ, ◌+◌, ◌-◌, ◌*◌, ◌/◌, ◌<◌, ◌≤◌, Bool, true, false, cond, eqb, ltb, leb, List, length, take, drop, Some, None, Result, Ok, Err, ap, sym, refl, ◌∙◌, ⊎_elim, arith}
+use Rattle.std.proofs.Common.{◌≡◌, ℕ, ◌+◌, ◌-◌, ◌*◌, ◌/◌, ◌<◌, ◌≤◌, Bool, true, false, cond, eqb, ltb, leb, ◌||◌, List, [], ◌∷◌, length, take, drop, Some, None, Result, Ok, Err, ap, sym, refl, ◌∙◌, ⊎_elim, arith}
 use Rattle.std.specs.Prelude.{is_some}
 use Rattle.std.specs.Option.{ok_or}
-use Rattle.std.specs.List.{list_any, position_or_len}
+use Rattle.std.specs.List.{list_any, position_or_len, position_from}
 use Rattle.std.proofs.lemmas.Bool.{cases_lt, lt-ltb, le-ltb}
 use Rattle.std.proofs.lemmas.Iterator.Adapters.{position_from-zero}
 use Rattle.dwp_base.specs.declared.endian.Endianness.{Endianness}
@@ -15,7 +15,6 @@ use Rattle.dwp_reader.specs.declared.fault.ReadError.TheVariants.{UnexpectedEof,
 use Rattle.dwp_reader.specs.Encoding.{offset_size}
 use Rattle.dwp_index.specs.Strings.{standard_header_size, entry_in, string_for, string_in}
 use Rattle.dwp_index.specs.Strings as reader
-use Rattle.dwp_index.proofs.NumberLists.{is_some-position}
 use Rattle.thorin_faults.specs.Fault.{Fault}
 use Rattle.thorin_faults.specs.Answers.{as_fault}
 use Rattle.thorin_strings.specs.Strings.{data_of, IsTable}
@@ -26,6 +25,15 @@ use Rattle.thorin_parts.proofs.Each.{bind_ok}
 use Rattle.thorin_parts.specs.ReadStrings.{ReadsAlike}
 
 -- ---- the string at an offset
+-- a number has a place just where it is among them
+some_by : (test : ℕ → Bool) (i : ℕ) (xs : List ℕ) (b : Bool) → is_some (position_from test (i + 1) xs) ≡ list_any test xs → is_some (cond b (Some i) (position_from test (i + 1) xs)) ≡ (b || list_any test xs)
+some_by test i xs true e = refl
+some_by test i xs false e = e
+
+is_some-position : (test : ℕ → Bool) (i : ℕ) (xs : List ℕ) → is_some (position_from test i xs) ≡ list_any test xs
+is_some-position test i [] = refl
+is_some-position test i (x ∷ xs) = some_by test i xs (test x) (is_some-position test (i + 1) xs)
+
 some_is : (b : Bool) (n : ℕ) → is_some (cond b (Some n) None) ≡ b
 some_is true n = refl
 some_is false n = refl

@@ -1,4 +1,4 @@
-use Rattle.dwp_dwarf.proofs.UnitLists.{units_whole, units_fault, units_one}
+use Rattle.dwp_dwarf.proofs.UnitLists.{unit_taken, units_whole, units_fault, units_one}
 use Rattle.dwp_dwarf.proofs.units.units_have_all_bytes.Goals as goal
 
 pub returns-clause-whole : goal.returns-clause-whole
@@ -9,3 +9,6 @@ returns-clause-fault c = units_fault
 
 pub returns-clause-one : goal.returns-clause-one
 returns-clause-one c = units_one
+
+pub returns-clause-taken : goal.returns-clause-taken
+returns-clause-taken c = unit_taken

@@ -1,6 +1,8 @@
-use Rattle.std.proofs.Common.{suc, inr, arith}
+use Rattle.std.proofs.Common.{suc, inr, sym, subst, arith}
+use Rattle.std.specs.Prelude.{IsTrue}
+use Rattle.std.specs.Int.{is_power_of_two}
 use Rattle.std.proofs.Math.Nat.{pow-suc}
-use Rattle.dwp_table.proofs.SlotCounts.{has_slots}
+use Rattle.dwp_table.proofs.SlotCounts.{has_slots, is_power}
 use Rattle.dwp_table.proofs.slots.slot_count.Goals as goal
 
 pub loop-size-preserved : goal.loop-size-preserved
@@ -11,3 +13,6 @@ loop-size-preserved c = let k = c.loop-size.invariant.power in record {
 
 pub returns-clause-slots : goal.returns-clause-slots
 returns-clause-slots c = let k = c.loop-size.invariant.power in has_slots c.args.units c.loop-size.size k.0 k.1 c.loop-size.invariant.least (omega arith)
+
+pub returns-clause-power : goal.returns-clause-power
+returns-clause-power c = let k = c.loop-size.invariant.power in subst (λ n. IsTrue (is_power_of_two n)) (sym k.1) (is_power (suc k.0))

@@ -1,7 +1,6 @@
 use Rattle.std.proofs.Common.{◌≡◌, ℕ, List, [], sym, subst, ◌∙◌}
 use Rattle.std.specs.Prelude.{replicate}
 use Rattle.dwp_table.specs.Table.{IsTable}
-use Rattle.thorin_parts.proofs.Slots.{slots_power}
 use Rattle.thorin_parts.proofs.buckets.bucket.Goals as goal
 
 pub place_units-requires-clause-unused : goal.place_units-requires-clause-unused
@@ -9,4 +8,4 @@ place_units-requires-clause-unused g c =
     let size = c.slot_count.result in
     let items : c.in_ok-slots.slots.items ≡ replicate size 0 = c.in_ok-slots.ensures.items_if_clones_equal (λ _ e. e) in
     subst (λ (rows : List ℕ). IsTable [] rows) (sym (c.deref_mut.ensures.value ∙ items))
-    (c.unused_slots_are_a_table.ensures size (slots_power _ size c.slot_count.ensures.slots) c.slot_count.type_inv)
+    (c.unused_slots_are_a_table.ensures size c.slot_count.ensures.power c.slot_count.type_inv)
