@@ -8,9 +8,9 @@ pub fn odd_step_visits_every_slot()
     ensures { (size start step : ℕ) → IsTrue (is_power_of_two size) → step % 2 ≡ 1 → VisitsEachOnce size start step }
 {}
 
-/// The law of look-up: no slot is looked at twice. In a table of distinct identifiers each is found, after
-/// at most as many slots as its row's number, and every other is absent, after at most one slot more than
-/// there are identifiers. It does nothing.
+/// The law of look-up: it looks at no more slots than there are. In a table of distinct identifiers each is
+/// found, after at most as many slots as its row's number, and every other is absent, after at most one
+/// slot more than there are identifiers. It does nothing.
 pub fn look_up_finds_exactly()
     ensures bound { (signatures rows : List ℕ) (x : ℕ) → look_count signatures rows x ≤ length rows }
     ensures exact { (ids signatures rows : List ℕ) (x : ℕ) → IsIndex ids signatures rows → FindsExactly ids x (found_row signatures rows x) (look_count signatures rows x) }
