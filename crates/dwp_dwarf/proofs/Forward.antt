@@ -1,10 +1,11 @@
 -- Reading goes forward: what is left is what was there, without what was read.
-use Rattle.std.proofs.Common.{◌≡◌, ℕ, ◌+◌, ◌≤◌, Bool, true, false, cond, length, drop, Result, Ok, Err, ltb, refl, ap, sym, subst, ◌∙◌, ◌⊎◌, inl, inr, add_assoc, arith}
+use Rattle.std.proofs.Common.{◌≡◌, ℕ, ◌+◌, ◌<◌, ◌≤◌, Bool, true, false, cond, length, drop, Result, Ok, Err, ltb, refl, ap, sym, subst, ◌∙◌, ◌⊎◌, inl, inr, add_assoc, arith}
+use Rattle.std.specs.Prelude.{slice_index}
 use Rattle.std.proofs.lemmas.Bool.{ltb-false}
 use Rattle.std.proofs.lemmas.List.{drop-drop, length-drop}
 use Rattle.dwp_base.specs.Reading.{◌>>=◌}
 use Rattle.dwp_reader.specs.declared.fault.ReadError.TheVariants.{UnexpectedEof}
-use Rattle.dwp_reader.specs.Input.{Input, front, after, split_at, number_at}
+use Rattle.dwp_reader.specs.Input.{Input, Goes, front, after, split_at, byte_at, number_at}
 
 -- the value of a step that did not fail
 pub bind_ok : {A B E : Type 0} (r : Result A E) (f : A → Result B E) (y : B) → (r >>= f) ≡ Ok y → (x : A) × (r ≡ Ok x) × (f x ≡ Ok y)
@@ -65,3 +66,15 @@ unfolding number_at
 number_is n i p e =
     let g = guard_ok (ltb (length i.bytes) n) UnexpectedEof _ p e in
     record { fits = ltb-false _ _ g.0; is = ap (λ (x : ℕ × Input). x.1) (sym g.1) }
+
+-- what is left behind at least a byte is shorter
+pub goes_shorter : (i j : Input) → Goes 1 i j → length j.bytes < length i.bytes
+goes_shorter i j g =
+    let left : j.bytes ≡ drop g.taken i.bytes = ap (λ (x : Input). x.bytes) g.is in
+    omega (arith, g.some, g.enough, ap length left, length-drop g.taken i.bytes)
+
+pub byte_shorter : (i : Input) (p : ℕ × Input) → byte_at i ≡ Ok p → length p.1.bytes < length i.bytes
+unfolding byte_at
+byte_shorter i p e =
+    let g = guard_ok (ltb (length i.bytes) 1) UnexpectedEof (slice_index i.bytes 0, after 1 i) p e in
+    omega (arith, ltb-false _ _ g.0, ap (λ (x : ℕ × Input). length x.1.bytes) g.1, length-drop 1 i.bytes)

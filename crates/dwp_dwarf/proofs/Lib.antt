@@ -1,6 +1,5 @@
 pub mod FormsForward
 pub mod Forward
-pub mod LebForward
 pub mod TableForward
 pub mod UnitsForward
 pub mod UnitLists

@@ -13,12 +13,13 @@ use crate::form::{DATA1, DATA2, DATA4, DATA8, SEC_OFFSET, UDATA};
 use crate::header::UnitHeader;
 use crate::table::{read_code, read_specification};
 use crate::value::{named_form, read_value};
-use dwp_reader::{Encoding, Format, ReadError, Reader};
+use dwp_reader::{Encoding, Format, ReadError, Reader, lebs_take_bytes};
 
 /// The next attribute and its form; None at the end of the list.
 fn next_specification<R: Reader>(specifications: &mut R) -> Option<AttributeSpecification>
     ensures { MatchOption result (pairs_in (R.input specifications.old) ≡ []) (λ s. pairs_in (R.input specifications.old) ≡ specification_of s ∷ pairs_in (R.input specifications.new)) }
 {
+    lebs_take_bytes();
     match read_specification(specifications) {
         Ok(specification) if !specification.is_last() => Some(specification),
         Ok(_) => None,

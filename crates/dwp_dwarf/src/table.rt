@@ -7,7 +7,7 @@ ghost use Rattle.dwp_dwarf.specs.Declarations.{specification_of, declaration_of,
 use crate::abbreviation::{Abbreviation, Abbreviations, AttributeSpecification};
 use crate::form::IMPLICIT_CONST;
 use crate::offset::from_offset;
-use dwp_reader::{ReadError, Reader};
+use dwp_reader::{ReadError, Reader, lebs_take_bytes};
 
 #[tactic(auto, unfolding(crate::specs::Abbreviations::constant_at))]
 fn skip_constant<R: Reader>(reader: &mut R, form: u64) -> Result<(), ReadError>
@@ -38,6 +38,7 @@ pub(crate) fn read_specification<R: Reader>(
 fn after_specifications<R: Reader>(mut at: R) -> Result<R, ReadError>
     ensures { Answers R.input result (past_specifications (R.input at)) }
 {
+    lebs_take_bytes();
     loop {
         let specification = read_specification(&mut at)?;
         if specification.is_last() {
@@ -122,6 +123,7 @@ impl<R: Reader> Abbreviations<R> {
     pub fn get(&self, code: u64) -> Result<Option<Abbreviation<R>>, ReadError>
         ensures { Answers (found_of R.input) result (declaration code (table_of R.input self.now)) }
     {
+        lebs_take_bytes();
         let mut at = self.table;
         loop {
             let found = read_code(&mut at)?;

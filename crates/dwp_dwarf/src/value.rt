@@ -3,7 +3,7 @@ ghost use Rattle.dwp_base.specs.Reading.{Reads, Answers};
 ghost use Rattle.dwp_dwarf.specs.Forms.{fixed_size, unit_size, open_layout, layout_of, block_length_at, text_at, past_value, value_at, named_form_at};
 
 use crate::form::*;
-use dwp_reader::{Encoding, ReadError, Reader};
+use dwp_reader::{Encoding, ReadError, Reader, lebs_take_bytes};
 
 /// The size of a value that has one of its own.
 fn fixed_size(form: u64) -> Option<u8>
@@ -134,6 +134,7 @@ pub(crate) fn read_value<R: Reader>(
 pub(crate) fn named_form<R: Reader>(mut at: R, form: u64) -> Result<(u64, R), ReadError>
     ensures { Answers (λ x. (x.0, R.input x.1)) result (named_form_at form (R.input at)) }
 {
+    lebs_take_bytes();
     let mut named = form;
     while named == INDIRECT {
         named = at.read_uleb128()?;

@@ -1,15 +1,12 @@
--- Each read leaves what stood behind the bytes that it took.
-use Rattle.std.proofs.Common.{◌≡◌, ℕ, zero, suc, ◌+◌, ◌*◌, ◌-◌, ◌≤◌, Bool, true, false, cond, List, length, take, drop, Result, Ok, Err, refl, sym, ap, subst, ◌∙◌, arith, ltb}
+-- A number of variable length takes at least a byte of what it is read from.
+use Rattle.std.proofs.Common.{◌≡◌, ℕ, zero, suc, ◌+◌, ◌*◌, ◌-◌, ◌≤◌, Bool, true, false, cond, List, length, drop, Result, Ok, Err, refl, sym, ap, subst, ◌∙◌, arith, ltb}
 use Rattle.std.proofs.lemmas.Bool.{ltb-false}
 use Rattle.std.proofs.lemmas.List.{length-drop, drop-drop}
 use Rattle.std.specs.Prelude.{ℤ, pos, ◌+ℤ◌, ◌-ℤ◌, ◌*ℤ◌, slice_index, ◌^◌}
-use Rattle.dwp_base.specs.Numbers.{number}
 use Rattle.dwp_base.specs.Reading.{◌>>=◌}
-use Rattle.dwp_reader.specs.declared.encoding.Format.{Format}
 use Rattle.dwp_reader.specs.declared.fault.ReadError.{ReadError}
-use Rattle.dwp_reader.specs.declared.fault.ReadError.TheVariants.{UnexpectedEof, AddressSize, BigLeb}
-use Rattle.dwp_reader.specs.Encoding.{offset_size}
-use Rattle.dwp_reader.specs.Input.{Input, Goes, after, front, split_at, bytes_at, skip_at, byte_at, number_at, relocated_at, sized_at, offset_at, is_address_size}
+use Rattle.dwp_reader.specs.declared.fault.ReadError.TheVariants.{UnexpectedEof, BigLeb}
+use Rattle.dwp_reader.specs.Input.{Input, Goes, after, byte_at}
 use Rattle.dwp_reader.specs.Leb.{leb_at, uleb_at, signed_leb_at, sleb_at, is_i64}
 
 -- ---- steps that did not fail
@@ -52,65 +49,14 @@ Goes-trans m n i j k p q =
     let joined : k ≡ after (p.taken + q.taken) i = q.is ∙ ap (after q.taken) p.is ∙ after-after q.taken p.taken i in
     record { taken = p.taken + q.taken; some = omega arith; enough = omega (arith, left, p.enough, q.enough); is = joined }
 
--- ---- what each read answers and leaves, where it doesn't fail
-
-pub split_at-Ok : (n : ℕ) (i : Input) (x : Input × Input) → split_at n i ≡ Ok x → (n ≤ length i.bytes) × (x ≡ (front n i, after n i))
-unfolding split_at
-split_at-Ok n i x e = let g = guard_ok (ltb (length i.bytes) n) UnexpectedEof (front n i, after n i) x e in (ltb-false _ _ g.0, sym g.1)
-
-pub bytes_at-Ok : (n : ℕ) (i : Input) (x : List ℕ × Input) → bytes_at n i ≡ Ok x → (n ≤ length i.bytes) × (x ≡ (take n i.bytes, after n i))
-unfolding bytes_at
-bytes_at-Ok n i x e = let g = guard_ok (ltb (length i.bytes) n) UnexpectedEof (take n i.bytes, after n i) x e in (ltb-false _ _ g.0, sym g.1)
-
-pub skip_at-Ok : (n : ℕ) (i : Input) (x : Unit {0} × Input) → skip_at n i ≡ Ok x → (n ≤ length i.bytes) × (x ≡ (tt, after n i))
-unfolding skip_at
-skip_at-Ok n i x e = let g = guard_ok (ltb (length i.bytes) n) UnexpectedEof (tt, after n i) x e in (ltb-false _ _ g.0, sym g.1)
-
 pub byte_at-Ok : (i : Input) (x : ℕ × Input) → byte_at i ≡ Ok x → (1 ≤ length i.bytes) × (x ≡ (slice_index i.bytes 0, after 1 i))
 unfolding byte_at
 byte_at-Ok i x e = let g = guard_ok (ltb (length i.bytes) 1) UnexpectedEof (slice_index i.bytes 0, after 1 i) x e in (ltb-false _ _ g.0, sym g.1)
 
-pub number_at-Ok : (n : ℕ) (i : Input) (x : ℕ × Input) → number_at n i ≡ Ok x → (n ≤ length i.bytes) × (x ≡ (number i.order n i.bytes, after n i))
-unfolding number_at
-number_at-Ok n i x e = let g = guard_ok (ltb (length i.bytes) n) UnexpectedEof (number i.order n i.bytes, after n i) x e in (ltb-false _ _ g.0, sym g.1)
-
-pub relocated_at-Ok : (n : ℕ) (i : Input) (x : ℕ × Input) → relocated_at n i ≡ Ok x → (n ≤ length i.bytes) × (x ≡ (i.relocated i.place (number i.order n i.bytes), after n i))
-unfolding relocated_at
-relocated_at-Ok n i x e = let g = guard_ok (ltb (length i.bytes) n) UnexpectedEof (i.relocated i.place (number i.order n i.bytes), after n i) x e in (ltb-false _ _ g.0, sym g.1)
-
--- ---- the same, as steps forward
-
-pub split_at-goes : (n : ℕ) (i : Input) (x : Input × Input) → split_at n i ≡ Ok x → Goes n i x.1
-split_at-goes n i x e = let f = split_at-Ok n i x e in Goes-after n i x.1 f.0 (ap (λ (y : Input × Input). y.1) f.1)
-
-pub bytes_at-goes : (n : ℕ) (i : Input) (x : List ℕ × Input) → bytes_at n i ≡ Ok x → Goes n i x.1
-bytes_at-goes n i x e = let f = bytes_at-Ok n i x e in Goes-after n i x.1 f.0 (ap (λ (y : List ℕ × Input). y.1) f.1)
-
-pub skip_at-goes : (n : ℕ) (i : Input) (x : Unit {0} × Input) → skip_at n i ≡ Ok x → Goes n i x.1
-skip_at-goes n i x e = let f = skip_at-Ok n i x e in Goes-after n i x.1 f.0 (ap (λ (y : Unit {0} × Input). y.1) f.1)
-
 pub byte_at-goes : (i : Input) (x : ℕ × Input) → byte_at i ≡ Ok x → Goes 1 i x.1
 byte_at-goes i x e = let f = byte_at-Ok i x e in Goes-after 1 i x.1 f.0 (ap (λ (y : ℕ × Input). y.1) f.1)
 
-pub number_at-goes : (n : ℕ) (i : Input) (x : ℕ × Input) → number_at n i ≡ Ok x → Goes n i x.1
-number_at-goes n i x e = let f = number_at-Ok n i x e in Goes-after n i x.1 f.0 (ap (λ (y : ℕ × Input). y.1) f.1)
-
-pub relocated_at-goes : (n : ℕ) (i : Input) (x : ℕ × Input) → relocated_at n i ≡ Ok x → Goes n i x.1
-relocated_at-goes n i x e = let f = relocated_at-Ok n i x e in Goes-after n i x.1 f.0 (ap (λ (y : ℕ × Input). y.1) f.1)
-
-pub offset_at-goes : (format : Format) (i : Input) (x : ℕ × Input) → offset_at format i ≡ Ok x → Goes (offset_size format) i x.1
-unfolding offset_at
-offset_at-goes format i x e = relocated_at-goes (offset_size format) i x e
-
-sized_goes : (b : Bool) (size : ℕ) (i : Input) (x : ℕ × Input) → cond b (relocated_at size i) (Err AddressSize) ≡ Ok x → Goes size i x.1
-sized_goes true size i x e = relocated_at-goes size i x e
-sized_goes false size i x e = absurd cc
-
-pub sized_at-goes : (size : ℕ) (i : Input) (x : ℕ × Input) → sized_at size i ≡ Ok x → Goes size i x.1
-unfolding sized_at
-sized_at-goes size i x e = sized_goes (is_address_size size) size i x e
-
--- ---- LEB128 takes at least a byte
+-- ---- numbers of variable length
 
 leb_rest : (n : ℕ) (b x : ℕ × Input) (is_last : Bool) → ((y : ℕ × Input) → leb_at n b.1 ≡ Ok y → Goes 1 b.1 y.1)
     → cond is_last (given (b.0, b.1)) (leb_at n b.1 >>= λ rest. Ok (b.0 - 128 + 128 * rest.0, rest.1)) ≡ Ok x → Goes 0 b.1 x.1

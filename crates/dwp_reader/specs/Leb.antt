@@ -1,10 +1,10 @@
 -- Numbers of variable length, LEB128 (DWARF 5, 7.6): seven bits a byte, the lowest first, and a byte below 128 is the last.
 -- A number has at most 10 bytes and 64 bits.
-use Rattle.std.specs.Prelude.{ℕ, zero, suc, ◌+◌, ◌*◌, ◌-◌, ◌^◌, Bool, nat_lt, if◌then◌else◌, Result, Ok, Err, ℤ, pos, negsuc, ◌+ℤ◌, ◌-ℤ◌, ◌*ℤ◌}
+use Rattle.std.specs.Prelude.{◌≡◌, ℕ, zero, suc, ◌+◌, ◌*◌, ◌-◌, ◌^◌, Bool, nat_lt, if◌then◌else◌, Result, Ok, Err, ℤ, pos, negsuc, ◌+ℤ◌, ◌-ℤ◌, ◌*ℤ◌}
 use Rattle.dwp_base.specs.Reading.{◌>>=◌}
 use Rattle.dwp_reader.specs.declared.fault.ReadError.{ReadError}
 use Rattle.dwp_reader.specs.declared.fault.ReadError.TheVariants.{BigLeb}
-use Rattle.dwp_reader.specs.Input.{Input, byte_at}
+use Rattle.dwp_reader.specs.Input.{Input, Goes, byte_at}
 
 -- an unsigned number of at most n bytes
 unfoldable pub leb_at : ℕ → Input → Result (ℕ × Input) ReadError
@@ -41,3 +41,8 @@ unfoldable pub sleb_at : Input → Result (ℤ × Input) ReadError
 sleb_at i = do
   x ← signed_leb_at 10 i
   if is_i64 x.0 then Ok x else Err BigLeb
+
+-- each has at least a byte
+pub record LebsTakeBytes : Type 0 where
+  pub unsigned : (i : Input) (x : ℕ × Input) → uleb_at i ≡ Ok x → Goes 1 i x.1
+  pub signed : (i : Input) (x : ℤ × Input) → sleb_at i ≡ Ok x → Goes 1 i x.1

@@ -3,6 +3,7 @@
 
 mod encoding;
 mod fault;
+mod laws;
 mod reader;
 mod relocate;
 mod relocation;
@@ -10,6 +11,7 @@ mod slice;
 
 pub use encoding::{Encoding, Format};
 pub use fault::{ReadError, WriteError};
+pub use laws::lebs_take_bytes;
 pub use reader::Reader;
 pub use relocate::Relocate;
 pub use relocation::{Relocation, RelocationEntry};
