@@ -19,7 +19,7 @@ use Rattle.dwp_index.specs.declared.fault.PackageError.{PackageError}
 use Rattle.dwp_index.specs.declared.fault.PackageError.TheVariants as faults
 use Rattle.dwp_index.specs.Contents.{Sections, content}
 use Rattle.dwp_index.specs.Index.{Index, Ranges, row_in, range_in}
-use Rattle.dwp_index.specs.Package.{Package, UnitMeaning, as_fault, is_outside, first_outside, all_inside, encoding_in, part_of, row_bytes, unit_in, unit_at_row, unit_found, found_by, index_for, found_counted, found}
+use Rattle.dwp_index.specs.Package.{Package, FoundUnit, as_fault, is_outside, first_outside, all_inside, encoding_in, part_of, row_bytes, unit_in, unit_at_row, unit_found, found_by, index_for, found_counted, found}
 use Rattle.dwp_index.specs.Finding.{own_place, own_bytes, LiesInside, unit_of, HasIndex, IsUnitOf, IsNotNamed, GivesWithin, row_number, slots_for}
 
 -- ---- the ranges
@@ -49,7 +49,7 @@ at_row : (pack : Package) (object : DwarfObject) (index : Index) (number count :
 unfolding unit_at_row
 at_row pack object index number count row encoding there inside read =
     ap (λ (x : Result Ranges ReadError). as_fault faults.Index x >>= λ y. unit_in pack object number y >>= λ unit. Ok (Some unit, count)) there
-    ∙ ap (λ (x : Result UnitMeaning PackageError). x >>= λ unit. Ok (Some unit, count)) (unit_in-inside pack object number row encoding inside read)
+    ∙ ap (λ (x : Result FoundUnit PackageError). x >>= λ unit. Ok (Some unit, count)) (unit_in-inside pack object number row encoding inside read)
 
 -- ---- the look-up
 abbrev Row : DwarfObject → Index → Option ℕ
@@ -65,13 +65,13 @@ by_index pack object index e = ap (found_by pack object) e
 by_row : (pack : Package) (object : DwarfObject) (index : Index) (row : Option ℕ) → index_for pack object ≡ Some index → Row object index ≡ row → found_counted pack object ≡ unit_found pack object index row (Count object index)
 by_row pack object index row e f = by_index pack object index e ∙ ap (λ o. unit_found pack object index o (Count object index)) f
 
-gives : (pack : Package) (object : DwarfObject) (unit : Option UnitMeaning) (count most : ℕ) → count ≤ most → found_counted pack object ≡ Ok (unit, count) → GivesWithin pack object unit most
+gives : (pack : Package) (object : DwarfObject) (unit : Option FoundUnit) (count most : ℕ) → count ≤ most → found_counted pack object ≡ Ok (unit, count) → GivesWithin pack object unit most
 unfolding found
 gives pack object unit count most few e = record {
   count = count;
   few = few;
   counted = e;
-  uncounted = ap (λ (x : Result (Option UnitMeaning × ℕ) PackageError). x >>= λ y. Ok y.0) e;
+  uncounted = ap (λ (x : Result (Option FoundUnit × ℕ) PackageError). x >>= λ y. Ok y.0) e;
 }
 
 -- what the law of look-up says
@@ -110,39 +110,39 @@ row_bytes-absent contents row kind e = ap (part_of (content contents kind)) e
 
 -- ---- a look-up that was answered
 abbrev Answer : Type 0
-Answer = Result (Option UnitMeaning × ℕ) PackageError
+Answer = Result (Option FoundUnit × ℕ) PackageError
 
-abbrev Given : Option UnitMeaning → ℕ → Answer
+abbrev Given : Option FoundUnit → ℕ → Answer
 Given unit count = Ok (unit, count)
 
 -- it has the row's number and this count
-pub record Tells (row : Option ℕ) (count : ℕ) (unit : Option UnitMeaning) (looked : ℕ) : Type 0 where
+pub record Tells (row : Option ℕ) (count : ℕ) (unit : Option FoundUnit) (looked : ℕ) : Type 0 where
   pub row_is : row_number unit ≡ row
   pub count_is : looked ≡ count
 
-tells-same : (given unit : Option UnitMeaning) (count looked : ℕ) → Given given count ≡ Given unit looked → Tells (row_number given) count unit looked
+tells-same : (given unit : Option FoundUnit) (count looked : ℕ) → Given given count ≡ Given unit looked → Tells (row_number given) count unit looked
 tells-same given unit count looked h =
     let same : (given, count) ≡ (unit, looked) = cc in
-    record { row_is = ap (λ (p : Option UnitMeaning × ℕ). row_number p.0) (sym same); count_is = ap (λ (p : Option UnitMeaning × ℕ). p.1) (sym same) }
+    record { row_is = ap (λ (p : Option FoundUnit × ℕ). row_number p.0) (sym same); count_is = ap (λ (p : Option FoundUnit × ℕ). p.1) (sym same) }
 
-encoded : (pack : Package) (object : DwarfObject) (number count : ℕ) (row : Ranges) (read : Result Encoding PackageError) (unit : Option UnitMeaning) (looked : ℕ)
+encoded : (pack : Package) (object : DwarfObject) (number count : ℕ) (row : Ranges) (read : Result Encoding PackageError) (unit : Option FoundUnit) (looked : ℕ)
     → ((read >>= λ e. Ok (unit_of pack object number row e)) >>= λ u. Given (Some u) count) ≡ Given unit looked → Tells (Some number) count unit looked
 encoded pack object number count row (Ok e) unit looked h = tells-same (Some (unit_of pack object number row e)) unit count looked h
 encoded pack object number count row (Err e) unit looked h = absurd cc
 
-ranged : (pack : Package) (object : DwarfObject) (number count : ℕ) (row : Ranges) (outside : Option SectionKind) (unit : Option UnitMeaning) (looked : ℕ)
+ranged : (pack : Package) (object : DwarfObject) (number count : ℕ) (row : Ranges) (outside : Option SectionKind) (unit : Option FoundUnit) (looked : ℕ)
     → ((all_inside outside >>= λ x. as_fault faults.Unit (encoding_in pack.order (own_place object row) (own_bytes pack.contents object row)) >>= λ e. Ok (unit_of pack object number row e)) >>= λ u. Given (Some u) count) ≡ Given unit looked
     → Tells (Some number) count unit looked
 ranged pack object number count row None unit looked h = encoded pack object number count row (as_fault faults.Unit (encoding_in pack.order (own_place object row) (own_bytes pack.contents object row))) unit looked h
 ranged pack object number count row (Some kind) unit looked h = absurd cc
 
-rowed : (pack : Package) (object : DwarfObject) (number count : ℕ) (row : Result Ranges ReadError) (unit : Option UnitMeaning) (looked : ℕ)
+rowed : (pack : Package) (object : DwarfObject) (number count : ℕ) (row : Result Ranges ReadError) (unit : Option FoundUnit) (looked : ℕ)
     → (as_fault faults.Index row >>= λ x. unit_in pack object number x >>= λ u. Given (Some u) count) ≡ Given unit looked → Tells (Some number) count unit looked
 unfolding unit_in
 rowed pack object number count (Ok row) unit looked h = ranged pack object number count row (first_outside pack.contents row) unit looked h
 rowed pack object number count (Err e) unit looked h = absurd cc
 
-row-tells : (pack : Package) (object : DwarfObject) (index : Index) (number count : ℕ) (unit : Option UnitMeaning) (looked : ℕ) → unit_at_row pack object index number count ≡ Ok (unit, looked) → Tells (Some number) count unit looked
+row-tells : (pack : Package) (object : DwarfObject) (index : Index) (number count : ℕ) (unit : Option FoundUnit) (looked : ℕ) → unit_at_row pack object index number count ≡ Ok (unit, looked) → Tells (Some number) count unit looked
 unfolding unit_at_row
 row-tells pack object index number count unit looked h = rowed pack object number count (row_in index number) unit looked h
 

@@ -12,7 +12,7 @@ use Rattle.dwp_table.specs.Table.{IsIndex}
 use Rattle.dwp_table.specs.declared.object.DwarfObject.{DwarfObject}
 use Rattle.dwp_index.specs.Contents.{Sections, content}
 use Rattle.dwp_index.specs.Index.{Index, Ranges, row_in, range_in}
-use Rattle.dwp_index.specs.Package.{Package, UnitMeaning, place_of, kind_of, row_bytes, encoding_in, index_for, found_counted, found}
+use Rattle.dwp_index.specs.Package.{Package, FoundUnit, place_of, kind_of, row_bytes, encoding_in, index_for, found_counted, found}
 
 -- where a unit's own bytes stand, and these bytes
 abbrev pub own_place : DwarfObject → Ranges → UnitSection
@@ -26,7 +26,7 @@ abbrev pub LiesInside : Sections → Ranges → Type 0
 LiesInside contents row = (kind : SectionKind) (range : Contribution) → range_in row kind ≡ Some range → range.offset.0 + range.size ≤ length (content contents kind)
 
 -- the unit of a row number and its row, with this encoding in its header
-abbrev pub unit_of : Package → DwarfObject → ℕ → Ranges → Encoding → UnitMeaning
+abbrev pub unit_of : Package → DwarfObject → ℕ → Ranges → Encoding → FoundUnit
 unit_of pack object number row encoding = record {
   order = pack.order;
   contents = pack.contents;
@@ -54,14 +54,14 @@ abbrev pub IsNotNamed : DwarfObject → List ℕ → Type 0
 IsNotNamed object ids = (r : ℕ) → r < length ids → slice_index ids r ≢ identifier_of object
 
 -- looking the object up gives this unit or none, after at most so many slots
-pub record GivesWithin (pack : Package) (object : DwarfObject) (unit : Option UnitMeaning) (most : ℕ) : Type 0 where
+pub record GivesWithin (pack : Package) (object : DwarfObject) (unit : Option FoundUnit) (most : ℕ) : Type 0 where
   pub count : ℕ
   pub few : count ≤ most
   pub counted : found_counted pack object ≡ Ok (unit, count)
   pub uncounted : found pack object ≡ Ok unit
 
 -- the row number of what was found
-abbrev pub row_number : Option UnitMeaning → Option ℕ
+abbrev pub row_number : Option FoundUnit → Option ℕ
 row_number unit = option_map (λ u. u.number) unit
 
 -- how many slots the index of an object's kind has; none without an index

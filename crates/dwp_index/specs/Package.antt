@@ -32,7 +32,7 @@ pub record Package : Type 0 where
   pub types : Option Index
 
 -- a unit of a package
-pub record UnitMeaning : Type 0 where
+pub record FoundUnit : Type 0 where
   pub order : Endianness
   pub contents : Sections
   pub number : ℕ
@@ -99,7 +99,7 @@ unfoldable pub encoding_in : Endianness → UnitSection → List ℕ → Result 
 encoding_in order place bytes = unit_at place (section order bytes) >>= λ unit. Ok unit.0.encoding
 
 -- the unit of a row: its ranges lie inside their sections, and its header can be read
-unfoldable pub unit_in : Package → DwarfObject → ℕ → Ranges → Result UnitMeaning PackageError
+unfoldable pub unit_in : Package → DwarfObject → ℕ → Ranges → Result FoundUnit PackageError
 unit_in pack object number row = do
   inside ← all_inside (first_outside pack.contents row)
   let place = place_of object (range_in row kinds.Types)
@@ -113,25 +113,25 @@ index_for pack (Compilation id) = pack.compilations
 index_for pack (TypeUnit signature) = pack.types
 
 -- the unit of a row number, and how many slots were looked at
-unfoldable pub unit_at_row : Package → DwarfObject → Index → ℕ → ℕ → Result (Option UnitMeaning × ℕ) PackageError
+unfoldable pub unit_at_row : Package → DwarfObject → Index → ℕ → ℕ → Result (Option FoundUnit × ℕ) PackageError
 unit_at_row pack object index number count = do
   row ← as_fault faults.Index (row_in index number)
   unit ← unit_in pack object number row
   Ok (Some unit, count)
 
-abbrev pub unit_found : Package → DwarfObject → Index → Option ℕ → ℕ → Result (Option UnitMeaning × ℕ) PackageError
+abbrev pub unit_found : Package → DwarfObject → Index → Option ℕ → ℕ → Result (Option FoundUnit × ℕ) PackageError
 unit_found pack object index None count = Ok (None, count)
 unit_found pack object index (Some number) count = unit_at_row pack object index number count
 
-abbrev pub found_by : Package → DwarfObject → Option Index → Result (Option UnitMeaning × ℕ) PackageError
+abbrev pub found_by : Package → DwarfObject → Option Index → Result (Option FoundUnit × ℕ) PackageError
 found_by pack object None = Ok (None, 0)
 found_by pack object (Some index) =
     unit_found pack object index (found_row index.signatures index.rows (identifier_of object)) (look_count index.signatures index.rows (identifier_of object))
 
 -- the unit of an identifier, by the look-up in the index of its kind, and how many slots were looked at
-unfoldable pub found_counted : Package → DwarfObject → Result (Option UnitMeaning × ℕ) PackageError
+unfoldable pub found_counted : Package → DwarfObject → Result (Option FoundUnit × ℕ) PackageError
 found_counted pack object = found_by pack object (index_for pack object)
 
 -- the map that a package is
-unfoldable pub found : Package → DwarfObject → Result (Option UnitMeaning) PackageError
+unfoldable pub found : Package → DwarfObject → Result (Option FoundUnit) PackageError
 found pack object = found_counted pack object >>= λ x. Ok x.0

@@ -228,7 +228,11 @@ fn damaged_packages(rt: HostRuntime) -> Result<(), Fail> {
         let package = PackageFile::parse(&range)?;
         assert_eq!(rt; package.find(UNIT).err(), Some(PackageError::Range(kind)));
     }
+    Ok(())
+}
 
+#[test]
+fn damaged_headers(rt: HostRuntime) -> Result<(), Fail> {
     let mut header = PACKAGE;
     header[77] = 6;
     let package = PackageFile::parse(&header)?;

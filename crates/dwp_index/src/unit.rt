@@ -28,9 +28,9 @@ pub struct PackagedUnit<'a> {
 }
 
 impl<'a> Model for PackagedUnit<'a> {
-    ghost use Rattle.dwp_index.specs.Package.{UnitMeaning};
+    ghost use Rattle.dwp_index.specs.Package.{FoundUnit};
 
-    ghost Value = { UnitMeaning };
+    ghost Value = { FoundUnit };
 
     ghost use Rattle.dwp_index.specs.UnitFields.{unit_in_fields};
 

@@ -88,7 +88,7 @@ Joined offer (input ∷ rest) (outcome ∷ outcomes) before now =
     (middle : List (DwarfObject × UnitMeaning)) × JoinsIfOk offer input outcome before middle × Joined offer rest outcomes middle now
 
 -- a unit of a package file is a unit with all that belongs to it; its strings too, where it has its input's encoding
-pub record IsUnit (found : index.UnitMeaning) (unit : UnitMeaning) : Type 0 where
+pub record IsUnit (found : index.FoundUnit) (unit : UnitMeaning) : Type 0 where
   pub bytes : found.bytes ≡ unit.bytes
   pub content : (kind : SectionKind) → is_copied kind ≡ true → row_bytes found.contents found.row kind ≡ unit.content kind
   pub string : found.encoding ≡ unit.encoding → (i : ℕ)
@@ -97,7 +97,7 @@ pub record IsUnit (found : index.UnitMeaning) (unit : UnitMeaning) : Type 0 wher
 
 -- a look-up gave that unit
 pub record GivesUnit (pack : Package) (name : DwarfObject) (most : ℕ) (unit : UnitMeaning) : Type 0 where
-  pub found : index.UnitMeaning
+  pub found : index.FoundUnit
   pub count : ℕ
   pub few : count ≤ most
   pub counted : found_counted pack name ≡ Ok (Some found, count)

@@ -45,17 +45,21 @@ fn a_unit_that_comes_again_is_refused(rt: HostRuntime) -> Result<(), Fail> {
     Ok(())
 }
 
+// A type unit of the same signature with one byte more.
+fn longer_type_unit() -> [u8; 24] {
+    let mut unit = [0u8; 24];
+    for (to, from) in unit.iter_mut().zip(TYPE_UNIT) {
+        *to = from;
+    }
+    unit[0] = 0x14;
+    unit
+}
+
 #[test]
 fn a_type_unit_that_comes_again_is_passed_over(rt: HostRuntime) -> Result<(), Fail> {
     let alloc = rt.alloc();
     let z = with_types(alloc, unit(7).as_slice(), TYPE_UNIT.as_slice())?;
-    // The unit of the same signature in this one is longer.
-    let mut other = [0u8; 24];
-    for (to, from) in other.iter_mut().zip(TYPE_UNIT) {
-        *to = from;
-    }
-    other[0] = 0x14;
-    let w = with_types(alloc, unit(8).as_slice(), other.as_slice())?;
+    let w = with_types(alloc, unit(8).as_slice(), longer_type_unit().as_slice())?;
     let packed = packed(alloc, &[z.as_slice(), z.as_slice(), w.as_slice()])?;
     let mut refused = 0u32;
     for outcome in &packed.outcomes {

@@ -25,8 +25,8 @@ pub struct TableMark {
 /// The distinct strings of a package, in order of first use. A clause sees the table as their list.
 ///
 /// No string is copied but into the data; beside it the table keeps where each begins, in the order
-/// of the strings, and the place behind the string that was put in or found last: inputs that share
-/// strings often use them in the same order, so a string is looked for there first.
+/// of the strings, and the place behind the string that was found last: inputs that share strings
+/// often use them in the same order, so a string is looked for there first.
 #[derive(Drop)]
 pub struct PackageStringTable {
     alloc: Global,
@@ -124,7 +124,6 @@ impl PackageStringTable {
                 self.positions.insert(rank, offset as u64)?;
                 self.bytes.extend_from_slice(string).unwrap();
                 self.bytes.push(0).unwrap();
-                self.next = self.bytes.len();
                 Ok(PackageStringOffset(offset))
             }
         }

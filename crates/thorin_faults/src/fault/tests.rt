@@ -17,7 +17,6 @@ fn assert_texts(rt: &impl Abort, alloc: Global, rows: &[(Error, &str)]) -> Resul
 #[test]
 fn texts_on_inputs(rt: HostRuntime) -> Result<(), Fail> {
     let lost = io::Error::from(io::ErrorKind::NotFound);
-    let name = ".debug_info";
     let rows = [
         (Error::ReadInput(lost), "Failed to read input file"),
         (
@@ -36,6 +35,15 @@ fn texts_on_inputs(rt: HostRuntime) -> Result<(), Fail> {
             Error::DecompressData(ElfReadError::Compressed),
             "Failed to decompress compressed section",
         ),
+    ];
+    assert_texts(&rt, rt.alloc(), &rows)?;
+    Ok(())
+}
+
+#[test]
+fn texts_on_relocations(rt: HostRuntime) -> Result<(), Fail> {
+    let name = ".debug_info";
+    let rows = [
         (
             Error::NamelessSection(ElfReadError::NameRange, 64),
             "Section without name at offset 0x00000040",
@@ -52,6 +60,14 @@ fn texts_on_inputs(rt: HostRuntime) -> Result<(), Fail> {
             Error::UnsupportedRelocation(String::from_str(rt.alloc(), name)?, 6),
             "Unsupported relocation for section .debug_info at offset 0x00000006",
         ),
+    ];
+    assert_texts(&rt, rt.alloc(), &rows)?;
+    Ok(())
+}
+
+#[test]
+fn texts_on_sections(rt: HostRuntime) -> Result<(), Fail> {
+    let rows = [
         (
             Error::MissingRequiredSection(".debug_str.dwo"),
             "Input object missing required section `.debug_str.dwo`",
@@ -111,6 +127,14 @@ fn texts_on_units(rt: HostRuntime) -> Result<(), Fail> {
         ),
         (Error::ParseUnitHeader(cut), "Failed to parse unit header"),
         (Error::ParseUnit(cut), "Failed to parse unit"),
+    ];
+    assert_texts(&rt, rt.alloc(), &rows)?;
+    Ok(())
+}
+
+#[test]
+fn texts_on_identifiers(rt: HostRuntime) -> Result<(), Fail> {
+    let rows = [
         (
             Error::EmptyUnit(5),
             "Unit 0x00000005 in input DWARF object with no data",
@@ -152,6 +176,15 @@ fn texts_on_indexes_and_strings(rt: HostRuntime) -> Result<(), Fail> {
             Error::ParseIndex(cut, ".debug_tu_index"),
             "Failed to parse `.debug_tu_index` index section",
         ),
+    ];
+    assert_texts(&rt, rt.alloc(), &rows)?;
+    Ok(())
+}
+
+#[test]
+fn texts_on_rows_and_ranges(rt: HostRuntime) -> Result<(), Fail> {
+    let cut = DwarfReadError::UnexpectedEof;
+    let rows = [
         (
             Error::UnitNotInIndex(5),
             "Unit 0x00000005 from input package is not in its index",
