@@ -4,7 +4,6 @@ pub mod NumberLists
 pub mod Views
 pub mod UsedSlots
 pub mod FirstSection
-pub mod StringEnds
 pub mod FirstUnit
 pub mod PackageLookUp
 pub mod Steps

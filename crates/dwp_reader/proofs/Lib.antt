@@ -3,3 +3,4 @@ pub mod Lebs
 pub mod SignedLebs
 pub mod Forward
 pub mod Relocations
+pub mod StringEnds

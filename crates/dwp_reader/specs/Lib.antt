@@ -2,3 +2,4 @@ pub mod Encoding
 pub mod Input
 pub mod Leb
 pub mod Relocation
+pub mod StringOffsets

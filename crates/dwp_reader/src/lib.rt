@@ -8,6 +8,7 @@ mod reader;
 mod relocate;
 mod relocation;
 mod slice;
+mod string_offsets;
 
 pub use encoding::{Encoding, Format};
 pub use fault::{ReadError, WriteError};
@@ -16,6 +17,7 @@ pub use reader::Reader;
 pub use relocate::Relocate;
 pub use relocation::{Relocation, RelocationEntry};
 pub use slice::SliceReader;
+pub use string_offsets::string_at;
 
 #[cfg(test)]
 mod tests;

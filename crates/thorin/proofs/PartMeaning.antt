@@ -14,7 +14,8 @@ use Rattle.dwp_reader.specs.declared.encoding.Format.{Format}
 use Rattle.dwp_reader.specs.declared.encoding.Format.TheVariants.{Dwarf32, Dwarf64}
 use Rattle.std.proofs.lemmas.Nat.{row_fits}
 use Rattle.dwp_reader.specs.Encoding.{offset_size}
-use Rattle.dwp_index.specs.Strings.{string_in, entry_in, string_for, entry_count, header_size}
+use Rattle.dwp_reader.specs.StringOffsets.{header_size, entry_count}
+use Rattle.dwp_index.specs.Strings.{string_in, entry_in, string_for}
 use Rattle.thorin_parts.specs.ReadStrings.{ReadsAlike}
 use Rattle.thorin_strings.specs.Rewritten.{NamesTheSame}
 use Rattle.thorin_strings.specs.Strings.{IsTable, data_of}

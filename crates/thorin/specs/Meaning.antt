@@ -14,7 +14,8 @@ use Rattle.dwp_reader.specs.declared.fault.ReadError.{ReadError}
 use Rattle.dwp_dwarf.specs.Units.{Unit, units}
 use Rattle.dwp_dwarf.specs.declared.header.UnitSection.{UnitSection}
 use Rattle.dwp_table.specs.declared.object.DwarfObject.{DwarfObject}
-use Rattle.dwp_index.specs.Strings.{header_size, entry_count, string_in}
+use Rattle.dwp_reader.specs.StringOffsets.{header_size, entry_count}
+use Rattle.dwp_index.specs.Strings.{string_in}
 use Rattle.thorin_faults.specs.Fault.{Fault, ParseUnitHeader, NotSplitUnit}
 use Rattle.thorin_faults.specs.Answers.{as_fault}
 use Rattle.thorin.specs.Identity.{identity}

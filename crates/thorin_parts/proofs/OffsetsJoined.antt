@@ -11,7 +11,8 @@ use Rattle.dwp_reader.specs.declared.encoding.Encoding.{Encoding}
 use Rattle.dwp_reader.specs.declared.encoding.Format.{Format}
 use Rattle.dwp_reader.specs.declared.encoding.Format.TheVariants.{Dwarf32, Dwarf64}
 use Rattle.dwp_reader.specs.Encoding.{offset_size}
-use Rattle.dwp_index.specs.Strings.{header_size, entry_count, entry_in, string_for, string_in}
+use Rattle.dwp_reader.specs.StringOffsets.{header_size, entry_count}
+use Rattle.dwp_index.specs.Strings.{entry_in, string_for, string_in}
 
 -- a number in front doesn't depend on what follows it
 number_front : (order : Endianness) (format : Format) (xs ys : List ℕ) → offset_size format ≤ length xs → number order (offset_size format) (xs ++ ys) ≡ number order (offset_size format) xs

@@ -19,7 +19,8 @@ use Rattle.thorin_faults.specs.Fault.{Fault}
 use Rattle.thorin_faults.specs.Answers.{as_fault}
 use Rattle.thorin_strings.specs.Strings.{data_of, IsTable}
 use Rattle.thorin_strings.specs.StringOffsets as writer
-use Rattle.thorin_strings.specs.StringOffsets.{length_size, offset_at, named_at}
+use Rattle.dwp_reader.specs.StringOffsets.{length_size}
+use Rattle.thorin_strings.specs.StringOffsets.{offset_at, named_at}
 use Rattle.thorin_strings.specs.Rewritten.{NamesTheSame}
 use Rattle.thorin_parts.proofs.Each.{bind_ok}
 use Rattle.thorin_parts.specs.ReadStrings.{ReadsAlike}

@@ -7,7 +7,6 @@ pub mod TableLemmas
 pub mod PlaceLemmas
 pub mod SearchLemmas
 pub mod RemapLemmas
-pub mod SectionLemmas
 pub mod ChunkLemmas
 pub mod PieceLemmas
 pub mod Named

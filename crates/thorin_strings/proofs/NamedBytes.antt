@@ -15,7 +15,8 @@ use Rattle.dwp_reader.specs.declared.encoding.Format.TheVariants.{Dwarf32, Dwarf
 use Rattle.dwp_reader.specs.Encoding.{offset_size}
 use Rattle.thorin_faults.specs.Fault.{Fault}
 use Rattle.thorin_strings.specs.Strings.{IsTable}
-use Rattle.thorin_strings.specs.StringOffsets.{offset_limit, initial_length, length_size, header_size, entry_count, header_of, offset_at, named_at, remapped_entries, entry_bytes, remapped}
+use Rattle.dwp_reader.specs.StringOffsets.{length_size, header_size, entry_count}
+use Rattle.thorin_strings.specs.StringOffsets.{offset_limit, initial_length, header_of, offset_at, named_at, remapped_entries, entry_bytes, remapped}
 use Rattle.thorin_strings.specs.Rewritten.{NamesOneString, NamesTheSame}
 use Rattle.thorin_strings.proofs.OffsetLemmas.{has_Decides}
 use Rattle.thorin_strings.proofs.Named.{read_later}

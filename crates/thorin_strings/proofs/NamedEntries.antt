@@ -10,8 +10,9 @@ use Rattle.dwp_reader.specs.declared.fault.ReadError.TheVariants.{OffsetOutOfRan
 use Rattle.dwp_reader.specs.Encoding.{offset_size}
 use Rattle.thorin_faults.specs.Fault.{Fault}
 use Rattle.thorin_faults.specs.Answers.{as_fault}
-use Rattle.thorin_strings.specs.Strings.{offset_of, with_string, IsZeroFree, IsTable, string_from}
-use Rattle.thorin_strings.specs.StringOffsets.{offset_limit, header_size, offset_at, string_at, named_at, fitting_offset, remapped_entry, remapped_entries}
+use Rattle.dwp_reader.specs.StringOffsets.{header_size, string_from, string_at}
+use Rattle.thorin_strings.specs.Strings.{offset_of, with_string, IsZeroFree, IsTable}
+use Rattle.thorin_strings.specs.StringOffsets.{offset_limit, offset_at, named_at, fitting_offset, remapped_entry, remapped_entries}
 use Rattle.thorin_strings.proofs.Named.{has, has_more, offset_kept, read_free, used}
 use Rattle.thorin_strings.proofs.RemapLemmas.{kept_more}
 

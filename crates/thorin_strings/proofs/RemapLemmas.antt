@@ -1,5 +1,5 @@
 -- Rewriting one entry after another.
-use Rattle.std.proofs.Common.{◌≡◌, ℕ, zero, suc, ◌+◌, ◌-◌, ◌*◌, ◌/◌, ◌<◌, ◌≤◌, false, eqb, ltb, List, [], ◌∷◌, ◌++◌, length, take, Ok, Err, ap, sym, subst, refl, ◌∙◌, ⊎_elim, arith, append_assoc, add-one}
+use Rattle.std.proofs.Common.{◌≡◌, ℕ, zero, suc, ◌+◌, ◌-◌, ◌*◌, ◌/◌, ◌<◌, ◌≤◌, false, eqb, ltb, List, [], ◌∷◌, ◌++◌, length, take, Ok, Err, ap, ap₂, sym, subst, refl, ◌∙◌, ⊎_elim, arith, append_assoc, add-one}
 use Rattle.dwp_base.specs.declared.endian.Endianness.{Endianness}
 use Rattle.dwp_base.specs.Numbers.{number_bytes}
 use Rattle.dwp_reader.specs.Encoding.{offset_size}
@@ -9,7 +9,8 @@ use Rattle.thorin_faults.specs.Fault.{Fault}
 use Rattle.std.proofs.lemmas.List.{take-take, append-nil, length-take}
 use Rattle.std.proofs.lemmas.List.Concat.{flat_map-append}
 use Rattle.std.proofs.lemmas.Bool.{cases_eq, ne_eqb, le-ltb}
-use Rattle.thorin_strings.specs.StringOffsets.{header_size, entry_count, header_of, remapped_entry, remapped_entries, entry_bytes, remapped}
+use Rattle.dwp_reader.specs.StringOffsets.{header_size, entry_count}
+use Rattle.thorin_strings.specs.StringOffsets.{header_of, remapped_entry, remapped_entries, entry_bytes, remapped}
 
 -- one more entry
 pub entries_more : (order : Endianness) (encoding : Encoding) (section bytes : List ℕ) (i : ℕ) (old now new : List (List ℕ)) (before : List ℕ) (offset : ℕ) → remapped_entries order encoding section bytes i old ≡ Ok (before, now) → remapped_entry order encoding section bytes i now ≡ Ok (offset, new) → remapped_entries order encoding section bytes (i + 1) old ≡ Ok (before ++ offset ∷ [], new)
@@ -35,30 +36,15 @@ unfolding remapped_entries
 entries_none order encoding section bytes old = refl
 
 -- a range in which an entry refuses
-pub remapped_refuses : (order : Endianness) (encoding : Encoding) (section bytes : List ℕ) (size front width i : ℕ) (old now : List (List ℕ)) (header before : List ℕ) (fault : Fault) → front ≡ header_size encoding → width ≡ offset_size encoding.format → (size ≡ 0 → ⊥) → front ≤ size → header_of order encoding ((size - front) / width * width) ≡ Ok header → remapped_entries order encoding section bytes i old ≡ Ok (before, now) → remapped_entry order encoding section bytes i now ≡ Err fault → i < (size - front) / width → remapped order encoding section bytes size old ≡ Err fault
+pub remapped_refuses : (order : Endianness) (encoding : Encoding) (section bytes : List ℕ) (size count width i : ℕ) (old now : List (List ℕ)) (header before : List ℕ) (fault : Fault) → count ≡ entry_count encoding size → width ≡ offset_size encoding.format → (size ≡ 0 → ⊥) → header_size encoding ≤ size → header_of order encoding (count * width) ≡ Ok header → remapped_entries order encoding section bytes i old ≡ Ok (before, now) → remapped_entry order encoding section bytes i now ≡ Err fault → i < count → remapped order encoding section bytes size old ≡ Err fault
 unfolding remapped
-remapped_refuses order encoding section bytes size front width i old now header before fault is_front is_width some fits has_header so_far entry less =
+remapped_refuses order encoding section bytes size count width i old now header before fault is_count is_width some fits has_header so_far entry less =
     let some_bytes : eqb size 0 ≡ false = ne_eqb size 0 some in
-    let whole : ltb size (header_size encoding) ≡ false = le-ltb size (header_size encoding) (subst (λ n. n ≤ size) is_front fits) in
-    let counted : (size - front) / width ≡ entry_count encoding size = ap (λ n. (size - n) / width) is_front ∙ ap (λ n. (size - header_size encoding) / n) is_width in
-    let headed : header_of order encoding (entry_count encoding size * offset_size encoding.format) ≡ Ok header =
-    ap (λ n. header_of order encoding (n * offset_size encoding.format)) (sym counted) ∙ ap (λ n. header_of order encoding ((size - front) / width * n)) (sym is_width) ∙ has_header in
+    let whole : ltb size (header_size encoding) ≡ false = le-ltb size (header_size encoding) fits in
+    let headed : header_of order encoding (entry_count encoding size * offset_size encoding.format) ≡ Ok header = ap₂ (λ n m. header_of order encoding (n * m)) (sym is_count) (sym is_width) ∙ has_header in
     let refuses : remapped_entries order encoding section bytes (entry_count encoding size) old ≡ Err fault =
-    entries_fail order encoding section bytes i (entry_count encoding size) old now before fault so_far entry (subst (λ n. i < n) counted less) in
+    entries_fail order encoding section bytes i (entry_count encoding size) old now before fault so_far entry (subst (λ n. i < n) is_count less) in
     rw (some_bytes, whole, headed, refuses) refl
-
--- and one in which all are rewritten
-pub remapped_whole : (order : Endianness) (encoding : Encoding) (section bytes : List ℕ) (size front width : ℕ) (old now : List (List ℕ)) (header before out : List ℕ) → front ≡ header_size encoding → width ≡ offset_size encoding.format → (size ≡ 0 → ⊥) → front ≤ size → header_of order encoding ((size - front) / width * width) ≡ Ok header → remapped_entries order encoding section bytes ((size - front) / width) old ≡ Ok (before, now) → out ≡ header ++ entry_bytes order encoding.format before → remapped order encoding section bytes size old ≡ Ok (out, now)
-unfolding remapped
-remapped_whole order encoding section bytes size front width old now header before out is_front is_width some fits has_header all is_out =
-    let some_bytes : eqb size 0 ≡ false = ne_eqb size 0 some in
-    let whole : ltb size (header_size encoding) ≡ false = le-ltb size (header_size encoding) (subst (λ n. n ≤ size) is_front fits) in
-    let counted : (size - front) / width ≡ entry_count encoding size = ap (λ n. (size - n) / width) is_front ∙ ap (λ n. (size - header_size encoding) / n) is_width in
-    let headed : header_of order encoding (entry_count encoding size * offset_size encoding.format) ≡ Ok header =
-    ap (λ n. header_of order encoding (n * offset_size encoding.format)) (sym counted) ∙ ap (λ n. header_of order encoding ((size - front) / width * n)) (sym is_width) ∙ has_header in
-    let entries : remapped_entries order encoding section bytes (entry_count encoding size) old ≡ Ok (before, now) =
-    ap (λ n. remapped_entries order encoding section bytes n old) (sym counted) ∙ all in
-    rw (some_bytes, whole, headed, entries) (ap (λ l. Ok (l, now)) (sym is_out))
 
 -- the bytes of one more entry
 pub bytes_more : (order : Endianness) (format : Format) (first out out' before : List ℕ) (offset : ℕ) → out ≡ first ++ entry_bytes order format before → out' ≡ out ++ number_bytes order (offset_size format) offset → out' ≡ first ++ entry_bytes order format (before ++ offset ∷ [])

@@ -4,7 +4,8 @@ use Rattle.std.specs.Ordering.{nat_cmp, ordering_then, ordering_reverse}
 use Rattle.std.specs.Cmp.Lexicographic.{slice_cmp}
 use Rattle.std.proofs.lemmas.Bool.{cases_lt}
 use Rattle.std.proofs.lemmas.Cmp.{nat_list_cmp_total, ranked}
-use Rattle.thorin_strings.specs.Strings.{string_from, IsBefore}
+use Rattle.dwp_reader.specs.StringOffsets.{string_from}
+use Rattle.thorin_strings.specs.Strings.{IsBefore}
 
 -- what lies before a string that comes before another comes before that too
 pub before_more : (bytes positions s : List ℕ) (m : ℕ) → AllPairs (λ p q. IsBefore (string_from bytes p) (string_from bytes q)) positions → m < length positions → IsBefore (string_from bytes (get_or positions m 0)) s → (k : ℕ) → k < m + 1 → IsBefore (string_from bytes (get_or positions k 0)) s

@@ -8,17 +8,8 @@ use Rattle.std.proofs.lemmas.List.Elements.{All-nil, All-cons, All-head, All-tai
 use Rattle.std.proofs.lemmas.Bool.{false_from_ne_true, ne_eqb, eq-eqb, eqb-false, eqb-true}
 use Rattle.std.proofs.lemmas.Bool.Decides.{Decides-by_or, Decides-eqb}
 use Rattle.memchr.specs.Find.{IsFirstByte, is_byte}
-use Rattle.thorin_strings.specs.Strings.{data_of, IsZeroFree, string_from, strings_in}
-
--- what a search for the first zero says of the bytes before it
-pub before_zero : (xs : List ℕ) (r : Option ℕ) → IsFirstByte (is_byte 0) xs r → MatchOption r (before_first (λ b. eqb b 0) xs ≡ xs) (λ end. (end ≤ length xs) × (before_first (λ b. eqb b 0) xs ≡ take end xs))
-before_zero xs None h =
-    ap (λ n. take n xs) (position_or_len_is (λ b. eqb b 0) xs (length xs) 0 (omega arith) (λ k below. false_from_ne_true _ (h k (omega arith) below)) (λ below. absurd (omega arith)))
-    ∙ take_all (length xs) xs (omega arith)
-before_zero xs (Some end) h = (
-  omega (arith, h.0.high),
-  ap (λ n. take n xs) (position_or_len_is (λ b. eqb b 0) xs end 0 (omega (arith, h.0.high)) (λ k below. false_from_ne_true _ (h.0.before k (omega arith) below)) (λ below. h.1)),
-)
+use Rattle.dwp_reader.specs.StringOffsets.{string_from}
+use Rattle.thorin_strings.specs.Strings.{data_of, IsZeroFree, strings_in}
 
 -- `&s[at..]`
 pub drop_whole : (at : ℕ) (xs : List ℕ) → take (length xs - at) (drop at xs) ≡ drop at xs
@@ -65,25 +56,6 @@ zero_free-by_byte false b ss other free = onto_first-zero_free b ss (other refl)
 pub zero_free-strings_in : (bytes : List ℕ) → All IsZeroFree (strings_in bytes)
 zero_free-strings_in [] = All-nil _
 zero_free-strings_in (b ∷ bytes) = zero_free-by_byte (eqb b 0) b (strings_in bytes) (λ e. eqb-false b 0 e) (zero_free-strings_in bytes)
-
--- whether a zero is there
-any_zero : (xs : List ℕ) → Decides (list_any (λ b. eqb b 0) xs) ((k : ℕ) × (k < length xs) × HoldsAt (λ b. b ≡ 0) xs k)
-any_zero = Decides-by_or (λ b. eqb b 0) (λ b. b ≡ 0) (list_any (λ b. eqb b 0)) (λ b. Decides-eqb b 0) refl (λ _ _. refl)
-
--- a search that found a zero
-pub zero_there : (xs : List ℕ) (end : ℕ) → IsFirstByte (is_byte 0) xs (Some end) → (list_any (λ b. eqb b 0) xs ≡ true) × IsZeroFree (take end xs)
-zero_there xs end h =
-    let within : end < length xs = h.0.high in
-    let here : get_or xs end 0 ≡ 0 = eqb-true _ 0 h.1 in (
-      (any_zero xs).1 (end, within, λ d. get_or_default xs end d 0 within ∙ here),
-      λ k d below same.
-          (let short : k < end = omega (arith, length-take end xs) in
-          h.0.before k (omega arith) short (eq-eqb _ 0 (get_or_default xs k 0 d (omega arith) ∙ sym (get_or-take end xs k d short) ∙ same))),
-    )
-
--- one that found none
-pub zero_nowhere : (xs : List ℕ) → IsFirstByte (is_byte 0) xs None → list_any (λ b. eqb b 0) xs ≡ false
-zero_nowhere xs h = false_from_ne_true _ (λ there. let at = (any_zero xs).0 there in h at.0 (omega arith) at.1 (eq-eqb _ 0 (at.2 0)))
 
 -- bytes in which one was found aren't a table's string
 pub zero_within : (xs : List ℕ) (r : Option ℕ) → IsFirstByte (is_byte 0) xs r → is_some r ≡ true → IsZeroFree xs → ⊥

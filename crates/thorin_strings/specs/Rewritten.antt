@@ -4,7 +4,8 @@ use Rattle.dwp_base.specs.declared.endian.Endianness.{Endianness}
 use Rattle.dwp_reader.specs.Encoding.{offset_size}
 use Rattle.dwp_reader.specs.declared.encoding.Encoding.{Encoding}
 use Rattle.thorin_strings.specs.Strings.{data_of, IsTable}
-use Rattle.thorin_strings.specs.StringOffsets.{header_size, entry_count, named_at}
+use Rattle.dwp_reader.specs.StringOffsets.{header_size, entry_count}
+use Rattle.thorin_strings.specs.StringOffsets.{named_at}
 
 -- the entry of a number names one string of these distinct ones, in its old section and in that of any table that begins with them
 pub record NamesOneString (order : Endianness) (encoding : Encoding) (section bytes rewritten : List ℕ) (strings : List (List ℕ)) (index : ℕ) : Type 0 where

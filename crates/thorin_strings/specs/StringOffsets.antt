@@ -1,6 +1,6 @@
--- String offsets: a table of offsets of strings (DWARF 5, 7.26). Before DWARF 5 it has no header (the GNU page DebugFissionDWP).
-use Rattle.std.specs.Prelude.{ℕ, zero, suc, ◌+◌, ◌-◌, ◌*◌, ◌/◌, ◌^◌, nat_lt, nat_le, ◌==◌, if◌then◌else◌, List, [], ◌∷◌, ◌++◌, length, drop, codes, Result, Ok, Err}
-use Rattle.std.specs.List.{list_any, flat_map}
+-- String offsets, rewritten to the same strings in a table of distinct ones (DWARF 5, 7.26).
+use Rattle.std.specs.Prelude.{ℕ, zero, suc, ◌+◌, ◌-◌, ◌*◌, ◌^◌, nat_lt, ◌==◌, if◌then◌else◌, List, [], ◌∷◌, ◌++◌, length, drop, codes, Result, Ok, Err}
+use Rattle.std.specs.List.{flat_map}
 use Rattle.dwp_base.specs.declared.endian.Endianness.{Endianness}
 use Rattle.dwp_base.specs.Numbers.{number, number_bytes}
 use Rattle.dwp_base.specs.Reading.{◌>>=◌}
@@ -8,11 +8,12 @@ use Rattle.dwp_reader.specs.declared.encoding.Format.{Format}
 use Rattle.dwp_reader.specs.declared.encoding.Format.TheVariants.{Dwarf32, Dwarf64}
 use Rattle.dwp_reader.specs.declared.encoding.Encoding.{Encoding}
 use Rattle.dwp_reader.specs.declared.fault.ReadError.{ReadError}
-use Rattle.dwp_reader.specs.declared.fault.ReadError.TheVariants.{UnexpectedEof, OffsetOutOfRange, NoTerminator}
+use Rattle.dwp_reader.specs.declared.fault.ReadError.TheVariants.{UnexpectedEof}
 use Rattle.dwp_reader.specs.Encoding.{offset_size}
+use Rattle.dwp_reader.specs.StringOffsets.{header_size, entry_count, string_at}
 use Rattle.thorin_faults.specs.Fault.{Fault, OffsetAtIndex, StrAtOffset, NumberTooLarge, BadStringOffsets}
 use Rattle.thorin_faults.specs.Answers.{as_fault}
-use Rattle.thorin_strings.specs.Strings.{string_from, offset_of, with_string}
+use Rattle.thorin_strings.specs.Strings.{offset_of, with_string}
 
 -- the largest length that an initial length of the format holds, and the largest offset (7.4)
 abbrev pub length_limit : Format → ℕ
@@ -27,19 +28,6 @@ offset_limit Dwarf64 = 2 ^ 64 - 1
 abbrev pub initial_length : Endianness → Format → ℕ → List ℕ
 initial_length order Dwarf32 n = number_bytes order 4 n
 initial_length order Dwarf64 n = number_bytes order 4 (2 ^ 32 - 1) ++ number_bytes order 8 n
-
--- how many bytes an initial length has
-abbrev pub length_size : Format → ℕ
-length_size Dwarf32 = 4
-length_size Dwarf64 = 12
-
--- how many bytes stand before the entries: a length, a version and padding, or before DWARF 5 none
-abbrev pub header_size : Encoding → ℕ
-header_size encoding = if nat_le 5 encoding.version then length_size encoding.format + 4 else 0
-
--- how many whole entries a range of so many bytes has
-abbrev pub entry_count : Encoding → ℕ → ℕ
-entry_count encoding size = (size - header_size encoding) / offset_size encoding.format
 
 -- the header of entries of so many bytes: the length of what follows it, version 5 and padding
 unfoldable pub header_of : Endianness → Encoding → ℕ → Result (List ℕ) Fault
@@ -56,13 +44,6 @@ offset_at order format bytes at =
     if nat_lt (length bytes) (at + offset_size format)
     then Err UnexpectedEof
     else Ok (number order (offset_size format) (drop at bytes))
-
--- the string at an offset of a section: the bytes before the next zero
-unfoldable pub string_at : List ℕ → ℕ → Result (List ℕ) ReadError
-string_at section at =
-    if nat_lt (length section) at
-    then Err OffsetOutOfRange
-    else (if list_any (λ b. b == 0) (drop at section) then Ok (string_from section at) else Err NoTerminator)
 
 -- the string that the entry of a number names
 unfoldable pub named_at : Endianness → Encoding → (section bytes : List ℕ) → ℕ → Result (List ℕ) Fault

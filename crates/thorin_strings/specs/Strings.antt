@@ -1,10 +1,11 @@
 -- The strings of a package, as `.debug_str.dwo` holds them: each is ended by a zero byte (DWARF 5, 7.26).
-use Rattle.std.specs.Prelude.{◌≡◌, ◌≢◌, ℕ, ◌+◌, ◌-◌, ◌^◌, ◌<◌, ◌≤◌, if◌then◌else◌, ◌==◌, List, [], ◌∷◌, ◌++◌, length, drop, slice_index, All, AllPairs, IsPermutation}
-use Rattle.std.specs.List.{flat_map, before_first, list_any, onto_first}
+use Rattle.std.specs.Prelude.{◌≡◌, ◌≢◌, ℕ, ◌+◌, ◌-◌, ◌^◌, ◌<◌, ◌≤◌, if◌then◌else◌, ◌==◌, List, [], ◌∷◌, ◌++◌, length, slice_index, All, AllPairs, IsPermutation}
+use Rattle.std.specs.List.{flat_map, list_any, onto_first}
 use Rattle.std.specs.Str.{bytes_eq}
 use Rattle.std.specs.Ordering.{nat_cmp}
 use Rattle.std.specs.Cmp.Lexicographic.{slice_cmp}
 use Rattle.std.specs.declared.cmp.Ordering.TheVariants.{Less}
+use Rattle.dwp_reader.specs.StringOffsets.{string_from}
 
 -- a string with the zero byte that ends it
 abbrev pub terminated : List ℕ → List ℕ
@@ -35,10 +36,6 @@ pub record IsTable (strings : List (List ℕ)) : Type 0 where
 -- a number is at most how many binary digits n has: n has at most k digits just where n < 2 ^ k
 abbrev pub IsWithinDigits : ℕ → ℕ → Type 0
 IsWithinDigits count n = (k : ℕ) → n < 2 ^ k → count ≤ k
-
--- the string at a place of a section: the bytes before the next zero
-abbrev pub string_from : List ℕ → ℕ → List ℕ
-string_from bytes at = before_first (λ b. b == 0) (drop at bytes)
 
 -- a string begins at a place of a section of ended strings: at its front, or behind the zero byte that ends another
 pub record BeginsAt (bytes : List ℕ) (at : ℕ) : Type 0 where

@@ -3,13 +3,13 @@ ghost use Rattle.dwp_base.specs.Numbers.{number_bytes};
 ghost use Rattle.dwp_base.specs.Reading.{Answers};
 ghost use Rattle.dwp_reader.specs.Encoding.{offset_size};
 ghost use Rattle.thorin_faults.specs.Answers.{Gives};
-ghost use Rattle.thorin_strings.specs.StringOffsets.{length_limit, offset_limit, header_size, header_of, offset_at, string_at, named_at, remapped_entry, remapped};
+ghost use Rattle.dwp_reader.specs.StringOffsets.{header_size};
+ghost use Rattle.thorin_strings.specs.StringOffsets.{length_limit, offset_limit, header_of, offset_at, named_at, remapped_entry, remapped};
 ghost use Rattle.thorin_strings.specs.Strings.{IsZeroFree};
 
 use crate::table::PackageStringTable;
 use dwp_base::Endianness;
-use dwp_reader::{Encoding, Format, ReadError};
-use memchr::memchr;
+use dwp_reader::{Encoding, Format, ReadError, string_at};
 use std::alloc::{AllocError, Global};
 use thorin_faults::Error;
 
@@ -30,20 +30,6 @@ fn offset_limit(format: Format) -> u64
     match format {
         Format::Dwarf32 => 0xffff_ffff,
         Format::Dwarf64 => u64::MAX,
-    }
-}
-
-/// How many bytes stand before the entries of a contribution: none before DWARF 5 (7.26).
-fn header_size(encoding: Encoding) -> u64
-    ensures { result ≡ header_size encoding }
-{
-    if encoding.is_std_dwarf_package_format() {
-        match encoding.format {
-            Format::Dwarf32 => 8,
-            Format::Dwarf64 => 16,
-        }
-    } else {
-        0
     }
 }
 
@@ -108,23 +94,6 @@ fn offset_at(bytes: &[u8], endian: Endianness, format: Format, at: u64) -> Resul
     })
 }
 
-/// The string at an offset of a string section: the bytes before the next zero.
-#[tactic(auto, unfolding(crate::specs::StringOffsets::string_at))]
-fn string_at(section: &[u8], offset: u64) -> Result<&[u8], ReadError>
-    ensures meaning { Answers (λ string. string.now) result (string_at section.now offset) }
-    ensures zero_free { IfOk result (λ string. IsZeroFree string.now) }
-{
-    let offset = offset as usize;
-    if section.len() < offset {
-        return Err(ReadError::OffsetOutOfRange);
-    }
-    let rest = &section[offset..];
-    match memchr(0, rest) {
-        Some(end) => Ok(&rest[..end]),
-        None => Err(ReadError::NoTerminator),
-    }
-}
-
 /// The string that the entry of a number names.
 #[tactic(auto, unfolding(crate::specs::StringOffsets::named_at))]
 fn named_at<'a>(
@@ -139,7 +108,8 @@ fn named_at<'a>(
         (named_at endian encoding debug_str.now debug_str_offsets.now index) }
     ensures zero_free { IfOk result (λ string. IsZeroFree string.now) }
 {
-    let at = header_size(encoding) + index * encoding.format.offset_size() as u64;
+    let header = encoding.string_offsets_header_size() as u64;
+    let at = header + index * encoding.format.offset_size() as u64;
     let offset = match offset_at(debug_str_offsets, endian, encoding.format, at) {
         Ok(offset) => offset,
         Err(e) => return Err(Error::OffsetAtIndex(e, index)),
@@ -198,12 +168,11 @@ impl PackageStringTable {
         if section_size == 0 {
             return Ok(Vec::new(alloc));
         }
-        let before = header_size(encoding);
-        if section_size < before {
+        if section_size < encoding.string_offsets_header_size() as u64 {
             return Err(Error::BadStringOffsets(0));
         }
         let entry_size = encoding.format.offset_size() as u64;
-        let count = (section_size - before) / entry_size;
+        let count = encoding.string_offsets_count(section_size);
         let mut out = header(alloc, endian, encoding, count * entry_size)?;
         for index in 0..count {
             let offset = self.remapped_entry(

@@ -1,5 +1,6 @@
 use Rattle.std.proofs.Common.{ℕ, ◌<◌, ◌≤◌, ◌-◌, length, slice_index}
-use Rattle.thorin_strings.specs.Strings.{string_from, IsBefore}
+use Rattle.dwp_reader.specs.StringOffsets.{string_from}
+use Rattle.thorin_strings.specs.Strings.{IsBefore}
 use Rattle.thorin_strings.proofs.Digits.{IsHalved}
 use Rattle.thorin_strings.proofs.search.search.Given as goal
 

@@ -13,7 +13,7 @@ loop-index-init c = record {
 pub returns-in_err-offset-clause-meaning : goal.returns-in_err-offset-clause-meaning
 returns-in_err-offset-clause-meaning c =
     let p = err_from_is_err_and c.from_residual-in_err-offset.result c.from_residual-in_err-offset.ensures.1 in
-    rw (p.1, p.2) (λ other. remapped_refuses c.args.endian c.args.encoding c.args.debug_str.now c.args.debug_str_offsets.now c.args.section_size c.header_size-before.result c.offset_size-entry_size.result c.loop-index.index c.args.self.now c.loop-index.self _ _ _ c.header_size-before.ensures c.offset_size-entry_size.ensures (omega arith) (omega arith) c.in_ok-out.ensures c.loop-index.invariant.so_far.1 (c.in_err-offset.ensures.meaning other) (omega arith))
+    rw (p.1, p.2) (λ other. remapped_refuses c.args.endian c.args.encoding c.args.debug_str.now c.args.debug_str_offsets.now c.args.section_size c.string_offsets_count-count.result c.offset_size-entry_size.result c.loop-index.index c.args.self.now c.loop-index.self _ _ _ c.string_offsets_count-count.ensures c.offset_size-entry_size.ensures (omega arith) (omega arith) c.in_ok-out.ensures c.loop-index.invariant.so_far.1 (c.in_err-offset.ensures.meaning other) (omega arith))
 
 pub loop-index-preserved : goal.loop-index-preserved
 loop-index-preserved c = record {
