@@ -17,7 +17,7 @@ pub use abbreviation::{Abbreviation, Abbreviations};
 pub use dwp_base::Endianness;
 pub use dwp_reader::{
     Encoding, Format, ReadError, Reader, Relocate, Relocation, RelocationEntry, SliceReader,
-    WriteError, lebs_take_bytes,
+    WriteError, lebs_take_bytes, string_at,
 };
 pub use entry::{Attribute, Attributes, RootEntry};
 pub use header::{UnitHeader, UnitHeaders, UnitSection, UnitType};

@@ -1,6 +1,9 @@
 ghost use Rattle.std.specs.Prelude.{◌≡◌};
 
-use crate::{Format, ReadError, Reader, Relocate, Relocation, RelocationEntry, SliceReader};
+use crate::{
+    Encoding, Format, ReadError, Reader, Relocate, Relocation, RelocationEntry, SliceReader,
+    string_at,
+};
 use dwp_base::Endianness;
 use std::test::Fail;
 
@@ -154,4 +157,21 @@ fn relocated_numbers(rt: HostRuntime) -> Result<(), Fail> {
     assert_eq!(rt; at.read_sized_offset(4)?, 0x1010);
     assert_eq!(rt; at.read_sized_offset(4), Err(ReadError::UnexpectedEof));
     Ok(())
+}
+
+#[test]
+fn string_offsets(rt: HostRuntime) {
+    let wide = Encoding {
+        version: 5,
+        format: Format::Dwarf64,
+        address_size: 8,
+    };
+    assert_eq!(rt; wide.string_offsets_header_size(), 16);
+    assert_eq!(rt; wide.string_offsets_count(39), 2);
+    assert_eq!(rt; wide.string_offsets_count(15), 0);
+    let section = b"int\0char\0bool";
+    assert_eq!(rt; string_at(section, 4), Ok(b"char".as_slice()));
+    assert_eq!(rt; string_at(section, 6), Ok(b"ar".as_slice()));
+    assert_eq!(rt; string_at(section, 9), Err(ReadError::NoTerminator));
+    assert_eq!(rt; string_at(section, 14), Err(ReadError::OffsetOutOfRange));
 }

@@ -20,7 +20,6 @@ use Rattle.thorin_parts.specs.ReadStrings.{ReadsAlike}
 use Rattle.thorin_strings.specs.Rewritten.{NamesTheSame}
 use Rattle.thorin_strings.specs.Strings.{IsTable, data_of}
 use Rattle.thorin_strings.specs.StringOffsets.{remapped}
-use Rattle.thorin_strings.specs.StringOffsets as writer
 use Rattle.thorin_faults.specs.Fault.{Fault}
 use Rattle.thorin.specs.Growing.{Contents}
 use Rattle.thorin.specs.Meaning.{whole_entries, joined_offsets, object_string}
@@ -178,11 +177,6 @@ no-header encoding old =
     let gnu : leb 5 encoding.version ≡ false = lt-leb 5 encoding.version old in
     rw gnu refl
 
-no-header_written : (encoding : Encoding) → encoding.version < 5 → writer.header_size encoding ≡ 0
-no-header_written encoding old =
-    let gnu : leb 5 encoding.version ≡ false = lt-leb 5 encoding.version old in
-    rw gnu refl
-
 nothing-by : (b : Bool) (strings : List (List ℕ)) (r : Result (List ℕ × List (List ℕ)) Fault) (written : List ℕ × List (List ℕ)) → b ≡ true
     → cond b (Ok ([], strings)) r ≡ Ok written → written.0 ≡ []
 nothing-by true strings r written h is = cc
@@ -199,14 +193,12 @@ rewritten-long : NamesTheSameLaw → (order : Endianness) (encoding : Encoding) 
     → remapped order encoding section bytes (length bytes) strings ≡ Ok written → length written.0 ≡ entry_count encoding (length bytes) * offset_size encoding.format
 rewritten-long names order encoding section bytes strings written old table h =
     let header = no-header encoding old in
-    let header_written = no-header_written encoding old in
     let width = offset_size encoding.format in
     ⊎_elim
     (λ none. let count : entry_count encoding (length bytes) ≡ 0 = count-none encoding.format (length bytes) (header_size encoding) (omega (arith, eqb-true (length bytes) 0 none)) in
     ap length (nothing-rewritten order encoding section bytes strings written (eqb-true (length bytes) 0 none) h) ∙ sym (ap (λ n. n * width) count ∙ zero-mul width))
-    (λ some. let long : length written.0 ≡ writer.header_size encoding + writer.entry_count encoding (length bytes) * width = (names order encoding section bytes (length bytes) strings written.0 written.1 table h).long (eqb-false (length bytes) 0 some) in
-    let count : writer.entry_count encoding (length bytes) * width ≡ entry_count encoding (length bytes) * width = ap (λ n. (length bytes - n) / width * width) (header_written ∙ sym header) in
-    omega (arith, long, count, header_written))
+    (λ some. let long : length written.0 ≡ header_size encoding + entry_count encoding (length bytes) * width = (names order encoding section bytes (length bytes) strings written.0 written.1 table h).long (eqb-false (length bytes) 0 some) in
+    omega (arith, long, header))
     (either (eqb (length bytes) 0))
 
 has-by : (a b : Bool) → b ≡ true → (a || b) ≡ true
