@@ -1,5 +1,5 @@
 -- Rewriting one entry after another.
-use Rattle.std.proofs.Common.{◌≡◌, ℕ, zero, suc, ◌+◌, ◌-◌, ◌*◌, ◌/◌, ◌<◌, ◌≤◌, false, eqb, ltb, List, [], ◌∷◌, ◌++◌, length, take, Ok, Err, ap, ap₂, sym, subst, refl, ◌∙◌, ⊎_elim, arith, append_assoc, add-one}
+use Rattle.std.proofs.Common.{◌≡◌, ℕ, zero, suc, ◌+◌, ◌*◌, ◌<◌, ◌≤◌, false, eqb, ltb, List, [], ◌∷◌, ◌++◌, length, take, Ok, Err, ap, ap₂, sym, subst, refl, ◌∙◌, ⊎_elim, arith, append_assoc, add-one}
 use Rattle.dwp_base.specs.declared.endian.Endianness.{Endianness}
 use Rattle.dwp_base.specs.Numbers.{number_bytes}
 use Rattle.dwp_reader.specs.Encoding.{offset_size}

@@ -1,12 +1,11 @@
 -- The strings of a section in which each is ended by a zero byte.
-use Rattle.std.proofs.Common.{◌≡◌, ◌≢◌, ℕ, ◌-◌, ◌<◌, ◌≤◌, Bool, true, false, cond, eqb, List, [], ◌∷◌, ◌++◌, length, take, drop, get_or, Option, Some, None, MatchOption, All, Decides, ap, sym, refl, ◌∙◌, arith, append_assoc, length-append}
+use Rattle.std.proofs.Common.{◌≡◌, ◌≢◌, ℕ, ◌-◌, Bool, true, false, cond, eqb, List, [], ◌∷◌, ◌++◌, length, take, drop, Option, Some, None, All, ap, sym, refl, ◌∙◌, arith, append_assoc, length-append}
 use Rattle.std.specs.Option.{is_some}
-use Rattle.std.specs.List.{before_first, onto_first, list_any, HoldsAt}
-use Rattle.std.proofs.lemmas.List.{take_all, take_rest, take_at, drop_at, get_or_at, get_or_append_left, get_or_default, get_or-take, length-take}
+use Rattle.std.specs.List.{before_first, onto_first}
+use Rattle.std.proofs.lemmas.List.{take_rest, take_at, drop_at, get_or_at, get_or_append_left}
 use Rattle.std.proofs.lemmas.List.Sums.{position_or_len_is}
 use Rattle.std.proofs.lemmas.List.Elements.{All-nil, All-cons, All-head, All-tail}
-use Rattle.std.proofs.lemmas.Bool.{false_from_ne_true, ne_eqb, eq-eqb, eqb-false, eqb-true}
-use Rattle.std.proofs.lemmas.Bool.Decides.{Decides-by_or, Decides-eqb}
+use Rattle.std.proofs.lemmas.Bool.{ne_eqb, eq-eqb, eqb-false, eqb-true}
 use Rattle.memchr.specs.Find.{IsFirstByte, is_byte}
 use Rattle.dwp_reader.specs.StringOffsets.{string_from}
 use Rattle.thorin_strings.specs.Strings.{data_of, IsZeroFree, strings_in}
