@@ -1,5 +1,5 @@
 -- A rewritten range of string offsets reads as it read before.
-use Rattle.std.proofs.Common.{◌≡◌, ℕ, ◌+◌, ◌*◌, ◌<◌, ◌≤◌, Bool, true, false, cond, ltb, List, length, take, drop, Some, None, Result, Ok, Err, ap, sym, refl, ◌∙◌, ⊎_elim, arith}
+use Rattle.std.proofs.Common.{◌≡◌, ℕ, ◌+◌, ◌*◌, ◌<◌, ◌≤◌, Bool, true, false, cond, ltb, List, length, take, drop, Some, None, Result, Ok, Err, sym, refl, ◌∙◌, ⊎_elim, arith}
 use Rattle.std.proofs.lemmas.Bool.{cases_lt, lt-ltb, le-ltb}
 use Rattle.dwp_base.specs.declared.endian.Endianness.{Endianness}
 use Rattle.dwp_base.specs.Numbers.{number}
@@ -8,7 +8,7 @@ use Rattle.dwp_reader.specs.declared.encoding.Format.{Format}
 use Rattle.dwp_reader.specs.declared.fault.ReadError.TheVariants.{UnexpectedEof}
 use Rattle.dwp_reader.specs.Encoding.{offset_size}
 use Rattle.dwp_reader.specs.StringOffsets.{header_size, entry_count, string_at}
-use Rattle.dwp_index.specs.Strings.{entry_in, string_for, string_in}
+use Rattle.dwp_index.specs.Strings.{entry_in, string_in}
 use Rattle.thorin_faults.specs.Fault.{Fault}
 use Rattle.thorin_faults.specs.Answers.{as_fault}
 use Rattle.thorin_strings.specs.Strings.{data_of, IsTable}
