@@ -23,7 +23,7 @@ use Rattle.dwp_table.specs.declared.object.DwoId.{DwoId}
 use Rattle.thorin_faults.specs.Fault.{Fault, ParseUnitHeader, NotSplitUnit}
 use Rattle.thorin_faults.specs.Answers.{as_fault}
 use Rattle.thorin.specs.Growing.{Contents, shared_row}
-use Rattle.thorin.specs.Identity.{identity, identity_by, type_unit}
+use Rattle.thorin_identity.specs.Identity.{identity, identity_by, type_unit}
 use Rattle.thorin.specs.Meaning.{named_unit, named_each, named_at, named_sections, object_units, joining}
 use Rattle.thorin.specs.NewUnits.{NewUnit, same_name, place_for, unit_section}
 use Rattle.thorin.specs.Used.{Used, Object, first}

@@ -26,7 +26,7 @@ use Rattle.std.proofs.lemmas.List.{map-append, length-map, get_or-map as get_or-
 use Rattle.std.proofs.Math.ListN.{get_or-map}
 use Rattle.thorin_faults.specs.Fault.{Fault, ParseUnitHeader, NotSplitUnit, EmptyUnit}
 use Rattle.thorin_faults.specs.Answers.{as_fault}
-use Rattle.thorin.specs.Identity.{identity}
+use Rattle.thorin_identity.specs.Identity.{identity}
 use Rattle.thorin.specs.Builder.{is_chosen, rows_of}
 use Rattle.thorin.specs.Meaning.{joining, can_join, named_unit, named_each, named_at, named_sections, object_units}
 use Rattle.thorin.specs.NewUnits.{NewUnit, New, Held, same_name, is_compilation, or_held, held_bytes, kept_bytes, place_for, with_unit, with_read, with_each_read, unit_section, with_section_at, with_section, with_each_section, new_units}

@@ -1,6 +1,5 @@
 pub mod Used
 pub mod View
-pub mod Identity
 pub mod Growing
 pub mod Parts
 pub mod NewUnits

@@ -18,7 +18,7 @@ use Rattle.dwp_reader.specs.StringOffsets.{header_size, entry_count}
 use Rattle.dwp_index.specs.Strings.{string_in}
 use Rattle.thorin_faults.specs.Fault.{Fault, ParseUnitHeader, NotSplitUnit}
 use Rattle.thorin_faults.specs.Answers.{as_fault}
-use Rattle.thorin.specs.Identity.{identity}
+use Rattle.thorin_identity.specs.Identity.{identity}
 use Rattle.thorin.specs.NewUnits.{NewUnit, same_name, is_compilation, place_for, unit_section}
 use Rattle.thorin.specs.Used.{Used, Object, first}
 

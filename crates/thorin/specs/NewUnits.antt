@@ -21,7 +21,7 @@ use Rattle.thorin_parts.specs.declared.entry.IndexEntry.{IndexEntry}
 use Rattle.thorin_faults.specs.Fault.{Fault, ParseUnitHeader, NotSplitUnit, DuplicateUnit, EmptyUnit}
 use Rattle.thorin_faults.specs.Answers.{as_fault}
 use Rattle.thorin.specs.Growing.{Contents}
-use Rattle.thorin.specs.Identity.{identity}
+use Rattle.thorin_identity.specs.Identity.{identity}
 use Rattle.thorin.specs.Used.{Used, Object, first}
 
 -- a unit that is added: whether it goes to info or to types, and its bytes

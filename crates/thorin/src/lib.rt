@@ -4,7 +4,6 @@
 mod adding;
 mod encodings;
 mod growing;
-mod identity;
 mod laws;
 mod object;
 mod package;
@@ -13,7 +12,7 @@ mod parts;
 mod state;
 mod units;
 
-pub use identity::dwo_identifier_of_unit;
+pub use thorin_identity::dwo_identifier_of_unit;
 pub use laws::{packages_are_the_join, written_packages_are_read};
 pub use package::DwarfPackage;
 pub use packing::{Input, Packed, pack};

@@ -11,7 +11,7 @@ ghost use Rattle.thorin.specs.UnitView.{new_unit, new_of, held_of};
 ghost use Rattle.thorin.specs.View as view;
 
 use crate::growing::content;
-use crate::identity::dwo_identifier_of_unit;
+use thorin_identity::dwo_identifier_of_unit;
 use crate::object::{InputObject, UsedSection};
 use dwp_base::{Contribution, SectionKind};
 use dwp_dwarf::{ReadError, Reader, SliceReader, UnitHeader, UnitHeaders, UnitSection};

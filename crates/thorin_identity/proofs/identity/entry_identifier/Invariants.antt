@@ -1,7 +1,7 @@
 use Rattle.std.proofs.Common.{◌≡◌}
 use Rattle.dwp_dwarf.specs.Attributes.{attributes_left}
-use Rattle.thorin.specs.Identity.{first_identifier}
-use Rattle.thorin.proofs.identity.entry_identifier.Given as goal
+use Rattle.thorin_identity.specs.Identity.{first_identifier}
+use Rattle.thorin_identity.proofs.identity.entry_identifier.Given as goal
 
 -- the first identifier of those that are left is the first of all
 abbrev pub invariant-loop-attribute : goal.invariant-loop-attribute

@@ -4,7 +4,7 @@ ghost use Rattle.std.specs.Prelude.{◌≢◌, IfErr};
 ghost use Rattle.thorin_faults.specs.Answers.{Gives};
 ghost use Rattle.dwp_dwarf.specs.Units.{unit_of};
 ghost use Rattle.dwp_dwarf.specs.Attributes.{entry_of};
-ghost use Rattle.thorin.specs.Identity.{identity, root_identity, entry_identity, first_identifier, is_unit_tag};
+ghost use Rattle.thorin_identity.specs.Identity.{identity, root_identity, entry_identity, first_identifier, is_unit_tag};
 
 use dwp_dwarf::{Abbreviations, ReadError, Reader, RootEntry, UnitHeader, UnitType};
 use dwp_table::{DebugTypeSignature, DwarfObject, DwoId};

@@ -1,0 +1,6 @@
+//! Which unit a unit of a split object or of an executable is (DWARF 5, 7.5.1; the GNU page DebugFission).
+#![tactic(auto)]
+
+mod identity;
+
+pub use identity::dwo_identifier_of_unit;
