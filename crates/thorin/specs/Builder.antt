@@ -15,12 +15,13 @@ use Rattle.thorin_strings.specs.Strings.{data_of}
 use Rattle.thorin_parts.specs.declared.entry.IndexEntry.{IndexEntry}
 use Rattle.thorin_parts.specs.EntryTests.{index_tests}
 use Rattle.thorin_parts.specs.IndexText.{IsIndexOf}
-use Rattle.thorin_faults.specs.Fault.{Fault, MixedInputEncodings, NotYet, MissingReferencedUnit, NoOutputObjectCreated}
+use Rattle.thorin_faults.specs.Fault.{Fault, MixedInputEncodings, MissingReferencedUnit, NoOutputObjectCreated}
 use Rattle.thorin.specs.Encodings.{encoding_of, own_encoding, common}
 use Rattle.thorin.specs.Growing.{with_bytes}
-use Rattle.thorin.specs.NewUnits.{same_name, is_compilation}
-use Rattle.thorin.specs.State.{InProgress, empty, with_object}
-use Rattle.thorin.specs.Used.{Object, opened, has_info, object_of, is_package}
+use Rattle.thorin.specs.Indexes.{Source, indexes_of}
+use Rattle.thorin.specs.Names.{same_name, is_compilation}
+use Rattle.thorin.specs.State.{InProgress, empty, names_of, with_source}
+use Rattle.thorin.specs.Used.{opened, has_info, object_of}
 
 -- a builder: the package, where an input has begun one, the units that executables refer to, and the one encoding of all
 -- units of the accepted inputs, those passed over too, where there is one and each input was a plain object that added a unit
@@ -53,24 +54,20 @@ order_of (Some made) order = made.file.order
 unfoldable pub order_test : Endianness → Option InProgress → Result (Unit {0}) Fault
 order_test order begun = if same_order (order_of begun order) order then Ok tt else Err MixedInputEncodings
 
--- a finished package as an input isn't taken yet
-unfoldable pub plain_test : Object → Result (Unit {0}) Fault
-plain_test object = if is_package object.sections then Err NotYet else Ok tt
-
--- the package with the units of a plain object
-unfoldable pub with_plain : Elf → Object → Encoding → Option InProgress → Result (Option InProgress) Fault
-with_plain file object encoding begun = do
-  made ← with_object object encoding (package_or_new file begun)
+-- the package with the units of an input, which it may begin
+unfoldable pub with_source_or_new : Elf → Source → Option InProgress → Result (Option InProgress) Fault
+with_source_or_new file source begun = do
+  made ← with_source source (package_or_new file begun)
   Ok (Some made)
 
--- what an object with units makes of a package
+-- what an input with units makes of a package
 unfoldable pub with_units : Elf → Option InProgress → Result (Option InProgress) Fault
 with_units file begun = do
   object ← object_of file
   encoding ← encoding_of object
-  _ ← plain_test object
   _ ← order_test object.order begun
-  with_plain file object encoding begun
+  indexes ← indexes_of object encoding
+  with_source_or_new file (record { object = object; encoding = encoding; indexes = indexes }) begun
 
 -- what an object's bytes make of a package, or the first fault; without an info section they only begin it
 unfoldable pub with_input : List ℕ → Option InProgress → Result (Option InProgress) Fault
@@ -81,7 +78,7 @@ with_input bytes begun = do
 -- the names of a package's units, in order of acceptance
 abbrev pub names_in : Option InProgress → List DwarfObject
 names_in None = []
-names_in (Some made) = made.names
+names_in (Some made) = names_of made
 
 -- the one encoding after an object, which has this one for its units
 abbrev pub with_own : Option InProgress → Option Encoding → Option Encoding → Option Encoding

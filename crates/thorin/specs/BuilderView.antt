@@ -4,4 +4,4 @@ use Rattle.thorin.specs.Building.{Building}
 use Rattle.thorin.specs.StateView.{begun_of}
 
 abbrev pub building : {Sess : Type 0} → Inside Sess → Building Sess
-building p = record { session = p.session.now; state = record { begun = begun_of p.in_progress p.contained.keys; targets = p.targets.keys; own = p.own } }
+building p = record { session = p.session.now; state = record { begun = begun_of p.in_progress; targets = p.targets.keys; own = p.own } }

@@ -1,9 +1,10 @@
 -- The encoding of an input: that of its first unit; and the one encoding of all units, where there is one (DWARF 5, 7.5.1).
-use Rattle.std.specs.Prelude.{ℕ, Bool, true, false, List, [], ◌∷◌, Option, Some, None, Result, Ok, Err, if◌then◌else◌}
-use Rattle.std.specs.List.{list_all}
+use Rattle.std.specs.Prelude.{ℕ, Bool, true, false, not, ◌&&◌, ◌||◌, List, [], ◌∷◌, Option, Some, None, Result, Ok, Err, if◌then◌else◌}
+use Rattle.std.specs.List.{list_all, list_any}
 use Rattle.dwp_base.specs.declared.endian.Endianness.{Endianness}
-use Rattle.dwp_base.specs.declared.section.SectionKind.TheVariants.{Info}
+use Rattle.dwp_base.specs.declared.section.SectionKind.TheVariants.{Info, CuIndex, TuIndex}
 use Rattle.dwp_base.specs.Reading.{◌>>=◌}
+use Rattle.dwp_base.specs.Sections.{same_kind}
 use Rattle.dwp_elf_read.specs.Elf.{Elf}
 use Rattle.dwp_reader.specs.Input.{section}
 use Rattle.dwp_reader.specs.declared.encoding.Encoding.{Encoding}
@@ -38,9 +39,17 @@ all_have encoding order bytes (Some place) = list_all (has_encoding encoding) (u
 abbrev pub section_has : Encoding → Endianness → Used → Bool
 section_has encoding order from = all_have encoding order from.bytes (unit_section from.kind)
 
--- the one encoding of all units of an object whose first unit has this encoding, where there is one
+-- no section is an index
+abbrev pub is_index : Used → Bool
+is_index used = same_kind used.kind CuIndex || same_kind used.kind TuIndex
+
+abbrev pub is_plain : List Used → Bool
+is_plain sections = not (list_any is_index sections)
+
+-- the one encoding of all units of a plain object whose first unit has this encoding, where there is one
 abbrev pub one_encoding : Object → Encoding → Option Encoding
-one_encoding object encoding = if list_all (section_has encoding object.order) object.sections then Some encoding else None
+one_encoding object encoding =
+    if is_plain object.sections && list_all (section_has encoding object.order) object.sections then Some encoding else None
 
 unfoldable pub file_encoding : Elf → Result (Option Encoding) Fault
 file_encoding file = do

@@ -110,7 +110,3 @@ bytes_of (Some used) = used.bytes
 -- the content of the first section of a kind
 abbrev pub first : SectionKind → List Used → List ℕ
 first kind sections = bytes_of (find (has_kind kind) sections)
-
--- the input is a finished package: it has an index
-abbrev pub is_package : List Used → Bool
-is_package sections = is_some (find (has_kind CuIndex) sections) || is_some (find (has_kind TuIndex) sections)

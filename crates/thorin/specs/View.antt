@@ -3,9 +3,12 @@ use Rattle.std.specs.Prelude.{ℕ, List, map}
 use Rattle.dwp_base.specs.declared.section.SectionKind.{SectionKind}
 use Rattle.thorin.specs.declared.object.UsedSection.{UsedSection}
 use Rattle.thorin.specs.declared.object.InputObject.{InputObject}
+use Rattle.thorin.specs.declared.source.Indexes.{Indexes}
+use Rattle.thorin.specs.declared.source.Source.{Source}
 use Rattle.thorin.specs.declared.parts.Part.{Part}
 use Rattle.thorin.specs.declared.parts.PartBytes.{PartBytes}
 use Rattle.thorin.specs.declared.parts.PartBytes.TheVariants.{Copied, Rewritten}
+use Rattle.thorin.specs.Indexes as spec
 use Rattle.thorin.specs.Used.{Used, Object}
 
 -- a section that is used
@@ -15,6 +18,14 @@ used s = record { kind = s.kind; bytes = s.bytes.now; address = s.address }
 -- an input whose sections are known
 abbrev pub object : InputObject → Object
 object o = record { order = o.order; sections = map used o.sections.items; has_strings = o.has_strings; has_abbreviations = o.has_abbreviations }
+
+-- its indexes
+abbrev pub indexes : Indexes → spec.Indexes
+indexes i = record { compilations = i.compilations; types = i.types }
+
+-- and its encoding with them
+abbrev pub source : Source → spec.Source
+source s = record { object = object s.object; encoding = s.encoding; indexes = indexes s.indexes }
 
 -- the bytes of a part, and the part with its kind
 abbrev pub part_bytes : PartBytes → List ℕ

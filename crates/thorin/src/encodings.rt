@@ -69,11 +69,24 @@ impl<'a> InputObject<'a> {
         }
     }
 
-    /// The one encoding of all units of the input, whose first unit has this one; none where they differ.
+    // Whether no section is an index.
+    fn is_plain(&self) -> bool
+        ensures { result ≡ spec.is_plain (object self.now).sections }
+    {
+        for section in &self.sections {
+            if section.kind.is(SectionKind::CuIndex) || section.kind.is(SectionKind::TuIndex) {
+                return false;
+            }
+        }
+        true
+    }
+
+    /// The one encoding of all units of a plain object, whose first unit has this one; none where they
+    /// differ, and of a finished package.
     pub fn one_encoding(&self, encoding: Encoding) -> Option<Encoding>
         ensures { result ≡ spec.one_encoding (object self.now) encoding }
     {
-        if all_have(encoding, self.order, &self.sections) {
+        if self.is_plain() && all_have(encoding, self.order, &self.sections) {
             Some(encoding)
         } else {
             None

@@ -9,6 +9,8 @@ mod object;
 mod package;
 mod packing;
 mod parts;
+mod rows;
+mod source;
 mod state;
 mod units;
 

@@ -99,8 +99,8 @@ fn counts_once(kind: SectionKind) -> bool
     kind.is(SectionKind::Str) || kind.is(SectionKind::CuIndex) || kind.is(SectionKind::TuIndex)
 }
 
-// The first section of a kind.
-fn find_in<'a>(sections: &[UsedSection<'a>], kind: SectionKind) -> Option<UsedSection<'a>>
+/// The first section of a kind.
+pub(crate) fn find_in<'a>(sections: &[UsedSection<'a>], kind: SectionKind) -> Option<UsedSection<'a>>
     ensures { option_map used result ≡ find (spec.has_kind kind) (map used sections.now) }
 {
     for section in sections {
@@ -172,12 +172,5 @@ impl<'a> InputObject<'a> {
             Some(section) => section.bytes,
             None => &[],
         }
-    }
-
-    /// Whether the input is a finished package: it has an index.
-    pub fn is_package(&self) -> bool
-        ensures { result ≡ spec.is_package (object self.now).sections }
-    {
-        self.find(SectionKind::CuIndex).is_some() || self.find(SectionKind::TuIndex).is_some()
     }
 }

@@ -27,7 +27,7 @@ pub struct DwarfPackage<'output, 'session: 'output, Sess: Session<RelocationEntr
     alloc: Global,
     session: &'session Sess,
     in_progress: Option<InProgressDwarfPackage>,
-    contained: IndexSet<DwarfObject>,
+    no_units: IndexSet<DwarfObject>,
     targets: IndexSet<DwarfObject>,
     own: Option<Encoding>,
     output: PhantomData<&'output ()>,
@@ -40,11 +40,11 @@ impl<'output, 'session: 'output, Sess: Session<RelocationEntry>> Model
     ghost Value = { Building Sess };
 
     ghost use Rattle.thorin.specs.BuilderView.{building};
-    ghost use Rattle.thorin.specs.StateView.{NamesFit};
+    ghost use Rattle.std.specs.Prelude.{◌≡◌, []};
 
     ghost view = { building };
 
-    ghost invariant = { λ p. NamesFit p.in_progress p.contained.keys };
+    ghost invariant = { λ p. p.no_units.keys ≡ [] };
 }
 
 impl<'output, 'session: 'output, Sess: Session<RelocationEntry>> fmt::Debug
@@ -71,7 +71,7 @@ impl<'output, 'session: 'output, Sess: Session<RelocationEntry>> DwarfPackage<
             alloc,
             session,
             in_progress: None,
-            contained: IndexSet::new(alloc),
+            no_units: IndexSet::new(alloc),
             targets: IndexSet::new(alloc),
             own: None,
             output: PhantomData,
@@ -91,31 +91,30 @@ impl<'output, 'session: 'output, Sess: Session<RelocationEntry>> DwarfPackage<
         }
     }
 
-    /// Adds an object: its units that aren't contained, with all that belongs to them (DWARF 5, 7.3.5).
+    /// Adds an object or a finished package: its units that aren't contained, with all that belongs to
+    /// them (DWARF 5, 7.3.5).
     /// An object without split units' info section adds nothing and begins the package. An `Err` leaves
     /// the package as it was; it is `Memory`, or the first fault from left to right: of the file's kind
     /// (`ParseFileKind`, `InvalidInputKind`), the ELF file (`ParseObjectFile`), the used sections
-    /// (`DecompressData`, `ObjectRead`), the first unit (`ParseUnitHeader`, `NoCompilationUnits`), a
-    /// finished package as the input (`NotYet`), the byte order (`MixedInputEncodings`), each section's
-    /// kind and string offsets (`SectionOutsideFormat`, `RepeatedSection`, `MissingRequiredSection`,
-    /// `BadStringOffsets`, `OffsetAtIndex`, `StrAtOffset`, `NumberTooLarge`), the abbreviations
-    /// (`MissingRequiredSection`), the units in file order (`ParseUnitHeader`, what
-    /// `dwo_identifier_of_unit` answers, `NotSplitUnit`, `DuplicateUnit`, `EmptyUnit`).
+    /// (`DecompressData`, `ObjectRead`), the first unit (`ParseUnitHeader`, `NoCompilationUnits`), the
+    /// byte order (`MixedInputEncodings`), both indexes (`ParseIndex`, `IncompatibleIndexVersion`), each
+    /// section's kind and string offsets (`RepeatedSection`, `SectionOutsideFormat`,
+    /// `MissingRequiredSection`, `BadStringOffsets`, `OverlappingStringOffsets`, `OffsetAtIndex`,
+    /// `StrAtOffset`, `NumberTooLarge`), the abbreviations (`MissingRequiredSection`), the units in file
+    /// order: of a package a second section of units (`MultipleDebugInfoSection`,
+    /// `MultipleDebugTypesSection`), `ParseUnitHeader`, what `dwo_identifier_of_unit` answers,
+    /// `NotSplitUnit`, `DuplicateUnit`, `EmptyUnit`, and of a package `UnitNotInIndex`, `RowNotInIndex`,
+    /// `BadContribution`, `SectionNotInRow`.
     #[tactic(auto, unfolding(crate::specs::Builder::taken))]
-    pub fn add_object_bytes(&mut self, bytes: &'session [u8]) -> Result<(), Error>
+    pub fn add_object_bytes(&mut self, bytes: &[u8]) -> Result<(), Error>
         ensures meaning { Gives (λ _. self.new.state) result (spec.taken bytes.now self.old.state) }
         ensures err { OnErr result (self.new.state ≡ self.old.state) }
         ensures session { self.new.session ≡ self.old.session }
     {
         let is_first = self.in_progress.is_none();
-        let units = self.contained.len();
-        let encoding = add_input(
-            self.alloc,
-            &mut self.in_progress,
-            &mut self.contained,
-            bytes,
-        )?;
-        self.own = if self.contained.len() <= units {
+        let units = self.contained_units().len();
+        let encoding = add_input(self.alloc, &mut self.in_progress, bytes)?;
+        self.own = if self.contained_units().len() <= units {
             None
         } else if is_first {
             encoding
@@ -138,12 +137,16 @@ impl<'output, 'session: 'output, Sess: Session<RelocationEntry>> DwarfPackage<
             alloc: _,
             session: _,
             in_progress,
-            contained,
+            no_units,
             targets,
             own: _,
             output: _,
         } = self;
-        test_targets(&contained, &targets)?;
+        let contained = match &in_progress {
+            Some(package) => package.names(),
+            None => &no_units,
+        };
+        test_targets(contained, &targets)?;
         match in_progress {
             Some(package) => package.finish(),
             None => Err(Error::NoOutputObjectCreated),
@@ -154,7 +157,10 @@ impl<'output, 'session: 'output, Sess: Session<RelocationEntry>> DwarfPackage<
     pub fn contained_units(&self) -> &IndexSet<DwarfObject>
         ensures { result.now.keys ≡ spec.names_in self.now.state.begun }
     {
-        &self.contained
+        match &self.in_progress {
+            Some(package) => package.names(),
+            None => &self.no_units,
+        }
     }
 }
 

@@ -1,4 +1,4 @@
-//! What a plain object adds to the sections of a package beside its units.
+//! What an input adds to the sections of a package beside its units.
 
 ghost use Rattle.std.specs.Prelude.{◌≡◌, length, take, map, OnOk, OnErr, IfErr};
 ghost use Rattle.dwp_elf.specs.FileText.{Object};
@@ -8,12 +8,14 @@ ghost use Rattle.thorin.specs.Parts as spec;
 ghost use Rattle.thorin.specs.View as view;
 
 use crate::growing::put;
-use crate::object::{InputObject, UsedSection};
+use crate::object::UsedSection;
+use crate::source::Source;
 use dwp_base::SectionKind;
 use dwp_dwarf::Encoding;
 use dwp_elf::WritableObject;
 use std::alloc::Global;
 use thorin_faults::Error;
+use thorin_packaged::remap_packaged_offsets;
 use thorin_strings::PackageStringTable;
 
 /// The bytes of a part: those of the input, or string offsets that were rewritten.
@@ -31,7 +33,8 @@ pub(crate) struct Part<'a> {
 }
 
 impl<'a> Part<'a> {
-    fn bytes(&self) -> &[u8]
+    /// Its bytes.
+    pub fn bytes(&self) -> &[u8]
         ensures { result.now ≡ (view.part self.now).1 }
     {
         match &self.bytes {
@@ -70,43 +73,73 @@ fn is_copied(kind: SectionKind) -> bool
     }
 }
 
-// Whether a part for string offsets is there.
-fn has_offsets(parts: &[Part<'_>]) -> bool
-    ensures { result ≡ spec.has_offsets (map view.part parts.now) }
+// Whether a part of a kind is there.
+fn has_part(parts: &[Part<'_>], kind: SectionKind) -> bool
+    ensures { result ≡ spec.has_part kind (map view.part parts.now) }
 {
     for part in parts {
-        if part.kind.is(SectionKind::StrOffsets) {
+        if part.kind.is(kind) {
             return true;
         }
     }
     false
 }
 
+// Whether an input may have one section of a kind alone.
+fn stands_once(source: &Source<'_>, kind: SectionKind) -> bool
+    ensures { result ≡ spec.stands_once (view.source source.now) kind }
+{
+    source.indexes.is_package()
+        || source.encoding.is_std_dwarf_package_format() && kind.is(SectionKind::StrOffsets)
+}
+
+// String offsets that name their strings in the table: those of a package range by range. An `Err` may
+// leave strings behind those before.
+#[tactic(auto, unfolding(crate::specs::Parts::rewritten))]
+fn rewritten(
+    alloc: Global,
+    source: &Source<'_>,
+    bytes: &[u8],
+    strings: &mut PackageStringTable,
+) -> Result<Vec<u8>, Error>
+    ensures meaning { Gives (λ written. (written.items, strings.new)) result (spec.rewritten (view.source source.now) bytes.now strings.old) }
+    ensures kept { take (length strings.old) strings.new ≡ strings.old }
+{
+    let object = &source.object;
+    let named = object.first(SectionKind::Str);
+    if source.indexes.is_package() {
+        remap_packaged_offsets(
+            alloc,
+            strings,
+            source.indexes.compilations.as_ref(),
+            source.indexes.types.as_ref(),
+            named,
+            bytes,
+            object.order,
+            source.encoding,
+        )
+    } else {
+        let size = bytes.len() as u64;
+        strings.remap_str_offsets_section(named, bytes, size, object.order, source.encoding)
+    }
+}
+
 // Adds a section of string offsets, rewritten. An `Err` may leave strings behind those before.
 #[tactic(auto, unfolding(crate::specs::Parts::with_offsets))]
 fn add_offsets<'a>(
+    alloc: Global,
     parts: &mut Vec<Part<'a>>,
-    object: &InputObject<'a>,
-    encoding: Encoding,
+    source: &Source<'a>,
     bytes: &[u8],
     strings: &mut PackageStringTable,
 ) -> Result<(), Error>
-    ensures meaning { Gives (λ _. (map view.part parts.new.items, strings.new)) result (spec.with_offsets (view.object object.now) encoding (map view.part parts.old.items, strings.old) bytes.now) }
+    ensures meaning { Gives (λ _. (map view.part parts.new.items, strings.new)) result (spec.with_offsets (view.source source.now) (map view.part parts.old.items, strings.old) bytes.now) }
     ensures kept { take (length strings.old) strings.new ≡ strings.old }
 {
-    if encoding.is_std_dwarf_package_format() && has_offsets(parts) {
-        return Err(Error::RepeatedSection(SectionKind::StrOffsets.name()));
-    }
-    if !object.has_strings {
+    if !source.object.has_strings {
         return Err(Error::MissingRequiredSection(SectionKind::Str.name()));
     }
-    let written = strings.remap_str_offsets_section(
-        object.first(SectionKind::Str),
-        bytes,
-        bytes.len() as u64,
-        object.order,
-        encoding,
-    )?;
+    let written = rewritten(alloc, source, bytes, strings)?;
     parts.push(Part {
         kind: SectionKind::StrOffsets,
         bytes: PartBytes::Rewritten(written),
@@ -114,24 +147,27 @@ fn add_offsets<'a>(
     Ok(())
 }
 
-// Adds what a section adds: `SectionOutsideFormat`, `RepeatedSection`, `MissingRequiredSection`, and the
+// Adds what a section adds: `RepeatedSection`, `SectionOutsideFormat`, `MissingRequiredSection`, and the
 // faults of string offsets.
 #[tactic(auto, unfolding(crate::specs::Parts::with_part))]
 fn add_part<'a>(
+    alloc: Global,
     parts: &mut Vec<Part<'a>>,
-    object: &InputObject<'a>,
-    encoding: Encoding,
+    source: &Source<'a>,
     section: UsedSection<'a>,
     strings: &mut PackageStringTable,
 ) -> Result<(), Error>
-    ensures meaning { Gives (λ _. (map view.part parts.new.items, strings.new)) result (spec.with_part (view.object object.now) encoding (map view.part parts.old.items, strings.old) (view.used section.entry)) }
+    ensures meaning { Gives (λ _. (map view.part parts.new.items, strings.new)) result (spec.with_part (view.source source.now) (map view.part parts.old.items, strings.old) (view.used section.entry)) }
     ensures kept { take (length strings.old) strings.new ≡ strings.old }
 {
-    if !is_in_format(encoding, section.kind) {
+    if stands_once(source, section.kind) && has_part(parts, section.kind) {
+        return Err(Error::RepeatedSection(section.kind.name()));
+    }
+    if !is_in_format(source.encoding, section.kind) {
         return Err(Error::SectionOutsideFormat(section.kind.name()));
     }
     if section.kind.is(SectionKind::StrOffsets) {
-        return add_offsets(parts, object, encoding, section.bytes, strings);
+        return add_offsets(alloc, parts, source, section.bytes, strings);
     }
     if is_copied(section.kind) {
         parts.push(Part {
@@ -142,22 +178,21 @@ fn add_part<'a>(
     Ok(())
 }
 
-/// What an object adds to sections beside its units, in file order, its string offsets rewritten over
+/// What an input adds to sections beside its units, in file order, its string offsets rewritten over
 /// the strings of the package: the first fault of its sections. An `Err` may leave strings behind those
 /// before.
 #[tactic(auto, unfolding(crate::specs::Parts::with_each_part))]
 pub(crate) fn parts_of<'a>(
     alloc: Global,
-    object: &InputObject<'a>,
-    encoding: Encoding,
+    source: &Source<'a>,
     strings: &mut PackageStringTable,
 ) -> Result<Vec<Part<'a>>, Error>
-    ensures meaning { Gives (λ parts. (map view.part parts.items, strings.new)) result (spec.parts_of (view.object object.now) encoding strings.old) }
+    ensures meaning { Gives (λ parts. (map view.part parts.items, strings.new)) result (spec.parts_of (view.source source.now) strings.old) }
     ensures kept { take (length strings.old) strings.new ≡ strings.old }
 {
     let mut parts = Vec::new(alloc);
-    for section in &object.sections {
-        add_part(&mut parts, object, encoding, *section, strings)?;
+    for section in &source.object.sections {
+        add_part(alloc, &mut parts, source, *section, strings)?;
     }
     Ok(parts)
 }
