@@ -1,6 +1,6 @@
 //! The ranges of string offsets that the rows of a package have.
 
-ghost use Rattle.std.specs.Prelude.{◌≡◌, [], map, OnOk, IfOk, IfErr};
+ghost use Rattle.std.specs.Prelude.{◌≡◌, ◌≢◌, [], map, OnOk, IfOk, IfErr};
 ghost use Rattle.std.specs.Option.{option_copied};
 ghost use Rattle.thorin_faults.specs.Answers.{Gives, MemoryAside};
 ghost use Rattle.thorin_packaged.specs.PackagedOffsets.{is_whole_range, offset_ranges, ranges_test, with_rows};
