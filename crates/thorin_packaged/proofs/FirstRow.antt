@@ -1,12 +1,13 @@
 -- The first row that a test finds.
-use Rattle.std.proofs.Common.{◌≡◌, ◌≢◌, ℕ, zero, suc, ◌+◌, ◌<◌, ◌≤◌, Bool, true, false, cond, eqb, ◌&&◌, map, Some, None, Ok, Err, Option, Result, ap, ap₂, sym, refl, ◌∙◌, ⊎_elim, arith}
+use Rattle.std.proofs.Common.{◌≡◌, ◌≢◌, ℕ, zero, suc, ◌+◌, ◌<◌, ◌≤◌, Bool, true, false, cond, eqb, ltb, ◌-◌, ◌&&◌, length, map, Some, None, Ok, Err, Option, Result, ap, ap₂, sym, refl, ◌∙◌, ⊎_elim, arith}
 use Rattle.std.specs.List.{position_from, range_with_len}
 use Rattle.std.specs.Option.{option_and_then}
 use Rattle.std.specs.Result.{result_ok}
-use Rattle.std.proofs.lemmas.Bool.{cases_eq, eqb-eq, eq-eqb, and_true}
+use Rattle.std.proofs.lemmas.Bool.{cases_eq, eqb-true, eq-eqb, and_parts, ltb-true}
 use Rattle.dwp_base.specs.declared.section.SectionKind.{SectionKind}
 use Rattle.dwp_base.specs.declared.section.Contribution.{Contribution}
 use Rattle.dwp_reader.specs.declared.fault.ReadError.{ReadError}
+use Rattle.dwp_reader.specs.declared.fault.ReadError.TheVariants.{RowOutOfRange}
 use Rattle.dwp_index.specs.Index.{Index, Ranges, row_in, range_in}
 use Rattle.thorin_packaged.specs.RowPlaces.{IsFirstWith, is_range, range_of_row, ranges_of, row_by_place}
 
@@ -39,8 +40,8 @@ module _ {X : Type 0} (t : X → Bool) (f : ℕ → X) where
 range_is : (range : Contribution) (found : Option Contribution) → is_range range found ≡ true → found ≡ Some range
 range_is range None passes = absurd cc
 range_is range (Some r) passes =
-    let both = and_true (eqb r.offset.0 range.offset.0) (eqb r.size range.size) passes in
-    ap₂ (λ (o s : ℕ). Some (record { offset = record { 0 = o }; size = s })) (eqb-eq r.offset.0 range.offset.0 both.0) (eqb-eq r.size range.size both.1)
+    let both = and_parts (eqb r.offset.0 range.offset.0) (eqb r.size range.size) passes in
+    ap₂ (λ (o s : ℕ). Some (record { offset = record { 0 = o }; size = s })) (eqb-true r.offset.0 range.offset.0 both.0) (eqb-true r.size range.size both.1)
 
 is_range-same : (range : Contribution) → is_range range (Some range) ≡ true
 is_range-same range =
@@ -55,8 +56,14 @@ row_with kind range (Err e) has = absurd cc
 pub range_of_found : (index : Index) (kind : SectionKind) (number : ℕ) (row : Ranges) → row_in index number ≡ Ok row → range_of_row index kind number ≡ range_in row kind
 range_of_found index kind number row there = rw there refl
 
+by_tests : (a b : Bool) (number count : ℕ) (found row : Ranges) → ltb 0 number ≡ a → ltb (number - 1) count ≡ b → cond (a && b) (Ok found) (Err RowOutOfRange) ≡ Ok row → (1 ≤ number) × (number ≤ count)
+by_tests true true number count found row low high there = let less = ltb-true 0 number low in let within = ltb-true (number - 1) count high in (omega arith, omega arith)
+by_tests true false number count found row low high there = absurd cc
+by_tests false b number count found row low high there = absurd cc
+
 pub numbered : (index : Index) (number : ℕ) (row : Ranges) → row_in index number ≡ Ok row → (1 ≤ number) × (number ≤ length index.offsets)
-numbered index number row there = ?
+unfolding row_in
+numbered index number row there = by_tests (ltb 0 number) (ltb (number - 1) (length index.offsets)) number (length index.offsets) _ row refl refl there
 
 pub first_row : (index : Index) (kind : SectionKind) (range : Contribution) (number : ℕ) → row_by_place (Some index) kind range ≡ Some number → IsFirstWith index kind range number
 unfolding row_by_place ranges_of

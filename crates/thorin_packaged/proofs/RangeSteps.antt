@@ -39,3 +39,14 @@ module _ (index : Index) (n : ℕ) (ranges : List Contribution) where
 
     pub rows_range : (r : Contribution) → range_of_row index StrOffsets (n + 1) ≡ Some r → with_ranges (drop n (ranges_of index StrOffsets)) ranges ≡ with_ranges (drop (n + 1) (ranges_of index StrOffsets)) (insert_key place_cmp ranges r)
     rows_range r there = rows_next ∙ ap (λ row. with_ranges (row ∷ drop (n + 1) (ranges_of index StrOffsets)) ranges) there
+
+module _ (index : Index) (n : ℕ) (keys new : List (ℕ × ℕ)) where
+  pub row_stored : (r : Contribution) → n < length index.offsets → range_of_row index StrOffsets (n + 1) ≡ Some r → new ≡ insert_key pair_cmp keys (r.offset.0, r.size) → with_ranges (drop (n + 1) (ranges_of index StrOffsets)) (map range_at new) ≡ with_ranges (drop n (ranges_of index StrOffsets)) (map range_at keys)
+  row_stored r less there stored =
+      ap (λ ranges. with_ranges (drop (n + 1) (ranges_of index StrOffsets)) ranges) (ap (map range_at) stored ∙ map-insert_key keys (r.offset.0, r.size))
+      ∙ sym (rows_range index n (map range_at keys) less r there)
+
+  pub row_absent : n < length index.offsets → range_of_row index StrOffsets (n + 1) ≡ None → new ≡ keys → with_ranges (drop (n + 1) (ranges_of index StrOffsets)) (map range_at new) ≡ with_ranges (drop n (ranges_of index StrOffsets)) (map range_at keys)
+  row_absent less absent same =
+      ap (λ ks. with_ranges (drop (n + 1) (ranges_of index StrOffsets)) (map range_at ks)) same
+      ∙ sym (rows_absent index n (map range_at keys) less absent)

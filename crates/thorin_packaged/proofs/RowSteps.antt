@@ -1,5 +1,5 @@
 -- Going over the rows of an index.
-use Rattle.std.proofs.Common.{◌≡◌, ℕ, ◌+◌, ◌<◌, ◌≤◌, Bool, true, false, cond, eqb, ltb, ◌&&◌, List, [], ◌∷◌, length, drop, map, Some, None, Option, ap, ap₂, sym, refl, ◌∙◌, ⊎_elim, arith}
+use Rattle.std.proofs.Common.{◌≡◌, ℕ, ◌+◌, ◌<◌, ◌≤◌, Bool, true, false, cond, eqb, ltb, ◌&&◌, List, [], ◌∷◌, length, drop, map, Some, None, Option, ap, ap₂, sym, subst, refl, ◌∙◌, ⊎_elim, arith}
 use Rattle.std.specs.List.{position_from, range_with_len}
 use Rattle.std.specs.Ordering.{is_eq, nat_cmp, ordering_then}
 use Rattle.std.specs.declared.cmp.Ordering.{Ordering}
@@ -76,3 +76,17 @@ module _ (index : Index) (kind : SectionKind) (n : ℕ) (less : n < length index
 pub from_first : (rows : BTreeMap (ℕ × ℕ) ℕ) (index : Index) (kind : SectionKind) → HasFrom rows index kind 0 → (range : Contribution) → get pair_cmp rows (range.offset.0, range.size) ≡ row_by_place (Some index) kind range
 unfolding row_by_place
 from_first rows index kind has range = has.each range
+
+-- ---- what was made of an index
+pub none_since : {A : Type 0} (o : Option A) → ((x : A) → o ≡ Some x → ⊥) → o ≡ None
+none_since None h = refl
+none_since (Some x) h = absurd (h x refl)
+
+pub of_none : (rows : BTreeMap (ℕ × ℕ) ℕ) (index : Option Index) (kind : SectionKind) → rows.entries ≡ [] → index ≡ None → (range : Contribution) → get pair_cmp rows (range.offset.0, range.size) ≡ row_by_place index kind range
+unfolding row_by_place
+of_none rows index kind empty none range = rw (empty, none) refl
+
+pub of_some : (rows made : BTreeMap (ℕ × ℕ) ℕ) (index : Option Index) (i : Index) (kind : SectionKind) (n : ℕ) → rows ≡ made → index ≡ Some i → HasFrom made i kind n → n ≡ 0 → (range : Contribution) → get pair_cmp rows (range.offset.0, range.size) ≡ row_by_place index kind range
+of_some rows made index i kind n same there has first range =
+    ap (λ m. get pair_cmp m (range.offset.0, range.size)) same ∙ from_first made i kind (subst (HasFrom made i kind) first has) range
+    ∙ sym (ap (λ o. row_by_place o kind range) there)
