@@ -1,0 +1,5 @@
+pub mod RowPlaces
+pub mod RowPlaceFields
+pub mod PackagedOffsets
+pub mod PackagedReading
+pub mod RangeKeys

@@ -1,0 +1,34 @@
+ghost use Rattle.std.specs.Prelude.{◌≡◌, ℕ, List, Option, Some, Ok};
+ghost use Rattle.dwp_base.specs.declared.endian.Endianness.{Endianness};
+ghost use Rattle.dwp_base.specs.declared.section.SectionKind.{SectionKind};
+ghost use Rattle.dwp_base.specs.declared.section.Contribution.{Contribution};
+ghost use Rattle.dwp_reader.specs.declared.encoding.Encoding.{Encoding};
+ghost use Rattle.dwp_index.specs.Index.{Index};
+ghost use Rattle.thorin_strings.specs.Strings.{IsTable};
+ghost use Rattle.thorin_packaged.specs.PackagedOffsets.{packaged_offsets};
+ghost use Rattle.thorin_packaged.specs.PackagedReading.{PackageReadsAlike};
+ghost use Rattle.thorin_packaged.specs.RowPlaces.{IsFirstWith, row_by_place};
+
+use thorin_parts::rewritten_strings_are_read_alike;
+use thorin_strings::rewritten_offsets_name_the_same;
+
+/// A row that is found by its range in a section has that range, and no row before it has. It does
+/// nothing.
+pub fn rows_are_found_by_place()
+    ensures { (index : Index) (kind : SectionKind) (range : Contribution) (number : ℕ)
+        → row_by_place (Some index) kind range ≡ Some number
+        → IsFirstWith index kind range number }
+{}
+
+/// A package's string offsets that were rewritten have as many bytes as before, and the range of each row
+/// is read as before, of each number, in the section of any table that begins with the strings after it.
+/// It does nothing.
+pub fn packaged_rows_are_read_alike()
+    ensures { (order : Endianness) (encoding : Encoding) (compilations types : Option Index) (section bytes : List ℕ) (before : List (List ℕ)) (written : List ℕ) (after : List (List ℕ))
+        → IsTable before
+        → packaged_offsets order encoding compilations types section bytes before ≡ Ok (written, after)
+        → PackageReadsAlike order encoding compilations types section bytes before written after }
+{
+    rewritten_offsets_name_the_same();
+    rewritten_strings_are_read_alike();
+}

@@ -1,0 +1,84 @@
+//! The string offsets of a finished package, rewritten into a table of strings.
+
+ghost use Rattle.std.specs.Prelude.{◌≡◌, length, take};
+ghost use Rattle.std.specs.Option.{option_copied};
+ghost use Rattle.thorin_faults.specs.Answers.{Gives};
+ghost use Rattle.thorin_packaged.specs.PackagedOffsets.{packaged_offsets, ranges_test, rewritten_from};
+
+use crate::offset_ranges::{offset_ranges, test_ranges};
+use dwp_base::{Contribution, Endianness};
+use dwp_index::UnitIndex;
+use dwp_reader::Encoding;
+use std::alloc::Global;
+use thorin_faults::Error;
+use thorin_strings::PackageStringTable;
+
+/// The string offsets of a package with these indexes, rewritten to the same strings in a table: each
+/// range of a row by itself, with its own header (DWARF 5, 7.3.5, 7.26), and the bytes between the ranges
+/// as they are. Strings that are new go last; a refusal leaves those that were added before it.
+///
+/// Refuses, before any range is rewritten and by their places, with `BadStringOffsets` (a range is outside
+/// the section, shorter than its header, or its entries aren't whole) and `OverlappingStringOffsets` (a
+/// range begins inside the one before it); then with what `remap_str_offsets_section` refuses a range for.
+#[tactic(auto, unfolding(crate::specs::PackagedOffsets::packaged_offsets))]
+pub fn remap_packaged_offsets(
+    alloc: Global,
+    strings: &mut PackageStringTable,
+    cu_index: Option<&UnitIndex<'_>>,
+    tu_index: Option<&UnitIndex<'_>>,
+    debug_str: &[u8],
+    debug_str_offsets: &[u8],
+    endian: Endianness,
+    encoding: Encoding,
+) -> Result<Vec<u8>, Error>
+    ensures meaning { Gives (λ bytes. (bytes.items, strings.new)) result
+        (packaged_offsets endian encoding (option_copied cu_index.entry) (option_copied tu_index.entry) debug_str.now debug_str_offsets.now strings.old) }
+    ensures kept { take (length strings.old) strings.new ≡ strings.old }
+{
+    let ranges = offset_ranges(alloc, cu_index, tu_index)?;
+    test_ranges(&ranges, encoding, debug_str_offsets.len() as u64)?;
+    rewritten(
+        alloc,
+        strings,
+        &ranges,
+        debug_str,
+        debug_str_offsets,
+        endian,
+        encoding,
+    )
+}
+
+/// The same of ranges that passed the tests.
+fn rewritten(
+    alloc: Global,
+    strings: &mut PackageStringTable,
+    ranges: &[Contribution],
+    debug_str: &[u8],
+    debug_str_offsets: &[u8],
+    endian: Endianness,
+    encoding: Encoding,
+) -> Result<Vec<u8>, Error>
+    requires { ranges_test encoding (length debug_str_offsets.now) 0 ranges.now ≡ Ok tt }
+    ensures meaning { Gives (λ bytes. (bytes.items, strings.new)) result
+        (rewritten_from endian encoding debug_str.now debug_str_offsets.now 0 ranges.now strings.old) }
+    ensures kept { take (length strings.old) strings.new ≡ strings.old }
+{
+    let mut out = Vec::with_capacity(alloc, debug_str_offsets.len())?;
+    let mut at = 0;
+    for range in ranges {
+        let begin = range.offset.0 as usize;
+        let end = begin + range.size as usize;
+        out.extend_from_slice(&debug_str_offsets[at..begin])?;
+        let bytes = strings.remap_str_offsets_section(
+            debug_str,
+            &debug_str_offsets[begin..end],
+            range.size,
+            endian,
+            encoding,
+        )?;
+        out.extend_from_slice(&bytes)?;
+        at = end;
+    }
+    out.extend_from_slice(&debug_str_offsets[at..])?;
+    Ok(out)
+}
