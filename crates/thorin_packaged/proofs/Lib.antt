@@ -1,3 +1,4 @@
 pub mod RowSteps
 pub mod FirstRow
 pub mod RangeSteps
+pub mod RewriteSteps

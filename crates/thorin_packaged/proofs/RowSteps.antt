@@ -78,10 +78,6 @@ unfolding row_by_place
 from_first rows index kind has range = has.each range
 
 -- ---- what was made of an index
-pub none_since : {A : Type 0} (o : Option A) → ((x : A) → o ≡ Some x → ⊥) → o ≡ None
-none_since None h = refl
-none_since (Some x) h = absurd (h x refl)
-
 pub of_none : (rows : BTreeMap (ℕ × ℕ) ℕ) (index : Option Index) (kind : SectionKind) → rows.entries ≡ [] → index ≡ None → (range : Contribution) → get pair_cmp rows (range.offset.0, range.size) ≡ row_by_place index kind range
 unfolding row_by_place
 of_none rows index kind empty none range = rw (empty, none) refl

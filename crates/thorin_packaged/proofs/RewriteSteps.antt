@@ -1,0 +1,127 @@
+-- Rewriting one range after another.
+use Rattle.std.proofs.Common.{◌≡◌, ℕ, ◌+◌, ◌-◌, ◌%◌, ◌<◌, ◌≤◌, Bool, true, false, cond, eqb, ltb, leb, not, ◌&&◌, List, [], ◌∷◌, ◌++◌, length, get_or, take, drop, slice_range, Ok, Err, Result, ap, sym, refl, ◌∙◌, append_assoc, arith}
+use Rattle.std.proofs.lemmas.Bool.{and_parts, leb-true, ltb-false, eqb-true}
+use Rattle.std.proofs.lemmas.List.{append-nil, take-take, take_all, length-take, at_drop_more, at_drop_all}
+use Rattle.dwp_base.specs.declared.endian.Endianness.{Endianness}
+use Rattle.dwp_base.specs.declared.section.Contribution.{Contribution}
+use Rattle.dwp_base.specs.Reading.{◌>>=◌}
+use Rattle.dwp_reader.specs.declared.encoding.Encoding.{Encoding}
+use Rattle.dwp_reader.specs.Encoding.{offset_size}
+use Rattle.dwp_reader.specs.StringOffsets.{header_size}
+use Rattle.thorin_faults.specs.Fault.{Fault}
+use Rattle.thorin_strings.specs.StringOffsets.{remapped}
+use Rattle.thorin_packaged.specs.PackagedOffsets.{is_whole_range, ranges_test, rewritten_from}
+
+-- ---- what the tests say of the next range
+pub record IsNext (encoding : Encoding) (size last : ℕ) (r : Contribution) (rs : List Contribution) : Type 0 where
+  pub inside : r.offset.0 + r.size ≤ size
+  pub header : header_size encoding ≤ r.size
+  pub whole : (r.size - header_size encoding) % offset_size encoding.format ≡ 0
+  pub behind : last ≤ r.offset.0
+  pub others : ranges_test encoding size (r.offset.0 + r.size) rs ≡ Ok tt
+
+passed_by : (a b : Bool) (first second : Fault) (rest : Result (Unit {0}) Fault) → cond (not a) (Err first) (cond b (Err second) rest) ≡ Ok tt → (a ≡ true) × (b ≡ false) × (rest ≡ Ok tt)
+passed_by true false first second rest h = (refl, refl, h)
+passed_by true true first second rest h = absurd cc
+passed_by false b first second rest h = absurd cc
+
+pub next_passed : (encoding : Encoding) (size last : ℕ) (r : Contribution) (rs : List Contribution) → ranges_test encoding size last (r ∷ rs) ≡ Ok tt → IsNext encoding size last r rs
+unfolding ranges_test
+next_passed encoding size last r rs h =
+    let inside = leb (r.offset.0 + r.size) size in
+    let headed = leb (header_size encoding) r.size in
+    let whole = eqb ((r.size - header_size encoding) % offset_size encoding.format) 0 in
+    let passed = passed_by (is_whole_range encoding size r) (ltb r.offset.0 last) _ _ _ h in
+    let both = and_parts (inside && headed) whole passed.0 in
+    let first = and_parts inside headed both.0 in
+    record {
+      inside = leb-true (r.offset.0 + r.size) size first.0;
+      header = leb-true (header_size encoding) r.size first.1;
+      whole = eqb-true _ 0 both.1;
+      behind = ltb-false r.offset.0 last passed.1;
+      others = passed.2;
+    }
+
+-- ---- what was written, in front of what is to come
+abbrev Rewriting : Type 0
+Rewriting = Result (List ℕ × List (List ℕ)) Fault
+
+abbrev pub onto : List ℕ → Result (List ℕ × List (List ℕ)) Fault → Result (List ℕ × List (List ℕ)) Fault
+onto front (Ok p) = Ok (front ++ p.0, p.1)
+onto front (Err e) = Err e
+
+pub onto_none : (result : Rewriting) → onto [] result ≡ result
+onto_none (Ok p) = refl
+onto_none (Err e) = refl
+
+-- so far the rewriting of all is that of the rest behind what was written
+pub record IsSoFar (order : Endianness) (encoding : Encoding) (section bytes : List ℕ) (ranges : List Contribution) (before : List (List ℕ)) (out : List ℕ) (at n : ℕ) (strings : List (List ℕ)) : Type 0 where
+  pub kept : take (length before) strings ≡ before
+  pub within : at ≤ length bytes
+  pub passed : ranges_test encoding (length bytes) at (drop n ranges) ≡ Ok tt
+  pub all : onto out (rewritten_from order encoding section bytes at (drop n ranges) strings) ≡ rewritten_from order encoding section bytes 0 ranges before
+
+-- what keeps the strings before it keeps those before them
+pub kept_more : (old now new : List (List ℕ)) → take (length old) now ≡ old → take (length now) new ≡ now → take (length old) new ≡ old
+kept_more old now new first second =
+    let short : length old ≤ length now = omega (arith, ap length first, length-take (length old) now) in
+    sym (take-take (length old) (length now) new short) ∙ ap (take (length old)) second ∙ first
+
+module _ (order : Endianness) (encoding : Encoding) (section bytes : List ℕ) (ranges : List Contribution) (before : List (List ℕ)) where
+  pub none_yet : ranges_test encoding (length bytes) 0 ranges ≡ Ok tt → IsSoFar order encoding section bytes ranges before [] 0 0 before
+  none_yet passed = record {
+    kept = take_all (length before) before (omega arith);
+    within = omega arith;
+    passed = passed;
+    all = onto_none (rewritten_from order encoding section bytes 0 ranges before);
+  }
+
+  module _ (out : List ℕ) (at n : ℕ) (strings : List (List ℕ)) (so_far : IsSoFar order encoding section bytes ranges before out at n strings) where
+    -- at the end
+    rest_is : (rest : List ℕ) → onto out (rewritten_from order encoding section bytes at [] strings) ≡ Ok (out ++ drop at bytes, strings)
+    unfolding rewritten_from
+    rest_is rest = refl
+
+    pub all_written : length ranges ≤ n → rewritten_from order encoding section bytes 0 ranges before ≡ Ok (out ++ drop at bytes, strings)
+    all_written past =
+        sym so_far.all ∙ at_drop_all (λ rs. onto out (rewritten_from order encoding section bytes at rs strings)) ranges n past ∙ rest_is out
+
+    -- one more
+    module _ (r : Contribution) (there : r ≡ get_or ranges n r) (less : n < length ranges) where
+      pub next : IsNext encoding (length bytes) at r (drop (n + 1) ranges)
+      next = next_passed encoding (length bytes) at r (drop (n + 1) ranges)
+          (ap (λ x. ranges_test encoding (length bytes) at (x ∷ drop (n + 1) ranges)) there
+          ∙ sym (at_drop_more (ranges_test encoding (length bytes) at) ranges n r less) ∙ so_far.passed)
+
+      abbrev range_of_next : Rewriting
+      range_of_next = remapped order encoding section (slice_range bytes r.offset.0 (r.offset.0 + r.size)) r.size strings
+
+      from_next : onto out (rewritten_from order encoding section bytes at (r ∷ drop (n + 1) ranges) strings) ≡ rewritten_from order encoding section bytes 0 ranges before
+      from_next =
+          ap (λ x. onto out (rewritten_from order encoding section bytes at (x ∷ drop (n + 1) ranges) strings)) there
+          ∙ sym (at_drop_more (λ rs. onto out (rewritten_from order encoding section bytes at rs strings)) ranges n r less) ∙ so_far.all
+
+      refuses_by : (fault : Fault) → range_of_next ≡ Err fault → onto out (rewritten_from order encoding section bytes at (r ∷ drop (n + 1) ranges) strings) ≡ Err fault
+      unfolding rewritten_from
+      refuses_by fault refused = rw refused refl
+
+      pub one_refused : (fault : Fault) → range_of_next ≡ Err fault → rewritten_from order encoding section bytes 0 ranges before ≡ Err fault
+      one_refused fault refused = sym from_next ∙ refuses_by fault refused
+
+      onto_more : (front range : List ℕ) (rest : Rewriting) → onto ((out ++ front) ++ range) rest ≡ onto out (rest >>= λ p. Ok (front ++ range ++ p.0, p.1))
+      onto_more front range (Ok p) = ap (λ l. Ok (l, p.1)) (append_assoc (out ++ front) range p.0 ∙ append_assoc out front (range ++ p.0) ∙ ap (λ l. out ++ l) (sym (append_assoc front range p.0)))
+      onto_more front range (Err e) = refl
+
+      more_by : (range : List ℕ) (after : List (List ℕ)) → range_of_next ≡ Ok (range, after) → onto ((out ++ slice_range bytes at r.offset.0) ++ range) (rewritten_from order encoding section bytes (r.offset.0 + r.size) (drop (n + 1) ranges) after) ≡ onto out (rewritten_from order encoding section bytes at (r ∷ drop (n + 1) ranges) strings)
+      unfolding rewritten_from
+      more_by range after ok = rw ok (onto_more (slice_range bytes at r.offset.0) range (rewritten_from order encoding section bytes (r.offset.0 + r.size) (drop (n + 1) ranges) after))
+
+      pub one_more : (range : List ℕ) (after : List (List ℕ)) (new : List ℕ) (end : ℕ) → range_of_next ≡ Ok (range, after) → take (length strings) after ≡ strings → new ≡ (out ++ slice_range bytes at r.offset.0) ++ range → end ≡ r.offset.0 + r.size → IsSoFar order encoding section bytes ranges before new end (n + 1) after
+      one_more range after new end ok kept new_is end_is = record {
+        kept = kept_more before strings after so_far.kept kept;
+        within = omega (arith, next.inside, end_is);
+        passed = ap (λ e. ranges_test encoding (length bytes) e (drop (n + 1) ranges)) end_is ∙ next.others;
+        all = ap (λ e. onto new (rewritten_from order encoding section bytes e (drop (n + 1) ranges) after)) end_is
+            ∙ ap (λ o. onto o (rewritten_from order encoding section bytes (r.offset.0 + r.size) (drop (n + 1) ranges) after)) new_is
+            ∙ more_by range after ok ∙ from_next;
+      }
