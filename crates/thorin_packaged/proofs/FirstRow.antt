@@ -37,7 +37,7 @@ module _ {X : Type 0} (t : X → Bool) (f : ℕ → X) where
   first_at a (suc n) i found = first_by a n i (t (f a)) (position_from t (a + 1) (map f (range_with_len (a + 1) n))) refl found (first_at (a + 1) n i)
 
 -- ---- a row's range
-range_is : (range : Contribution) (found : Option Contribution) → is_range range found ≡ true → found ≡ Some range
+pub range_is : (range : Contribution) (found : Option Contribution) → is_range range found ≡ true → found ≡ Some range
 range_is range None passes = absurd cc
 range_is range (Some r) passes =
     let both = and_parts (eqb r.offset.0 range.offset.0) (eqb r.size range.size) passes in

@@ -46,7 +46,7 @@ is_eq-then Less b = refl
 is_eq-then Equal b = refl
 is_eq-then Greater b = refl
 
-key_test : (r range : Contribution) → is_at (pair_cmp (r.offset.0, r.size)) (range.offset.0, range.size) ≡ is_range range (Some r)
+pub key_test : (r range : Contribution) → is_at (pair_cmp (r.offset.0, r.size)) (range.offset.0, range.size) ≡ is_range range (Some r)
 key_test r range =
     is_eq-then (nat_cmp r.offset.0 range.offset.0) (nat_cmp r.size range.size)
     ∙ ap₂ (λ a b. a && b) (is_eq-nat_cmp r.offset.0 range.offset.0) (is_eq-nat_cmp r.size range.size)
