@@ -1,5 +1,6 @@
 -- A package's string offsets, rewritten, read as they read before.
-use Rattle.std.proofs.Common.{◌≡◌, ◌≢◌, ℕ, ◌+◌, ◌-◌, ◌*◌, ◌/◌, ◌%◌, ◌<◌, ◌≤◌, List, [], ◌∷◌, ◌++◌, length, take, drop, slice_range, Option, Some, Ok, Err, Result, ap, sym, subst, refl, ◌∙◌, ⊎_elim, append_assoc, length-append, length-drop, arith}
+use Rattle.std.proofs.Common.{◌≡◌, ◌≢◌, ℕ, ◌+◌, ◌-◌, ◌*◌, ◌/◌, ◌%◌, ◌<◌, ◌≤◌, List, [], ◌∷◌, ◌++◌, length, take, drop, slice_range, Option, Some, Ok, Err, Result, ap, ap₂, sym, subst, refl, ◌∙◌, ⊎_elim, append_assoc, length-append, length-drop, arith}
+use Rattle.std.proofs.Math.Nat.{div-add-mod, mul_comm}
 use Rattle.std.proofs.Math.Seq.{drop-append-add}
 use Rattle.std.proofs.lemmas.Bool.{cases_eq}
 use Rattle.std.proofs.lemmas.List.{drop_at, take_at, take_all, length-take-le}
@@ -38,7 +39,9 @@ bind_ok (Ok x) f y e = (x, refl, e)
 bind_ok (Err d) f y e = absurd cc
 
 whole_number : (n width : ℕ) → n % width ≡ 0 → (n / width) * width ≡ n
-whole_number n width whole = ?
+whole_number n width whole =
+    let parts = div-add-mod n width in
+    mul_comm (n / width) width ∙ omega (arith, parts, whole)
 
 -- ---- what is known of ranges one by one
 abbrev pub NamesLaw : Type 0
@@ -125,11 +128,20 @@ module _ (names : NamesLaw) (order : Endianness) (encoding : Encoding) (section 
       each = λ r there. ⊎_elim (λ (same : r ≡ x). subst (IsWritten at (front ++ range ++ rest) after) (sym same) here_written) (λ later. later_written r (behind.each r later)) there;
     }
 
-  pair_first : {A B : Type 0} (a c : A) (b d : B) → Ok {T = A × B} {E = Fault} (a, b) ≡ Ok (c, d) → a ≡ c
-  pair_first a c b d same = cc
+  abbrev Pair : Type 0
+  Pair = List ℕ × List (List ℕ)
 
-  pair_second : {A B : Type 0} (a c : A) (b d : B) → Ok {T = A × B} {E = Fault} (a, b) ≡ Ok (c, d) → b ≡ d
-  pair_second a c b d same = cc
+  abbrev answer : Pair → Result (List ℕ × List (List ℕ)) Fault
+  answer p = Ok p
+
+  same_pair : (p q : Pair) → answer p ≡ answer q → p ≡ q
+  same_pair p q same = cc
+
+  pair_first : (a c : List ℕ) (b d : List (List ℕ)) → answer (a, b) ≡ answer (c, d) → a ≡ c
+  pair_first a c b d same = ap (λ p. p.0) (same_pair (a, b) (c, d) same)
+
+  pair_second : (a c : List ℕ) (b d : List (List ℕ)) → answer (a, b) ≡ answer (c, d) → b ≡ d
+  pair_second a c b d same = ap (λ p. p.1) (same_pair (a, b) (c, d) same)
 
   all_written : (rs : List Contribution) (at : ℕ) (before : List (List ℕ)) (written : List ℕ) (after : List (List ℕ)) → at ≤ length bytes → IsTable before → ranges_test encoding (length bytes) at rs ≡ Ok tt → rewritten_from order encoding section bytes at rs before ≡ Ok (written, after) → AreWritten at rs before written after
   unfolding rewritten_from
@@ -154,6 +166,9 @@ module _ (names : NamesLaw) (order : Endianness) (encoding : Encoding) (section 
       subst (λ w. AreWritten at (x ∷ xs) before w after) bytes_are (subst (AreWritten at (x ∷ xs) before (slice_range bytes at x.offset.0 ++ first.0.0 ++ second.0.0)) strings_are more)
 
 -- ---- the range of each row
+sub_none : (n : ℕ) → n ≡ n - 0
+sub_none n = omega arith
+
 module _ (names : NamesLaw) (alike : AlikeLaw) (order : Endianness) (encoding : Encoding) (section bytes : List ℕ) where
   reads_alike : (written : List ℕ) (after : List (List ℕ)) (r : Contribution) → IsWritten names order encoding section bytes 0 written after r → RangeReadsAlike order encoding section bytes written after r
   reads_alike written after r w = record {
@@ -161,7 +176,7 @@ module _ (names : NamesLaw) (alike : AlikeLaw) (order : Endianness) (encoding : 
     alike = λ final table kept k.
     let count : length (range_bytes bytes r) ≡ r.size = slice_length bytes r.offset.0 (r.offset.0 + r.size) (omega arith) w.inside ∙ omega arith in
     let ok = ap (λ n. remapped order encoding section (range_bytes bytes r) n w.old) count ∙ w.ok in
-    subst (λ l. ReadsAlike order encoding section (range_bytes bytes r) (data_of final) l k) (sym w.there)
+    subst (λ l. ReadsAlike order encoding section (range_bytes bytes r) (data_of final) l k) (sym (ap₂ (λ a b. slice_range written a b) (sub_none r.offset.0) (sub_none (r.offset.0 + r.size)) ∙ w.there))
     (alike order encoding section (range_bytes bytes r) w.old w.rewritten w.new final w.table ok table (kept_more w.new after final w.still kept) k);
   }
 
