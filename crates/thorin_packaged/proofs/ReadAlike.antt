@@ -174,10 +174,10 @@ module _ (names : NamesLaw) (alike : AlikeLaw) (order : Endianness) (encoding : 
   reads_alike written after r w = record {
     inside = w.inside;
     alike = λ final table kept k.
-    let count : length (range_bytes bytes r) ≡ r.size = slice_length bytes r.offset.0 (r.offset.0 + r.size) (omega arith) w.inside ∙ omega arith in
-    let ok = ap (λ n. remapped order encoding section (range_bytes bytes r) n w.old) count ∙ w.ok in
-    subst (λ l. ReadsAlike order encoding section (range_bytes bytes r) (data_of final) l k) (sym (ap₂ (λ a b. slice_range written a b) (sub_none r.offset.0) (sub_none (r.offset.0 + r.size)) ∙ w.there))
-    (alike order encoding section (range_bytes bytes r) w.old w.rewritten w.new final w.table ok table (kept_more w.new after final w.still kept) k);
+        let count : length (range_bytes bytes r) ≡ r.size = slice_length bytes r.offset.0 (r.offset.0 + r.size) (omega arith) w.inside ∙ omega arith in
+        let ok = ap (λ n. remapped order encoding section (range_bytes bytes r) n w.old) count ∙ w.ok in
+        subst (λ l. ReadsAlike order encoding section (range_bytes bytes r) (data_of final) l k) (sym (ap₂ (λ a b. slice_range written a b) (sub_none r.offset.0) (sub_none (r.offset.0 + r.size)) ∙ w.there))
+        (alike order encoding section (range_bytes bytes r) w.old w.rewritten w.new final w.table ok table (kept_more w.new after final w.still kept) k);
   }
 
   pub package_reads_alike : (compilations types : Option Index) (before : List (List ℕ)) (written : List ℕ) (after : List (List ℕ)) → IsTable before → packaged_offsets order encoding compilations types section bytes before ≡ Ok (written, after) → PackageReadsAlike order encoding compilations types section bytes before written after

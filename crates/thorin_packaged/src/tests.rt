@@ -156,7 +156,13 @@ fn malformed_ranges(rt: HostRuntime) {
 
 #[test]
 fn strings_that_are_not_there(rt: HostRuntime) {
-    let refused = rewritten(rt.alloc(), GNU, &[(0, 4)], (4, 4), &[0, 0, 0, 0, 9, 0, 0, 0]);
+    let refused = rewritten(
+        rt.alloc(),
+        GNU,
+        &[(0, 4)],
+        (4, 4),
+        &[0, 0, 0, 0, 9, 0, 0, 0],
+    );
     assert!(rt;
         matches!(
             refused,
@@ -192,6 +198,7 @@ fn rows_by_place(rt: HostRuntime) -> Result<(), Fail> {
 #[test]
 fn laws(rt: HostRuntime) {
     rows_are_found_by_place();
+    every_row_is_found_by_place();
     packaged_rows_are_read_alike();
     let _ = rt;
 }
@@ -199,10 +206,7 @@ fn laws(rt: HostRuntime) {
 #[test]
 fn a_refused_allocation_is_want_of_memory(rt: HostRuntime) -> Result<(), Fail> {
     let alloc = rt.alloc();
-    let rows = [
-        (part(0, 0x10), part(0, 12)),
-        (part(0x10, 8), part(12, 12)),
-    ];
+    let rows = [(part(0, 0x10), part(0, 12)), (part(0x10, 8), part(12, 12))];
     let index = index_of(alloc, DWARF5, &rows);
     let Ok(bytes) = index else {
         assert!(rt; matches!(index, Err(Error::Memory)));
