@@ -3,7 +3,7 @@ use Rattle.std.proofs.Common.{◌≡◌, ◌≢◌, ℕ, zero, suc, ◌+◌, ◌
 use Rattle.std.specs.List.{position_from, range_with_len}
 use Rattle.std.specs.Option.{option_and_then}
 use Rattle.std.specs.Result.{result_ok}
-use Rattle.std.proofs.lemmas.Bool.{cases_eq, eqb-true, eq-eqb, and_parts, ltb-true}
+use Rattle.std.proofs.lemmas.Bool.{cases_eq, cond-true, cond-false, false_from_ne_true, eqb-true, eq-eqb, and_parts, ltb-true}
 use Rattle.dwp_base.specs.declared.section.SectionKind.{SectionKind}
 use Rattle.dwp_base.specs.declared.section.Contribution.{Contribution}
 use Rattle.dwp_reader.specs.declared.fault.ReadError.{ReadError}
@@ -37,7 +37,7 @@ module _ {X : Type 0} (t : X → Bool) (f : ℕ → X) where
   first_at a (suc n) i found = first_by a n i (t (f a)) (position_from t (a + 1) (map f (range_with_len (a + 1) n))) refl found (first_at (a + 1) n i)
 
 -- ---- a row's range
-range_is : (range : Contribution) (found : Option Contribution) → is_range range found ≡ true → found ≡ Some range
+pub range_is : (range : Contribution) (found : Option Contribution) → is_range range found ≡ true → found ≡ Some range
 range_is range None passes = absurd cc
 range_is range (Some r) passes =
     let both = and_parts (eqb r.offset.0 range.offset.0) (eqb r.size range.size) passes in
@@ -78,8 +78,53 @@ first_row index kind range number found =
       low = first.low;
       high = omega (arith, first.high);
       first = λ lower other below there has.
-      let from = numbered index lower other there in
-      let not_it = first.before lower from.0 below in
-      let it : is_range range (f lower) ≡ true = ap (is_range range) (range_of_found index kind lower other there ∙ has) ∙ is_range-same range in
-      cc;
+          let from = numbered index lower other there in
+          let not_it = first.before lower from.0 below in
+          let it : is_range range (f lower) ≡ true = ap (is_range range) (range_of_found index kind lower other there ∙ has) ∙ is_range-same range in
+          cc;
     }
+
+-- ---- the other way round
+module _ {X : Type 0} (t : X → Bool) (f : ℕ → X) where
+  found_by : (a i : ℕ) (rest : Option ℕ) → a ≤ i → t (f i) ≡ true → ((j : ℕ) → a ≤ j → j < i → t (f j) ≡ false) → (a + 1 ≤ i → rest ≡ Some i) → cond (t (f a)) (Some a) rest ≡ Some i
+  found_by a i rest from here before later =
+      ⊎_elim
+      (λ (same : a ≡ i). let passes : t (f a) ≡ true = ap (λ m. t (f m)) same ∙ here in cond-true (t (f a)) (Some a) rest passes ∙ ap (λ m. Some m) same)
+      (λ other. let passed : t (f a) ≡ false = before a (omega arith) (omega arith) in cond-false (t (f a)) (Some a) rest passed ∙ later (omega arith))
+      (cases_eq a i)
+
+  found_at : (a n i : ℕ) → a ≤ i → i < a + n → t (f i) ≡ true → ((j : ℕ) → a ≤ j → j < i → t (f j) ≡ false) → position_from t a (map f (range_with_len a n)) ≡ Some i
+  found_at a zero i from within here before = absurd (omega arith)
+  found_at a (suc n) i from within here before =
+      found_by a i (position_from t (a + 1) (map f (range_with_len (a + 1) n))) from here before
+      (λ more. found_at (a + 1) n i more (omega arith) here (λ j low high. before j (omega arith) high))
+
+  none_by : (a : ℕ) (b : Bool) (rest : Option ℕ) → cond b (Some a) rest ≡ None → (b ≡ false) × (rest ≡ None)
+  none_by a true rest none = absurd cc
+  none_by a false rest none = (refl, none)
+
+  none_at : (a n i : ℕ) → position_from t a (map f (range_with_len a n)) ≡ None → a ≤ i → i < a + n → t (f i) ≡ false
+  none_at a zero i none from within = absurd (omega arith)
+  none_at a (suc n) i none from within =
+      let step = none_by a (t (f a)) (position_from t (a + 1) (map f (range_with_len (a + 1) n))) none in
+      ⊎_elim (λ (same : i ≡ a). ap (λ m. t (f m)) same ∙ step.0) (λ other. none_at (a + 1) n i step.1 (omega arith) (omega arith)) (cases_eq i a)
+
+has_range : (index : Index) (kind : SectionKind) (range : Contribution) (number : ℕ) (row : Ranges) → row_in index number ≡ Ok row → range_in row kind ≡ Some range → is_range range (range_of_row index kind number) ≡ true
+has_range index kind range number row there has = ap (is_range range) (range_of_found index kind number row there ∙ has) ∙ is_range-same range
+
+pub no_row : (index : Index) (kind : SectionKind) (range : Contribution) → row_by_place (Some index) kind range ≡ None → (number : ℕ) (row : Ranges) → row_in index number ≡ Ok row → range_in row kind ≢ Some range
+unfolding row_by_place ranges_of
+no_row index kind range none number row there has =
+    let within = numbered index number row there in
+    let not_it = none_at (is_range range) (range_of_row index kind) 1 (length index.offsets) number none within.0 (omega (arith, within.1)) in
+    let it = has_range index kind range number row there has in
+    cc
+
+tested : (range : Contribution) (found : Option Contribution) → (found ≡ Some range → ⊥) → is_range range found ≡ false
+tested range found other = false_from_ne_true (is_range range found) (λ passes. other (range_is range found passes))
+
+pub first_found : (index : Index) (kind : SectionKind) (range : Contribution) (number : ℕ) → IsFirstWith index kind range number → row_by_place (Some index) kind range ≡ Some number
+unfolding row_by_place ranges_of
+first_found index kind range number first =
+    found_at (is_range range) (range_of_row index kind) 1 (length index.offsets) number first.low (omega (arith, first.high)) (has_range index kind range number first.row first.there first.has)
+    (λ lower low below. tested range (range_of_row index kind lower) (λ it. let row = row_with kind range (row_in index lower) it in first.first lower row.0 below row.1 row.2))

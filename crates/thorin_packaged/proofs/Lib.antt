@@ -2,3 +2,5 @@ pub mod RowSteps
 pub mod FirstRow
 pub mod RangeSteps
 pub mod RewriteSteps
+pub mod RowRanges
+pub mod ReadAlike

@@ -1,7 +1,7 @@
 -- Rewriting one range after another.
 use Rattle.std.proofs.Common.{◌≡◌, ℕ, ◌+◌, ◌-◌, ◌%◌, ◌<◌, ◌≤◌, Bool, true, false, cond, eqb, ltb, leb, not, ◌&&◌, List, [], ◌∷◌, ◌++◌, length, get_or, take, drop, slice_range, Ok, Err, Result, ap, sym, refl, ◌∙◌, append_assoc, arith}
 use Rattle.std.proofs.lemmas.Bool.{and_parts, leb-true, ltb-false, eqb-true}
-use Rattle.std.proofs.lemmas.List.{append-nil, take-take, take_all, length-take, at_drop_more, at_drop_all}
+use Rattle.std.proofs.lemmas.List.{append-nil, take-take, take_all, length-take, get_or_default, at_drop_more, at_drop_all}
 use Rattle.dwp_base.specs.declared.endian.Endianness.{Endianness}
 use Rattle.dwp_base.specs.declared.section.Contribution.{Contribution}
 use Rattle.dwp_base.specs.Reading.{◌>>=◌}
@@ -87,7 +87,13 @@ module _ (order : Endianness) (encoding : Encoding) (section bytes : List ℕ) (
         sym so_far.all ∙ at_drop_all (λ rs. onto out (rewritten_from order encoding section bytes at rs strings)) ranges n past ∙ rest_is out
 
     -- one more
-    module _ (r : Contribution) (there : r ≡ get_or ranges n r) (less : n < length ranges) where
+    module _ (d : Contribution) (less : n < length ranges) where
+      abbrev r : Contribution
+      r = get_or ranges n d
+
+      there : r ≡ get_or ranges n r
+      there = get_or_default ranges n d r less
+
       pub next : IsNext encoding (length bytes) at r (drop (n + 1) ranges)
       next = next_passed encoding (length bytes) at r (drop (n + 1) ranges)
           (ap (λ x. ranges_test encoding (length bytes) at (x ∷ drop (n + 1) ranges)) there

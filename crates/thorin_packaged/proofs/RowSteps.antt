@@ -46,7 +46,7 @@ is_eq-then Less b = refl
 is_eq-then Equal b = refl
 is_eq-then Greater b = refl
 
-key_test : (r range : Contribution) → is_at (pair_cmp (r.offset.0, r.size)) (range.offset.0, range.size) ≡ is_range range (Some r)
+pub key_test : (r range : Contribution) → is_at (pair_cmp (r.offset.0, r.size)) (range.offset.0, range.size) ≡ is_range range (Some r)
 key_test r range =
     is_eq-then (nat_cmp r.offset.0 range.offset.0) (nat_cmp r.size range.size)
     ∙ ap₂ (λ a b. a && b) (is_eq-nat_cmp r.offset.0 range.offset.0) (is_eq-nat_cmp r.size range.size)
@@ -62,15 +62,15 @@ module _ (index : Index) (kind : SectionKind) (n : ℕ) (less : n < length index
   pub from_absent : (rows : BTreeMap (ℕ × ℕ) ℕ) → range_of_row index kind (n + 1) ≡ None → HasFrom rows index kind (n + 1) → HasFrom rows index kind n
   from_absent rows absent has = record {
     each = λ range.
-    has.each range ∙ sym (ap (position_from (is_range range) (n + 1)) (ranges_from index kind n less ∙ ap (λ r. r ∷ drop (n + 1) (ranges_of index kind)) absent));
+        has.each range ∙ sym (ap (position_from (is_range range) (n + 1)) (ranges_from index kind n less ∙ ap (λ r. r ∷ drop (n + 1) (ranges_of index kind)) absent));
   }
 
   pub from_range : (rows new : BTreeMap (ℕ × ℕ) ℕ) (r : Contribution) → range_of_row index kind (n + 1) ≡ Some r → Updates pair_cmp rows new (r.offset.0, r.size) (Some (n + 1)) → HasFrom rows index kind (n + 1) → HasFrom new index kind n
   from_range rows new r there updates has = record {
     each = λ range.
-    updates.0 (range.offset.0, range.size)
-    ∙ ap₂ (λ b found. cond b (Some (n + 1)) found) (key_test r range) (has.each range)
-    ∙ sym (ap (position_from (is_range range) (n + 1)) (ranges_from index kind n less ∙ ap (λ r. r ∷ drop (n + 1) (ranges_of index kind)) there));
+        updates.0 (range.offset.0, range.size)
+        ∙ ap₂ (λ b found. cond b (Some (n + 1)) found) (key_test r range) (has.each range)
+        ∙ sym (ap (position_from (is_range range) (n + 1)) (ranges_from index kind n less ∙ ap (λ r. r ∷ drop (n + 1) (ranges_of index kind)) there));
   }
 
 pub from_first : (rows : BTreeMap (ℕ × ℕ) ℕ) (index : Index) (kind : SectionKind) → HasFrom rows index kind 0 → (range : Contribution) → get pair_cmp rows (range.offset.0, range.size) ≡ row_by_place (Some index) kind range

@@ -1,9 +1,9 @@
-ghost use Rattle.std.specs.Prelude.{◌≡◌, ℕ, List, Option, Some, Ok};
+ghost use Rattle.std.specs.Prelude.{◌≡◌, ◌≢◌, ℕ, List, Option, Some, None, Ok};
 ghost use Rattle.dwp_base.specs.declared.endian.Endianness.{Endianness};
 ghost use Rattle.dwp_base.specs.declared.section.SectionKind.{SectionKind};
 ghost use Rattle.dwp_base.specs.declared.section.Contribution.{Contribution};
 ghost use Rattle.dwp_reader.specs.declared.encoding.Encoding.{Encoding};
-ghost use Rattle.dwp_index.specs.Index.{Index};
+ghost use Rattle.dwp_index.specs.Index.{Index, Ranges, range_in, row_in};
 ghost use Rattle.thorin_strings.specs.Strings.{IsTable};
 ghost use Rattle.thorin_packaged.specs.PackagedOffsets.{packaged_offsets};
 ghost use Rattle.thorin_packaged.specs.PackagedReading.{PackageReadsAlike};
@@ -18,6 +18,19 @@ pub fn rows_are_found_by_place()
     ensures { (index : Index) (kind : SectionKind) (range : Contribution) (number : ℕ)
         → row_by_place (Some index) kind range ≡ Some number
         → IsFirstWith index kind range number }
+{}
+
+/// The first row that has a range in a section is found by it, and where none is found no row has it. It
+/// does nothing.
+pub fn every_row_is_found_by_place()
+    ensures first { (index : Index) (kind : SectionKind) (range : Contribution) (number : ℕ)
+        → IsFirstWith index kind range number
+        → row_by_place (Some index) kind range ≡ Some number }
+    ensures none { (index : Index) (kind : SectionKind) (range : Contribution)
+        → row_by_place (Some index) kind range ≡ None
+        → (number : ℕ) (row : Ranges)
+        → row_in index number ≡ Ok row
+        → range_in row kind ≢ Some range }
 {}
 
 /// A package's string offsets that were rewritten have as many bytes as before, and the range of each row
