@@ -5,7 +5,8 @@ use Rattle.std.specs.Prelude.{option_map}
 use Rattle.std.specs.Map.{lookup}
 use Rattle.std.proofs.lemmas.Option.{none-some}
 use Rattle.dwp_table.specs.declared.object.DwarfObject.{DwarfObject}
-use Rattle.thorin.specs.NewUnits.{NewUnit, Held, same_name, or_held, kept_bytes}
+use Rattle.thorin.specs.NewUnits.{NewUnit, or_held, kept_bytes}
+use Rattle.thorin.specs.Names.{same_name}
 use Rattle.thorin.specs.declared.units.NewUnit.{NewUnit as CodeUnit}
 use Rattle.thorin.specs.UnitView.{new_unit}
 use Rattle.thorin.proofs.Names.{lookup-map}
@@ -19,7 +20,7 @@ option_map-none f None h = refl
 option_map-none f (Some x) h = absurd (none-some _ (sym h))
 
 -- nothing is kept for a name that isn't among the units that are added
-pub not_added : (held : Held) (units : List (DwarfObject × CodeUnit)) (name : DwarfObject)
+pub not_added : (held : List (DwarfObject × List ℕ)) (units : List (DwarfObject × CodeUnit)) (name : DwarfObject)
     → kept_bytes held (map (λ e. (e.0, new_unit e.1)) units) name ≡ None → lookup (same_name name) units ≡ None
 not_added held units name h = option_map-none new_unit _ (sym (lookup-map (same_name name) new_unit units) ∙ or_held-none _ _ h)
 

@@ -14,7 +14,9 @@ pub mod Encodings
 pub mod Builder
 pub mod Building
 pub mod BuilderView
+pub mod Strings
+pub mod Meaning
+pub mod Represents
+pub mod Join
 pub mod Run
 pub mod Packed
-pub mod Meaning
-pub mod Join

@@ -1,5 +1,5 @@
 -- A run of inputs, and what is written after it.
-use Rattle.std.specs.Prelude.{◌≡◌, ℕ, List, [], ◌∷◌, Result, Ok, Err, OnErr, ◌⊎◌}
+use Rattle.std.specs.Prelude.{◌≡◌, ℕ, List, [], ◌∷◌, ◌++◌, Result, Ok, Err, OnOk, OnErr, ◌⊎◌}
 use Rattle.std.specs.Path.{path_bytes}
 use Rattle.std.specs.declared.io.Error.{Error as IoError}
 use Rattle.dwp_elf.specs.FileText.{Object as File, file_text}
@@ -18,15 +18,24 @@ use Rattle.thorin_faults.specs.Sessions.{input_fault}
 use Rattle.thorin.specs.declared.packing.Input.{Input}
 use Rattle.thorin.specs.declared.packing.Input.TheVariants as inputs
 use Rattle.thorin.specs.Builder.{State, taken, finish_test, IsFinishedState}
+use Rattle.thorin.specs.Join.{Joins}
+use Rattle.thorin.specs.Represents.{units_in}
 
 -- what came of a call: nothing, or its error
 abbrev pub Outcome : Type 0
 Outcome = Result (Unit {0}) Error
 
--- an object's bytes were taken, or refused for their first fault, want of memory aside, and then nothing changed
+-- an input's bytes were taken, and their units joined; or they were refused for their first fault, want of memory aside, and then
+-- nothing changed
 pub record Takes (bytes : List ℕ) (old : State) (outcome : Outcome) (new : State) : Type 0 where
   pub meaning : Gives (λ _. new) outcome (taken bytes old)
+  pub joins : OnOk outcome (Joins bytes (units_in old) (units_in new))
   pub unchanged : OnErr outcome (new ≡ old)
+
+-- the inputs that were accepted: these bytes, or none where they were refused
+abbrev pub accepted_of : Outcome → List ℕ → List (List ℕ)
+accepted_of (Ok x) bytes = bytes ∷ []
+accepted_of (Err e) bytes = []
 
 -- a read answered what may be answered there, want of memory aside
 abbrev pub MayRead : (Result (List ℕ) IoError → Type 0) → Result (List ℕ) InputError → Type 0
@@ -35,29 +44,41 @@ MayRead offered (Err (input_error.Io cause)) = offered (Err cause)
 MayRead offered (Err input_error.Memory) = Unit {0}
 
 -- what a read gave was taken; where it failed, that is the outcome, and nothing changed
-abbrev pub TakesRead : Result (List ℕ) InputError → State → Outcome → State → Type 0
-TakesRead (Ok bytes) old outcome new = Takes bytes old outcome new
-TakesRead (Err e) old outcome new = (outcome ≡ Err (input_fault e)) × (new ≡ old)
+abbrev pub TakesRead : Result (List ℕ) InputError → State → Outcome → State → List (List ℕ) → Type 0
+TakesRead (Ok bytes) old outcome new accepted = Takes bytes old outcome new × (accepted ≡ accepted_of outcome bytes)
+TakesRead (Err e) old outcome new accepted = (outcome ≡ Err (input_fault e)) × (new ≡ old) × (accepted ≡ [])
 
 -- the same for the object at a path, of which that may be read
 pub record TakesFile (offered : Result (List ℕ) IoError → Type 0) (old : State) (outcome : Outcome) (new : State) : Type 0 where
   pub read : Result (List ℕ) InputError
   pub within : MayRead offered read
-  pub taken : TakesRead read old outcome new
+  pub accepted : List (List ℕ)
+  pub taken : TakesRead read old outcome new accepted
 
--- what came of an input of a list; executables aren't taken yet
-abbrev pub TakesInput : (List ℕ → Result (List ℕ) IoError → Type 0) → Input → State → Outcome → State → Type 0
-TakesInput offer (inputs.Object path) old outcome new = TakesFile (offer (path_bytes path)) old outcome new
-TakesInput offer (inputs.Bytes bytes) old outcome new = Takes bytes.now old outcome new
-TakesInput offer (inputs.Executable path missing) old outcome new = (outcome ≡ Err error.NotYet) × (new ≡ old)
+-- what came of an input of a list, and the bytes that were accepted; executables aren't taken yet
+abbrev pub TakesInput : (List ℕ → Result (List ℕ) IoError → Type 0) → Input → State → Outcome → State → List (List ℕ) → Type 0
+TakesInput offer (inputs.Object path) old outcome new accepted = (t : TakesFile (offer (path_bytes path)) old outcome new) × (accepted ≡ t.accepted)
+TakesInput offer (inputs.Bytes bytes) old outcome new accepted = Takes bytes.now old outcome new × (accepted ≡ accepted_of outcome bytes.now)
+TakesInput offer (inputs.Executable path missing) old outcome new accepted = (outcome ≡ Err error.NotYet) × (new ≡ old) × (accepted ≡ [])
 
--- a run: each input in order, refused ones passed over
-abbrev pub Ran : (List ℕ → Result (List ℕ) IoError → Type 0) → List Input → State → List Outcome → State → Type 0
-Ran offer [] old [] new = new ≡ old
-Ran offer [] old (outcome ∷ outcomes) new = ⊥
-Ran offer (input ∷ rest) old [] new = ⊥
-Ran offer (input ∷ rest) old (outcome ∷ outcomes) new =
-    (middle : State) × TakesInput offer input old outcome middle × Ran offer rest middle outcomes new
+-- the same, with the bytes that were accepted
+pub record Took (offer : List ℕ → Result (List ℕ) IoError → Type 0) (input : Input) (old : State) (outcome : Outcome) (new : State) : Type 0 where
+  pub accepted : List (List ℕ)
+  pub takes : TakesInput offer input old outcome new accepted
+
+-- one input of a run, the state after it, and the bytes that it and the later ones had accepted
+pub record Step : Type 0 where
+  pub middle : State
+  pub here : List (List ℕ)
+  pub later : List (List ℕ)
+
+-- a run: each input in order, refused ones passed over; and the bytes of all that were accepted, in order
+abbrev pub Ran : (List ℕ → Result (List ℕ) IoError → Type 0) → List Input → State → List Outcome → State → List (List ℕ) → Type 0
+Ran offer [] old [] new accepted = (new ≡ old) × (accepted ≡ [])
+Ran offer [] old (outcome ∷ outcomes) new accepted = ⊥
+Ran offer (input ∷ rest) old [] new accepted = ⊥
+Ran offer (input ∷ rest) old (outcome ∷ outcomes) new accepted =
+    (s : Step) × TakesInput offer input old outcome s.middle s.here × Ran offer rest s.middle outcomes new s.later × (accepted ≡ s.here ++ s.later)
 
 -- the bytes are the file of the finished package, and a reader finds in them what was written
 pub record IsWritten (state : State) (bytes : List ℕ) : Type 0 where

@@ -1,6 +1,6 @@
 -- What a package that is made stands for.
 use Rattle.std.specs.Prelude.{List, [], map, Option, Some, None, option_map}
-use Rattle.thorin.specs.declared.state.InProgressDwarfPackage.{InProgressDwarfPackage}
+use Rattle.thorin.specs.declared.in_progress.InProgressDwarfPackage.{InProgressDwarfPackage}
 use Rattle.thorin.specs.declared.state.Mark.{Mark}
 use Rattle.thorin.specs.State.{InProgress, Amount}
 

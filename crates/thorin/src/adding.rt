@@ -10,7 +10,7 @@ ghost use Rattle.thorin.specs.View as view;
 
 use crate::object::{InputObject, has_info, opened};
 use crate::source::{Indexes, Source};
-use crate::state::InProgressDwarfPackage;
+use crate::in_progress::InProgressDwarfPackage;
 use dwp_base::Endianness;
 use dwp_dwarf::Encoding;
 use dwp_elf_read::ElfFile;

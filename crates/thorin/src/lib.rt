@@ -4,7 +4,7 @@
 mod adding;
 mod encodings;
 mod growing;
-mod laws;
+mod in_progress;
 mod object;
 mod package;
 mod packing;
@@ -15,7 +15,6 @@ mod state;
 mod units;
 
 pub use thorin_identity::dwo_identifier_of_unit;
-pub use laws::{packages_are_the_join, written_packages_are_read};
 pub use package::DwarfPackage;
 pub use packing::{Input, Packed, pack};
-pub use state::InProgressDwarfPackage;
+pub use in_progress::InProgressDwarfPackage;

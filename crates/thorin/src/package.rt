@@ -1,15 +1,18 @@
 //! The package builder.
 
-ghost use Rattle.std.specs.Prelude.{◌≡◌, IfOk, OnErr};
+ghost use Rattle.std.specs.Prelude.{◌≡◌, IfOk, OnOk, OnErr};
 ghost use Rattle.thorin_faults.specs.Answers.{Gives};
 ghost use Rattle.std.specs.Path.{path_bytes};
 ghost use Rattle.thorin.specs.Builder as spec;
 ghost use Rattle.thorin.specs.Builder.{IsFinishedState};
+ghost use Rattle.thorin.specs.Join.{Joins, IsPackageOnceWritten};
+ghost use Rattle.thorin.specs.Meaning.{keys};
+ghost use Rattle.thorin.specs.Represents.{units_in};
 ghost use Rattle.thorin.specs.Run.{TakesFile};
 
 use crate::adding::add_input;
 use crate::encodings::common;
-use crate::state::InProgressDwarfPackage;
+use crate::in_progress::InProgressDwarfPackage;
 use dwp_dwarf::Encoding;
 use dwp_elf::WritableObject;
 use dwp_reader::RelocationEntry;
@@ -41,10 +44,12 @@ impl<'output, 'session: 'output, Sess: Session<RelocationEntry>> Model
 
     ghost use Rattle.thorin.specs.BuilderView.{building};
     ghost use Rattle.std.specs.Prelude.{◌≡◌, []};
+    ghost use Rattle.thorin.specs.Represents.{IsSoundBegun};
+    ghost use Rattle.thorin.specs.StateView.{begun_of};
 
     ghost view = { building };
 
-    ghost invariant = { λ p. p.no_units.keys ≡ [] };
+    ghost invariant = { λ p. (p.no_units.keys ≡ []) × IsSoundBegun (begun_of p.in_progress) };
 }
 
 impl<'output, 'session: 'output, Sess: Session<RelocationEntry>> fmt::Debug
@@ -108,6 +113,7 @@ impl<'output, 'session: 'output, Sess: Session<RelocationEntry>> DwarfPackage<
     #[tactic(auto, unfolding(crate::specs::Builder::taken))]
     pub fn add_object_bytes(&mut self, bytes: &[u8]) -> Result<(), Error>
         ensures meaning { Gives (λ _. self.new.state) result (spec.taken bytes.now self.old.state) }
+        ensures joins { OnOk result (Joins bytes.now (units_in self.old.state) (units_in self.new.state)) }
         ensures err { OnErr result (self.new.state ≡ self.old.state) }
         ensures session { self.new.session ≡ self.old.session }
     {
@@ -132,6 +138,7 @@ impl<'output, 'session: 'output, Sess: Session<RelocationEntry>> DwarfPackage<
     pub fn finish(self) -> Result<WritableObject, Error>
         ensures refusal { Gives (λ _. tt) result (spec.finish_test self.entry.state) }
         ensures finished { IfOk result (IsFinishedState self.entry.state) }
+        ensures packaged { IfOk result (IsPackageOnceWritten (units_in self.entry.state)) }
     {
         let DwarfPackage {
             alloc: _,
@@ -155,7 +162,7 @@ impl<'output, 'session: 'output, Sess: Session<RelocationEntry>> DwarfPackage<
 
     /// The units that the package contains, in order of acceptance. It takes no memory.
     pub fn contained_units(&self) -> &IndexSet<DwarfObject>
-        ensures { result.now.keys ≡ spec.names_in self.now.state.begun }
+        ensures { result.now.keys ≡ keys (units_in self.now.state) }
     {
         match &self.in_progress {
             Some(package) => package.names(),

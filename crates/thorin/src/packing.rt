@@ -1,11 +1,9 @@
 //! Whole packages from lists of inputs.
 
 ghost use Rattle.std.specs.Prelude.{◌≡◌, IfOk, IfErr};
-ghost use Rattle.thorin.specs.Join.{IsJoinOf};
 ghost use Rattle.thorin.specs.Packed.{IsPacked};
-ghost use Rattle.thorin.specs.Run.{TakesInput, Writes};
+ghost use Rattle.thorin.specs.Run.{Took, Writes};
 
-use crate::laws::packages_are_the_join;
 use crate::package::DwarfPackage;
 use dwp_reader::RelocationEntry;
 use std::alloc::Global;
@@ -40,7 +38,6 @@ pub fn pack<'s, Sess: Session<RelocationEntry>>(
     inputs: &[Input<'s>],
 ) -> Result<Packed, Error>
     ensures packed { IfOk result (IsPacked (Sess.offer session.now) inputs.now) }
-    ensures joined { IfOk result (λ packed. IfOk packed.file (λ bytes. IsJoinOf (Sess.offer session.now) inputs.now packed.outcomes.items bytes.items)) }
     ensures refused { IfErr result (λ e. e ≡ Error.Memory) }
 {
     let mut outcomes = Vec::with_capacity(alloc, inputs.len())?;
@@ -50,7 +47,6 @@ pub fn pack<'s, Sess: Session<RelocationEntry>>(
         outcomes.push(outcome)?;
     }
     let file = written(builder);
-    packages_are_the_join(session);
     Ok(Packed { outcomes, file })
 }
 
@@ -59,7 +55,7 @@ fn take_input<'o, 's: 'o, Sess: Session<RelocationEntry>>(
     builder: &mut DwarfPackage<'o, 's, Sess>,
     input: Input<'s>,
 ) -> Result<(), Error>
-    ensures taken { TakesInput (Sess.offer builder.old.session) input.entry builder.old.state result builder.new.state }
+    ensures taken { Took (Sess.offer builder.old.session) input.entry builder.old.state result builder.new.state }
     ensures session { builder.new.session ≡ builder.old.session }
 {
     match input {

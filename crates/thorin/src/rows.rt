@@ -49,7 +49,7 @@ fn added(parts: &[Part<'_>], kind: SectionKind) -> Result<usize, Error>
 
 // Where the whole of the section of a kind comes to lie once parts are put. `Memory` where no memory
 // could hold it.
-fn whole(
+fn whole_range(
     file: &WritableObject,
     parts: &[Part<'_>],
     kind: SectionKind,
@@ -84,14 +84,14 @@ impl Whole {
         ensures row { IfOk result (λ whole. whole.row ≡ spec.whole_row encoding file.now.contents (map view.part parts.now)) }
         ensures refused { IfErr result (λ e. e ≡ Error.Memory) }
     {
-        let debug_abbrev = whole(file, parts, SectionKind::Abbrev)?;
-        let debug_line = whole(file, parts, SectionKind::Line)?;
-        let debug_loc = whole(file, parts, SectionKind::Loc)?;
-        let debug_loclists = whole(file, parts, SectionKind::Loclists)?;
-        let debug_rnglists = whole(file, parts, SectionKind::Rnglists)?;
-        let debug_str_offsets = whole(file, parts, SectionKind::StrOffsets)?;
-        let debug_macinfo = whole(file, parts, SectionKind::Macinfo)?;
-        let debug_macro = whole(file, parts, SectionKind::Macro)?;
+        let debug_abbrev = whole_range(file, parts, SectionKind::Abbrev)?;
+        let debug_line = whole_range(file, parts, SectionKind::Line)?;
+        let debug_loc = whole_range(file, parts, SectionKind::Loc)?;
+        let debug_loclists = whole_range(file, parts, SectionKind::Loclists)?;
+        let debug_rnglists = whole_range(file, parts, SectionKind::Rnglists)?;
+        let debug_str_offsets = whole_range(file, parts, SectionKind::StrOffsets)?;
+        let debug_macinfo = whole_range(file, parts, SectionKind::Macinfo)?;
+        let debug_macro = whole_range(file, parts, SectionKind::Macro)?;
         Ok(Whole {
             row: IndexEntry {
                 encoding,

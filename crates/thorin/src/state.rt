@@ -13,6 +13,7 @@ ghost use Rattle.thorin.specs.UnitView.{new_unit, new_of};
 ghost use Rattle.thorin.specs.View as view;
 
 use crate::growing::{content, lengths, put, restore};
+use crate::in_progress::InProgressDwarfPackage;
 use crate::parts::{parts_of, put_parts};
 use crate::rows::Whole;
 use crate::source::Source;
@@ -23,29 +24,9 @@ use dwp_elf::WritableObject;
 use dwp_table::{Bucketable, DebugTypeSignature, DwarfObject};
 use indexmap::IndexSet;
 use std::alloc::Global;
-use std::fmt;
 use thorin_faults::Error;
 use thorin_parts::{IndexEntry, write_index};
 use thorin_strings::{PackageStringTable, TableMark};
-
-/// A package that an input has begun: the sections so far, the strings, and each unit's row.
-#[derive(Drop)]
-pub struct InProgressDwarfPackage {
-    alloc: Global,
-    object: WritableObject,
-    strings: PackageStringTable,
-    /// The names of the rows, in order.
-    names: IndexSet<DwarfObject>,
-    rows: Vec<IndexEntry>,
-    differing: Vec<DebugTypeSignature>,
-    ghost named: { names.keys ≡ map (λ row. row.id) rows.items },
-}
-
-impl fmt::Debug for InProgressDwarfPackage {
-    fn fmt<W: fmt::Write>(&self, f: &mut fmt::Formatter<W>) -> fmt::Result {
-        f.write_str("InProgressDwarfPackage")
-    }
-}
 
 /// How much of a package there was, to go back to.
 #[derive(Drop)]
@@ -132,7 +113,9 @@ impl InProgressDwarfPackage {
     pub(crate) fn bytes_of(&self, name: DwarfObject) -> Option<&[u8]>
         ensures { option_map (λ bytes. bytes.now) result ≡ lookup (same_name name) (spec.held_units (in_progress_of self.now)) }
     {
-        let place = self.names.get_index_of(&name)?;
+        let Some(place) = self.names.get_index_of(&name) else {
+            return None;
+        };
         match self.rows.get(place) {
             Some(row) => Some(unit_bytes(&self.object, row)),
             None => Some(&[]),

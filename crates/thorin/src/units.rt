@@ -4,13 +4,15 @@ ghost use Rattle.std.specs.Prelude.{◌≡◌, [], option_map, IfOk, IfErr};
 ghost use Rattle.dwp_dwarf.specs.Units.{unit_of, unit_seen};
 ghost use Rattle.thorin_faults.specs.Answers.{Gives};
 ghost use Rattle.thorin.specs.NewUnits as spec;
+ghost use Rattle.thorin.specs.State.{held_units};
+ghost use Rattle.thorin.specs.StateView.{in_progress_of};
 ghost use Rattle.thorin.specs.UnitView.{adding_of, met_of, new_unit, new_of};
 ghost use Rattle.thorin.specs.View as view;
 
 use crate::object::UsedSection;
 use crate::rows::{Places, Whole, abbreviations_for, test_row, unit_row};
 use crate::source::Source;
-use crate::state::InProgressDwarfPackage;
+use crate::in_progress::InProgressDwarfPackage;
 use dwp_base::SectionKind;
 use dwp_dwarf::{ReadError, Reader, SliceReader, UnitHeader, UnitHeaders, UnitSection};
 use dwp_table::{Bucketable, DebugTypeSignature, DwarfObject};
@@ -45,6 +47,7 @@ pub(crate) struct Adding<'i, 'a> {
 }
 
 // Which sections of units came before.
+#[derive(Drop)]
 struct Met {
     info: bool,
     types: bool,
@@ -123,10 +126,6 @@ impl<'a> NewUnits<'a> {
         for section in &adding.source.object.sections {
             new.add_section(alloc, adding, &mut met, *section)?;
         }
-        let Met {
-            info: _,
-            types: _,
-        } = met;
         Ok(new)
     }
 
@@ -191,12 +190,16 @@ impl<'a> NewUnits<'a> {
     }
 
     // The bytes that are kept for a name: those of a unit that is added, else those that the package has.
-    fn kept_bytes<'x>(&'x self, adding: &Adding<'x, '_>, name: DwarfObject) -> Option<&'x [u8]>
-        ensures { option_map (λ bytes. bytes.now) result ≡ spec.kept_bytes (adding_of adding.now).held (new_of self.now).units name }
+    fn kept_bytes<'x>(
+        &'x self,
+        made: &'x InProgressDwarfPackage,
+        name: DwarfObject,
+    ) -> Option<&'x [u8]>
+        ensures { option_map (λ bytes. bytes.now) result ≡ spec.kept_bytes (held_units (in_progress_of made.now)) (new_of self.now).units name }
     {
         match self.units.get(&name) {
             Some(unit) => Some(unit.bytes),
-            None => adding.package.bytes_of(name),
+            None => made.bytes_of(name),
         }
     }
 
@@ -214,7 +217,7 @@ impl<'a> NewUnits<'a> {
         requires types { places.now.types ≡ record { index = (view.source adding.now.source.now).indexes.types; section = section.kind } }
         ensures { Gives (λ _. new_of self.new) result (spec.with_unit (spec.kept_bytes (adding_of adding.now).held (new_of self.old).units name) (adding_of adding.now) (view.used section.entry) name (unit_of ⟦<SliceReader<'a> as Reader>⟧.input header.now) (new_of self.old)) }
     {
-        let kept = self.kept_bytes(adding, name);
+        let kept = self.kept_bytes(adding.package, name);
         match (kept, name) {
             (Some(_), DwarfObject::Compilation(id)) => Err(Error::DuplicateUnit(id.0)),
             (Some(kept), DwarfObject::TypeUnit(signature)) => {

@@ -1,6 +1,6 @@
 use Rattle.std.proofs.Common.{◌≡◌, ◌∙◌, ap, sym, Some, None}
 use Rattle.std.specs.Map.{lookup}
-use Rattle.thorin.specs.NewUnits.{same_name}
+use Rattle.thorin.specs.Names.{same_name}
 use Rattle.thorin.specs.UnitView.{new_unit}
 use Rattle.thorin.proofs.Names.{same_name-is, lookup-map}
 use Rattle.thorin.proofs.units.NewUnits.kept_bytes.Goals as goal
@@ -15,4 +15,4 @@ pub returns-in-None : goal.returns-in-None
 returns-in-None c =
     let found : lookup (same_name c.args.name) c.args.self.now.units.entries ≡ None =
     ap (λ f. lookup f c.args.self.now.units.entries) (sym (same_name-is c.args.name)) ∙ sym c.in-None.ensures.value in
-    rw (lookup-map (same_name c.args.name) new_unit c.args.self.now.units.entries, found, c.bytes.ensures)
+    rw (lookup-map (same_name c.args.name) new_unit c.args.self.now.units.entries, found, c.bytes_of.ensures)
