@@ -5,7 +5,8 @@ use Rattle.dwp_base.specs.declared.section.SectionKind.{SectionKind}
 use Rattle.dwp_base.specs.declared.section.SectionKind.TheVariants.{StrOffsets}
 use Rattle.dwp_elf.specs.Contents.{KindsDiffer}
 use Rattle.dwp_elf.specs.FileText.{Object as File, file_text}
-use Rattle.dwp_elf.specs.Numbers.{Fits}
+use Rattle.dwp_elf.specs.Written.{written_elf}
+use Rattle.dwp_elf_read.specs.Elf.{elf_of}
 use Rattle.dwp_index.specs.Package as index
 use Rattle.dwp_index.specs.Package.{Package, package_of, found_counted, row_bytes}
 use Rattle.dwp_index.specs.Strings.{string_in}
@@ -82,6 +83,6 @@ pub record IsPackageOf (units : Members) (bytes : List ℕ) : Type 0 where
   pub named : IsPermutation (entries_of (identifiers units) (signatures units)) (entries_from pack.compilations pack.types 0 0)
   pub finds : (name : DwarfObject) → MatchOption (lookup (same_name name) units) (GivesNone pack name (look_limit units name)) (GivesUnit pack name (look_limit units name))
 
--- the file of these contents is a package of these units, once it is written
+-- the file of these contents is a package of these units, once it is written and read back as an ELF file, as `write` says
 abbrev pub IsPackageOnceWritten : Members → File → Type 0
-IsPackageOnceWritten units file = KindsDiffer file.contents → Fits file → IsPackageOf units (file_text file)
+IsPackageOnceWritten units file = KindsDiffer file.contents → elf_of (file_text file) ≡ Ok (written_elf file) → IsPackageOf units (file_text file)
