@@ -6,3 +6,17 @@ pub mod NewUnitLemmas
 pub mod Extending
 pub mod Steps
 pub mod HeldLemmas
+pub mod PartGrowth
+pub mod Keeping
+pub mod UnitAdded
+pub mod Apart
+pub mod Joining
+pub mod HeadersRead
+pub mod UnitsAdded
+pub mod PartLaws
+pub mod PartsMean
+pub mod RowShares
+pub mod StringLists
+pub mod UnitsFound
+pub mod SourceAdded
+pub mod InputJoined

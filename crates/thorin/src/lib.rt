@@ -4,6 +4,7 @@
 mod adding;
 mod encodings;
 mod growing;
+mod joins;
 mod in_progress;
 mod object;
 mod package;
@@ -15,6 +16,7 @@ mod state;
 mod units;
 
 pub use thorin_identity::dwo_identifier_of_unit;
+pub use joins::inputs_are_joined;
 pub use package::DwarfPackage;
 pub use packing::{Input, Packed, pack};
 pub use in_progress::InProgressDwarfPackage;

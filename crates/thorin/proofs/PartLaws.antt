@@ -1,0 +1,47 @@
+-- What the laws of the crates below say of string offsets that are rewritten.
+use Rattle.std.proofs.Common.{◌≡◌, ℕ, ◌+◌, ◌-◌, ◌*◌, ◌<◌, List, ◌++◌, length, take, nat_lt, Option, Ok, if◌then◌else◌}
+use Rattle.dwp_base.specs.declared.endian.Endianness.{Endianness}
+use Rattle.dwp_reader.specs.Encoding.{offset_size}
+use Rattle.dwp_reader.specs.declared.encoding.Encoding.{Encoding}
+use Rattle.dwp_index.specs.Index.{Index}
+use Rattle.dwp_index.specs.Strings.{string_in}
+use Rattle.thorin_parts.specs.ReadStrings.{ReadsAlike}
+use Rattle.thorin_strings.specs.Rewritten.{NamesTheSame}
+use Rattle.thorin_strings.specs.Strings.{IsTable, data_of}
+use Rattle.thorin_strings.specs.StringOffsets.{remapped}
+use Rattle.thorin_packaged.specs.PackagedOffsets.{packaged_offsets}
+use Rattle.thorin_packaged.specs.PackagedReading.{PackageReadsAlike}
+
+-- a rewritten range names the same (a law of the string table)
+abbrev pub NamesTheSameLaw : Type 0
+NamesTheSameLaw = (order : Endianness) (encoding : Encoding) (section bytes : List ℕ) (size : ℕ) (before : List (List ℕ)) (rewritten : List ℕ) (after : List (List ℕ))
+    → IsTable before
+    → remapped order encoding section bytes size before ≡ Ok (rewritten, after)
+    → NamesTheSame order encoding section bytes size before rewritten after
+
+-- it is read alike (a law of the parts)
+abbrev pub ReadsAlikeLaw : Type 0
+ReadsAlikeLaw = (order : Endianness) (encoding : Encoding) (section bytes : List ℕ) (before : List (List ℕ)) (rewritten : List ℕ) (after final : List (List ℕ))
+    → IsTable before
+    → remapped order encoding section bytes (length bytes) before ≡ Ok (rewritten, after)
+    → IsTable final
+    → take (length after) final ≡ after
+    → (i : ℕ)
+    → ReadsAlike order encoding section bytes (data_of final) rewritten i
+
+-- ranges without a header, joined, are read in turn (a law of the parts)
+abbrev pub ReadInTurnLaw : Type 0
+ReadInTurnLaw = (order : Endianness) (encoding : Encoding) (strings first second : List ℕ) (n i : ℕ)
+    → encoding.version < 5
+    → length first ≡ n * offset_size encoding.format
+    → string_in order encoding strings (first ++ second) i
+    ≡ (if nat_lt i n
+    then string_in order encoding strings first i
+    else string_in order encoding strings second (i - n))
+
+-- the ranges of a package's rows are read alike (a law of packaged string offsets)
+abbrev pub PackagedLaw : Type 0
+PackagedLaw = (order : Endianness) (encoding : Encoding) (compilations types : Option Index) (section bytes : List ℕ) (before : List (List ℕ)) (written : List ℕ) (after : List (List ℕ))
+    → IsTable before
+    → packaged_offsets order encoding compilations types section bytes before ≡ Ok (written, after)
+    → PackageReadsAlike order encoding compilations types section bytes before written after
