@@ -13,6 +13,7 @@ ghost use Rattle.thorin.specs.Run.{TakesFile};
 use crate::adding::add_input;
 use crate::encodings::common;
 use crate::in_progress::InProgressDwarfPackage;
+use crate::joins::inputs_are_joined;
 use dwp_dwarf::Encoding;
 use dwp_elf::WritableObject;
 use dwp_reader::RelocationEntry;
@@ -119,6 +120,7 @@ impl<'output, 'session: 'output, Sess: Session<RelocationEntry>> DwarfPackage<
     {
         let is_first = self.in_progress.is_none();
         let units = self.contained_units().len();
+        inputs_are_joined();
         let encoding = add_input(self.alloc, &mut self.in_progress, bytes)?;
         self.own = if self.contained_units().len() <= units {
             None
