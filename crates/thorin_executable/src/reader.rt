@@ -4,9 +4,7 @@ ghost use Rattle.std.specs.Prelude.{◌≡◌, IsTrue};
 ghost use Rattle.dwp_reader.specs.Input.{section};
 ghost use Rattle.dwp_reader.specs.Relocation.{ascends, relocated_input};
 
-use dwp_dwarf::{
-    Endianness, Format, ReadError, Reader, Relocate, RelocationEntry, SliceReader,
-};
+use dwp_dwarf::{Endianness, Format, ReadError, Reader, Relocate, RelocationEntry, SliceReader};
 
 /// Reads a section of an executable, relocated.
 #[derive(Clone, Copy)]

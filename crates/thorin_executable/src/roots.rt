@@ -81,10 +81,7 @@ impl<R: Reader> SplitAttributes<R> {
 
 // A unit's root entry.
 #[tactic(auto, unfolding(crate::specs::Roots::root_entry))]
-fn root_entry<R: Reader>(
-    debug_abbrev: &R,
-    header: &UnitHeader<R>,
-) -> Result<RootEntry<R>, Error>
+fn root_entry<R: Reader>(debug_abbrev: &R, header: &UnitHeader<R>) -> Result<RootEntry<R>, Error>
     ensures { Gives (entry_of R.input) result (spec.root_entry (R.input debug_abbrev.now) (unit_of R.input header.now)) }
 {
     let (code, values) = header

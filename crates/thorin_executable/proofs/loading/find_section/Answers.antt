@@ -12,8 +12,8 @@ returns-then-is_kind_of-clause-found c =
 
 pub loop-i-preserved : goal.loop-i-preserved
 loop-i-preserved c = elim c.match-section.branch [
-    in-Some+else-is_kind_of w ↦
+  | in-Some+else-is_kind_of w ↦
       sym (find-miss (is_used c.args.kind) (elf c.args.file.now).sections c.loop-i.i (section w.in-Some.section) w.in-Some.ensures.found (sym w.is_kind_of.ensures ∙ w.if-is_kind_of.false))
       ∙ c.loop-i.invariant
   | in_default w ↦ absurd (element-within (elf c.args.file.now).sections c.loop-i.i w.in_default.ensures.found (omega arith))
-  ]
+]
