@@ -1,4 +1,5 @@
-//! Which split units an executable names, and where their objects are (DWARF 5, 3.1.2; the GNU page DebugFission).
+//! Which split units an executable names, and where their objects are (DWARF 5, 3.1.2; the GNU page
+//! DebugFission).
 #![tactic(auto)]
 
 mod listing;

@@ -34,7 +34,8 @@ pub struct SkeletonList {
     pub fault: Option<Error>,
 }
 
-// The split unit of this identity, and the path of its object; none for a type unit that names no object.
+// The split unit of this identity, and the path of its object; none for a type unit that names no
+// object.
 #[tactic(auto, unfolding(crate::specs::Skeletons::named_in))]
 fn named_unit<R: Reader>(
     alloc: Global,
@@ -106,14 +107,15 @@ fn units_named<R: Reader>(alloc: Global, debug: &DebugData<R>) -> SkeletonList
     SkeletonList { units, fault: None }
 }
 
-/// The split units that an executable names: of each of its units with an identity the identity and the path of
-/// the object, in order, up to the first fault, and that fault. A type unit that names no object is passed over.
-/// The relocations are placed in the session.
+/// The split units that an executable names: of each of its units with an identity the identity and
+/// the path of the object, in order, up to the first fault, and that fault. A type unit that names
+/// no object is passed over. The relocations are placed in the session.
 ///
-/// The faults: `ParseObjectFile`; of a section that is used `DecompressData`, `ObjectRead`, `NamelessSection`,
-/// `RelocationWithInvalidSymbol`, `MultipleRelocations` and `UnsupportedRelocation`; of a unit
-/// `ParseUnitHeader`, those of `dwo_identifier_of_unit`, `NoDie`, `ParseUnit`, `MissingDwoName` and, for strings,
-/// `GimliRead`. Where memory ran out the fault is `Memory`, and the units are the first of the list.
+/// The faults: `ParseObjectFile`; of a section that is used `DecompressData`, `ObjectRead`,
+/// `NamelessSection`, `RelocationWithInvalidSymbol`, `MultipleRelocations` and
+/// `UnsupportedRelocation`; of a unit `ParseUnitHeader`, those of `dwo_identifier_of_unit`,
+/// `NoDie`, `ParseUnit`, `MissingDwoName` and, for strings, `GimliRead`. Where memory ran out the
+/// fault is `Memory`, and the units are the first of the list.
 #[tactic(auto, unfolding(crate::specs::Skeletons::skeletons_of))]
 pub fn skeletons<'a, Sess: Session<RelocationEntry>>(
     alloc: Global,

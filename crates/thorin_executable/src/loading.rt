@@ -80,7 +80,8 @@ impl DebugSection {
     }
 }
 
-/// The units of an executable, their abbreviations and their strings: readers at the start of each section.
+/// The units of an executable, their abbreviations and their strings: readers at the start of each
+/// section.
 #[derive(Clone, Copy)]
 pub(crate) struct DebugData<R> {
     pub debug_abbrev: R,
@@ -103,7 +104,8 @@ fn find_section<'a>(file: &ElfFile<'a>, kind: DebugSection) -> Option<Section<'a
     None
 }
 
-// The content of a section: `DecompressData` where it is compressed, `ObjectRead` where it is outside the file.
+// The content of a section: `DecompressData` where it is compressed, `ObjectRead` where it is
+// outside the file.
 #[tactic(auto, unfolding(crate::specs::Sections::content_of))]
 fn content<'a>(section: &Section<'a>, kind: DebugSection) -> Result<&'a [u8], Error>
     ensures { Gives (λ bytes. bytes.now) result (spec.content_of kind (meaning section.now)) }
@@ -175,9 +177,9 @@ impl<'a> DebugData<SectionReader<'a>> {
         })
     }
 
-    /// Those of the bytes of a file: `ParseObjectFile`, then of the sections of abbreviations, units, strings of
-    /// line tables, strings and offsets of strings, in this order, `DecompressData`, `ObjectRead` and the
-    /// faults of relocations.
+    /// Those of the bytes of a file: `ParseObjectFile`, then of the sections of abbreviations,
+    /// units, strings of line tables, strings and offsets of strings, in this order,
+    /// `DecompressData`, `ObjectRead` and the faults of relocations.
     #[tactic(auto, unfolding(crate::specs::Sections::debug_data_of))]
     pub fn read<Sess: Session<RelocationEntry>>(
         alloc: Global,

@@ -62,8 +62,8 @@ fn directory<R: Reader>(
     attr_string(strings, format, base, &root.comp_dir?).ok()
 }
 
-/// The path of the split object that an attribute of a root entry names: `GimliRead` where a string can't be read or
-/// isn't UTF-8. A directory whose string can't be read is absent.
+/// The path of the split object that an attribute of a root entry names: `GimliRead` where a string
+/// can't be read or isn't UTF-8. A directory whose string can't be read is absent.
 #[tactic(auto, unfolding(crate::specs::Paths::object_path))]
 pub(crate) fn object_path<R: Reader>(
     alloc: Global,

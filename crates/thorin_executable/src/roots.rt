@@ -18,8 +18,9 @@ const DW_AT_DWO_NAME: u64 = 0x76;
 
 const DW_AT_GNU_DWO_NAME: u64 = 0x2130;
 
-/// The attributes of a root entry that name its split object, of each name the first. `str_offsets_base` is the
-/// place that the first attribute of that name and of a form of a place names.
+/// The attributes of a root entry that name its split object, of each name the first.
+/// `str_offsets_base` is the place that the first attribute of that name and of a form of a place
+/// names.
 #[derive(Clone, Copy)]
 pub(crate) struct SplitAttributes<R> {
     pub dwo_name: Option<Attribute<R>>,

@@ -59,7 +59,8 @@ fn sections_that_cannot_be_used(rt: HostRuntime) -> Result<(), Fail> {
     };
     let found = fault_in(alloc, &[compressed])?;
     assert!(rt; matches!(found, Error::DecompressData(ElfError::Compressed)));
-    // The header of section 1 stands past its one byte, the 14 of its name and a zero; its offset 24 bytes on.
+    // Section 1's header stands behind the file's header, one byte, 12 of names and section 0's
+    // header; byte 24 of it begins the offset.
     let mut outside = file(alloc, X86_64, &[section(".debug_str", b"x")])?;
     let header = 64 + 1 + 12 + 64;
     assert!(rt; outside.len() == header + 128);
@@ -132,7 +133,8 @@ fn units_without_a_header_or_an_identity(rt: HostRuntime) -> Result<(), Fail> {
     Ok(())
 }
 
-// A skeleton unit of version 5, unit 7, with this abbreviation offset and these bytes behind its header.
+// A skeleton unit of version 5, unit 7, with this abbreviation offset and these bytes behind its
+// header.
 fn skeleton(alloc: Global, offset: u8, entries: &[u8]) -> Result<Vec<u8>, Fail> {
     let mut unit = [0, 0, 0, 0, 5, 0, 4, 8, offset, 0, 0, 0].to_vec(alloc)?;
     unit.extend_from_slice(&[7, 0, 0, 0, 0, 0, 0, 0])?;

@@ -14,7 +14,8 @@ pub const RELA: u64 = 4;
 
 pub const X86_64: u16 = 62;
 
-/// An abbreviation 1 of a compile unit: GNU_dwo_name and comp_dir, both strings, and a GNU_dwo_id of 8 bytes.
+/// An abbreviation 1 of a compile unit: GNU_dwo_name and comp_dir, both strings, and a GNU_dwo_id
+/// of 8 bytes.
 pub const ABBREVIATIONS: [u8; 14] = [
     0x01, 0x11, 0x00, 0xb0, 0x42, 0x08, 0x1b, 0x08, 0xb1, 0x42, 0x07, 0x00, 0x00, 0x00,
 ];
