@@ -1,6 +1,7 @@
 //! The strings of a package: the table of distinct strings, and string offsets rewritten into it.
 #![tactic(auto)]
 
+mod guess;
 mod laws;
 mod offsets;
 mod positions;

@@ -2,6 +2,7 @@ ghost use Rattle.std.specs.Prelude.{◌≡◌, ◌↔◌, [], length, take, OnOk
 ghost use Rattle.thorin_strings.specs.Strings.{data_of, offset_of, with_string, IsZeroFree, IsTable, IsWithinDigits};
 ghost use Rattle.thorin_strings.specs.Marks.{mark_of};
 
+use crate::guess::{Guesses, hash_of};
 use crate::positions::Positions;
 use crate::search::{find_near, search};
 use memchr::memchr;
@@ -25,13 +26,15 @@ pub struct TableMark {
 /// The distinct strings of a package, in order of first use. A clause sees the table as their list.
 ///
 /// No string is copied but into the data; beside it the table keeps where each begins, in the order
-/// of the strings, and the place behind the string that was found last: inputs that share strings
-/// often use them in the same order, so a string is looked for there first.
+/// of the strings, guesses of that by hashes, and the place behind the string that was found last:
+/// inputs that share strings often use them in the same order, so a string is looked for there first,
+/// then where its hash guesses, and then by the order.
 #[derive(Drop)]
 pub struct PackageStringTable {
     alloc: Global,
     bytes: Vec<u8>,
     positions: Positions,
+    guesses: Guesses,
     next: usize,
 }
 
@@ -55,6 +58,7 @@ impl PackageStringTable {
             alloc,
             bytes: Vec::new(alloc),
             positions: Positions::new(alloc),
+            guesses: Guesses::new(alloc),
             next: 0,
         }
     }
@@ -113,7 +117,8 @@ impl PackageStringTable {
         ensures kept { take (length self.old) self.new ≡ self.old }
         ensures err { IfErr result (λ e. (e ≡ Error.Memory) × (self.new ≡ self.old)) }
     {
-        match find_near(self.bytes.as_slice(), &self.positions, self.next, string) {
+        let bytes = self.bytes.as_slice();
+        match find_near(bytes, &self.positions, &self.guesses, self.next, string) {
             Ok(offset) => {
                 self.next = offset + string.len() + 1;
                 Ok(PackageStringOffset(offset))
@@ -124,6 +129,7 @@ impl PackageStringTable {
                 self.positions.insert(rank, offset as u64)?;
                 self.bytes.extend_from_slice(string).unwrap();
                 self.bytes.push(0).unwrap();
+                self.guesses.enter(hash_of(string), offset);
                 Ok(PackageStringOffset(offset))
             }
         }
