@@ -1,8 +1,10 @@
 //! The strings of a package: the table of distinct strings, and string offsets rewritten into it.
 #![tactic(auto)]
 
+mod batch;
 mod guess;
 mod laws;
+mod merge;
 mod offsets;
 mod positions;
 mod search;

@@ -10,7 +10,7 @@ use std::cmp::Ordering;
 
 /// How the string at a place stands to one without zero bytes. Its end isn't looked for: as many bytes as
 /// the other has decide, and where they are the same, whether a zero follows them.
-fn compare_at(bytes: &[u8], at: usize, string: &[u8]) -> Ordering
+pub(crate) fn compare_at(bytes: &[u8], at: usize, string: &[u8]) -> Ordering
     requires within { at ≤ length bytes.now }
     requires zero_free { IsZeroFree string.now }
     ensures { result ≡ slice_cmp nat_cmp (string_from bytes.now at) string.now }
