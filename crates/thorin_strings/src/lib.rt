@@ -6,6 +6,7 @@ mod guess;
 mod laws;
 mod merge;
 mod offsets;
+mod order;
 mod positions;
 mod search;
 mod table;

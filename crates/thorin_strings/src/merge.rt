@@ -53,17 +53,6 @@ fn gap_of(
     Some(low)
 }
 
-/// Puts places of strings into the order of the strings. It is a help alone: `enter_all` compares them again.
-pub(crate) fn order(bytes: &[u8], places: &mut Vec<u64>)
-    ensures { IsPermutation places.old.items places.new.items }
-{
-    places.sort_unstable_by(|a, b| {
-        let first = bytes.get(*a as usize..).unwrap_or(&[]);
-        let second = bytes.get(*b as usize..).unwrap_or(&[]);
-        first.cmp(&second)
-    });
-}
-
 /// Enters positions of new strings at their ranks. False where a string stands there already, and for want
 /// of memory; some are entered then. It is fast where they are in the order of the strings.
 pub(crate) fn enter_all(bytes: &[u8], positions: &mut Positions, places: &[u64]) -> bool

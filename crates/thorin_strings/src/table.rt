@@ -7,7 +7,8 @@ ghost use Rattle.thorin_strings.specs.Marks.{mark_of};
 
 use crate::batch::Batch;
 use crate::guess::{Guesses, hash_of};
-use crate::merge::{enter_all, order};
+use crate::merge::enter_all;
+use crate::order::order;
 use crate::positions::Positions;
 use crate::search::{find_near, search};
 use dwp_base::Endianness;
@@ -200,7 +201,7 @@ impl PackageStringTable {
             forget(&mut self.bytes, &mut self.positions, mark);
             return None;
         };
-        order(self.bytes.as_slice(), &mut places);
+        order(self.alloc, self.bytes.as_slice(), &mut places);
         if !enter_all(self.bytes.as_slice(), &mut self.positions, &places) {
             forget(&mut self.bytes, &mut self.positions, mark);
             return None;
