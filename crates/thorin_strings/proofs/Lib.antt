@@ -13,3 +13,5 @@ pub mod Named
 pub mod NamedEntries
 pub mod NamedBytes
 pub mod ShortLemmas
+pub mod GrownLemmas
+pub mod MergeLemmas

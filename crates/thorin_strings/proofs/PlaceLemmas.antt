@@ -1,5 +1,5 @@
 -- A place of a section of ended strings at which a string begins.
-use Rattle.std.proofs.Common.{◌≡◌, ℕ, zero, suc, ◌+◌, ◌-◌, ◌<◌, ◌≤◌, Bool, true, false, cond, ◌||◌, eqb, List, [], ◌∷◌, ◌++◌, length, take, drop, get_or, All, Contains, ap, sym, subst, refl, ◌∙◌, arith, append_assoc}
+use Rattle.std.proofs.Common.{◌≡◌, ◌≢◌, AllPairs, ℕ, zero, suc, ◌+◌, ◌-◌, ◌<◌, ◌≤◌, Bool, true, false, cond, ◌||◌, eqb, List, [], ◌∷◌, ◌++◌, length, take, drop, get_or, All, Contains, ap, sym, subst, refl, ◌∙◌, arith, append_assoc}
 use Rattle.std.specs.List.{onto_first, list_any}
 use Rattle.std.specs.Str.{bytes_eq}
 use Rattle.std.proofs.lemmas.List.{take-append-drop, length-take-le, length-drop}
@@ -10,7 +10,7 @@ use Rattle.dwp_reader.specs.StringOffsets.{string_from}
 use Rattle.thorin_strings.specs.Strings.{data_of, offset_of, offsets_from, strings_in, IsZeroFree, IsIndexed, BeginsAt}
 use Rattle.thorin_strings.proofs.StringLemmas.{data_of-cons, strings_in-ended, zero_free-strings_in}
 use Rattle.thorin_strings.proofs.OffsetLemmas.{offsets_from-append, length-data_of-cons, has_Decides}
-use Rattle.thorin_strings.proofs.TableLemmas.{known_offset}
+use Rattle.thorin_strings.proofs.TableLemmas.{known_offset, known_offset_in}
 
 onto_ended : (b : ℕ) (ss : List (List ℕ)) (rest : List ℕ) → data_of ss ≡ rest → 0 < length rest → data_of (onto_first b ss) ≡ b ∷ rest
 onto_ended b [] rest e some = absurd (omega (arith, ap length e))
@@ -69,6 +69,9 @@ offset_there bytes at begins =
 -- of the string that begins there
 pub known_place : (bytes positions s : List ℕ) (at : ℕ) → IsIndexed bytes positions → BeginsAt bytes at → string_from bytes at ≡ s → Contains (strings_in bytes) s × (at ≡ offset_of (strings_in bytes) s)
 known_place bytes positions s at table begins is = known_offset bytes positions s at table (offset_there bytes at begins) is
+
+pub known_place_in : (bytes s : List ℕ) (at : ℕ) → data_of (strings_in bytes) ≡ bytes → AllPairs (λ s t. s ≢ t) (strings_in bytes) → BeginsAt bytes at → string_from bytes at ≡ s → Contains (strings_in bytes) s × (at ≡ offset_of (strings_in bytes) s)
+known_place_in bytes s at ended distinct begins is = known_offset_in bytes s at ended distinct (offset_there bytes at begins) is
 
 -- a string and the zero that ends it are within the section
 ends_by : (ss : List (List ℕ)) (s : List ℕ) → list_any (λ t. bytes_eq t s) ss ≡ true → offset_of ss s + length s + 1 ≤ length (data_of ss)

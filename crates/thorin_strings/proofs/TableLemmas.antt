@@ -48,18 +48,21 @@ not_before_itself s t same h =
     cc
 
 -- the string that begins at an offset has that offset
-pub known_offset : (bytes positions s : List ℕ) (p : ℕ) → IsIndexed bytes positions → Contains (offsets_from 0 (strings_in bytes)) p → string_from bytes p ≡ s → Contains (strings_in bytes) s × (p ≡ offset_of (strings_in bytes) s)
-known_offset bytes positions s p table there is =
+pub known_offset_in : (bytes s : List ℕ) (p : ℕ) → data_of (strings_in bytes) ≡ bytes → AllPairs (λ s t. s ≢ t) (strings_in bytes) → Contains (offsets_from 0 (strings_in bytes)) p → string_from bytes p ≡ s → Contains (strings_in bytes) s × (p ≡ offset_of (strings_in bytes) s)
+known_offset_in bytes s p ended distinct there is =
     let ss = strings_in bytes in
     let i = there.0 in
     let inside : i < length (offsets_from 0 ss) = there.1 in
     let within_ss : i < length ss = omega (arith, length-offsets_from 0 ss) in
     let is_string : get_or ss i [] ≡ s =
-    ap (λ l. get_or l i []) (sym (strings_here bytes table.ended)) ∙ get_or-map (string_from bytes) (offsets_from 0 ss) i p [] inside ∙ ap (string_from bytes) there.2 ∙ is in
-    let offset = offset_of-at ss 0 i [] p table.distinct within_ss in (
+    ap (λ l. get_or l i []) (sym (strings_here bytes ended)) ∙ get_or-map (string_from bytes) (offsets_from 0 ss) i p [] inside ∙ ap (string_from bytes) there.2 ∙ is in
+    let offset = offset_of-at ss 0 i [] p distinct within_ss in (
       subst (Contains ss) is_string (Contains-get_or ss i [] within_ss),
       sym (ap (offset_of ss) (sym is_string) ∙ omega (arith, offset) ∙ there.2),
     )
+
+pub known_offset : (bytes positions s : List ℕ) (p : ℕ) → IsIndexed bytes positions → Contains (offsets_from 0 (strings_in bytes)) p → string_from bytes p ≡ s → Contains (strings_in bytes) s × (p ≡ offset_of (strings_in bytes) s)
+known_offset bytes positions s p table there is = known_offset_in bytes s p table.ended table.distinct there is
 
 -- a position is such an offset
 pub known_position : (bytes positions s : List ℕ) (r p : ℕ) → IsIndexed bytes positions → r < length positions → p ≡ get_or positions r 0 → string_from bytes p ≡ s → Contains (strings_in bytes) s × (p ≡ offset_of (strings_in bytes) s)
@@ -67,7 +70,7 @@ known_position bytes positions s r p table within is_position is =
     let there : Contains positions p = subst (Contains positions) (sym is_position) (Contains-get_or positions r 0 within) in
     known_offset bytes positions s p table (Contains-permutation positions (offsets_from 0 (strings_in bytes)) p (IsPermutation-sym _ _ table.moved) there) is
 
-not_behind_itself : (s t : List ℕ) → t ≡ s → IsBefore s t → ⊥
+pub not_behind_itself : (s t : List ℕ) → t ≡ s → IsBefore s t → ⊥
 not_behind_itself s t same h = not_before_itself s s refl (subst (λ u. IsBefore s u) same h)
 
 -- a string that would stand at a rank isn't there
@@ -108,17 +111,26 @@ insert_in_order R xs r y apart fits before behind = λ i j d less within.
     (cases_order i r)
 
 -- two functions that map a list alike agree on it
-maps_agree : (f g : ℕ → List ℕ) (xs : List ℕ) → map f xs ≡ map g xs → All (λ x. f x ≡ g x) xs
+pub maps_agree : (f g : ℕ → List ℕ) (xs : List ℕ) → map f xs ≡ map g xs → All (λ x. f x ≡ g x) xs
 maps_agree f g [] e = All-nil _
 maps_agree f g (x ∷ xs) e =
     let head : f x ≡ g x = cc in
     let tail : map f xs ≡ map g xs = cc in
     All-cons (λ x. f x ≡ g x) x xs head (maps_agree f g xs tail)
 
-order_agrees : (f g : ℕ → List ℕ) (xs : List ℕ) → All (λ x. f x ≡ g x) xs → AllPairs (λ p q. IsBefore (f p) (f q)) xs → AllPairs (λ p q. IsBefore (g p) (g q)) xs
+pub order_agrees : (f g : ℕ → List ℕ) (xs : List ℕ) → All (λ x. f x ≡ g x) xs → AllPairs (λ p q. IsBefore (f p) (f q)) xs → AllPairs (λ p q. IsBefore (g p) (g q)) xs
 order_agrees f g xs agree h = λ i j d less within.
     subst (λ u. IsBefore u (g (get_or xs j d))) (agree i d (omega arith))
     (subst (λ u. IsBefore (f (get_or xs i d)) u) (agree j d within) (h i j d less within))
+
+-- a string goes last
+pub strings_push : (bytes s : List ℕ) → data_of (strings_in bytes) ≡ bytes → IsZeroFree s → (strings_in (bytes ++ terminated s) ≡ strings_in bytes ++ s ∷ []) × (data_of (strings_in (bytes ++ terminated s)) ≡ bytes ++ terminated s)
+strings_push bytes s ended free =
+    let ss = strings_in bytes in
+    let all_free : All IsZeroFree (ss ++ s ∷ []) = All-push IsZeroFree ss s (zero_free-strings_in bytes) free in
+    let whole : data_of (ss ++ s ∷ []) ≡ bytes ++ terminated s = data_of-push ss s ∙ ap (λ l. l ++ terminated s) ended in
+    let strings : strings_in (bytes ++ terminated s) ≡ ss ++ s ∷ [] = ap strings_in (sym whole) ∙ strings_in-data_of (ss ++ s ∷ []) all_free in
+    (strings, ap data_of strings ∙ whole)
 
 -- a new string goes last, and its position to its rank
 pub indexed_push : (bytes positions s : List ℕ) (r : ℕ) → IsIndexed bytes positions → IsZeroFree s → StandsAt bytes positions s r → (strings_in (bytes ++ terminated s) ≡ strings_in bytes ++ s ∷ []) × IsIndexed (bytes ++ terminated s) (insert positions r (length bytes))
@@ -148,7 +160,7 @@ indexed_push bytes positions s r table free stands =
       },
     )
 
-AllPairs-take : {X : Type 0} (R : X → X → Type 0) (n : ℕ) (xs : List X) → AllPairs R xs → AllPairs R (take n xs)
+pub AllPairs-take : {X : Type 0} (R : X → X → Type 0) (n : ℕ) (xs : List X) → AllPairs R xs → AllPairs R (take n xs)
 AllPairs-take R n xs h = λ i j d less within.
     let short = length-take n xs in
     let first : get_or (take n xs) i d ≡ get_or xs i d = get_or-take n xs i d (omega arith) in
@@ -240,7 +252,7 @@ nothing_after bytes positions strings n m table is_strings is_mark long =
     let none : length (data_of (drop n strings)) ≡ 0 = omega (arith, parts, whole, length-append (data_of (take n strings)) (data_of (drop n strings))) in
     sym (take-append-drop n strings) ∙ ap (λ l. take n strings ++ l) (data_of-none (drop n strings) none) ∙ append-nil (take n strings)
 
-strings_few : (ss : List (List ℕ)) → length ss ≤ length (data_of ss)
+pub strings_few : (ss : List (List ℕ)) → length ss ≤ length (data_of ss)
 strings_few [] = omega arith
 strings_few (s ∷ ss) = omega (arith, strings_few ss, length-data_of-cons s ss)
 

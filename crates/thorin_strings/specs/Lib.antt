@@ -3,3 +3,4 @@ pub mod StringOffsets
 pub mod Marks
 pub mod Chunks
 pub mod Rewritten
+pub mod Grown

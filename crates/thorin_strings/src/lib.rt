@@ -1,8 +1,12 @@
 //! The strings of a package: the table of distinct strings, and string offsets rewritten into it.
 #![tactic(auto)]
 
+mod batch;
+mod guess;
 mod laws;
+mod merge;
 mod offsets;
+mod order;
 mod positions;
 mod search;
 mod table;

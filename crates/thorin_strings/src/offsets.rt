@@ -1,4 +1,4 @@
-ghost use Rattle.std.specs.Prelude.{◌≡◌, ◌≤◌, ◌<◌, ◌+◌, ◌*◌, ◌^◌, ◌++◌, length, take, OnOk, OnErr, IfOk};
+ghost use Rattle.std.specs.Prelude.{◌≡◌, ◌≤◌, ◌<◌, ◌+◌, ◌*◌, ◌^◌, ◌++◌, length, take, Ok, OnOk, OnErr, IfOk, IsNone, IfSome};
 ghost use Rattle.dwp_base.specs.Numbers.{number_bytes};
 ghost use Rattle.dwp_base.specs.Reading.{Answers};
 ghost use Rattle.dwp_reader.specs.Encoding.{offset_size};
@@ -24,7 +24,7 @@ fn length_limit(format: Format) -> u64
 }
 
 /// The largest offset of the format.
-fn offset_limit(format: Format) -> u64
+pub(crate) fn offset_limit(format: Format) -> u64
     ensures { result ≡ offset_limit format }
 {
     match format {
@@ -34,7 +34,7 @@ fn offset_limit(format: Format) -> u64
 }
 
 /// Appends a number that fits the format's offset size.
-fn push_offset(
+pub(crate) fn push_offset(
     out: &mut Vec<u8>,
     endian: Endianness,
     format: Format,
@@ -96,7 +96,7 @@ fn offset_at(bytes: &[u8], endian: Endianness, format: Format, at: u64) -> Resul
 
 /// The string that the entry of a number names.
 #[tactic(auto, unfolding(crate::specs::StringOffsets::named_at))]
-fn named_at<'a>(
+pub(crate) fn named_at<'a>(
     debug_str: &'a [u8],
     debug_str_offsets: &[u8],
     endian: Endianness,
@@ -142,12 +142,49 @@ impl PackageStringTable {
         ensures kept { take (length self.old) self.new ≡ self.old }
         ensures err { OnErr result (self.new ≡ self.old) }
     {
+        if let Some(range) = self.remapped_together(
+            debug_str,
+            debug_str_offsets,
+            section_size,
+            endian,
+            encoding,
+        ) {
+            return Ok(range);
+        }
         let mark = self.mark();
         let result = self.remapped(debug_str, debug_str_offsets, section_size, endian, encoding);
         if result.is_err() {
             self.truncate(mark);
         }
         result
+    }
+
+    /// The same of a range that is whole, with its new strings entered together. None where it refuses,
+    /// and where that can't be done; the table is then as it was.
+    #[tactic(auto, unfolding(crate::specs::StringOffsets::remapped))]
+    fn remapped_together(
+        &mut self,
+        debug_str: &[u8],
+        debug_str_offsets: &[u8],
+        section_size: u64,
+        endian: Endianness,
+        encoding: Encoding,
+    ) -> Option<Vec<u8>>
+        ensures meaning { IfSome result (λ bytes.
+            remapped endian encoding debug_str.now debug_str_offsets.now section_size self.old ≡ Ok (bytes.items, self.new)) }
+        ensures kept { take (length self.old) self.new ≡ self.old }
+        ensures none { IsNone result → self.new ≡ self.old }
+    {
+        let header_size = encoding.string_offsets_header_size() as u64;
+        let is_whole = section_size <= debug_str_offsets.len() as u64;
+        if section_size == 0 || section_size < header_size || !is_whole {
+            return None;
+        }
+        let entry_size = encoding.format.offset_size() as u64;
+        let count = encoding.string_offsets_count(section_size);
+        let mut first = header(self.allocator(), endian, encoding, count * entry_size).ok()?;
+        first.reserve((count * entry_size) as usize).ok()?;
+        self.place_entries(debug_str, debug_str_offsets, endian, encoding, count, first)
     }
 
     /// The same, but that a refusal leaves what was added before it.

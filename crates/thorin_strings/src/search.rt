@@ -4,12 +4,13 @@ ghost use Rattle.std.specs.Cmp.Lexicographic.{slice_cmp};
 ghost use Rattle.dwp_reader.specs.StringOffsets.{string_from};
 ghost use Rattle.thorin_strings.specs.Strings.{strings_in, offset_of, IsZeroFree, IsIndexed, BeginsAt, StandsAt, IsWithinDigits};
 
+use crate::guess::{Guesses, hash_of};
 use crate::positions::Positions;
 use std::cmp::Ordering;
 
 /// How the string at a place stands to one without zero bytes. Its end isn't looked for: as many bytes as
 /// the other has decide, and where they are the same, whether a zero follows them.
-fn compare_at(bytes: &[u8], at: usize, string: &[u8]) -> Ordering
+pub(crate) fn compare_at(bytes: &[u8], at: usize, string: &[u8]) -> Ordering
     requires within { at ≤ length bytes.now }
     requires zero_free { IsZeroFree string.now }
     ensures { result ≡ slice_cmp nat_cmp (string_from bytes.now at) string.now }
@@ -29,6 +30,14 @@ fn begins_at(bytes: &[u8], at: usize) -> bool
     ensures { IsTrue result ↔ BeginsAt bytes.now at }
 {
     at < bytes.len() && (at == 0 || bytes[at - 1] == 0)
+}
+
+/// Whether a string begins at a place of a section of ended strings and is this one.
+pub(crate) fn stands_at(bytes: &[u8], at: usize, string: &[u8]) -> bool
+    requires { IsZeroFree string.now }
+    ensures { IsTrue result ↔ (BeginsAt bytes.now at × (string_from bytes.now at ≡ string.now)) }
+{
+    begins_at(bytes, at) && compare_at(bytes, at, string).is_eq()
 }
 
 /// What a search found: where the string begins, or the rank at which it would stand, and how many
@@ -75,10 +84,12 @@ pub(crate) fn search(bytes: &[u8], positions: &Positions, string: &[u8]) -> Foun
     }
 }
 
-/// Looks for a string of a table at a place, and where it isn't there, among all.
+/// Looks for a string of a table at a place, then where its hash guesses, and where it isn't there, among
+/// all.
 pub(crate) fn find_near(
     bytes: &[u8],
     positions: &Positions,
+    guesses: &Guesses,
     near: usize,
     string: &[u8],
 ) -> Result<usize, usize>
@@ -88,8 +99,11 @@ pub(crate) fn find_near(
         × (place ≡ offset_of (strings_in bytes.now) string.now)) }
     ensures absent { IfErr result (StandsAt bytes.now positions.now string.now) }
 {
-    if begins_at(bytes, near) && compare_at(bytes, near, string).is_eq() {
+    if stands_at(bytes, near, string) {
         return Ok(near);
     }
-    search(bytes, positions, string).place
+    match guesses.find(bytes, string, hash_of(string)) {
+        Some(place) => Ok(place),
+        None => search(bytes, positions, string).place,
+    }
 }

@@ -1,12 +1,22 @@
-ghost use Rattle.std.specs.Prelude.{◌≡◌, ◌↔◌, [], length, take, OnOk, IfOk, IfErr, IsSome, IfSome, IsTrue, Contains};
+ghost use Rattle.std.specs.Prelude.{◌≡◌, ◌↔◌, ◌+◌, ◌*◌, ◌<◌, ◌^◌, ◌++◌, ℕ, List, [], length, take, filter, nat_lt, Ok, OnOk, IfOk, IfErr, IsSome, IfSome, IsNone, IsTrue, Contains};
+ghost use Rattle.dwp_reader.specs.Encoding.{offset_size};
+ghost use Rattle.dwp_reader.specs.StringOffsets.{header_size};
+ghost use Rattle.thorin_strings.specs.StringOffsets.{remapped_entries, entry_bytes};
 ghost use Rattle.thorin_strings.specs.Strings.{data_of, offset_of, with_string, IsZeroFree, IsTable, IsWithinDigits};
 ghost use Rattle.thorin_strings.specs.Marks.{mark_of};
 
+use crate::batch::Batch;
+use crate::guess::{Guesses, hash_of};
+use crate::merge::enter_all;
+use crate::order::order;
 use crate::positions::Positions;
 use crate::search::{find_near, search};
+use dwp_base::Endianness;
+use dwp_reader::Encoding;
 use memchr::memchr;
 use std::alloc::Global;
 use std::marker::Model;
+use std::mem::replace;
 use thorin_faults::Error;
 
 /// Where a string begins in `.debug_str.dwo` of the package.
@@ -25,13 +35,15 @@ pub struct TableMark {
 /// The distinct strings of a package, in order of first use. A clause sees the table as their list.
 ///
 /// No string is copied but into the data; beside it the table keeps where each begins, in the order
-/// of the strings, and the place behind the string that was found last: inputs that share strings
-/// often use them in the same order, so a string is looked for there first.
+/// of the strings, guesses of that by hashes, and the place behind the string that was found last:
+/// inputs that share strings often use them in the same order, so a string is looked for there first,
+/// then where its hash guesses, and then by the order.
 #[derive(Drop)]
 pub struct PackageStringTable {
     alloc: Global,
     bytes: Vec<u8>,
     positions: Positions,
+    guesses: Guesses,
     next: usize,
 }
 
@@ -46,6 +58,15 @@ impl Model for PackageStringTable {
     ghost invariant = { λ t. IsIndexed t.bytes.items t.positions };
 }
 
+/// Forgets what came after so many bytes.
+fn forget(bytes: &mut Vec<u8>, positions: &mut Positions, mark: usize)
+    ensures data { bytes.new.items ≡ take mark bytes.old.items }
+    ensures positions { positions.new ≡ filter (λ p. nat_lt p mark) positions.old }
+{
+    bytes.truncate(mark);
+    positions.keep_below(mark as u64);
+}
+
 impl PackageStringTable {
     /// A table without strings, which takes no memory.
     pub fn new(alloc: Global) -> Self
@@ -55,6 +76,7 @@ impl PackageStringTable {
             alloc,
             bytes: Vec::new(alloc),
             positions: Positions::new(alloc),
+            guesses: Guesses::new(alloc),
             next: 0,
         }
     }
@@ -113,7 +135,8 @@ impl PackageStringTable {
         ensures kept { take (length self.old) self.new ≡ self.old }
         ensures err { IfErr result (λ e. (e ≡ Error.Memory) × (self.new ≡ self.old)) }
     {
-        match find_near(self.bytes.as_slice(), &self.positions, self.next, string) {
+        let bytes = self.bytes.as_slice();
+        match find_near(bytes, &self.positions, &self.guesses, self.next, string) {
             Ok(offset) => {
                 self.next = offset + string.len() + 1;
                 Ok(PackageStringOffset(offset))
@@ -124,9 +147,66 @@ impl PackageStringTable {
                 self.positions.insert(rank, offset as u64)?;
                 self.bytes.extend_from_slice(string).unwrap();
                 self.bytes.push(0).unwrap();
+                self.guesses.enter(hash_of(string), offset);
                 Ok(PackageStringOffset(offset))
             }
         }
+    }
+
+    /// Appends the offsets of the strings that the first entries name to some bytes. New strings are
+    /// entered together: what no guess knows is taken for new, and once all are compared in their order,
+    /// no two are equal and none was there. None where two are, where an entry can't be read or the
+    /// format can't hold its offset, and for want of memory; the table is then as it was.
+    pub(crate) fn place_entries(
+        &mut self,
+        debug_str: &[u8],
+        debug_str_offsets: &[u8],
+        endian: Endianness,
+        encoding: Encoding,
+        count: u64,
+        first: Vec<u8>,
+    ) -> Option<Vec<u8>>
+        requires { header_size encoding + count * offset_size encoding.format < 2 ^ 64 }
+        ensures entries { IfSome result (λ bytes. (offsets : List ℕ)
+            × (remapped_entries endian encoding debug_str.now debug_str_offsets.now count self.old ≡ Ok (offsets, self.new))
+            × (bytes.items ≡ first.items ++ entry_bytes endian encoding.format offsets)) }
+        ensures kept { take (length self.old) self.new ≡ self.old }
+        ensures none { IsNone result → self.new ≡ self.old }
+    {
+        let mark = self.bytes.len();
+        let mut batch = Batch {
+            bytes: replace(&mut self.bytes, Vec::new(self.alloc)),
+            guesses: replace(&mut self.guesses, Guesses::new(self.alloc)),
+            next: self.next,
+            places: Vec::new(self.alloc),
+        };
+        let range = batch.place_entries(
+            debug_str,
+            debug_str_offsets,
+            endian,
+            encoding,
+            count,
+            first,
+        );
+        let Batch {
+            bytes,
+            guesses,
+            next,
+            mut places,
+        } = batch;
+        self.bytes = bytes;
+        self.guesses = guesses;
+        self.next = next;
+        let Some(range) = range else {
+            forget(&mut self.bytes, &mut self.positions, mark);
+            return None;
+        };
+        order(self.alloc, self.bytes.as_slice(), &mut places);
+        if !enter_all(self.bytes.as_slice(), &mut self.positions, &places) {
+            forget(&mut self.bytes, &mut self.positions, mark);
+            return None;
+        }
+        Some(range)
     }
 
     /// How much the table holds now, to which `truncate` goes back.

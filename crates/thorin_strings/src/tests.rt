@@ -1,3 +1,4 @@
+use crate::guess::hash_of;
 use crate::{PackageStringOffset, PackageStringTable};
 use dwp_base::Endianness;
 use dwp_reader::{Encoding, Format, ReadError};
@@ -175,6 +176,45 @@ fn many_strings_are_found_as_from_the_front(rt: HostRuntime) -> Result<(), Fail>
     assert!(rt; rewritten.as_slice() == range.as_slice());
     assert!(rt; table.data() == data.as_slice());
     assert!(rt; table.len() > 1024);
+    Ok(())
+}
+
+/// Strings of three bytes, whose hashes have the same last ten bits.
+fn alike(alloc: Global, count: usize) -> Result<Vec<u8>, AllocError> {
+    let mut section = Vec::new(alloc);
+    let mut found: usize = 0;
+    for number in 0..1_000_000u32 {
+        let string = [
+            b'a' + (number % 26) as u8,
+            b'a' + (number / 26 % 26) as u8,
+            1 + (number / 676 % 200) as u8,
+        ];
+        if found < count && hash_of(&string) & 1023 == 5 {
+            section.extend_from_slice(&string)?;
+            section.push(0)?;
+            found = found.saturating_add(1);
+        }
+    }
+    Ok(section)
+}
+
+/// Of more than sixteen such strings some have no guess. Used twice in a range, and again in another, they
+/// are found all the same.
+#[test]
+fn strings_without_a_guess_are_found(rt: HostRuntime) -> Result<(), Fail> {
+    let little = Endianness::Little;
+    let section = alike(rt.alloc(), 40)?;
+    assert_eq!(rt; section.len(), 160);
+    let mut offsets = Vec::new(rt.alloc());
+    for i in 0..80u32 {
+        offsets.extend_from_slice(&(i % 40 * 4).to_le_bytes())?;
+    }
+    let mut table = PackageStringTable::new(rt.alloc());
+    for _ in 0..2 {
+        let range = table.remap_str_offsets_section(&section, &offsets, 320, little, GNU)?;
+        assert!(rt; range.as_slice() == offsets.as_slice());
+        assert!(rt; table.data() == section.as_slice());
+    }
     Ok(())
 }
 

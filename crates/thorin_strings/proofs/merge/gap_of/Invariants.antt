@@ -1,0 +1,15 @@
+use Rattle.std.proofs.Common.{ℕ, ◌<◌, ◌≤◌, ◌-◌, length, slice_index}
+use Rattle.dwp_reader.specs.StringOffsets.{string_from}
+use Rattle.thorin_strings.specs.Strings.{IsBefore}
+use Rattle.thorin_strings.proofs.merge.gap_of.Given as goal
+
+abbrev pub invariant-loop-low : goal.invariant-loop-low
+invariant-loop-low l = record {
+  ordered : l.low ≤ l.high;
+  within : l.high ≤ length l.positions;
+  before : (k : ℕ) → k < l.low → IsBefore (string_from l.bytes (slice_index l.positions k)) l.string;
+  behind : (k : ℕ) → l.high ≤ k → k < length l.positions → IsBefore l.string (string_from l.bytes (slice_index l.positions k));
+}
+
+abbrev pub decreases-loop-low : goal.decreases-loop-low
+decreases-loop-low l = l.high - l.low
