@@ -4,3 +4,4 @@ pub mod TableForward
 pub mod UnitsForward
 pub mod UnitLists
 pub mod PastEnd
+pub mod Grammar

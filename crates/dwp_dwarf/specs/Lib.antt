@@ -3,6 +3,7 @@ pub mod Attributes
 pub mod Declarations
 pub mod Entries
 pub mod Forms
+pub mod Grammar
 pub mod Offsets
 pub mod Sections
 pub mod Strings

@@ -5,6 +5,7 @@ mod abbreviation;
 mod entry;
 mod form;
 mod header;
+mod laws;
 mod offset;
 mod roots;
 mod strings;
@@ -21,6 +22,7 @@ pub use dwp_reader::{
 };
 pub use entry::{Attribute, Attributes, RootEntry};
 pub use header::{UnitHeader, UnitHeaders, UnitSection, UnitType};
+pub use laws::declarations_are_found_first;
 pub use roots::root;
 pub use strings::StringSections;
 pub use text::attr_string;
