@@ -5,3 +5,4 @@ pub mod UnitsForward
 pub mod UnitLists
 pub mod PastEnd
 pub mod Grammar
+pub mod Values

@@ -8,3 +8,4 @@ pub mod Offsets
 pub mod Sections
 pub mod Strings
 pub mod Units
+pub mod Values

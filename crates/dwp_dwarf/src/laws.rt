@@ -1,4 +1,5 @@
 ghost use Rattle.dwp_dwarf.specs.Grammar.{FoundIsFirst, AbsentIsNowhere, FaultIsBefore};
+ghost use Rattle.dwp_dwarf.specs.Values.{RootValuesLie};
 
 use dwp_reader::lebs_take_bytes;
 
@@ -9,6 +10,14 @@ pub fn declarations_are_found_first()
     ensures found { FoundIsFirst }
     ensures absent { AbsentIsNowhere }
     ensures fault { FaultIsBefore }
+{
+    lebs_take_bytes();
+}
+
+/// The values of a root entry's attributes lie one after the other in the bytes of its unit, behind the header and
+/// the entry's code, as the abbreviation of the code lists them. It does nothing.
+pub fn root_values_lie_in_the_unit()
+    ensures { RootValuesLie }
 {
     lebs_take_bytes();
 }

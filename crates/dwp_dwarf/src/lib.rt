@@ -22,7 +22,7 @@ pub use dwp_reader::{
 };
 pub use entry::{Attribute, Attributes, RootEntry};
 pub use header::{UnitHeader, UnitHeaders, UnitSection, UnitType};
-pub use laws::declarations_are_found_first;
+pub use laws::{declarations_are_found_first, root_values_lie_in_the_unit};
 pub use roots::root;
 pub use strings::StringSections;
 pub use text::attr_string;
