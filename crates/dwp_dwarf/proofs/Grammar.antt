@@ -15,7 +15,7 @@ pub by_answer : {A E : Type 0} (P : Type 0) (r : Result A E) → ((x : A) → r 
 by_answer P (Ok x) ok err = ok x refl
 by_answer P (Err e) ok err = err e refl
 
-by_bool : (P : Type 0) (b : Bool) → (b ≡ true → P) → (b ≡ false → P) → P
+pub by_bool : (P : Type 0) (b : Bool) → (b ≡ true → P) → (b ≡ false → P) → P
 by_bool P true left right = left refl
 by_bool P false left right = right refl
 

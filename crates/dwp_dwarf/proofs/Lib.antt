@@ -6,3 +6,4 @@ pub mod UnitLists
 pub mod PastEnd
 pub mod Grammar
 pub mod Values
+pub mod Remembered

@@ -37,7 +37,7 @@ Behind i j = (n : ℕ) × IsBehind n i j
 then_behind : (i j k : Input) → Behind i j → Behind j k → Behind i k
 then_behind i j k p q = (p.0 + q.0, IsBehind-then p.0 q.0 i j k p.1 q.1)
 
-after-zero : (i : Input) → after 0 i ≡ i
+pub after-zero : (i : Input) → after 0 i ≡ i
 after-zero i = rw add-zero refl
 
 none_behind : (i : Input) → IsBehind 0 i i

@@ -5,6 +5,7 @@ pub mod Entries
 pub mod Forms
 pub mod Grammar
 pub mod Offsets
+pub mod Remembered
 pub mod Sections
 pub mod Strings
 pub mod Units

@@ -2,6 +2,7 @@
 #![tactic(auto)]
 
 mod abbreviation;
+mod cache;
 mod entry;
 mod form;
 mod header;
@@ -15,6 +16,7 @@ mod units;
 mod value;
 
 pub use abbreviation::{Abbreviation, Abbreviations};
+pub use cache::AbbreviationCache;
 pub use dwp_base::Endianness;
 pub use dwp_reader::{
     Encoding, Format, ReadError, Reader, Relocate, Relocation, RelocationEntry, SliceReader,
