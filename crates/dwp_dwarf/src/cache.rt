@@ -18,8 +18,9 @@ use std::alloc::Global;
 use std::collections::BTreeMap;
 use std::marker::Model;
 
-/// The abbreviations of a section, with what was read of the table at hand: units that use one table, one after the
-/// other, read it once. It answers as `Abbreviations` does, also where there is no memory to remember more.
+/// The abbreviations of a section, with what was read of the table at hand: units that use one
+/// table, one after the other, read it once. It answers as `Abbreviations` does, also where there
+/// is no memory to remember more.
 #[derive(Drop)]
 pub struct AbbreviationCache<R: Reader> {
     section: R,
@@ -62,11 +63,11 @@ impl<R: Reader> AbbreviationCache<R> {
         self.section
     }
 
-    /// What `Abbreviations::get` says of a code in the table at that offset of the section, want of memory
-    /// aside: that is never met. OffsetOutOfRange past the section's end.
+    /// What `Abbreviations::get` says of a code in the table at that offset of the section, want of
+    /// memory aside: that is never met. OffsetOutOfRange past the section's end.
     ///
-    /// While the offset stays the same no declaration is read twice, where there is memory to remember it. Another
-    /// offset forgets the table at hand.
+    /// While the offset stays the same no declaration is read twice, where there is memory to
+    /// remember it. Another offset forgets the table at hand.
     pub fn get(&mut self, offset: u64, code: u64) -> Result<Option<Abbreviation<R>>, ReadError>
         ensures declared { (table : Input) → from_at offset (R.input self.old) ≡ Ok table → Answers (found_of R.input) result (declaration code table) }
         ensures outside { (e : ReadError) → from_at offset (R.input self.old) ≡ Err e → result ≡ Err e }
@@ -97,8 +98,8 @@ fn next_declaration<R: Reader>(mut at: R) -> Result<Option<(u64, Abbreviation<R>
     Ok(Some((code, abbreviation, at)))
 }
 
-/// Remembers the next declaration of a table, unless one of its code is remembered: the first counts. False where there
-/// is no memory for it.
+/// Remembers the next declaration of a table, unless one of its code is remembered: the first
+/// counts. False where there is no memory for it.
 fn remember<R: Reader>(
     known: &mut BTreeMap<u64, Abbreviation<R>>,
     code: u64,
@@ -115,8 +116,8 @@ fn remember<R: Reader>(
     known.insert(code, abbreviation).is_ok()
 }
 
-/// Reads on in a table up to a code that isn't remembered, and remembers what is read. Without memory it reads
-/// on and remembers nothing.
+/// Reads on in a table up to a code that isn't remembered, and remembers what is read. Without
+/// memory it reads on and remembers nothing.
 fn read_on<R: Reader>(
     known: &mut BTreeMap<u64, Abbreviation<R>>,
     rest: &mut R,
