@@ -1,6 +1,8 @@
 ghost use Rattle.std.specs.Prelude.{◌≡◌};
 ghost use Rattle.dwp_base.specs.Sections.{name_of, compressed_name_of, is_named, all_kinds, kind_named, rank_of, same_kind};
 
+use std::fmt::{Debug, Formatter, Write};
+
 /// The sections of a split DWARF object and of a package: ten that a unit has a contribution to,
 /// the strings and the two indexes (DWARF 5, 7.3.5; the GNU page DebugFissionDWP).
 #[derive(Clone, Copy, Debug, PartialEq, Eq, Hash)]
@@ -126,8 +128,14 @@ impl SectionKind {
 }
 
 /// Where a contribution begins in its section, in bytes.
-#[derive(Clone, Copy, Debug, PartialEq, Eq, Hash)]
+#[derive(Clone, Copy, PartialEq, Eq, Hash)]
 pub struct ContributionOffset(pub u64);
+
+impl Debug for ContributionOffset {
+    fn fmt<W: Write>(&self, f: &mut Formatter<W>) -> std::fmt::Result {
+        write!(f, "ContributionOffset({:#x})", self.0)
+    }
+}
 
 /// A unit's part of a section: its place and its size, both in bytes.
 #[derive(Clone, Copy, Debug, PartialEq, Eq, Hash)]

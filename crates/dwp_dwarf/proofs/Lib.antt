@@ -4,3 +4,6 @@ pub mod TableForward
 pub mod UnitsForward
 pub mod UnitLists
 pub mod PastEnd
+pub mod Grammar
+pub mod Values
+pub mod Remembered

@@ -14,7 +14,7 @@ abbrev Lengths : Type 0
 Lengths = Result ((Format × ℕ) × Input) ReadError
 
 -- an initial length takes 4 or 12 bytes
-initial_length_is : (i : Input) (p : (Format × ℕ) × Input) → initial_length_at i ≡ Ok p → (n : ℕ) × (0 < n) × IsBehind n i p.1
+pub initial_length_is : (i : Input) (p : (Format × ℕ) × Input) → initial_length_at i ≡ Ok p → (n : ℕ) × (0 < n) × IsBehind n i p.1
 unfolding initial_length_at
 initial_length_is i p e =
     let wide : ℕ × Input → Lengths = λ n. number_at 8 n.1 >>= λ m. Ok ((Dwarf64, m.0), m.1) in
@@ -53,7 +53,7 @@ newer_keeps format whole i u e =
     let d = bind_ok (unit_type_at a.0.0 format c.0.1) _ u c.2 in
     cc
 
-header_keeps : (section : UnitSection) (format : Format) (whole i : Input) (u : Unit) → header_at section format whole i ≡ Ok u → u.whole ≡ whole
+pub header_keeps : (section : UnitSection) (format : Format) (whole i : Input) (u : Unit) → header_at section format whole i ≡ Ok u → u.whole ≡ whole
 unfolding header_at
 header_keeps section format whole i u e =
     let a = bind_ok (number_at 2 i) _ u e in

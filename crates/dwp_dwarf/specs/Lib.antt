@@ -3,7 +3,10 @@ pub mod Attributes
 pub mod Declarations
 pub mod Entries
 pub mod Forms
+pub mod Grammar
 pub mod Offsets
+pub mod Remembered
 pub mod Sections
 pub mod Strings
 pub mod Units
+pub mod Values

@@ -2,9 +2,11 @@
 #![tactic(auto)]
 
 mod abbreviation;
+mod cache;
 mod entry;
 mod form;
 mod header;
+mod laws;
 mod offset;
 mod roots;
 mod strings;
@@ -14,6 +16,7 @@ mod units;
 mod value;
 
 pub use abbreviation::{Abbreviation, Abbreviations};
+pub use cache::AbbreviationCache;
 pub use dwp_base::Endianness;
 pub use dwp_reader::{
     Encoding, Format, ReadError, Reader, Relocate, Relocation, RelocationEntry, SliceReader,
@@ -21,6 +24,7 @@ pub use dwp_reader::{
 };
 pub use entry::{Attribute, Attributes, RootEntry};
 pub use header::{UnitHeader, UnitHeaders, UnitSection, UnitType};
+pub use laws::{declarations_are_found_first, root_values_lie_in_the_unit};
 pub use roots::root;
 pub use strings::StringSections;
 pub use text::attr_string;

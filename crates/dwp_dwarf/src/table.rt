@@ -75,7 +75,7 @@ fn read_children<R: Reader>(reader: &mut R) -> Result<bool, ReadError>
 
 /// A declaration behind its code.
 #[tactic(auto, unfolding(crate::specs::Abbreviations::declaration_at))]
-fn read_declaration<R: Reader>(reader: &mut R) -> Result<Abbreviation<R>, ReadError>
+pub(crate) fn read_declaration<R: Reader>(reader: &mut R) -> Result<Abbreviation<R>, ReadError>
     ensures { Reads (declaration_of R.input) result (R.input reader.old) (R.input reader.new) declaration_at }
 {
     let mut specifications = *reader;

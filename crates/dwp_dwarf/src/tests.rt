@@ -10,6 +10,7 @@ use Endianness::Little;
 use rows::{Answer, ROWS};
 use std::test::Fail;
 
+mod cache;
 mod objects;
 mod rows;
 

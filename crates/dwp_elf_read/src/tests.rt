@@ -1,6 +1,7 @@
 use super::*;
 use dwp_base::{Class, Endianness};
 use std::alloc::{AllocError, Global};
+use std::io;
 use std::process::Abort;
 use std::test::Fail;
 
@@ -374,4 +375,54 @@ fn archives(rt: HostRuntime) {
         Err(ReadError::TooShort)
     );
     assert!(rt; ElfFile::parse(b"!<arch>\n12345678").err() == Some(ReadError::NotElf));
+}
+
+#[test]
+fn texts_of_faults(rt: HostRuntime) -> Result<(), Fail> {
+    for (fault, text) in [
+        (ReadError::TooShort, "File is too short"),
+        (ReadError::NotElf, "File is not ELF"),
+        (ReadError::ByteOrder, "Unknown byte order"),
+        (ReadError::Version, "Unknown ELF version"),
+        (
+            ReadError::SectionTable,
+            "Section headers are outside the file",
+        ),
+        (
+            ReadError::SectionEntrySize,
+            "Section headers have a wrong size",
+        ),
+        (
+            ReadError::NameTable,
+            "Section name table is outside the file",
+        ),
+        (ReadError::NameRange, "Section name can't be read"),
+        (
+            ReadError::SectionRange,
+            "Section content is outside the file",
+        ),
+        (ReadError::SymbolTable, "Symbol table can't be read"),
+        (
+            ReadError::SymbolIndex,
+            "Symbol number is past the symbol table",
+        ),
+        (ReadError::RelocationTable, "Relocation table can't be read"),
+        (ReadError::Compressed, "Section is compressed"),
+    ] {
+        assert_eq!(rt; format!(in rt.alloc(); "{fault}")?.as_str(), text);
+    }
+    for (fault, text) in [
+        (
+            WriteError::NumberTooLarge,
+            "Number is too large for the class of the file",
+        ),
+        (WriteError::Memory, "Out of memory"),
+        (
+            WriteError::Io(io::Error::from(io::ErrorKind::Other)),
+            "Writer failed",
+        ),
+    ] {
+        assert_eq!(rt; format!(in rt.alloc(); "{fault}")?.as_str(), text);
+    }
+    Ok(())
 }

@@ -103,14 +103,26 @@ fn look_ups_in_tables_of_identifiers(rt: HostRuntime) -> Result<(), Fail> {
     Ok(())
 }
 
+// A table of four slots, all used, over one row of one column: the last slot's row number is past the rows.
+const FULL: [u8; 76] = [
+    2, 0, 0, 0, 1, 0, 0, 0, 1, 0, 0, 0, 4, 0, 0, 0, 4, 0, 0, 0, 0, 0, 0, 0, 1, 0, 0, 0, 0, 0, 0, 0,
+    2, 0, 0, 0, 0, 0, 0, 0, 3, 0, 0, 0, 0, 0, 0, 0, 1, 0, 0, 0, 1, 0, 0, 0, 1, 0, 0, 0, 5, 0, 0, 0,
+    1, 0, 0, 0, 0, 0, 0, 0, 0x14, 0, 0, 0,
+];
+
 #[test]
 fn a_table_whose_every_slot_is_used(rt: HostRuntime) -> Result<(), Fail> {
-    let bytes = index(rt.alloc(), 1, &[(4, 1), (1, 1), (2, 1), (3, 5)])?;
-    let full = UnitIndex::parse(&bytes, Endianness::Little)?;
+    let full = UnitIndex::parse(&FULL, Endianness::Little)?;
     assert_eq!(rt; full.find_counted(4), (Some(1), 1));
     assert_eq!(rt; full.find_counted(9), (None, 4));
     assert_eq!(rt; full.find(3), Some(5));
     assert!(rt; matches!(full.row(5), Err(ReadError::RowOutOfRange)));
+    let info = Contribution {
+        offset: ContributionOffset(0),
+        size: 0x14,
+    };
+    assert_eq!(rt; full.row(1)?.range(SectionKind::Info), Some(info));
+    assert_eq!(rt; full.row(1)?.range(SectionKind::Abbrev), None);
     Ok(())
 }
 
@@ -254,5 +266,30 @@ fn damaged_headers(rt: HostRuntime) -> Result<(), Fail> {
         PackageFile::parse(&order).err(),
         Some(PackageError::Elf(ElfReadError::ByteOrder))
     );
+    Ok(())
+}
+
+#[test]
+fn texts_of_faults(rt: HostRuntime) -> Result<(), Fail> {
+    for (fault, text) in [
+        (
+            PackageError::Elf(ElfReadError::TooShort),
+            "Malformed ELF file: File is too short",
+        ),
+        (
+            PackageError::Index(ReadError::SlotCount),
+            "Malformed index: Bad number of slots in an index",
+        ),
+        (
+            PackageError::Range(SectionKind::Info),
+            "Range of a unit is outside its section",
+        ),
+        (
+            PackageError::Unit(ReadError::UnknownVersion),
+            "Malformed unit: Unknown DWARF version",
+        ),
+    ] {
+        assert_eq!(rt; format!(in rt.alloc(); "{fault}")?.as_str(), text);
+    }
     Ok(())
 }

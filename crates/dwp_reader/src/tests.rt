@@ -2,7 +2,7 @@ ghost use Rattle.std.specs.Prelude.{◌≡◌};
 
 use crate::{
     Encoding, Format, ReadError, Reader, Relocate, Relocation, RelocationEntry, SliceReader,
-    string_at,
+    WriteError, string_at,
 };
 use dwp_base::Endianness;
 use std::test::Fail;
@@ -174,4 +174,43 @@ fn string_offsets(rt: HostRuntime) {
     assert_eq!(rt; string_at(section, 6), Ok(b"ar".as_slice()));
     assert_eq!(rt; string_at(section, 9), Err(ReadError::NoTerminator));
     assert_eq!(rt; string_at(section, 14), Err(ReadError::OffsetOutOfRange));
+}
+
+#[test]
+fn texts_of_faults(rt: HostRuntime) -> Result<(), Fail> {
+    for (fault, text) in [
+        (ReadError::UnexpectedEof, "Unexpected end of data"),
+        (ReadError::ReservedLength, "Reserved unit length"),
+        (ReadError::UnknownVersion, "Unknown DWARF version"),
+        (ReadError::UnknownUnitType, "Unknown unit type"),
+        (ReadError::AddressSize, "Unknown address size"),
+        (ReadError::BigLeb, "LEB128 number is too large"),
+        (ReadError::UnknownForm, "Unknown form"),
+        (ReadError::ZeroTag, "Abbreviation with tag 0"),
+        (
+            ReadError::BadChildren,
+            "Bad byte on children in an abbreviation",
+        ),
+        (ReadError::UnknownCode, "Unknown abbreviation code"),
+        (ReadError::OffsetOutOfRange, "Offset is outside its section"),
+        (ReadError::NoTerminator, "String without a terminator"),
+        (ReadError::BadUtf8, "Text is no UTF-8"),
+        (ReadError::IndexVersion, "Unknown index version"),
+        (ReadError::SlotCount, "Bad number of slots in an index"),
+        (ReadError::UnknownColumn, "Unknown column in an index"),
+        (ReadError::RepeatedColumn, "Repeated column in an index"),
+        (
+            ReadError::RowOutOfRange,
+            "Row number is past the rows of the index",
+        ),
+        (ReadError::NotAString, "Attribute is no string"),
+    ] {
+        assert_eq!(rt; format!(in rt.alloc(); "{fault}")?.as_str(), text);
+    }
+    let fault = WriteError::ValueTooLarge;
+    assert_eq!(rt;
+        format!(in rt.alloc(); "{fault}")?.as_str(),
+        "Value is too large for its field"
+    );
+    Ok(())
 }

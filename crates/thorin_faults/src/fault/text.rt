@@ -160,8 +160,6 @@ impl Error {
     }
 }
 
-impl std::error::Error for Error {}
-
 /// The law of texts: each fault has one, but those that only pass on a cause. It does nothing.
 pub fn every_fault_has_a_text()
     ensures { (fault : Fault) → is_passed_on fault ≡ false → IsSome (fault_text fault) }

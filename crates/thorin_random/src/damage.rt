@@ -1,0 +1,106 @@
+ghost use Rattle.std.specs.Prelude.{◌<◌, IfSome};
+
+use crate::generator::Generator;
+use std::alloc::AllocError;
+
+/// Numbers at which formats have their limits.
+const LIMITS: [u32; 8] = [
+    0,
+    1,
+    0x7fff_ffff,
+    0x8000_0000,
+    0xffff_fff0,
+    0xffff_fffe,
+    0xffff_ffff,
+    0xffff,
+];
+
+/// Damages bytes in one to four places.
+pub fn damage(generator: &mut Generator, bytes: &mut Vec<u8>) -> Result<(), AllocError> {
+    for _ in 0..generator.below(4) + 1 {
+        if bytes.is_empty() {
+            return Ok(());
+        }
+        match generator.below(6) {
+            0 => change(generator, bytes),
+            1 => cut(generator, bytes),
+            2 => raise(generator, bytes),
+            3 => copy_over(generator, bytes),
+            4 => repeat(generator, bytes)?,
+            _ => flip(generator, bytes),
+        }
+    }
+    Ok(())
+}
+
+/// A place in so many bytes; None where there are none.
+fn place(generator: &mut Generator, length: usize) -> Option<usize>
+    ensures { IfSome result (λ at. at < length) }
+{
+    if length == 0 {
+        return None;
+    }
+    Some(generator.below(length))
+}
+
+/// A byte becomes another.
+fn change(generator: &mut Generator, bytes: &mut Vec<u8>) {
+    let byte = generator.byte();
+    if let Some(at) = place(generator, bytes.len()) {
+        bytes[at] = byte;
+    }
+}
+
+/// A bit of a byte is turned.
+fn flip(generator: &mut Generator, bytes: &mut Vec<u8>) {
+    let bit = generator.below(8) as u32;
+    if let Some(at) = place(generator, bytes.len()) {
+        bytes[at] ^= 1u8 << bit;
+    }
+}
+
+/// The end is cut off.
+fn cut(generator: &mut Generator, bytes: &mut Vec<u8>) {
+    if let Some(at) = place(generator, bytes.len()) {
+        bytes.truncate(at);
+    }
+}
+
+/// Four bytes become a number at a limit, in either order.
+fn raise(generator: &mut Generator, bytes: &mut Vec<u8>) {
+    let number = LIMITS[generator.below(8)];
+    let parts = if generator.below(2) == 0 {
+        number.to_le_bytes()
+    } else {
+        number.to_be_bytes()
+    };
+    if let Some(at) = place(generator, bytes.len()) {
+        for (place, part) in bytes.iter_mut().skip(at).zip(parts.iter()) {
+            *place = *part;
+        }
+    }
+}
+
+/// Up to 64 bytes are written over others, as a section's header over another's.
+fn copy_over(generator: &mut Generator, bytes: &mut Vec<u8>) {
+    let length = generator.below(64) + 1;
+    let Some(source) = place(generator, bytes.len()) else {
+        return
+    };
+    let Some(target) = place(generator, bytes.len()) else {
+        return
+    };
+    for i in 0..length {
+        if source + i < bytes.len() && target + i < bytes.len() {
+            bytes[target + i] = bytes[source + i];
+        }
+    }
+}
+
+/// The bytes from a place on come again at the end.
+fn repeat(generator: &mut Generator, bytes: &mut Vec<u8>) -> Result<(), AllocError> {
+    let Some(at) = place(generator, bytes.len()) else {
+        return Ok(())
+    };
+    bytes.extend_from_within(at..)
+}
