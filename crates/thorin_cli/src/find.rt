@@ -1,16 +1,16 @@
 //! `thorin find`.
 
-use crate::output::{Failure, read_failure};
+use crate::input::read_file;
+use crate::output::Failure;
 use clap::ArgMatches;
 use dwp_base::SectionKind;
 use dwp_index::{PackageFile, PackagedUnit};
 use dwp_reader::Format;
 use dwp_table::{Bucketable, DebugTypeSignature, DwarfObject, DwoId};
-use std::fs;
 use std::io::Write;
 
 /// The kinds of sections with contributions, in the order of an index's columns, with their short names.
-const COLUMNS: [(SectionKind, &'static str); 10] = [
+pub(crate) const COLUMNS: [(SectionKind, &'static str); 10] = [
     (SectionKind::Info, "info"),
     (SectionKind::Types, "types"),
     (SectionKind::Abbrev, "abbrev"),
@@ -23,17 +23,14 @@ const COLUMNS: [(SectionKind, &'static str); 10] = [
     (SectionKind::Macro, "macro"),
 ];
 
-/// Looks a unit up in a package and prints what belongs to it.
+/// Looks a unit up in a package and prints what belongs to it. Answers the status 0.
 pub(crate) fn find<O: Write>(
     rt: &HostRuntime,
     matches: &ArgMatches<'_>,
     out: &mut O,
-) -> Result<(), Failure> {
+) -> Result<u8, Failure> {
     let object = object(matches)?;
-    let bytes = match fs::read(rt, matches.get_str("file").unwrap_or("")) {
-        Ok(bytes) => bytes,
-        Err(e) => return Err(read_failure(&e)),
-    };
+    let bytes = read_file(rt, matches.get_str("file").unwrap_or(""))?;
     let Ok(package) = PackageFile::parse(bytes.as_slice()) else {
         return Err(Failure::Malformed);
     };
@@ -42,7 +39,10 @@ pub(crate) fn find<O: Write>(
     };
     match found {
         None => Err(Failure::NoUnit(object.index())),
-        Some(unit) => print(rt, out, object, &unit, slots),
+        Some(unit) => {
+            print(rt, out, object, &unit, slots)?;
+            Ok(0)
+        }
     }
 }
 
