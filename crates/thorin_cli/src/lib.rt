@@ -72,9 +72,11 @@ fn refuse<O: Write, E: Write>(error: &Error, out: &mut O, err: &mut E) -> u8 {
     if error.kind() == ErrorKind::OutOfMemory {
         report(err, &Failure::Memory)
     } else if error.use_stderr() {
-        show(err, error, 2)
+        if show(err, error) { 2 } else { 1 }
+    } else if show(out, error) {
+        0
     } else {
-        show(out, error, 0)
+        report(err, &Failure::Line)
     }
 }
 

@@ -48,7 +48,7 @@ impl fmt::Display for Failure {
             Failure::Package(fault) => write!(f, "{fault}"),
             Failure::Output => f.write_str("Failed to write output file"),
             Failure::Response => f.write_str("Failed to read response file"),
-            Failure::Line => f.write_str("Failed to write a line"),
+            Failure::Line => f.write_str("Failed to write standard output"),
             Failure::Input => f.write_str("Failed to read input file"),
             Failure::Malformed => f.write_str("Malformed package"),
             Failure::NoUnit(id) => write!(f, "Unit 0x{id:08x} is not in the package"),
@@ -95,10 +95,7 @@ pub(crate) fn report<W: Write>(err: &mut W, failure: &Failure) -> u8 {
     }
 }
 
-/// Prints a text as it is, and answers the status; 1 where it can't be printed.
-pub(crate) fn show<W: Write, D: fmt::Display>(writer: &mut W, text: &D, status: u8) -> u8 {
-    match write!(writer, "{text}") {
-        Ok(()) => status,
-        Err(_) => 1,
-    }
+/// Prints a text as it is, and answers whether it could.
+pub(crate) fn show<W: Write, D: fmt::Display>(writer: &mut W, text: &D) -> bool {
+    write!(writer, "{text}").is_ok()
 }
