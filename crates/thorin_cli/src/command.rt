@@ -5,34 +5,42 @@ use std::alloc::Global;
 
 const VERSION: &'static str = "0.10.0";
 
-const EXAMPLES: &'static str =
-    "Example: gcc -c -g -gsplit-dwarf hello.c && thorin pack -o hello.dwp hello.dwo && thorin list hello.dwp
+const EXAMPLES: &'static str = "Example:
+  gcc -c -g -gsplit-dwarf hello.c          leaves hello.o and hello.dwo
+  thorin pack -o hello.dwp hello.dwo       packs it
+  thorin list hello.dwp                    lists the units of the package
 
-A word @FILE stands for the words in FILE: whitespace separates them, quotation marks and
-backslashes keep it in a word. Where there is no such file the word stays as it is.";
+A word @FILE stands for the words in FILE. Whitespace separates these; quotation
+marks and backslashes keep it in a word. Without such a file the word stays.";
 
 const PACK_EXAMPLES: &'static str = "Examples:
   thorin pack -o hello.dwp hello.dwo       packs one object
-  thorin pack -o all.dwp @objects.txt      packs the objects that objects.txt names
-  thorin pack -o app.dwp -e app            packs the objects that the executable app refers to
+  thorin pack -o all.dwp @objects.txt      packs those that objects.txt names
+  thorin pack -o app.dwp -e app            packs those that app refers to
 
-Nothing is printed where all went well. At the first input that is refused a line `error: ` says why, and OUT isn't
-written: status 1.";
+Nothing is printed where all went well. At the first input that is refused a
+line `error: ` says why, and OUT isn't written: status 1.";
 
-const FIND_EXAMPLES: &'static str = "Example: thorin find hello.dwp cu 0x084a58cc96339e44
+const FIND_EXAMPLES: &'static str = "Example:
+  thorin find hello.dwp cu 0x084a58cc96339e44
 
-It prints the unit's encoding, the place and size of what it has in each section (hexadecimal), the number of its
-strings and the number of slots of the index that were looked at.";
+It prints the unit's encoding, the place and size of what it has in each section
+(hexadecimal), the number of its strings, and how many slots of the index were
+looked at.";
 
-const LIST_EXAMPLES: &'static str = "Example: thorin list hello.dwp
+const LIST_EXAMPLES: &'static str = "Example:
+  thorin list hello.dwp
 
-Each line has the kind, the identifier and the number of bytes of a unit. With --sizes it goes on with the bytes that
-the unit has in each kind of section, and lines `total` follow: the section's bytes in the file, those that units have,
-and those that would be added if no two units shared any.";
+Each line has the kind, the identifier and the number of bytes of a unit. With
+--sizes it goes on with the bytes that the unit has in each kind of section, and
+lines `total` follow: the section's bytes in the file, `units` those that units
+have, and `shared` those that would be added if no two units shared any.";
 
-const CHECK_EXAMPLES: &'static str = "Example: thorin check app.dwp -e app
+const CHECK_EXAMPLES: &'static str = "Example:
+  thorin check app.dwp -e app
 
-It prints a line for each fault, then how many units and faults there are. Status 1 where there are faults.";
+It prints a line for each fault, then how many units and faults there are.
+Status 1 where there are faults.";
 
 /// The program's command line: `pack`, `find`, `list` and `check`.
 pub(crate) fn command<'a>(alloc: Global) -> Result<Command<'a>, Error> {
@@ -64,7 +72,7 @@ pub(crate) fn peer<'a>(alloc: Global, name: &'a str) -> Result<Command<'a>, Erro
             .arg(output)?
             .arg(executables(
                 alloc,
-                "Executables whose objects are packed behind the inputs",
+                "Executables whose objects are packed, after all inputs",
             ))?
             .arg(verbose(alloc))?
             .arg(inputs(alloc))?,
@@ -83,7 +91,7 @@ fn pack<'a>(alloc: Global) -> Result<Command<'a>, Error> {
             .arg(output(alloc).required(true))?
             .arg(executables(
                 alloc,
-                "Executables whose objects are packed behind the inputs",
+                "Executables whose objects are packed, after all inputs",
             ))?
             .arg(skip_missing)?
             .arg(verbose(alloc))?

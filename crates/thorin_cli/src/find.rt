@@ -1,5 +1,6 @@
 //! `thorin find`.
 
+use crate::identifier::identifier;
 use crate::input::read_file;
 use crate::output::Failure;
 use clap::ArgMatches;
@@ -54,25 +55,6 @@ fn object(matches: &ArgMatches<'_>) -> Result<DwarfObject, Failure> {
         "tu" => Ok(DwarfObject::TypeUnit(DebugTypeSignature(identifier(id)?))),
         _ => Err(Failure::BadKind),
     }
-}
-
-/// 1 to 16 hexadecimal digits, with or without `0x` in front.
-pub(crate) fn identifier(text: &str) -> Result<u64, Failure> {
-    let digits = text.strip_prefix("0x").unwrap_or(text);
-    if digits.is_empty() || digits.len() > 16 {
-        return Err(Failure::BadIdentifier);
-    }
-    let mut id = 0u64;
-    for digit in digits.bytes() {
-        let value = match digit {
-            b'0'..=b'9' => digit - b'0',
-            b'a'..=b'f' => digit - b'a' + 10,
-            b'A'..=b'F' => digit - b'A' + 10,
-            _ => return Err(Failure::BadIdentifier),
-        };
-        id = id.wrapping_mul(16) | u64::from(value);
-    }
-    Ok(id)
 }
 
 fn print<O: Write>(

@@ -4,6 +4,7 @@
 mod check;
 mod command;
 mod find;
+mod identifier;
 mod input;
 mod list;
 mod output;
@@ -16,6 +17,7 @@ mod write;
 
 use clap::error::ErrorKind;
 use clap::{ArgMatches, Error};
+pub use identifier::hexadecimal;
 pub use output::Failure;
 use output::{report, show};
 use pack::Packing;

@@ -6,6 +6,7 @@ use crate::telling::{tell_refused, tell_taken, warn_differing};
 use crate::write::write_package;
 use bumpalo::Bump;
 use clap::ArgMatches;
+use dwp_elf::WritableObject;
 use dwp_reader::RelocationEntry;
 use dwp_table::DebugTypeSignature;
 use std::io::Write;
@@ -69,7 +70,20 @@ pub(crate) fn pack<E: Write>(
     let output = packing.output_name(rt)?;
     let bump = Bump::new(rt.alloc());
     let session = ArenaSession::new(rt, &bump);
-    let mut package = DwarfPackage::new(rt.alloc(), &session);
+    let package = DwarfPackage::new(rt.alloc(), &session);
+    let (object, differing) = packed(rt, packing, package, err)?;
+    write_package(rt, &object, output.as_str())?;
+    warn_differing(err, differing.as_slice())?;
+    Ok(0)
+}
+
+// The object to be written, and the signatures of type units that were passed over and differ from the ones kept.
+fn packed<'o, 's: 'o, Sess: Session<RelocationEntry>, E: Write>(
+    rt: &HostRuntime,
+    packing: &Packing<'_, '_>,
+    mut package: DwarfPackage<'o, 's, Sess>,
+    err: &mut E,
+) -> Result<(WritableObject, Vec<DebugTypeSignature>), Failure> {
     for input in packing.inputs.unwrap_or(&[]) {
         let before = package.contained_units().len();
         let outcome = add_input(rt, &mut package, input);
@@ -84,9 +98,7 @@ pub(crate) fn pack<E: Write>(
     }
     let differing = differing_types(rt, &package)?;
     let object = package.finish()?;
-    write_package(rt, &object, output.as_str())?;
-    warn_differing(err, differing.as_slice())?;
-    Ok(0)
+    Ok((object, differing))
 }
 
 fn add_input<'o, 's: 'o, Sess: Session<RelocationEntry>>(
