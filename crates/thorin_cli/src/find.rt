@@ -1,16 +1,17 @@
 //! `thorin find`.
 
-use crate::output::{Failure, read_failure};
+use crate::identifier::identifier;
+use crate::input::read_file;
+use crate::output::Failure;
 use clap::ArgMatches;
 use dwp_base::SectionKind;
 use dwp_index::{PackageFile, PackagedUnit};
 use dwp_reader::Format;
 use dwp_table::{Bucketable, DebugTypeSignature, DwarfObject, DwoId};
-use std::fs;
 use std::io::Write;
 
 /// The kinds of sections with contributions, in the order of an index's columns, with their short names.
-const COLUMNS: [(SectionKind, &'static str); 10] = [
+pub(crate) const COLUMNS: [(SectionKind, &'static str); 10] = [
     (SectionKind::Info, "info"),
     (SectionKind::Types, "types"),
     (SectionKind::Abbrev, "abbrev"),
@@ -23,17 +24,14 @@ const COLUMNS: [(SectionKind, &'static str); 10] = [
     (SectionKind::Macro, "macro"),
 ];
 
-/// Looks a unit up in a package and prints what belongs to it.
+/// Looks a unit up in a package and prints what belongs to it. Answers the status 0.
 pub(crate) fn find<O: Write>(
     rt: &HostRuntime,
     matches: &ArgMatches<'_>,
     out: &mut O,
-) -> Result<(), Failure> {
+) -> Result<u8, Failure> {
     let object = object(matches)?;
-    let bytes = match fs::read(rt, matches.get_str("file").unwrap_or("")) {
-        Ok(bytes) => bytes,
-        Err(e) => return Err(read_failure(&e)),
-    };
+    let bytes = read_file(rt, matches.get_str("file").unwrap_or(""))?;
     let Ok(package) = PackageFile::parse(bytes.as_slice()) else {
         return Err(Failure::Malformed);
     };
@@ -42,7 +40,10 @@ pub(crate) fn find<O: Write>(
     };
     match found {
         None => Err(Failure::NoUnit(object.index())),
-        Some(unit) => print(rt, out, object, &unit, slots),
+        Some(unit) => {
+            print(rt, out, object, &unit, slots)?;
+            Ok(0)
+        }
     }
 }
 
@@ -54,25 +55,6 @@ fn object(matches: &ArgMatches<'_>) -> Result<DwarfObject, Failure> {
         "tu" => Ok(DwarfObject::TypeUnit(DebugTypeSignature(identifier(id)?))),
         _ => Err(Failure::BadKind),
     }
-}
-
-/// 1 to 16 hexadecimal digits, with or without `0x` in front.
-pub(crate) fn identifier(text: &str) -> Result<u64, Failure> {
-    let digits = text.strip_prefix("0x").unwrap_or(text);
-    if digits.is_empty() || digits.len() > 16 {
-        return Err(Failure::BadIdentifier);
-    }
-    let mut id = 0u64;
-    for digit in digits.bytes() {
-        let value = match digit {
-            b'0'..=b'9' => digit - b'0',
-            b'a'..=b'f' => digit - b'a' + 10,
-            b'A'..=b'F' => digit - b'A' + 10,
-            _ => return Err(Failure::BadIdentifier),
-        };
-        id = id.wrapping_mul(16) | u64::from(value);
-    }
-    Ok(id)
 }
 
 fn print<O: Write>(

@@ -1,60 +1,113 @@
 //! The program `thorin`, as a function over its words and two writers.
 #![tactic(auto)]
 
+mod check;
 mod command;
 mod find;
+mod identifier;
+mod input;
 mod list;
 mod output;
 mod pack;
+mod response;
+mod sizes;
+mod telling;
+mod words;
+mod write;
 
-use clap::ArgMatches;
 use clap::error::ErrorKind;
+use clap::{ArgMatches, Error};
+pub use identifier::hexadecimal;
 pub use output::Failure;
+use output::{report, show};
+use pack::Packing;
 use std::convert::AsStr;
 use std::io::Write;
+pub use words::{quoted_words_are_read, split_words};
 
-/// Does what a command line asks for: `words` are the program's name and its arguments. What is
-/// printed goes to `out`, and a fault as one line `error: ` and its text to `err`. Answers the status: 0;
-/// 1 where the command was refused or a line can't be written; 2 for a bad command line.
+/// Does what a command line asks for: `words` are the program's name and its arguments, where `@FILE` stands for the
+/// words of a file. What is printed goes to `out`, and a fault as one line `error: ` and its text to `err`. Answers the
+/// status: 0; 1 where the command was refused, a package has faults or a line can't be written; 2 for a bad command
+/// line. Under the names `dwp` and `llvm-dwp` it takes the command lines of those programs.
 pub fn run<S: AsStr, O: Write, E: Write>(
     rt: &HostRuntime,
     words: &[S],
     out: &mut O,
     err: &mut E,
 ) -> u8 {
-    let command = match command::command(rt.alloc()) {
-        Ok(command) => command,
-        Err(_) => return output::report(err, &Failure::Memory),
-    };
-    match command.try_get_matches_from(words) {
-        Ok(matches) => {
-            match dispatch(rt, &matches, out) {
-                Ok(()) => 0,
-                Err(failure) => output::report(err, &failure),
-            }
-        }
-        Err(error) => {
-            if error.kind() == ErrorKind::OutOfMemory {
-                return output::report(err, &Failure::Memory);
-            }
-            if error.use_stderr() {
-                output::show(err, &error, 2)
-            } else {
-                output::show(out, &error, 0)
-            }
-        }
+    match response::expanded(rt, words) {
+        Ok(words) => run_words(rt, words.as_slice(), out, err),
+        Err(failure) => report(err, &failure),
     }
 }
 
-fn dispatch<O: Write>(
+/// What the program answers where a word of its command line isn't UTF-8.
+pub fn refuse_words<E: Write>(err: &mut E) -> u8 {
+    report(err, &Failure::BadCommand)
+}
+
+fn run_words<O: Write, E: Write>(
+    rt: &HostRuntime,
+    words: &[String],
+    out: &mut O,
+    err: &mut E,
+) -> u8 {
+    let peer = peer_name(words);
+    let command = match peer {
+        Some(name) => command::peer(rt.alloc(), name),
+        None => command::command(rt.alloc()),
+    };
+    match command {
+        Ok(command) => match command.try_get_matches_from(words) {
+            Ok(matches) => match dispatch(rt, &matches, peer.is_some(), out, err) {
+                Ok(status) => status,
+                Err(failure) => report(err, &failure),
+            },
+            Err(error) => refuse(&error, out, err),
+        },
+        Err(_) => report(err, &Failure::Memory),
+    }
+}
+
+// Prints what is said of a command line that asks for nothing to be done, help among it, and answers the status.
+fn refuse<O: Write, E: Write>(error: &Error, out: &mut O, err: &mut E) -> u8 {
+    if error.kind() == ErrorKind::OutOfMemory {
+        report(err, &Failure::Memory)
+    } else if error.use_stderr() {
+        if show(err, error) { 2 } else { 1 }
+    } else if show(out, error) {
+        0
+    } else {
+        report(err, &Failure::Line)
+    }
+}
+
+// The program's name where it is that of a peer, whose command lines it then takes.
+fn peer_name(words: &[String]) -> Option<&str> {
+    let path = words.first()?.as_str();
+    let name = path.rsplit('/').next()?;
+    match name {
+        "dwp" | "llvm-dwp" => Some(name),
+        _ => None,
+    }
+}
+
+// Does what the words ask for, and answers the status.
+fn dispatch<O: Write, E: Write>(
     rt: &HostRuntime,
     matches: &ArgMatches<'_>,
+    is_peer: bool,
     out: &mut O,
-) -> Result<(), Failure> {
+    err: &mut E,
+) -> Result<u8, Failure> {
+    if is_peer {
+        return pack::pack(rt, &Packing::of_peer(matches), err);
+    }
     match matches.subcommand() {
-        Some(("pack", matches)) => pack::pack(rt, matches),
+        Some(("pack", matches)) => pack::pack(rt, &Packing::of_command(matches), err),
         Some(("find", matches)) => find::find(rt, matches, out),
         Some(("list", matches)) => list::list(rt, matches, out),
+        Some(("check", matches)) => check::check(rt, matches, out),
         _ => Err(Failure::BadCommand),
     }
 }

@@ -1,58 +1,85 @@
 //! `thorin list`.
 
-use crate::find::short_kind;
-use crate::output::{Failure, read_failure};
+use crate::find::{COLUMNS, short_kind};
+use crate::input::read_file;
+use crate::output::{Failure, buffer_failure};
+use crate::sizes::Sizes;
 use clap::ArgMatches;
-use dwp_index::{PackageFile, UnitEntry};
+use dwp_index::{PackageFile, PackagedUnit, UnitEntry};
 use dwp_table::{Bucketable, DwarfObject};
-use std::fs;
-use std::io::Write;
+use std::io::{BufWriter, Write};
 
-/// Prints a line for each unit of a package: compilation units by row, then type units by row.
+/// Prints a line for each unit of a package: compilation units by row, then type units by row. With `--sizes` each line
+/// goes on with the unit's sizes, and totals follow. Answers the status 0.
 pub(crate) fn list<O: Write>(
     rt: &HostRuntime,
     matches: &ArgMatches<'_>,
     out: &mut O,
-) -> Result<(), Failure> {
+) -> Result<u8, Failure> {
     let alloc = rt.alloc();
-    let bytes = match fs::read(rt, matches.get_str("file").unwrap_or("")) {
-        Ok(bytes) => bytes,
-        Err(e) => return Err(read_failure(&e)),
-    };
+    let bytes = read_file(rt, matches.get_str("file").unwrap_or(""))?;
     let Ok(package) = PackageFile::parse(bytes.as_slice()) else {
         return Err(Failure::Malformed);
     };
-    let mut entries: Vec<UnitEntry> = package.units().collect(alloc)?;
-    entries.sort_by_key(|entry| (is_type(entry.object), entry.row))?;
+    let entries = entries_by_row(rt, &package)?;
+    let mut sizes = if matches.get_flag("sizes") {
+        Some(Sizes::new(alloc))
+    } else {
+        None
+    };
+    let mut lines = BufWriter::new(alloc, out).map_err(|e| buffer_failure(&e))?;
     for entry in &entries {
-        line(rt, &package, entry, out)?;
+        let Ok(found) = package.find(entry.object) else {
+            lines.flush().map_err(|e| buffer_failure(&e))?;
+            return Err(Failure::Malformed);
+        };
+        if let Some(unit) = found {
+            if unit.row() == entry.row {
+                line(entry.object, &unit, &mut sizes, &mut lines)?;
+            }
+        }
     }
-    Ok(())
+    if let Some(sizes) = sizes {
+        sizes.print(bytes.as_slice(), &mut lines)?;
+    }
+    lines.flush().map_err(|e| buffer_failure(&e))?;
+    Ok(0)
 }
 
-fn is_type(object: DwarfObject) -> bool {
+/// The units that the slots of a package name: compilation units by row, then type units by row.
+pub(crate) fn entries_by_row(
+    rt: &HostRuntime,
+    package: &PackageFile<'_>,
+) -> Result<Vec<UnitEntry>, Failure> {
+    let mut entries: Vec<UnitEntry> = package.units().collect(rt.alloc())?;
+    entries.sort_by_key(|entry| (is_type(entry.object), entry.row))?;
+    Ok(entries)
+}
+
+/// Whether it is a type unit.
+pub(crate) fn is_type(object: DwarfObject) -> bool {
     matches!(object, DwarfObject::TypeUnit(_))
 }
 
-// The line of a unit; none where the look-up of its identifier gives no unit or that of another row.
-fn line<O: Write>(
-    rt: &HostRuntime,
-    package: &PackageFile<'_>,
-    entry: &UnitEntry,
-    out: &mut O,
+// The line of a unit, with its sizes where these are asked for.
+fn line<W: Write>(
+    object: DwarfObject,
+    unit: &PackagedUnit<'_>,
+    sizes: &mut Option<Sizes>,
+    lines: &mut W,
 ) -> Result<(), Failure> {
-    let Ok(found) = package.find(entry.object) else {
-        return Err(Failure::Malformed);
-    };
-    let Some(unit) = found else {
-        return Ok(());
-    };
-    if unit.row() != entry.row {
-        return Ok(());
-    }
-    let kind = short_kind(entry.object);
-    let id = entry.object.index();
+    let kind = short_kind(object);
+    let id = object.index();
     let size = unit.bytes().len();
-    let text = format!(in rt.alloc(); "{kind} 0x{id:016x} {size}\n")?;
-    out.write_all(text.as_bytes()).map_err(|_| Failure::Line)
+    write!(lines, "{kind} 0x{id:016x} {size}").map_err(|_| Failure::Line)?;
+    if let Some(sizes) = sizes {
+        for (column, name) in COLUMNS {
+            if let Some(range) = unit.range(column) {
+                sizes.add(column, range)?;
+                let size = range.size;
+                write!(lines, " {name} {size}").map_err(|_| Failure::Line)?;
+            }
+        }
+    }
+    writeln!(lines).map_err(|_| Failure::Line)
 }

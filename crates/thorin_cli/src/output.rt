@@ -22,8 +22,10 @@ pub enum Failure {
     BadKind,
     /// The identifier isn't 1 to 16 hexadecimal digits.
     BadIdentifier,
-    /// There is no such command.
+    /// There is no such command, or a word isn't UTF-8.
     BadCommand,
+    /// A response file can't be read, or there are too many.
+    Response,
     /// A line can't be written.
     Line,
     /// Memory ran out.
@@ -44,7 +46,9 @@ impl fmt::Display for Failure {
     fn fmt<W: fmt::Write>(&self, f: &mut fmt::Formatter<W>) -> fmt::Result {
         match self {
             Failure::Package(fault) => write!(f, "{fault}"),
-            Failure::Output | Failure::Line => f.write_str("Failed to write output file"),
+            Failure::Output => f.write_str("Failed to write output file"),
+            Failure::Response => f.write_str("Failed to read response file"),
+            Failure::Line => f.write_str("Failed to write standard output"),
             Failure::Input => f.write_str("Failed to read input file"),
             Failure::Malformed => f.write_str("Malformed package"),
             Failure::NoUnit(id) => write!(f, "Unit 0x{id:08x} is not in the package"),
@@ -74,30 +78,24 @@ impl From<Error> for Failure {
     }
 }
 
-/// What a failed read of a file is.
-pub(crate) fn read_failure(e: &io::Error) -> Failure {
+/// What prints through a buffer can't be written, or there is no memory for the buffer.
+pub(crate) fn buffer_failure(e: &io::Error) -> Failure {
     if e.kind() == io::ErrorKind::OutOfMemory {
         Failure::Memory
     } else {
-        Failure::Input
+        Failure::Line
     }
 }
 
 /// Prints a failure, and answers its status; 1 where it can't be printed.
 pub(crate) fn report<W: Write>(err: &mut W, failure: &Failure) -> u8 {
-    if let Failure::Line = failure {
-        return 1;
-    }
     match writeln!(err, "error: {failure}") {
         Ok(()) => failure.status(),
         Err(_) => 1,
     }
 }
 
-/// Prints a text as it is, and answers the status; 1 where it can't be printed.
-pub(crate) fn show<W: Write, D: fmt::Display>(writer: &mut W, text: &D, status: u8) -> u8 {
-    match write!(writer, "{text}") {
-        Ok(()) => status,
-        Err(_) => 1,
-    }
+/// Prints a text as it is, and answers whether it could.
+pub(crate) fn show<W: Write, D: fmt::Display>(writer: &mut W, text: &D) -> bool {
+    write!(writer, "{text}").is_ok()
 }

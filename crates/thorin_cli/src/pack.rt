@@ -1,41 +1,157 @@
 //! `thorin pack`.
 
+use crate::input::test_input;
 use crate::output::Failure;
+use crate::telling::{tell_refused, tell_taken, warn_differing};
+use crate::write::write_package;
 use bumpalo::Bump;
 use clap::ArgMatches;
 use dwp_elf::WritableObject;
-use std::fs;
+use dwp_reader::RelocationEntry;
+use dwp_table::DebugTypeSignature;
+use std::io::Write;
 use std::path::Path;
 use thorin::DwarfPackage;
-use thorin_faults::{ArenaSession, Error};
+use thorin_faults::{ArenaSession, Error, MissingReferencedObjectBehaviour, Session};
 
-/// Packs the inputs in order and writes the package. Stops at the first refusal, and then writes nothing.
-pub(crate) fn pack(rt: &HostRuntime, matches: &ArgMatches<'_>) -> Result<(), Failure> {
-    let bump = Bump::new(rt.alloc());
-    let session = ArenaSession::new(rt, &bump);
-    let mut package = DwarfPackage::new(rt.alloc(), &session);
-    if let Some(inputs) = matches.get_strs("input") {
-        for input in inputs {
-            package.add_input_object(Path::new(input))?;
+/// What is to be packed, and where to.
+#[derive(Drop)]
+pub(crate) struct Packing<'m, 'a> {
+    // Where none is named, the name of the one executable with `.dwp` behind it.
+    output: Option<&'a str>,
+    inputs: Option<&'m [&'a str]>,
+    executables: Option<&'m [&'a str]>,
+    missing: MissingReferencedObjectBehaviour,
+    verbose: bool,
+}
+
+impl<'m, 'a> Packing<'m, 'a> {
+    /// As the command `pack` has it.
+    pub(crate) fn of_command(matches: &'m ArgMatches<'a>) -> Packing<'m, 'a> {
+        let missing = if matches.get_flag("skip-missing") {
+            MissingReferencedObjectBehaviour::Skip
+        } else {
+            MissingReferencedObjectBehaviour::Error
+        };
+        Packing {
+            missing,
+            ..Packing::of_peer(matches)
         }
     }
-    let object = package.finish()?;
-    match matches.get_str("output") {
-        Some(output) => write(rt, &object, output),
-        None => Err(Failure::BadCommand),
+
+    /// As the command lines of `dwp` and `llvm-dwp` have it.
+    pub(crate) fn of_peer(matches: &'m ArgMatches<'a>) -> Packing<'m, 'a> {
+        Packing {
+            output: matches.get_str("output"),
+            inputs: matches.get_strs("input"),
+            executables: matches.get_strs("exec"),
+            missing: MissingReferencedObjectBehaviour::Error,
+            verbose: matches.get_flag("verbose"),
+        }
+    }
+
+    // The name of the package's file.
+    fn output_name(&self, rt: &HostRuntime) -> Result<String, Failure> {
+        match (self.output, self.executables) {
+            (Some(output), _) => Ok(String::from_str(rt.alloc(), output)?),
+            (None, Some([executable])) => Ok(format!(in rt.alloc(); "{executable}.dwp")?),
+            (None, _) => Err(Failure::BadCommand),
+        }
     }
 }
 
-fn write(rt: &HostRuntime, object: &WritableObject, output: &str) -> Result<(), Failure> {
-    if let Err(e) = object.file_size() {
-        return Err(Failure::Package(Error::from(e)));
+/// Packs the inputs in order, then what each executable refers to, and writes the package. Stops at the first refusal,
+/// and then writes nothing. Answers the status 0.
+pub(crate) fn pack<E: Write>(
+    rt: &HostRuntime,
+    packing: &Packing<'_, '_>,
+    err: &mut E,
+) -> Result<u8, Failure> {
+    let output = packing.output_name(rt)?;
+    let bump = Bump::new(rt.alloc());
+    let session = ArenaSession::new(rt, &bump);
+    let package = DwarfPackage::new(rt.alloc(), &session);
+    let (object, differing) = packed(rt, packing, package, err)?;
+    write_package(rt, &object, output.as_str())?;
+    warn_differing(err, differing.as_slice())?;
+    Ok(0)
+}
+
+// The object to be written, and the signatures of type units that were passed over and differ from the ones kept.
+fn packed<'o, 's: 'o, Sess: Session<RelocationEntry>, E: Write>(
+    rt: &HostRuntime,
+    packing: &Packing<'_, '_>,
+    mut package: DwarfPackage<'o, 's, Sess>,
+    err: &mut E,
+) -> Result<(WritableObject, Vec<DebugTypeSignature>), Failure> {
+    for input in packing.inputs.unwrap_or(&[]) {
+        let before = package.contained_units().len();
+        let outcome = add_input(rt, &mut package, input);
+        let units = package.contained_units().len().saturating_sub(before);
+        tell(packing, input, units, outcome, err)?;
     }
-    let mut file = match fs::create(rt, output) {
-        Ok(file) => file,
-        Err(_) => return Err(Failure::Output),
-    };
-    match object.write_to(&mut file) {
-        Ok(()) => Ok(()),
-        Err(_) => Err(Failure::Output),
+    for executable in packing.executables.unwrap_or(&[]) {
+        let before = package.contained_units().len();
+        let outcome = add_executable(rt, &mut package, executable, packing.missing);
+        let units = package.contained_units().len().saturating_sub(before);
+        tell(packing, executable, units, outcome, err)?;
+    }
+    let differing = differing_types(rt, &package)?;
+    let object = package.finish()?;
+    Ok((object, differing))
+}
+
+fn add_input<'o, 's: 'o, Sess: Session<RelocationEntry>>(
+    rt: &HostRuntime,
+    package: &mut DwarfPackage<'o, 's, Sess>,
+    input: &str,
+) -> Result<(), Failure> {
+    test_input(rt, input)?;
+    package.add_input_object(Path::new(input))?;
+    Ok(())
+}
+
+// Adds the objects that an executable refers to. THE ONE PLACE where `-e` calls the builder, which takes no executables
+// yet and so answers `NotYet`; it will be `package.add_executable(Path::new(executable), missing)?`.
+fn add_executable<'o, 's: 'o, Sess: Session<RelocationEntry>>(
+    rt: &HostRuntime,
+    _package: &mut DwarfPackage<'o, 's, Sess>,
+    executable: &str,
+    _missing: MissingReferencedObjectBehaviour,
+) -> Result<(), Failure> {
+    test_input(rt, executable)?;
+    Err(Failure::Package(Error::NotYet))
+}
+
+// The signatures of type units that were passed over and differ from the ones kept. THE ONE PLACE where the builder is
+// asked for them, which keeps no list yet; it will be a copy of `package.differing_types()`.
+fn differing_types<'o, 's: 'o, Sess: Session<RelocationEntry>>(
+    rt: &HostRuntime,
+    _package: &DwarfPackage<'o, 's, Sess>,
+) -> Result<Vec<DebugTypeSignature>, Failure> {
+    Ok(Vec::new(rt.alloc()))
+}
+
+// Tells what came of an input, where that is asked for.
+fn tell<E: Write>(
+    packing: &Packing<'_, '_>,
+    name: &str,
+    units: usize,
+    outcome: Result<(), Failure>,
+    err: &mut E,
+) -> Result<(), Failure> {
+    match outcome {
+        Ok(()) => {
+            if packing.verbose {
+                tell_taken(err, name, units)?;
+            }
+            Ok(())
+        }
+        Err(failure) => {
+            if packing.verbose {
+                tell_refused(err, name, &failure)?;
+            }
+            Err(failure)
+        }
     }
 }

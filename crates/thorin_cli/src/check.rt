@@ -1,0 +1,273 @@
+//! `thorin check`.
+
+use crate::find::short_kind;
+use crate::input::read_file;
+use crate::list::{entries_by_row, is_type};
+use crate::output::{Failure, buffer_failure};
+use clap::ArgMatches;
+use dwp_dwarf::{ReadError, SliceReader, UnitHeaders, UnitSection};
+use dwp_elf::{ElfFile, Endianness, SectionKind};
+use dwp_index::{PackageError, PackageFile, PackagedUnit, UnitEntry, UnitIndex};
+use dwp_reader::Format;
+use dwp_table::{Bucketable, DwarfObject};
+use std::fmt;
+use std::io::{BufWriter, Write};
+use thorin::dwo_identifier_of_unit;
+use thorin_faults::Error;
+
+/// Goes over a package: each unit that a slot of an index names is found under its identifier, its ranges are inside
+/// their sections, its header and all its strings can be read, and the identifier is its own; and a slot names each row.
+/// Prints a line for each fault, and how many units and faults there are. Answers the status, 1 where there are faults.
+pub(crate) fn check<O: Write>(
+    rt: &HostRuntime,
+    matches: &ArgMatches<'_>,
+    out: &mut O,
+) -> Result<u8, Failure> {
+    let bytes = read_file(rt, matches.get_str("file").unwrap_or(""))?;
+    let Ok(package) = PackageFile::parse(bytes.as_slice()) else {
+        return Err(Failure::Malformed);
+    };
+    let Ok(file) = ElfFile::parse(bytes.as_slice()) else {
+        return Err(Failure::Malformed);
+    };
+    let entries = entries_by_row(rt, &package)?;
+    let mut lines = BufWriter::new(rt.alloc(), out).map_err(|e| buffer_failure(&e))?;
+    let mut faults = check_units(
+        rt,
+        &package,
+        file.endianness(),
+        entries.as_slice(),
+        &mut lines,
+    )?;
+    for (kind, is_types) in [(SectionKind::CuIndex, false), (SectionKind::TuIndex, true)] {
+        let rows = row_count(&file, kind);
+        let found = check_rows(entries.as_slice(), is_types, rows, &mut lines)?;
+        faults = faults.saturating_add(found);
+    }
+    for executable in matches.get_strs("exec").unwrap_or(&[]) {
+        let found = check_executable(rt, &package, executable, &mut lines)?;
+        faults = faults.saturating_add(found);
+    }
+    let units = entries.len();
+    writeln!(lines, "{units} units, {faults} faults").map_err(|_| Failure::Line)?;
+    lines.flush().map_err(|e| buffer_failure(&e))?;
+    Ok(if faults == 0 { 0 } else { 1 })
+}
+
+// What is wrong with a unit of a package.
+#[derive(Debug, Drop)]
+enum Fault {
+    // Its identifier isn't found.
+    Absent,
+    // Its identifier is found in another row.
+    OtherRow(u32),
+    // What the index says of it can't be read.
+    Package(PackageError),
+    // Its own identifier can't be read.
+    Identity(Error),
+    // It has another identifier of its own, or none.
+    Other(Option<DwarfObject>),
+    // One of its strings can't be read.
+    Str(u64, ReadError),
+}
+
+impl fmt::Display for Fault {
+    fn fmt<W: fmt::Write>(&self, f: &mut fmt::Formatter<W>) -> fmt::Result {
+        match self {
+            Fault::Absent => f.write_str("not found under its identifier"),
+            Fault::OtherRow(row) => write!(f, "found in row {row}"),
+            Fault::Package(PackageError::Range(kind)) => {
+                let name = kind.name();
+                write!(f, "its range of {name} is outside the section")
+            }
+            Fault::Package(fault) => write!(f, "{fault}"),
+            Fault::Identity(fault) => write!(f, "its own identifier can't be read: {fault}"),
+            Fault::Other(None) => f.write_str("it has no identifier of its own"),
+            Fault::Other(Some(object)) => {
+                let kind = short_kind(*object);
+                let id = object.index();
+                write!(f, "its own identifier is {kind} 0x{id:016x}")
+            }
+            Fault::Str(i, fault) => write!(f, "string {i} can't be read: {fault}"),
+        }
+    }
+}
+
+// Prints a fault of a unit.
+fn tell<W: Write>(object: DwarfObject, fault: &Fault, lines: &mut W) -> Result<(), Failure> {
+    let kind = short_kind(object);
+    let id = object.index();
+    writeln!(lines, "{kind} 0x{id:016x}: {fault}").map_err(|_| Failure::Line)
+}
+
+// The string offsets of a unit: units that have the same ones have the same strings.
+#[derive(Clone, Copy, PartialEq, Eq, PartialOrd, Ord)]
+struct StringRange {
+    offset: u64,
+    size: u64,
+    version: u16,
+    is_64: bool,
+}
+
+// Checks each unit that a slot names, then the strings of each range of string offsets. Answers the number of faults.
+fn check_units<W: Write>(
+    rt: &HostRuntime,
+    package: &PackageFile<'_>,
+    order: Endianness,
+    entries: &[UnitEntry],
+    lines: &mut W,
+) -> Result<u64, Failure> {
+    let mut faults = 0u64;
+    let mut strings: Vec<(StringRange, DwarfObject)> = Vec::new(rt.alloc());
+    for entry in entries {
+        match check_unit(package, order, entry) {
+            Ok(unit) => {
+                if let Some(range) = string_range(&unit) {
+                    strings.push((range, entry.object))?;
+                }
+            }
+            Err(fault) => {
+                tell(entry.object, &fault, lines)?;
+                faults = faults.saturating_add(1);
+            }
+        }
+    }
+    strings.sort_by_key(|(range, _)| *range)?;
+    strings.dedup_by_key(|(range, _)| *range);
+    for (_, object) in &strings {
+        let found = check_strings(package, *object, lines)?;
+        faults = faults.saturating_add(found);
+    }
+    Ok(faults)
+}
+
+// The unit that a slot names.
+fn check_unit<'a>(
+    package: &PackageFile<'a>,
+    order: Endianness,
+    entry: &UnitEntry,
+) -> Result<PackagedUnit<'a>, Fault> {
+    let unit = match package.find(entry.object) {
+        Ok(Some(unit)) => unit,
+        Ok(None) => return Err(Fault::Absent),
+        Err(fault) => return Err(Fault::Package(fault)),
+    };
+    if unit.row() != entry.row {
+        return Err(Fault::OtherRow(unit.row()));
+    }
+    match own_identifier(&unit, order, entry.object)? {
+        Some(object) if object == entry.object => Ok(unit),
+        other => Err(Fault::Other(other)),
+    }
+}
+
+// The identifier that a unit's own bytes give.
+fn own_identifier(
+    unit: &PackagedUnit<'_>,
+    order: Endianness,
+    object: DwarfObject,
+) -> Result<Option<DwarfObject>, Fault> {
+    let section = if is_type(object) && unit.range(SectionKind::Types).is_some() {
+        UnitSection::Types
+    } else {
+        UnitSection::Info
+    };
+    let mut headers = UnitHeaders::new(SliceReader::new(unit.bytes(), order), section);
+    let header = match headers.next() {
+        None => return Ok(None),
+        Some(Err(fault)) => return Err(Fault::Package(PackageError::Unit(fault))),
+        Some(Ok(header)) => header,
+    };
+    let abbreviations = SliceReader::new(unit.section(SectionKind::Abbrev), order);
+    dwo_identifier_of_unit(&abbreviations, &header).map_err(Fault::Identity)
+}
+
+fn string_range(unit: &PackagedUnit<'_>) -> Option<StringRange> {
+    let range = unit.range(SectionKind::StrOffsets)?;
+    let encoding = unit.encoding();
+    Some(StringRange {
+        offset: range.offset.0,
+        size: range.size,
+        version: encoding.version,
+        is_64: encoding.format == Format::Dwarf64,
+    })
+}
+
+// Reads each string of a unit. Answers the number of faults.
+fn check_strings<W: Write>(
+    package: &PackageFile<'_>,
+    object: DwarfObject,
+    lines: &mut W,
+) -> Result<u64, Failure> {
+    let Ok(Some(unit)) = package.find(object) else {
+        return Ok(0);
+    };
+    let mut faults = 0u64;
+    for i in 0..u64::MAX {
+        match unit.string(i) {
+            Ok(Some(_)) => {}
+            Ok(None) => break,
+            Err(fault) => {
+                tell(object, &Fault::Str(i, fault), lines)?;
+                faults = faults.saturating_add(1);
+            }
+        }
+    }
+    Ok(faults)
+}
+
+// How many rows the index of a kind has: the first that isn't empty.
+fn row_count(file: &ElfFile<'_>, kind: SectionKind) -> u32 {
+    for section in file.sections() {
+        if let (Ok(name), Ok(bytes)) = (section.name(), section.data()) {
+            if kind.is_named(name) && !bytes.is_empty() {
+                let index = UnitIndex::parse(bytes, file.endianness());
+                return index.map_or(0, |index| index.unit_count());
+            }
+        }
+    }
+    0
+}
+
+// A slot names each row of an index; `entries` are in the order of rows. Answers the number of faults.
+fn check_rows<W: Write>(
+    entries: &[UnitEntry],
+    is_types: bool,
+    rows: u32,
+    lines: &mut W,
+) -> Result<u64, Failure> {
+    let kind = if is_types { "tu" } else { "cu" };
+    let mut named = entries
+        .iter()
+        .filter(|entry| is_type(entry.object) == is_types)
+        .map(|entry| entry.row)
+        .peekable();
+    let mut faults = 0u64;
+    for row in 1..=rows {
+        let mut is_named = false;
+        for _ in 0..entries.len() {
+            if named.next_if(|other| *other <= row).is_none() {
+                break;
+            }
+            is_named = true;
+        }
+        if !is_named {
+            writeln!(lines, "{kind} row {row}: no slot names it").map_err(|_| Failure::Line)?;
+            faults = faults.saturating_add(1);
+        }
+    }
+    Ok(faults)
+}
+
+// Each skeleton unit of an executable is in the package. THE ONE PLACE where `check -e` asks for skeleton units, which
+// can't be read yet: it will go over the list that `skeletons` of the crate for executables gives, print a line for each
+// target that `package.find` doesn't have and one for the list's own fault, and answer how many lines these are.
+fn check_executable<W: Write>(
+    rt: &HostRuntime,
+    _package: &PackageFile<'_>,
+    executable: &str,
+    _lines: &mut W,
+) -> Result<u64, Failure> {
+    let _bytes = read_file(rt, executable)?;
+    Err(Failure::Package(Error::NotYet))
+}

@@ -1,0 +1,65 @@
+//! `@FILE` among the words of a command line: a response file, as linkers have it.
+
+use crate::input::read_file;
+use crate::output::Failure;
+use crate::words::split_words;
+use std::convert::AsStr;
+use std::fs;
+
+// How many response files a command line may name, those among them that response files name.
+const MOST_FILES: u32 = 2000;
+
+/// The words of a command line with the words of its response files in place of each `@FILE`. Those of a file may name
+/// files again. The first word stays, and so does a name for which there is no file.
+pub(crate) fn expanded<S: AsStr>(rt: &HostRuntime, words: &[S]) -> Result<Vec<String>, Failure> {
+    let alloc = rt.alloc();
+    let mut all = Vec::with_capacity(alloc, words.len())?;
+    let mut waiting: Vec<String> = Vec::new(alloc);
+    let mut left = MOST_FILES;
+    for word in words {
+        let word = String::from_str(alloc, word.as_str())?;
+        if all.is_empty() {
+            all.push(word)?;
+            continue;
+        }
+        waiting.push(word)?;
+        for _ in 0..u64::MAX {
+            let Some(word) = waiting.pop() else {
+                break;
+            };
+            match response(rt, word.as_str())? {
+                None => all.push(word)?,
+                Some(read) => {
+                    left = left.checked_sub(1).ok_or(Failure::Response)?;
+                    for word in read.into_iter().rev() {
+                        waiting.push(text(word)?)?;
+                    }
+                }
+            }
+        }
+    }
+    Ok(all)
+}
+
+// The words of the file that a word `@FILE` names; none for another word, or where there is no such file.
+fn response(rt: &HostRuntime, word: &str) -> Result<Option<Vec<Vec<u8>>>, Failure> {
+    let Some(name) = word.strip_prefix("@") else {
+        return Ok(None);
+    };
+    if fs::metadata(rt, name).is_err() {
+        return Ok(None);
+    }
+    match read_file(rt, name) {
+        Ok(bytes) => Ok(Some(split_words(rt.alloc(), bytes.as_slice())?)),
+        Err(Failure::Memory) => Err(Failure::Memory),
+        Err(_) => Err(Failure::Response),
+    }
+}
+
+// A word is UTF-8.
+fn text(word: Vec<u8>) -> Result<String, Failure> {
+    match String::from_utf8(word) {
+        Ok(word) => Ok(word),
+        Err(_) => Err(Failure::BadCommand),
+    }
+}

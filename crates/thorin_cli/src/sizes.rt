@@ -1,0 +1,117 @@
+//! Where the bytes of a package go.
+
+ghost use Rattle.std.specs.Prelude.{◌≡◌, ◌-◌, ◌^◌, min, sum_by};
+
+use crate::find::COLUMNS;
+use crate::output::Failure;
+use dwp_elf::{Contribution, ElfFile, SectionKind};
+use std::alloc::Global;
+use std::io::Write;
+
+// The sections that no unit has a range of, with their short names.
+const WHOLE: [(SectionKind, &'static str); 3] = [
+    (SectionKind::Str, "str"),
+    (SectionKind::CuIndex, "cu_index"),
+    (SectionKind::TuIndex, "tu_index"),
+];
+
+/// A range of a section that a unit has.
+#[derive(Clone, Copy, PartialEq, Eq, PartialOrd, Ord)]
+struct Range {
+    section: u8,
+    offset: u64,
+    size: u64,
+}
+
+/// The ranges that units have of the sections of a package.
+#[derive(Drop)]
+pub(crate) struct Sizes {
+    ranges: Vec<Range>,
+}
+
+impl Sizes {
+    /// No range.
+    pub(crate) fn new(alloc: Global) -> Sizes {
+        Sizes {
+            ranges: Vec::new(alloc),
+        }
+    }
+
+    /// Adds a range of a section that a unit has.
+    pub(crate) fn add(&mut self, section: SectionKind, range: Contribution) -> Result<(), Failure> {
+        self.ranges.push(Range {
+            section: section.rank(),
+            offset: range.offset.0,
+            size: range.size,
+        })?;
+        Ok(())
+    }
+
+    /// Prints a line `total` for each section of a package: its bytes in the file; for a section that units have ranges
+    /// of, also the bytes of its distinct ranges, and how many more all ranges have together. Then the file's bytes.
+    pub(crate) fn print<W: Write>(mut self, bytes: &[u8], lines: &mut W) -> Result<(), Failure> {
+        let Ok(file) = ElfFile::parse(bytes) else {
+            return Err(Failure::Malformed);
+        };
+        self.ranges.sort_unstable();
+        for (kind, name) in COLUMNS {
+            let content = content_size(&file, kind);
+            if content > 0 {
+                let (all, once) = self.of(kind)?;
+                let shared = all.saturating_sub(once);
+                writeln!(lines, "total {name} {content} units {once} shared {shared}").map_err(
+                    |_| Failure::Line,
+                )?;
+            }
+        }
+        for (kind, name) in WHOLE {
+            let content = content_size(&file, kind);
+            if content > 0 {
+                writeln!(lines, "total {name} {content}").map_err(|_| Failure::Line)?;
+            }
+        }
+        let size = bytes.len();
+        writeln!(lines, "total file {size}").map_err(|_| Failure::Line)
+    }
+
+    // The bytes of all ranges of a section together, and those of its distinct ranges.
+    fn of(&self, kind: SectionKind) -> Result<(u64, u64), Failure> {
+        let section = kind.rank();
+        let alloc = *self.ranges.allocator();
+        let mut ranges: Vec<Range> = self
+            .ranges
+            .iter()
+            .copied()
+            .filter(|range| range.section == section)
+            .collect(alloc)?;
+        let all = total(ranges.as_slice());
+        ranges.dedup();
+        Ok((all, total(ranges.as_slice())))
+    }
+}
+
+// The bytes of ranges together, as far as 64 bits go.
+fn total(ranges: &[Range]) -> u64
+    ensures { result ≡ min (sum_by (λ range. range.size) ranges.now) (2 ^ 64 - 1) }
+{
+    let mut bytes = 0u64;
+    for range in ranges {
+        bytes = bytes.saturating_add(range.size);
+    }
+    bytes
+}
+
+// How many bytes the section of a kind has: the first that isn't empty.
+fn content_size(file: &ElfFile<'_>, kind: SectionKind) -> usize {
+    for section in file.sections() {
+        if let Ok(name) = section.name() {
+            if kind.is_named(name) {
+                let size = section.data().map_or(0, |bytes| bytes.len());
+                if size > 0 {
+                    return size;
+                }
+            }
+        }
+    }
+    0
+}
