@@ -6,3 +6,4 @@ pub mod NewUnitLemmas
 pub mod Extending
 pub mod Steps
 pub mod HeldLemmas
+pub mod StringLists
