@@ -7,3 +7,4 @@ pub mod Extending
 pub mod Steps
 pub mod HeldLemmas
 pub mod StringLists
+pub mod UnitsFound
