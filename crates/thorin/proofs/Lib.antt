@@ -8,3 +8,8 @@ pub mod Steps
 pub mod HeldLemmas
 pub mod StringLists
 pub mod UnitsFound
+pub mod RowsFound
+pub mod IndexesRead
+pub mod ReadingFile
+pub mod PackageFound
+pub mod Written

@@ -5,6 +5,7 @@ mod adding;
 mod encodings;
 mod growing;
 mod in_progress;
+mod laws;
 mod object;
 mod package;
 mod packing;
@@ -14,7 +15,8 @@ mod source;
 mod state;
 mod units;
 
-pub use thorin_identity::dwo_identifier_of_unit;
+pub use in_progress::InProgressDwarfPackage;
+pub use laws::{finished_packages_are_read, written_packages_are_read};
 pub use package::DwarfPackage;
 pub use packing::{Input, Packed, pack};
-pub use in_progress::InProgressDwarfPackage;
+pub use thorin_identity::dwo_identifier_of_unit;
