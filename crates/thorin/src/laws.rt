@@ -30,11 +30,11 @@ pub fn written_packages_are_read()
     contents_are_read();
 }
 
-/// The law of finished packages: where a state's package has its units, none twice, and the tests of
-/// finishing pass, its file is a package of these units, once it is written and read back: looking
-/// up any name by the standard's probing finds just the unit of that name, with its bytes, its
-/// abbreviations, line tables, location and range lists and macros, and, where it has its input's
-/// encoding, its strings; or nothing (DWARF 5, 7.3.5). It does nothing.
+/// The law of finished packages: where a state's package has its units, none twice, and the tests
+/// of finishing pass, its file is a package of these units, once it is written and read back:
+/// looking up any name by the standard's probing finds just the unit of that name, with its bytes,
+/// its abbreviations, line tables, location and range lists and macros, and, where it has its
+/// input's encoding, its strings; or nothing (DWARF 5, 7.3.5). It does nothing.
 pub fn finished_packages_are_read()
     ensures { (state : State) (file : Object)
         → IsSoundBegun state.begun
