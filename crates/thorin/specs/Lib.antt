@@ -18,5 +18,6 @@ pub mod Strings
 pub mod Meaning
 pub mod Represents
 pub mod Join
+pub mod Missing
 pub mod Run
 pub mod Packed

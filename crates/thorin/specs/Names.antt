@@ -1,5 +1,6 @@
 -- The names of units: each is of one kind, with one number (DWARF 5, 7.3.5.3).
-use Rattle.std.specs.Prelude.{ℕ, Bool, true, false, ◌==◌}
+use Rattle.std.specs.Prelude.{ℕ, Bool, true, false, ◌==◌, List, [], ◌∷◌, ◌++◌, if◌then◌else◌}
+use Rattle.std.specs.List.{list_any}
 use Rattle.dwp_table.specs.declared.object.DwarfObject.{DwarfObject}
 use Rattle.dwp_table.specs.declared.object.DwarfObject.TheVariants.{Compilation, TypeUnit}
 
@@ -13,3 +14,7 @@ same_name _ _ = false
 abbrev pub is_compilation : DwarfObject → Bool
 is_compilation (Compilation id) = true
 is_compilation (TypeUnit signature) = false
+
+-- names with one more, where it isn't among them
+abbrev pub with_name : List DwarfObject → DwarfObject → List DwarfObject
+with_name names name = if list_any (same_name name) names then names else names ++ name ∷ []

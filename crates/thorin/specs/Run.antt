@@ -1,5 +1,6 @@
 -- A run of inputs, and what is written after it.
-use Rattle.std.specs.Prelude.{◌≡◌, ℕ, List, [], ◌∷◌, ◌++◌, Result, Ok, Err, OnOk, OnErr, ◌⊎◌}
+use Rattle.std.specs.Prelude.{◌≡◌, ◌≢◌, ℕ, Bool, true, false, List, [], ◌∷◌, ◌++◌, take, length, Option, Some, None, Result, Ok, Err, OnOk, OnErr, ◌⊎◌}
+use Rattle.std.specs.List.{list_any}
 use Rattle.std.specs.Path.{path_bytes}
 use Rattle.std.specs.declared.io.Error.{Error as IoError}
 use Rattle.dwp_elf.specs.FileText.{Object as File, file_text}
@@ -12,13 +13,19 @@ use Rattle.thorin_faults.specs.declared.fault.Error.{Error}
 use Rattle.thorin_faults.specs.declared.fault.Error.TheVariants as error
 use Rattle.thorin_faults.specs.declared.fault.InputError.{InputError}
 use Rattle.thorin_faults.specs.declared.fault.InputError.TheVariants as input_error
-use Rattle.thorin_faults.specs.Fault.{Fault, fault_of, ObjectWrite}
+use Rattle.thorin_faults.specs.Fault.{Fault, fault_of, ObjectWrite, Memory}
+use Rattle.thorin_faults.specs.declared.fault.MissingReferencedObjectBehaviour.{MissingReferencedObjectBehaviour}
+use Rattle.thorin_faults.specs.declared.fault.MissingReferencedObjectBehaviour.TheVariants as behaviour
+use Rattle.thorin_executable.specs.Skeletons.{skeletons_of}
+use Rattle.dwp_table.specs.declared.object.DwarfObject.{DwarfObject}
+use Rattle.dwp_table.specs.declared.object.DwarfObject.TheVariants.{Compilation, TypeUnit}
 use Rattle.thorin_faults.specs.Answers.{Gives, MemoryAside}
 use Rattle.thorin_faults.specs.Sessions.{input_fault}
 use Rattle.thorin.specs.declared.packing.Input.{Input}
 use Rattle.thorin.specs.declared.packing.Input.TheVariants as inputs
-use Rattle.thorin.specs.Builder.{State, taken, finish_test, IsFinishedState}
+use Rattle.thorin.specs.Builder.{State, names_in, taken, finish_test, IsFinishedState}
 use Rattle.thorin.specs.Join.{Joins}
+use Rattle.thorin.specs.Names.{same_name, with_name}
 use Rattle.thorin.specs.Represents.{units_in}
 
 -- what came of a call: nothing, or its error
@@ -55,22 +62,95 @@ pub record TakesFile (offered : Result (List ℕ) IoError → Type 0) (old : Sta
   pub accepted : List (List ℕ)
   pub taken : TakesRead read old outcome new accepted
 
--- what came of an input of a list, and the bytes that were accepted; executables aren't taken yet
+-- ---- executables
+
+-- the units that executables refer to, with one more; a type unit isn't looked for when a package is finished
+abbrev pub with_target : DwarfObject → State → State
+with_target (Compilation id) state = record state { targets = with_name state.targets (Compilation id) }
+with_target (TypeUnit signature) state = state
+
+-- a compilation unit that the package has needs no object
+abbrev pub is_there : DwarfObject → State → Bool
+is_there (Compilation id) state = list_any (same_name (Compilation id)) (names_in state.begun)
+is_there (TypeUnit signature) state = false
+
+-- what a read of an object that an executable refers to gave was taken; a failed read alone may be passed over
+abbrev pub TakesReferred : MissingReferencedObjectBehaviour → Result (List ℕ) InputError → State → Outcome → State → List (List ℕ) → Type 0
+TakesReferred missing (Ok bytes) old outcome new accepted = Takes bytes old outcome new × (accepted ≡ accepted_of outcome bytes)
+TakesReferred behaviour.Skip (Err (input_error.Io cause)) old outcome new accepted = (outcome ≡ Ok tt) × (new ≡ old) × (accepted ≡ [])
+TakesReferred behaviour.Error (Err (input_error.Io cause)) old outcome new accepted = (outcome ≡ Err (error.ReadInput cause)) × (new ≡ old) × (accepted ≡ [])
+TakesReferred missing (Err input_error.Memory) old outcome new accepted = (outcome ≡ Err error.Memory) × (new ≡ old) × (accepted ≡ [])
+
+-- the object of a unit that isn't there was read, of which that may be read, once the unit was among the targets
+pub record ReadsReferred (offer : List ℕ → Result (List ℕ) IoError → Type 0) (missing : MissingReferencedObjectBehaviour) (named : DwarfObject × List ℕ) (old : State) (outcome : Outcome) (new : State) (accepted : List (List ℕ)) : Type 0 where
+  pub absent : is_there named.0 old ≡ false
+  pub read : Result (List ℕ) InputError
+  pub within : MayRead (offer named.1) read
+  pub taken : TakesReferred missing read (with_target named.0 old) outcome new accepted
+
+-- a unit that an executable refers to, with the path of its object: it is there; or its object was read; or memory ran out before
+abbrev pub TakesSkeleton : (List ℕ → Result (List ℕ) IoError → Type 0) → MissingReferencedObjectBehaviour → DwarfObject × List ℕ → State → Outcome → State → List (List ℕ) → Type 0
+TakesSkeleton offer missing named old outcome new accepted =
+    ((is_there named.0 old ≡ true) × (outcome ≡ Ok tt) × (new ≡ old) × (accepted ≡ []))
+    ⊎ (ReadsReferred offer missing named old outcome new accepted
+    ⊎ ((outcome ≡ Err error.Memory) × (new ≡ old) × (accepted ≡ [])))
+
+-- what comes of a list's end: nothing, or the fault that ended it
+abbrev pub EndsWith : Option Fault → Outcome → Type 0
+EndsWith None outcome = outcome ≡ Ok tt
+EndsWith (Some fault) (Ok x) = ⊥
+EndsWith (Some fault) (Err e) = fault_of e ≡ fault
+
+-- a state on the way, the bytes that were accepted up to it, and those after it
+pub record Step : Type 0 where
+  pub middle : State
+  pub here : List (List ℕ)
+  pub later : List (List ℕ)
+
+-- after the first of a list: a refusal ends it there, with all that came before
+abbrev pub GoesOn : Outcome → Step → Outcome → State → List (List ℕ) → Type 0 → Type 0
+GoesOn (Ok x) s outcome new accepted rest = rest × (accepted ≡ s.here ++ s.later)
+GoesOn (Err e) s outcome new accepted rest = (outcome ≡ Err e) × (new ≡ s.middle) × (accepted ≡ s.here)
+
+-- the units that an executable refers to, in order, up to the first refusal
+abbrev pub TakesSkeletons : (List ℕ → Result (List ℕ) IoError → Type 0) → MissingReferencedObjectBehaviour → List (DwarfObject × List ℕ) → Option Fault → State → Outcome → State → List (List ℕ) → Type 0
+TakesSkeletons offer missing [] fault old outcome new accepted = EndsWith fault outcome × (new ≡ old) × (accepted ≡ [])
+TakesSkeletons offer missing (named ∷ rest) fault old outcome new accepted =
+    (s : Step) × (first : Outcome) × TakesSkeleton offer missing named old first s.middle s.here
+    × GoesOn first s outcome new accepted (TakesSkeletons offer missing rest fault s.middle outcome new s.later)
+
+-- the units that an executable's bytes refer to and the fault that ends their list; where memory ran out, the first of them
+pub record TakesNamed (offer : List ℕ → Result (List ℕ) IoError → Type 0) (missing : MissingReferencedObjectBehaviour) (bytes : List ℕ) (old : State) (outcome : Outcome) (new : State) (accepted : List (List ℕ)) : Type 0 where
+  pub named : List (DwarfObject × List ℕ)
+  pub fault : Option Fault
+  pub are : fault ≢ Some Memory → skeletons_of bytes ≡ (named, fault)
+  pub front : take (length named) (skeletons_of bytes).0 ≡ named
+  pub taken : TakesSkeletons offer missing named fault old outcome new accepted
+
+-- what a read of an executable gave was taken
+abbrev pub TakesExecutableRead : (List ℕ → Result (List ℕ) IoError → Type 0) → MissingReferencedObjectBehaviour → Result (List ℕ) InputError → State → Outcome → State → List (List ℕ) → Type 0
+TakesExecutableRead offer missing (Ok bytes) old outcome new accepted = TakesNamed offer missing bytes old outcome new accepted
+TakesExecutableRead offer missing (Err e) old outcome new accepted = (outcome ≡ Err (input_fault e)) × (new ≡ old) × (accepted ≡ [])
+
+-- the same for the executable at a path, of which that may be read
+pub record TakesExecutable (offer : List ℕ → Result (List ℕ) IoError → Type 0) (path : List ℕ) (missing : MissingReferencedObjectBehaviour) (old : State) (outcome : Outcome) (new : State) : Type 0 where
+  pub read : Result (List ℕ) InputError
+  pub within : MayRead (offer path) read
+  pub accepted : List (List ℕ)
+  pub taken : TakesExecutableRead offer missing read old outcome new accepted
+
+-- ---- a run
+
+-- what came of an input of a list, and the bytes that were accepted
 abbrev pub TakesInput : (List ℕ → Result (List ℕ) IoError → Type 0) → Input → State → Outcome → State → List (List ℕ) → Type 0
 TakesInput offer (inputs.Object path) old outcome new accepted = (t : TakesFile (offer (path_bytes path)) old outcome new) × (accepted ≡ t.accepted)
 TakesInput offer (inputs.Bytes bytes) old outcome new accepted = Takes bytes.now old outcome new × (accepted ≡ accepted_of outcome bytes.now)
-TakesInput offer (inputs.Executable path missing) old outcome new accepted = (outcome ≡ Err error.NotYet) × (new ≡ old) × (accepted ≡ [])
+TakesInput offer (inputs.Executable path missing) old outcome new accepted = (t : TakesExecutable offer (path_bytes path) missing old outcome new) × (accepted ≡ t.accepted)
 
 -- the same, with the bytes that were accepted
 pub record Took (offer : List ℕ → Result (List ℕ) IoError → Type 0) (input : Input) (old : State) (outcome : Outcome) (new : State) : Type 0 where
   pub accepted : List (List ℕ)
   pub takes : TakesInput offer input old outcome new accepted
-
--- one input of a run, the state after it, and the bytes that it and the later ones had accepted
-pub record Step : Type 0 where
-  pub middle : State
-  pub here : List (List ℕ)
-  pub later : List (List ℕ)
 
 -- a run: each input in order, refused ones passed over; and the bytes of all that were accepted, in order
 abbrev pub Ran : (List ℕ → Result (List ℕ) IoError → Type 0) → List Input → State → List Outcome → State → List (List ℕ) → Type 0

@@ -1,6 +1,6 @@
 //! The package builder.
 
-ghost use Rattle.std.specs.Prelude.{◌≡◌, IfOk, OnOk, OnErr};
+ghost use Rattle.std.specs.Prelude.{◌≡◌, ℕ, List, filter, IfOk, OnOk, OnErr};
 ghost use Rattle.thorin_faults.specs.Answers.{Gives};
 ghost use Rattle.std.specs.Path.{path_bytes};
 ghost use Rattle.thorin.specs.Builder as spec;
@@ -8,12 +8,16 @@ ghost use Rattle.thorin.specs.Builder.{IsFinishedState};
 ghost use Rattle.thorin.specs.Join.{Joins, IsPackageOnceWritten};
 ghost use Rattle.thorin.specs.Meaning.{keys};
 ghost use Rattle.thorin.specs.Represents.{units_in};
-ghost use Rattle.thorin.specs.Run.{TakesFile};
+ghost use Rattle.thorin.specs.Missing.{missing_left};
+ghost use Rattle.thorin.specs.Run.{TakesFile, TakesExecutable, TakesNamed, TakesSkeleton};
+ghost use Rattle.thorin_executable.specs.View.{named};
 
 use crate::adding::add_input;
 use crate::encodings::common;
 use crate::in_progress::InProgressDwarfPackage;
 use crate::joins::inputs_are_joined;
+use crate::laws::finished_packages_are_read;
+use crate::missing::MissingTargets;
 use dwp_dwarf::Encoding;
 use dwp_elf::WritableObject;
 use dwp_reader::RelocationEntry;
@@ -23,7 +27,8 @@ use std::alloc::Global;
 use std::fmt;
 use std::marker::{Model, PhantomData};
 use std::path::Path;
-use thorin_faults::{Error, InputError, Session};
+use thorin_executable::{Skeleton, SkeletonList, skeletons};
+use thorin_faults::{Error, InputError, MissingReferencedObjectBehaviour, Session};
 
 /// A package that is made of input objects, one after another. What inputs hold is kept by a session.
 #[derive(Drop)]
@@ -132,6 +137,77 @@ impl<'output, 'session: 'output, Sess: Session<RelocationEntry>> DwarfPackage<
         Ok(())
     }
 
+    /// Adds the objects that the executable at a path refers to, in the order of its units: of a compilation
+    /// unit that isn't contained and of each type unit the object at the path that is named beside it. Each
+    /// such compilation unit joins the targets, which `finish` wants to be contained, before its object is
+    /// read; with `Skip` an object that can't be read is passed over.
+    ///
+    /// # Errors
+    /// `ReadInput` where the executable, or with `Error` an object, can't be read; what `skeletons` answers, at
+    /// its place in the list; what `add_object_bytes` answers of an object; `Memory`. An `Err` leaves the
+    /// objects that were accepted before and the targets, that of the refused object among them.
+    pub fn add_executable(
+        &mut self,
+        path: Path<'_>,
+        missing: MissingReferencedObjectBehaviour,
+    ) -> Result<(), Error>
+        ensures taken { TakesExecutable (Sess.offer self.old.session) (path_bytes path.entry) missing self.old.state result self.new.state }
+        ensures session { self.new.session ≡ self.old.session }
+    {
+        match self.session.read_input(path) {
+            Ok(bytes) => self.add_named(bytes, missing),
+            Err(InputError::Io(e)) => Err(Error::ReadInput(e)),
+            Err(InputError::Memory) => Err(Error::Memory),
+        }
+    }
+
+    // Adds the objects that an executable's bytes refer to.
+    fn add_named(
+        &mut self,
+        bytes: &'session [u8],
+        missing: MissingReferencedObjectBehaviour,
+    ) -> Result<(), Error>
+        ensures taken { (accepted : List (List ℕ)) × TakesNamed (Sess.offer self.old.session) missing bytes.now self.old.state result self.new.state accepted }
+        ensures session { self.new.session ≡ self.old.session }
+    {
+        let SkeletonList {
+            units,
+            fault,
+        } = skeletons(self.alloc, self.session, bytes);
+        for skeleton in &units {
+            self.add_skeleton(skeleton, missing)?;
+        }
+        match fault {
+            Some(e) => Err(e),
+            None => Ok(()),
+        }
+    }
+
+    // Adds the object of a unit that an executable refers to.
+    fn add_skeleton(
+        &mut self,
+        skeleton: &Skeleton,
+        missing: MissingReferencedObjectBehaviour,
+    ) -> Result<(), Error>
+        ensures taken { (accepted : List (List ℕ)) × TakesSkeleton (Sess.offer self.old.session) missing (named skeleton.now) self.old.state result self.new.state accepted }
+        ensures session { self.new.session ≡ self.old.session }
+    {
+        if let DwarfObject::Compilation(_) = skeleton.target {
+            if self.contained_units().contains(&skeleton.target) {
+                return Ok(());
+            }
+            self.targets.insert(skeleton.target)?;
+        }
+        match self.session.read_input(Path::new(skeleton.path.as_str())) {
+            Ok(bytes) => self.add_object_bytes(bytes),
+            Err(InputError::Io(e)) => match missing {
+                MissingReferencedObjectBehaviour::Skip => Ok(()),
+                MissingReferencedObjectBehaviour::Error => Err(Error::ReadInput(e)),
+            },
+            Err(InputError::Memory) => Err(Error::Memory),
+        }
+    }
+
     /// The object to be written. Refuses with `MissingReferencedUnit` for the first unit that an
     /// executable refers to and that isn't contained, with `NoOutputObjectCreated` where no input
     /// began a package, for the rows of each index with `NumberTooLarge`, `MixedInputEncodings` and
@@ -155,6 +231,7 @@ impl<'output, 'session: 'output, Sess: Session<RelocationEntry>> DwarfPackage<
             Some(package) => package.names(),
             None => &no_units,
         };
+        finished_packages_are_read();
         test_targets(contained, &targets)?;
         match in_progress {
             Some(package) => package.finish(),
@@ -170,6 +247,14 @@ impl<'output, 'session: 'output, Sess: Session<RelocationEntry>> DwarfPackage<
             Some(package) => package.names(),
             None => &self.no_units,
         }
+    }
+
+    /// The units that executables refer to and that aren't contained, in order of insertion. It takes no
+    /// memory.
+    pub fn missing_targets(&self) -> MissingTargets<'_>
+        ensures { missing_left result ≡ filter (spec.is_missing (spec.names_in self.now.state.begun)) self.now.state.targets }
+    {
+        MissingTargets::new(self.contained_units(), &self.targets)
     }
 }
 

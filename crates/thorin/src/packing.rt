@@ -1,7 +1,9 @@
 //! Whole packages from lists of inputs.
 
 ghost use Rattle.std.specs.Prelude.{◌≡◌, IfOk, IfErr};
+ghost use Rattle.thorin.specs.Join.{IsPackageOf};
 ghost use Rattle.thorin.specs.Packed.{IsPacked};
+ghost use Rattle.thorin.specs.Represents.{units_in};
 ghost use Rattle.thorin.specs.Run.{Took, Writes};
 
 use crate::package::DwarfPackage;
@@ -17,7 +19,7 @@ pub enum Input<'a> {
     Object(Path<'a>),
     /// An object's bytes.
     Bytes(&'a [u8]),
-    /// The objects that the executable at a path refers to: not built yet, refused with `NotYet`.
+    /// The objects that the executable at a path refers to.
     Executable(Path<'a>, MissingReferencedObjectBehaviour),
 }
 
@@ -61,7 +63,7 @@ fn take_input<'o, 's: 'o, Sess: Session<RelocationEntry>>(
     match input {
         Input::Object(path) => builder.add_input_object(path),
         Input::Bytes(bytes) => builder.add_object_bytes(bytes),
-        Input::Executable(_, _) => Err(Error::NotYet),
+        Input::Executable(path, missing) => builder.add_executable(path, missing),
     }
 }
 
@@ -69,7 +71,8 @@ fn take_input<'o, 's: 'o, Sess: Session<RelocationEntry>>(
 fn written<'o, 's: 'o, Sess: Session<RelocationEntry>>(
     builder: DwarfPackage<'o, 's, Sess>,
 ) -> Result<Vec<u8>, Error>
-    ensures { Writes (λ bytes. bytes.items) builder.entry.state result }
+    ensures writes { Writes (λ bytes. bytes.items) builder.entry.state result }
+    ensures packaged { IfOk result (λ bytes. IsPackageOf (units_in builder.entry.state) bytes.items) }
 {
     let file = builder.finish()?;
     Ok(file.write()?)

@@ -1,4 +1,4 @@
-use Rattle.std.proofs.Common.{◌≡◌, take}
+use Rattle.std.proofs.Common.{◌≡◌, ℕ, List, take}
 use Rattle.thorin.specs.Builder.{start}
 use Rattle.thorin.specs.Run.{Ran}
 use Rattle.thorin.proofs.packing.pack.Given as goal
@@ -6,5 +6,5 @@ use Rattle.thorin.proofs.packing.pack.Given as goal
 -- the inputs so far ran
 abbrev pub invariant-loop-input : goal.invariant-loop-input
 invariant-loop-input g l =
-    Ran (g.Sess.Session.offer l.session) (take l.input-index l.inputs) start l.outcomes.items l.builder.state
+    ((accepted : List (List ℕ)) × Ran (g.Sess.Session.offer l.session) (take l.input-index l.inputs) start l.outcomes.items l.builder.state accepted)
     × (l.builder.session ≡ l.session)

@@ -1,0 +1,164 @@
+-- A run, one input after the other, and the join of what it accepted.
+use Rattle.std.proofs.Common.{◌≡◌, ◌≢◌, ◌∙◌, ℕ, Bool, true, false, List, [], ◌∷◌, ◌++◌, refl, sym, ap, subst, Option, Some, None, Result, Ok, Err, ◌<◌, ◌+◌, add-one, length, take, drop, get_or, map, inl, inr}
+use Rattle.std.specs.Prelude.{option_map}
+use Rattle.std.proofs.Math.Seq.{take-suc, drop-cons}
+use Rattle.std.proofs.lemmas.List.{append_assoc, append-nil}
+use Rattle.std.specs.declared.io.Error.{Error as IoError}
+use Rattle.std.specs.Path.{path_bytes}
+use Rattle.dwp_table.specs.declared.object.DwarfObject.{DwarfObject}
+use Rattle.dwp_table.specs.declared.object.DwarfObject.TheVariants.{Compilation, TypeUnit}
+use Rattle.thorin_faults.specs.Fault.{Fault, fault_of, Memory}
+use Rattle.thorin_faults.specs.declared.fault.Error.{Error}
+use Rattle.thorin_faults.specs.declared.fault.Error.TheVariants as error
+use Rattle.thorin_faults.specs.declared.fault.InputError.{InputError}
+use Rattle.thorin_faults.specs.declared.fault.InputError.TheVariants.{Io, Memory as no_memory}
+use Rattle.thorin_faults.specs.declared.fault.MissingReferencedObjectBehaviour.{MissingReferencedObjectBehaviour}
+use Rattle.thorin_faults.specs.declared.fault.MissingReferencedObjectBehaviour.TheVariants as behaviour
+use Rattle.thorin_executable.specs.View.{UnlessMemory}
+use Rattle.thorin.specs.declared.packing.Input.{Input}
+use Rattle.thorin.specs.declared.packing.Input.TheVariants as inputs
+use Rattle.thorin.specs.Builder.{State}
+use Rattle.thorin.specs.Join.{Joins, JoinAll}
+use Rattle.thorin.specs.Meaning.{Members}
+use Rattle.thorin.specs.Represents.{units_in}
+use Rattle.thorin.specs.Run.{Outcome, Takes, accepted_of, TakesRead, with_target, TakesReferred, TakesSkeleton, EndsWith, Step, GoesOn, TakesSkeletons, TakesExecutableRead, TakesInput, Ran}
+
+abbrev pub Offer : Type 1
+Offer = List ℕ → Result (List ℕ) IoError → Type 0
+
+-- a run goes on with one more input
+pub ran-next : (offer : Offer) (done : List Input) (input : Input) (old middle new : State) (outcomes : List Outcome) (outcome : Outcome) (before here : List (List ℕ))
+    → Ran offer done old outcomes middle before → TakesInput offer input middle outcome new here → Ran offer (done ++ input ∷ []) old (outcomes ++ outcome ∷ []) new (before ++ here)
+ran-next offer [] input old middle new [] outcome before here ran took = (
+  record { middle = new; here = here; later = [] },
+  rw (sym ran.0) took,
+  (refl, refl),
+  ap (λ l. l ++ here) ran.1 ∙ sym (append-nil here),
+)
+ran-next offer [] input old middle new (o ∷ os) outcome before here ran took = absurd ran
+ran-next offer (i ∷ is) input old middle new [] outcome before here ran took = absurd ran
+ran-next offer (i ∷ is) input old middle new (o ∷ os) outcome before here ran took = (
+  record { middle = ran.0.middle; here = ran.0.here; later = ran.0.later ++ here },
+  ran.1,
+  ran-next offer is input ran.0.middle middle new os outcome ran.0.later here ran.2 took,
+  ap (λ l. l ++ here) ran.3 ∙ append_assoc ran.0.here ran.0.later here,
+)
+
+-- the inputs up to one, and that one
+pub taken-next : {A : Type 0} (xs : List A) (i : ℕ) (d : A) → i < length xs → take (i + 1) xs ≡ take i xs ++ get_or xs i d ∷ []
+taken-next xs i d h = ap (λ n. take n xs) (add-one i) ∙ take-suc xs i d h
+
+-- ---- what was accepted is joined
+
+join-append : (a b : List (List ℕ)) (x y z : Members) → JoinAll a x y → JoinAll b y z → JoinAll (a ++ b) x z
+join-append [] b x y z h k = subst (λ m. JoinAll b m z) h k
+join-append (bytes ∷ a) b x y z h k = (h.0, h.1, join-append a b h.0 y z h.2 k)
+
+none-joined : (accepted : List (List ℕ)) (old new : State) → new ≡ old → accepted ≡ [] → JoinAll accepted (units_in old) (units_in new)
+none-joined accepted old new same none = subst (λ a. JoinAll a (units_in old) (units_in new)) (sym none) (ap units_in same)
+
+takes-joined : (bytes : List ℕ) (old new : State) (outcome : Outcome) (accepted : List (List ℕ)) → Takes bytes old outcome new → accepted ≡ accepted_of outcome bytes → JoinAll accepted (units_in old) (units_in new)
+takes-joined bytes old new (Ok x) accepted takes is = subst (λ a. JoinAll a (units_in old) (units_in new)) (sym is) (units_in new, takes.joins, refl)
+takes-joined bytes old new (Err e) accepted takes is = none-joined accepted old new takes.unchanged is
+
+read-joined : (read : Result (List ℕ) InputError) (old new : State) (outcome : Outcome) (accepted : List (List ℕ)) → TakesRead read old outcome new accepted → JoinAll accepted (units_in old) (units_in new)
+read-joined (Ok bytes) old new outcome accepted takes = takes-joined bytes old new outcome accepted takes.0 takes.1
+read-joined (Err e) old new outcome accepted takes = none-joined accepted old new takes.1 takes.2
+
+same-units : (name : DwarfObject) (state : State) → units_in (with_target name state) ≡ units_in state
+same-units (Compilation id) state = refl
+same-units (TypeUnit signature) state = refl
+
+referred-joined : (missing : MissingReferencedObjectBehaviour) (read : Result (List ℕ) InputError) (old new : State) (outcome : Outcome) (accepted : List (List ℕ)) → TakesReferred missing read old outcome new accepted → JoinAll accepted (units_in old) (units_in new)
+referred-joined missing (Ok bytes) old new outcome accepted takes = takes-joined bytes old new outcome accepted takes.0 takes.1
+referred-joined behaviour.Skip (Err (Io cause)) old new outcome accepted takes = none-joined accepted old new takes.1 takes.2
+referred-joined behaviour.Error (Err (Io cause)) old new outcome accepted takes = none-joined accepted old new takes.1 takes.2
+referred-joined missing (Err no_memory) old new outcome accepted takes = none-joined accepted old new takes.1 takes.2
+
+skeleton-joined : (offer : Offer) (missing : MissingReferencedObjectBehaviour) (named : DwarfObject × List ℕ) (old new : State) (outcome : Outcome) (accepted : List (List ℕ)) → TakesSkeleton offer missing named old outcome new accepted → JoinAll accepted (units_in old) (units_in new)
+skeleton-joined offer missing named old new outcome accepted (inl there) = none-joined accepted old new there.2 there.3
+skeleton-joined offer missing named old new outcome accepted (inr (inl reads)) =
+    subst (λ m. JoinAll accepted m (units_in new)) (same-units named.0 old) (referred-joined missing reads.read (with_target named.0 old) new outcome accepted reads.taken)
+skeleton-joined offer missing named old new outcome accepted (inr (inr none)) = none-joined accepted old new none.1 none.2
+
+skeletons-joined : (offer : Offer) (missing : MissingReferencedObjectBehaviour) (list : List (DwarfObject × List ℕ)) (fault : Option Fault) (old new : State) (outcome : Outcome) (accepted : List (List ℕ))
+    → TakesSkeletons offer missing list fault old outcome new accepted → JoinAll accepted (units_in old) (units_in new)
+skeletons-joined offer missing [] fault old new outcome accepted takes = none-joined accepted old new takes.1 takes.2
+skeletons-joined offer missing (n ∷ ns) fault old new outcome accepted takes = by takes.1 takes.2 takes.3
+  where
+    by : (first : Outcome) → TakesSkeleton offer missing n old first takes.0.middle takes.0.here
+        → GoesOn first takes.0 outcome new accepted (TakesSkeletons offer missing ns fault takes.0.middle outcome new takes.0.later) → JoinAll accepted (units_in old) (units_in new)
+    by (Ok x) one rest =
+        subst (λ a. JoinAll a (units_in old) (units_in new)) (sym rest.1)
+        (join-append takes.0.here takes.0.later (units_in old) (units_in takes.0.middle) (units_in new)
+        (skeleton-joined offer missing n old takes.0.middle (Ok x) takes.0.here one)
+        (skeletons-joined offer missing ns fault takes.0.middle new outcome takes.0.later rest.0))
+    by (Err e) one rest =
+        subst (λ a. JoinAll a (units_in old) (units_in new)) (sym rest.2)
+        (subst (λ m. JoinAll takes.0.here (units_in old) m) (sym (ap units_in rest.1)) (skeleton-joined offer missing n old takes.0.middle (Err e) takes.0.here one))
+
+executable-joined : (offer : Offer) (missing : MissingReferencedObjectBehaviour) (read : Result (List ℕ) InputError) (old new : State) (outcome : Outcome) (accepted : List (List ℕ))
+    → TakesExecutableRead offer missing read old outcome new accepted → JoinAll accepted (units_in old) (units_in new)
+executable-joined offer missing (Ok bytes) old new outcome accepted takes = skeletons-joined offer missing takes.named takes.fault old new outcome accepted takes.taken
+executable-joined offer missing (Err e) old new outcome accepted takes = none-joined accepted old new takes.1 takes.2
+
+input-joined : (offer : Offer) (input : Input) (old new : State) (outcome : Outcome) (accepted : List (List ℕ)) → TakesInput offer input old outcome new accepted → JoinAll accepted (units_in old) (units_in new)
+input-joined offer (inputs.Object path) old new outcome accepted takes =
+    subst (λ a. JoinAll a (units_in old) (units_in new)) (sym takes.1) (read-joined takes.0.read old new outcome takes.0.accepted takes.0.taken)
+input-joined offer (inputs.Bytes bytes) old new outcome accepted takes = takes-joined bytes.now old new outcome accepted takes.0 takes.1
+input-joined offer (inputs.Executable path missing) old new outcome accepted takes =
+    subst (λ a. JoinAll a (units_in old) (units_in new)) (sym takes.1) (executable-joined offer missing takes.0.read old new outcome takes.0.accepted takes.0.taken)
+
+pub run-joined : (offer : Offer) (list : List Input) (old new : State) (outcomes : List Outcome) (accepted : List (List ℕ)) → Ran offer list old outcomes new accepted → JoinAll accepted (units_in old) (units_in new)
+run-joined offer [] old new [] accepted ran = none-joined accepted old new ran.0 ran.1
+run-joined offer [] old new (o ∷ os) accepted ran = absurd ran
+run-joined offer (i ∷ is) old new [] accepted ran = absurd ran
+run-joined offer (i ∷ is) old new (o ∷ os) accepted ran =
+    subst (λ a. JoinAll a (units_in old) (units_in new)) (sym ran.3)
+    (join-append ran.0.here ran.0.later (units_in old) (units_in ran.0.middle) (units_in new)
+    (input-joined offer i old ran.0.middle o ran.0.here ran.1)
+    (run-joined offer is ran.0.middle new os ran.0.later ran.2))
+
+-- ---- the units that an executable refers to, up to one
+
+-- each of these was taken
+abbrev pub AllTaken : Offer → MissingReferencedObjectBehaviour → List (DwarfObject × List ℕ) → State → State → List (List ℕ) → Type 0
+AllTaken offer missing [] old new accepted = (new ≡ old) × (accepted ≡ [])
+AllTaken offer missing (n ∷ ns) old new accepted =
+    (s : Step) × TakesSkeleton offer missing n old (Ok tt) s.middle s.here × AllTaken offer missing ns s.middle new s.later × (accepted ≡ s.here ++ s.later)
+
+pub taken-more : (offer : Offer) (missing : MissingReferencedObjectBehaviour) (done : List (DwarfObject × List ℕ)) (n : DwarfObject × List ℕ) (old middle new : State) (before here : List (List ℕ))
+    → AllTaken offer missing done old middle before → TakesSkeleton offer missing n middle (Ok tt) new here → AllTaken offer missing (done ++ n ∷ []) old new (before ++ here)
+taken-more offer missing [] n old middle new before here all took = (
+  record { middle = new; here = here; later = [] },
+  rw (sym all.0) took,
+  (refl, refl),
+  ap (λ l. l ++ here) all.1 ∙ sym (append-nil here),
+)
+taken-more offer missing (d ∷ ds) n old middle new before here all took = (
+  record { middle = all.0.middle; here = all.0.here; later = all.0.later ++ here },
+  all.1,
+  taken-more offer missing ds n all.0.middle middle new all.0.later here all.2 took,
+  ap (λ l. l ++ here) all.3 ∙ append_assoc all.0.here all.0.later here,
+)
+
+-- and then what came of the rest
+pub taken-then : (offer : Offer) (missing : MissingReferencedObjectBehaviour) (done rest : List (DwarfObject × List ℕ)) (fault : Option Fault) (old middle new : State) (outcome : Outcome) (before here : List (List ℕ))
+    → AllTaken offer missing done old middle before → TakesSkeletons offer missing rest fault middle outcome new here → TakesSkeletons offer missing (done ++ rest) fault old outcome new (before ++ here)
+taken-then offer missing [] rest fault old middle new outcome before here all took =
+    subst (λ a. TakesSkeletons offer missing rest fault old outcome new a) (sym (ap (λ l. l ++ here) all.1)) (rw (sym all.0) took)
+taken-then offer missing (d ∷ ds) rest fault old middle new outcome before here all took = (
+  record { middle = all.0.middle; here = all.0.here; later = all.0.later ++ here },
+  Ok tt,
+  all.1,
+  (taken-then offer missing ds rest fault all.0.middle middle new outcome all.0.later here all.2 took, ap (λ l. l ++ here) all.3 ∙ append_assoc all.0.here all.0.later here),
+)
+
+-- a list that ended with another fault than want of memory
+pub unless-memory : (fault : Option Error) (P : Type 0) → UnlessMemory fault P → option_map fault_of fault ≢ Some Memory → P
+unless-memory None P h other = h
+unless-memory (Some e) P h other = h (λ is. other (ap (λ f. Some (fault_of f)) is))
+
+-- what is left of a list begins with its item
+pub rest-item : {A : Type 0} (xs : List A) (i : ℕ) (d : A) → i < length xs → drop i xs ≡ get_or xs i d ∷ drop (i + 1) xs
+rest-item xs i d h = drop-cons xs i d h ∙ ap (λ k. get_or xs i d ∷ drop k xs) (sym (add-one i))
