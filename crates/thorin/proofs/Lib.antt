@@ -21,6 +21,8 @@ pub mod OffsetRanges
 pub mod PackagedParts
 pub mod RowRanges
 pub mod PartsMean
+pub mod OwnRows
+pub mod RowMeaning
 pub mod RowShares
 pub mod SourceAdded
 pub mod InputJoined

@@ -1,5 +1,5 @@
 -- What is read of ranges of string offsets: of their whole entries alone, of none, and of joined ones.
-use Rattle.std.proofs.Common.{◌≡◌, ◌∙◌, ℕ, ◌+◌, ◌-◌, ◌<◌, ◌≤◌, Bool, true, false, cond, eqb, ltb, leb, List, [], ◌∷◌, ◌++◌, length, take, drop, subst, ◌*◌, ◌/◌, IsOk, zero-mul, add-mul, Result, Ok, Some, None, refl, sym, ap, ⊎_elim, true≢false, arith}
+use Rattle.std.proofs.Common.{◌≡◌, ◌∙◌, ℕ, ◌+◌, ◌-◌, ◌<◌, ◌≤◌, Bool, true, false, cond, eqb, ltb, leb, List, [], ◌++◌, length, take, drop, subst, ◌*◌, ◌/◌, IsOk, zero-mul, add-mul, Result, Ok, Some, None, refl, sym, ap, ⊎_elim, true≢false, arith}
 use Rattle.std.proofs.lemmas.List.{length-append, length-take, length-drop, take_all, take-append-drop, drop-append-le, get_or_append_left}
 use Rattle.std.proofs.lemmas.Bool.{cases_lt, lt-ltb, le-ltb, lt-leb, eq-eqb, eqb-true, eqb-false}
 use Rattle.std.proofs.lemmas.Nat.{row_fits}

@@ -1,5 +1,5 @@
 -- The parts of a package: each kind of section has one part at most, and the string offsets of each row read alike.
-use Rattle.std.proofs.Common.{◌≡◌, ◌∙◌, ℕ, ◌+◌, ◌<◌, ◌≤◌, Bool, true, false, cond, List, [], ◌∷◌, ◌++◌, length, take, subst, ◌&&◌, ◌||◌, Result, Ok, Option, Some, None, refl, sym, ap, ◌⊎◌, inl, inr, ⊎_elim, true≢false, arith}
+use Rattle.std.proofs.Common.{◌≡◌, ◌∙◌, ℕ, ◌+◌, ◌<◌, ◌≤◌, Bool, true, false, cond, List, [], ◌∷◌, ◌++◌, length, take, subst, ◌&&◌, ◌||◌, Ok, Option, Some, None, refl, sym, ap, ◌⊎◌, inl, inr, ⊎_elim, true≢false, arith}
 use Rattle.std.specs.Prelude.{find}
 use Rattle.std.proofs.lemmas.List.{append-nil}
 use Rattle.dwp_base.specs.declared.section.SectionKind.{SectionKind}
@@ -15,8 +15,8 @@ use Rattle.thorin.specs.Indexes.{Indexes, Source, is_package}
 use Rattle.thorin.specs.Meaning.{joined_content}
 use Rattle.thorin.specs.Parts.{Parts, is_copied, has_part, stands_once, with_part, with_each_part, parts_of}
 use Rattle.thorin.specs.Used.{Used, first, has_kind, bytes_of}
-use Rattle.thorin.proofs.PartGrowth.{either, kind-like, same-kind, differ, joined_parts-more, joined_parts-other, Rewritten, Adds, step, parts-copied}
-use Rattle.thorin.proofs.PartsMean.{NamesTheSameLaw, PackagedLaw, Follows, front-front, packaged, rewritten-package, step-strings, each-strings}
+use Rattle.thorin.proofs.PartGrowth.{either, kind-like, same-kind, joined_parts-more, joined_parts-other, Adds, step, parts-copied}
+use Rattle.thorin.proofs.PartsMean.{NamesTheSameLaw, PackagedLaw, front-front, packaged, rewritten-package, step-strings, each-strings}
 use Rattle.thorin.proofs.Steps.{bind-inv}
 
 -- ---- which kinds have a part
@@ -59,12 +59,14 @@ module _ (source : Source) where
   adds-other : (kind : SectionKind) (before : Parts) (s : Used) (next : Parts) → same_kind s.kind kind ≡ false → Adds source before s next
       → (has_part kind next.0 ≡ has_part kind before.0) × (joined_parts kind next.0 ≡ joined_parts kind before.0)
   adds-other kind before s next other (inl (o, w)) =
-      let apart : same_kind StrOffsets kind ≡ false = sym (kind-like s.kind StrOffsets kind o) ∙ other in
-      ( ap (λ (n : Parts). has_part kind n.0) w.is ∙ has-other kind before.0 StrOffsets w.written.0 apart
-      , ap (λ (n : Parts). joined_parts kind n.0) w.is ∙ joined_parts-other kind before.0 StrOffsets w.written.0 apart )
-  adds-other kind before s next other (inr (inl (o, c, is))) =
-      ( ap (λ (n : Parts). has_part kind n.0) is ∙ has-other kind before.0 s.kind s.bytes other
-      , ap (λ (n : Parts). joined_parts kind n.0) is ∙ joined_parts-other kind before.0 s.kind s.bytes other )
+      let apart : same_kind StrOffsets kind ≡ false = sym (kind-like s.kind StrOffsets kind o) ∙ other in (
+        ap (λ (n : Parts). has_part kind n.0) w.is ∙ has-other kind before.0 StrOffsets w.written.0 apart,
+        ap (λ (n : Parts). joined_parts kind n.0) w.is ∙ joined_parts-other kind before.0 StrOffsets w.written.0 apart,
+      )
+  adds-other kind before s next other (inr (inl (o, c, is))) = (
+    ap (λ (n : Parts). has_part kind n.0) is ∙ has-other kind before.0 s.kind s.bytes other,
+    ap (λ (n : Parts). joined_parts kind n.0) is ∙ joined_parts-other kind before.0 s.kind s.bytes other,
+  )
   adds-other kind before s next other (inr (inr (o, c, is))) = (ap (λ (n : Parts). has_part kind n.0) is, ap (λ (n : Parts). joined_parts kind n.0) is)
 
   -- what is there stays there

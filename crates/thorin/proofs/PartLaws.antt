@@ -1,5 +1,5 @@
 -- What the laws of the crates below say of string offsets that are rewritten.
-use Rattle.std.proofs.Common.{◌≡◌, ℕ, ◌+◌, ◌-◌, ◌*◌, ◌<◌, List, ◌++◌, length, take, nat_lt, Option, Ok, if◌then◌else◌}
+use Rattle.std.proofs.Common.{◌≡◌, ℕ, ◌-◌, ◌*◌, ◌<◌, List, ◌++◌, length, take, nat_lt, Option, Ok, if◌then◌else◌}
 use Rattle.dwp_base.specs.declared.endian.Endianness.{Endianness}
 use Rattle.dwp_reader.specs.Encoding.{offset_size}
 use Rattle.dwp_reader.specs.declared.encoding.Encoding.{Encoding}

@@ -1,5 +1,5 @@
 -- The string offsets of the parts of a plain input read alike.
-use Rattle.std.proofs.Common.{◌≡◌, ◌∙◌, ℕ, ◌+◌, ◌-◌, ◌<◌, Bool, true, false, cond, leb, List, [], ◌∷◌, ◌++◌, length, take, subst, ◌*◌, ◌&&◌, ◌||◌, IsOk, zero-mul, zero-add, nat_lt, Result, Ok, refl, sym, ap, if◌then◌else◌, inl, inr, ⊎_elim, true≢false, arith}
+use Rattle.std.proofs.Common.{◌≡◌, ◌∙◌, ℕ, ◌+◌, ◌-◌, ◌<◌, Bool, true, false, cond, leb, List, [], ◌∷◌, ◌++◌, length, take, subst, ◌*◌, ◌&&◌, ◌||◌, IsOk, zero-mul, zero-add, nat_lt, Ok, refl, sym, ap, inl, inr, ⊎_elim, true≢false, arith}
 use Rattle.std.proofs.lemmas.List.{append_assoc, append-nil}
 use Rattle.std.proofs.lemmas.Bool.{leb-true, leb-false}
 use Rattle.dwp_base.specs.declared.section.SectionKind.{SectionKind}
@@ -7,7 +7,7 @@ use Rattle.dwp_base.specs.declared.section.SectionKind.TheVariants.{StrOffsets, 
 use Rattle.dwp_base.specs.Sections.{same_kind}
 use Rattle.dwp_reader.specs.declared.encoding.Encoding.{Encoding}
 use Rattle.dwp_reader.specs.Encoding.{offset_size}
-use Rattle.dwp_reader.specs.StringOffsets.{header_size, entry_count}
+use Rattle.dwp_reader.specs.StringOffsets.{entry_count}
 use Rattle.dwp_index.specs.Strings.{string_in}
 use Rattle.thorin_parts.specs.ReadStrings.{ReadsAlike}
 use Rattle.thorin_strings.specs.Strings.{IsTable, data_of}
@@ -18,9 +18,9 @@ use Rattle.thorin.specs.Meaning.{whole_entries, joined_offsets}
 use Rattle.thorin.specs.Parts.{Parts, has_part, stands_once, with_part, with_each_part, parts_of}
 use Rattle.thorin.specs.Used.{Used, Object, first}
 use Rattle.thorin.proofs.OffsetRanges.{whole-long, whole-read, empty-read, no-header, rewritten-long, alike-by, IsWhole, whole-more}
-use Rattle.thorin.proofs.PartGrowth.{either, same-kind, joined-front, joined_parts-more, joined_parts-other, Rewritten, Adds, Step, step}
+use Rattle.thorin.proofs.PartGrowth.{either, same-kind, joined-front, joined_parts-more, joined_parts-other, Rewritten, Adds, step}
 use Rattle.thorin.proofs.PartLaws.{NamesTheSameLaw, ReadsAlikeLaw, ReadInTurnLaw}
-use Rattle.thorin.proofs.PartsMean.{front-front, unpackaged, rewritten-plain}
+use Rattle.thorin.proofs.PartsMean.{front-front, rewritten-plain}
 use Rattle.thorin.proofs.Steps.{bind-inv}
 
 has-by : (a b : Bool) → b ≡ true → (a || b) ≡ true

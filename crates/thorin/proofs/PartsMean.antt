@@ -1,5 +1,5 @@
 -- What the parts of an input are, beside their bytes.
-use Rattle.std.proofs.Common.{◌≡◌, ◌∙◌, ℕ, ◌≤◌, Bool, true, false, cond, List, [], ◌∷◌, length, take, min, subst, refl, sym, ap, inl, inr, Result, Ok, if◌then◌else◌, arith}
+use Rattle.std.proofs.Common.{◌≡◌, ◌∙◌, ℕ, ◌≤◌, Bool, true, false, cond, List, [], ◌∷◌, length, take, min, subst, refl, sym, ap, inl, inr, Result, Ok, arith}
 use Rattle.std.proofs.lemmas.List.{length-take, take-take}
 use Rattle.std.proofs.Math.Seq.{take-length}
 use Rattle.dwp_base.specs.declared.section.SectionKind.TheVariants.{Str, CuIndex, TuIndex}

@@ -1,7 +1,7 @@
 -- The ranges that a unit's row gets: where they lie, and what stands there.
 use Rattle.std.proofs.Common.{◌≡◌, ◌∙◌, ℕ, ◌+◌, ◌-◌, ◌<◌, ◌≤◌, Bool, true, false, cond, eqb, leb, List, [], ◌++◌, length, take, drop, slice_range, not, is_some, Result, Ok, Err, Option, Some, None, refl, sym, ap, if◌then◌else◌, arith}
 use Rattle.std.specs.Option.{option_and_then}
-use Rattle.std.proofs.lemmas.List.{append-nil, length-append, drop_at}
+use Rattle.std.proofs.lemmas.List.{length-append, drop_at}
 use Rattle.std.proofs.Math.Seq.{take-length, drop-append-add}
 use Rattle.std.proofs.lemmas.Option.{none-some, same_Some}
 use Rattle.std.proofs.lemmas.Bool.{leb-true, le-leb, eqb-true, eqb-false}
@@ -9,9 +9,9 @@ use Rattle.dwp_base.specs.declared.section.SectionKind.{SectionKind}
 use Rattle.dwp_base.specs.declared.section.Contribution.{Contribution}
 use Rattle.dwp_base.specs.Sections.{name_of}
 use Rattle.dwp_index.specs.Index.{Index, Ranges, row_in, column_place, contribution, range_in}
-use Rattle.dwp_index.specs.Package.{part_of, is_outside, lies_inside}
+use Rattle.dwp_index.specs.Package.{part_of, is_outside}
 use Rattle.dwp_reader.specs.declared.fault.ReadError.{ReadError}
-use Rattle.thorin_faults.specs.Fault.{Fault, BadContribution, SectionNotInRow}
+use Rattle.thorin_faults.specs.Fault.{Fault, BadContribution}
 use Rattle.thorin_packaged.specs.PackagedReading.{range_bytes}
 use Rattle.thorin_parts.specs.Adjusting.{moved, moved_range, without_column}
 use Rattle.thorin.proofs.PartGrowth.{no-bytes}

@@ -77,25 +77,28 @@ referred-joined missing (Err no_memory) old new outcome accepted takes = none-jo
 
 skeleton-joined : (offer : Offer) (missing : MissingReferencedObjectBehaviour) (named : DwarfObject × List ℕ) (old new : State) (outcome : Outcome) (accepted : List (List ℕ)) → TakesSkeleton offer missing named old outcome new accepted → JoinAll accepted (units_in old) (units_in new)
 skeleton-joined offer missing named old new outcome accepted (inl there) = none-joined accepted old new there.2 there.3
-skeleton-joined offer missing named old new outcome accepted (inr (inl reads)) =
-    subst (λ m. JoinAll accepted m (units_in new)) (same-units named.0 old) (referred-joined missing reads.read (with_target named.0 old) new outcome accepted reads.taken)
+skeleton-joined offer missing named old new outcome accepted (inr (inl takes)) =
+    subst (λ a. JoinAll a (units_in old) (units_in new)) (sym takes.accepted_is)
+    (subst (λ m. JoinAll takes.file.accepted m (units_in new)) (same-units named.0 old) (referred-joined missing takes.file.read (with_target named.0 old) new outcome takes.file.accepted takes.file.taken))
 skeleton-joined offer missing named old new outcome accepted (inr (inr none)) = none-joined accepted old new none.1 none.2
+
+-- what came of the first of a list, and then of the others
+first-joined : (offer : Offer) (missing : MissingReferencedObjectBehaviour) (n : DwarfObject × List ℕ) (s : Step) (old new : State) (first outcome : Outcome) (accepted : List (List ℕ)) (rest : Type 0)
+    → (rest → JoinAll s.later (units_in s.middle) (units_in new))
+    → TakesSkeleton offer missing n old first s.middle s.here → GoesOn first s outcome new accepted rest → JoinAll accepted (units_in old) (units_in new)
+first-joined offer missing n s old new (Ok x) outcome accepted rest later one goes =
+    subst (λ a. JoinAll a (units_in old) (units_in new)) (sym goes.1)
+    (join-append s.here s.later (units_in old) (units_in s.middle) (units_in new) (skeleton-joined offer missing n old s.middle (Ok x) s.here one) (later goes.0))
+first-joined offer missing n s old new (Err e) outcome accepted rest later one goes =
+    subst (λ a. JoinAll a (units_in old) (units_in new)) (sym goes.2)
+    (subst (λ m. JoinAll s.here (units_in old) m) (sym (ap units_in goes.1)) (skeleton-joined offer missing n old s.middle (Err e) s.here one))
 
 skeletons-joined : (offer : Offer) (missing : MissingReferencedObjectBehaviour) (list : List (DwarfObject × List ℕ)) (fault : Option Fault) (old new : State) (outcome : Outcome) (accepted : List (List ℕ))
     → TakesSkeletons offer missing list fault old outcome new accepted → JoinAll accepted (units_in old) (units_in new)
 skeletons-joined offer missing [] fault old new outcome accepted takes = none-joined accepted old new takes.1 takes.2
-skeletons-joined offer missing (n ∷ ns) fault old new outcome accepted takes = by takes.1 takes.2 takes.3
-  where
-    by : (first : Outcome) → TakesSkeleton offer missing n old first takes.0.middle takes.0.here
-        → GoesOn first takes.0 outcome new accepted (TakesSkeletons offer missing ns fault takes.0.middle outcome new takes.0.later) → JoinAll accepted (units_in old) (units_in new)
-    by (Ok x) one rest =
-        subst (λ a. JoinAll a (units_in old) (units_in new)) (sym rest.1)
-        (join-append takes.0.here takes.0.later (units_in old) (units_in takes.0.middle) (units_in new)
-        (skeleton-joined offer missing n old takes.0.middle (Ok x) takes.0.here one)
-        (skeletons-joined offer missing ns fault takes.0.middle new outcome takes.0.later rest.0))
-    by (Err e) one rest =
-        subst (λ a. JoinAll a (units_in old) (units_in new)) (sym rest.2)
-        (subst (λ m. JoinAll takes.0.here (units_in old) m) (sym (ap units_in rest.1)) (skeleton-joined offer missing n old takes.0.middle (Err e) takes.0.here one))
+skeletons-joined offer missing (n ∷ ns) fault old new outcome accepted takes =
+    first-joined offer missing n takes.0 old new takes.1 outcome accepted (TakesSkeletons offer missing ns fault takes.0.middle outcome new takes.0.later)
+    (λ rest. skeletons-joined offer missing ns fault takes.0.middle new outcome takes.0.later rest) takes.2 takes.3
 
 executable-joined : (offer : Offer) (missing : MissingReferencedObjectBehaviour) (read : Result (List ℕ) InputError) (old new : State) (outcome : Outcome) (accepted : List (List ℕ))
     → TakesExecutableRead offer missing read old outcome new accepted → JoinAll accepted (units_in old) (units_in new)

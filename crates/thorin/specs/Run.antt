@@ -81,18 +81,24 @@ TakesReferred behaviour.Skip (Err (input_error.Io cause)) old outcome new accept
 TakesReferred behaviour.Error (Err (input_error.Io cause)) old outcome new accepted = (outcome ≡ Err (error.ReadInput cause)) × (new ≡ old) × (accepted ≡ [])
 TakesReferred missing (Err input_error.Memory) old outcome new accepted = (outcome ≡ Err error.Memory) × (new ≡ old) × (accepted ≡ [])
 
--- the object of a unit that isn't there was read, of which that may be read, once the unit was among the targets
-pub record ReadsReferred (offer : List ℕ → Result (List ℕ) IoError → Type 0) (missing : MissingReferencedObjectBehaviour) (named : DwarfObject × List ℕ) (old : State) (outcome : Outcome) (new : State) (accepted : List (List ℕ)) : Type 0 where
-  pub absent : is_there named.0 old ≡ false
+-- the same for the object at a path, of which that may be read
+pub record TakesReferredFile (offered : Result (List ℕ) IoError → Type 0) (missing : MissingReferencedObjectBehaviour) (old : State) (outcome : Outcome) (new : State) : Type 0 where
   pub read : Result (List ℕ) InputError
-  pub within : MayRead (offer named.1) read
-  pub taken : TakesReferred missing read (with_target named.0 old) outcome new accepted
+  pub within : MayRead offered read
+  pub accepted : List (List ℕ)
+  pub taken : TakesReferred missing read old outcome new accepted
 
--- a unit that an executable refers to, with the path of its object: it is there; or its object was read; or memory ran out before
+-- a unit that isn't there was among the targets, and then its object was taken
+pub record TakesAbsent (offer : List ℕ → Result (List ℕ) IoError → Type 0) (missing : MissingReferencedObjectBehaviour) (named : DwarfObject × List ℕ) (old : State) (outcome : Outcome) (new : State) (accepted : List (List ℕ)) : Type 0 where
+  pub absent : is_there named.0 old ≡ false
+  pub file : TakesReferredFile (offer named.1) missing (with_target named.0 old) outcome new
+  pub accepted_is : accepted ≡ file.accepted
+
+-- a unit that an executable refers to, with the path of its object: it is there; or its object was taken; or memory ran out before
 abbrev pub TakesSkeleton : (List ℕ → Result (List ℕ) IoError → Type 0) → MissingReferencedObjectBehaviour → DwarfObject × List ℕ → State → Outcome → State → List (List ℕ) → Type 0
 TakesSkeleton offer missing named old outcome new accepted =
     ((is_there named.0 old ≡ true) × (outcome ≡ Ok tt) × (new ≡ old) × (accepted ≡ []))
-    ⊎ (ReadsReferred offer missing named old outcome new accepted
+    ⊎ (TakesAbsent offer missing named old outcome new accepted
     ⊎ ((outcome ≡ Err error.Memory) × (new ≡ old) × (accepted ≡ [])))
 
 -- what comes of a list's end: nothing, or the fault that ended it

@@ -7,7 +7,7 @@ ghost use Rattle.thorin.specs.Represents.{IsSoundBegun, units_begun};
 ghost use Rattle.thorin.specs.State.{InProgress};
 
 use dwp_index::units_are_read_alone;
-use thorin_packaged::{packaged_rows_are_read_alike, rows_are_found_by_place};
+use thorin_packaged::packaged_rows_are_read_alike;
 use thorin_parts::{joined_string_offsets_are_read_in_turn, rewritten_strings_are_read_alike};
 use thorin_strings::rewritten_offsets_name_the_same;
 
@@ -22,6 +22,5 @@ pub fn inputs_are_joined()
     rewritten_strings_are_read_alike();
     joined_string_offsets_are_read_in_turn();
     packaged_rows_are_read_alike();
-    rows_are_found_by_place();
     units_are_read_alone();
 }

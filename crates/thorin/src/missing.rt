@@ -42,12 +42,15 @@ impl Iterator for MissingTargets<'_> {
     ghost remaining = { item_count missing_left };
 
     fn next(&mut self) -> Option<DwarfObject> {
-        while let Some(target) = self.targets.get_index(self.next) {
-            self.next += 1;
-            if !self.contained.contains(target) {
-                return Some(*target);
+        for place in self.next..self.targets.len() {
+            if let Some(target) = self.targets.get_index(place) {
+                if !self.contained.contains(target) {
+                    self.next = place + 1;
+                    return Some(*target);
+                }
             }
         }
+        self.next = self.targets.len();
         None
     }
 }

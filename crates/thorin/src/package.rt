@@ -1,6 +1,6 @@
 //! The package builder.
 
-ghost use Rattle.std.specs.Prelude.{◌≡◌, ℕ, List, filter, IfOk, OnOk, OnErr};
+ghost use Rattle.std.specs.Prelude.{◌≡◌, ℕ, List, filter, IfOk, IfErr, OnOk, OnErr};
 ghost use Rattle.thorin_faults.specs.Answers.{Gives};
 ghost use Rattle.std.specs.Path.{path_bytes};
 ghost use Rattle.thorin.specs.Builder as spec;
@@ -9,7 +9,7 @@ ghost use Rattle.thorin.specs.Join.{Joins, IsPackageOnceWritten};
 ghost use Rattle.thorin.specs.Meaning.{keys};
 ghost use Rattle.thorin.specs.Represents.{units_in};
 ghost use Rattle.thorin.specs.Missing.{missing_left};
-ghost use Rattle.thorin.specs.Run.{TakesFile, TakesExecutable, TakesNamed, TakesSkeleton};
+ghost use Rattle.thorin.specs.Run.{TakesFile, TakesExecutable, TakesNamed, TakesSkeleton, TakesReferredFile, with_target, is_there};
 ghost use Rattle.thorin_executable.specs.View.{named};
 
 use crate::adding::add_input;
@@ -192,13 +192,48 @@ impl<'output, 'session: 'output, Sess: Session<RelocationEntry>> DwarfPackage<
         ensures taken { (accepted : List (List ℕ)) × TakesSkeleton (Sess.offer self.old.session) missing (named skeleton.now) self.old.state result self.new.state accepted }
         ensures session { self.new.session ≡ self.old.session }
     {
-        if let DwarfObject::Compilation(_) = skeleton.target {
-            if self.contained_units().contains(&skeleton.target) {
-                return Ok(());
-            }
-            self.targets.insert(skeleton.target)?;
+        if self.is_there(skeleton.target) {
+            return Ok(());
         }
-        match self.session.read_input(Path::new(skeleton.path.as_str())) {
+        self.add_target(skeleton.target)?;
+        self.add_referred(Path::new(skeleton.path.as_str()), missing)
+    }
+
+    // Whether a unit is a compilation unit that the package has.
+    fn is_there(&self, target: DwarfObject) -> bool
+        ensures { result ≡ is_there target self.now.state }
+    {
+        match target {
+            DwarfObject::Compilation(_) => self.contained_units().contains(&target),
+            DwarfObject::TypeUnit(_) => false,
+        }
+    }
+
+    // Adds a compilation unit to the targets. It refuses for memory alone, and then changes nothing.
+    fn add_target(&mut self, target: DwarfObject) -> Result<(), Error>
+        ensures target { OnOk result (self.new.state ≡ with_target target self.old.state) }
+        ensures refused { IfErr result (λ e. (e ≡ Error.Memory) × (self.new.state ≡ self.old.state)) }
+        ensures session { self.new.session ≡ self.old.session }
+    {
+        match target {
+            DwarfObject::Compilation(_) => {
+                self.targets.insert(target)?;
+                Ok(())
+            }
+            DwarfObject::TypeUnit(_) => Ok(()),
+        }
+    }
+
+    // Adds the object at a path that an executable refers to; one that can't be read may be passed over.
+    fn add_referred(
+        &mut self,
+        path: Path<'_>,
+        missing: MissingReferencedObjectBehaviour,
+    ) -> Result<(), Error>
+        ensures taken { TakesReferredFile (Sess.offer self.old.session (path_bytes path.entry)) missing self.old.state result self.new.state }
+        ensures session { self.new.session ≡ self.old.session }
+    {
+        match self.session.read_input(path) {
             Ok(bytes) => self.add_object_bytes(bytes),
             Err(InputError::Io(e)) => match missing {
                 MissingReferencedObjectBehaviour::Skip => Ok(()),
