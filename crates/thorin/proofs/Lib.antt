@@ -32,3 +32,4 @@ pub mod ReadingFile
 pub mod PackageFound
 pub mod Written
 pub mod Running
+pub mod MissingLemmas

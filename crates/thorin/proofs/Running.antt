@@ -1,11 +1,13 @@
 -- A run, one input after the other, and the join of what it accepted.
-use Rattle.std.proofs.Common.{◌≡◌, ◌≢◌, ◌∙◌, ℕ, Bool, true, false, List, [], ◌∷◌, ◌++◌, refl, sym, ap, subst, Option, Some, None, Result, Ok, Err, ◌<◌, ◌+◌, add-one, length, take, drop, get_or, map, inl, inr}
+use Rattle.std.proofs.Common.{◌≡◌, ◌≢◌, ◌∙◌, ℕ, Bool, true, false, true≢false, List, [], ◌∷◌, ◌++◌, refl, sym, ap, subst, Option, Some, None, Result, Ok, Err, ◌<◌, ◌+◌, add-one, length, take, drop, get_or, map, inl, inr, Bor}
 use Rattle.std.specs.Prelude.{option_map}
-use Rattle.std.proofs.Math.Seq.{take-suc, drop-cons}
-use Rattle.std.proofs.lemmas.List.{append_assoc, append-nil}
+use Rattle.std.proofs.Math.Seq.{take-suc}
+use Rattle.std.proofs.lemmas.List.{append_assoc, append-nil, map-append, take-append-drop, length-map}
 use Rattle.std.specs.declared.io.Error.{Error as IoError}
 use Rattle.std.specs.Path.{path_bytes}
+use Rattle.std.specs.declared.path.Path.{Path}
 use Rattle.dwp_table.specs.declared.object.DwarfObject.{DwarfObject}
+use Rattle.dwp_table.specs.declared.object.DwoId.{DwoId}
 use Rattle.dwp_table.specs.declared.object.DwarfObject.TheVariants.{Compilation, TypeUnit}
 use Rattle.thorin_faults.specs.Fault.{Fault, fault_of, Memory}
 use Rattle.thorin_faults.specs.declared.fault.Error.{Error}
@@ -14,14 +16,23 @@ use Rattle.thorin_faults.specs.declared.fault.InputError.{InputError}
 use Rattle.thorin_faults.specs.declared.fault.InputError.TheVariants.{Io, Memory as no_memory}
 use Rattle.thorin_faults.specs.declared.fault.MissingReferencedObjectBehaviour.{MissingReferencedObjectBehaviour}
 use Rattle.thorin_faults.specs.declared.fault.MissingReferencedObjectBehaviour.TheVariants as behaviour
-use Rattle.thorin_executable.specs.View.{UnlessMemory}
+use Rattle.thorin_executable.specs.View.{UnlessMemory, IsFront, listed, named}
+use Rattle.thorin_executable.specs.Skeletons.{skeletons_of}
+use Rattle.thorin_executable.specs.declared.listing.Skeleton.{Skeleton}
+use Rattle.thorin_executable.specs.declared.listing.SkeletonList.{SkeletonList}
+use Rattle.std.specs.Result.{is_err}
+use Rattle.thorin.proofs.PartLemmas.{drop-item}
 use Rattle.thorin.specs.declared.packing.Input.{Input}
 use Rattle.thorin.specs.declared.packing.Input.TheVariants as inputs
-use Rattle.thorin.specs.Builder.{State}
+use Rattle.std.specs.List.{list_any}
+use Rattle.thorin.specs.Builder.{State, names_in}
 use Rattle.thorin.specs.Join.{Joins, JoinAll}
-use Rattle.thorin.specs.Meaning.{Members}
-use Rattle.thorin.specs.Represents.{units_in}
-use Rattle.thorin.specs.Run.{Outcome, Takes, accepted_of, TakesRead, with_target, TakesReferred, TakesSkeleton, EndsWith, Step, GoesOn, TakesSkeletons, TakesExecutableRead, TakesInput, Ran}
+use Rattle.thorin.specs.Meaning.{Members, keys}
+use Rattle.thorin.specs.Names.{same_name, with_name}
+use Rattle.thorin.specs.State.{InProgress}
+use Rattle.thorin.specs.Represents.{units_in, units_begun}
+use Rattle.thorin.proofs.UnitsFound.{keys-units}
+use Rattle.thorin.specs.Run.{Outcome, Takes, accepted_of, TakesRead, with_target, PassesOver, TakesReferred, TakesSkeleton, is_there, EndsWith, Step, GoesOn, TakesSkeletons, AllTaken, TakesEach, TakesNamed, TakesExecutable, TakesFile, Took, TakesExecutableRead, TakesInput, Ran}
 
 abbrev pub Offer : Type 1
 Offer = List ℕ → Result (List ℕ) IoError → Type 0
@@ -71,8 +82,7 @@ same-units (TypeUnit signature) state = refl
 
 referred-joined : (missing : MissingReferencedObjectBehaviour) (read : Result (List ℕ) InputError) (old new : State) (outcome : Outcome) (accepted : List (List ℕ)) → TakesReferred missing read old outcome new accepted → JoinAll accepted (units_in old) (units_in new)
 referred-joined missing (Ok bytes) old new outcome accepted takes = takes-joined bytes old new outcome accepted takes.0 takes.1
-referred-joined behaviour.Skip (Err (Io cause)) old new outcome accepted takes = none-joined accepted old new takes.1 takes.2
-referred-joined behaviour.Error (Err (Io cause)) old new outcome accepted takes = none-joined accepted old new takes.1 takes.2
+referred-joined missing (Err (Io cause)) old new outcome accepted takes = none-joined accepted old new takes.1 takes.2
 referred-joined missing (Err no_memory) old new outcome accepted takes = none-joined accepted old new takes.1 takes.2
 
 skeleton-joined : (offer : Offer) (missing : MissingReferencedObjectBehaviour) (named : DwarfObject × List ℕ) (old new : State) (outcome : Outcome) (accepted : List (List ℕ)) → TakesSkeleton offer missing named old outcome new accepted → JoinAll accepted (units_in old) (units_in new)
@@ -124,12 +134,6 @@ run-joined offer (i ∷ is) old new (o ∷ os) accepted ran =
 
 -- ---- the units that an executable refers to, up to one
 
--- each of these was taken
-abbrev pub AllTaken : Offer → MissingReferencedObjectBehaviour → List (DwarfObject × List ℕ) → State → State → List (List ℕ) → Type 0
-AllTaken offer missing [] old new accepted = (new ≡ old) × (accepted ≡ [])
-AllTaken offer missing (n ∷ ns) old new accepted =
-    (s : Step) × TakesSkeleton offer missing n old (Ok tt) s.middle s.here × AllTaken offer missing ns s.middle new s.later × (accepted ≡ s.here ++ s.later)
-
 pub taken-more : (offer : Offer) (missing : MissingReferencedObjectBehaviour) (done : List (DwarfObject × List ℕ)) (n : DwarfObject × List ℕ) (old middle new : State) (before here : List (List ℕ))
     → AllTaken offer missing done old middle before → TakesSkeleton offer missing n middle (Ok tt) new here → AllTaken offer missing (done ++ n ∷ []) old new (before ++ here)
 taken-more offer missing [] n old middle new before here all took = (
@@ -162,6 +166,96 @@ pub unless-memory : (fault : Option Error) (P : Type 0) → UnlessMemory fault P
 unless-memory None P h other = h
 unless-memory (Some e) P h other = h (λ is. other (ap (λ f. Some (fault_of f)) is))
 
--- what is left of a list begins with its item
-pub rest-item : {A : Type 0} (xs : List A) (i : ℕ) (d : A) → i < length xs → drop i xs ≡ get_or xs i d ∷ drop (i + 1) xs
-rest-item xs i d h = drop-cons xs i d h ∙ ap (λ k. get_or xs i d ∷ drop k xs) (sym (add-one i))
+-- the first of a list, one of it, and those behind it
+parted : (items : List Skeleton) (i : ℕ) (item : Skeleton) → i < length items → item ≡ get_or items i item → map named (take i items) ++ named item ∷ map named (drop (i + 1) items) ≡ map named items
+parted items i item h e =
+    ap (λ l. map named (take i items) ++ map named l) (sym (drop-item items i item h e))
+    ∙ sym (map-append named (take i items) (drop i items))
+    ∙ ap (map named) (take-append-drop i items)
+
+-- one of a list was refused
+pub each-refused : (offer : Offer) (missing : MissingReferencedObjectBehaviour) (items : List Skeleton) (i : ℕ) (item : Skeleton) (old middle new : State) (outcome : Outcome) (before here : List (List ℕ))
+    → AllTaken offer missing (map named (take i items)) old middle before → i < length items → item ≡ get_or items i item
+    → TakesSkeleton offer missing (named item) middle outcome new here → is_err outcome ≡ true
+    → (accepted : List (List ℕ)) × TakesEach offer missing (map named items) old outcome new accepted
+each-refused offer missing items i item old middle new (Ok x) before here all within is took refused = absurd (true≢false (sym refused))
+each-refused offer missing items i item old middle new (Err e) before here all within is took refused = (
+  before ++ here,
+  λ fault. subst (λ l. TakesSkeletons offer missing l fault old (Err e) new (before ++ here)) (parted items i item within is)
+      (taken-then offer missing (map named (take i items)) (named item ∷ map named (drop (i + 1) items)) fault old middle new (Err e) before here all
+      (record { middle = new; here = here; later = [] }, Err e, took, (refl, refl, refl))),
+)
+
+-- one more was taken
+pub each-next : (offer : Offer) (missing : MissingReferencedObjectBehaviour) (items : List Skeleton) (i : ℕ) (item : Skeleton) (old middle new : State) (outcome : Outcome) (before here : List (List ℕ))
+    → AllTaken offer missing (map named (take i items)) old middle before → i < length items → item ≡ get_or items i item
+    → TakesSkeleton offer missing (named item) middle outcome new here → is_err outcome ≡ false
+    → AllTaken offer missing (map named (take (i + 1) items)) old new (before ++ here)
+each-next offer missing items i item old middle new (Err e) before here all within is took fine = absurd (true≢false fine)
+each-next offer missing items i item old middle new (Ok x) before here all within is took fine =
+    let more : take (i + 1) items ≡ take i items ++ item ∷ [] = taken-next items i item within ∙ ap (λ y. take i items ++ y ∷ []) (sym is) in
+    subst (λ l. AllTaken offer missing l old new (before ++ here)) (sym (ap (map named) more ∙ map-append named (take i items) (item ∷ [])))
+    (taken-more offer missing (map named (take i items)) (named item) old middle new before here all took)
+
+-- what an executable's bytes name was taken, up to a refusal
+pub named-refused : (offer : Offer) (missing : MissingReferencedObjectBehaviour) (bytes : List ℕ) (list : SkeletonList) (old new : State) (outcome : Outcome) (accepted : List (List ℕ))
+    → IsFront list (skeletons_of bytes) → UnlessMemory list.fault (skeletons_of bytes ≡ listed list)
+    → TakesEach offer missing (map named list.units.items) old outcome new accepted → is_err outcome ≡ true
+    → TakesNamed offer missing bytes old outcome new accepted
+named-refused offer missing bytes list old new (Ok x) accepted front exact each refused = absurd (true≢false (sym refused))
+named-refused offer missing bytes list old new (Err e) accepted front exact each refused = record {
+  named = map named list.units.items;
+  fault = option_map fault_of list.fault;
+  are = unless-memory list.fault (skeletons_of bytes ≡ listed list) exact;
+  front = ap (λ n. take n (skeletons_of bytes).0) (length-map list.units.items named) ∙ front;
+  taken = each (option_map fault_of list.fault);
+}
+
+-- or to its end
+pub named-ended : (offer : Offer) (missing : MissingReferencedObjectBehaviour) (bytes : List ℕ) (list : SkeletonList) (old new : State) (outcome last : Outcome) (accepted : List (List ℕ))
+    → IsFront list (skeletons_of bytes) → UnlessMemory list.fault (skeletons_of bytes ≡ listed list)
+    → TakesEach offer missing (map named list.units.items) old outcome new accepted → is_err outcome ≡ false → EndsWith (option_map fault_of list.fault) last
+    → TakesNamed offer missing bytes old last new accepted
+named-ended offer missing bytes list old new (Err e) last accepted front exact each fine ends = absurd (true≢false fine)
+named-ended offer missing bytes list old new (Ok x) last accepted front exact each fine ends = record {
+  named = map named list.units.items;
+  fault = option_map fault_of list.fault;
+  are = unless-memory list.fault (skeletons_of bytes ≡ listed list) exact;
+  front = ap (λ n. take n (skeletons_of bytes).0) (length-map list.units.items named) ∙ front;
+  taken = subst (λ l. TakesSkeletons offer missing l (option_map fault_of list.fault) old last new accepted) (append-nil (map named list.units.items))
+      (subst (λ a. TakesSkeletons offer missing (map named list.units.items ++ []) (option_map fault_of list.fault) old last new a) (append-nil accepted)
+      (taken-then offer missing (map named list.units.items) [] (option_map fault_of list.fault) old new new last accepted [] each (ends, refl, refl)));
+}
+
+-- a failed read that is passed over, or isn't
+pub passed-over : (missing : MissingReferencedObjectBehaviour) (cause : IoError) (outcome : Outcome) → missing ≡ behaviour.Skip → outcome ≡ Ok tt → PassesOver missing cause outcome
+passed-over missing cause outcome h k = subst (λ m. PassesOver m cause outcome) (sym h) k
+
+pub not-passed-over : (missing : MissingReferencedObjectBehaviour) (cause : IoError) (outcome : Outcome) → missing ≡ behaviour.Error → outcome ≡ Err (error.ReadInput cause) → PassesOver missing cause outcome
+not-passed-over missing cause outcome h k = subst (λ m. PassesOver m cause outcome) (sym h) k
+
+-- a compilation unit's name among the targets, and whether it is there
+pub target-is : (target : DwarfObject) (id : DwoId) (state : State) → target ≡ Compilation id → with_target target state ≡ record state { targets = with_name state.targets target }
+target-is target id state h = subst (λ t. with_target t state ≡ record state { targets = with_name state.targets t }) (sym h) refl
+
+pub there-is : (target : DwarfObject) (id : DwoId) (state : State) → target ≡ Compilation id → is_there target state ≡ list_any (same_name target) (names_in state.begun)
+there-is target id state h = subst (λ t. is_there t state ≡ list_any (same_name t) (names_in state.begun)) (sym h) refl
+
+-- the names of a builder's units
+pub names-begun : (state : State) → keys (units_in state) ≡ names_in state.begun
+names-begun state = by state.begun
+  where
+    by : (begun : Option InProgress) → keys (units_begun begun) ≡ names_in begun
+    by None = refl
+    by (Some made) = keys-units made
+
+-- an input of each kind was taken
+pub took-object : (offer : Offer) (input : Input) (path : Path) (old new : State) (outcome : Outcome) → input ≡ inputs.Object path → TakesFile (offer (path_bytes path)) old outcome new → Took offer input old outcome new
+took-object offer input path old new outcome h takes = subst (λ i. Took offer i old outcome new) (sym h) (record { accepted = takes.accepted; takes = (takes, refl) })
+
+pub took-bytes : (offer : Offer) (input : Input) (bytes : Bor (List ℕ)) (old new : State) (outcome : Outcome) → input ≡ inputs.Bytes bytes → Takes bytes.now old outcome new → Took offer input old outcome new
+took-bytes offer input bytes old new outcome h takes = subst (λ i. Took offer i old outcome new) (sym h) (record { accepted = accepted_of outcome bytes.now; takes = (takes, refl) })
+
+pub took-executable : (offer : Offer) (input : Input) (path : Path) (missing : MissingReferencedObjectBehaviour) (old new : State) (outcome : Outcome) → input ≡ inputs.Executable path missing
+    → TakesExecutable offer (path_bytes path) missing old outcome new → Took offer input old outcome new
+took-executable offer input path missing old new outcome h takes = subst (λ i. Took offer i old outcome new) (sym h) (record { accepted = takes.accepted; takes = (takes, refl) })

@@ -74,11 +74,15 @@ abbrev pub is_there : DwarfObject → State → Bool
 is_there (Compilation id) state = list_any (same_name (Compilation id)) (names_in state.begun)
 is_there (TypeUnit signature) state = false
 
--- what a read of an object that an executable refers to gave was taken; a failed read alone may be passed over
+-- an object that an executable refers to can't be read: it is passed over, or a fault
+abbrev pub PassesOver : MissingReferencedObjectBehaviour → IoError → Outcome → Type 0
+PassesOver behaviour.Skip cause outcome = outcome ≡ Ok tt
+PassesOver behaviour.Error cause outcome = outcome ≡ Err (error.ReadInput cause)
+
+-- what a read of such an object gave was taken; a failed read alone may be passed over
 abbrev pub TakesReferred : MissingReferencedObjectBehaviour → Result (List ℕ) InputError → State → Outcome → State → List (List ℕ) → Type 0
 TakesReferred missing (Ok bytes) old outcome new accepted = Takes bytes old outcome new × (accepted ≡ accepted_of outcome bytes)
-TakesReferred behaviour.Skip (Err (input_error.Io cause)) old outcome new accepted = (outcome ≡ Ok tt) × (new ≡ old) × (accepted ≡ [])
-TakesReferred behaviour.Error (Err (input_error.Io cause)) old outcome new accepted = (outcome ≡ Err (error.ReadInput cause)) × (new ≡ old) × (accepted ≡ [])
+TakesReferred missing (Err (input_error.Io cause)) old outcome new accepted = PassesOver missing cause outcome × (new ≡ old) × (accepted ≡ [])
 TakesReferred missing (Err input_error.Memory) old outcome new accepted = (outcome ≡ Err error.Memory) × (new ≡ old) × (accepted ≡ [])
 
 -- the same for the object at a path, of which that may be read
@@ -124,6 +128,17 @@ TakesSkeletons offer missing [] fault old outcome new accepted = EndsWith fault 
 TakesSkeletons offer missing (named ∷ rest) fault old outcome new accepted =
     (s : Step) × (first : Outcome) × TakesSkeleton offer missing named old first s.middle s.here
     × GoesOn first s outcome new accepted (TakesSkeletons offer missing rest fault s.middle outcome new s.later)
+
+-- each of these was taken
+abbrev pub AllTaken : (List ℕ → Result (List ℕ) IoError → Type 0) → MissingReferencedObjectBehaviour → List (DwarfObject × List ℕ) → State → State → List (List ℕ) → Type 0
+AllTaken offer missing [] old new accepted = (new ≡ old) × (accepted ≡ [])
+AllTaken offer missing (named ∷ rest) old new accepted =
+    (s : Step) × TakesSkeleton offer missing named old (Ok tt) s.middle s.here × AllTaken offer missing rest s.middle new s.later × (accepted ≡ s.here ++ s.later)
+
+-- each was taken, or those up to the first refusal, whatever ends the list
+abbrev pub TakesEach : (List ℕ → Result (List ℕ) IoError → Type 0) → MissingReferencedObjectBehaviour → List (DwarfObject × List ℕ) → State → Outcome → State → List (List ℕ) → Type 0
+TakesEach offer missing list old (Ok x) new accepted = AllTaken offer missing list old new accepted
+TakesEach offer missing list old (Err e) new accepted = (fault : Option Fault) → TakesSkeletons offer missing list fault old (Err e) new accepted
 
 -- the units that an executable's bytes refer to and the fault that ends their list; where memory ran out, the first of them
 pub record TakesNamed (offer : List ℕ → Result (List ℕ) IoError → Type 0) (missing : MissingReferencedObjectBehaviour) (bytes : List ℕ) (old : State) (outcome : Outcome) (new : State) (accepted : List (List ℕ)) : Type 0 where

@@ -1,6 +1,6 @@
 //! The package builder.
 
-ghost use Rattle.std.specs.Prelude.{◌≡◌, ℕ, List, filter, IfOk, IfErr, OnOk, OnErr};
+ghost use Rattle.std.specs.Prelude.{◌≡◌, ℕ, List, map, filter, IfOk, IfErr, OnOk, OnErr};
 ghost use Rattle.thorin_faults.specs.Answers.{Gives};
 ghost use Rattle.std.specs.Path.{path_bytes};
 ghost use Rattle.thorin.specs.Builder as spec;
@@ -9,7 +9,7 @@ ghost use Rattle.thorin.specs.Join.{Joins, IsPackageOnceWritten};
 ghost use Rattle.thorin.specs.Meaning.{keys};
 ghost use Rattle.thorin.specs.Represents.{units_in};
 ghost use Rattle.thorin.specs.Missing.{missing_left};
-ghost use Rattle.thorin.specs.Run.{TakesFile, TakesExecutable, TakesNamed, TakesSkeleton, TakesReferredFile, with_target, is_there};
+ghost use Rattle.thorin.specs.Run.{TakesFile, TakesExecutable, TakesNamed, TakesEach, TakesSkeleton, TakesReferredFile, with_target, is_there};
 ghost use Rattle.thorin_executable.specs.View.{named};
 
 use crate::adding::add_input;
@@ -174,13 +174,32 @@ impl<'output, 'session: 'output, Sess: Session<RelocationEntry>> DwarfPackage<
             units,
             fault,
         } = skeletons(self.alloc, self.session, bytes);
-        for skeleton in &units {
-            self.add_skeleton(skeleton, missing)?;
+        let outcome = self.add_each(&units, missing);
+        if outcome.is_err() {
+            return outcome;
         }
         match fault {
             Some(e) => Err(e),
             None => Ok(()),
         }
+    }
+
+    // Adds the objects of units that an executable refers to, up to the first refusal.
+    fn add_each(
+        &mut self,
+        units: &[Skeleton],
+        missing: MissingReferencedObjectBehaviour,
+    ) -> Result<(), Error>
+        ensures taken { (accepted : List (List ℕ)) × TakesEach (Sess.offer self.old.session) missing (map named units.now) self.old.state result self.new.state accepted }
+        ensures session { self.new.session ≡ self.old.session }
+    {
+        for skeleton in units {
+            let outcome = self.add_skeleton(skeleton, missing);
+            if outcome.is_err() {
+                return outcome;
+            }
+        }
+        Ok(())
     }
 
     // Adds the object of a unit that an executable refers to.
