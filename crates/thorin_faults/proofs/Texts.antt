@@ -2,7 +2,7 @@
 use Rattle.std.proofs.Common.{◌≡◌, false, refl, sym}
 use Rattle.std.specs.Prelude.{IsSome}
 use Rattle.std.proofs.lemmas.Bool.{false≢true}
-use Rattle.thorin_faults.specs.Fault.{Fault, ReadInput, ParseFileKind, ParseObjectFile, InvalidInputKind, DecompressData, NamelessSection, RelocationWithInvalidSymbol, MultipleRelocations, UnsupportedRelocation, MissingDwoName, NoCompilationUnits, NoDie, TopLevelDieNotUnit, MissingRequiredSection, ParseUnitAbbreviations, ParseUnitHeader, ParseUnit, IncompatibleIndexVersion, OffsetAtIndex, StrAtOffset, ParseIndex, UnitNotInIndex, RowNotInIndex, SectionNotInRow, EmptyUnit, MultipleDebugInfoSection, MultipleDebugTypesSection, NotSplitUnit, DuplicateUnit, MissingReferencedUnit, NoOutputObjectCreated, MixedInputEncodings, Io, ObjectRead, ObjectWrite, GimliRead, GimliWrite, Memory, NumberTooLarge, BadContribution, SectionOutsideFormat, RepeatedSection, BadStringOffsets, OverlappingStringOffsets, NotYet}
+use Rattle.thorin_faults.specs.Fault.{Fault, ReadInput, ParseFileKind, ParseObjectFile, InvalidInputKind, DecompressData, NamelessSection, RelocationWithInvalidSymbol, MultipleRelocations, UnsupportedRelocation, MissingDwoName, NoCompilationUnits, NoDie, TopLevelDieNotUnit, MissingRequiredSection, ParseUnitAbbreviations, ParseUnitHeader, ParseUnit, IncompatibleIndexVersion, OffsetAtIndex, StrAtOffset, ParseIndex, UnitNotInIndex, RowNotInIndex, SectionNotInRow, EmptyUnit, MultipleDebugInfoSection, MultipleDebugTypesSection, NotSplitUnit, DuplicateUnit, MissingReferencedUnit, NoOutputObjectCreated, MixedInputEncodings, Io, ObjectRead, ObjectWrite, GimliRead, GimliWrite, Memory, NumberTooLarge, BadContribution, SectionOutsideFormat, RepeatedSection, BadStringOffsets, OverlappingStringOffsets}
 use Rattle.thorin_faults.specs.Text.{fault_text, is_passed_on}
 
 pub has_text : (fault : Fault) → is_passed_on fault ≡ false → IsSome (fault_text fault)
@@ -52,5 +52,4 @@ has_text fault =
       | RepeatedSection a ↦ λ h. refl
       | BadStringOffsets a ↦ λ h. refl
       | OverlappingStringOffsets a ↦ λ h. refl
-      | NotYet ↦ λ h. refl
     ]

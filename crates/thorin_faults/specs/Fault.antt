@@ -54,7 +54,6 @@ pub data Fault : Type 0 where
   RepeatedSection : (section : List ℕ) → Fault
   BadStringOffsets : (place : ℕ) → Fault
   OverlappingStringOffsets : (place : ℕ) → Fault
-  NotYet : Fault
 
 -- what a value of `Error` says
 abbrev pub fault_of : Error → Fault
@@ -102,4 +101,3 @@ fault_of (error.SectionOutsideFormat section) = SectionOutsideFormat section.now
 fault_of (error.RepeatedSection section) = RepeatedSection section.now
 fault_of (error.BadStringOffsets place) = BadStringOffsets place
 fault_of (error.OverlappingStringOffsets place) = OverlappingStringOffsets place
-fault_of error.NotYet = NotYet

@@ -1,7 +1,7 @@
 -- The texts of faults.
 use Rattle.std.specs.Prelude.{ℕ, ◌-◌, Bool, true, false, List, ◌++◌, Option, Some, None, codes, length, replicate}
 use Rattle.std.specs.Fmt.{digits, decimal}
-use Rattle.thorin_faults.specs.Fault.{Fault, ReadInput, ParseFileKind, ParseObjectFile, InvalidInputKind, DecompressData, NamelessSection, RelocationWithInvalidSymbol, MultipleRelocations, UnsupportedRelocation, MissingDwoName, NoCompilationUnits, NoDie, TopLevelDieNotUnit, MissingRequiredSection, ParseUnitAbbreviations, ParseUnitHeader, ParseUnit, IncompatibleIndexVersion, OffsetAtIndex, StrAtOffset, ParseIndex, UnitNotInIndex, RowNotInIndex, SectionNotInRow, EmptyUnit, MultipleDebugInfoSection, MultipleDebugTypesSection, NotSplitUnit, DuplicateUnit, MissingReferencedUnit, NoOutputObjectCreated, MixedInputEncodings, Io, ObjectRead, ObjectWrite, GimliRead, GimliWrite, Memory, NumberTooLarge, BadContribution, SectionOutsideFormat, RepeatedSection, BadStringOffsets, OverlappingStringOffsets, NotYet}
+use Rattle.thorin_faults.specs.Fault.{Fault, ReadInput, ParseFileKind, ParseObjectFile, InvalidInputKind, DecompressData, NamelessSection, RelocationWithInvalidSymbol, MultipleRelocations, UnsupportedRelocation, MissingDwoName, NoCompilationUnits, NoDie, TopLevelDieNotUnit, MissingRequiredSection, ParseUnitAbbreviations, ParseUnitHeader, ParseUnit, IncompatibleIndexVersion, OffsetAtIndex, StrAtOffset, ParseIndex, UnitNotInIndex, RowNotInIndex, SectionNotInRow, EmptyUnit, MultipleDebugInfoSection, MultipleDebugTypesSection, NotSplitUnit, DuplicateUnit, MissingReferencedUnit, NoOutputObjectCreated, MixedInputEncodings, Io, ObjectRead, ObjectWrite, GimliRead, GimliWrite, Memory, NumberTooLarge, BadContribution, SectionOutsideFormat, RepeatedSection, BadStringOffsets, OverlappingStringOffsets}
 
 -- at least eight lower-case hexadecimal digits, with zeros in front
 unfoldable pub hex8 : ℕ → List ℕ
@@ -25,7 +25,6 @@ section_text (NumberTooLarge what value) = Some (codes "Number too large: " ++ (
 section_text (BadContribution section unit) = Some (codes "Bad contribution of unit 0x" ++ (hex8 unit ++ (codes " to section " ++ section)))
 section_text (SectionOutsideFormat section) = Some (codes "Section " ++ (section ++ codes " is not part of the package format"))
 section_text (RepeatedSection section) = Some (codes "Repeated section " ++ section)
-section_text NotYet = Some (codes "Not supported yet")
 section_text _ = None
 
 -- those of indexes and string offsets, and of the former

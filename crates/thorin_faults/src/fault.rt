@@ -110,8 +110,6 @@ pub enum Error {
     BadStringOffsets(u64),
     /// A range of the string offsets begins inside the one before it; its place.
     OverlappingStringOffsets(u64),
-    /// A part that isn't built yet.
-    NotYet,
 }
 
 impl From<io::Error> for Error {

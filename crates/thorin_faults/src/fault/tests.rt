@@ -243,7 +243,6 @@ fn texts_of_causes(rt: HostRuntime) -> Result<(), Fail> {
             "Failed to read input file",
         ),
         (Error::from(InputError::Memory), "Out of memory"),
-        (Error::NotYet, "Not supported yet"),
     ];
     assert_texts(&rt, rt.alloc(), &rows)?;
     assert!(&rt; MissingReferencedObjectBehaviour::Skip.skip_missing());

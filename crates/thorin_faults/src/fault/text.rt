@@ -154,7 +154,6 @@ impl Error {
                 "Section {section} is not part of the package format"
             ),
             Error::RepeatedSection(section) => write!(f, "Repeated section {section}"),
-            Error::NotYet => f.write_str("Not supported yet"),
             _ => Ok(()),
         }
     }
