@@ -190,11 +190,9 @@ fn names_that_are_missing_or_cannot_be_read(rt: HostRuntime) -> Result<(), Fail>
     )?;
     assert!(rt; matches!(found, Error::GimliRead(ReadError::OffsetOutOfRange)));
     // Texts that are none: the name, the directory.
-    let values = [b"\xff\0".as_slice(), b"/b\0".as_slice(), ID5.as_slice()];
-    let found = fault(alloc, &ABBREVIATIONS, &unit(alloc, &values)?)?;
+    let found = fault(alloc, &ABBREVIATIONS, &unit(alloc, b"\xff\0", b"/b\0")?)?;
     assert!(rt; matches!(found, Error::GimliRead(ReadError::BadUtf8)));
-    let values = [b"a\0".as_slice(), b"\xff\0".as_slice(), ID5.as_slice()];
-    let found = fault(alloc, &ABBREVIATIONS, &unit(alloc, &values)?)?;
+    let found = fault(alloc, &ABBREVIATIONS, &unit(alloc, b"a\0", b"\xff\0")?)?;
     assert!(rt; matches!(found, Error::GimliRead(ReadError::BadUtf8)));
     Ok(())
 }
@@ -202,10 +200,10 @@ fn names_that_are_missing_or_cannot_be_read(rt: HostRuntime) -> Result<(), Fail>
 #[test]
 fn the_units_before_a_fault_are_listed(rt: HostRuntime) -> Result<(), Fail> {
     let alloc = rt.alloc();
-    let mut units = UNIT.to_vec(alloc)?;
-    units.extend_from_slice(&UNIT)?;
-    units.push(1)?;
-    units.extend_from_slice(&UNIT)?;
+    let mut units = [0; 60];
+    units[..29].copy_from_slice(&UNIT);
+    units[29..58].copy_from_slice(&UNIT);
+    units[58] = 1;
     let list = named(alloc, &ABBREVIATIONS, &units)?;
     assert_eq!(rt; list.units.len(), 2);
     assert!(rt; matches!(list.fault, Some(Error::ParseUnitHeader(_))));

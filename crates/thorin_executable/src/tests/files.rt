@@ -58,59 +58,72 @@ pub fn relocations<'a>(of: u64, bytes: &'a [u8]) -> FileSection<'a> {
     }
 }
 
-fn put32(out: &mut Vec<u8>, number: u64) -> Result<(), Fail> {
-    Ok(out.extend_from_slice(&number.to_le_bytes()[..4])?)
+fn put_words(out: &mut Vec<u8>, words: &[u64]) -> Result<(), Fail> {
+    for word in words {
+        out.extend_from_slice(&word.to_le_bytes())?;
+    }
+    Ok(())
 }
 
-fn put64(out: &mut Vec<u8>, number: u64) -> Result<(), Fail> {
-    Ok(out.extend_from_slice(&number.to_le_bytes())?)
+/// The contents of a file's sections behind its header, their names, and their headers.
+#[derive(Drop)]
+struct Layout {
+    contents: Vec<u8>,
+    names: Vec<u8>,
+    headers: Vec<u8>,
 }
 
-// A section's header: its name and its content stand there.
-fn put_section(
-    out: &mut Vec<u8>,
-    section: FileSection<'_>,
-    name: usize,
-    place: usize,
-) -> Result<(), Fail> {
-    put32(out, name as u64)?;
-    put32(out, section.kind)?;
-    put64(out, section.flags)?;
-    put64(out, 0)?;
-    put64(out, place as u64)?;
-    put64(out, section.bytes.len() as u64)?;
-    put32(out, 0)?;
-    put32(out, section.info)?;
-    put64(out, 1)?;
-    put64(out, 0)
+impl Layout {
+    // Adds a section's content and its header.
+    fn add(&mut self, part: FileSection<'_>) -> Result<(), Fail> {
+        let words = [
+            (part.kind << 32) | self.names.len() as u64,
+            part.flags,
+            0,
+            64 + self.contents.len() as u64,
+            part.bytes.len() as u64,
+            part.info << 32,
+            1,
+            0,
+        ];
+        put_words(&mut self.headers, &words)?;
+        self.contents.extend_from_slice(part.bytes)?;
+        self.names.extend_from_slice(part.name.as_bytes())?;
+        Ok(self.names.push(0)?)
+    }
+
+    // The file's header; section `last` has the names.
+    fn header(&self, machine: u16, last: u64) -> [u64; 6] {
+        [
+            (1 << 32) | (u64::from(machine) << 16) | 2,
+            0,
+            0,
+            64 + self.contents.len() as u64,
+            64 << 32,
+            (last << 48) | (((last & 0xff) + 1) << 32) | (64 << 16),
+        ]
+    }
 }
 
 /// A file of 64 bits, little endian, whose sections are numbered from 1 on.
 pub fn file(alloc: Global, machine: u16, sections: &[FileSection<'_>]) -> Result<Vec<u8>, Fail> {
-    let mut contents = Vec::new(alloc);
-    let mut names = b"\0".to_vec(alloc)?;
-    let mut headers = [0; 64].to_vec(alloc)?;
+    let mut layout = Layout {
+        contents: Vec::new(alloc),
+        names: Vec::from_slice(alloc, b"\0")?,
+        headers: Vec::from_slice(alloc, &[0; 64])?,
+    };
     for part in sections {
-        put_section(&mut headers, *part, names.len(), 64 + contents.len())?;
-        names.extend_from_slice(part.name.as_bytes())?;
-        names.push(0)?;
-        contents.extend_from_slice(part.bytes)?;
+        layout.add(*part)?;
     }
-    let table = section("", &names);
-    put_section(&mut headers, table, 0, 64 + contents.len())?;
-    contents.extend_from_slice(&names)?;
-    let mut file = b"\x7fELF\x02\x01\x01\0\0\0\0\0\0\0\0\0\x02\0".to_vec(alloc)?;
-    file.extend_from_slice(&machine.to_le_bytes())?;
-    put32(&mut file, 1)?;
-    put64(&mut file, 0)?;
-    put64(&mut file, 0)?;
-    put64(&mut file, 64 + contents.len() as u64)?;
-    file.extend_from_slice(&[0, 0, 0, 0, 64, 0, 0, 0, 0, 0, 64, 0])?;
-    let last = sections.len() as u64 + 1;
-    file.extend_from_slice(&(last + 1).to_le_bytes()[..2])?;
-    file.extend_from_slice(&last.to_le_bytes()[..2])?;
-    file.extend_from_slice(&contents)?;
-    file.extend_from_slice(&headers)?;
+    let names = Vec::from_slice(alloc, &layout.names)?;
+    layout.add(section(".end", &names))?;
+    let mut file = Vec::from_slice(alloc, b"\x7fELF\x02\x01\x01\0\0\0\0\0\0\0\0\0")?;
+    put_words(
+        &mut file,
+        &layout.header(machine, sections.len() as u64 + 1),
+    )?;
+    file.extend_from_slice(&layout.contents)?;
+    file.extend_from_slice(&layout.headers)?;
     Ok(file)
 }
 
@@ -143,15 +156,14 @@ pub fn named_in(alloc: Global, sections: &[FileSection<'_>]) -> Result<SkeletonL
     listed(alloc, &bytes)
 }
 
-/// A unit of version 4 with the abbreviation 1 and these values.
-pub fn unit(alloc: Global, values: &[&[u8]]) -> Result<Vec<u8>, Fail> {
-    let mut body = [4, 0, 0, 0, 0, 0, 8, 1].to_vec(alloc)?;
-    for value in values {
-        body.extend_from_slice(value)?;
-    }
-    let mut unit = Vec::new(alloc);
-    put32(&mut unit, body.len() as u64)?;
-    unit.extend_from_slice(&body)?;
+/// A unit of version 4 with the abbreviation 1, a name, a directory and the identifier 5.
+pub fn unit(alloc: Global, name: &[u8], directory: &[u8]) -> Result<Vec<u8>, Fail> {
+    let mut unit = Vec::from_slice(alloc, &[0, 0, 0, 0, 4, 0, 0, 0, 0, 0, 8, 1])?;
+    unit.extend_from_slice(name)?;
+    unit.extend_from_slice(directory)?;
+    unit.extend_from_slice(&ID5)?;
+    let [length, ..] = (unit.len() - 4).to_le_bytes();
+    unit[0] = length;
     Ok(unit)
 }
 

@@ -82,8 +82,7 @@ fn a_type_unit_without_a_name_is_passed_over(rt: HostRuntime) -> Result<(), Fail
 
 // The path of the unit with this name and this directory.
 fn has_path(alloc: Global, directory: &[u8], name: &[u8], path: &str) -> Result<bool, Fail> {
-    let values = [name, directory, ID5.as_slice()];
-    let list = named(alloc, &ABBREVIATIONS, &unit(alloc, &values)?)?;
+    let list = named(alloc, &ABBREVIATIONS, &unit(alloc, name, directory)?)?;
     Ok(is_one(&list, 5, path))
 }
 
@@ -105,14 +104,11 @@ fn the_name_of_dwarf_5_comes_before_that_of_gnu(rt: HostRuntime) -> Result<(), F
     let abbreviations = [
         1, 0x11, 0, 0xb0, 0x42, 8, 0x76, 8, 0x76, 8, 0xb1, 0x42, 7, 0, 0, 0,
     ];
-    let values = [
-        b"g\0".as_slice(),
-        b"a\0".as_slice(),
-        b"z\0".as_slice(),
-        ID5.as_slice(),
-    ];
-    let alloc = rt.alloc();
-    let list = named(alloc, &abbreviations, &unit(alloc, &values)?)?;
+    let list = named(
+        rt.alloc(),
+        &abbreviations,
+        &unit(rt.alloc(), b"g\0", b"a\0z\0")?,
+    )?;
     assert!(rt; is_one(&list, 5, "a"));
     Ok(())
 }
@@ -124,8 +120,7 @@ fn a_directory_that_cannot_be_read_is_absent(rt: HostRuntime) -> Result<(), Fail
         1, 0x11, 0, 0xb0, 0x42, 8, 0x1b, 0x0e, 0xb1, 0x42, 7, 0, 0, 0,
     ];
     let alloc = rt.alloc();
-    let values = [b"a\0".as_slice(), [3, 0, 0, 0].as_slice(), ID5.as_slice()];
-    let units = unit(alloc, &values)?;
+    let units = unit(alloc, b"a\0", &[3, 0, 0, 0])?;
     assert!(rt; is_one(&named(alloc, &abbreviations, &units)?, 5, "a"));
     let sections = [
         section(".debug_abbrev", &abbreviations),
