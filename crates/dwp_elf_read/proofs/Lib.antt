@@ -1,3 +1,4 @@
 pub mod Ranges
 pub mod Names
 pub mod Places
+mod ShortNames

@@ -1,5 +1,5 @@
 ghost use Rattle.std.specs.Prelude.{◌≡◌, option_map};
-ghost use Rattle.dwp_elf_read.specs.Elf.{text_of, text_at};
+ghost use Rattle.dwp_elf_read.specs.Elf.{text_of, text_at, name_is};
 
 use memchr::memchr;
 
@@ -23,4 +23,21 @@ pub(crate) fn text_in(table: &[u8], place: u32) -> Option<&str>
     let rest = table.split_at(place).1;
     let end = memchr(0, rest)?;
     text(rest.split_at(end).0)
+}
+
+/// Whether the text at a place of a string table is this one. No more of the table is looked at than
+/// the text is long, and its end.
+pub(crate) fn is_text_at(table: &[u8], place: u32, text: &str) -> bool
+    ensures { result ≡ name_is text.now (text_at table.now place) }
+{
+    let place = place as usize;
+    if place > table.len() {
+        return false;
+    }
+    let rest = table.split_at(place).1;
+    let start = rest.split_at(rest.len().min(text.len() + 1)).0;
+    match text_in(start, 0) {
+        Some(own) => own == text,
+        None => false,
+    }
 }

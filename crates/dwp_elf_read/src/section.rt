@@ -1,8 +1,9 @@
 use crate::fault::ReadError;
 use crate::file::ElfFile;
 use crate::header::{NOBITS, SectionHeader};
-use crate::name::text_in;
+use crate::name::{is_text_at, text_in};
 use crate::relocations::Relocations;
+use dwp_base::SectionKind;
 
 /// The flag of a section whose content is compressed (`SHF_COMPRESSED`).
 const COMPRESSED: u64 = 0x800;
@@ -18,8 +19,9 @@ pub struct Section<'a> {
 #[tactic(auto, unfolding(crate::specs::View::section, crate::specs::Elf::section_of))]
 impl<'a> Section<'a> {
     ghost use Rattle.dwp_elf_read.specs.declared.fault.ReadError.TheVariants.{NameRange, SectionRange};
-    ghost use Rattle.std.specs.Prelude.{◌≡◌, ◌↔◌, ◌||◌, ◌==◌, IsTrue};
-    ghost use Rattle.std.specs.Option.{ok_or};
+    ghost use Rattle.std.specs.Prelude.{◌≡◌, ◌↔◌, ◌||◌, ◌==◌, IsTrue, find};
+    ghost use Rattle.std.specs.Option.{ok_or, option_and_then};
+    ghost use Rattle.dwp_base.specs.Sections.{all_kinds, compressed_name_of, kind_named, name_of};
     ghost use Rattle.dwp_base.specs.Reading.{Answers};
     ghost use Rattle.dwp_elf_read.specs.Elf.{nobits, is_named, has_compressed_flag};
     ghost use Rattle.dwp_elf_read.specs.Relocation.{relocations_of};
@@ -101,14 +103,30 @@ impl<'a> Section<'a> {
         text_in(table, self.header.name).ok_or(ReadError::NameRange)
     }
 
-    /// Whether the section has a name that can be read, and it is this one.
-    pub(crate) fn is_called(&self, name: &str) -> bool
+    /// Whether the section has a name that can be read, and it is this one. No more of a long name is
+    /// looked at than `name` is long.
+    pub fn is_called(&self, name: &str) -> bool
         ensures { result ≡ is_named name.now (section self.now) }
     {
-        match self.name() {
-            Ok(own) => own == name,
-            Err(_) => false,
+        match self.file.names {
+            Some(table) => is_text_at(table, self.header.name, name),
+            None => false,
         }
+    }
+
+    /// The kind of section that the name belongs to, in either spelling; None where it has no name
+    /// that can be read. No more of a long name is looked at than the names of kinds are long.
+    pub fn section_kind(&self) -> Option<SectionKind>
+        ensures { result ≡ option_and_then kind_named (section self.now).name }
+    {
+        self.first_kind()
+    }
+
+    fn first_kind(&self) -> Option<SectionKind>
+        ensures { result ≡ find (λ kind. is_named (name_of kind) (section self.now) || is_named (compressed_name_of kind) (section self.now)) all_kinds }
+    {
+        SectionKind::ALL.iter().copied().find(|kind| self.is_called(kind.name())
+            || self.is_called(kind.compressed_name()))
     }
 
     /// The section's content; empty for a section without bytes in the file.

@@ -1,5 +1,5 @@
 use super::*;
-use dwp_base::{Class, Endianness};
+use dwp_base::{Class, Endianness, SectionKind};
 use std::alloc::{AllocError, Global};
 use std::io;
 use std::process::Abort;
@@ -424,5 +424,21 @@ fn texts_of_faults(rt: HostRuntime) -> Result<(), Fail> {
     ] {
         assert_eq!(rt; format!(in rt.alloc(); "{fault}")?.as_str(), text);
     }
+    Ok(())
+}
+
+#[test]
+fn sections_are_called_by_their_names(rt: HostRuntime) -> Result<(), Fail> {
+    let bytes = package(rt.alloc())?;
+    let file = ElfFile::parse(&bytes)?;
+    let info = file.section(2).ok_or("not there")?;
+    assert!(rt; info.is_called(".debug_info.dwo"));
+    assert!(rt; !info.is_called(".debug_info.dw"));
+    assert!(rt; !info.is_called(".debug_info.dwo1"));
+    assert!(rt; !info.is_called(""));
+    assert_eq!(rt; info.section_kind(), Some(SectionKind::Info));
+    let names = file.section(4).ok_or("not there")?;
+    assert!(rt; names.is_called(".shstrtab"));
+    assert_eq!(rt; names.section_kind(), None);
     Ok(())
 }

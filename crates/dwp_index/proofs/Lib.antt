@@ -11,3 +11,4 @@ pub mod TwoPlaces
 pub mod UnitAlone
 pub mod UsedOnce
 pub mod HeldContents
+mod Called

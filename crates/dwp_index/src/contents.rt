@@ -27,27 +27,22 @@ pub(crate) struct Contents<'a> {
 }
 
 /// Whether a section has bytes, and is one of this kind.
-#[tactic(auto, unfolding(crate::specs::Contents::is_of_kind))]
+#[tactic(auto, unfolding(crate::specs::Contents::is_of_kind), using(crate::proofs::Called::called_is_named))]
 fn is_of_kind(candidate: &Section<'_>, kind: SectionKind) -> bool
     ensures { result ≡ is_of_kind kind (section candidate.now) }
 {
     if candidate.is_empty() {
         return false;
     }
-    match candidate.name() {
-        Ok(name) => kind.is_named(name),
-        Err(_) => false,
-    }
+    candidate.is_called(kind.name()) || candidate.is_called(kind.compressed_name())
 }
 
 /// Whether a section's name is the older spelling, of compressed sections.
+#[tactic(auto, using(crate::proofs::Called::called_is_older))]
 fn has_older_name(candidate: &Section<'_>, kind: SectionKind) -> bool
     ensures { result ≡ has_older_name kind (section candidate.now).name }
 {
-    match candidate.name() {
-        Ok(name) => name == kind.compressed_name(),
-        Err(_) => false,
-    }
+    candidate.is_called(kind.compressed_name())
 }
 
 /// The content of a section that is used.

@@ -45,6 +45,10 @@ pub fn read_all(alloc: Global, bytes: &[u8], tally: &mut Tally) {
 fn read_sections(file: &ElfFile<'_>, tally: &mut Tally) {
     for section in file.sections() {
         tally.name.note(section.name().is_ok());
+        let kind = section.name().ok().and_then(SectionKind::of_name);
+        if kind != section.section_kind() {
+            tally.contradictions = tally.contradictions.saturating_add(1);
+        }
         let content = section.data();
         tally.content.note(content.is_ok());
         if let Ok(content) = content {
