@@ -2,7 +2,7 @@
 
 use crate::input::test_input;
 use crate::output::Failure;
-use crate::telling::{tell_refused, tell_taken, warn_differing};
+use crate::telling::{tell_refused, tell_taken, unit_count, warn_differing};
 use crate::write::write_package;
 use bumpalo::Bump;
 use clap::ArgMatches;
@@ -87,14 +87,26 @@ fn packed<'o, 's: 'o, Sess: Session<RelocationEntry>, E: Write>(
     for input in packing.inputs.unwrap_or(&[]) {
         let before = package.contained_units().len();
         let outcome = add_input(rt, &mut package, input);
-        let units = package.contained_units().len().saturating_sub(before);
-        tell(packing, input, units, outcome, err)?;
+        let added = package.contained_units().len().saturating_sub(before);
+        if packing.verbose {
+            match &outcome {
+                Ok(()) => tell_taken(err, input, added, unit_count(rt, input)?)?,
+                Err(failure) => tell_refused(err, input, failure)?,
+            }
+        }
+        outcome?;
     }
     for executable in packing.executables.unwrap_or(&[]) {
         let before = package.contained_units().len();
         let outcome = add_executable(rt, &mut package, executable, packing.missing);
-        let units = package.contained_units().len().saturating_sub(before);
-        tell(packing, executable, units, outcome, err)?;
+        let added = package.contained_units().len().saturating_sub(before);
+        if packing.verbose {
+            match &outcome {
+                Ok(()) => tell_taken(err, executable, added, None)?,
+                Err(failure) => tell_refused(err, executable, failure)?,
+            }
+        }
+        outcome?;
     }
     let differing = differing_types(rt, &package)?;
     let object = package.finish()?;
@@ -130,28 +142,4 @@ fn differing_types<'o, 's: 'o, Sess: Session<RelocationEntry>>(
     _package: &DwarfPackage<'o, 's, Sess>,
 ) -> Result<Vec<DebugTypeSignature>, Failure> {
     Ok(Vec::new(rt.alloc()))
-}
-
-// Tells what came of an input, where that is asked for.
-fn tell<E: Write>(
-    packing: &Packing<'_, '_>,
-    name: &str,
-    units: usize,
-    outcome: Result<(), Failure>,
-    err: &mut E,
-) -> Result<(), Failure> {
-    match outcome {
-        Ok(()) => {
-            if packing.verbose {
-                tell_taken(err, name, units)?;
-            }
-            Ok(())
-        }
-        Err(failure) => {
-            if packing.verbose {
-                tell_refused(err, name, &failure)?;
-            }
-            Err(failure)
-        }
-    }
 }
