@@ -60,8 +60,8 @@ impl<'m, 'a> Packing<'m, 'a> {
     }
 }
 
-/// Packs the inputs in order, then what each executable refers to, and writes the package. Stops at the first refusal,
-/// and then writes nothing. Answers the status 0.
+/// Packs the inputs in order, then what each executable refers to, and writes the package. Stops at
+/// the first refusal, and then writes nothing. Answers the status 0.
 pub(crate) fn pack<E: Write>(
     rt: &HostRuntime,
     packing: &Packing<'_, '_>,
@@ -77,7 +77,8 @@ pub(crate) fn pack<E: Write>(
     Ok(0)
 }
 
-// The object to be written, and the signatures of type units that were passed over and differ from the ones kept.
+// The object to be written, and the signatures of type units that were passed over and differ from
+// the ones kept.
 fn packed<'o, 's: 'o, Sess: Session<RelocationEntry>, E: Write>(
     rt: &HostRuntime,
     packing: &Packing<'_, '_>,
@@ -123,8 +124,9 @@ fn add_input<'o, 's: 'o, Sess: Session<RelocationEntry>>(
     Ok(())
 }
 
-// Adds the objects that an executable refers to. THE ONE PLACE where `-e` calls the builder, which takes no executables
-// yet and so answers `NotYet`; it will be `package.add_executable(Path::new(executable), missing)?`.
+// Adds the objects that an executable refers to. THE ONE PLACE where `-e` calls the builder, which
+// takes no executables yet and so answers `NotYet`; it will be
+// `package.add_executable(Path::new(executable), missing)?`.
 fn add_executable<'o, 's: 'o, Sess: Session<RelocationEntry>>(
     rt: &HostRuntime,
     _package: &mut DwarfPackage<'o, 's, Sess>,
@@ -135,8 +137,9 @@ fn add_executable<'o, 's: 'o, Sess: Session<RelocationEntry>>(
     Err(Failure::Package(Error::NotYet))
 }
 
-// The signatures of type units that were passed over and differ from the ones kept. THE ONE PLACE where the builder is
-// asked for them, which keeps no list yet; it will be a copy of `package.differing_types()`.
+// The signatures of type units that were passed over and differ from the ones kept. THE ONE PLACE
+// where the builder is asked for them, which keeps no list yet; it will be a copy of
+// `package.differing_types()`.
 fn differing_types<'o, 's: 'o, Sess: Session<RelocationEntry>>(
     rt: &HostRuntime,
     _package: &DwarfPackage<'o, 's, Sess>,

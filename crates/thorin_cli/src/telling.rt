@@ -9,7 +9,8 @@ use std::io::Write;
 use std::{fmt, fs};
 use thorin_faults::Error;
 
-/// Tells that an input was taken: how many units of it were added, and how many were passed over, where that is known.
+/// Tells that an input was taken: how many units of it were added, and how many were passed over,
+/// where that is known.
 pub(crate) fn tell_taken<E: Write>(
     err: &mut E,
     name: &str,
@@ -26,7 +27,8 @@ pub(crate) fn tell_taken<E: Write>(
     told.map_err(|_| Failure::Line)
 }
 
-/// How many units an object has that was accepted. It is read a second time: none where it is no regular file.
+/// How many units an object has that was accepted. It is read a second time: none where it is no
+/// regular file.
 pub(crate) fn unit_count(rt: &HostRuntime, path: &str) -> Result<Option<usize>, Failure> {
     if !fs::metadata(rt, path).is_ok_and(|metadata| metadata.is_file()) {
         return Ok(None);
