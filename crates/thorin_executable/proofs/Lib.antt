@@ -1,0 +1,5 @@
+mod Texts
+mod Attributes
+mod Loads
+mod Finds
+mod NamedSteps

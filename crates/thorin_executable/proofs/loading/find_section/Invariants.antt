@@ -1,0 +1,8 @@
+use Rattle.std.proofs.Common.{◌≡◌, find, drop}
+use Rattle.dwp_elf_read.specs.View.{elf}
+use Rattle.thorin_executable.specs.Sections.{is_used}
+use Rattle.thorin_executable.proofs.loading.find_section.Given as goal
+
+-- the first of those that are left is the first of all
+abbrev pub invariant-loop-i : goal.invariant-loop-i
+invariant-loop-i l = find (is_used l.kind) (drop l.i (elf l.file).sections) ≡ find (is_used l.kind) (elf l.file).sections

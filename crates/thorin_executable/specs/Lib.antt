@@ -1,0 +1,5 @@
+pub mod Sections
+pub mod Roots
+pub mod Paths
+pub mod Skeletons
+pub mod View

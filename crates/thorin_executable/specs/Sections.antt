@@ -1,0 +1,104 @@
+-- The sections of an executable that say which split objects it was made with (DWARF 5, 7.3.2 and Appendix B; ELF gABI, "Sections").
+use Rattle.std.specs.Prelude.{ℕ, List, [], codes, map, Bool, false, ◌&&◌, ◌||◌, ◌==◌, not, if◌then◌else◌, Option, Some, None, Result, Ok, Err, find}
+use Rattle.std.specs.Option.{ok_or, option_map_or}
+use Rattle.std.specs.Str.{bytes_eq}
+use Rattle.dwp_base.specs.declared.endian.Endianness.{Endianness}
+use Rattle.dwp_base.specs.Reading.{◌>>=◌}
+use Rattle.dwp_elf_read.specs.declared.fault.ReadError.TheVariants.{Compressed, SectionRange}
+use Rattle.dwp_elf_read.specs.Elf.{Elf, SectionMeaning, elf_of, nobits, has_compressed_flag}
+use Rattle.dwp_elf_read.specs.Relocation.{relocations_of}
+use Rattle.dwp_reader.specs.declared.relocation.Relocation.{Relocation}
+use Rattle.dwp_reader.specs.declared.relocation.RelocationEntry.{RelocationEntry}
+use Rattle.dwp_reader.specs.Input.{Input, section}
+use Rattle.dwp_reader.specs.Relocation.{relocated_input}
+use Rattle.dwp_dwarf.specs.Strings.{Strings}
+use Rattle.thorin_faults.specs.Fault.{Fault, ParseObjectFile, DecompressData, ObjectRead}
+use Rattle.thorin_faults.specs.Answers.{as_fault}
+use Rattle.thorin_parts.specs.Relocations.{with_relocations}
+use Rattle.thorin_executable.specs.declared.loading.DebugSection.{DebugSection}
+use Rattle.thorin_executable.specs.declared.loading.DebugSection.TheVariants.{Abbrev, Info, LineStr, Str, StrOffsets}
+
+-- the bytes of a section's name
+abbrev pub name_of : DebugSection → List ℕ
+name_of Abbrev = codes ".debug_abbrev"
+name_of Info = codes ".debug_info"
+name_of LineStr = codes ".debug_line_str"
+name_of Str = codes ".debug_str"
+name_of StrOffsets = codes ".debug_str_offsets"
+
+-- its older name where its content is compressed
+abbrev pub compressed_name_of : DebugSection → List ℕ
+compressed_name_of Abbrev = codes ".zdebug_abbrev"
+compressed_name_of Info = codes ".zdebug_info"
+compressed_name_of LineStr = codes ".zdebug_line_str"
+compressed_name_of Str = codes ".zdebug_str"
+compressed_name_of StrOffsets = codes ".zdebug_str_offsets"
+
+-- a name is the older one of a kind
+abbrev pub is_older_name : DebugSection → List ℕ → Bool
+is_older_name kind name = bytes_eq name (compressed_name_of kind)
+
+-- a name is one of the two spellings
+abbrev pub is_named : DebugSection → List ℕ → Bool
+is_named kind name = bytes_eq name (name_of kind) || is_older_name kind name
+
+-- a section has no bytes
+abbrev pub is_empty : SectionMeaning → Bool
+is_empty section = section.size == 0 || section.kind == nobits
+
+-- a section is of a kind, and has bytes
+unfoldable pub is_used : DebugSection → SectionMeaning → Bool
+is_used kind section = not (is_empty section) && option_map_or (is_named kind) section.name false
+
+-- a section's content, which may not be compressed
+unfoldable pub content_of : DebugSection → SectionMeaning → Result (List ℕ) Fault
+content_of kind section =
+    if has_compressed_flag section || option_map_or (is_older_name kind) section.name false
+    then Err (DecompressData Compressed)
+    else as_fault ObjectRead (ok_or section.content SectionRange)
+
+-- what becomes of the number at a place
+abbrev pub entry_of : ℕ × Relocation → RelocationEntry
+entry_of found = record { offset = found.0; relocation = found.1 }
+
+-- the bytes of a section from its start, and the numbers in them relocated
+abbrev pub relocated_section : Endianness → List ℕ → List (ℕ × Relocation) → Input
+relocated_section order bytes relocations = relocated_input (map entry_of relocations) 0 (section order bytes)
+
+-- what there is to read of a section: its content is tested before its relocations
+unfoldable pub loaded : Elf → DebugSection → SectionMeaning → Result Input Fault
+loaded file kind section = do
+  bytes ← content_of kind section
+  relocations ← with_relocations file section.name (relocations_of file section.number) []
+  Ok (relocated_section file.order bytes relocations)
+
+-- the same of a section that may be absent, which is as an empty one
+abbrev pub loaded_if : Elf → DebugSection → Option SectionMeaning → Result Input Fault
+loaded_if file kind None = Ok (relocated_section file.order [] [])
+loaded_if file kind (Some section) = loaded file kind section
+
+-- what there is to read of the first section of a kind that has bytes
+unfoldable pub loaded_first : Elf → DebugSection → Result Input Fault
+loaded_first file kind = loaded_if file kind (find (is_used kind) file.sections)
+
+-- the units of an executable, their abbreviations and their strings
+pub record DebugData : Type 0 where
+  pub debug_abbrev : Input
+  pub debug_info : Input
+  pub strings : Strings
+
+-- those of an ELF file
+unfoldable pub debug_data : Elf → Result DebugData Fault
+debug_data file = do
+  debug_abbrev ← loaded_first file Abbrev
+  debug_info ← loaded_first file Info
+  debug_line_str ← loaded_first file LineStr
+  debug_str ← loaded_first file Str
+  debug_str_offsets ← loaded_first file StrOffsets
+  Ok (record { debug_abbrev = debug_abbrev; debug_info = debug_info; strings = record { debug_str = debug_str; debug_line_str = debug_line_str; debug_str_offsets = debug_str_offsets } })
+
+-- those of the bytes of a file
+unfoldable pub debug_data_of : List ℕ → Result DebugData Fault
+debug_data_of bytes = do
+  file ← as_fault ParseObjectFile (elf_of bytes)
+  debug_data file

@@ -1,0 +1,82 @@
+-- The split units that an executable names: the skeleton units of DWARF 5 (3.1.2), and before version 5 the units with a
+-- GNU_dwo_id (the GNU page DebugFission).
+use Rattle.std.specs.Prelude.{ℕ, List, [], ◌∷◌, ◌++◌, Option, Some, None, Result, Ok, Err}
+use Rattle.dwp_base.specs.Reading.{◌>>=◌}
+use Rattle.dwp_reader.specs.declared.fault.ReadError.{ReadError}
+use Rattle.dwp_dwarf.specs.Entries.{DebugAttribute}
+use Rattle.dwp_dwarf.specs.Units.{Unit, units}
+use Rattle.dwp_dwarf.specs.declared.header.UnitSection.TheVariants.{Info}
+use Rattle.dwp_table.specs.declared.object.DwarfObject.{DwarfObject}
+use Rattle.dwp_table.specs.declared.object.DwarfObject.TheVariants.{Compilation, TypeUnit}
+use Rattle.thorin_faults.specs.Fault.{Fault, MissingDwoName, ParseUnitHeader}
+use Rattle.thorin_faults.specs.Answers.{as_fault}
+use Rattle.thorin_identity.specs.Identity.{identity}
+use Rattle.thorin_executable.specs.Sections.{DebugData, debug_data_of}
+use Rattle.thorin_executable.specs.Roots.{SplitAttributes, root_attributes, object_name}
+use Rattle.thorin_executable.specs.Paths.{object_path}
+
+-- a split unit, and the path of its object
+abbrev pub Named : Type 0
+Named = DwarfObject × List ℕ
+
+-- a unit whose root entry names no object: a type unit has none of its own
+abbrev pub unnamed : DwarfObject → Result (Option Named) Fault
+unnamed (Compilation id) = Err (MissingDwoName id.0)
+unnamed (TypeUnit signature) = Ok None
+
+-- the object of a unit, by the attribute that names it
+abbrev pub named_by : DebugData → Unit → DwarfObject → SplitAttributes → Option DebugAttribute → Result (Option Named) Fault
+named_by debug unit target root None = unnamed target
+named_by debug unit target root (Some attribute) = object_path debug.strings unit.encoding.format root attribute >>= λ path. Ok (Some (target, path))
+
+-- the object of a unit of this identity
+unfoldable pub named_in : DebugData → Unit → DwarfObject → Result (Option Named) Fault
+named_in debug unit target = do
+  root ← root_attributes debug.debug_abbrev unit
+  named_by debug unit target root (object_name root)
+
+-- the same where the unit has an identity; a unit without one is no part of a split unit
+abbrev pub named_if : DebugData → Unit → Option DwarfObject → Result (Option Named) Fault
+named_if debug unit None = Ok None
+named_if debug unit (Some target) = named_in debug unit target
+
+-- the split unit that a unit of an executable stands for, if it does
+unfoldable pub skeleton_of : DebugData → Unit → Result (Option Named) Fault
+skeleton_of debug unit = identity debug.debug_abbrev unit >>= named_if debug unit
+
+-- the same of the unit that was read next
+unfoldable pub skeleton_read : DebugData → Result Unit ReadError → Result (Option Named) Fault
+skeleton_read debug read = as_fault ParseUnitHeader read >>= skeleton_of debug
+
+-- those before and one more, where there is one
+abbrev pub with_named : List Named → Option Named → List Named
+with_named before None = before
+with_named before (Some next) = before ++ next ∷ []
+
+-- those before and what the unit that was read next stands for
+unfoldable pub with_read : DebugData → List Named → Result Unit ReadError → Result (List Named) Fault
+with_read debug before read = skeleton_read debug read >>= λ found. Ok (with_named before found)
+
+-- a list up to the first fault, and that fault
+abbrev pub Listed : Type 0
+Listed = List Named × Option Fault
+
+-- what comes first, and the others
+abbrev pub with_first : Result (Option Named) Fault → Listed → Listed
+with_first (Ok None) others = others
+with_first (Ok (Some first)) others = (first ∷ others.0, others.1)
+with_first (Err fault) others = ([], Some fault)
+
+-- what some units stand for
+abbrev pub skeletons_from : DebugData → List (Result Unit ReadError) → Listed
+skeletons_from debug [] = ([], None)
+skeletons_from debug (read ∷ rest) = with_first (skeleton_read debug read) (skeletons_from debug rest)
+
+-- what the units of an executable stand for
+abbrev pub skeletons_in : Result DebugData Fault → Listed
+skeletons_in (Ok debug) = skeletons_from debug (units Info debug.debug_info)
+skeletons_in (Err fault) = ([], Some fault)
+
+-- what a file's units stand for
+unfoldable pub skeletons_of : List ℕ → Listed
+skeletons_of bytes = skeletons_in (debug_data_of bytes)

@@ -1,0 +1,45 @@
+-- What the values of this crate stand for, and what a list says where memory ran out.
+use Rattle.std.specs.Prelude.{◌≡◌, length, map, take, Option, Some, None, option_map, string_bytes}
+use Rattle.dwp_reader.specs.Input.{Input}
+use Rattle.dwp_dwarf.specs.Attributes.{attribute_of}
+use Rattle.dwp_dwarf.specs.Sections.{strings_of}
+use Rattle.thorin_faults.specs.declared.fault.Error.{Error}
+use Rattle.thorin_faults.specs.Answers.{MemoryAside}
+use Rattle.thorin_faults.specs.Fault.{fault_of}
+use Rattle.thorin_executable.specs.declared.loading.DebugData.{DebugData as Data}
+use Rattle.thorin_executable.specs.declared.roots.SplitAttributes.{SplitAttributes as Attributes}
+use Rattle.thorin_executable.specs.declared.listing.Skeleton.{Skeleton}
+use Rattle.thorin_executable.specs.declared.listing.SkeletonList.{SkeletonList}
+use Rattle.thorin_executable.specs.Sections.{DebugData}
+use Rattle.thorin_executable.specs.Roots.{SplitAttributes}
+use Rattle.thorin_executable.specs.Skeletons.{Named, Listed}
+
+-- the sections of an executable, as readers show them
+abbrev pub data_of : {R : Type 0} → (R → Input) → Data R → DebugData
+data_of input d = record { debug_abbrev = input d.debug_abbrev; debug_info = input d.debug_info; strings = strings_of input d.strings }
+
+-- attributes as they were read from an input
+abbrev pub attributes_of : {R : Type 0} → (R → Input) → Attributes R → SplitAttributes
+attributes_of input a = record {
+  dwo_name = option_map (attribute_of input) a.dwo_name;
+  gnu_dwo_name = option_map (attribute_of input) a.gnu_dwo_name;
+  comp_dir = option_map (attribute_of input) a.comp_dir;
+  str_offsets_base = a.str_offsets_base;
+}
+
+-- a split unit, and the path of its object
+abbrev pub named : Skeleton → Named
+named s = (s.target, string_bytes s.path)
+
+-- a list of them, and the fault that ended it
+abbrev pub listed : SkeletonList → Listed
+listed l = (map named l.units.items, option_map fault_of l.fault)
+
+-- nothing was lacking, or the fault isn't want of memory
+abbrev pub UnlessMemory : Option Error → Type 0 → Type 0
+UnlessMemory None P = P
+UnlessMemory (Some e) P = MemoryAside e P
+
+-- the units of a list are the first of what is meant
+abbrev pub IsFront : SkeletonList → Listed → Type 0
+IsFront l meaning = take (length l.units.items) meaning.0 ≡ map named l.units.items

@@ -1,0 +1,13 @@
+//! Which split units an executable names, and where their objects are (DWARF 5, 3.1.2; the GNU page DebugFission).
+#![tactic(auto)]
+
+mod listing;
+mod loading;
+mod paths;
+mod reader;
+mod roots;
+
+pub use listing::{Skeleton, SkeletonList, skeletons};
+
+#[cfg(test)]
+mod tests;

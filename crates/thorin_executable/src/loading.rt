@@ -1,0 +1,192 @@
+//! The sections of an executable that are read.
+
+ghost use Rattle.std.specs.Prelude.{◌≡◌, false, find, option_map, IfSome};
+ghost use Rattle.std.specs.Option.{option_map_or};
+ghost use Rattle.dwp_elf_read.specs.View.{elf, file as file_of, section as meaning};
+ghost use Rattle.thorin_faults.specs.Answers.{Gives};
+ghost use Rattle.thorin_executable.specs.Sections as spec;
+ghost use Rattle.thorin_executable.specs.View.{data_of};
+
+use crate::reader::SectionReader;
+use dwp_dwarf::{Reader, RelocationEntry, StringSections};
+use dwp_elf_read::{ElfFile, ReadError, Section};
+use std::alloc::Global;
+use thorin_faults::{Error, Session};
+use thorin_parts::add_relocations;
+
+/// A section of an executable that is read.
+#[derive(Clone, Copy)]
+pub(crate) enum DebugSection {
+    /// Abbreviations.
+    Abbrev,
+    /// Units.
+    Info,
+    /// Strings of line tables.
+    LineStr,
+    /// Strings.
+    Str,
+    /// Offsets of strings.
+    StrOffsets,
+}
+
+impl DebugSection {
+    fn name(self) -> &'static str
+        ensures { result.now ≡ spec.name_of self }
+    {
+        match self {
+            DebugSection::Abbrev => ".debug_abbrev",
+            DebugSection::Info => ".debug_info",
+            DebugSection::LineStr => ".debug_line_str",
+            DebugSection::Str => ".debug_str",
+            DebugSection::StrOffsets => ".debug_str_offsets",
+        }
+    }
+
+    // The older name of a section whose content is compressed.
+    fn compressed_name(self) -> &'static str
+        ensures { result.now ≡ spec.compressed_name_of self }
+    {
+        match self {
+            DebugSection::Abbrev => ".zdebug_abbrev",
+            DebugSection::Info => ".zdebug_info",
+            DebugSection::LineStr => ".zdebug_line_str",
+            DebugSection::Str => ".zdebug_str",
+            DebugSection::StrOffsets => ".zdebug_str_offsets",
+        }
+    }
+
+    // Whether a section is of this kind, in either spelling, and isn't empty.
+    #[tactic(auto, unfolding(crate::specs::Sections::is_used))]
+    fn is_kind_of(self, section: &Section<'_>) -> bool
+        ensures { result ≡ spec.is_used self (meaning section.now) }
+    {
+        if section.is_empty() {
+            return false;
+        }
+        match section.name() {
+            Ok(name) => name == self.name() || name == self.compressed_name(),
+            Err(_) => false,
+        }
+    }
+
+    // Whether a section has the older name of this kind.
+    fn is_older_name_of(self, section: &Section<'_>) -> bool
+        ensures { result ≡ option_map_or (spec.is_older_name self) (meaning section.now).name false }
+    {
+        match section.name() {
+            Ok(name) => name == self.compressed_name(),
+            Err(_) => false,
+        }
+    }
+}
+
+/// The units of an executable, their abbreviations and their strings: readers at the start of each section.
+#[derive(Clone, Copy)]
+pub(crate) struct DebugData<R> {
+    pub debug_abbrev: R,
+    pub debug_info: R,
+    pub strings: StringSections<R>,
+}
+
+// The first section of a kind that isn't empty.
+fn find_section<'a>(file: &ElfFile<'a>, kind: DebugSection) -> Option<Section<'a>>
+    ensures found { option_map meaning result ≡ find (spec.is_used kind) (elf file.now).sections }
+    ensures in_file { IfSome result (λ s. file_of s ≡ elf file.now) }
+{
+    for i in 0..file.section_count() {
+        if let Some(section) = file.section(i) {
+            if kind.is_kind_of(&section) {
+                return Some(section);
+            }
+        }
+    }
+    None
+}
+
+// The content of a section: `DecompressData` where it is compressed, `ObjectRead` where it is outside the file.
+#[tactic(auto, unfolding(crate::specs::Sections::content_of))]
+fn content<'a>(section: &Section<'a>, kind: DebugSection) -> Result<&'a [u8], Error>
+    ensures { Gives (λ bytes. bytes.now) result (spec.content_of kind (meaning section.now)) }
+{
+    if section.is_compressed() || kind.is_older_name_of(section) {
+        return Err(Error::DecompressData(ReadError::Compressed));
+    }
+    section.data().map_err(Error::ObjectRead)
+}
+
+// A reader of a section; its relocations are placed in the session.
+#[tactic(auto, unfolding(crate::specs::Sections::loaded))]
+fn load<'a, Sess: Session<RelocationEntry>>(
+    alloc: Global,
+    session: &'a Sess,
+    file: &ElfFile<'a>,
+    section: &Section<'a>,
+    kind: DebugSection,
+) -> Result<SectionReader<'a>, Error>
+    requires { file_of section.now ≡ elf file.now }
+    ensures { Gives ⟦<SectionReader<'a> as Reader>⟧.input result (spec.loaded (elf file.now) kind (meaning section.now)) }
+{
+    let bytes = content(section, kind)?;
+    let found = add_relocations(alloc, file, section)?;
+    let relocations = session.alloc_relocation(&found)?;
+    Ok(SectionReader::new(relocations, bytes, file.endianness()))
+}
+
+// A reader of the first section of a kind that isn't empty; of no bytes where there is none.
+#[tactic(auto, unfolding(crate::specs::Sections::loaded_first))]
+fn load_first<'a, Sess: Session<RelocationEntry>>(
+    alloc: Global,
+    session: &'a Sess,
+    file: &ElfFile<'a>,
+    kind: DebugSection,
+) -> Result<SectionReader<'a>, Error>
+    ensures { Gives ⟦<SectionReader<'a> as Reader>⟧.input result (spec.loaded_first (elf file.now) kind) }
+{
+    match find_section(file, kind) {
+        Some(section) => load(alloc, session, file, &section, kind),
+        None => Ok(SectionReader::new(&[], &[], file.endianness())),
+    }
+}
+
+impl<'a> DebugData<SectionReader<'a>> {
+    // Those of an ELF file: the first fault of a section, in the order in which they are read.
+    #[tactic(auto, unfolding(crate::specs::Sections::debug_data))]
+    fn of_file<Sess: Session<RelocationEntry>>(
+        alloc: Global,
+        session: &'a Sess,
+        file: &ElfFile<'a>,
+    ) -> Result<Self, Error>
+        ensures { Gives (data_of ⟦<SectionReader<'a> as Reader>⟧.input) result (spec.debug_data (elf file.now)) }
+    {
+        let debug_abbrev = load_first(alloc, session, file, DebugSection::Abbrev)?;
+        let debug_info = load_first(alloc, session, file, DebugSection::Info)?;
+        let debug_line_str = load_first(alloc, session, file, DebugSection::LineStr)?;
+        let debug_str = load_first(alloc, session, file, DebugSection::Str)?;
+        let debug_str_offsets = load_first(alloc, session, file, DebugSection::StrOffsets)?;
+        let strings = StringSections {
+            debug_str,
+            debug_line_str,
+            debug_str_offsets,
+        };
+        Ok(DebugData {
+            debug_abbrev,
+            debug_info,
+            strings,
+        })
+    }
+
+    /// Those of the bytes of a file: `ParseObjectFile`, then of the sections of abbreviations, units, strings of
+    /// line tables, strings and offsets of strings, in this order, `DecompressData`, `ObjectRead` and the
+    /// faults of relocations.
+    #[tactic(auto, unfolding(crate::specs::Sections::debug_data_of))]
+    pub fn read<Sess: Session<RelocationEntry>>(
+        alloc: Global,
+        session: &'a Sess,
+        bytes: &'a [u8],
+    ) -> Result<Self, Error>
+        ensures { Gives (data_of ⟦<SectionReader<'a> as Reader>⟧.input) result (spec.debug_data_of bytes.now) }
+    {
+        let file = ElfFile::parse(bytes).map_err(Error::ParseObjectFile)?;
+        Self::of_file(alloc, session, &file)
+    }
+}
