@@ -2,7 +2,7 @@
 use Rattle.std.proofs.Common.{◌≡◌, ◌≢◌, MatchOption, ℕ, ◌<◌, ◌≤◌, ◌^◌, length, List, get_or, Result, Ok, Err, arith, subst, lit<}
 use Rattle.std.proofs.Math.Nat.{pow-le-pow_right}
 use Rattle.std.specs.Result.{OkIff, result_ok}
-use Rattle.std.specs.Str.Parse.{digits_value, ParsesUnsigned, without_leading_plus, IsNumeral}
+use Rattle.std.specs.Str.Parse.{digits_value, ParsesUnsigned, IsNumeral}
 use Rattle.std.proofs.lemmas.Str.Parse.{without_leading_plus_none}
 use Rattle.std.proofs.lemmas.Int.Digits.{digits_value-lt}
 use Rattle.thorin_cli.specs.Identifiers.{IsIdentifier}

@@ -1,9 +1,9 @@
 -- Reading words byte by byte: what was read of a word stands in front of what is left of it.
-use Rattle.std.proofs.Common.{◌≡◌, ℕ, ◌+◌, ◌<◌, Bool, true, false, ◌==◌, ◌&&◌, not, List, [], ◌∷◌, ◌++◌, length, get_or, drop, Option, Some, None, if◌then◌else◌, refl, ap, ◌∙◌, sym, append_assoc, arith}
+use Rattle.std.proofs.Common.{◌≡◌, ℕ, ◌+◌, ◌<◌, Bool, true, false, ◌==◌, ◌&&◌, not, List, [], ◌∷◌, ◌++◌, length, get_or, drop, Some, None, if◌then◌else◌, refl, ap, ◌∙◌, sym, append_assoc}
 use Rattle.std.proofs.lemmas.List.{append-nil, at_drop_more}
 use Rattle.thorin_cli.specs.declared.words.Place.{Place}
 use Rattle.thorin_cli.specs.declared.words.Place.TheVariants.{Between, Inside, Escaped}
-use Rattle.thorin_cli.specs.Words.{is_space, is_mark, is_between, behind, keeps, put, words_from, words_of, escaped, quoted}
+use Rattle.thorin_cli.specs.Words.{is_space, is_mark, is_between, behind, keeps, put, words_from, escaped, quoted}
 
 -- what was read of a word, in front of the first of these
 abbrev pub prefix : List ℕ → List (List ℕ) → List (List ℕ)

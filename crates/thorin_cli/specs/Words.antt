@@ -1,6 +1,7 @@
--- The words of a text, as the manuals of the GNU programs have it for `@FILE`: whitespace separates; a word, or a part
--- of it, may stand between single or double quotation marks; a backslash takes the byte behind it, whatever it is.
-use Rattle.std.specs.Prelude.{ℕ, ◌≤◌, Bool, true, false, ◌==◌, ◌&&◌, ◌||◌, not, nat_le, List, [], ◌∷◌, ◌++◌, Option, Some, None, if◌then◌else◌}
+-- The words of a text, as the manuals of the GNU programs have it for `@FILE`: whitespace
+-- separates; a word, or a part of it, may stand between single or double quotation marks; a
+-- backslash takes the byte behind it, whatever it is.
+use Rattle.std.specs.Prelude.{ℕ, Bool, true, false, ◌==◌, ◌&&◌, ◌||◌, not, nat_le, List, [], ◌∷◌, ◌++◌, Option, Some, None, if◌then◌else◌}
 use Rattle.thorin_cli.specs.declared.words.Place.{Place}
 use Rattle.thorin_cli.specs.declared.words.Place.TheVariants.{Between, Inside, Escaped}
 
@@ -32,7 +33,8 @@ behind Between byte = behind_in None byte
 behind (Inside quote) byte = behind_in quote byte
 behind (Escaped quote) byte = Inside quote
 
--- whether the byte belongs to the word: one that a backslash takes does, and no other backslash, no mark that opens or closes, no space outside of marks
+-- whether the byte belongs to the word: one that a backslash takes does, and no other backslash, no
+-- mark that opens or closes, no space outside of marks
 abbrev pub keeps_in : Option ℕ → ℕ → Bool
 keeps_in (Some mark) byte = not (byte == backslash) && not (byte == mark)
 keeps_in None byte = (not (byte == backslash) && not (is_mark byte)) && not (is_space byte)

@@ -15,9 +15,10 @@ use std::io::{BufWriter, Write};
 use thorin::dwo_identifier_of_unit;
 use thorin_faults::Error;
 
-/// Goes over a package: each unit that a slot of an index names is found under its identifier, its ranges are inside
-/// their sections, its header and all its strings can be read, and the identifier is its own; and a slot names each row.
-/// Prints a line for each fault, and how many units and faults there are. Answers the status, 1 where there are faults.
+/// Goes over a package: each unit that a slot of an index names is found under its identifier, its
+/// ranges are inside their sections, its header and all its strings can be read, and the identifier
+/// is its own; and a slot names each row. Prints a line for each fault, and how many units and
+/// faults there are. Answers the status, 1 where there are faults.
 pub(crate) fn check<O: Write>(
     rt: &HostRuntime,
     matches: &ArgMatches<'_>,
@@ -109,7 +110,8 @@ struct StringRange {
     is_64: bool,
 }
 
-// Checks each unit that a slot names, then the strings of each range of string offsets. Answers the number of faults.
+// Checks each unit that a slot names, then the strings of each range of string offsets. Answers the
+// number of faults.
 fn check_units<W: Write>(
     rt: &HostRuntime,
     package: &PackageFile<'_>,
@@ -229,7 +231,8 @@ fn row_count(file: &ElfFile<'_>, kind: SectionKind) -> u32 {
     0
 }
 
-// A slot names each row of an index; `entries` are in the order of rows. Answers the number of faults.
+// A slot names each row of an index; `entries` are in the order of rows. Answers the number of
+// faults.
 fn check_rows<W: Write>(
     entries: &[UnitEntry],
     is_types: bool,
@@ -259,9 +262,10 @@ fn check_rows<W: Write>(
     Ok(faults)
 }
 
-// Each skeleton unit of an executable is in the package. THE ONE PLACE where `check -e` asks for skeleton units, which
-// can't be read yet: it will go over the list that `skeletons` of the crate for executables gives, print a line for each
-// target that `package.find` doesn't have and one for the list's own fault, and answer how many lines these are.
+// Each skeleton unit of an executable is in the package. THE ONE PLACE where `check -e` asks for
+// skeleton units, which can't be read yet: it will go over the list that `skeletons` of the crate
+// for executables gives, print a line for each target that `package.find` doesn't have and one for
+// the list's own fault, and answer how many lines these are.
 fn check_executable<W: Write>(
     rt: &HostRuntime,
     _package: &PackageFile<'_>,

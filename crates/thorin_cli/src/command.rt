@@ -67,7 +67,7 @@ pub(crate) fn peer<'a>(alloc: Global, name: &'a str) -> Result<Command<'a>, Erro
             .version(VERSION)
             .about("Packs split DWARF objects into a DWARF package")
             .after_help(
-                "Without -o the package of one EXEC is EXEC.dwp. This is thorin under another name.",
+                "Without -o the package of one EXEC is EXEC.dwp. This is thorin by another name.",
             )
             .arg(output)?
             .arg(executables(

@@ -10,7 +10,8 @@ use dwp_reader::Format;
 use dwp_table::{Bucketable, DebugTypeSignature, DwarfObject, DwoId};
 use std::io::Write;
 
-/// The kinds of sections with contributions, in the order of an index's columns, with their short names.
+/// The kinds of sections with contributions, in the order of an index's columns, with their short
+/// names.
 pub(crate) const COLUMNS: [(SectionKind, &'static str); 10] = [
     (SectionKind::Info, "info"),
     (SectionKind::Types, "types"),

@@ -5,7 +5,8 @@ use std::fs::{self, OpenFile};
 use std::io::{self, Read};
 use std::os::unix::fs::FileTypeExt;
 
-/// Reads a file whole, into room of its length where the system tells the length, so that it is held once.
+/// Reads a file whole, into room of its length where the system tells the length, so that it is
+/// held once.
 pub(crate) fn read_file(rt: &HostRuntime, path: &str) -> Result<Vec<u8>, Failure> {
     test_input(rt, path)?;
     let mut file = fs::open(rt, path).map_err(|e| read_failure(&e))?;

@@ -25,10 +25,11 @@ use std::convert::AsStr;
 use std::io::Write;
 pub use words::{quoted_words_are_read, split_words};
 
-/// Does what a command line asks for: `words` are the program's name and its arguments, where `@FILE` stands for the
-/// words of a file. What is printed goes to `out`, and a fault as one line `error: ` and its text to `err`. Answers the
-/// status: 0; 1 where the command was refused, a package has faults or a line can't be written; 2 for a bad command
-/// line. Under the names `dwp` and `llvm-dwp` it takes the command lines of those programs.
+/// Does what a command line asks for: `words` are the program's name and its arguments, where
+/// `@FILE` stands for the words of a file. What is printed goes to `out`, and a fault as one line
+/// `error: ` and its text to `err`. Answers the status: 0; 1 where the command was refused, a
+/// package has faults or a line can't be written; 2 for a bad command line. Under the names `dwp`
+/// and `llvm-dwp` it takes the command lines of those programs.
 pub fn run<S: AsStr, O: Write, E: Write>(
     rt: &HostRuntime,
     words: &[S],
@@ -69,7 +70,8 @@ fn run_words<O: Write, E: Write>(
     }
 }
 
-// Prints what is said of a command line that asks for nothing to be done, help among it, and answers the status.
+// Prints what is said of a command line that asks for nothing to be done, help among it, and
+// answers the status.
 fn refuse<O: Write, E: Write>(error: &Error, out: &mut O, err: &mut E) -> u8 {
     if error.kind() == ErrorKind::OutOfMemory {
         report(err, &Failure::Memory)

@@ -9,8 +9,8 @@ use dwp_index::{PackageFile, PackagedUnit, UnitEntry};
 use dwp_table::{Bucketable, DwarfObject};
 use std::io::{BufWriter, Write};
 
-/// Prints a line for each unit of a package: compilation units by row, then type units by row. With `--sizes` each line
-/// goes on with the unit's sizes, and totals follow. Answers the status 0.
+/// Prints a line for each unit of a package: compilation units by row, then type units by row. With
+/// `--sizes` each line goes on with the unit's sizes, and totals follow. Answers the status 0.
 pub(crate) fn list<O: Write>(
     rt: &HostRuntime,
     matches: &ArgMatches<'_>,

@@ -2,7 +2,7 @@
 
 use crate::input::test_input;
 use crate::output::Failure;
-use crate::telling::{tell_refused, tell_taken, warn_differing};
+use crate::telling::{tell_refused, tell_taken, unit_count, warn_differing};
 use crate::write::write_package;
 use bumpalo::Bump;
 use clap::ArgMatches;
@@ -60,8 +60,8 @@ impl<'m, 'a> Packing<'m, 'a> {
     }
 }
 
-/// Packs the inputs in order, then what each executable refers to, and writes the package. Stops at the first refusal,
-/// and then writes nothing. Answers the status 0.
+/// Packs the inputs in order, then what each executable refers to, and writes the package. Stops at
+/// the first refusal, and then writes nothing. Answers the status 0.
 pub(crate) fn pack<E: Write>(
     rt: &HostRuntime,
     packing: &Packing<'_, '_>,
@@ -77,7 +77,8 @@ pub(crate) fn pack<E: Write>(
     Ok(0)
 }
 
-// The object to be written, and the signatures of type units that were passed over and differ from the ones kept.
+// The object to be written, and the signatures of type units that were passed over and differ from
+// the ones kept.
 fn packed<'o, 's: 'o, Sess: Session<RelocationEntry>, E: Write>(
     rt: &HostRuntime,
     packing: &Packing<'_, '_>,
@@ -87,14 +88,26 @@ fn packed<'o, 's: 'o, Sess: Session<RelocationEntry>, E: Write>(
     for input in packing.inputs.unwrap_or(&[]) {
         let before = package.contained_units().len();
         let outcome = add_input(rt, &mut package, input);
-        let units = package.contained_units().len().saturating_sub(before);
-        tell(packing, input, units, outcome, err)?;
+        let added = package.contained_units().len().saturating_sub(before);
+        if packing.verbose {
+            match &outcome {
+                Ok(()) => tell_taken(err, input, added, unit_count(rt, input)?)?,
+                Err(failure) => tell_refused(err, input, failure)?,
+            }
+        }
+        outcome?;
     }
     for executable in packing.executables.unwrap_or(&[]) {
         let before = package.contained_units().len();
         let outcome = add_executable(rt, &mut package, executable, packing.missing);
-        let units = package.contained_units().len().saturating_sub(before);
-        tell(packing, executable, units, outcome, err)?;
+        let added = package.contained_units().len().saturating_sub(before);
+        if packing.verbose {
+            match &outcome {
+                Ok(()) => tell_taken(err, executable, added, None)?,
+                Err(failure) => tell_refused(err, executable, failure)?,
+            }
+        }
+        outcome?;
     }
     let differing = differing_types(rt, &package)?;
     let object = package.finish()?;
@@ -111,8 +124,9 @@ fn add_input<'o, 's: 'o, Sess: Session<RelocationEntry>>(
     Ok(())
 }
 
-// Adds the objects that an executable refers to. THE ONE PLACE where `-e` calls the builder, which takes no executables
-// yet and so answers `NotYet`; it will be `package.add_executable(Path::new(executable), missing)?`.
+// Adds the objects that an executable refers to. THE ONE PLACE where `-e` calls the builder, which
+// takes no executables yet and so answers `NotYet`; it will be
+// `package.add_executable(Path::new(executable), missing)?`.
 fn add_executable<'o, 's: 'o, Sess: Session<RelocationEntry>>(
     rt: &HostRuntime,
     _package: &mut DwarfPackage<'o, 's, Sess>,
@@ -123,35 +137,12 @@ fn add_executable<'o, 's: 'o, Sess: Session<RelocationEntry>>(
     Err(Failure::Package(Error::NotYet))
 }
 
-// The signatures of type units that were passed over and differ from the ones kept. THE ONE PLACE where the builder is
-// asked for them, which keeps no list yet; it will be a copy of `package.differing_types()`.
+// The signatures of type units that were passed over and differ from the ones kept. THE ONE PLACE
+// where the builder is asked for them, which keeps no list yet; it will be a copy of
+// `package.differing_types()`.
 fn differing_types<'o, 's: 'o, Sess: Session<RelocationEntry>>(
     rt: &HostRuntime,
     _package: &DwarfPackage<'o, 's, Sess>,
 ) -> Result<Vec<DebugTypeSignature>, Failure> {
     Ok(Vec::new(rt.alloc()))
-}
-
-// Tells what came of an input, where that is asked for.
-fn tell<E: Write>(
-    packing: &Packing<'_, '_>,
-    name: &str,
-    units: usize,
-    outcome: Result<(), Failure>,
-    err: &mut E,
-) -> Result<(), Failure> {
-    match outcome {
-        Ok(()) => {
-            if packing.verbose {
-                tell_taken(err, name, units)?;
-            }
-            Ok(())
-        }
-        Err(failure) => {
-            if packing.verbose {
-                tell_refused(err, name, &failure)?;
-            }
-            Err(failure)
-        }
-    }
 }

@@ -9,8 +9,9 @@ use std::fs;
 // How many response files a command line may name, those among them that response files name.
 const MOST_FILES: u32 = 2000;
 
-/// The words of a command line with the words of its response files in place of each `@FILE`. Those of a file may name
-/// files again. The first word stays, and so does a name for which there is no file.
+/// The words of a command line with the words of its response files in place of each `@FILE`. Those
+/// of a file may name files again. The first word stays, and so does a name for which there is no
+/// file.
 pub(crate) fn expanded<S: AsStr>(rt: &HostRuntime, words: &[S]) -> Result<Vec<String>, Failure> {
     let alloc = rt.alloc();
     let mut all = Vec::with_capacity(alloc, words.len())?;
@@ -41,7 +42,8 @@ pub(crate) fn expanded<S: AsStr>(rt: &HostRuntime, words: &[S]) -> Result<Vec<St
     Ok(all)
 }
 
-// The words of the file that a word `@FILE` names; none for another word, or where there is no such file.
+// The words of the file that a word `@FILE` names; none for another word, or where there is no such
+// file.
 fn response(rt: &HostRuntime, word: &str) -> Result<Option<Vec<Vec<u8>>>, Failure> {
     let Some(name) = word.strip_prefix("@") else {
         return Ok(None);

@@ -47,8 +47,9 @@ impl Sizes {
         Ok(())
     }
 
-    /// Prints a line `total` for each section of a package: its bytes in the file; for a section that units have ranges
-    /// of, also the bytes of its distinct ranges, and how many more all ranges have together. Then the file's bytes.
+    /// Prints a line `total` for each section of a package: its bytes in the file; for a section
+    /// that units have ranges of, also the bytes of its distinct ranges, and how many more all
+    /// ranges have together. Then the file's bytes.
     pub(crate) fn print<W: Write>(mut self, bytes: &[u8], lines: &mut W) -> Result<(), Failure> {
         let Ok(file) = ElfFile::parse(bytes) else {
             return Err(Failure::Malformed);

@@ -1,16 +1,57 @@
 //! What `pack` tells of its inputs, and of type units that differ.
 
+use crate::input::read_file;
 use crate::output::Failure;
+use dwp_dwarf::{SliceReader, UnitHeaders, UnitSection};
+use dwp_elf::{ElfFile, SectionKind};
 use dwp_table::DebugTypeSignature;
-use std::fmt;
 use std::io::Write;
+use std::{fmt, fs};
 use thorin_faults::Error;
 
-/// Tells that an input was taken, and how many units of it were added. How many were passed over the builder doesn't
-/// tell yet.
-pub(crate) fn tell_taken<E: Write>(err: &mut E, name: &str, units: usize) -> Result<(), Failure> {
-    let word = if units == 1 { "unit" } else { "units" };
-    writeln!(err, "{name}: {units} {word}").map_err(|_| Failure::Line)
+/// Tells that an input was taken: how many units of it were added, and how many were passed over,
+/// where that is known.
+pub(crate) fn tell_taken<E: Write>(
+    err: &mut E,
+    name: &str,
+    added: usize,
+    all: Option<usize>,
+) -> Result<(), Failure> {
+    let told = match all {
+        Some(all) => {
+            let passed = all.saturating_sub(added);
+            writeln!(err, "{name}: {added} units, {passed} passed over")
+        }
+        None => writeln!(err, "{name}: {added} units"),
+    };
+    told.map_err(|_| Failure::Line)
+}
+
+/// How many units an object has that was accepted. It is read a second time: none where it is no
+/// regular file.
+pub(crate) fn unit_count(rt: &HostRuntime, path: &str) -> Result<Option<usize>, Failure> {
+    if !fs::metadata(rt, path).is_ok_and(|metadata| metadata.is_file()) {
+        return Ok(None);
+    }
+    let bytes = read_file(rt, path)?;
+    let Ok(file) = ElfFile::parse(bytes.as_slice()) else {
+        return Ok(None);
+    };
+    let mut units = 0usize;
+    for section in file.sections() {
+        if let (Ok(name), Ok(bytes)) = (section.name(), section.data()) {
+            let kind = match SectionKind::of_name(name) {
+                Some(SectionKind::Info) => UnitSection::Info,
+                Some(SectionKind::Types) => UnitSection::Types,
+                _ => continue,
+            };
+            let reader = SliceReader::new(bytes, file.endianness());
+            for _ in UnitHeaders::new(reader, kind) {
+                units = units.saturating_add(1);
+            }
+        }
+    }
+    Ok(Some(units))
 }
 
 /// Tells which input was refused, and why, with all causes.

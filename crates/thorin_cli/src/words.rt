@@ -68,9 +68,10 @@ fn is_mark(byte: u8) -> bool
     byte == b'\'' || byte == b'"'
 }
 
-/// The words of a text: whitespace separates them; a quotation mark, `'` or `"`, takes what stands up to the next
-/// one of its kind into the word, and a backslash the byte behind it, also between quotation marks. The text's end
-/// ends all. So linkers read what stands in the file of `@FILE`. An `Err` is want of memory.
+/// The words of a text: whitespace separates them; a quotation mark, `'` or `"`, takes what stands
+/// up to the next one of its kind into the word, and a backslash the byte behind it, also between
+/// quotation marks. The text's end ends all. So linkers read what stands in the file of `@FILE`. An
+/// `Err` is want of memory.
 pub fn split_words(alloc: Global, text: &[u8]) -> Result<Vec<Vec<u8>>, AllocError>
     ensures { IfOk result (λ words. map (λ word. word.items) words.items ≡ words_of text.now) }
 {
@@ -92,8 +93,8 @@ pub fn split_words(alloc: Global, text: &[u8]) -> Result<Vec<Vec<u8>>, AllocErro
     Ok(words)
 }
 
-/// Law: each list of words is read from the text that has each of them between quotation marks, with a backslash
-/// before each byte, and a blank behind it.
+/// Law: each list of words is read from the text that has each of them between quotation marks,
+/// with a backslash before each byte, and a blank behind it.
 pub fn quoted_words_are_read()
     ensures { (words : List (List ℕ)) → words_of (quoted words) ≡ words }
 {}

@@ -9,9 +9,10 @@ use thorin_faults::Error;
 // How many names beside OUT are tried.
 const MOST_NAMES: u32 = 100;
 
-/// Writes a package to OUT. Where OUT is a regular file, or isn't there, the package is written under a name beside it
-/// that then becomes OUT: a write that fails leaves OUT as it was. Anything else, as a device, a pipe or a symbolic
-/// link, is written as it stands, and so is OUT where no file can be made beside it. The size is tested first.
+/// Writes a package to OUT. Where OUT is a regular file, or isn't there, the package is written
+/// under a name beside it that then becomes OUT: a write that fails leaves OUT as it was. Anything
+/// else, as a device, a pipe or a symbolic link, is written as it stands, and so is OUT where no
+/// file can be made beside it. The size is tested first.
 pub(crate) fn write_package(
     rt: &HostRuntime,
     object: &WritableObject,
@@ -31,7 +32,8 @@ pub(crate) fn write_package(
     }
 }
 
-// Whether another file may take OUT's place: it is a regular file that may be written, or there is none.
+// Whether another file may take OUT's place: it is a regular file that may be written, or there is
+// none.
 fn is_replaceable(rt: &HostRuntime, output: &str) -> Result<bool, Failure> {
     let Ok(metadata) = fs::symlink_metadata(rt, output) else {
         return Ok(true);
@@ -61,7 +63,8 @@ fn file_beside(rt: &HostRuntime, output: &str) -> Result<Option<(String, File)>,
     Ok(None)
 }
 
-// Writes the package to the file of that name, which then becomes OUT, with the permissions that OUT had.
+// Writes the package to the file of that name, which then becomes OUT, with the permissions that
+// OUT had.
 fn replace(
     rt: &HostRuntime,
     object: &WritableObject,

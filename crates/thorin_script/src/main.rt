@@ -1,6 +1,6 @@
-//! Runs the lines of the file `script` as command lines of `thorin`, and prints what each printed and its status. A
-//! line `size FILE` prints how many bytes a file has, if it is there; one that begins with `full` has a standard output
-//! that takes nothing. For the gate alone.
+//! Runs the lines of the file `script` as command lines of `thorin`, and prints what each printed
+//! and its status. A line `size FILE` prints how many bytes a file has, if it is there; one that
+//! begins with `full` has a standard output that takes nothing. For the gate alone.
 #![tactic(auto)]
 
 use std::fs;

@@ -1,4 +1,4 @@
-use Rattle.std.proofs.Common.{◌≡◌, ℕ, ◌+◌, ◌<◌, true, false, ◌&&◌, not, List, map, ◌∷◌, [], ◌++◌, get_or, drop, length, refl, ap, sym, ◌∙◌, append_assoc, arith, Vec, Global}
+use Rattle.std.proofs.Common.{◌≡◌, ℕ, ◌+◌, ◌<◌, true, false, ◌&&◌, not, List, map, ◌∷◌, [], ◌++◌, get_or, drop, length, refl, sym, append_assoc, arith, Vec, Global}
 use Rattle.std.proofs.lemmas.List.{map-append}
 use Rattle.thorin_cli.specs.Words.{words_of, words_from, keeps, behind, is_between}
 use Rattle.thorin_cli.proofs.words.split_words.Goals as goal

@@ -1,4 +1,4 @@
-use Rattle.std.proofs.Common.{◌≡◌, List, ℕ, [], ◌++◌, map, drop, true}
+use Rattle.std.proofs.Common.{◌≡◌, [], ◌++◌, map, drop, true}
 use Rattle.thorin_cli.specs.Words.{is_between, words_from, words_of}
 use Rattle.thorin_cli.proofs.Splitting.{prefix}
 use Rattle.thorin_cli.proofs.words.split_words.Given as goal
