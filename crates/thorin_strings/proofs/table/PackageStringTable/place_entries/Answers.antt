@@ -1,4 +1,4 @@
-use Rattle.std.proofs.Common.{◌≡◌, length, refl, arith}
+use Rattle.std.proofs.Common.{◌≡◌, length, arith}
 use Rattle.thorin_strings.specs.Grown.{IsGrown}
 use Rattle.thorin_strings.proofs.MergeLemmas.{sorted_grown, within_grown, places_within, places_behind, places_few, table_merged, table_kept, table_restored}
 use Rattle.thorin_strings.proofs.table.PackageStringTable.place_entries.Goals as goal
