@@ -139,12 +139,18 @@ table_merged before bytes places moved positions new table g order entered sorte
       sorted = sorted;
     }
 
--- back to what was before
+-- back to what was before, where no place was entered
+pub table_kept : (before bytes places positions kept : List ℕ) (mark : ℕ) → IsIndexed before positions → IsGrown before bytes places → mark ≡ length before → kept ≡ take mark bytes → (strings_in kept ≡ strings_in before) × IsIndexed kept positions
+table_kept before bytes places positions kept mark table g is_mark is_kept =
+    let first : kept ≡ before = is_kept ∙ ap (take mark) (grown_bytes before bytes places g) ∙ take_at before (data_of g.added) mark (sym is_mark) in
+    (ap strings_in first, subst (λ l. IsIndexed l positions) (sym first) table)
+
+-- and where some were
 pub table_restored : (before bytes places positions new kept back : List ℕ) (mark : ℕ) → IsIndexed before positions → IsGrown before bytes places → mark ≡ length before → kept ≡ take mark bytes → filter (λ p. ltb p mark) new ≡ filter (λ p. ltb p mark) positions → back ≡ filter (λ p. ltb p mark) new → (strings_in kept ≡ strings_in before) × IsIndexed kept back
 table_restored before bytes places positions new kept back mark table g is_mark is_kept same is_back =
     let below : All (λ p. ltb p mark ≡ true) positions =
     All-permutation (λ p. ltb p mark ≡ true) _ _ table.moved
     (All-weaker (λ p. p < 0 + length (data_of (strings_in before))) (λ p. ltb p mark ≡ true) (λ p h. lt-ltb p mark (omega (arith, ap length table.ended))) _ (offsets_from-below 0 (strings_in before))) in
-    let first : kept ≡ before = is_kept ∙ ap (take mark) (grown_bytes before bytes places g) ∙ take_at before (data_of g.added) mark (sym is_mark) in
     let second : back ≡ positions = is_back ∙ same ∙ filter_all (λ p. ltb p mark) positions below in
-    (ap strings_in first, subst (λ l. IsIndexed l back) (sym first) (subst (IsIndexed before) (sym second) table))
+    let was = table_kept before bytes places positions kept mark table g is_mark is_kept in
+    (was.0, subst (IsIndexed kept) (sym second) was.1)

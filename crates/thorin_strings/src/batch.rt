@@ -81,7 +81,7 @@ impl Batch {
     }
 
     /// Appends the offsets of the strings that the first entries name to some bytes. None where one can't
-    /// be read or the format can't hold it, and for want of memory.
+    /// be read or the format can't hold it, where a guess was lost, and for want of memory.
     pub fn place_entries(
         &mut self,
         debug_str: &[u8],
@@ -104,6 +104,9 @@ impl Batch {
         for index in 0..count {
             let offset = self.place_entry(debug_str, debug_str_offsets, endian, encoding, index)?;
             push_offset(&mut out, endian, encoding.format, offset).ok()?;
+        }
+        if !self.guesses.is_whole() {
+            return None;
         }
         Some(out)
     }

@@ -77,6 +77,7 @@ pub(crate) struct Guesses {
     slots: Vec<Slot>,
     mask: usize,
     used: usize,
+    is_whole: bool,
 }
 
 impl Guesses {
@@ -87,7 +88,13 @@ impl Guesses {
             slots: Vec::new(alloc),
             mask: 0,
             used: 0,
+            is_whole: true,
         }
+    }
+
+    /// Whether no guess was lost yet.
+    pub fn is_whole(&self) -> bool {
+        self.is_whole
     }
 
     /// A place at which a string of that hash stands.
@@ -119,9 +126,13 @@ impl Guesses {
         let mut slots = Vec::from_elem(self.alloc, FREE, mask.saturating_add(PROBES))?;
         let mut used: usize = 0;
         for slot in &self.slots {
-            let is_kept = slot.place != 0 && slot.place as usize <= limit;
-            if is_kept && put(&mut slots, mask, *slot) {
+            if slot.place == 0 || slot.place as usize > limit {
+                continue;
+            }
+            if put(&mut slots, mask, *slot) {
                 used = used.saturating_add(1);
+            } else {
+                self.is_whole = false;
             }
         }
         self.slots = slots;
@@ -135,6 +146,7 @@ impl Guesses {
     /// memory the guess is left out.
     pub fn enter(&mut self, hash: u32, place: usize) {
         if place >= u32::MAX as usize {
+            self.is_whole = false;
             return;
         }
         let slot = Slot {
@@ -147,6 +159,8 @@ impl Guesses {
         }
         if is_in {
             self.used = self.used.saturating_add(1);
+        } else {
+            self.is_whole = false;
         }
     }
 }

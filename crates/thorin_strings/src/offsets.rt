@@ -180,6 +180,9 @@ impl PackageStringTable {
         if section_size == 0 || section_size < header_size || !is_whole {
             return None;
         }
+        if !self.has_all_guesses() {
+            return None;
+        }
         let entry_size = encoding.format.offset_size() as u64;
         let count = encoding.string_offsets_count(section_size);
         let mut first = header(self.allocator(), endian, encoding, count * entry_size).ok()?;

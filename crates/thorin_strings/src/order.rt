@@ -1,13 +1,14 @@
 ghost use Rattle.std.specs.Prelude.{◌<◌, ◌≤◌, length, IsPermutation};
 
 use dwp_base::Endianness;
+use dwp_reader::string_at;
 use std::alloc::Global;
 
-/// How many strings are compared as they are.
+/// How many strings are compared without a look at eight bytes of each first.
 const FEW: usize = 8;
 
-/// How many times eight bytes are looked at before strings are compared as they are.
-const LEVELS: usize = 32;
+/// How many times eight bytes of a string are looked at before all of them are.
+const LEVELS: usize = 64;
 
 /// Eight bytes of a string from a depth on, as a number that has their order.
 fn key_at(bytes: &[u8], place: u64, depth: usize) -> u64 {
@@ -32,21 +33,18 @@ fn run_end(bytes: &[u8], places: &[u64], from: usize, depth: usize) -> usize
     to
 }
 
-/// Puts places into the order of the bytes that follow them from a depth on, eight at a time, and after
-/// so many levels by all.
+/// What a string has from a depth on.
+fn rest_at(bytes: &[u8], place: u64, depth: usize) -> &[u8] {
+    string_at(bytes, place.saturating_add(depth as u64)).unwrap_or(&[])
+}
+
+/// Puts places into the order of their strings from a depth on, by eight bytes so many times, and then by
+/// all that is left.
 fn order_from(alloc: Global, bytes: &[u8], places: &mut [u64], depth: usize, levels: usize)
     ensures { IsPermutation places.old places.new }
 {
     if places.len() <= FEW || levels == 0 {
-        places.sort_unstable_by(|a, b| {
-            let first = bytes
-                .get((*a as usize).saturating_add(depth)..)
-                .unwrap_or(&[]);
-            let second = bytes
-                .get((*b as usize).saturating_add(depth)..)
-                .unwrap_or(&[]);
-            first.cmp(&second)
-        });
+        places.sort_unstable_by(|a, b| rest_at(bytes, *a, depth).cmp(&rest_at(bytes, *b, depth)));
         return;
     }
     let _sorted = places.sort_by_cached_key(alloc, |place| key_at(bytes, *place, depth));

@@ -108,6 +108,11 @@ impl PackageStringTable {
         self.alloc
     }
 
+    /// Whether each string has a guess of its place, so that new strings of a range can be told at once.
+    pub(crate) fn has_all_guesses(&self) -> bool {
+        self.guesses.is_whole()
+    }
+
     /// The offset of a string, where the table has it, and how many strings were compared.
     pub fn find_counted(&self, string: &[u8]) -> (Option<PackageStringOffset>, u32)
         ensures found { IsSome result.0 ↔ Contains self.now string.now }
@@ -156,7 +161,8 @@ impl PackageStringTable {
     /// Appends the offsets of the strings that the first entries name to some bytes. New strings are
     /// entered together: what no guess knows is taken for new, and once all are compared in their order,
     /// no two are equal and none was there. None where two are, where an entry can't be read or the
-    /// format can't hold its offset, and for want of memory; the table is then as it was.
+    /// format can't hold its offset, where a guess was lost, and for want of memory; the table is then as
+    /// it was.
     pub(crate) fn place_entries(
         &mut self,
         debug_str: &[u8],
@@ -198,7 +204,7 @@ impl PackageStringTable {
         self.guesses = guesses;
         self.next = next;
         let Some(range) = range else {
-            forget(&mut self.bytes, &mut self.positions, mark);
+            self.bytes.truncate(mark);
             return None;
         };
         order(self.alloc, self.bytes.as_slice(), &mut places);

@@ -1,13 +1,13 @@
-use Rattle.std.proofs.Common.{◌≡◌, length, refl, arith}
+use Rattle.std.proofs.Common.{◌≡◌, length, arith}
 use Rattle.thorin_strings.specs.Grown.{IsGrown}
-use Rattle.thorin_strings.proofs.MergeLemmas.{sorted_grown, within_grown, places_within, places_behind, places_few, table_merged, table_restored}
+use Rattle.thorin_strings.proofs.MergeLemmas.{sorted_grown, within_grown, places_within, places_behind, places_few, table_merged, table_kept, table_restored}
 use Rattle.thorin_strings.proofs.table.PackageStringTable.place_entries.Goals as goal
 
 pub invariant_of-self : goal.invariant_of-self
 invariant_of-self c =
     let g : IsGrown c.self.inside.bytes.items c.place_entries-range.new.self.bytes.items c.place_entries-range.new.self.places.items = rw c.replace.ensures.value at c.place_entries-range.ensures.grown in
     let mark : c.len-mark.result ≡ length c.self.inside.bytes.items = omega (arith, c.self.inside.bytes.ok.0) in
-    (table_restored _ _ _ _ _ _ _ _ c.self.invariant g mark c.forget.ensures.data refl c.forget.ensures.positions).1
+    (table_kept _ _ _ _ _ _ c.self.invariant g mark c.truncate.ensures.items).1
 
 pub enter_all-requires-clause-sorted : goal.enter_all-requires-clause-sorted
 enter_all-requires-clause-sorted c =
@@ -33,7 +33,7 @@ pub invariant_of-self-then-not-enter_all : goal.invariant_of-self-then-not-enter
 invariant_of-self-then-not-enter_all c =
     let g : IsGrown c.self.inside.bytes.items c.place_entries-range.new.self.bytes.items c.place_entries-range.new.self.places.items = rw c.replace.ensures.value at c.place_entries-range.ensures.grown in
     let mark : c.len-mark.result ≡ length c.self.inside.bytes.items = omega (arith, c.self.inside.bytes.ok.0) in
-    (table_restored _ _ _ _ _ _ _ _ c.self.invariant g mark c.forget-then-not-enter_all.ensures.data (c.enter_all.ensures.kept c.len-mark.result (rw c.deref.ensures.value (places_behind _ _ _ _ _ g c.order.ensures mark))) c.forget-then-not-enter_all.ensures.positions).1
+    (table_restored _ _ _ _ _ _ _ _ c.self.invariant g mark c.forget.ensures.data (c.enter_all.ensures.kept c.len-mark.result (rw c.deref.ensures.value (places_behind _ _ _ _ _ g c.order.ensures mark))) c.forget.ensures.positions).1
 
 pub invariant_of-self-else-not-enter_all : goal.invariant_of-self-else-not-enter_all
 invariant_of-self-else-not-enter_all c =
