@@ -80,6 +80,14 @@ abbrev pub names_in : Option InProgress → List DwarfObject
 names_in None = []
 names_in (Some made) = names_of made
 
+-- the signatures of type units that were passed over and differ from those kept
+abbrev pub differing_begun : Option InProgress → List ℕ
+differing_begun None = []
+differing_begun (Some made) = made.differing
+
+abbrev pub differing_in : State → List ℕ
+differing_in state = differing_begun state.begun
+
 -- the one encoding after an object, which has this one for its units
 abbrev pub with_own : Option InProgress → Option Encoding → Option Encoding → Option Encoding
 with_own None own encoding = encoding

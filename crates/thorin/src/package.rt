@@ -21,7 +21,7 @@ use crate::missing::MissingTargets;
 use dwp_dwarf::Encoding;
 use dwp_elf::WritableObject;
 use dwp_reader::RelocationEntry;
-use dwp_table::{Bucketable, DwarfObject};
+use dwp_table::{Bucketable, DebugTypeSignature, DwarfObject};
 use indexmap::IndexSet;
 use std::alloc::Global;
 use std::fmt;
@@ -300,6 +300,18 @@ impl<'output, 'session: 'output, Sess: Session<RelocationEntry>> DwarfPackage<
         match &self.in_progress {
             Some(package) => package.names(),
             None => &self.no_units,
+        }
+    }
+
+    /// The signatures of type units that were passed over and whose bytes differ from those of the unit
+    /// of their name that is kept, in the order of passing over, as often as it happened. It takes no
+    /// memory.
+    pub fn differing_types(&self) -> &[DebugTypeSignature]
+        ensures { map (λ s. s.0) result.now ≡ spec.differing_in self.now.state }
+    {
+        match &self.in_progress {
+            Some(package) => package.differing_types(),
+            None => &[],
         }
     }
 

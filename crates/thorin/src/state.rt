@@ -109,6 +109,13 @@ impl InProgressDwarfPackage {
         &self.names
     }
 
+    /// The signatures of type units that were passed over and differ from those that are kept.
+    pub(crate) fn differing_types(&self) -> &[DebugTypeSignature]
+        ensures { map (λ s. s.0) result.now ≡ (in_progress_of self.now).differing }
+    {
+        &self.differing
+    }
+
     /// The bytes of the unit of a name.
     pub(crate) fn bytes_of(&self, name: DwarfObject) -> Option<&[u8]>
         ensures { option_map (λ bytes. bytes.now) result ≡ lookup (same_name name) (spec.held_units (in_progress_of self.now)) }

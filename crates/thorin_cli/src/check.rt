@@ -4,6 +4,7 @@ use crate::find::short_kind;
 use crate::input::read_file;
 use crate::list::{entries_by_row, is_type};
 use crate::output::{Failure, buffer_failure};
+use bumpalo::Bump;
 use clap::ArgMatches;
 use dwp_dwarf::{ReadError, SliceReader, UnitHeaders, UnitSection};
 use dwp_elf::{ElfFile, Endianness, SectionKind};
@@ -12,8 +13,8 @@ use dwp_reader::Format;
 use dwp_table::{Bucketable, DwarfObject};
 use std::fmt;
 use std::io::{BufWriter, Write};
-use thorin::dwo_identifier_of_unit;
-use thorin_faults::Error;
+use thorin::{SkeletonList, dwo_identifier_of_unit, skeletons};
+use thorin_faults::{ArenaSession, Error};
 
 /// Goes over a package: each unit that a slot of an index names is found under its identifier, its
 /// ranges are inside their sections, its header and all its strings can be read, and the identifier
@@ -262,16 +263,37 @@ fn check_rows<W: Write>(
     Ok(faults)
 }
 
-// Each skeleton unit of an executable is in the package. THE ONE PLACE where `check -e` asks for
-// skeleton units, which can't be read yet: it will go over the list that `skeletons` of the crate
-// for executables gives, print a line for each target that `package.find` doesn't have and one for
-// the list's own fault, and answer how many lines these are.
+// Each unit that an executable refers to is in the package: a line for each that isn't, and one for the
+// fault that ends the executable's list. Answers how many lines these are.
 fn check_executable<W: Write>(
     rt: &HostRuntime,
-    _package: &PackageFile<'_>,
+    package: &PackageFile<'_>,
     executable: &str,
-    _lines: &mut W,
+    lines: &mut W,
 ) -> Result<u64, Failure> {
-    let _bytes = read_file(rt, executable)?;
-    Err(Failure::Package(Error::NotYet))
+    let bytes = read_file(rt, executable)?;
+    let bump = Bump::new(rt.alloc());
+    let session = ArenaSession::new(rt, &bump);
+    let SkeletonList {
+        units,
+        fault,
+    } = skeletons(rt.alloc(), &session, bytes.as_slice());
+    let mut faults = 0u64;
+    for skeleton in &units {
+        let target = skeleton.target;
+        if !matches!(package.find(target), Ok(Some(_))) {
+            let kind = short_kind(target);
+            let id = target.index();
+            writeln!(lines, "{executable}: {kind} 0x{id:016x} is not in the package").map_err(|_| Failure::Line)?;
+            faults = faults.saturating_add(1);
+        }
+    }
+    match fault {
+        None => Ok(faults),
+        Some(Error::Memory) => Err(Failure::Memory),
+        Some(e) => {
+            writeln!(lines, "{executable}: {e}").map_err(|_| Failure::Line)?;
+            Ok(faults.saturating_add(1))
+        }
+    }
 }

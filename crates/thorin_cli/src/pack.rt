@@ -124,25 +124,22 @@ fn add_input<'o, 's: 'o, Sess: Session<RelocationEntry>>(
     Ok(())
 }
 
-// Adds the objects that an executable refers to. THE ONE PLACE where `-e` calls the builder, which
-// takes no executables yet and so answers `NotYet`; it will be
-// `package.add_executable(Path::new(executable), missing)?`.
+// Adds the objects that an executable refers to.
 fn add_executable<'o, 's: 'o, Sess: Session<RelocationEntry>>(
     rt: &HostRuntime,
-    _package: &mut DwarfPackage<'o, 's, Sess>,
+    package: &mut DwarfPackage<'o, 's, Sess>,
     executable: &str,
-    _missing: MissingReferencedObjectBehaviour,
+    missing: MissingReferencedObjectBehaviour,
 ) -> Result<(), Failure> {
     test_input(rt, executable)?;
-    Err(Failure::Package(Error::NotYet))
+    package.add_executable(Path::new(executable), missing)?;
+    Ok(())
 }
 
-// The signatures of type units that were passed over and differ from the ones kept. THE ONE PLACE
-// where the builder is asked for them, which keeps no list yet; it will be a copy of
-// `package.differing_types()`.
+// The signatures of type units that were passed over and differ from the ones kept.
 fn differing_types<'o, 's: 'o, Sess: Session<RelocationEntry>>(
     rt: &HostRuntime,
-    _package: &DwarfPackage<'o, 's, Sess>,
+    package: &DwarfPackage<'o, 's, Sess>,
 ) -> Result<Vec<DebugTypeSignature>, Failure> {
-    Ok(Vec::new(rt.alloc()))
+    Ok(package.differing_types().to_vec(rt.alloc())?)
 }

@@ -1,7 +1,7 @@
 -- Rewriting one range after another.
 use Rattle.std.proofs.Common.{◌≡◌, ℕ, ◌+◌, ◌-◌, ◌%◌, ◌<◌, ◌≤◌, Bool, true, false, cond, eqb, ltb, leb, not, ◌&&◌, List, [], ◌∷◌, ◌++◌, length, get_or, take, drop, slice_range, Ok, Err, Result, ap, sym, refl, ◌∙◌, append_assoc, arith}
 use Rattle.std.proofs.lemmas.Bool.{and_parts, leb-true, ltb-false, eqb-true}
-use Rattle.std.proofs.lemmas.List.{append-nil, take-take, take_all, length-take, get_or_default, at_drop_more, at_drop_all}
+use Rattle.std.proofs.lemmas.List.{take-take, take_all, length-take, get_or_default, at_drop_more, at_drop_all}
 use Rattle.dwp_base.specs.declared.endian.Endianness.{Endianness}
 use Rattle.dwp_base.specs.declared.section.Contribution.{Contribution}
 use Rattle.dwp_base.specs.Reading.{◌>>=◌}

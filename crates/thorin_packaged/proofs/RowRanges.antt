@@ -1,5 +1,5 @@
 -- The range of each row is among the ranges.
-use Rattle.std.proofs.Common.{◌≡◌, ℕ, zero, suc, ◌+◌, ◌-◌, ◌<◌, ◌≤◌, List, [], ◌∷◌, length, get_or, Some, None, Option, Ok, ap, sym, subst, refl, ◌∙◌, ◌⊎◌, inl, inr, arith}
+use Rattle.std.proofs.Common.{◌≡◌, ℕ, zero, suc, ◌-◌, List, [], ◌∷◌, length, get_or, Some, None, Option, Ok, ap, sym, subst, refl, ◌∙◌, ◌⊎◌, inl, inr, arith}
 use Rattle.std.specs.Ordering.{is_eq, match_ordering}
 use Rattle.std.specs.declared.cmp.Ordering.{Ordering}
 use Rattle.std.specs.declared.cmp.Ordering.TheVariants.{Less, Equal, Greater}
@@ -10,7 +10,7 @@ use Rattle.dwp_base.specs.declared.section.Contribution.{Contribution}
 use Rattle.dwp_index.specs.Index.{Index, Ranges, row_in, range_in}
 use Rattle.thorin_packaged.specs.RowPlaces.{range_of_row, ranges_of}
 use Rattle.thorin_packaged.specs.PackagedOffsets.{offset_ranges, place_cmp, with_ranges, with_rows}
-use Rattle.thorin_packaged.proofs.RowSteps.{key_test, ranges_length}
+use Rattle.thorin_packaged.proofs.RowSteps.{key_test}
 use Rattle.thorin_packaged.proofs.FirstRow.{range_is, range_of_found, numbered}
 
 -- a range is one of these

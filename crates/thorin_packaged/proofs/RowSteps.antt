@@ -1,5 +1,5 @@
 -- Going over the rows of an index.
-use Rattle.std.proofs.Common.{◌≡◌, ℕ, ◌+◌, ◌<◌, ◌≤◌, Bool, true, false, cond, eqb, ltb, ◌&&◌, List, [], ◌∷◌, length, drop, map, Some, None, Option, ap, ap₂, sym, subst, refl, ◌∙◌, ⊎_elim, arith}
+use Rattle.std.proofs.Common.{◌≡◌, ℕ, ◌+◌, ◌<◌, ◌≤◌, Bool, true, false, cond, eqb, ltb, ◌&&◌, [], ◌∷◌, length, drop, map, Some, None, Option, ap, ap₂, sym, subst, refl, ◌∙◌, ⊎_elim, arith}
 use Rattle.std.specs.List.{position_from, range_with_len}
 use Rattle.std.specs.Ordering.{is_eq, nat_cmp, ordering_then}
 use Rattle.std.specs.declared.cmp.Ordering.{Ordering}

@@ -171,26 +171,42 @@ fn strings_that_are_not_there(rt: HostRuntime) {
     );
 }
 
+/// The row of an index that has a range in a section.
+fn row_with(
+    alloc: Global,
+    index: Option<&UnitIndex>,
+    section: SectionKind,
+    range: Contribution,
+) -> Result<Option<u32>, Error> {
+    Ok(RowPlaces::new(alloc, index, section)?.find(range))
+}
+
 #[test]
 fn rows_by_place(rt: HostRuntime) -> Result<(), Fail> {
+    let alloc = rt.alloc();
     let rows = [
         (part(0, 0x10), part(0, 8)),
         (part(0x10, 8), part(8, 8)),
         (part(0, 0x10), part(16, 0)),
     ];
-    let bytes = index_of(rt.alloc(), GNU, &rows)?;
+    let bytes = index_of(alloc, GNU, &rows)?;
     let index = UnitIndex::parse(&bytes, Endianness::Little)?;
-    let abbrevs = RowPlaces::new(rt.alloc(), Some(&index), SectionKind::Abbrev)?;
+    let abbrevs = RowPlaces::new(alloc, Some(&index), SectionKind::Abbrev)?;
     assert_eq!(rt; abbrevs.find(part(0, 0x10)), Some(1));
     assert_eq!(rt; abbrevs.find(part(0x10, 8)), Some(2));
     assert_eq!(rt; abbrevs.find(part(0x10, 7)), None);
     assert_eq!(rt; abbrevs.find(part(0, 8)), None);
-    let offsets = RowPlaces::new(rt.alloc(), Some(&index), SectionKind::StrOffsets)?;
-    assert_eq!(rt; offsets.find(part(16, 0)), None);
-    let lines = RowPlaces::new(rt.alloc(), Some(&index), SectionKind::Line)?;
-    assert_eq!(rt; lines.find(part(0, 0x10)), None);
-    let nowhere = RowPlaces::new(rt.alloc(), None, SectionKind::Abbrev)?;
-    assert_eq!(rt; nowhere.find(part(0, 0x10)), None);
+    let offsets = row_with(alloc, Some(&index), SectionKind::StrOffsets, part(16, 0))?;
+    assert_eq!(rt; offsets, None);
+    let lines = row_with(alloc, Some(&index), SectionKind::Line, part(0, 0x10))?;
+    assert_eq!(rt; lines, None);
+    Ok(())
+}
+
+#[test]
+fn without_an_index_there_are_no_rows(rt: HostRuntime) -> Result<(), Fail> {
+    let found = row_with(rt.alloc(), None, SectionKind::Abbrev, part(0, 0x10))?;
+    assert_eq!(rt; found, None);
     Ok(())
 }
 

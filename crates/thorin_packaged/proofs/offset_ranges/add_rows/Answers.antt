@@ -1,4 +1,4 @@
-use Rattle.std.proofs.Common.{◌≡◌, map, drop, sym, ap, arith, ◌+◌, ◌<◌, length, ◌∙◌}
+use Rattle.std.proofs.Common.{map, sym, ap, arith, ◌<◌, length, ◌∙◌}
 use Rattle.std.specs.Option.{option_copied}
 use Rattle.thorin_packaged.specs.RangeKeys.{range_at}
 use Rattle.thorin_packaged.specs.PackagedOffsets.{with_rows}

@@ -1,8 +1,8 @@
-use Rattle.std.proofs.Common.{◌≡◌, ◌+◌, ◌<◌, ◌≤◌, ℕ, length, get_or, ◌++◌, Ok, sym, ap, ap₂, refl, ◌∙◌, arith}
+use Rattle.std.proofs.Common.{◌++◌, Ok, sym, ap, ap₂, refl, ◌∙◌, arith}
 use Rattle.std.proofs.lemmas.List.{take_rest}
 use Rattle.std.proofs.lemmas.Result.{err_from_is_err_and}
 use Rattle.dwp_base.specs.declared.section.Contribution.{Contribution}
-use Rattle.thorin_packaged.proofs.RewriteSteps.{next, all_written, one_refused, one_more, none_yet}
+use Rattle.thorin_packaged.proofs.RewriteSteps.{next, all_written, one_refused, one_more}
 use Rattle.thorin_packaged.proofs.packaged_offsets.rewritten.Goals as goal
 
 abbrev zero_range : Contribution
