@@ -1,19 +1,23 @@
 //! `thorin check`.
 
 use crate::find::short_kind;
-use crate::input::read_file;
+use crate::input::{read_file, test_input};
 use crate::list::{entries_by_row, is_type};
 use crate::output::{Failure, buffer_failure};
+use bumpalo::Bump;
 use clap::ArgMatches;
 use dwp_dwarf::{ReadError, SliceReader, UnitHeaders, UnitSection};
 use dwp_elf::{ElfFile, Endianness, SectionKind};
 use dwp_index::{PackageError, PackageFile, PackagedUnit, UnitEntry, UnitIndex};
-use dwp_reader::Format;
+use dwp_reader::{Format, RelocationEntry};
 use dwp_table::{Bucketable, DwarfObject};
+use std::alloc::Global;
 use std::fmt;
 use std::io::{BufWriter, Write};
+use std::path::Path;
 use thorin::dwo_identifier_of_unit;
-use thorin_faults::Error;
+use thorin_executable::{SkeletonList, skeletons};
+use thorin_faults::{ArenaSession, Error, InputError, Session};
 
 /// Goes over a package: each unit that a slot of an index names is found under its identifier, its
 /// ranges are inside their sections, its header and all its strings can be read, and the identifier
@@ -262,16 +266,76 @@ fn check_rows<W: Write>(
     Ok(faults)
 }
 
-// Each skeleton unit of an executable is in the package. THE ONE PLACE where `check -e` asks for
-// skeleton units, which can't be read yet: it will go over the list that `skeletons` of the crate
-// for executables gives, print a line for each target that `package.find` doesn't have and one for
-// the list's own fault, and answer how many lines these are.
+// Each split unit that an executable names is in the package. Answers the number of faults.
 fn check_executable<W: Write>(
     rt: &HostRuntime,
-    _package: &PackageFile<'_>,
+    package: &PackageFile<'_>,
     executable: &str,
-    _lines: &mut W,
+    lines: &mut W,
 ) -> Result<u64, Failure> {
-    let _bytes = read_file(rt, executable)?;
-    Err(Failure::Package(Error::NotYet))
+    test_input(rt, executable)?;
+    let bump = Bump::new(rt.alloc());
+    let session = ArenaSession::new(rt, &bump);
+    check_named(rt.alloc(), &session, package, executable, lines)
+}
+
+// The same, with a session that reads the executable.
+fn check_named<'s, Sess: Session<RelocationEntry>, W: Write>(
+    alloc: Global,
+    session: &'s Sess,
+    package: &PackageFile<'_>,
+    executable: &str,
+    lines: &mut W,
+) -> Result<u64, Failure> {
+    let SkeletonList { units, fault } = named_units(alloc, session, executable)?;
+    let mut faults = 0u64;
+    for skeleton in &units {
+        // What a slot names and can't be read was told with its unit.
+        if let Ok(None) = package.find(skeleton.target) {
+            tell_missing(skeleton.target, executable, skeleton.path.as_str(), lines)?;
+            faults = faults.saturating_add(1);
+        }
+    }
+    match fault {
+        None => Ok(faults),
+        Some(Error::Memory) => Err(Failure::Memory),
+        Some(fault) => {
+            tell_fault(executable, &fault, lines)?;
+            Ok(faults.saturating_add(1))
+        }
+    }
+}
+
+// Prints that the package lacks a unit that an executable names, and the path of its object.
+fn tell_missing<W: Write>(
+    object: DwarfObject,
+    executable: &str,
+    path: &str,
+    lines: &mut W,
+) -> Result<(), Failure> {
+    let kind = short_kind(object);
+    let id = object.index();
+    writeln!(
+        lines,
+        "{kind} 0x{id:016x}: not in the package, {executable} names {path}"
+    )
+    .map_err(|_| Failure::Line)
+}
+
+// Prints why an executable can't be read to its end.
+fn tell_fault<W: Write>(executable: &str, fault: &Error, lines: &mut W) -> Result<(), Failure> {
+    writeln!(lines, "{executable}: {fault}").map_err(|_| Failure::Line)
+}
+
+// The split units that an executable names.
+fn named_units<Sess: Session<RelocationEntry>>(
+    alloc: Global,
+    session: &Sess,
+    executable: &str,
+) -> Result<SkeletonList, Failure> {
+    match session.read_input(Path::new(executable)) {
+        Ok(bytes) => Ok(skeletons(alloc, session, bytes)),
+        Err(InputError::Io(_)) => Err(Failure::Input),
+        Err(InputError::Memory) => Err(Failure::Memory),
+    }
 }
