@@ -1,7 +1,7 @@
 //! `thorin check`.
 
 use crate::find::short_kind;
-use crate::input::read_file;
+use crate::input::{read_file, test_input};
 use crate::list::{entries_by_row, is_type};
 use crate::output::{Failure, buffer_failure};
 use bumpalo::Bump;
@@ -9,12 +9,15 @@ use clap::ArgMatches;
 use dwp_dwarf::{ReadError, SliceReader, UnitHeaders, UnitSection};
 use dwp_elf::{ElfFile, Endianness, SectionKind};
 use dwp_index::{PackageError, PackageFile, PackagedUnit, UnitEntry, UnitIndex};
-use dwp_reader::Format;
+use dwp_reader::{Format, RelocationEntry};
 use dwp_table::{Bucketable, DwarfObject};
+use std::alloc::Global;
 use std::fmt;
 use std::io::{BufWriter, Write};
-use thorin::{SkeletonList, dwo_identifier_of_unit, skeletons};
-use thorin_faults::{ArenaSession, Error};
+use std::path::Path;
+use thorin::dwo_identifier_of_unit;
+use thorin_executable::{SkeletonList, skeletons};
+use thorin_faults::{ArenaSession, Error, InputError, Session};
 
 /// Goes over a package: each unit that a slot of an index names is found under its identifier, its
 /// ranges are inside their sections, its header and all its strings can be read, and the identifier
@@ -263,37 +266,76 @@ fn check_rows<W: Write>(
     Ok(faults)
 }
 
-// Each unit that an executable refers to is in the package: a line for each that isn't, and one for the
-// fault that ends the executable's list. Answers how many lines these are.
+// Each split unit that an executable names is in the package. Answers the number of faults.
 fn check_executable<W: Write>(
     rt: &HostRuntime,
     package: &PackageFile<'_>,
     executable: &str,
     lines: &mut W,
 ) -> Result<u64, Failure> {
-    let bytes = read_file(rt, executable)?;
+    test_input(rt, executable)?;
     let bump = Bump::new(rt.alloc());
     let session = ArenaSession::new(rt, &bump);
-    let SkeletonList {
-        units,
-        fault,
-    } = skeletons(rt.alloc(), &session, bytes.as_slice());
+    check_named(rt.alloc(), &session, package, executable, lines)
+}
+
+// The same, with a session that reads the executable.
+fn check_named<'s, Sess: Session<RelocationEntry>, W: Write>(
+    alloc: Global,
+    session: &'s Sess,
+    package: &PackageFile<'_>,
+    executable: &str,
+    lines: &mut W,
+) -> Result<u64, Failure> {
+    let SkeletonList { units, fault } = named_units(alloc, session, executable)?;
     let mut faults = 0u64;
     for skeleton in &units {
-        let target = skeleton.target;
-        if !matches!(package.find(target), Ok(Some(_))) {
-            let kind = short_kind(target);
-            let id = target.index();
-            writeln!(lines, "{executable}: {kind} 0x{id:016x} is not in the package").map_err(|_| Failure::Line)?;
+        // What a slot names and can't be read was told with its unit.
+        if let Ok(None) = package.find(skeleton.target) {
+            tell_missing(skeleton.target, executable, skeleton.path.as_str(), lines)?;
             faults = faults.saturating_add(1);
         }
     }
     match fault {
         None => Ok(faults),
         Some(Error::Memory) => Err(Failure::Memory),
-        Some(e) => {
-            writeln!(lines, "{executable}: {e}").map_err(|_| Failure::Line)?;
+        Some(fault) => {
+            tell_fault(executable, &fault, lines)?;
             Ok(faults.saturating_add(1))
         }
+    }
+}
+
+// Prints that the package lacks a unit that an executable names, and the path of its object.
+fn tell_missing<W: Write>(
+    object: DwarfObject,
+    executable: &str,
+    path: &str,
+    lines: &mut W,
+) -> Result<(), Failure> {
+    let kind = short_kind(object);
+    let id = object.index();
+    writeln!(
+        lines,
+        "{kind} 0x{id:016x}: not in the package, {executable} names {path}"
+    )
+    .map_err(|_| Failure::Line)
+}
+
+// Prints why an executable can't be read to its end.
+fn tell_fault<W: Write>(executable: &str, fault: &Error, lines: &mut W) -> Result<(), Failure> {
+    writeln!(lines, "{executable}: {fault}").map_err(|_| Failure::Line)
+}
+
+// The split units that an executable names.
+fn named_units<Sess: Session<RelocationEntry>>(
+    alloc: Global,
+    session: &Sess,
+    executable: &str,
+) -> Result<SkeletonList, Failure> {
+    match session.read_input(Path::new(executable)) {
+        Ok(bytes) => Ok(skeletons(alloc, session, bytes)),
+        Err(InputError::Io(_)) => Err(Failure::Input),
+        Err(InputError::Memory) => Err(Failure::Memory),
     }
 }
