@@ -12,8 +12,8 @@ use std::test::Fail;
 use thorin::{DwarfPackage, Input, pack};
 use thorin_faults::{Error, MemorySession, MissingReferencedObjectBehaviour};
 
-/// An abbreviation 1 of a compile unit: GNU_dwo_name and comp_dir, both strings, and a GNU_dwo_id of 8 bytes;
-/// and an abbreviation 2 of a type unit.
+/// An abbreviation 1 of a compile unit: GNU_dwo_name and comp_dir, both strings, and a GNU_dwo_id of 8
+/// bytes; and an abbreviation 2 of a type unit.
 const NAMING: [u8; 19] = [
     0x01, 0x11, 0x00, 0xb0, 0x42, 0x08, 0x1b, 0x08, 0xb1, 0x42, 0x07, 0, 0, 0x02, 0x41, 0, 0, 0, 0,
 ];
@@ -28,39 +28,19 @@ const RELOCATION: [u8; 24] = [
     6, 0, 0, 0, 0, 0, 0, 0, 10, 0, 0, 0, 0, 0, 0, 0, 0, 0, 0, 0, 0, 0, 0, 0,
 ];
 
-/// The unit of an identifier with the name `a.dwo` in the directory `/b`.
+/// The unit 5 with the name `a.dwo` in the directory `/b`.
+const UNIT_FIVE: [u8; 29] = [
+    0x19, 0, 0, 0, 4, 0, 0, 0, 0, 0, 8, 1, 0x61, 0x2e, 0x64, 0x77, 0x6f, 0, 0x2f, 0x62, 0, 5, 0, 0,
+    0, 0, 0, 0, 0,
+];
+
+/// The same of an identifier and a place of abbreviations, which is this byte twice.
 fn naming_unit(id: u8, abbreviations: u8) -> [u8; 29] {
-    [
-        0x19,
-        0,
-        0,
-        0,
-        4,
-        0,
-        abbreviations,
-        abbreviations,
-        0,
-        0,
-        8,
-        1,
-        0x61,
-        0x2e,
-        0x64,
-        0x77,
-        0x6f,
-        0,
-        0x2f,
-        0x62,
-        0,
-        id,
-        0,
-        0,
-        0,
-        0,
-        0,
-        0,
-        0,
-    ]
+    let mut unit = UNIT_FIVE;
+    unit[6] = abbreviations;
+    unit[7] = abbreviations;
+    unit[21] = id;
+    unit
 }
 
 /// The executable with these sections, whose names lose their end `.dwo`.
@@ -94,8 +74,8 @@ fn relocated(alloc: Global) -> Result<Vec<u8>, Fail> {
             (SectionKind::Line, RELOCATION.as_slice()),
         ],
     )?;
-    // Contents and names end at 197, so the section headers stand at 200. The third one becomes a RELA section
-    // (ELF gABI, sh_type 4) of the second one (sh_info).
+    // Contents and names end at 197, so the section headers stand at 200. The third one becomes a RELA
+    // section (ELF gABI, sh_type 4) of the second one (sh_info).
     *file.get_mut(396).ok_or("the type is there")? = 4;
     *file.get_mut(436).ok_or("the number is there")? = 2;
     Ok(file)
