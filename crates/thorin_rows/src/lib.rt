@@ -2,6 +2,8 @@
 #![tactic(auto)]
 
 #[cfg(test)]
+mod executables;
+#[cfg(test)]
 mod large;
 #[cfg(test)]
 mod many_objects;
@@ -9,5 +11,7 @@ mod many_objects;
 mod objects;
 #[cfg(test)]
 mod one_object;
+#[cfg(test)]
+mod packages;
 #[cfg(test)]
 mod refused;
