@@ -8,9 +8,9 @@ ghost use Rattle.thorin.specs.Encodings.{file_encoding, own_encoding};
 ghost use Rattle.thorin.specs.StateView.{in_progress_of, begun_of};
 ghost use Rattle.thorin.specs.View as view;
 
+use crate::in_progress::InProgressDwarfPackage;
 use crate::object::{InputObject, has_info, opened};
 use crate::source::{Indexes, Source};
-use crate::in_progress::InProgressDwarfPackage;
 use dwp_base::Endianness;
 use dwp_dwarf::Encoding;
 use dwp_elf_read::ElfFile;

@@ -100,7 +100,10 @@ fn counts_once(kind: SectionKind) -> bool
 }
 
 /// The first section of a kind.
-pub(crate) fn find_in<'a>(sections: &[UsedSection<'a>], kind: SectionKind) -> Option<UsedSection<'a>>
+pub(crate) fn find_in<'a>(
+    sections: &[UsedSection<'a>],
+    kind: SectionKind,
+) -> Option<UsedSection<'a>>
     ensures { option_map used result ≡ find (spec.has_kind kind) (map used sections.now) }
 {
     for section in sections {

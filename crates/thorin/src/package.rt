@@ -170,10 +170,7 @@ impl<'output, 'session: 'output, Sess: Session<RelocationEntry>> DwarfPackage<
         ensures taken { (accepted : List (List ℕ)) × TakesNamed (Sess.offer self.old.session) missing bytes.now self.old.state result self.new.state accepted }
         ensures session { self.new.session ≡ self.old.session }
     {
-        let SkeletonList {
-            units,
-            fault,
-        } = skeletons(self.alloc, self.session, bytes);
+        let SkeletonList { units, fault } = skeletons(self.alloc, self.session, bytes);
         let outcome = self.add_each(&units, missing);
         if outcome.is_err() {
             return outcome;

@@ -76,11 +76,7 @@ impl Whole {
     /// Where the whole of each section comes to lie once parts are put behind the contents of a file. It
     /// refuses for memory alone.
     #[tactic(auto, unfolding(crate::specs::Rows::whole_row))]
-    pub fn of(
-        encoding: Encoding,
-        file: &WritableObject,
-        parts: &[Part<'_>],
-    ) -> Result<Whole, Error>
+    pub fn of(encoding: Encoding, file: &WritableObject, parts: &[Part<'_>]) -> Result<Whole, Error>
         ensures row { IfOk result (λ whole. whole.row ≡ spec.whole_row encoding file.now.contents (map view.part parts.now)) }
         ensures refused { IfErr result (λ e. e ≡ Error.Memory) }
     {
@@ -141,8 +137,12 @@ pub(crate) fn unit_row(
     let debug_loc = adjusted_part(indexes, name, SectionKind::Loc, row.debug_loc)?;
     let debug_loclists = adjusted_part(indexes, name, SectionKind::Loclists, row.debug_loclists)?;
     let debug_rnglists = adjusted_part(indexes, name, SectionKind::Rnglists, row.debug_rnglists)?;
-    let debug_str_offsets =
-        adjusted_part(indexes, name, SectionKind::StrOffsets, row.debug_str_offsets)?;
+    let debug_str_offsets = adjusted_part(
+        indexes,
+        name,
+        SectionKind::StrOffsets,
+        row.debug_str_offsets,
+    )?;
     let debug_macinfo = adjusted_part(indexes, name, SectionKind::Macinfo, row.debug_macinfo)?;
     let debug_macro = adjusted_part(indexes, name, SectionKind::Macro, row.debug_macro)?;
     Ok(IndexEntry {

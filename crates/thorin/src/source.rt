@@ -31,10 +31,7 @@ pub(crate) struct Source<'a> {
 
 // The index that the first section of a kind is; none where there is no such section.
 #[tactic(auto, unfolding(crate::specs::Indexes::index_in))]
-fn index_in<'a>(
-    object: &InputObject<'a>,
-    kind: SectionKind,
-) -> Result<Option<UnitIndex<'a>>, Error>
+fn index_in<'a>(object: &InputObject<'a>, kind: SectionKind) -> Result<Option<UnitIndex<'a>>, Error>
     ensures { Gives (λ index. index) result (spec.index_in (view.object object.now).order kind (first kind (view.object object.now).sections)) }
 {
     let bytes = object.first(kind);

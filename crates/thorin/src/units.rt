@@ -9,10 +9,10 @@ ghost use Rattle.thorin.specs.StateView.{in_progress_of};
 ghost use Rattle.thorin.specs.UnitView.{adding_of, met_of, new_unit, new_of};
 ghost use Rattle.thorin.specs.View as view;
 
+use crate::in_progress::InProgressDwarfPackage;
 use crate::object::UsedSection;
 use crate::rows::{Places, Whole, abbreviations_for, test_row, unit_row};
 use crate::source::Source;
-use crate::in_progress::InProgressDwarfPackage;
 use dwp_base::SectionKind;
 use dwp_dwarf::{ReadError, Reader, SliceReader, UnitHeader, UnitHeaders, UnitSection};
 use dwp_table::{Bucketable, DebugTypeSignature, DwarfObject};

@@ -85,33 +85,86 @@ fn packed<'o, 's: 'o, Sess: Session<RelocationEntry>, E: Write>(
     mut package: DwarfPackage<'o, 's, Sess>,
     err: &mut E,
 ) -> Result<(WritableObject, Vec<DebugTypeSignature>), Failure> {
+    add_inputs(rt, packing, &mut package, err)?;
+    add_executables(rt, packing, &mut package, err)?;
+    let differing = differing_types(rt, &package)?;
+    let object = finished(package)?;
+    Ok((object, differing))
+}
+
+fn finished<'o, 's: 'o, Sess: Session<RelocationEntry>>(
+    package: DwarfPackage<'o, 's, Sess>,
+) -> Result<WritableObject, Failure> {
+    Ok(package.finish()?)
+}
+
+// Adds the inputs in order, up to the first that is refused.
+fn add_inputs<'o, 's: 'o, Sess: Session<RelocationEntry>, E: Write>(
+    rt: &HostRuntime,
+    packing: &Packing<'_, '_>,
+    package: &mut DwarfPackage<'o, 's, Sess>,
+    err: &mut E,
+) -> Result<(), Failure> {
     for input in packing.inputs.unwrap_or(&[]) {
         let before = package.contained_units().len();
-        let outcome = add_input(rt, &mut package, input);
+        let outcome = add_input(rt, package, input);
         let added = package.contained_units().len().saturating_sub(before);
-        if packing.verbose {
-            match &outcome {
-                Ok(()) => tell_taken(err, input, added, unit_count(rt, input)?)?,
-                Err(failure) => tell_refused(err, input, failure)?,
-            }
-        }
+        tell_input(rt, packing.verbose, input, added, &outcome, err)?;
         outcome?;
     }
+    Ok(())
+}
+
+// Adds what each executable refers to, up to the first that is refused.
+fn add_executables<'o, 's: 'o, Sess: Session<RelocationEntry>, E: Write>(
+    rt: &HostRuntime,
+    packing: &Packing<'_, '_>,
+    package: &mut DwarfPackage<'o, 's, Sess>,
+    err: &mut E,
+) -> Result<(), Failure> {
     for executable in packing.executables.unwrap_or(&[]) {
         let before = package.contained_units().len();
-        let outcome = add_executable(rt, &mut package, executable, packing.missing);
+        let outcome = add_executable(rt, package, executable, packing.missing);
         let added = package.contained_units().len().saturating_sub(before);
-        if packing.verbose {
-            match &outcome {
-                Ok(()) => tell_taken(err, executable, added, None)?,
-                Err(failure) => tell_refused(err, executable, failure)?,
-            }
-        }
+        tell_executable(packing.verbose, executable, added, &outcome, err)?;
         outcome?;
     }
-    let differing = differing_types(rt, &package)?;
-    let object = package.finish()?;
-    Ok((object, differing))
+    Ok(())
+}
+
+// Tells what came of an input where that is asked for.
+fn tell_input<E: Write>(
+    rt: &HostRuntime,
+    verbose: bool,
+    input: &str,
+    added: usize,
+    outcome: &Result<(), Failure>,
+    err: &mut E,
+) -> Result<(), Failure> {
+    if verbose {
+        match outcome {
+            Ok(()) => tell_taken(err, input, added, unit_count(rt, input)?)?,
+            Err(failure) => tell_refused(err, input, failure)?,
+        }
+    }
+    Ok(())
+}
+
+// Tells what came of an executable where that is asked for.
+fn tell_executable<E: Write>(
+    verbose: bool,
+    executable: &str,
+    added: usize,
+    outcome: &Result<(), Failure>,
+    err: &mut E,
+) -> Result<(), Failure> {
+    if verbose {
+        match outcome {
+            Ok(()) => tell_taken(err, executable, added, None)?,
+            Err(failure) => tell_refused(err, executable, failure)?,
+        }
+    }
+    Ok(())
 }
 
 fn add_input<'o, 's: 'o, Sess: Session<RelocationEntry>>(

@@ -166,14 +166,14 @@ fn an_object_that_is_not_there_is_missing(rt: HostRuntime) -> Result<(), Fail> {
     assert_eq!(rt; skipped.missing.as_slice(), [cu(5)].as_slice());
     assert!(rt; matches!(skipped.file, Err(Error::MissingReferencedUnit(5))));
     let refused = tried(alloc, &of_five, MissingReferencedObjectBehaviour::Error)?;
-    match refused.added {
+    match &refused.added {
         Err(Error::ReadInput(cause)) => assert_eq!(rt; cause.kind(), io::ErrorKind::NotFound),
         _ => panic!(rt; "there is no such file"),
     }
     assert_eq!(rt; refused.missing.as_slice(), [cu(5)].as_slice());
     let of_one = files(alloc, naming(alloc, 1)?, None)?;
     let skipped = tried(alloc, &of_one, MissingReferencedObjectBehaviour::Skip)?;
-    match skipped.file {
+    match &skipped.file {
         Err(fault) => assert_eq!(rt;
             fault.to_string(alloc)?.as_str(),
             "Unit 0x00000001 referenced by executable was not found"
