@@ -36,8 +36,10 @@ pub struct DwarfPackage<'output, 'session: 'output, Sess: Session<RelocationEntr
     alloc: Global,
     session: &'session Sess,
     in_progress: Option<InProgressDwarfPackage>,
+    // Empty: the names that are contained where no input has begun a package.
     no_units: IndexSet<DwarfObject>,
     targets: IndexSet<DwarfObject>,
+    // The one encoding of all units of the inputs, where each is a plain object that added a unit.
     own: Option<Encoding>,
     output: PhantomData<&'output ()>,
 }
