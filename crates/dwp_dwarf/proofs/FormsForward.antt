@@ -1,10 +1,10 @@
 -- The names of forms before a value, by cases on what stands first.
 use Rattle.std.proofs.Common.{◌≡◌, ℕ, zero, suc, ◌<◌, ◌≤◌, true, false, cond, length, Result, Ok, Err, eqb, refl, ap, sym, arith}
 use Rattle.dwp_base.specs.Reading.{◌>>=◌}
-use Rattle.dwp_reader.specs.declared.fault.ReadError.{ReadError}
-use Rattle.dwp_reader.specs.declared.fault.ReadError.TheVariants.{UnexpectedEof, UnknownForm}
-use Rattle.dwp_reader.specs.Input.{Input, byte_at}
-use Rattle.dwp_reader.specs.Leb.{LebsTakeBytes, leb_at, uleb_at}
+use Rattle.dwp_bytes.specs.declared.fault.ReadError.{ReadError}
+use Rattle.dwp_bytes.specs.declared.fault.ReadError.TheVariants.{UnexpectedEof, UnknownForm}
+use Rattle.dwp_bytes.specs.Input.{Input, byte_at}
+use Rattle.dwp_bytes.specs.Leb.{LebsTakeBytes, leb_at, uleb_at}
 use Rattle.dwp_dwarf.specs.Forms.{named_within, named_form_at}
 use Rattle.dwp_dwarf.proofs.Forward.{goes_shorter}
 use Rattle.dwp_dwarf.proofs.TableForward.{bind_alike}

@@ -3,9 +3,9 @@ use Rattle.std.proofs.Common.{◌≡◌, ◌≢◌, ℕ, zero, suc, ◌<◌, Boo
 use Rattle.std.specs.List.{AllByRecursion}
 use Rattle.std.proofs.lemmas.Bool.{eqb-true, eqb-false, ne_eqb}
 use Rattle.dwp_base.specs.Reading.{◌>>=◌}
-use Rattle.dwp_reader.specs.declared.fault.ReadError.{ReadError}
-use Rattle.dwp_reader.specs.Input.{Input}
-use Rattle.dwp_reader.specs.Leb.{LebsTakeBytes}
+use Rattle.dwp_bytes.specs.declared.fault.ReadError.{ReadError}
+use Rattle.dwp_bytes.specs.Input.{Input}
+use Rattle.dwp_bytes.specs.Leb.{LebsTakeBytes}
 use Rattle.dwp_dwarf.specs.Abbreviations.{Declaration, code_at, declaration_at, declaration}
 use Rattle.dwp_dwarf.specs.Grammar.{next_at, DeclarationsLie, IsBehindOthers, FoundIsFirst, AbsentIsNowhere, FaultIsBefore}
 use Rattle.dwp_dwarf.proofs.TableForward.{declaration_shorter, code_no_longer, declaration-bad_code, declaration-none, declaration-fault, declaration-found, declaration-other}

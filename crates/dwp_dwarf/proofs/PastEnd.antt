@@ -1,7 +1,7 @@
 -- Past the end of a section nothing stands.
 use Rattle.std.proofs.Common.{◌≡◌, ℕ, ◌<◌, length, Err, refl, lt-ltb}
-use Rattle.dwp_reader.specs.declared.fault.ReadError.TheVariants.{OffsetOutOfRange}
-use Rattle.dwp_reader.specs.Input.{Input}
+use Rattle.dwp_bytes.specs.declared.fault.ReadError.TheVariants.{OffsetOutOfRange}
+use Rattle.dwp_bytes.specs.Input.{Input}
 use Rattle.dwp_dwarf.specs.Offsets.{from_at}
 
 pub past_end : (place : ℕ) (section : Input) → length section.bytes < place → from_at place section ≡ Err OffsetOutOfRange

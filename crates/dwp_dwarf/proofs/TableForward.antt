@@ -1,10 +1,10 @@
 -- A table of abbreviations is read forward, and its lists by cases on what stands first.
 use Rattle.std.proofs.Common.{◌≡◌, ℕ, zero, suc, ◌<◌, ◌≤◌, Bool, true, false, cond, List, [], ◌∷◌, length, Option, Some, None, Result, Ok, Err, eqb, refl, ap, sym, subst, ◌∙◌, arith}
 use Rattle.dwp_base.specs.Reading.{◌>>=◌}
-use Rattle.dwp_reader.specs.declared.fault.ReadError.{ReadError}
-use Rattle.dwp_reader.specs.declared.fault.ReadError.TheVariants.{UnexpectedEof, ZeroTag, BadChildren}
-use Rattle.dwp_reader.specs.Input.{Input, byte_at}
-use Rattle.dwp_reader.specs.Leb.{LebsTakeBytes, leb_at, uleb_at, sleb_at}
+use Rattle.dwp_bytes.specs.declared.fault.ReadError.{ReadError}
+use Rattle.dwp_bytes.specs.declared.fault.ReadError.TheVariants.{UnexpectedEof, ZeroTag, BadChildren}
+use Rattle.dwp_bytes.specs.Input.{Input, byte_at}
+use Rattle.dwp_bytes.specs.Leb.{LebsTakeBytes, leb_at, uleb_at, sleb_at}
 use Rattle.dwp_dwarf.specs.Abbreviations.{Specification, Declaration, constant_at, specification_at, specifications_within, specifications_at, past_specifications, pairs_from, pairs_within, pairs_in, is_last, tag_at, children_at, declaration_at, code_at, declaration_within, declaration}
 use Rattle.dwp_dwarf.proofs.Forward.{bind_ok, by_choice, by_test, no_value, goes_shorter, byte_shorter}
 

@@ -5,13 +5,13 @@ use Rattle.std.specs.Option.{ok_or}
 use Rattle.std.proofs.lemmas.Bool.{ltb-false, ne_eqb}
 use Rattle.std.proofs.lemmas.List.{drop-take, length-take-le}
 use Rattle.dwp_base.specs.Reading.{◌>>=◌}
-use Rattle.dwp_reader.specs.Input.{Input, Goes, front, after, split_at, skip_at, byte_at, number_at, relocated_at, offset_at, found_at, is_address_size}
-use Rattle.dwp_reader.specs.Encoding.{offset_size}
-use Rattle.dwp_reader.specs.Leb.{LebsTakeBytes, uleb_at, sleb_at}
-use Rattle.dwp_reader.specs.declared.encoding.Encoding.{Encoding}
-use Rattle.dwp_reader.specs.declared.encoding.Format.{Format}
-use Rattle.dwp_reader.specs.declared.fault.ReadError.{ReadError}
-use Rattle.dwp_reader.specs.declared.fault.ReadError.TheVariants.{UnexpectedEof, UnknownForm, UnknownCode, AddressSize, UnknownVersion, UnknownUnitType}
+use Rattle.dwp_bytes.specs.Input.{Input, Goes, front, after, split_at, skip_at, byte_at, number_at, relocated_at, offset_at, found_at, is_address_size}
+use Rattle.dwp_bytes.specs.Encoding.{offset_size}
+use Rattle.dwp_bytes.specs.Leb.{LebsTakeBytes, uleb_at, sleb_at}
+use Rattle.dwp_bytes.specs.declared.encoding.Encoding.{Encoding}
+use Rattle.dwp_bytes.specs.declared.encoding.Format.{Format}
+use Rattle.dwp_bytes.specs.declared.fault.ReadError.{ReadError}
+use Rattle.dwp_bytes.specs.declared.fault.ReadError.TheVariants.{UnexpectedEof, UnknownForm, UnknownCode, AddressSize, UnknownVersion, UnknownUnitType}
 use Rattle.dwp_dwarf.specs.declared.form.Layout.{Layout}
 use Rattle.dwp_dwarf.specs.declared.form.Layout.TheVariants.{Fixed, Block, Text, Unsigned, Signed}
 use Rattle.dwp_dwarf.specs.declared.form.BlockLength.{BlockLength}

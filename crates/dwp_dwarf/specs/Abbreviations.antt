@@ -1,10 +1,10 @@
 -- A table of abbreviations: the tag of an entry, and the form of each of its attributes (DWARF 5, 7.5.3).
 use Rattle.std.specs.Prelude.{ℕ, zero, suc, List, [], ◌∷◌, length, Bool, true, false, Option, Some, None, Result, Ok, Err, ◌==◌, ◌&&◌, if◌then◌else◌}
 use Rattle.dwp_base.specs.Reading.{◌>>=◌}
-use Rattle.dwp_reader.specs.Input.{Input, byte_at}
-use Rattle.dwp_reader.specs.Leb.{uleb_at, sleb_at}
-use Rattle.dwp_reader.specs.declared.fault.ReadError.{ReadError}
-use Rattle.dwp_reader.specs.declared.fault.ReadError.TheVariants.{UnexpectedEof, ZeroTag, BadChildren}
+use Rattle.dwp_bytes.specs.Input.{Input, byte_at}
+use Rattle.dwp_bytes.specs.Leb.{uleb_at, sleb_at}
+use Rattle.dwp_bytes.specs.declared.fault.ReadError.{ReadError}
+use Rattle.dwp_bytes.specs.declared.fault.ReadError.TheVariants.{UnexpectedEof, ZeroTag, BadChildren}
 
 -- an attribute and its form
 pub record Specification : Type 0 where

@@ -1,7 +1,7 @@
 -- What the readers of attributes show.
 use Rattle.std.specs.Prelude.{ℕ, List, [], Option, Some, None, Result, Ok, Err, if◌then◌else◌}
-use Rattle.dwp_reader.specs.Input.{Input}
-use Rattle.dwp_reader.specs.declared.fault.ReadError.{ReadError}
+use Rattle.dwp_bytes.specs.Input.{Input}
+use Rattle.dwp_bytes.specs.declared.fault.ReadError.{ReadError}
 use Rattle.dwp_dwarf.specs.Abbreviations.{pairs_in}
 use Rattle.dwp_dwarf.specs.Entries.{DebugAttribute, DebugEntry, attributes}
 use Rattle.dwp_dwarf.specs.declared.entry.Attribute.{Attribute}

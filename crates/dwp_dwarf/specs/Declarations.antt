@@ -1,6 +1,6 @@
 -- What the readers of abbreviations show.
 use Rattle.std.specs.Prelude.{Option, Some, None}
-use Rattle.dwp_reader.specs.Input.{Input}
+use Rattle.dwp_bytes.specs.Input.{Input}
 use Rattle.dwp_dwarf.specs.Abbreviations.{Specification, Declaration, pairs_in}
 use Rattle.dwp_dwarf.specs.declared.abbreviation.Abbreviation.{Abbreviation}
 use Rattle.dwp_dwarf.specs.declared.abbreviation.Abbreviations.{Abbreviations}

@@ -3,12 +3,12 @@
 use Rattle.std.specs.Prelude.{ℕ, List, [], ◌∷◌, Option, Some, None, Result, Ok, Err, ◌==◌, if◌then◌else◌}
 use Rattle.std.specs.Option.{ok_or}
 use Rattle.dwp_base.specs.Reading.{◌>>=◌}
-use Rattle.dwp_reader.specs.Input.{Input, byte_at, number_at, offset_at}
-use Rattle.dwp_reader.specs.Leb.{uleb_at}
-use Rattle.dwp_reader.specs.declared.encoding.Format.{Format}
-use Rattle.dwp_reader.specs.declared.encoding.Encoding.{Encoding}
-use Rattle.dwp_reader.specs.declared.fault.ReadError.{ReadError}
-use Rattle.dwp_reader.specs.declared.fault.ReadError.TheVariants.{UnknownCode}
+use Rattle.dwp_bytes.specs.Input.{Input, byte_at, number_at, offset_at}
+use Rattle.dwp_bytes.specs.Leb.{uleb_at}
+use Rattle.dwp_bytes.specs.declared.encoding.Format.{Format}
+use Rattle.dwp_bytes.specs.declared.encoding.Encoding.{Encoding}
+use Rattle.dwp_bytes.specs.declared.fault.ReadError.{ReadError}
+use Rattle.dwp_bytes.specs.declared.fault.ReadError.TheVariants.{UnknownCode}
 use Rattle.dwp_dwarf.specs.Abbreviations.{Specification, Declaration, code_at, declaration}
 use Rattle.dwp_dwarf.specs.Forms.{value_at, named_form_at}
 use Rattle.dwp_dwarf.specs.Units.{Unit, listed}

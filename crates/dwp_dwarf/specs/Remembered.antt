@@ -2,8 +2,8 @@
 use Rattle.std.specs.Prelude.{◌≡◌, ℕ, Option, Some, None, Result, Ok}
 use Rattle.std.specs.Ordering.{nat_cmp}
 use Rattle.std.specs.BTreeMap.{BTreeMap, get}
-use Rattle.dwp_reader.specs.Input.{Input}
-use Rattle.dwp_reader.specs.declared.fault.ReadError.{ReadError}
+use Rattle.dwp_bytes.specs.Input.{Input}
+use Rattle.dwp_bytes.specs.declared.fault.ReadError.{ReadError}
 use Rattle.dwp_dwarf.specs.Abbreviations.{Declaration, declaration}
 use Rattle.dwp_dwarf.specs.Declarations.{declaration_of}
 use Rattle.dwp_dwarf.specs.Offsets.{from_at}

@@ -1,5 +1,5 @@
 -- The sections of strings, as readers show them.
-use Rattle.dwp_reader.specs.Input.{Input}
+use Rattle.dwp_bytes.specs.Input.{Input}
 use Rattle.dwp_dwarf.specs.Strings.{Strings}
 use Rattle.dwp_dwarf.specs.declared.strings.StringSections.{StringSections}
 

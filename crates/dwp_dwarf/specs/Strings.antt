@@ -2,12 +2,12 @@
 -- the GNU page DebugFission for GNU_str_index).
 use Rattle.std.specs.Prelude.{ℕ, ◌+◌, ◌*◌, Result, Ok, Err, ◌==◌, ◌||◌, if◌then◌else◌}
 use Rattle.dwp_base.specs.Reading.{◌>>=◌}
-use Rattle.dwp_reader.specs.Encoding.{offset_size}
-use Rattle.dwp_reader.specs.Input.{Input, byte_at, number_at, offset_at}
-use Rattle.dwp_reader.specs.Leb.{uleb_at}
-use Rattle.dwp_reader.specs.declared.encoding.Format.{Format}
-use Rattle.dwp_reader.specs.declared.fault.ReadError.{ReadError}
-use Rattle.dwp_reader.specs.declared.fault.ReadError.TheVariants.{NotAString}
+use Rattle.dwp_bytes.specs.Encoding.{offset_size}
+use Rattle.dwp_bytes.specs.Input.{Input, byte_at, number_at, offset_at}
+use Rattle.dwp_bytes.specs.Leb.{uleb_at}
+use Rattle.dwp_bytes.specs.declared.encoding.Format.{Format}
+use Rattle.dwp_bytes.specs.declared.fault.ReadError.{ReadError}
+use Rattle.dwp_bytes.specs.declared.fault.ReadError.TheVariants.{NotAString}
 use Rattle.dwp_dwarf.specs.Entries.{DebugAttribute}
 use Rattle.dwp_dwarf.specs.Forms.{text_at}
 use Rattle.dwp_dwarf.specs.Offsets.{from_at}

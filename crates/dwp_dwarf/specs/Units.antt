@@ -2,12 +2,12 @@
 use Rattle.std.specs.Prelude.{◌≡◌, ◌↔◌, ℕ, zero, suc, ◌-◌, List, [], ◌∷◌, ◌++◌, length, map, drop, Result, Ok, Err, nat_lt, nat_le, ◌==◌, ◌&&◌, if◌then◌else◌}
 use Rattle.std.specs.List.{flat_map}
 use Rattle.dwp_base.specs.Reading.{◌>>=◌}
-use Rattle.dwp_reader.specs.Input.{Input, Goes, front, after, split_at, byte_at, number_at, offset_at, is_address_size}
-use Rattle.dwp_reader.specs.declared.encoding.Encoding.{Encoding}
-use Rattle.dwp_reader.specs.declared.encoding.Format.{Format}
-use Rattle.dwp_reader.specs.declared.encoding.Format.TheVariants.{Dwarf32, Dwarf64}
-use Rattle.dwp_reader.specs.declared.fault.ReadError.{ReadError}
-use Rattle.dwp_reader.specs.declared.fault.ReadError.TheVariants.{ReservedLength, UnknownVersion, UnknownUnitType, AddressSize}
+use Rattle.dwp_bytes.specs.Input.{Input, Goes, front, after, split_at, byte_at, number_at, offset_at, is_address_size}
+use Rattle.dwp_bytes.specs.declared.encoding.Encoding.{Encoding}
+use Rattle.dwp_bytes.specs.declared.encoding.Format.{Format}
+use Rattle.dwp_bytes.specs.declared.encoding.Format.TheVariants.{Dwarf32, Dwarf64}
+use Rattle.dwp_bytes.specs.declared.fault.ReadError.{ReadError}
+use Rattle.dwp_bytes.specs.declared.fault.ReadError.TheVariants.{ReservedLength, UnknownVersion, UnknownUnitType, AddressSize}
 use Rattle.dwp_dwarf.specs.declared.header.UnitType.{UnitType}
 use Rattle.dwp_dwarf.specs.declared.header.UnitType.TheVariants.{Compilation, Partial, Skeleton, SplitCompilation, TypeUnit, SplitType}
 use Rattle.dwp_dwarf.specs.declared.header.UnitSection.{UnitSection}

@@ -1,8 +1,8 @@
 -- Where the values of a root entry lie in the bytes of its unit: behind the header and the entry's code, one after the other
 -- (DWARF 5, 7.5.2 to 7.5.5).
 use Rattle.std.specs.Prelude.{◌≡◌, ◌≢◌, ◌≤◌, ℕ, ◌+◌, List, [], ◌∷◌, ◌++◌, length, map, Some, Result, Ok, ⊤}
-use Rattle.dwp_reader.specs.Input.{Input, front, after}
-use Rattle.dwp_reader.specs.declared.fault.ReadError.{ReadError}
+use Rattle.dwp_bytes.specs.Input.{Input, front, after}
+use Rattle.dwp_bytes.specs.declared.fault.ReadError.{ReadError}
 use Rattle.dwp_dwarf.specs.declared.header.UnitSection.{UnitSection}
 use Rattle.dwp_dwarf.specs.Abbreviations.{Specification, Declaration, declaration}
 use Rattle.dwp_dwarf.specs.Entries.{DebugAttribute, DebugEntry, root_at}

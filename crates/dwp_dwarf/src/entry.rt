@@ -1,4 +1,4 @@
-use dwp_reader::Encoding;
+use dwp_bytes::Encoding;
 
 /// An attribute of an entry (DWARF 5, 7.5.4 and 7.5.5).
 #[derive(Clone, Copy, Debug)]

@@ -1,4 +1,4 @@
-use dwp_reader::{Encoding, Format, ReadError, Reader};
+use dwp_bytes::{Encoding, Format, ReadError, Reader};
 
 /// What a unit is (DWARF 5, 7.5.1, "Unit type encodings").
 #[derive(Clone, Copy, Debug, PartialEq, Eq, Hash)]

@@ -1,7 +1,7 @@
 ghost use Rattle.dwp_dwarf.specs.Grammar.{FoundIsFirst, AbsentIsNowhere, FaultIsBefore};
 ghost use Rattle.dwp_dwarf.specs.Values.{RootValuesLie};
 
-use dwp_reader::lebs_take_bytes;
+use dwp_bytes::lebs_take_bytes;
 
 /// What a table of abbreviations declares for a code is its first declaration of that code; it
 /// declares nothing where all up to its end are of other codes, and has a fault where the first

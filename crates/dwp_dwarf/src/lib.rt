@@ -18,7 +18,7 @@ mod value;
 pub use abbreviation::{Abbreviation, Abbreviations};
 pub use cache::AbbreviationCache;
 pub use dwp_base::Endianness;
-pub use dwp_reader::{
+pub use dwp_bytes::{
     Encoding, Format, ReadError, Reader, Relocate, Relocation, RelocationEntry, SliceReader,
     WriteError, lebs_take_bytes, string_at,
 };

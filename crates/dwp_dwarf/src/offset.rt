@@ -1,7 +1,7 @@
 ghost use Rattle.dwp_base.specs.Reading.{Answers};
 ghost use Rattle.dwp_dwarf.specs.Offsets.{from_at};
 
-use dwp_reader::{ReadError, Reader};
+use dwp_bytes::{ReadError, Reader};
 
 /// What stands from an offset of a section on. OffsetOutOfRange past the end.
 #[tactic(auto, unfolding(crate::specs::Offsets::from_at))]

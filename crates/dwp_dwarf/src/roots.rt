@@ -13,7 +13,7 @@ use crate::form::{DATA1, DATA2, DATA4, DATA8, SEC_OFFSET, UDATA};
 use crate::header::UnitHeader;
 use crate::table::{read_code, read_specification};
 use crate::value::{named_form, read_value};
-use dwp_reader::{Encoding, Format, ReadError, Reader, lebs_take_bytes};
+use dwp_bytes::{Encoding, Format, ReadError, Reader, lebs_take_bytes};
 
 /// The next attribute and its form; None at the end of the list.
 fn next_specification<R: Reader>(specifications: &mut R) -> Option<AttributeSpecification>

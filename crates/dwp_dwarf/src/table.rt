@@ -7,7 +7,7 @@ ghost use Rattle.dwp_dwarf.specs.Declarations.{specification_of, declaration_of,
 use crate::abbreviation::{Abbreviation, Abbreviations, AttributeSpecification};
 use crate::form::IMPLICIT_CONST;
 use crate::offset::from_offset;
-use dwp_reader::{ReadError, Reader, lebs_take_bytes};
+use dwp_bytes::{ReadError, Reader, lebs_take_bytes};
 
 #[tactic(auto, unfolding(crate::specs::Abbreviations::constant_at))]
 fn skip_constant<R: Reader>(reader: &mut R, form: u64) -> Result<(), ReadError>

@@ -1,6 +1,6 @@
 ghost use Rattle.std.specs.Prelude.{◌≡◌, ◌+◌, ◌*◌};
 ghost use Rattle.dwp_base.specs.Reading.{Answers};
-ghost use Rattle.dwp_reader.specs.Encoding.{offset_size};
+ghost use Rattle.dwp_bytes.specs.Encoding.{offset_size};
 ghost use Rattle.dwp_dwarf.specs.Offsets.{from_at};
 ghost use Rattle.dwp_dwarf.specs.Strings.{string_at, indexed_at, string_of};
 ghost use Rattle.dwp_dwarf.specs.Sections.{strings_of};
@@ -11,7 +11,7 @@ use crate::form::*;
 use crate::offset::from_offset;
 use crate::strings::StringSections;
 use crate::value::read_text;
-use dwp_reader::{Format, ReadError, Reader};
+use dwp_bytes::{Format, ReadError, Reader};
 
 /// The string at an offset, without the zero byte at its end.
 #[tactic(auto, unfolding(crate::specs::Strings::string_at))]

@@ -4,7 +4,7 @@ ghost use Rattle.dwp_base.specs.Reading.{Answers, Reads};
 ghost use Rattle.dwp_dwarf.specs.Units.{initial_length_at, address_size_at, type_at, older_type_at, unit_code_at, unit_type_at, older_at, newer_at, header_at, unit_at, units, units_left, unit_of, unit_seen, UnitsAreTaken, UnitsAreSection, FaultIsNext, UnitsAreOne};
 
 use crate::header::{UnitHeader, UnitHeaders, UnitSection, UnitType};
-use dwp_reader::{Encoding, Format, ReadError, Reader};
+use dwp_bytes::{Encoding, Format, ReadError, Reader};
 
 /// The format of a unit, and the length of what follows.
 #[tactic(auto, unfolding(crate::specs::Units::initial_length_at))]

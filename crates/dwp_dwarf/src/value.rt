@@ -3,7 +3,7 @@ ghost use Rattle.dwp_base.specs.Reading.{Reads, Answers};
 ghost use Rattle.dwp_dwarf.specs.Forms.{fixed_size, unit_size, open_layout, layout_of, block_length_at, text_at, past_value, value_at, named_form_at};
 
 use crate::form::*;
-use dwp_reader::{Encoding, ReadError, Reader, lebs_take_bytes};
+use dwp_bytes::{Encoding, ReadError, Reader, lebs_take_bytes};
 
 /// The size of a value that has one of its own.
 fn fixed_size(form: u64) -> Option<u8>

@@ -7,8 +7,8 @@ use Rattle.std.proofs.lemmas.List.{drop-drop}
 use Rattle.dwp_base.specs.declared.endian.Endianness.{Endianness}
 use Rattle.dwp_base.specs.Numbers.{number}
 use Rattle.dwp_base.specs.Reading.{◌>>=◌}
-use Rattle.dwp_reader.specs.declared.fault.ReadError.{ReadError}
-use Rattle.dwp_reader.specs.declared.fault.ReadError.TheVariants.{UnexpectedEof, UnknownColumn, RepeatedColumn}
+use Rattle.dwp_bytes.specs.declared.fault.ReadError.{ReadError}
+use Rattle.dwp_bytes.specs.declared.fault.ReadError.TheVariants.{UnexpectedEof, UnknownColumn, RepeatedColumn}
 use Rattle.dwp_table.specs.Columns.{kind_of_column}
 use Rattle.dwp_index.specs.IndexBytes.{numbers, after, new_column, columns_at}
 use Rattle.dwp_index.proofs.NumberLists.{numbers_more}

@@ -3,9 +3,9 @@ use Rattle.std.proofs.Common.{◌≡◌, ℕ, zero, suc, true, cond, ltb, List, 
 use Rattle.std.proofs.lemmas.Bool.{ne_eqb, lt-ltb}
 use Rattle.dwp_base.specs.Reading.{◌>>=◌}
 use Rattle.dwp_base.specs.declared.endian.Endianness.{Endianness}
-use Rattle.dwp_reader.specs.Input.{Input, section, number_at}
-use Rattle.dwp_reader.specs.declared.fault.ReadError.{ReadError}
-use Rattle.dwp_reader.specs.declared.fault.ReadError.TheVariants.{UnexpectedEof}
+use Rattle.dwp_bytes.specs.Input.{Input, section, number_at}
+use Rattle.dwp_bytes.specs.declared.fault.ReadError.{ReadError}
+use Rattle.dwp_bytes.specs.declared.fault.ReadError.TheVariants.{UnexpectedEof}
 use Rattle.dwp_dwarf.specs.Units.{Unit, unit_at, initial_length_at, listed, units, units_within}
 use Rattle.dwp_dwarf.specs.declared.header.UnitSection.{UnitSection}
 use Rattle.dwp_index.specs.Package.{encoding_in}

@@ -14,7 +14,7 @@ use Rattle.dwp_elf_read.specs.declared.fault.ReadError.TheVariants.{SectionRange
 use Rattle.dwp_index.specs.declared.fault.PackageError.TheVariants as faults
 use Rattle.dwp_index.specs.Contents.{content, has_name, is_of_kind, has_older_name, used_bytes, bytes_of, content_of, contents_of}
 use Rattle.dwp_base.specs.declared.endian.Endianness.{Endianness}
-use Rattle.dwp_reader.specs.declared.fault.ReadError.{ReadError as UnitFault}
+use Rattle.dwp_bytes.specs.declared.fault.ReadError.{ReadError as UnitFault}
 use Rattle.dwp_index.specs.Index.{Index}
 use Rattle.dwp_index.specs.IndexBytes.{index_of}
 use Rattle.dwp_index.specs.Package.{as_fault, index_in_section, package_of}

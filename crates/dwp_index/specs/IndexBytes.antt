@@ -5,8 +5,8 @@ use Rattle.std.specs.List.{list_any}
 use Rattle.dwp_base.specs.Numbers.{number}
 use Rattle.dwp_base.specs.Reading.{◌>>=◌}
 use Rattle.dwp_base.specs.declared.endian.Endianness.{Endianness}
-use Rattle.dwp_reader.specs.declared.fault.ReadError.{ReadError}
-use Rattle.dwp_reader.specs.declared.fault.ReadError.TheVariants.{UnexpectedEof, IndexVersion, SlotCount, UnknownColumn, RepeatedColumn}
+use Rattle.dwp_bytes.specs.declared.fault.ReadError.{ReadError}
+use Rattle.dwp_bytes.specs.declared.fault.ReadError.TheVariants.{UnexpectedEof, IndexVersion, SlotCount, UnknownColumn, RepeatedColumn}
 use Rattle.dwp_table.specs.Columns.{kind_of_column}
 use Rattle.dwp_index.specs.Index.{Index}
 

@@ -1,6 +1,6 @@
 use dwp_base::SectionKind;
+use dwp_bytes::ReadError;
 use dwp_elf_read::ReadError as ElfReadError;
-use dwp_reader::ReadError;
 use thiserror::Error;
 
 /// What is wrong with a package, or with what it says of a unit.

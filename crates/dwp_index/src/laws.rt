@@ -6,8 +6,8 @@ ghost use Rattle.dwp_base.specs.declared.section.SectionKind.TheVariants as kind
 ghost use Rattle.dwp_elf_read.specs.Elf.{Elf, SectionMeaning, elf_of};
 ghost use Rattle.dwp_base.specs.declared.section.Contribution.{Contribution};
 ghost use Rattle.dwp_base.specs.declared.endian.Endianness.{Endianness};
-ghost use Rattle.dwp_reader.specs.Input.{section};
-ghost use Rattle.dwp_reader.specs.declared.encoding.Encoding.{Encoding};
+ghost use Rattle.dwp_bytes.specs.Input.{section};
+ghost use Rattle.dwp_bytes.specs.declared.encoding.Encoding.{Encoding};
 ghost use Rattle.dwp_dwarf.specs.Units.{Unit, units, unit_bytes};
 ghost use Rattle.dwp_dwarf.specs.declared.header.UnitSection.{UnitSection};
 ghost use Rattle.dwp_table.specs.Table.{IsIndex};

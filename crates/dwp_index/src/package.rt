@@ -21,9 +21,9 @@ use crate::unit::{PackagedUnit, encoding_in, kind_of, lies_inside, place_of, row
 use crate::unit_index::{Row, UnitIndex};
 use crate::units::Units;
 use dwp_base::{Endianness, SectionKind};
+use dwp_bytes::Encoding;
 use dwp_dwarf::UnitSection;
 use dwp_elf_read::ElfFile;
-use dwp_reader::Encoding;
 use dwp_table::{Bucketable, CONTRIBUTION_KINDS, DwarfObject};
 use std::marker::Model;
 

@@ -6,7 +6,7 @@ ghost use Rattle.dwp_index.specs.Index.{column_place};
 ghost use Rattle.dwp_index.specs.IndexBytes.{numbers, after, version_of, counts_of, columns_at, is_slot_count, Counts};
 
 use dwp_base::{Endianness, SectionKind};
-use dwp_reader::ReadError;
+use dwp_bytes::ReadError;
 use dwp_table::{column_of, kind_of_column};
 
 /// How many columns, rows and slots an index has.

@@ -5,7 +5,7 @@ ghost use Rattle.dwp_index.specs.Strings.{entry_in, string_in};
 
 use crate::parsing::{read_u32_at, read_u64_at};
 use dwp_base::Endianness;
-use dwp_reader::{Encoding, Format, ReadError, string_at};
+use dwp_bytes::{Encoding, Format, ReadError, string_at};
 
 /// The i-th offset of a range; None past the last whole one.
 #[tactic(auto, unfolding(crate::specs::Strings::entry_in))]

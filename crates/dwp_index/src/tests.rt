@@ -2,8 +2,8 @@ ghost use Rattle.std.specs.Prelude.{◌<◌, ◌^◌, length};
 
 use super::*;
 use dwp_base::{Contribution, ContributionOffset, Endianness, SectionKind};
+use dwp_bytes::ReadError;
 use dwp_elf_read::ReadError as ElfReadError;
-use dwp_reader::ReadError;
 use std::alloc::{AllocError, Global};
 use std::test::Fail;
 

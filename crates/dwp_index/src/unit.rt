@@ -11,8 +11,8 @@ use crate::contents::Contents;
 use crate::strings::string_in;
 use crate::unit_index::Row;
 use dwp_base::{Contribution, Endianness, SectionKind};
+use dwp_bytes::{Encoding, ReadError, SliceReader};
 use dwp_dwarf::{UnitHeaders, UnitSection};
-use dwp_reader::{Encoding, ReadError, SliceReader};
 use dwp_table::DwarfObject;
 use std::marker::Model;
 

@@ -10,7 +10,7 @@ use crate::parsing::{
     version_of,
 };
 use dwp_base::{Contribution, ContributionOffset, Endianness, SectionKind};
-use dwp_reader::ReadError;
+use dwp_bytes::ReadError;
 use dwp_table::{column_of, first_place, look_up_finds_exactly, place_after};
 use std::marker::Model;
 

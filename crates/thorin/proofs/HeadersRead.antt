@@ -6,11 +6,11 @@ use Rattle.std.specs.Option.{ok_or}
 use Rattle.dwp_base.specs.declared.endian.Endianness.{Endianness}
 use Rattle.dwp_base.specs.declared.section.SectionKind.{SectionKind}
 use Rattle.dwp_base.specs.declared.section.SectionKind.TheVariants as kinds
-use Rattle.dwp_reader.specs.Input.{Input, section, split_at, number_at, offset_at}
-use Rattle.dwp_reader.specs.declared.encoding.Encoding.{Encoding}
-use Rattle.dwp_reader.specs.declared.encoding.Format.{Format}
-use Rattle.dwp_reader.specs.declared.fault.ReadError.{ReadError}
-use Rattle.dwp_reader.specs.declared.fault.ReadError.TheVariants.{UnknownVersion}
+use Rattle.dwp_bytes.specs.Input.{Input, section, split_at, number_at, offset_at}
+use Rattle.dwp_bytes.specs.declared.encoding.Encoding.{Encoding}
+use Rattle.dwp_bytes.specs.declared.encoding.Format.{Format}
+use Rattle.dwp_bytes.specs.declared.fault.ReadError.{ReadError}
+use Rattle.dwp_bytes.specs.declared.fault.ReadError.TheVariants.{UnknownVersion}
 use Rattle.dwp_dwarf.specs.Units.{Unit as Header, initial_length_at, address_size_at, type_at, older_type_at, unit_code_at, unit_type_at, older_at, newer_at, header_at, unit_at, listed, units_within, units, unit_bytes}
 use Rattle.dwp_dwarf.specs.declared.header.UnitSection.{UnitSection}
 use Rattle.dwp_dwarf.specs.declared.header.UnitSection.TheVariants as places

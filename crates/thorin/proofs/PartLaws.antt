@@ -1,8 +1,8 @@
 -- What the laws of the crates below say of string offsets that are rewritten.
 use Rattle.std.proofs.Common.{◌≡◌, ℕ, ◌-◌, ◌*◌, ◌<◌, List, ◌++◌, length, take, nat_lt, Option, Ok, if◌then◌else◌}
 use Rattle.dwp_base.specs.declared.endian.Endianness.{Endianness}
-use Rattle.dwp_reader.specs.Encoding.{offset_size}
-use Rattle.dwp_reader.specs.declared.encoding.Encoding.{Encoding}
+use Rattle.dwp_bytes.specs.Encoding.{offset_size}
+use Rattle.dwp_bytes.specs.declared.encoding.Encoding.{Encoding}
 use Rattle.dwp_index.specs.Index.{Index}
 use Rattle.dwp_index.specs.Strings.{string_in}
 use Rattle.thorin_parts.specs.ReadStrings.{ReadsAlike}

@@ -5,9 +5,9 @@ use Rattle.std.proofs.lemmas.Bool.{leb-true, leb-false}
 use Rattle.dwp_base.specs.declared.section.SectionKind.{SectionKind}
 use Rattle.dwp_base.specs.declared.section.SectionKind.TheVariants.{StrOffsets, Str}
 use Rattle.dwp_base.specs.Sections.{same_kind}
-use Rattle.dwp_reader.specs.declared.encoding.Encoding.{Encoding}
-use Rattle.dwp_reader.specs.Encoding.{offset_size}
-use Rattle.dwp_reader.specs.StringOffsets.{entry_count}
+use Rattle.dwp_bytes.specs.declared.encoding.Encoding.{Encoding}
+use Rattle.dwp_bytes.specs.Encoding.{offset_size}
+use Rattle.dwp_bytes.specs.StringOffsets.{entry_count}
 use Rattle.dwp_index.specs.Strings.{string_in}
 use Rattle.thorin_parts.specs.ReadStrings.{ReadsAlike}
 use Rattle.thorin_strings.specs.Strings.{IsTable, data_of}

@@ -10,7 +10,7 @@ use Rattle.dwp_base.specs.declared.section.Contribution.{Contribution}
 use Rattle.dwp_base.specs.Sections.{name_of}
 use Rattle.dwp_index.specs.Index.{Index, Ranges, row_in, column_place, contribution, range_in}
 use Rattle.dwp_index.specs.Package.{part_of, is_outside}
-use Rattle.dwp_reader.specs.declared.fault.ReadError.{ReadError}
+use Rattle.dwp_bytes.specs.declared.fault.ReadError.{ReadError}
 use Rattle.thorin_faults.specs.Fault.{Fault, BadContribution}
 use Rattle.thorin_packaged.specs.PackagedReading.{range_bytes}
 use Rattle.thorin_parts.specs.Adjusting.{moved, moved_range, without_column}

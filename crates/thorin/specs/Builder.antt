@@ -8,7 +8,7 @@ use Rattle.dwp_base.specs.declared.section.SectionKind.TheVariants.{Str, CuIndex
 use Rattle.dwp_base.specs.Reading.{◌>>=◌}
 use Rattle.dwp_elf.specs.FileText.{Object as File}
 use Rattle.dwp_elf_read.specs.Elf.{Elf}
-use Rattle.dwp_reader.specs.declared.encoding.Encoding.{Encoding}
+use Rattle.dwp_bytes.specs.declared.encoding.Encoding.{Encoding}
 use Rattle.dwp_table.specs.Objects.{identifier_of}
 use Rattle.dwp_table.specs.declared.object.DwarfObject.{DwarfObject}
 use Rattle.thorin_strings.specs.Strings.{data_of}

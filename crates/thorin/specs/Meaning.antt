@@ -8,11 +8,11 @@ use Rattle.dwp_base.specs.declared.section.SectionKind.TheVariants.{Abbrev, Line
 use Rattle.dwp_base.specs.declared.section.Contribution.{Contribution}
 use Rattle.dwp_base.specs.Reading.{◌>>=◌}
 use Rattle.dwp_base.specs.Sections.{same_kind}
-use Rattle.dwp_reader.specs.Encoding.{offset_size}
-use Rattle.dwp_reader.specs.Input.{section}
-use Rattle.dwp_reader.specs.StringOffsets.{header_size, entry_count}
-use Rattle.dwp_reader.specs.declared.encoding.Encoding.{Encoding}
-use Rattle.dwp_reader.specs.declared.fault.ReadError.{ReadError}
+use Rattle.dwp_bytes.specs.Encoding.{offset_size}
+use Rattle.dwp_bytes.specs.Input.{section}
+use Rattle.dwp_bytes.specs.StringOffsets.{header_size, entry_count}
+use Rattle.dwp_bytes.specs.declared.encoding.Encoding.{Encoding}
+use Rattle.dwp_bytes.specs.declared.fault.ReadError.{ReadError}
 use Rattle.dwp_dwarf.specs.Units.{Unit as Header, units}
 use Rattle.dwp_dwarf.specs.declared.header.UnitSection.{UnitSection}
 use Rattle.dwp_index.specs.Index.{Index, Ranges, row_in, range_in}

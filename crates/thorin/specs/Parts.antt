@@ -5,7 +5,7 @@ use Rattle.dwp_base.specs.declared.section.SectionKind.{SectionKind}
 use Rattle.dwp_base.specs.declared.section.SectionKind.TheVariants.{Types, Abbrev, Line, Loc, Loclists, Rnglists, StrOffsets, Macinfo, Macro, Str}
 use Rattle.dwp_base.specs.Reading.{◌>>=◌}
 use Rattle.dwp_base.specs.Sections.{name_of, same_kind}
-use Rattle.dwp_reader.specs.declared.encoding.Encoding.{Encoding}
+use Rattle.dwp_bytes.specs.declared.encoding.Encoding.{Encoding}
 use Rattle.thorin_strings.specs.StringOffsets.{remapped}
 use Rattle.thorin_packaged.specs.PackagedOffsets.{packaged_offsets}
 use Rattle.thorin_faults.specs.Fault.{Fault, MissingRequiredSection, RepeatedSection, SectionOutsideFormat}

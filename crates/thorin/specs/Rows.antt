@@ -5,7 +5,7 @@ use Rattle.dwp_base.specs.declared.section.SectionKind.TheVariants.{Abbrev, Line
 use Rattle.dwp_base.specs.declared.section.Contribution.{Contribution}
 use Rattle.dwp_base.specs.Reading.{◌>>=◌}
 use Rattle.dwp_base.specs.Sections.{name_of}
-use Rattle.dwp_reader.specs.declared.encoding.Encoding.{Encoding}
+use Rattle.dwp_bytes.specs.declared.encoding.Encoding.{Encoding}
 use Rattle.dwp_dwarf.specs.Units.{Unit as Header}
 use Rattle.dwp_dwarf.specs.declared.header.UnitType.{UnitType}
 use Rattle.dwp_dwarf.specs.declared.header.UnitType.TheVariants as unit_types

@@ -4,8 +4,8 @@ use Rattle.thorin.specs.declared.units.NewUnit.{NewUnit}
 use Rattle.thorin.specs.declared.units.NewUnits.{NewUnits}
 use Rattle.thorin.specs.declared.units.Adding.{Adding}
 use Rattle.thorin.specs.declared.units.Met.{Met}
-use Rattle.dwp_reader.specs.Input.{Input}
-use Rattle.dwp_reader.specs.declared.slice.SliceReader.{SliceReader}
+use Rattle.dwp_bytes.specs.Input.{Input}
+use Rattle.dwp_bytes.specs.declared.slice.SliceReader.{SliceReader}
 use Rattle.thorin.specs.NewUnits as spec
 use Rattle.thorin.specs.State.{held_units}
 use Rattle.thorin.specs.StateView.{in_progress_of}

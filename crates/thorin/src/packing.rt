@@ -7,7 +7,7 @@ ghost use Rattle.thorin.specs.Represents.{units_in};
 ghost use Rattle.thorin.specs.Run.{Took, Writes};
 
 use crate::package::DwarfPackage;
-use dwp_reader::RelocationEntry;
+use dwp_bytes::RelocationEntry;
 use std::alloc::Global;
 use std::path::Path;
 use thorin_faults::{Error, MissingReferencedObjectBehaviour, Session};

@@ -5,8 +5,8 @@ use crate::input::read_file;
 use crate::output::Failure;
 use clap::ArgMatches;
 use dwp_base::SectionKind;
+use dwp_bytes::Format;
 use dwp_index::{PackageFile, PackagedUnit};
-use dwp_reader::Format;
 use dwp_table::{Bucketable, DebugTypeSignature, DwarfObject, DwoId};
 use std::io::Write;
 

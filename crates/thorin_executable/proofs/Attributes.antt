@@ -3,8 +3,8 @@ use Rattle.std.proofs.Common.{◌≡◌, ◌∙◌, Bool, true, false, cond, Lis
 use Rattle.std.specs.Prelude.{find}
 use Rattle.std.specs.Option.{option_or}
 use Rattle.dwp_base.specs.Reading.{◌>>=◌}
-use Rattle.dwp_reader.specs.declared.encoding.Format.{Format}
-use Rattle.dwp_reader.specs.declared.fault.ReadError.{ReadError}
+use Rattle.dwp_bytes.specs.declared.encoding.Format.{Format}
+use Rattle.dwp_bytes.specs.declared.fault.ReadError.{ReadError}
 use Rattle.dwp_dwarf.specs.Entries.{DebugAttribute}
 use Rattle.thorin_faults.specs.Fault.{Fault, ParseUnit}
 use Rattle.thorin_executable.specs.Roots.{SplitAttributes, split_attributes, with_attribute, all_read, base_in, first_base, is_attribute, at_dwo_name, at_gnu_dwo_name, at_comp_dir}

@@ -2,9 +2,9 @@
 use Rattle.std.proofs.Common.{◌≡◌, ◌∙◌, ℕ, List, [], ◌∷◌, map, Ok, refl, ap, sym}
 use Rattle.dwp_elf_read.specs.Elf.{Elf, SectionMeaning}
 use Rattle.dwp_elf_read.specs.Relocation.{relocations_of}
-use Rattle.dwp_reader.specs.declared.relocation.RelocationEntry.{RelocationEntry}
-use Rattle.dwp_reader.specs.Input.{section as input_section}
-use Rattle.dwp_reader.specs.Relocation.{relocated_input}
+use Rattle.dwp_bytes.specs.declared.relocation.RelocationEntry.{RelocationEntry}
+use Rattle.dwp_bytes.specs.Input.{section as input_section}
+use Rattle.dwp_bytes.specs.Relocation.{relocated_input}
 use Rattle.thorin_parts.specs.Relocations.{pair_of, with_relocations}
 use Rattle.thorin_executable.specs.declared.loading.DebugSection.{DebugSection}
 use Rattle.thorin_executable.specs.Sections.{entry_of, content_of, loaded}

@@ -3,8 +3,8 @@ use Rattle.std.proofs.Common.{◌≡◌, ℕ, Bool, cond, List, Result, Ok, Err,
 use Rattle.std.specs.Str.{IsUtf8, is_utf8}
 use Rattle.std.proofs.lemmas.Bool.{false_from_ne_true}
 use Rattle.std.proofs.lemmas.Str.{IsUtf8-from_is_utf8, is_utf8-from_IsUtf8}
-use Rattle.dwp_reader.specs.Input.{Input}
-use Rattle.dwp_reader.specs.declared.fault.ReadError.TheVariants.{BadUtf8}
+use Rattle.dwp_bytes.specs.Input.{Input}
+use Rattle.dwp_bytes.specs.declared.fault.ReadError.TheVariants.{BadUtf8}
 use Rattle.thorin_faults.specs.Fault.{Fault, GimliRead}
 use Rattle.thorin_executable.specs.Paths.{text_of}
 

@@ -7,10 +7,10 @@ use Rattle.dwp_base.specs.Reading.{◌>>=◌}
 use Rattle.dwp_elf_read.specs.declared.fault.ReadError.TheVariants.{Compressed, SectionRange}
 use Rattle.dwp_elf_read.specs.Elf.{Elf, SectionMeaning, elf_of, nobits, has_compressed_flag}
 use Rattle.dwp_elf_read.specs.Relocation.{relocations_of}
-use Rattle.dwp_reader.specs.declared.relocation.Relocation.{Relocation}
-use Rattle.dwp_reader.specs.declared.relocation.RelocationEntry.{RelocationEntry}
-use Rattle.dwp_reader.specs.Input.{Input, section}
-use Rattle.dwp_reader.specs.Relocation.{relocated_input}
+use Rattle.dwp_bytes.specs.declared.relocation.Relocation.{Relocation}
+use Rattle.dwp_bytes.specs.declared.relocation.RelocationEntry.{RelocationEntry}
+use Rattle.dwp_bytes.specs.Input.{Input, section}
+use Rattle.dwp_bytes.specs.Relocation.{relocated_input}
 use Rattle.dwp_dwarf.specs.Strings.{Strings}
 use Rattle.thorin_faults.specs.Fault.{Fault, ParseObjectFile, DecompressData, ObjectRead}
 use Rattle.thorin_faults.specs.Answers.{as_fault}

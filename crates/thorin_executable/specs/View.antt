@@ -1,6 +1,6 @@
 -- What the values of this crate stand for, and what a list says where memory ran out.
 use Rattle.std.specs.Prelude.{◌≡◌, length, map, take, Option, Some, None, option_map, string_bytes}
-use Rattle.dwp_reader.specs.Input.{Input}
+use Rattle.dwp_bytes.specs.Input.{Input}
 use Rattle.dwp_dwarf.specs.Attributes.{attribute_of}
 use Rattle.dwp_dwarf.specs.Sections.{strings_of}
 use Rattle.thorin_faults.specs.declared.fault.Error.{Error}

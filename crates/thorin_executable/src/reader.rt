@@ -1,8 +1,8 @@
 //! The reader of a section of an executable.
 
 ghost use Rattle.std.specs.Prelude.{◌≡◌, IsTrue};
-ghost use Rattle.dwp_reader.specs.Input.{section};
-ghost use Rattle.dwp_reader.specs.Relocation.{ascends, relocated_input};
+ghost use Rattle.dwp_bytes.specs.Input.{section};
+ghost use Rattle.dwp_bytes.specs.Relocation.{ascends, relocated_input};
 
 use dwp_dwarf::{Endianness, Format, ReadError, Reader, Relocate, RelocationEntry, SliceReader};
 
@@ -39,7 +39,7 @@ impl<'a> Reader for SectionReader<'a> {
         self.reader.to_slice()
     }
 
-    #[tactic(auto, unfolding(dwp_reader::specs::Input::split_at))]
+    #[tactic(auto, unfolding(dwp_bytes::specs::Input::split_at))]
     fn split(&mut self, n: usize) -> Result<Self, ReadError> {
         let reader = self.reader.split(n)?;
         Ok(SectionReader { reader })

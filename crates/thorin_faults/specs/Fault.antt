@@ -3,8 +3,8 @@ use Rattle.std.specs.Prelude.{ℕ, List, string_bytes}
 use Rattle.std.specs.declared.io.Error.{Error as IoError}
 use Rattle.dwp_elf_read.specs.declared.fault.ReadError.{ReadError as ElfReadError}
 use Rattle.dwp_elf_read.specs.declared.fault.WriteError.{WriteError as ElfWriteError}
-use Rattle.dwp_reader.specs.declared.fault.ReadError.{ReadError as DwarfReadError}
-use Rattle.dwp_reader.specs.declared.fault.WriteError.{WriteError as DwarfWriteError}
+use Rattle.dwp_bytes.specs.declared.fault.ReadError.{ReadError as DwarfReadError}
+use Rattle.dwp_bytes.specs.declared.fault.WriteError.{WriteError as DwarfWriteError}
 use Rattle.thorin_faults.specs.declared.fault.Error.{Error}
 use Rattle.thorin_faults.specs.declared.fault.Error.TheVariants as error
 

@@ -4,8 +4,8 @@ ghost use Rattle.thorin_faults.specs.Answers.{written_fault};
 ghost use Rattle.thorin_faults.specs.Sessions.{input_error_of, input_fault};
 ghost use Rattle.thorin_faults.specs.declared.fault.InputError.TheVariants as input;
 
+use dwp_bytes::{ReadError as DwarfReadError, WriteError as DwarfWriteError};
 use dwp_elf_read::{ReadError as ElfReadError, WriteError as ElfWriteError};
-use dwp_reader::{ReadError as DwarfReadError, WriteError as DwarfWriteError};
 use std::alloc::{AllocError, AllocFailed};
 use std::io;
 

@@ -3,9 +3,9 @@
 use Rattle.std.specs.Prelude.{ℕ, List, [], ◌∷◌, Bool, ◌||◌, ◌==◌, if◌then◌else◌, Option, Some, None, Result, Ok, Err}
 use Rattle.std.specs.Option.{ok_or}
 use Rattle.dwp_base.specs.Reading.{◌>>=◌}
-use Rattle.dwp_reader.specs.Input.{Input}
-use Rattle.dwp_reader.specs.declared.fault.ReadError.{ReadError}
-use Rattle.dwp_reader.specs.declared.fault.ReadError.TheVariants.{UnknownCode}
+use Rattle.dwp_bytes.specs.Input.{Input}
+use Rattle.dwp_bytes.specs.declared.fault.ReadError.{ReadError}
+use Rattle.dwp_bytes.specs.declared.fault.ReadError.TheVariants.{UnknownCode}
 use Rattle.dwp_dwarf.specs.declared.header.UnitType.{UnitType}
 use Rattle.dwp_dwarf.specs.declared.header.UnitType.TheVariants as unit_types
 use Rattle.dwp_dwarf.specs.Units.{Unit}

@@ -2,7 +2,7 @@ ghost use Rattle.std.specs.Prelude.{◌≡◌, ◌≢◌, ℕ, List, Option, Som
 ghost use Rattle.dwp_base.specs.declared.endian.Endianness.{Endianness};
 ghost use Rattle.dwp_base.specs.declared.section.SectionKind.{SectionKind};
 ghost use Rattle.dwp_base.specs.declared.section.Contribution.{Contribution};
-ghost use Rattle.dwp_reader.specs.declared.encoding.Encoding.{Encoding};
+ghost use Rattle.dwp_bytes.specs.declared.encoding.Encoding.{Encoding};
 ghost use Rattle.dwp_index.specs.Index.{Index, Ranges, range_in, row_in};
 ghost use Rattle.thorin_strings.specs.Strings.{IsTable};
 ghost use Rattle.thorin_packaged.specs.PackagedOffsets.{packaged_offsets};

@@ -8,8 +8,8 @@ ghost use Rattle.thorin_packaged.specs.RangeKeys.{range_at};
 
 use crate::row_places::range_of_row;
 use dwp_base::{Contribution, ContributionOffset, SectionKind};
+use dwp_bytes::Encoding;
 use dwp_index::UnitIndex;
-use dwp_reader::Encoding;
 use std::alloc::{AllocError, Global};
 use std::collections::BTreeSet;
 use thorin_faults::Error;

@@ -7,8 +7,8 @@ ghost use Rattle.thorin_packaged.specs.PackagedOffsets.{packaged_offsets, ranges
 
 use crate::offset_ranges::{offset_ranges, test_ranges};
 use dwp_base::{Contribution, Endianness};
+use dwp_bytes::Encoding;
 use dwp_index::UnitIndex;
-use dwp_reader::Encoding;
 use std::alloc::Global;
 use thorin_faults::Error;
 use thorin_strings::PackageStringTable;

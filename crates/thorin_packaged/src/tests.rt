@@ -1,7 +1,7 @@
 use super::*;
 use dwp_base::{Contribution, ContributionOffset, Endianness, SectionKind};
+use dwp_bytes::{Encoding, Format, ReadError};
 use dwp_index::{DwarfObject, DwoId, UnitIndex};
-use dwp_reader::{Encoding, Format, ReadError};
 use std::alloc::Global;
 use std::test::Fail;
 use thorin_faults::Error;

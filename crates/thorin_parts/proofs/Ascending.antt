@@ -5,9 +5,9 @@ use Rattle.std.specs.List.Sorted.{IsStrictlySortedBy}
 use Rattle.std.specs.Ordering.{nat_cmp}
 use Rattle.std.proofs.lemmas.Bool.{lt-ltb}
 use Rattle.std.proofs.lemmas.Map.Keys.{below_from_sorted, sorted_tail}
-use Rattle.dwp_reader.specs.declared.relocation.Relocation.{Relocation}
-use Rattle.dwp_reader.specs.declared.relocation.RelocationEntry.{RelocationEntry}
-use Rattle.dwp_reader.specs.Relocation.{ascends}
+use Rattle.dwp_bytes.specs.declared.relocation.Relocation.{Relocation}
+use Rattle.dwp_bytes.specs.declared.relocation.RelocationEntry.{RelocationEntry}
+use Rattle.dwp_bytes.specs.Relocation.{ascends}
 use Rattle.thorin_parts.specs.Relocations.{pair_of}
 
 both : (a b : Bool) → IsTrue a → IsTrue b → IsTrue (a && b)

@@ -7,11 +7,11 @@ use Rattle.std.proofs.Math.Nat.{add-mul}
 use Rattle.dwp_base.specs.declared.endian.Endianness.{Endianness}
 use Rattle.dwp_base.specs.declared.endian.Endianness.TheVariants.{Little, Big}
 use Rattle.dwp_base.specs.Numbers.{number}
-use Rattle.dwp_reader.specs.declared.encoding.Encoding.{Encoding}
-use Rattle.dwp_reader.specs.declared.encoding.Format.{Format}
-use Rattle.dwp_reader.specs.declared.encoding.Format.TheVariants.{Dwarf32, Dwarf64}
-use Rattle.dwp_reader.specs.Encoding.{offset_size}
-use Rattle.dwp_reader.specs.StringOffsets.{header_size, entry_count}
+use Rattle.dwp_bytes.specs.declared.encoding.Encoding.{Encoding}
+use Rattle.dwp_bytes.specs.declared.encoding.Format.{Format}
+use Rattle.dwp_bytes.specs.declared.encoding.Format.TheVariants.{Dwarf32, Dwarf64}
+use Rattle.dwp_bytes.specs.Encoding.{offset_size}
+use Rattle.dwp_bytes.specs.StringOffsets.{header_size, entry_count}
 use Rattle.dwp_index.specs.Strings.{entry_in, string_for, string_in}
 
 -- a number in front doesn't depend on what follows it

@@ -9,8 +9,8 @@ use Rattle.dwp_base.specs.declared.section.SectionKind.{SectionKind}
 use Rattle.dwp_base.specs.declared.section.SectionKind.TheVariants.{Info, Types, Abbrev, Line, Loc, Loclists, Rnglists, StrOffsets, Macinfo, Macro, Str, CuIndex, TuIndex}
 use Rattle.dwp_base.specs.declared.section.Contribution.{Contribution}
 use Rattle.dwp_base.specs.Reading.{◌>>=◌}
-use Rattle.dwp_reader.specs.declared.encoding.Encoding.{Encoding}
-use Rattle.dwp_reader.specs.Encoding.{index_version_of}
+use Rattle.dwp_bytes.specs.declared.encoding.Encoding.{Encoding}
+use Rattle.dwp_bytes.specs.Encoding.{index_version_of}
 use Rattle.std.specs.Int.{is_power_of_two}
 use Rattle.dwp_table.specs.Objects.{identifier_of}
 use Rattle.dwp_table.specs.Columns.{contribution_kinds}

@@ -19,8 +19,8 @@ use Rattle.thorin_parts.specs.ReadBack.{index_with}
 use Rattle.thorin_parts.specs.ReadRows.{non_empty, HasEntries}
 use Rattle.dwp_base.specs.Reading.{◌>>=◌}
 use Rattle.dwp_base.specs.declared.endian.Endianness.{Endianness}
-use Rattle.dwp_reader.specs.declared.encoding.Encoding.{Encoding}
-use Rattle.dwp_reader.specs.Encoding.{index_version_of}
+use Rattle.dwp_bytes.specs.declared.encoding.Encoding.{Encoding}
+use Rattle.dwp_bytes.specs.Encoding.{index_version_of}
 use Rattle.dwp_index.specs.IndexBytes.{index_of}
 use Rattle.thorin_parts.specs.EntryTests.{each, count_test, encoding_test, format_test, offset_test, size_test, parts_test, tests_under}
 use Rattle.thorin_parts.specs.IndexText.{IsIndexText}

@@ -5,13 +5,13 @@ use Rattle.dwp_base.specs.declared.section.SectionKind.{SectionKind}
 use Rattle.dwp_base.specs.declared.section.Contribution.{Contribution}
 use Rattle.dwp_base.specs.Reading.{◌>>=◌}
 use Rattle.dwp_base.specs.Sections.{name_of}
-use Rattle.dwp_reader.specs.declared.encoding.Encoding.{Encoding}
-use Rattle.dwp_reader.specs.declared.encoding.Format.{Format}
-use Rattle.dwp_reader.specs.declared.encoding.Format.TheVariants.{Dwarf32, Dwarf64}
+use Rattle.dwp_bytes.specs.declared.encoding.Encoding.{Encoding}
+use Rattle.dwp_bytes.specs.declared.encoding.Format.{Format}
+use Rattle.dwp_bytes.specs.declared.encoding.Format.TheVariants.{Dwarf32, Dwarf64}
 use Rattle.thorin_faults.specs.Fault.{Fault, NumberTooLarge, MixedInputEncodings, SectionOutsideFormat}
 use Rattle.thorin_parts.specs.declared.entry.IndexEntry.{IndexEntry}
 use Rattle.dwp_table.specs.Columns.{column_of, contribution_kinds}
-use Rattle.dwp_reader.specs.Encoding.{index_version_of}
+use Rattle.dwp_bytes.specs.Encoding.{index_version_of}
 use Rattle.thorin_parts.specs.Entries.{contribution_to, offset_or_0, size_or_0}
 
 -- tests in order, up to the first that fails

@@ -9,7 +9,7 @@ use Rattle.dwp_table.specs.Objects.{identifier_of}
 use Rattle.dwp_table.specs.Table.{IsTable, HasSlots, signature_of}
 use Rattle.thorin_parts.specs.declared.entry.IndexEntry.{IndexEntry}
 use Rattle.dwp_table.specs.Columns.{column_of, contribution_kinds}
-use Rattle.dwp_reader.specs.Encoding.{index_version_of}
+use Rattle.dwp_bytes.specs.Encoding.{index_version_of}
 use Rattle.thorin_parts.specs.Entries.{contribution_to, offset_or_0, size_or_0}
 
 -- numbers of four bytes, one after the other

@@ -1,7 +1,7 @@
 -- A rewritten range of string offsets, as a reader of packages reads it (DWARF 5, 7.26).
 use Rattle.std.specs.Prelude.{◌≡◌, ℕ, List, IsOk}
 use Rattle.dwp_base.specs.declared.endian.Endianness.{Endianness}
-use Rattle.dwp_reader.specs.declared.encoding.Encoding.{Encoding}
+use Rattle.dwp_bytes.specs.declared.encoding.Encoding.{Encoding}
 use Rattle.dwp_index.specs.Strings.{string_in}
 
 -- of each number both ranges, each with its section, give the same string, or none, and no fault

@@ -11,8 +11,8 @@ use Rattle.dwp_elf_read.specs.declared.fault.ReadError.TheVariants.{NameRange}
 use Rattle.dwp_elf_read.specs.declared.relocation.RawRelocation.{RawRelocation}
 use Rattle.dwp_elf_read.specs.Elf.{Elf}
 use Rattle.dwp_elf_read.specs.Symbol.{symbol_value_of}
-use Rattle.dwp_reader.specs.declared.relocation.Relocation.{Relocation}
-use Rattle.dwp_reader.specs.declared.relocation.RelocationEntry.{RelocationEntry}
+use Rattle.dwp_bytes.specs.declared.relocation.Relocation.{Relocation}
+use Rattle.dwp_bytes.specs.declared.relocation.RelocationEntry.{RelocationEntry}
 use Rattle.thorin_faults.specs.Fault.{Fault, NamelessSection, UnsupportedRelocation, RelocationWithInvalidSymbol, MultipleRelocations, ObjectRead}
 
 -- the type of a relocation that stores a symbol's value plus an addend, of 8, 4, 2 or 1 bytes

@@ -1,5 +1,5 @@
 use dwp_base::{Contribution, SectionKind};
-use dwp_reader::Encoding;
+use dwp_bytes::Encoding;
 use dwp_table::{Bucketable, DwarfObject};
 
 /// A unit's row in an index: how the unit is encoded, which unit it is, and its contribution to each

@@ -7,7 +7,7 @@ ghost use Rattle.thorin_parts.specs.PartTests.{test_of};
 
 use crate::entry::IndexEntry;
 use dwp_base::{Contribution, SectionKind};
-use dwp_reader::Encoding;
+use dwp_bytes::Encoding;
 use dwp_table::{CONTRIBUTION_KINDS, column_of};
 use thorin_faults::Error;
 

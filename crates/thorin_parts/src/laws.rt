@@ -1,7 +1,7 @@
 ghost use Rattle.std.specs.Prelude.{◌≡◌, ℕ, ◌-◌, ◌*◌, ◌<◌, ◌^◌, List, ◌++◌, Ok, length, slice_index, take, nat_lt, if◌then◌else◌};
 ghost use Rattle.dwp_base.specs.declared.endian.Endianness.{Endianness};
-ghost use Rattle.dwp_reader.specs.declared.encoding.Encoding.{Encoding};
-ghost use Rattle.dwp_reader.specs.Encoding.{index_version_of, offset_size};
+ghost use Rattle.dwp_bytes.specs.declared.encoding.Encoding.{Encoding};
+ghost use Rattle.dwp_bytes.specs.Encoding.{index_version_of, offset_size};
 ghost use Rattle.dwp_table.specs.Table.{AreDistinct};
 ghost use Rattle.dwp_index.specs.Index.{Index};
 ghost use Rattle.dwp_index.specs.IndexBytes.{index_of};

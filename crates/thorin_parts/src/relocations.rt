@@ -1,14 +1,14 @@
 ghost use Rattle.std.specs.Prelude.{◌≡◌, [], map, IfOk, IsTrue};
 ghost use Rattle.dwp_elf_read.specs.Relocation.{relocations_of};
 ghost use Rattle.dwp_elf_read.specs.View.{elf, file, section};
-ghost use Rattle.dwp_reader.specs.Relocation.{ascends};
+ghost use Rattle.dwp_bytes.specs.Relocation.{ascends};
 ghost use Rattle.thorin_faults.specs.Answers.{Gives, MemoryAside};
 ghost use Rattle.thorin_faults.specs.Fault.{fault_of};
 ghost use Rattle.thorin_parts.specs.Relocations.{at_place, is_absolute, pair_of, relocation_of, with_relocation, with_relocations};
 ghost use Rattle.thorin_parts.specs.Flaws.{flaw_fault};
 
+use dwp_bytes::{Relocation, RelocationEntry};
 use dwp_elf_read::{ElfFile, RawRelocation, Section};
-use dwp_reader::{Relocation, RelocationEntry};
 use std::alloc::{AllocError, Global};
 use std::collections::BTreeMap;
 use thorin_faults::Error;

@@ -1,8 +1,8 @@
 use super::*;
 use dwp_base::{Contribution, ContributionOffset, Endianness, SectionKind};
+use dwp_bytes::{Encoding, Format, RelocationEntry};
 use dwp_elf_read::ElfFile;
 use dwp_index::{DwarfObject, DwoId, UnitIndex};
-use dwp_reader::{Encoding, Format, RelocationEntry};
 use std::alloc::Global;
 use std::test::Fail;
 

@@ -4,11 +4,11 @@ use Rattle.std.specs.List.{list_any}
 use Rattle.std.specs.Str.{bytes_eq}
 use Rattle.std.specs.Result.{result_ok}
 use Rattle.dwp_base.specs.declared.endian.Endianness.{Endianness}
-use Rattle.dwp_reader.specs.declared.encoding.Encoding.{Encoding}
+use Rattle.dwp_bytes.specs.declared.encoding.Encoding.{Encoding}
 use Rattle.thorin_strings.specs.StringOffsets.{offset_limit, named_at, fitting_offset, remapped_entry}
 use Rattle.std.proofs.lemmas.List.{append-nil, take_at, get_or_at, get_or_append_left}
 use Rattle.std.proofs.lemmas.Bool.{false_from_ne_true, cond-true, cond-false, le-ltb}
-use Rattle.dwp_reader.specs.StringOffsets.{string_from}
+use Rattle.dwp_bytes.specs.StringOffsets.{string_from}
 use Rattle.thorin_strings.specs.Strings.{terminated, data_of, offset_of, with_string, strings_in, offsets_from, IsZeroFree, BeginsAt}
 use Rattle.thorin_strings.specs.Grown.{IsGrown, IsUsed, AreDistinct}
 use Rattle.thorin_strings.proofs.OffsetLemmas.{data_of-append, offsets_from-append, offset_of-absent, has_Decides}

@@ -11,8 +11,8 @@ use Rattle.std.proofs.lemmas.Map.Made.{AllPairs-from_IsDistinct, IsDistinct-from
 use Rattle.std.proofs.lemmas.Bool.Decides.{same_from_decides}
 use Rattle.std.proofs.lemmas.List.Sorted.{IsPermutation-refl, IsPermutation-trans, IsPermutation-cons, IsPermutation-insert, IsPermutation-to_front, IsPermutation-sym, IsPermutation-map, IsPermutation-append, length_permutation, All-permutation}
 use Rattle.std.proofs.lemmas.Bool.{le-ltb, lt-ltb}
-use Rattle.dwp_reader.specs.declared.fault.ReadError.TheVariants.{OffsetOutOfRange, NoTerminator}
-use Rattle.dwp_reader.specs.StringOffsets.{string_from, string_at}
+use Rattle.dwp_bytes.specs.declared.fault.ReadError.TheVariants.{OffsetOutOfRange, NoTerminator}
+use Rattle.dwp_bytes.specs.StringOffsets.{string_from, string_at}
 use Rattle.thorin_strings.specs.Strings.{data_of, strings_in, offsets_from, StandsAt, IsBefore, IsIndexed}
 use Rattle.thorin_strings.specs.Grown.{IsGrown, AreSorted}
 use Rattle.thorin_strings.proofs.TableLemmas.{insert_in_order, not_behind_itself, maps_agree, order_agrees, strings_here, strings_at, positions_within, positions_few, strings_few}

@@ -8,7 +8,7 @@ use Rattle.std.proofs.lemmas.List.Quantifiers.{all_pairs_push}
 use Rattle.std.proofs.lemmas.List.Sums.{fails_before_first}
 use Rattle.std.proofs.lemmas.Bool.{false≢true, le-ltb, eq-eqb, or_parts, cond-true, cond-false}
 use Rattle.std.proofs.lemmas.Slice.Eq.{bytes_eq-Decides}
-use Rattle.dwp_reader.specs.StringOffsets.{string_from, string_at}
+use Rattle.dwp_bytes.specs.StringOffsets.{string_from, string_at}
 use Rattle.thorin_strings.specs.Strings.{terminated, data_of, offset_of, with_string, IsZeroFree, IsTable}
 use Rattle.thorin_strings.proofs.StringLemmas.{data_of-cons, before_first-ended}
 use Rattle.thorin_strings.proofs.OffsetLemmas.{has_Decides}

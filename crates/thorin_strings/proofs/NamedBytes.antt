@@ -9,13 +9,13 @@ use Rattle.dwp_base.specs.declared.endian.Endianness.{Endianness}
 use Rattle.dwp_base.specs.declared.endian.Endianness.TheVariants.{Little, Big}
 use Rattle.dwp_base.specs.Numbers.{number, number_bytes}
 use Rattle.dwp_base.specs.Reading.{◌>>=◌}
-use Rattle.dwp_reader.specs.declared.encoding.Encoding.{Encoding}
-use Rattle.dwp_reader.specs.declared.encoding.Format.{Format}
-use Rattle.dwp_reader.specs.declared.encoding.Format.TheVariants.{Dwarf32, Dwarf64}
-use Rattle.dwp_reader.specs.Encoding.{offset_size}
+use Rattle.dwp_bytes.specs.declared.encoding.Encoding.{Encoding}
+use Rattle.dwp_bytes.specs.declared.encoding.Format.{Format}
+use Rattle.dwp_bytes.specs.declared.encoding.Format.TheVariants.{Dwarf32, Dwarf64}
+use Rattle.dwp_bytes.specs.Encoding.{offset_size}
 use Rattle.thorin_faults.specs.Fault.{Fault}
 use Rattle.thorin_strings.specs.Strings.{IsTable}
-use Rattle.dwp_reader.specs.StringOffsets.{length_size, header_size, entry_count}
+use Rattle.dwp_bytes.specs.StringOffsets.{length_size, header_size, entry_count}
 use Rattle.thorin_strings.specs.StringOffsets.{offset_limit, initial_length, header_of, offset_at, named_at, remapped_entries, entry_bytes, remapped}
 use Rattle.thorin_strings.specs.Rewritten.{NamesOneString, NamesTheSame}
 use Rattle.thorin_strings.proofs.OffsetLemmas.{has_Decides}

@@ -4,13 +4,13 @@ use Rattle.std.proofs.lemmas.List.{take_all, take-append-drop, get_or_append_lef
 use Rattle.std.proofs.lemmas.Bool.{cases_eq, ltb-false}
 use Rattle.dwp_base.specs.declared.endian.Endianness.{Endianness}
 use Rattle.dwp_base.specs.Reading.{◌>>=◌}
-use Rattle.dwp_reader.specs.declared.encoding.Encoding.{Encoding}
-use Rattle.dwp_reader.specs.declared.encoding.Format.{Format}
-use Rattle.dwp_reader.specs.declared.fault.ReadError.TheVariants.{OffsetOutOfRange, NoTerminator}
-use Rattle.dwp_reader.specs.Encoding.{offset_size}
+use Rattle.dwp_bytes.specs.declared.encoding.Encoding.{Encoding}
+use Rattle.dwp_bytes.specs.declared.encoding.Format.{Format}
+use Rattle.dwp_bytes.specs.declared.fault.ReadError.TheVariants.{OffsetOutOfRange, NoTerminator}
+use Rattle.dwp_bytes.specs.Encoding.{offset_size}
 use Rattle.thorin_faults.specs.Fault.{Fault}
 use Rattle.thorin_faults.specs.Answers.{as_fault}
-use Rattle.dwp_reader.specs.StringOffsets.{header_size, string_from, string_at}
+use Rattle.dwp_bytes.specs.StringOffsets.{header_size, string_from, string_at}
 use Rattle.thorin_strings.specs.Strings.{offset_of, with_string, IsZeroFree, IsTable}
 use Rattle.thorin_strings.specs.StringOffsets.{offset_limit, offset_at, named_at, fitting_offset, remapped_entry, remapped_entries}
 use Rattle.thorin_strings.proofs.Named.{has, has_more, offset_kept, read_free, used}

@@ -8,7 +8,7 @@ use Rattle.std.proofs.lemmas.List.Elements.{All-nil, All-cons, All-head, All-tai
 use Rattle.std.proofs.lemmas.Bool.{false_from_ne_true, or_parts, lt-ltb, le-ltb}
 use Rattle.std.proofs.lemmas.Bool.Decides.{Decides-by_or}
 use Rattle.std.proofs.lemmas.Slice.Eq.{bytes_eq-Decides}
-use Rattle.dwp_reader.specs.StringOffsets.{string_from}
+use Rattle.dwp_bytes.specs.StringOffsets.{string_from}
 use Rattle.thorin_strings.specs.Strings.{terminated, data_of, offset_of, IsZeroFree, offsets_from}
 use Rattle.thorin_strings.proofs.StringLemmas.{string_from-ended, data_of-cons}
 use Rattle.thorin_strings.proofs.Permutations.{filter_all, filter_none}

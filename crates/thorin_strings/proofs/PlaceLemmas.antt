@@ -6,7 +6,7 @@ use Rattle.std.proofs.lemmas.List.{take-append-drop, length-take-le, length-drop
 use Rattle.std.proofs.lemmas.List.Elements.{All-head, All-tail, Contains-append_right}
 use Rattle.std.proofs.lemmas.Bool.{eqb-true}
 use Rattle.std.proofs.lemmas.Slice.Eq.{bytes_eq-Decides}
-use Rattle.dwp_reader.specs.StringOffsets.{string_from}
+use Rattle.dwp_bytes.specs.StringOffsets.{string_from}
 use Rattle.thorin_strings.specs.Strings.{data_of, offset_of, offsets_from, strings_in, IsZeroFree, IsIndexed, BeginsAt}
 use Rattle.thorin_strings.proofs.StringLemmas.{data_of-cons, strings_in-ended, zero_free-strings_in}
 use Rattle.thorin_strings.proofs.OffsetLemmas.{offsets_from-append, length-data_of-cons, has_Decides}

@@ -4,7 +4,7 @@ use Rattle.std.specs.Ordering.{nat_cmp, ordering_then, ordering_reverse}
 use Rattle.std.specs.Cmp.Lexicographic.{slice_cmp}
 use Rattle.std.proofs.lemmas.Bool.{cases_lt}
 use Rattle.std.proofs.lemmas.Cmp.{nat_list_cmp_total, ranked}
-use Rattle.dwp_reader.specs.StringOffsets.{string_from}
+use Rattle.dwp_bytes.specs.StringOffsets.{string_from}
 use Rattle.thorin_strings.specs.Strings.{IsBefore}
 
 -- what lies before a string that comes before another comes before that too

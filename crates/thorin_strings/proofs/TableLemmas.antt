@@ -13,7 +13,7 @@ use Rattle.std.proofs.lemmas.List.Sorted.{IsPermutation-trans, IsPermutation-sym
 use Rattle.std.proofs.lemmas.Bool.{cases_lt, cases_order, false_from_ne_true, cond-true, cond-false}
 use Rattle.std.proofs.lemmas.Result.{IfOk-at_ok}
 use Rattle.std.proofs.lemmas.Cmp.{nat_list_cmp_total, tied_itself}
-use Rattle.dwp_reader.specs.StringOffsets.{string_from}
+use Rattle.dwp_bytes.specs.StringOffsets.{string_from}
 use Rattle.thorin_strings.specs.Strings.{terminated, data_of, offset_of, IsZeroFree, IsTable, strings_in, offsets_from, with_string, IsWithinDigits, IsBefore, IsIndexed, StandsAt}
 use Rattle.thorin_strings.proofs.StringLemmas.{strings_in-data_of, zero_free-strings_in, string_from-ended}
 use Rattle.thorin_strings.proofs.Permutations.{IsPermutation-filter}

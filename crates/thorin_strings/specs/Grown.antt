@@ -1,6 +1,6 @@
 -- A section of strings that grows while the positions of its new strings wait.
 use Rattle.std.specs.Prelude.{◌≡◌, ◌≢◌, ℕ, List, ◌++◌, length, AllPairs}
-use Rattle.dwp_reader.specs.StringOffsets.{string_from}
+use Rattle.dwp_bytes.specs.StringOffsets.{string_from}
 use Rattle.thorin_strings.specs.Strings.{data_of, offset_of, with_string, strings_in, offsets_from, IsBefore}
 
 -- strings went to the end of a section of ended strings; the places are where they begin, in their order

@@ -1,10 +1,10 @@
 -- What a rewritten range of string offsets keeps: an entry names the string that it named before (DWARF 5, 7.26).
 use Rattle.std.specs.Prelude.{◌≡◌, ◌≢◌, ℕ, ◌+◌, ◌*◌, ◌<◌, List, [], length, take, Ok, Contains}
 use Rattle.dwp_base.specs.declared.endian.Endianness.{Endianness}
-use Rattle.dwp_reader.specs.Encoding.{offset_size}
-use Rattle.dwp_reader.specs.declared.encoding.Encoding.{Encoding}
+use Rattle.dwp_bytes.specs.Encoding.{offset_size}
+use Rattle.dwp_bytes.specs.declared.encoding.Encoding.{Encoding}
 use Rattle.thorin_strings.specs.Strings.{data_of, IsTable}
-use Rattle.dwp_reader.specs.StringOffsets.{header_size, entry_count}
+use Rattle.dwp_bytes.specs.StringOffsets.{header_size, entry_count}
 use Rattle.thorin_strings.specs.StringOffsets.{named_at}
 
 -- the entry of a number names one string of these distinct ones, in its old section and in that of any table that begins with them

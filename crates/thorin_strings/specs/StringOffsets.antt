@@ -4,13 +4,13 @@ use Rattle.std.specs.List.{flat_map}
 use Rattle.dwp_base.specs.declared.endian.Endianness.{Endianness}
 use Rattle.dwp_base.specs.Numbers.{number, number_bytes}
 use Rattle.dwp_base.specs.Reading.{◌>>=◌}
-use Rattle.dwp_reader.specs.declared.encoding.Format.{Format}
-use Rattle.dwp_reader.specs.declared.encoding.Format.TheVariants.{Dwarf32, Dwarf64}
-use Rattle.dwp_reader.specs.declared.encoding.Encoding.{Encoding}
-use Rattle.dwp_reader.specs.declared.fault.ReadError.{ReadError}
-use Rattle.dwp_reader.specs.declared.fault.ReadError.TheVariants.{UnexpectedEof}
-use Rattle.dwp_reader.specs.Encoding.{offset_size}
-use Rattle.dwp_reader.specs.StringOffsets.{header_size, entry_count, string_at}
+use Rattle.dwp_bytes.specs.declared.encoding.Format.{Format}
+use Rattle.dwp_bytes.specs.declared.encoding.Format.TheVariants.{Dwarf32, Dwarf64}
+use Rattle.dwp_bytes.specs.declared.encoding.Encoding.{Encoding}
+use Rattle.dwp_bytes.specs.declared.fault.ReadError.{ReadError}
+use Rattle.dwp_bytes.specs.declared.fault.ReadError.TheVariants.{UnexpectedEof}
+use Rattle.dwp_bytes.specs.Encoding.{offset_size}
+use Rattle.dwp_bytes.specs.StringOffsets.{header_size, entry_count, string_at}
 use Rattle.thorin_faults.specs.Fault.{Fault, OffsetAtIndex, StrAtOffset, NumberTooLarge, BadStringOffsets}
 use Rattle.thorin_faults.specs.Answers.{as_fault}
 use Rattle.thorin_strings.specs.Strings.{offset_of, with_string}

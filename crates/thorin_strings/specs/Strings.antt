@@ -5,7 +5,7 @@ use Rattle.std.specs.Str.{bytes_eq}
 use Rattle.std.specs.Ordering.{nat_cmp}
 use Rattle.std.specs.Cmp.Lexicographic.{slice_cmp}
 use Rattle.std.specs.declared.cmp.Ordering.TheVariants.{Less}
-use Rattle.dwp_reader.specs.StringOffsets.{string_from}
+use Rattle.dwp_bytes.specs.StringOffsets.{string_from}
 
 -- a string with the zero byte that ends it
 abbrev pub terminated : List ℕ → List ℕ

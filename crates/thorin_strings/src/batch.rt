@@ -1,6 +1,6 @@
 ghost use Rattle.std.specs.Prelude.{◌≡◌, ◌≤◌, ◌<◌, ◌+◌, ◌*◌, ◌^◌, ◌++◌, ℕ, List, [], length, take, Ok, IfSome};
-ghost use Rattle.dwp_reader.specs.Encoding.{offset_size};
-ghost use Rattle.dwp_reader.specs.StringOffsets.{header_size};
+ghost use Rattle.dwp_bytes.specs.Encoding.{offset_size};
+ghost use Rattle.dwp_bytes.specs.StringOffsets.{header_size};
 ghost use Rattle.thorin_strings.specs.StringOffsets.{offset_limit, remapped_entry, remapped_entries, entry_bytes};
 ghost use Rattle.thorin_strings.specs.Strings.{data_of, strings_in, IsZeroFree};
 ghost use Rattle.thorin_strings.specs.Grown.{IsGrown, IsUsed, AreDistinct};
@@ -9,7 +9,7 @@ use crate::guess::{Guesses, hash_of};
 use crate::offsets::{named_at, offset_limit, push_offset};
 use crate::search::stands_at;
 use dwp_base::Endianness;
-use dwp_reader::Encoding;
+use dwp_bytes::Encoding;
 
 /// A table's strings while a range is rewritten: what no guess knows is taken for new, and stands in the
 /// data while its position waits. So a string may stand there twice.

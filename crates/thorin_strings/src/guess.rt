@@ -1,5 +1,5 @@
 ghost use Rattle.std.specs.Prelude.{◌≡◌, IfSome};
-ghost use Rattle.dwp_reader.specs.StringOffsets.{string_from};
+ghost use Rattle.dwp_bytes.specs.StringOffsets.{string_from};
 ghost use Rattle.thorin_strings.specs.Strings.{IsZeroFree, BeginsAt};
 
 use crate::search::stands_at;

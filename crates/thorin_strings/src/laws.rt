@@ -1,6 +1,6 @@
 ghost use Rattle.std.specs.Prelude.{◌≡◌, ℕ, List, Ok};
 ghost use Rattle.dwp_base.specs.declared.endian.Endianness.{Endianness};
-ghost use Rattle.dwp_reader.specs.declared.encoding.Encoding.{Encoding};
+ghost use Rattle.dwp_bytes.specs.declared.encoding.Encoding.{Encoding};
 ghost use Rattle.thorin_strings.specs.Rewritten.{NamesTheSame};
 ghost use Rattle.thorin_strings.specs.StringOffsets.{remapped};
 ghost use Rattle.thorin_strings.specs.Strings.{IsTable};

@@ -4,7 +4,7 @@ ghost use Rattle.thorin_strings.specs.Grown.{AreSorted};
 
 use crate::positions::Positions;
 use crate::search::compare_at;
-use dwp_reader::string_at;
+use dwp_bytes::string_at;
 use std::cmp::Ordering;
 
 /// The rank at which a string would stand; none where it stands among those of the positions. The rank

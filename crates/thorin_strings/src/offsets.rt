@@ -1,15 +1,15 @@
 ghost use Rattle.std.specs.Prelude.{◌≡◌, ◌≤◌, ◌<◌, ◌+◌, ◌*◌, ◌^◌, ◌++◌, length, take, Ok, OnOk, OnErr, IfOk, IsNone, IfSome};
 ghost use Rattle.dwp_base.specs.Numbers.{number_bytes};
 ghost use Rattle.dwp_base.specs.Reading.{Answers};
-ghost use Rattle.dwp_reader.specs.Encoding.{offset_size};
+ghost use Rattle.dwp_bytes.specs.Encoding.{offset_size};
 ghost use Rattle.thorin_faults.specs.Answers.{Gives};
-ghost use Rattle.dwp_reader.specs.StringOffsets.{header_size};
+ghost use Rattle.dwp_bytes.specs.StringOffsets.{header_size};
 ghost use Rattle.thorin_strings.specs.StringOffsets.{length_limit, offset_limit, header_of, offset_at, named_at, remapped_entry, remapped};
 ghost use Rattle.thorin_strings.specs.Strings.{IsZeroFree};
 
 use crate::table::PackageStringTable;
 use dwp_base::Endianness;
-use dwp_reader::{Encoding, Format, ReadError, string_at};
+use dwp_bytes::{Encoding, Format, ReadError, string_at};
 use std::alloc::{AllocError, Global};
 use thorin_faults::Error;
 

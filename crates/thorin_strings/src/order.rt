@@ -1,7 +1,7 @@
 ghost use Rattle.std.specs.Prelude.{◌<◌, ◌≤◌, length, IsPermutation};
 
 use dwp_base::Endianness;
-use dwp_reader::string_at;
+use dwp_bytes::string_at;
 use std::alloc::Global;
 
 /// How many strings are compared without a look at eight bytes of each first.

@@ -1,7 +1,7 @@
 ghost use Rattle.std.specs.Prelude.{◌≡◌, ◌≤◌, ◌↔◌, length, Contains, IfOk, IfErr, IsTrue};
 ghost use Rattle.std.specs.Ordering.{nat_cmp};
 ghost use Rattle.std.specs.Cmp.Lexicographic.{slice_cmp};
-ghost use Rattle.dwp_reader.specs.StringOffsets.{string_from};
+ghost use Rattle.dwp_bytes.specs.StringOffsets.{string_from};
 ghost use Rattle.thorin_strings.specs.Strings.{strings_in, offset_of, IsZeroFree, IsIndexed, BeginsAt, StandsAt, IsWithinDigits};
 
 use crate::guess::{Guesses, hash_of};

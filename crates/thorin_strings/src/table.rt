@@ -1,6 +1,6 @@
 ghost use Rattle.std.specs.Prelude.{◌≡◌, ◌↔◌, ◌+◌, ◌*◌, ◌<◌, ◌^◌, ◌++◌, ℕ, List, [], length, take, filter, nat_lt, Ok, OnOk, IfOk, IfErr, IsSome, IfSome, IsNone, IsTrue, Contains};
-ghost use Rattle.dwp_reader.specs.Encoding.{offset_size};
-ghost use Rattle.dwp_reader.specs.StringOffsets.{header_size};
+ghost use Rattle.dwp_bytes.specs.Encoding.{offset_size};
+ghost use Rattle.dwp_bytes.specs.StringOffsets.{header_size};
 ghost use Rattle.thorin_strings.specs.StringOffsets.{remapped_entries, entry_bytes};
 ghost use Rattle.thorin_strings.specs.Strings.{data_of, offset_of, with_string, IsZeroFree, IsTable, IsWithinDigits};
 ghost use Rattle.thorin_strings.specs.Marks.{mark_of};
@@ -12,7 +12,7 @@ use crate::order::order;
 use crate::positions::Positions;
 use crate::search::{find_near, search};
 use dwp_base::Endianness;
-use dwp_reader::Encoding;
+use dwp_bytes::Encoding;
 use memchr::memchr;
 use std::alloc::Global;
 use std::marker::Model;

@@ -1,7 +1,7 @@
 use crate::guess::hash_of;
 use crate::{PackageStringOffset, PackageStringTable};
 use dwp_base::Endianness;
-use dwp_reader::{Encoding, Format, ReadError};
+use dwp_bytes::{Encoding, Format, ReadError};
 use std::alloc::{AllocError, Global};
 use std::test::Fail;
 use thorin_faults::Error;

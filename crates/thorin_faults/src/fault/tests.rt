@@ -1,6 +1,6 @@
 use super::{Error, InputError, MissingReferencedObjectBehaviour};
+use dwp_bytes::{ReadError as DwarfReadError, WriteError as DwarfWriteError};
 use dwp_elf_read::{ReadError as ElfReadError, WriteError as ElfWriteError};
-use dwp_reader::{ReadError as DwarfReadError, WriteError as DwarfWriteError};
 use std::alloc::{AllocError, Global};
 use std::io;
 use std::process::Abort;

@@ -1,8 +1,8 @@
 use Rattle.std.proofs.Common.{◌∙◌, Ok, ap, sym}
 use Rattle.dwp_base.specs.declared.endian.Endianness.{Endianness}
 use Rattle.dwp_elf_read.specs.View.{elf, file, section}
-use Rattle.dwp_reader.specs.Input.{section as input_section}
-use Rattle.dwp_reader.specs.Relocation.{relocated_input}
+use Rattle.dwp_bytes.specs.Input.{section as input_section}
+use Rattle.dwp_bytes.specs.Relocation.{relocated_input}
 use Rattle.thorin_executable.proofs.Loads.{loaded-is}
 use Rattle.thorin_executable.proofs.loading.load.Goals as goal
 

@@ -1,5 +1,5 @@
 use Rattle.std.proofs.Common.{arith}
-use Rattle.dwp_reader.specs.StringOffsets.{string_from}
+use Rattle.dwp_bytes.specs.StringOffsets.{string_from}
 use Rattle.std.proofs.Common.{get_or}
 use Rattle.thorin_strings.proofs.SearchLemmas.{before_more, behind_more, turned, compared}
 use Rattle.thorin_strings.proofs.merge.gap_of.Goals as goal

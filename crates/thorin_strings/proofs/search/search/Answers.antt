@@ -1,5 +1,5 @@
 use Rattle.std.proofs.Common.{◌<◌, length, get_or, ◌+◌, ◌-◌, ◌^◌, ◌/◌, ◌∙◌, sym, arith}
-use Rattle.dwp_reader.specs.StringOffsets.{string_from}
+use Rattle.dwp_bytes.specs.StringOffsets.{string_from}
 use Rattle.thorin_strings.proofs.Digits.{halved_more}
 use Rattle.thorin_strings.proofs.SearchLemmas.{before_more, behind_more, turned, tied, compared}
 use Rattle.thorin_strings.proofs.TableLemmas.{positions_within, known_position}

@@ -1,5 +1,5 @@
 use Rattle.std.proofs.Common.{◌≡◌}
-use Rattle.dwp_reader.specs.Input.{section}
+use Rattle.dwp_bytes.specs.Input.{section}
 use Rattle.dwp_dwarf.specs.Units.{units, units_left}
 use Rattle.thorin.specs.NewUnits.{with_each_read}
 use Rattle.thorin.specs.UnitView.{new_of, adding_of, left_in}

@@ -1,5 +1,0 @@
-use Rattle.dwp_reader.proofs.Forward.{uleb_at-goes, sleb_at-goes}
-use Rattle.dwp_reader.proofs.laws.lebs_take_bytes.Goals as goal
-
-pub returns : goal.returns
-returns c = record { unsigned = uleb_at-goes; signed = sleb_at-goes }

@@ -1,6 +1,0 @@
-use Rattle.std.proofs.Common.{◌≡◌}
-use Rattle.dwp_reader.proofs.SignedLebs.{SignedSoFar}
-use Rattle.dwp_reader.proofs.reader.Reader.read_sleb128.Given as goal
-
-abbrev pub invariant-loop : goal.invariant-loop
-invariant-loop g l = (l.self ≡ l.fn.self) × SignedSoFar (g.Self.Reader.input l.fn.self) (g.Self.Reader.input l.at) l.counter l.value l.scale
