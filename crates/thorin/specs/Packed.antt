@@ -3,9 +3,9 @@ use Rattle.std.specs.Prelude.{ℕ, List, [], Result, IfOk}
 use Rattle.std.specs.declared.io.Error.{Error as IoError}
 use Rattle.thorin.specs.declared.packing.Input.{Input}
 use Rattle.thorin.specs.declared.packing.Packed.{Packed}
-use Rattle.thorin.specs.Builder.{State, start}
-use Rattle.thorin.specs.Join.{JoinAll, IsPackageOf}
-use Rattle.thorin.specs.Represents.{units_in}
+use Rattle.thorin_builder.specs.Builder.{State, start}
+use Rattle.thorin_builder.specs.Join.{JoinAll, IsPackageOf}
+use Rattle.thorin_builder.specs.Represents.{units_in}
 use Rattle.thorin.specs.Run.{Ran, Writes}
 
 -- the outcomes are those of a run from the start; its package has the units of the accepted inputs, joined; what is written is the

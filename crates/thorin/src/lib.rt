@@ -1,28 +1,10 @@
-//! Joining split DWARF objects and finished packages into one package (DWARF 5, 7.3.5; the GNU page
-//! DebugFissionDWP).
+//! Packing split DWARF objects and finished packages (DWARF 5, 7.3.5; the GNU page
+//! DebugFissionDWP): whole packages from lists of inputs, and the builder.
 #![tactic(auto)]
 
-mod adding;
-mod encodings;
-mod growing;
-mod in_progress;
-mod joins;
-mod laws;
-mod missing;
-mod object;
-mod package;
 mod packing;
-mod parts;
-mod rows;
-mod source;
-mod state;
-mod units;
 
-pub use in_progress::InProgressDwarfPackage;
-pub use joins::inputs_are_joined;
-pub use laws::{finished_packages_are_read, written_packages_are_read};
-pub use missing::MissingTargets;
-pub use package::DwarfPackage;
 pub use packing::{Input, Packed, pack};
+pub use thorin_builder::{DwarfPackage, MissingTargets};
 pub use thorin_executable::{Skeleton, SkeletonList, skeletons};
 pub use thorin_identity::dwo_identifier_of_unit;

@@ -1,15 +1,15 @@
 //! Whole packages from lists of inputs.
 
 ghost use Rattle.std.specs.Prelude.{◌≡◌, IfOk, IfErr};
-ghost use Rattle.thorin.specs.Join.{IsPackageOf};
+ghost use Rattle.thorin_builder.specs.Join.{IsPackageOf};
 ghost use Rattle.thorin.specs.Packed.{IsPacked};
-ghost use Rattle.thorin.specs.Represents.{units_in};
+ghost use Rattle.thorin_builder.specs.Represents.{units_in};
 ghost use Rattle.thorin.specs.Run.{Took, Writes};
 
-use crate::package::DwarfPackage;
 use dwp_bytes::RelocationEntry;
 use std::alloc::Global;
 use std::path::Path;
+use thorin_builder::DwarfPackage;
 use thorin_faults::{Error, MissingReferencedObjectBehaviour, Session};
 
 /// What a package is made of.

@@ -1,9 +1,0 @@
-use Rattle.std.proofs.Common.{◌≡◌, map, drop}
-use Rattle.std.specs.Prelude.{find}
-use Rattle.thorin.specs.Used.{has_kind}
-use Rattle.thorin.specs.View.{used}
-use Rattle.thorin.proofs.object.find_in.Given as goal
-
--- the first of those that are left is the first of all
-abbrev pub invariant-loop-section : goal.invariant-loop-section
-invariant-loop-section l = find (has_kind l.kind) (map used (drop l.section-index l.sections)) ≡ find (has_kind l.kind) (map used l.sections)

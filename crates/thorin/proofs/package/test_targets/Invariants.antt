@@ -1,8 +1,0 @@
-use Rattle.std.proofs.Common.{◌≡◌}
-use Rattle.std.specs.Prelude.{find}
-use Rattle.thorin.specs.Builder.{is_missing}
-use Rattle.thorin.proofs.package.test_targets.Given as goal
-
--- the first that is missing among those that are left is the first of all
-abbrev pub invariant-loop-target : goal.invariant-loop-target
-invariant-loop-target l = find (is_missing l.contained.keys) l.target-iterator ≡ find (is_missing l.contained.keys) l.targets.keys

@@ -1,7 +1,0 @@
-use Rattle.std.proofs.Common.{◌≡◌, ◌++◌, drop}
-use Rattle.thorin.specs.Builder.{rows_of}
-use Rattle.thorin.proofs.state.rows_of.Given as goal
-
--- those chosen so far, and those chosen of the rows that are left, are those of all
-abbrev pub invariant-loop-row : goal.invariant-loop-row
-invariant-loop-row l = l.chosen.items ++ rows_of l.compilations (drop l.row-index l.rows) ≡ rows_of l.compilations l.rows

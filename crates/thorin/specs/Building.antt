@@ -1,6 +1,0 @@
--- A package builder over a session.
-use Rattle.thorin.specs.Builder.{State}
-
-pub record Building (Sess : Type 0) : Type 0 where
-  pub session : Sess
-  pub state : State

@@ -1,9 +1,0 @@
--- The units that executables refer to and that a package lacks.
-use Rattle.std.specs.Prelude.{List, filter, drop}
-use Rattle.dwp_table.specs.declared.object.DwarfObject.{DwarfObject}
-use Rattle.thorin.specs.Builder.{is_missing}
-use Rattle.thorin.specs.declared.missing.MissingTargets.{MissingTargets}
-
--- what the iterator has left
-abbrev pub missing_left : MissingTargets → List DwarfObject
-missing_left m = filter (is_missing m.contained.now.keys) (drop m.next m.targets.now.keys)

@@ -1,0 +1,21 @@
+use Rattle.std.proofs.Common.{◌≡◌, rules, Result, Ok, Err, false, true≢false}
+use Rattle.std.specs.Result.{OnErr, is_err}
+use Rattle.thorin_builder.specs.StateView.{in_progress_of}
+use Rattle.thorin_builder.proofs.in_progress.InProgressDwarfPackage.add.Goals.{then-is_err, else-is_err}
+use Rattle.thorin_builder.proofs.in_progress.InProgressDwarfPackage.add.Goals as goal
+
+any_result : {T E : Type 0} (P : Type 0) (r : Result T E) → P → OnErr r P
+any_result P (Ok x) p = tt
+any_result P (Err e) p = p
+
+no_err : {T E : Type 0} (P : Type 0) (r : Result T E) → is_err r ≡ false → OnErr r P
+no_err P (Ok x) h = tt
+no_err P (Err e) h = absurd (true≢false h)
+
+pub returns-clause-err : goal.returns-clause-err
+returns-clause-err c = elim c.if-is_err.branch [
+  | then-is_err w ↦
+      let p = in_progress_of c.args.self.now in
+      any_result _ c.try_add-added.result (rw w.self-is (w.restore.ensures p c.try_add-added.ensures.extends c.in_ok-mark.ensures.mark))
+  | else-is_err w ↦ no_err _ c.try_add-added.result (search (rules, c.is_err.ensures, w.if-is_err))
+]

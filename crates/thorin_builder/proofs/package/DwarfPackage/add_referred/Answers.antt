@@ -1,0 +1,32 @@
+use Rattle.std.proofs.Common.{refl, rules, Ok, Err, []}
+use Rattle.thorin_faults.specs.declared.fault.InputError.TheVariants.{Io, Memory}
+use Rattle.thorin_builder.specs.Taking.{accepted_of}
+use Rattle.thorin_builder.proofs.Running.{passed-over, not-passed-over}
+use Rattle.thorin_builder.proofs.package.DwarfPackage.add_referred.Goals.{in-Skip, in-Error}
+use Rattle.thorin_builder.proofs.package.DwarfPackage.add_referred.Goals as goal
+
+pub returns-in-Ok-clause-taken : goal.returns-in-Ok-clause-taken
+returns-in-Ok-clause-taken g c = record {
+  read = Ok c.in-Ok.bytes.now;
+  within = rw (← c.self.view_is) c.in-Ok.ensures.offered;
+  accepted = accepted_of c.add_object_bytes.result c.in-Ok.bytes.now;
+  taken = (record { meaning = c.add_object_bytes.ensures.meaning; joins = c.add_object_bytes.ensures.joins; unchanged = c.add_object_bytes.ensures.err }, refl);
+}
+
+pub returns-after-missing-clause-taken : goal.returns-after-missing-clause-taken
+returns-after-missing-clause-taken g c = record {
+  read = Err (Io c.in-Err-Io.e);
+  within = rw (← c.self.view_is) (search (rules, c.in-Err-Io.ensures.offered, c.in-Err-Io.e-is, c.in-Err-Io.field-0-is));
+  accepted = [];
+  taken = (
+    elim c.match-missing.branch [
+      | in-Skip w ↦ passed-over c.args.missing c.in-Err-Io.e c.match-missing.result (search (rules, w.in-Skip)) (search (rules, w.result-is))
+      | in-Error w ↦ not-passed-over c.args.missing c.in-Err-Io.e c.match-missing.result (search (rules, w.in-Error)) (search (rules, w.result-is))
+    ],
+    refl,
+    refl,
+  );
+}
+
+pub returns-in-Err-Memory-clause-taken : goal.returns-in-Err-Memory-clause-taken
+returns-in-Err-Memory-clause-taken g c = record { read = Err Memory; within = tt; accepted = []; taken = (refl, refl, refl) }

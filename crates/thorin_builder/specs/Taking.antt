@@ -1,0 +1,159 @@
+-- What comes of an input: its bytes taken, those at a path, those that an executable names.
+use Rattle.std.specs.Prelude.{◌≡◌, ◌≢◌, ℕ, Bool, true, false, List, [], ◌∷◌, ◌++◌, take, length, Option, Some, None, Result, Ok, Err, OnOk, OnErr, ◌⊎◌}
+use Rattle.std.specs.List.{list_any}
+use Rattle.std.specs.Path.{path_bytes}
+use Rattle.std.specs.declared.io.Error.{Error as IoError}
+use Rattle.dwp_elf.specs.FileText.{Object as File, file_text}
+use Rattle.dwp_elf.specs.Contents.{KindsDiffer}
+use Rattle.dwp_elf.specs.Numbers.{Fits}
+use Rattle.dwp_elf.specs.Written.{written_elf}
+use Rattle.dwp_elf_read.specs.Elf.{elf_of}
+use Rattle.dwp_elf_read.specs.declared.fault.WriteError.TheVariants as writer
+use Rattle.thorin_faults.specs.declared.fault.Error.{Error}
+use Rattle.thorin_faults.specs.declared.fault.Error.TheVariants as error
+use Rattle.thorin_faults.specs.declared.fault.InputError.{InputError}
+use Rattle.thorin_faults.specs.declared.fault.InputError.TheVariants as input_error
+use Rattle.thorin_faults.specs.Fault.{Fault, fault_of, ObjectWrite, Memory}
+use Rattle.thorin_faults.specs.declared.fault.MissingReferencedObjectBehaviour.{MissingReferencedObjectBehaviour}
+use Rattle.thorin_faults.specs.declared.fault.MissingReferencedObjectBehaviour.TheVariants as behaviour
+use Rattle.thorin_executable.specs.Skeletons.{skeletons_of}
+use Rattle.dwp_table.specs.declared.object.DwarfObject.{DwarfObject}
+use Rattle.dwp_table.specs.declared.object.DwarfObject.TheVariants.{Compilation, TypeUnit}
+use Rattle.thorin_faults.specs.Answers.{Gives, MemoryAside}
+use Rattle.thorin_faults.specs.Sessions.{input_fault}
+use Rattle.thorin_builder.specs.Builder.{State, names_in, taken, finish_test, IsFinishedState}
+use Rattle.thorin_builder.specs.Join.{Joins}
+use Rattle.thorin_builder.specs.Names.{same_name, with_name}
+use Rattle.thorin_builder.specs.Represents.{units_in}
+
+-- what came of a call: nothing, or its error
+abbrev pub Outcome : Type 0
+Outcome = Result (Unit {0}) Error
+
+-- an input's bytes were taken, and their units joined; or they were refused for their first fault, want of memory aside, and then
+-- nothing changed
+pub record Takes (bytes : List ℕ) (old : State) (outcome : Outcome) (new : State) : Type 0 where
+  pub meaning : Gives (λ _. new) outcome (taken bytes old)
+  pub joins : OnOk outcome (Joins bytes (units_in old) (units_in new))
+  pub unchanged : OnErr outcome (new ≡ old)
+
+-- the inputs that were accepted: these bytes, or none where they were refused
+abbrev pub accepted_of : Outcome → List ℕ → List (List ℕ)
+accepted_of (Ok x) bytes = bytes ∷ []
+accepted_of (Err e) bytes = []
+
+-- a read answered what may be answered there, want of memory aside
+abbrev pub MayRead : (Result (List ℕ) IoError → Type 0) → Result (List ℕ) InputError → Type 0
+MayRead offered (Ok bytes) = offered (Ok bytes)
+MayRead offered (Err (input_error.Io cause)) = offered (Err cause)
+MayRead offered (Err input_error.Memory) = Unit {0}
+
+-- what a read gave was taken; where it failed, that is the outcome, and nothing changed
+abbrev pub TakesRead : Result (List ℕ) InputError → State → Outcome → State → List (List ℕ) → Type 0
+TakesRead (Ok bytes) old outcome new accepted = Takes bytes old outcome new × (accepted ≡ accepted_of outcome bytes)
+TakesRead (Err e) old outcome new accepted = (outcome ≡ Err (input_fault e)) × (new ≡ old) × (accepted ≡ [])
+
+-- the same for the object at a path, of which that may be read
+pub record TakesFile (offered : Result (List ℕ) IoError → Type 0) (old : State) (outcome : Outcome) (new : State) : Type 0 where
+  pub read : Result (List ℕ) InputError
+  pub within : MayRead offered read
+  pub accepted : List (List ℕ)
+  pub taken : TakesRead read old outcome new accepted
+
+-- ---- executables
+
+-- the units that executables refer to, with one more; a type unit isn't looked for when a package is finished
+abbrev pub with_target : DwarfObject → State → State
+with_target (Compilation id) state = record state { targets = with_name state.targets (Compilation id) }
+with_target (TypeUnit signature) state = state
+
+-- a compilation unit that the package has needs no object
+abbrev pub is_there : DwarfObject → State → Bool
+is_there (Compilation id) state = list_any (same_name (Compilation id)) (names_in state.begun)
+is_there (TypeUnit signature) state = false
+
+-- an object that an executable refers to can't be read: it is passed over, or a fault
+abbrev pub PassesOver : MissingReferencedObjectBehaviour → IoError → Outcome → Type 0
+PassesOver behaviour.Skip cause outcome = outcome ≡ Ok tt
+PassesOver behaviour.Error cause outcome = outcome ≡ Err (error.ReadInput cause)
+
+-- what a read of such an object gave was taken; a failed read alone may be passed over
+abbrev pub TakesReferred : MissingReferencedObjectBehaviour → Result (List ℕ) InputError → State → Outcome → State → List (List ℕ) → Type 0
+TakesReferred missing (Ok bytes) old outcome new accepted = Takes bytes old outcome new × (accepted ≡ accepted_of outcome bytes)
+TakesReferred missing (Err (input_error.Io cause)) old outcome new accepted = PassesOver missing cause outcome × (new ≡ old) × (accepted ≡ [])
+TakesReferred missing (Err input_error.Memory) old outcome new accepted = (outcome ≡ Err error.Memory) × (new ≡ old) × (accepted ≡ [])
+
+-- the same for the object at a path, of which that may be read
+pub record TakesReferredFile (offered : Result (List ℕ) IoError → Type 0) (missing : MissingReferencedObjectBehaviour) (old : State) (outcome : Outcome) (new : State) : Type 0 where
+  pub read : Result (List ℕ) InputError
+  pub within : MayRead offered read
+  pub accepted : List (List ℕ)
+  pub taken : TakesReferred missing read old outcome new accepted
+
+-- a unit that isn't there was among the targets, and then its object was taken
+pub record TakesAbsent (offer : List ℕ → Result (List ℕ) IoError → Type 0) (missing : MissingReferencedObjectBehaviour) (named : DwarfObject × List ℕ) (old : State) (outcome : Outcome) (new : State) (accepted : List (List ℕ)) : Type 0 where
+  pub absent : is_there named.0 old ≡ false
+  pub file : TakesReferredFile (offer named.1) missing (with_target named.0 old) outcome new
+  pub accepted_is : accepted ≡ file.accepted
+
+-- a unit that an executable refers to, with the path of its object: it is there; or its object was taken; or memory ran out before
+abbrev pub TakesSkeleton : (List ℕ → Result (List ℕ) IoError → Type 0) → MissingReferencedObjectBehaviour → DwarfObject × List ℕ → State → Outcome → State → List (List ℕ) → Type 0
+TakesSkeleton offer missing named old outcome new accepted =
+    ((is_there named.0 old ≡ true) × (outcome ≡ Ok tt) × (new ≡ old) × (accepted ≡ []))
+    ⊎ (TakesAbsent offer missing named old outcome new accepted
+    ⊎ ((outcome ≡ Err error.Memory) × (new ≡ old) × (accepted ≡ [])))
+
+-- what comes of a list's end: nothing, or the fault that ended it
+abbrev pub EndsWith : Option Fault → Outcome → Type 0
+EndsWith None outcome = outcome ≡ Ok tt
+EndsWith (Some fault) (Ok x) = ⊥
+EndsWith (Some fault) (Err e) = fault_of e ≡ fault
+
+-- a state on the way, the bytes that were accepted up to it, and those after it
+pub record Step : Type 0 where
+  pub middle : State
+  pub here : List (List ℕ)
+  pub later : List (List ℕ)
+
+-- after the first of a list: a refusal ends it there, with all that came before
+abbrev pub GoesOn : Outcome → Step → Outcome → State → List (List ℕ) → Type 0 → Type 0
+GoesOn (Ok x) s outcome new accepted rest = rest × (accepted ≡ s.here ++ s.later)
+GoesOn (Err e) s outcome new accepted rest = (outcome ≡ Err e) × (new ≡ s.middle) × (accepted ≡ s.here)
+
+-- the units that an executable refers to, in order, up to the first refusal
+abbrev pub TakesSkeletons : (List ℕ → Result (List ℕ) IoError → Type 0) → MissingReferencedObjectBehaviour → List (DwarfObject × List ℕ) → Option Fault → State → Outcome → State → List (List ℕ) → Type 0
+TakesSkeletons offer missing [] fault old outcome new accepted = EndsWith fault outcome × (new ≡ old) × (accepted ≡ [])
+TakesSkeletons offer missing (named ∷ rest) fault old outcome new accepted =
+    (s : Step) × (first : Outcome) × TakesSkeleton offer missing named old first s.middle s.here
+    × GoesOn first s outcome new accepted (TakesSkeletons offer missing rest fault s.middle outcome new s.later)
+
+-- each of these was taken
+abbrev pub AllTaken : (List ℕ → Result (List ℕ) IoError → Type 0) → MissingReferencedObjectBehaviour → List (DwarfObject × List ℕ) → State → State → List (List ℕ) → Type 0
+AllTaken offer missing [] old new accepted = (new ≡ old) × (accepted ≡ [])
+AllTaken offer missing (named ∷ rest) old new accepted =
+    (s : Step) × TakesSkeleton offer missing named old (Ok tt) s.middle s.here × AllTaken offer missing rest s.middle new s.later × (accepted ≡ s.here ++ s.later)
+
+-- each was taken, or those up to the first refusal, whatever ends the list
+abbrev pub TakesEach : (List ℕ → Result (List ℕ) IoError → Type 0) → MissingReferencedObjectBehaviour → List (DwarfObject × List ℕ) → State → Outcome → State → List (List ℕ) → Type 0
+TakesEach offer missing list old (Ok x) new accepted = AllTaken offer missing list old new accepted
+TakesEach offer missing list old (Err e) new accepted = (fault : Option Fault) → TakesSkeletons offer missing list fault old (Err e) new accepted
+
+-- the units that an executable's bytes refer to and the fault that ends their list; where memory ran out, the first of them
+pub record TakesNamed (offer : List ℕ → Result (List ℕ) IoError → Type 0) (missing : MissingReferencedObjectBehaviour) (bytes : List ℕ) (old : State) (outcome : Outcome) (new : State) (accepted : List (List ℕ)) : Type 0 where
+  pub named : List (DwarfObject × List ℕ)
+  pub fault : Option Fault
+  pub are : fault ≢ Some Memory → skeletons_of bytes ≡ (named, fault)
+  pub front : take (length named) (skeletons_of bytes).0 ≡ named
+  pub taken : TakesSkeletons offer missing named fault old outcome new accepted
+
+-- what a read of an executable gave was taken
+abbrev pub TakesExecutableRead : (List ℕ → Result (List ℕ) IoError → Type 0) → MissingReferencedObjectBehaviour → Result (List ℕ) InputError → State → Outcome → State → List (List ℕ) → Type 0
+TakesExecutableRead offer missing (Ok bytes) old outcome new accepted = TakesNamed offer missing bytes old outcome new accepted
+TakesExecutableRead offer missing (Err e) old outcome new accepted = (outcome ≡ Err (input_fault e)) × (new ≡ old) × (accepted ≡ [])
+
+-- the same for the executable at a path, of which that may be read
+pub record TakesExecutable (offer : List ℕ → Result (List ℕ) IoError → Type 0) (path : List ℕ) (missing : MissingReferencedObjectBehaviour) (old : State) (outcome : Outcome) (new : State) : Type 0 where
+  pub read : Result (List ℕ) InputError
+  pub within : MayRead (offer path) read
+  pub accepted : List (List ℕ)
+  pub taken : TakesExecutableRead offer missing read old outcome new accepted

@@ -1,0 +1,28 @@
+-- What the units that an input adds, and what they are added to, stand for.
+use Rattle.std.specs.Prelude.{map}
+use Rattle.thorin_builder.specs.declared.units.NewUnit.{NewUnit}
+use Rattle.thorin_builder.specs.declared.units.NewUnits.{NewUnits}
+use Rattle.thorin_builder.specs.declared.units.Adding.{Adding}
+use Rattle.thorin_builder.specs.declared.units.Met.{Met}
+use Rattle.dwp_bytes.specs.Input.{Input}
+use Rattle.dwp_bytes.specs.declared.slice.SliceReader.{SliceReader}
+use Rattle.thorin_builder.specs.NewUnits as spec
+use Rattle.thorin_builder.specs.State.{held_units}
+use Rattle.thorin_builder.specs.StateView.{in_progress_of}
+use Rattle.thorin_builder.specs.View.{source}
+
+abbrev pub new_unit : NewUnit → spec.NewUnit
+new_unit u = record { place = u.place; bytes = u.bytes.now; row = u.row }
+
+abbrev pub new_of : NewUnits → spec.New
+new_of n = record { units = map (λ e. (e.0, new_unit e.1)) n.units.entries; differing = map (λ s. s.0) n.differing.items }
+
+abbrev pub adding_of : Adding → spec.Adding
+adding_of a = record { source = source a.source.now; whole = a.whole.row; held = held_units (in_progress_of a.package.now) }
+
+abbrev pub met_of : Met → spec.Met
+met_of m = record { info = m.info; types = m.types }
+
+-- what a reader of a section has left
+abbrev pub left_in : SliceReader → Input
+left_in r = record { order = r.order; relocated = λ place stored. stored; place = r.place; bytes = r.bytes.now }

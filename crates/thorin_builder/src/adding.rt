@@ -1,0 +1,123 @@
+//! What an object's bytes make of a package.
+
+ghost use Rattle.std.specs.Prelude.{◌≡◌, Ok, OnErr, IfOk};
+ghost use Rattle.dwp_elf_read.specs.View.{elf};
+ghost use Rattle.thorin_faults.specs.Answers.{Gives};
+ghost use Rattle.thorin_builder.specs.Builder as spec;
+ghost use Rattle.thorin_builder.specs.Encodings.{file_encoding, own_encoding};
+ghost use Rattle.thorin_builder.specs.StateView.{in_progress_of, begun_of};
+ghost use Rattle.thorin_builder.specs.View as view;
+
+use crate::in_progress::InProgressDwarfPackage;
+use crate::object::{InputObject, has_info, opened};
+use crate::source::{Indexes, Source};
+use dwp_base::Endianness;
+use dwp_dwarf::Encoding;
+use dwp_elf_read::ElfFile;
+use std::alloc::Global;
+use thorin_faults::Error;
+
+// A package of the class, machine and byte order of its first input.
+fn begun_by(alloc: Global, file: &ElfFile<'_>) -> InProgressDwarfPackage
+    ensures { in_progress_of result ≡ spec.begun_by (elf file.now) }
+{
+    InProgressDwarfPackage::new(alloc, file.class(), file.machine(), file.endianness())
+}
+
+// Whether two byte orders are the same.
+fn is_same_order(a: Endianness, b: Endianness) -> bool
+    ensures { result ≡ spec.same_order a b }
+{
+    match (a, b) {
+        (Endianness::Little, Endianness::Little) | (Endianness::Big, Endianness::Big) => true,
+        _ => false,
+    }
+}
+
+// `MixedInputEncodings` where the package has another byte order.
+#[tactic(auto, unfolding(crate::specs::Builder::order_test))]
+fn test_order(in_progress: &Option<InProgressDwarfPackage>, order: Endianness) -> Result<(), Error>
+    ensures { Gives (λ _. tt) result (spec.order_test order (begun_of in_progress.now)) }
+{
+    match in_progress {
+        None => Ok(()),
+        Some(package) => {
+            if is_same_order(package.endianness(), order) {
+                Ok(())
+            } else {
+                Err(Error::MixedInputEncodings)
+            }
+        }
+    }
+}
+
+// Adds the units of an input to the package, which it may begin.
+#[tactic(auto, unfolding(crate::specs::Builder::with_source_or_new))]
+fn add_source(
+    alloc: Global,
+    in_progress: &mut Option<InProgressDwarfPackage>,
+    file: &ElfFile<'_>,
+    source: &Source<'_>,
+) -> Result<(), Error>
+    ensures meaning { Gives (λ _. begun_of in_progress.new) result (spec.with_source_or_new (elf file.now) (view.source source.now) (begun_of in_progress.old)) }
+    ensures err { OnErr result (begun_of in_progress.new ≡ begun_of in_progress.old) }
+{
+    match in_progress {
+        Some(package) => package.add(source),
+        None => {
+            let mut package = begun_by(alloc, file);
+            package.add(source)?;
+            *in_progress = Some(package);
+            Ok(())
+        }
+    }
+}
+
+// Adds an input with units, and gives the one encoding of all of them, where there is one.
+#[tactic(auto, unfolding(crate::specs::Builder::with_units, crate::specs::Encodings::file_encoding))]
+fn add_units(
+    alloc: Global,
+    in_progress: &mut Option<InProgressDwarfPackage>,
+    file: &ElfFile<'_>,
+) -> Result<Option<Encoding>, Error>
+    ensures own { IfOk result (λ own. file_encoding (elf file.now) ≡ Ok own) }
+    ensures meaning { Gives (λ _. begun_of in_progress.new) result (spec.with_units (elf file.now) (begun_of in_progress.old)) }
+    ensures err { OnErr result (begun_of in_progress.new ≡ begun_of in_progress.old) }
+{
+    let object = InputObject::read(alloc, file)?;
+    let encoding = object.encoding()?;
+    test_order(in_progress, object.order)?;
+    let indexes = Indexes::read(&object, encoding)?;
+    let source = Source {
+        object,
+        encoding,
+        indexes,
+    };
+    add_source(alloc, in_progress, file, &source)?;
+    Ok(source.object.one_encoding(encoding))
+}
+
+/// Adds an input: its units that aren't there, with all that belongs to them; without an info section
+/// it only begins the package. Gives the one encoding of all its units, where it is a plain object and
+/// there is one. The first fault from left to right: of the file's kind, the ELF file, the used sections,
+/// the first unit, the byte order, the indexes, the kinds of sections and the string offsets, the
+/// abbreviations, the units. An `Err` leaves the package as it was.
+#[tactic(auto, unfolding(crate::specs::Builder::with_input, crate::specs::Encodings::own_encoding))]
+pub(crate) fn add_input(
+    alloc: Global,
+    in_progress: &mut Option<InProgressDwarfPackage>,
+    bytes: &[u8],
+) -> Result<Option<Encoding>, Error>
+    ensures own { IfOk result (λ own. own_encoding bytes.now ≡ Ok own) }
+    ensures meaning { Gives (λ _. begun_of in_progress.new) result (spec.with_input bytes.now (begun_of in_progress.old)) }
+    ensures err { OnErr result (begun_of in_progress.new ≡ begun_of in_progress.old) }
+{
+    let file = opened(bytes)?;
+    if has_info(&file) {
+        return add_units(alloc, in_progress, &file);
+    }
+    if in_progress.is_none() {
+        *in_progress = Some(begun_by(alloc, &file));
+    }
+    Ok(None)
+}

@@ -1,0 +1,74 @@
+//! The units that executables refer to and that a package lacks.
+
+ghost use Rattle.std.specs.Prelude.{◌≡◌, ◌∷◌, [], drop, filter, MatchOption};
+ghost use Rattle.thorin_builder.specs.Builder.{is_missing};
+
+use dwp_table::DwarfObject;
+use indexmap::IndexSet;
+
+/// The units that executables refer to and that aren't contained, in order of insertion.
+#[derive(Drop)]
+pub struct MissingTargets<'a> {
+    contained: &'a IndexSet<DwarfObject>,
+    targets: &'a IndexSet<DwarfObject>,
+    next: usize,
+}
+
+impl<'a> MissingTargets<'a> {
+    ghost use Rattle.std.specs.Prelude.{◌≡◌, filter};
+    ghost use Rattle.thorin_builder.specs.Builder.{is_missing};
+    ghost use Rattle.thorin_builder.specs.Missing.{missing_left};
+
+    /// Those of these targets.
+    pub(crate) fn new(
+        contained: &'a IndexSet<DwarfObject>,
+        targets: &'a IndexSet<DwarfObject>,
+    ) -> MissingTargets<'a>
+        ensures { missing_left result ≡ filter (is_missing contained.now.keys) targets.now.keys }
+    {
+        MissingTargets {
+            contained,
+            targets,
+            next: 0,
+        }
+    }
+}
+
+impl Iterator for MissingTargets<'_> {
+    ghost use Rattle.std.specs.Iterator.{YieldsFirst, item_count};
+    ghost use Rattle.thorin_builder.specs.Missing.{missing_left};
+
+    type Item = DwarfObject;
+
+    ghost next_gives = { YieldsFirst missing_left };
+
+    ghost remaining = { item_count missing_left };
+
+    fn next(&mut self) -> Option<DwarfObject> {
+        match first_missing(self.contained, self.targets, self.next) {
+            Some((target, next)) => {
+                self.next = next;
+                Some(target)
+            }
+            None => None,
+        }
+    }
+}
+
+// The first unit from a place on that isn't contained, and the place after it.
+fn first_missing(
+    contained: &IndexSet<DwarfObject>,
+    targets: &IndexSet<DwarfObject>,
+    start: usize,
+) -> Option<(DwarfObject, usize)>
+    ensures { MatchOption result (filter (is_missing contained.now.keys) (drop start targets.now.keys) ≡ []) (λ s. filter (is_missing contained.now.keys) (drop start targets.now.keys) ≡ s.0 ∷ filter (is_missing contained.now.keys) (drop s.1 targets.now.keys)) }
+{
+    for place in start..targets.len() {
+        if let Some(target) = targets.get_index(place) {
+            if !contained.contains(target) {
+                return Some((*target, place + 1));
+            }
+        }
+    }
+    None
+}

@@ -1,0 +1,340 @@
+//! The package builder.
+
+ghost use Rattle.std.specs.Prelude.{◌≡◌, ℕ, List, map, filter, IfOk, IfErr, OnOk, OnErr};
+ghost use Rattle.thorin_faults.specs.Answers.{Gives};
+ghost use Rattle.std.specs.Path.{path_bytes};
+ghost use Rattle.thorin_builder.specs.Builder as spec;
+ghost use Rattle.thorin_builder.specs.Builder.{IsFinishedState};
+ghost use Rattle.thorin_builder.specs.Join.{Joins, IsPackageOnceWritten};
+ghost use Rattle.thorin_builder.specs.Meaning.{keys};
+ghost use Rattle.thorin_builder.specs.Represents.{units_in};
+ghost use Rattle.thorin_builder.specs.Missing.{missing_left};
+ghost use Rattle.thorin_builder.specs.Taking.{TakesFile, TakesExecutable, TakesNamed, TakesEach, TakesSkeleton, TakesReferredFile, with_target, is_there};
+ghost use Rattle.thorin_executable.specs.View.{named};
+
+use crate::adding::add_input;
+use crate::encodings::common;
+use crate::in_progress::InProgressDwarfPackage;
+use crate::joins::inputs_are_joined;
+use crate::laws::finished_packages_are_read;
+use crate::missing::MissingTargets;
+use dwp_bytes::RelocationEntry;
+use dwp_dwarf::Encoding;
+use dwp_elf::WritableObject;
+use dwp_table::{Bucketable, DebugTypeSignature, DwarfObject};
+use indexmap::IndexSet;
+use std::alloc::Global;
+use std::fmt;
+use std::marker::{Model, PhantomData};
+use std::path::Path;
+use thorin_executable::{Skeleton, SkeletonList, skeletons};
+use thorin_faults::{Error, InputError, MissingReferencedObjectBehaviour, Session};
+
+/// A package that is made of input objects, one after another. What inputs hold is kept by a session.
+#[derive(Drop)]
+pub struct DwarfPackage<'output, 'session: 'output, Sess: Session<RelocationEntry>> {
+    alloc: Global,
+    session: &'session Sess,
+    in_progress: Option<InProgressDwarfPackage>,
+    // Empty: the names that are contained where no input has begun a package.
+    no_units: IndexSet<DwarfObject>,
+    targets: IndexSet<DwarfObject>,
+    // The one encoding of all units of the inputs, where each is a plain object that added a unit.
+    own: Option<Encoding>,
+    output: PhantomData<&'output ()>,
+}
+
+impl<'output, 'session: 'output, Sess: Session<RelocationEntry>> Model
+    for DwarfPackage<'output, 'session, Sess> {
+    ghost use Rattle.thorin_builder.specs.Building.{Building};
+
+    ghost Value = { Building Sess };
+
+    ghost use Rattle.thorin_builder.specs.BuilderView.{building};
+    ghost use Rattle.std.specs.Prelude.{◌≡◌, []};
+    ghost use Rattle.thorin_builder.specs.Represents.{IsSoundBegun};
+    ghost use Rattle.thorin_builder.specs.StateView.{begun_of};
+
+    ghost view = { building };
+
+    ghost invariant = { λ p. (p.no_units.keys ≡ []) × IsSoundBegun (begun_of p.in_progress) };
+}
+
+impl<'output, 'session: 'output, Sess: Session<RelocationEntry>> fmt::Debug
+    for DwarfPackage<'output, 'session, Sess> {
+    fn fmt<W: fmt::Write>(&self, f: &mut fmt::Formatter<W>) -> fmt::Result {
+        f.debug_struct("DwarfPackage")
+            .field("in_progress", &self.in_progress)
+            .field("target_count", &self.targets.len())
+            .finish()
+    }
+}
+
+impl<'output, 'session: 'output, Sess: Session<RelocationEntry>> DwarfPackage<
+    'output,
+    'session,
+    Sess,
+> {
+    /// A package that nothing has begun. It takes no memory.
+    pub fn new(alloc: Global, session: &'session Sess) -> Self
+        ensures session { result.session ≡ session.now }
+        ensures state { result.state ≡ spec.start }
+    {
+        DwarfPackage {
+            alloc,
+            session,
+            in_progress: None,
+            no_units: IndexSet::new(alloc),
+            targets: IndexSet::new(alloc),
+            own: None,
+            output: PhantomData,
+        }
+    }
+
+    /// Adds the object that the session reads at a path: `ReadInput` where it can't, `Memory` where the
+    /// session has none, else as `add_object_bytes`. An `Err` leaves the package as it was.
+    pub fn add_input_object(&mut self, path: Path<'_>) -> Result<(), Error>
+        ensures taken { TakesFile (Sess.offer self.old.session (path_bytes path.entry)) self.old.state result self.new.state }
+        ensures session { self.new.session ≡ self.old.session }
+    {
+        match self.session.read_input(path) {
+            Ok(bytes) => self.add_object_bytes(bytes),
+            Err(InputError::Io(e)) => Err(Error::ReadInput(e)),
+            Err(InputError::Memory) => Err(Error::Memory),
+        }
+    }
+
+    /// Adds an object or a finished package: its units that aren't contained, with all that belongs to
+    /// them (DWARF 5, 7.3.5).
+    /// An object without split units' info section adds nothing and begins the package. An `Err` leaves
+    /// the package as it was; it is `Memory`, or the first fault from left to right: of the file's kind
+    /// (`ParseFileKind`, `InvalidInputKind`), the ELF file (`ParseObjectFile`), the used sections
+    /// (`DecompressData`, `ObjectRead`), the first unit (`ParseUnitHeader`, `NoCompilationUnits`), the
+    /// byte order (`MixedInputEncodings`), both indexes (`ParseIndex`, `IncompatibleIndexVersion`), each
+    /// section's kind and string offsets (`RepeatedSection`, `SectionOutsideFormat`,
+    /// `MissingRequiredSection`, `BadStringOffsets`, `OverlappingStringOffsets`, `OffsetAtIndex`,
+    /// `StrAtOffset`, `NumberTooLarge`), the abbreviations (`MissingRequiredSection`), the units in file
+    /// order: of a package a second section of units (`MultipleDebugInfoSection`,
+    /// `MultipleDebugTypesSection`), `ParseUnitHeader`, what `dwo_identifier_of_unit` answers,
+    /// `NotSplitUnit`, `DuplicateUnit`, `EmptyUnit`, and of a package `UnitNotInIndex`, `RowNotInIndex`,
+    /// `BadContribution`, `SectionNotInRow`.
+    #[tactic(auto, unfolding(crate::specs::Builder::taken))]
+    pub fn add_object_bytes(&mut self, bytes: &[u8]) -> Result<(), Error>
+        ensures meaning { Gives (λ _. self.new.state) result (spec.taken bytes.now self.old.state) }
+        ensures joins { OnOk result (Joins bytes.now (units_in self.old.state) (units_in self.new.state)) }
+        ensures err { OnErr result (self.new.state ≡ self.old.state) }
+        ensures session { self.new.session ≡ self.old.session }
+    {
+        let is_first = self.in_progress.is_none();
+        let units = self.contained_units().len();
+        inputs_are_joined();
+        let encoding = add_input(self.alloc, &mut self.in_progress, bytes)?;
+        self.own = if self.contained_units().len() <= units {
+            None
+        } else if is_first {
+            encoding
+        } else {
+            common(self.own, encoding)
+        };
+        Ok(())
+    }
+
+    /// Adds the objects that the executable at a path refers to, in the order of its units: of a compilation
+    /// unit that isn't contained and of each type unit the object at the path that is named beside it. Each
+    /// such compilation unit joins the targets, which `finish` wants to be contained, before its object is
+    /// read; with `Skip` an object that can't be read is passed over.
+    ///
+    /// # Errors
+    /// `ReadInput` where the executable, or with `Error` an object, can't be read; what `skeletons` answers, at
+    /// its place in the list; what `add_object_bytes` answers of an object; `Memory`. An `Err` leaves the
+    /// objects that were accepted before and the targets, that of the refused object among them.
+    pub fn add_executable(
+        &mut self,
+        path: Path<'_>,
+        missing: MissingReferencedObjectBehaviour,
+    ) -> Result<(), Error>
+        ensures taken { TakesExecutable (Sess.offer self.old.session) (path_bytes path.entry) missing self.old.state result self.new.state }
+        ensures session { self.new.session ≡ self.old.session }
+    {
+        match self.session.read_input(path) {
+            Ok(bytes) => self.add_named(bytes, missing),
+            Err(InputError::Io(e)) => Err(Error::ReadInput(e)),
+            Err(InputError::Memory) => Err(Error::Memory),
+        }
+    }
+
+    // Adds the objects that an executable's bytes refer to.
+    fn add_named(
+        &mut self,
+        bytes: &'session [u8],
+        missing: MissingReferencedObjectBehaviour,
+    ) -> Result<(), Error>
+        ensures taken { (accepted : List (List ℕ)) × TakesNamed (Sess.offer self.old.session) missing bytes.now self.old.state result self.new.state accepted }
+        ensures session { self.new.session ≡ self.old.session }
+    {
+        let SkeletonList { units, fault } = skeletons(self.alloc, self.session, bytes);
+        let outcome = self.add_each(&units, missing);
+        if outcome.is_err() {
+            return outcome;
+        }
+        match fault {
+            Some(e) => Err(e),
+            None => Ok(()),
+        }
+    }
+
+    // Adds the objects of units that an executable refers to, up to the first refusal.
+    fn add_each(
+        &mut self,
+        units: &[Skeleton],
+        missing: MissingReferencedObjectBehaviour,
+    ) -> Result<(), Error>
+        ensures taken { (accepted : List (List ℕ)) × TakesEach (Sess.offer self.old.session) missing (map named units.now) self.old.state result self.new.state accepted }
+        ensures session { self.new.session ≡ self.old.session }
+    {
+        for skeleton in units {
+            let outcome = self.add_skeleton(skeleton, missing);
+            if outcome.is_err() {
+                return outcome;
+            }
+        }
+        Ok(())
+    }
+
+    // Adds the object of a unit that an executable refers to.
+    fn add_skeleton(
+        &mut self,
+        skeleton: &Skeleton,
+        missing: MissingReferencedObjectBehaviour,
+    ) -> Result<(), Error>
+        ensures taken { (accepted : List (List ℕ)) × TakesSkeleton (Sess.offer self.old.session) missing (named skeleton.now) self.old.state result self.new.state accepted }
+        ensures session { self.new.session ≡ self.old.session }
+    {
+        if self.is_there(skeleton.target) {
+            return Ok(());
+        }
+        self.add_target(skeleton.target)?;
+        self.add_referred(Path::new(skeleton.path.as_str()), missing)
+    }
+
+    // Whether a unit is a compilation unit that the package has.
+    fn is_there(&self, target: DwarfObject) -> bool
+        ensures { result ≡ is_there target self.now.state }
+    {
+        match target {
+            DwarfObject::Compilation(_) => self.contained_units().contains(&target),
+            DwarfObject::TypeUnit(_) => false,
+        }
+    }
+
+    // Adds a compilation unit to the targets. It refuses for memory alone, and then changes nothing.
+    fn add_target(&mut self, target: DwarfObject) -> Result<(), Error>
+        ensures target { OnOk result (self.new.state ≡ with_target target self.old.state) }
+        ensures refused { IfErr result (λ e. (e ≡ Error.Memory) × (self.new.state ≡ self.old.state)) }
+        ensures session { self.new.session ≡ self.old.session }
+    {
+        match target {
+            DwarfObject::Compilation(_) => {
+                self.targets.insert(target)?;
+                Ok(())
+            }
+            DwarfObject::TypeUnit(_) => Ok(()),
+        }
+    }
+
+    // Adds the object at a path that an executable refers to; one that can't be read may be passed over.
+    fn add_referred(
+        &mut self,
+        path: Path<'_>,
+        missing: MissingReferencedObjectBehaviour,
+    ) -> Result<(), Error>
+        ensures taken { TakesReferredFile (Sess.offer self.old.session (path_bytes path.entry)) missing self.old.state result self.new.state }
+        ensures session { self.new.session ≡ self.old.session }
+    {
+        match self.session.read_input(path) {
+            Ok(bytes) => self.add_object_bytes(bytes),
+            Err(InputError::Io(e)) => match missing {
+                MissingReferencedObjectBehaviour::Skip => Ok(()),
+                MissingReferencedObjectBehaviour::Error => Err(Error::ReadInput(e)),
+            },
+            Err(InputError::Memory) => Err(Error::Memory),
+        }
+    }
+
+    /// The object to be written. Refuses with `MissingReferencedUnit` for the first unit that an
+    /// executable refers to and that isn't contained, with `NoOutputObjectCreated` where no input
+    /// began a package, for the rows of each index with `NumberTooLarge`, `MixedInputEncodings` and
+    /// `SectionOutsideFormat`, as `write_index` does, and with `Memory`.
+    #[tactic(auto, unfolding(crate::specs::Builder::finish_test))]
+    pub fn finish(self) -> Result<WritableObject, Error>
+        ensures refusal { Gives (λ _. tt) result (spec.finish_test self.entry.state) }
+        ensures finished { IfOk result (IsFinishedState self.entry.state) }
+        ensures packaged { IfOk result (IsPackageOnceWritten (units_in self.entry.state)) }
+    {
+        let DwarfPackage {
+            alloc: _,
+            session: _,
+            in_progress,
+            no_units,
+            targets,
+            own: _,
+            output: _,
+        } = self;
+        let contained = match &in_progress {
+            Some(package) => package.names(),
+            None => &no_units,
+        };
+        finished_packages_are_read();
+        test_targets(contained, &targets)?;
+        match in_progress {
+            Some(package) => package.finish(),
+            None => Err(Error::NoOutputObjectCreated),
+        }
+    }
+
+    /// The units that the package contains, in order of acceptance. It takes no memory.
+    pub fn contained_units(&self) -> &IndexSet<DwarfObject>
+        ensures { result.now.keys ≡ keys (units_in self.now.state) }
+    {
+        match &self.in_progress {
+            Some(package) => package.names(),
+            None => &self.no_units,
+        }
+    }
+
+    /// The signatures of type units that were passed over and whose bytes differ from those of the unit
+    /// of their name that is kept, in the order of passing over, as often as it happened. It takes no
+    /// memory.
+    pub fn differing_types(&self) -> &[DebugTypeSignature]
+        ensures { map (λ s. s.0) result.now ≡ spec.differing_in self.now.state }
+    {
+        match &self.in_progress {
+            Some(package) => package.differing_types(),
+            None => &[],
+        }
+    }
+
+    /// The units that executables refer to and that aren't contained, in order of insertion. It takes no
+    /// memory.
+    pub fn missing_targets(&self) -> MissingTargets<'_>
+        ensures { missing_left result ≡ filter (spec.is_missing (spec.names_in self.now.state.begun)) self.now.state.targets }
+    {
+        MissingTargets::new(self.contained_units(), &self.targets)
+    }
+}
+
+// `MissingReferencedUnit` for the first unit that executables refer to and that isn't contained.
+#[tactic(auto, unfolding(crate::specs::Builder::targets_test))]
+fn test_targets(
+    contained: &IndexSet<DwarfObject>,
+    targets: &IndexSet<DwarfObject>,
+) -> Result<(), Error>
+    ensures { Gives (λ _. tt) result (spec.targets_test contained.now.keys targets.now.keys) }
+{
+    for target in targets.iter() {
+        if !contained.contains(target) {
+            return Err(Error::MissingReferencedUnit(target.index()));
+        }
+    }
+    Ok(())
+}

@@ -1,0 +1,289 @@
+//! A package while it is made.
+
+ghost use Rattle.std.specs.Prelude.{◌≡◌, [], map, length, take, option_map, IfOk, IfErr, OnOk, OnErr};
+ghost use Rattle.std.specs.Map.{lookup};
+ghost use Rattle.dwp_index.specs.Package.{part_of};
+ghost use Rattle.thorin_faults.specs.Answers.{Gives};
+ghost use Rattle.thorin_strings.specs.Marks.{mark_of};
+ghost use Rattle.thorin_builder.specs.Builder.{IsFinished, indexes_test, IdentifiersFit, rows_of};
+ghost use Rattle.thorin_builder.specs.Names.{same_name, is_compilation};
+ghost use Rattle.thorin_builder.specs.State as spec;
+ghost use Rattle.thorin_builder.specs.StateView.{in_progress_of, mark_in};
+ghost use Rattle.thorin_builder.specs.UnitView.{new_unit, new_of};
+ghost use Rattle.thorin_builder.specs.View as view;
+
+use crate::growing::{content, lengths, put, restore};
+use crate::in_progress::InProgressDwarfPackage;
+use crate::parts::{parts_of, put_parts};
+use crate::rows::Whole;
+use crate::source::Source;
+use crate::units::{Adding, NewUnit, NewUnits};
+use dwp_base::{Class, Contribution, Endianness, SectionKind};
+use dwp_dwarf::UnitSection;
+use dwp_elf::WritableObject;
+use dwp_table::{Bucketable, DebugTypeSignature, DwarfObject};
+use indexmap::IndexSet;
+use std::alloc::Global;
+use thorin_faults::Error;
+use thorin_parts::{IndexEntry, write_index};
+use thorin_strings::{PackageStringTable, TableMark};
+
+/// How much of a package there was, to go back to.
+#[derive(Drop)]
+struct Mark {
+    /// The length of each section, in their order.
+    lengths: Vec<usize>,
+    strings: TableMark,
+    rows: usize,
+    differing: usize,
+}
+
+// The section of a place.
+fn kind_at(place: UnitSection) -> SectionKind
+    ensures { result ≡ spec.kind_at place }
+{
+    match place {
+        UnitSection::Info => SectionKind::Info,
+        UnitSection::Types => SectionKind::Types,
+    }
+}
+
+// The bytes of a range of a section's content; none where it is absent or outside.
+fn part_of(content: &[u8], range: Option<Contribution>) -> &[u8]
+    ensures { result.now ≡ part_of content.now range }
+{
+    let Some(range) = range else {
+        return &[];
+    };
+    let size = content.len() as u64;
+    if range.offset.0 > size || size - range.offset.0 < range.size {
+        return &[];
+    }
+    let start = range.offset.0 as usize;
+    &content[start..start + range.size as usize]
+}
+
+// The bytes of the unit of a row: its range of types, where it is a type unit and has one, else of info.
+fn unit_bytes<'p>(object: &'p WritableObject, row: &IndexEntry) -> &'p [u8]
+    ensures { result.now ≡ spec.unit_bytes object.now.contents row.now }
+{
+    match (row.id, row.debug_types) {
+        (DwarfObject::TypeUnit(_), Some(range)) => {
+            part_of(content(object, SectionKind::Types), Some(range))
+        }
+        _ => part_of(content(object, SectionKind::Info), row.debug_info),
+    }
+}
+
+impl InProgressDwarfPackage {
+    /// A package with nothing in it, for files of this class, machine and byte order.
+    pub(crate) fn new(
+        alloc: Global,
+        class: Class,
+        machine: u16,
+        order: Endianness,
+    ) -> InProgressDwarfPackage
+        ensures { in_progress_of result ≡ spec.empty class machine order }
+    {
+        InProgressDwarfPackage {
+            alloc,
+            object: WritableObject::new(alloc, class, machine, order),
+            strings: PackageStringTable::new(alloc),
+            names: IndexSet::new(alloc),
+            rows: Vec::new(alloc),
+            differing: Vec::new(alloc),
+        }
+    }
+
+    /// The byte order of the package.
+    pub(crate) fn endianness(&self) -> Endianness
+        ensures { result ≡ (in_progress_of self.now).file.order }
+    {
+        self.object.endianness()
+    }
+
+    /// The names of its units, in order of acceptance.
+    pub(crate) fn names(&self) -> &IndexSet<DwarfObject>
+        ensures { result.now.keys ≡ spec.names_of (in_progress_of self.now) }
+    {
+        &self.names
+    }
+
+    /// The signatures of type units that were passed over and differ from those that are kept.
+    pub(crate) fn differing_types(&self) -> &[DebugTypeSignature]
+        ensures { map (λ s. s.0) result.now ≡ (in_progress_of self.now).differing }
+    {
+        &self.differing
+    }
+
+    /// The bytes of the unit of a name.
+    pub(crate) fn bytes_of(&self, name: DwarfObject) -> Option<&[u8]>
+        ensures { option_map (λ bytes. bytes.now) result ≡ lookup (same_name name) (spec.held_units (in_progress_of self.now)) }
+    {
+        let Some(place) = self.names.get_index_of(&name) else {
+            return None;
+        };
+        match self.rows.get(place) {
+            Some(row) => Some(unit_bytes(&self.object, row)),
+            None => Some(&[]),
+        }
+    }
+
+    /// Adds the units of an input with all that belongs to them. An `Err` leaves the package as it was.
+    pub(crate) fn add(&mut self, source: &Source<'_>) -> Result<(), Error>
+        ensures meaning { Gives (λ _. in_progress_of self.new) result (spec.with_source (view.source source.now) (in_progress_of self.old)) }
+        ensures err { OnErr result (in_progress_of self.new ≡ in_progress_of self.old) }
+    {
+        let mark = self.mark()?;
+        let added = self.try_add(source);
+        if added.is_err() {
+            self.restore(&mark);
+        }
+        added
+    }
+
+    // The same, but an `Err` may leave more than there was.
+    #[tactic(auto, unfolding(crate::specs::State::with_source, crate::specs::State::abbreviations_test))]
+    fn try_add(&mut self, source: &Source<'_>) -> Result<(), Error>
+        ensures meaning { Gives (λ _. in_progress_of self.new) result (spec.with_source (view.source source.now) (in_progress_of self.old)) }
+        ensures extends { spec.Extends (in_progress_of self.old) (in_progress_of self.new) }
+    {
+        let alloc = self.alloc;
+        let parts = parts_of(alloc, source, &mut self.strings)?;
+        if !source.object.has_abbreviations {
+            return Err(Error::MissingRequiredSection(SectionKind::Abbrev.name()));
+        }
+        let whole = Whole::of(source.encoding, &self.object, &parts)?;
+        let adding = Adding {
+            source,
+            whole,
+            package: &*self,
+        };
+        let new = NewUnits::read(alloc, &adding)?;
+        put_parts(&mut self.object, &parts)?;
+        self.differing.extend_from_slice(&new.differing)?;
+        self.add_units(&new)?;
+        Ok(())
+    }
+
+    // Adds units. It refuses for memory alone.
+    #[tactic(auto, unfolding(crate::specs::State::with_new_units))]
+    fn add_units(&mut self, new: &NewUnits<'_>) -> Result<(), Error>
+        ensures meaning { OnOk result (in_progress_of self.new ≡ spec.with_new_units (in_progress_of self.old) (new_of new.now).units) }
+        ensures refused { IfErr result (λ e. e ≡ Error.Memory) }
+        ensures extends { (before : spec.InProgress) → spec.Extends before (in_progress_of self.old) → spec.Extends before (in_progress_of self.new) }
+    {
+        for (name, unit) in new.units.iter() {
+            self.add_unit(*name, *unit)?;
+        }
+        Ok(())
+    }
+
+    // Adds a unit whose name isn't there. It refuses for memory alone.
+    #[tactic(auto, unfolding(crate::specs::State::with_new_unit))]
+    fn add_unit(&mut self, name: DwarfObject, unit: NewUnit<'_>) -> Result<(), Error>
+        ensures meaning { OnOk result (in_progress_of self.new ≡ spec.with_new_unit (in_progress_of self.old) (name, new_unit unit.entry)) }
+        ensures refused { IfErr result (λ e. e ≡ Error.Memory) }
+        ensures extends { (before : spec.InProgress) → spec.Extends before (in_progress_of self.old) → spec.Extends before (in_progress_of self.new) }
+    {
+        if self.names.contains(&name) {
+            return Ok(());
+        }
+        self.rows.reserve(1)?;
+        let range = put(&mut self.object, kind_at(unit.place), unit.bytes)?;
+        self.names.insert(name)?;
+        let mut row = unit.row;
+        row.id = name;
+        match unit.place {
+            UnitSection::Info => row.debug_info = range,
+            UnitSection::Types => row.debug_types = range,
+        }
+        self.rows.push(row).unwrap();
+        Ok(())
+    }
+
+    // How much of the package there is. It refuses for memory alone.
+    fn mark(&self) -> Result<Mark, Error>
+        ensures mark { IfOk result (λ mark. mark_in mark ≡ spec.mark_of (in_progress_of self.now)) }
+        ensures strings { IfOk result (λ mark. mark.strings ≡ mark_of self.now.strings) }
+        ensures refused { IfErr result (λ e. e ≡ Error.Memory) }
+    {
+        Ok(Mark {
+            lengths: lengths(self.alloc, &self.object)?,
+            strings: self.strings.mark(),
+            rows: self.rows.len(),
+            differing: self.differing.len(),
+        })
+    }
+
+    // Takes back what was added since.
+    fn restore(&mut self, mark: &Mark)
+        requires { mark.now.strings ≡ mark_of (take mark.now.strings.strings self.old.strings) }
+        ensures { (before : spec.InProgress) → spec.Extends before (in_progress_of self.old) → mark_in mark.now ≡ spec.mark_of before → in_progress_of self.new ≡ before }
+    {
+        restore(&mut self.object, &mark.lengths);
+        self.strings.truncate(mark.strings);
+        self.rows.truncate(mark.rows);
+        self.differing.truncate(mark.differing);
+        self.names.truncate(mark.rows);
+    }
+
+    /// The sections with the strings and both indexes, each where it isn't empty. Refuses as
+    /// `write_index` does.
+    #[tactic(auto, unfolding(crate::specs::Builder::indexes_test))]
+    pub(crate) fn finish(self) -> Result<WritableObject, Error>
+        ensures refusal { Gives (λ _. tt) result (indexes_test (in_progress_of self)) }
+        ensures finished { IfOk result (IsFinished (in_progress_of self)) }
+        ensures identifiers { IdentifiersFit self.rows.items }
+    {
+        let InProgressDwarfPackage {
+            alloc,
+            mut object,
+            strings,
+            names: _,
+            rows,
+            differing: _,
+        } = self;
+        let order = object.endianness();
+        identifiers_fit(&rows);
+        let compilations = write_index(alloc, order, &rows_of(alloc, &rows, true)?)?;
+        let types = write_index(alloc, order, &rows_of(alloc, &rows, false)?)?;
+        put(&mut object, SectionKind::Str, &strings.finish())?;
+        put(&mut object, SectionKind::CuIndex, &compilations)?;
+        put(&mut object, SectionKind::TuIndex, &types)?;
+        Ok(object)
+    }
+}
+
+// Whether a name is that of a compilation unit.
+fn is_compilation(name: DwarfObject) -> bool
+    ensures { result ≡ is_compilation name }
+{
+    match name {
+        DwarfObject::Compilation(_) => true,
+        DwarfObject::TypeUnit(_) => false,
+    }
+}
+
+// The rows of compilation units, or those of type units.
+fn rows_of(alloc: Global, rows: &[IndexEntry], compilations: bool) -> Result<Vec<IndexEntry>, Error>
+    ensures rows { IfOk result (λ chosen. chosen.items ≡ rows_of compilations rows.now) }
+    ensures refused { IfErr result (λ e. e ≡ Error.Memory) }
+{
+    let mut chosen = Vec::new(alloc);
+    for row in rows {
+        if is_compilation(row.id) == compilations {
+            chosen.push(*row)?;
+        }
+    }
+    Ok(chosen)
+}
+
+// The identifiers of rows have 64 bits, as their type says: what the law of written indexes asks of numbers.
+fn identifiers_fit(rows: &[IndexEntry])
+    ensures { IdentifiersFit rows.now }
+{
+    for row in rows {
+        let _identifier = row.index();
+    }
+}

@@ -1,0 +1,258 @@
+//! The units that an input adds to a package, each with its row.
+
+ghost use Rattle.std.specs.Prelude.{◌≡◌, [], option_map, IfOk, IfErr};
+ghost use Rattle.dwp_dwarf.specs.Units.{unit_of, unit_seen};
+ghost use Rattle.thorin_faults.specs.Answers.{Gives};
+ghost use Rattle.thorin_builder.specs.NewUnits as spec;
+ghost use Rattle.thorin_builder.specs.State.{held_units};
+ghost use Rattle.thorin_builder.specs.StateView.{in_progress_of};
+ghost use Rattle.thorin_builder.specs.UnitView.{adding_of, met_of, new_unit, new_of};
+ghost use Rattle.thorin_builder.specs.View as view;
+
+use crate::in_progress::InProgressDwarfPackage;
+use crate::object::UsedSection;
+use crate::rows::{Places, Whole, abbreviations_for, test_row, unit_row};
+use crate::source::Source;
+use dwp_base::SectionKind;
+use dwp_dwarf::{ReadError, Reader, SliceReader, UnitHeader, UnitHeaders, UnitSection};
+use dwp_table::{Bucketable, DebugTypeSignature, DwarfObject};
+use indexmap::IndexMap;
+use std::alloc::Global;
+use thorin_faults::Error;
+use thorin_identity::dwo_identifier_of_unit;
+use thorin_parts::IndexEntry;
+
+/// A unit that is added: whether it goes to info or to types, its bytes, and its row but for them.
+#[derive(Clone, Copy)]
+pub(crate) struct NewUnit<'a> {
+    pub place: UnitSection,
+    pub bytes: &'a [u8],
+    pub row: IndexEntry,
+}
+
+/// What an input adds to the package: its units that aren't contained yet, in file order.
+#[derive(Drop)]
+pub(crate) struct NewUnits<'a> {
+    pub units: IndexMap<DwarfObject, NewUnit<'a>>,
+    /// The signatures of type units that were passed over and differ from those that are kept.
+    pub differing: Vec<DebugTypeSignature>,
+}
+
+/// What units are added to: an input, where the whole of its sections comes to lie, and the package.
+#[derive(Clone, Copy)]
+pub(crate) struct Adding<'i, 'a> {
+    pub source: &'i Source<'a>,
+    pub whole: Whole,
+    pub package: &'i InProgressDwarfPackage,
+}
+
+// Which sections of units came before.
+#[derive(Drop)]
+struct Met {
+    info: bool,
+    types: bool,
+}
+
+// Type units go where they stand, every other unit to info.
+fn place_for(name: DwarfObject, kind: SectionKind) -> UnitSection
+    ensures { result ≡ spec.place_for name kind }
+{
+    match (name, kind) {
+        (DwarfObject::TypeUnit(_), SectionKind::Types) => UnitSection::Types,
+        _ => UnitSection::Info,
+    }
+}
+
+/// The kinds of section that units stand in.
+pub(crate) fn unit_section(kind: SectionKind) -> Option<UnitSection>
+    ensures { result ≡ spec.unit_section kind }
+{
+    match kind {
+        SectionKind::Info => Some(UnitSection::Info),
+        SectionKind::Types => Some(UnitSection::Types),
+        _ => None,
+    }
+}
+
+// `MultipleDebugInfoSection` or `MultipleDebugTypesSection` where a package has a second one.
+#[tactic(auto, unfolding(crate::specs::NewUnits::once_test))]
+fn test_once(adding: &Adding<'_, '_>, place: UnitSection, met: &Met) -> Result<(), Error>
+    ensures { Gives (λ _. tt) result (spec.once_test (adding_of adding.now) place (met_of met.now)) }
+{
+    if !adding.source.indexes.is_package() {
+        return Ok(());
+    }
+    match place {
+        UnitSection::Info if met.info => Err(Error::MultipleDebugInfoSection),
+        UnitSection::Types if met.types => Err(Error::MultipleDebugTypesSection),
+        _ => Ok(()),
+    }
+}
+
+// The name of a unit that was read in a section.
+#[tactic(auto, unfolding(crate::specs::NewUnits::name_for))]
+fn name_for<'a>(
+    source: &Source<'a>,
+    places: &Places<'_, '_>,
+    kind: SectionKind,
+    header: &UnitHeader<SliceReader<'a>>,
+) -> Result<DwarfObject, Error>
+    requires { places.now.compilations ≡ record { index = (view.source source.now).indexes.compilations; section = kind } }
+    ensures { Gives (λ name. name) result (spec.name_for (view.source source.now) kind (unit_of ⟦<SliceReader<'a> as Reader>⟧.input header.now)) }
+{
+    let abbreviations = abbreviations_for(source, places, kind, header)?;
+    let reader = SliceReader::new(abbreviations, source.object.order);
+    dwo_identifier_of_unit(&reader, header)?.ok_or(Error::NotSplitUnit)
+}
+
+impl<'a> NewUnits<'a> {
+    /// The units that an input adds to what is there, or its first fault: of a package a second section
+    /// of units (`MultipleDebugInfoSection`, `MultipleDebugTypesSection`); unit by unit
+    /// `ParseUnitHeader`, of a package `UnitNotInIndex` and `BadContribution` of a compile unit's row,
+    /// what `dwo_identifier_of_unit` answers, `NotSplitUnit`, `DuplicateUnit`, `EmptyUnit`,
+    /// `UnitNotInIndex`, and what the adjustor of contributions answers.
+    #[tactic(auto, unfolding(crate::specs::NewUnits::new_units, crate::specs::NewUnits::with_each_section))]
+    pub fn read(alloc: Global, adding: &Adding<'_, 'a>) -> Result<NewUnits<'a>, Error>
+        ensures { Gives new_of result (spec.new_units (adding_of adding.now)) }
+    {
+        let mut new = NewUnits {
+            units: IndexMap::new(alloc),
+            differing: Vec::new(alloc),
+        };
+        let mut met = Met {
+            info: false,
+            types: false,
+        };
+        for section in &adding.source.object.sections {
+            new.add_section(alloc, adding, &mut met, *section)?;
+        }
+        Ok(new)
+    }
+
+    // Adds the units of a section.
+    #[tactic(auto, unfolding(crate::specs::NewUnits::with_section))]
+    fn add_section(
+        &mut self,
+        alloc: Global,
+        adding: &Adding<'_, 'a>,
+        met: &mut Met,
+        section: UsedSection<'a>,
+    ) -> Result<(), Error>
+        ensures { Gives (λ _. (met_of met.new, new_of self.new)) result (spec.with_section (adding_of adding.now) (met_of met.old, new_of self.old) (view.used section.entry)) }
+    {
+        match unit_section(section.kind) {
+            Some(place) => self.add_section_at(alloc, adding, met, section, place),
+            None => Ok(()),
+        }
+    }
+
+    // Adds the units of a section of units.
+    #[tactic(auto, unfolding(crate::specs::NewUnits::with_section_at, crate::specs::NewUnits::with_each_read))]
+    fn add_section_at(
+        &mut self,
+        alloc: Global,
+        adding: &Adding<'_, 'a>,
+        met: &mut Met,
+        section: UsedSection<'a>,
+        place: UnitSection,
+    ) -> Result<(), Error>
+        ensures { Gives (λ _. (met_of met.new, new_of self.new)) result (spec.with_section_at (adding_of adding.now) (view.used section.entry) place (met_of met.old, new_of self.old)) }
+    {
+        test_once(adding, place, met)?;
+        match place {
+            UnitSection::Info => met.info = true,
+            UnitSection::Types => met.types = true,
+        }
+        let places = Places::new(alloc, &adding.source.indexes, section.kind)?;
+        let reader = SliceReader::new(section.bytes, adding.source.object.order);
+        for read in UnitHeaders::new(reader, place) {
+            self.add_read(adding, &places, section, read)?;
+        }
+        Ok(())
+    }
+
+    // Adds the unit that was read next.
+    #[tactic(auto, unfolding(crate::specs::NewUnits::with_read))]
+    fn add_read(
+        &mut self,
+        adding: &Adding<'_, 'a>,
+        places: &Places<'_, '_>,
+        section: UsedSection<'a>,
+        read: Result<UnitHeader<SliceReader<'a>>, ReadError>,
+    ) -> Result<(), Error>
+        requires compilations { places.now.compilations ≡ record { index = (view.source adding.now.source.now).indexes.compilations; section = section.kind } }
+        requires types { places.now.types ≡ record { index = (view.source adding.now.source.now).indexes.types; section = section.kind } }
+        ensures { Gives (λ _. new_of self.new) result (spec.with_read (adding_of adding.now) (view.used section.entry) (new_of self.old) (unit_seen ⟦<SliceReader<'a> as Reader>⟧.input read.entry)) }
+    {
+        let header = read.map_err(Error::ParseUnitHeader)?;
+        let name = name_for(adding.source, places, section.kind, &header)?;
+        self.add_unit(adding, places, section, name, &header)
+    }
+
+    // The bytes that are kept for a name: those of a unit that is added, else those that the package has.
+    fn kept_bytes<'x>(
+        &'x self,
+        made: &'x InProgressDwarfPackage,
+        name: DwarfObject,
+    ) -> Option<&'x [u8]>
+        ensures { option_map (λ bytes. bytes.now) result ≡ spec.kept_bytes (held_units (in_progress_of made.now)) (new_of self.now).units name }
+    {
+        match self.units.get(&name) {
+            Some(unit) => Some(unit.bytes),
+            None => made.bytes_of(name),
+        }
+    }
+
+    // Adds a unit, or passes over a type unit that is kept already.
+    #[tactic(auto, unfolding(crate::specs::NewUnits::with_unit))]
+    fn add_unit(
+        &mut self,
+        adding: &Adding<'_, 'a>,
+        places: &Places<'_, '_>,
+        section: UsedSection<'a>,
+        name: DwarfObject,
+        header: &UnitHeader<SliceReader<'a>>,
+    ) -> Result<(), Error>
+        requires compilations { places.now.compilations ≡ record { index = (view.source adding.now.source.now).indexes.compilations; section = section.kind } }
+        requires types { places.now.types ≡ record { index = (view.source adding.now.source.now).indexes.types; section = section.kind } }
+        ensures { Gives (λ _. new_of self.new) result (spec.with_unit (spec.kept_bytes (adding_of adding.now).held (new_of self.old).units name) (adding_of adding.now) (view.used section.entry) name (unit_of ⟦<SliceReader<'a> as Reader>⟧.input header.now) (new_of self.old)) }
+    {
+        let kept = self.kept_bytes(adding.package, name);
+        match (kept, name) {
+            (Some(_), DwarfObject::Compilation(id)) => Err(Error::DuplicateUnit(id.0)),
+            (Some(kept), DwarfObject::TypeUnit(signature)) => {
+                if kept != header.bytes().slice() {
+                    self.differing.push(signature)?;
+                }
+                Ok(())
+            }
+            (None, _) => self.add_first(adding, places, section, name, header),
+        }
+    }
+
+    // Adds the first unit of its name.
+    #[tactic(auto, unfolding(crate::specs::NewUnits::with_first))]
+    fn add_first(
+        &mut self,
+        adding: &Adding<'_, 'a>,
+        places: &Places<'_, '_>,
+        section: UsedSection<'a>,
+        name: DwarfObject,
+        header: &UnitHeader<SliceReader<'a>>,
+    ) -> Result<(), Error>
+        requires compilations { places.now.compilations ≡ record { index = (view.source adding.now.source.now).indexes.compilations; section = section.kind } }
+        requires types { places.now.types ≡ record { index = (view.source adding.now.source.now).indexes.types; section = section.kind } }
+        requires absent { spec.kept_bytes (adding_of adding.now).held (new_of self.old).units name ≡ None }
+        ensures { Gives (λ _. new_of self.new) result (spec.with_first (adding_of adding.now) (view.used section.entry) name (unit_of ⟦<SliceReader<'a> as Reader>⟧.input header.now) (new_of self.old)) }
+    {
+        if section.address != 0 {
+            return Err(Error::EmptyUnit(name.index()));
+        }
+        test_row(&adding.source.indexes, places, section.kind, name, header)?;
+        let row = unit_row(&adding.source.indexes, &adding.whole, name)?;
+        let place = place_for(name, section.kind);
+        let bytes = header.bytes().slice();
+        self.units.insert(name, NewUnit { place, bytes, row })?;
+        Ok(())
+    }
+}
