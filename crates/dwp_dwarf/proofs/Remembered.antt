@@ -15,7 +15,7 @@ use Rattle.dwp_dwarf.specs.Declarations.{declaration_of}
 use Rattle.dwp_dwarf.specs.Grammar.{next_at}
 use Rattle.dwp_dwarf.specs.Offsets.{from_at}
 use Rattle.dwp_dwarf.specs.Remembered.{known_or, remembered, RemembersTable}
-use Rattle.dwp_dwarf.specs.declared.abbreviation.Abbreviation.{Abbreviation}
+use Rattle.dwp_dwarf.specs.declared.abbrev.Abbreviation.{Abbreviation}
 use Rattle.dwp_dwarf.proofs.Grammar.{by_bool, look_up-here, look_up-other}
 use Rattle.dwp_dwarf.proofs.Values.{after-zero}
 

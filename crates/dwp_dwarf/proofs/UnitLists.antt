@@ -8,9 +8,9 @@ use Rattle.std.proofs.lemmas.Bool.{eqb-true, ne_eqb}
 use Rattle.dwp_base.specs.Reading.{Reads}
 use Rattle.dwp_bytes.specs.declared.fault.ReadError.{ReadError}
 use Rattle.dwp_bytes.specs.Input.{Input, Goes, front, after}
-use Rattle.dwp_dwarf.specs.declared.header.UnitSection.{UnitSection}
-use Rattle.dwp_dwarf.specs.declared.header.UnitHeader.{UnitHeader}
-use Rattle.dwp_dwarf.specs.declared.header.UnitHeaders.{UnitHeaders}
+use Rattle.dwp_dwarf.specs.declared.unit.UnitSection.{UnitSection}
+use Rattle.dwp_dwarf.specs.declared.unit.UnitHeader.{UnitHeader}
+use Rattle.dwp_dwarf.specs.declared.unit.UnitHeaders.{UnitHeaders}
 use Rattle.dwp_dwarf.specs.Units.{Unit, unit_at, unit_of, unit_seen, units_left, units, units_within, listed, unit_bytes, UnitsLie}
 use Rattle.dwp_dwarf.proofs.Forward.{by_test, IsBehind, IsBehind-then}
 use Rattle.dwp_dwarf.proofs.UnitsForward.{unit_is}

@@ -6,7 +6,7 @@ use Rattle.dwp_bytes.specs.declared.fault.ReadError.TheVariants.{ReservedLength,
 use Rattle.dwp_bytes.specs.declared.encoding.Format.{Format}
 use Rattle.dwp_bytes.specs.declared.encoding.Format.TheVariants.{Dwarf32, Dwarf64}
 use Rattle.dwp_bytes.specs.Input.{Input, front, split_at, number_at, offset_at}
-use Rattle.dwp_dwarf.specs.declared.header.UnitSection.{UnitSection}
+use Rattle.dwp_dwarf.specs.declared.unit.UnitSection.{UnitSection}
 use Rattle.dwp_dwarf.specs.Units.{Unit, initial_length_at, address_size_at, older_type_at, unit_code_at, unit_type_at, older_at, newer_at, header_at, unit_at}
 use Rattle.dwp_dwarf.proofs.Forward.{bind_ok, chosen, by_choice, no_value, IsBehind, IsBehind-then, split_is, number_is}
 

@@ -16,10 +16,10 @@ use Rattle.dwp_dwarf.specs.declared.form.Layout.{Layout}
 use Rattle.dwp_dwarf.specs.declared.form.Layout.TheVariants.{Fixed, Block, Text, Unsigned, Signed}
 use Rattle.dwp_dwarf.specs.declared.form.BlockLength.{BlockLength}
 use Rattle.dwp_dwarf.specs.declared.form.BlockLength.TheVariants.{One, Two, Four, Leb}
-use Rattle.dwp_dwarf.specs.declared.header.UnitType.{UnitType}
-use Rattle.dwp_dwarf.specs.declared.header.UnitType.TheVariants.{Compilation, Partial, Skeleton, SplitCompilation, TypeUnit, SplitType}
-use Rattle.dwp_dwarf.specs.declared.header.UnitSection.{UnitSection}
-use Rattle.dwp_dwarf.specs.declared.header.UnitSection.TheVariants.{Info, Types}
+use Rattle.dwp_dwarf.specs.declared.unit.UnitType.{UnitType}
+use Rattle.dwp_dwarf.specs.declared.unit.UnitType.TheVariants.{Compilation, Partial, Skeleton, SplitCompilation, TypeUnit, SplitType}
+use Rattle.dwp_dwarf.specs.declared.unit.UnitSection.{UnitSection}
+use Rattle.dwp_dwarf.specs.declared.unit.UnitSection.TheVariants.{Info, Types}
 use Rattle.dwp_dwarf.specs.Abbreviations.{Specification, Declaration, code_at, declaration}
 use Rattle.dwp_dwarf.specs.Forms.{layout_of, block_length_at, text_at, past_value, value_at, named_within, named_form_at}
 use Rattle.dwp_dwarf.specs.Entries.{DebugAttribute, DebugEntry, attribute_at, attributes, entry, root_code_at, entry_at, root_of_code, root_at}

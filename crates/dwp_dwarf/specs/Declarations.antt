@@ -2,9 +2,9 @@
 use Rattle.std.specs.Prelude.{Option, Some, None}
 use Rattle.dwp_bytes.specs.Input.{Input}
 use Rattle.dwp_dwarf.specs.Abbreviations.{Specification, Declaration, pairs_in}
-use Rattle.dwp_dwarf.specs.declared.abbreviation.Abbreviation.{Abbreviation}
-use Rattle.dwp_dwarf.specs.declared.abbreviation.Abbreviations.{Abbreviations}
-use Rattle.dwp_dwarf.specs.declared.abbreviation.AttributeSpecification.{AttributeSpecification}
+use Rattle.dwp_dwarf.specs.declared.abbrev.Abbreviation.{Abbreviation}
+use Rattle.dwp_dwarf.specs.declared.abbrev.Abbreviations.{Abbreviations}
+use Rattle.dwp_dwarf.specs.declared.abbrev.AttributeSpecification.{AttributeSpecification}
 
 -- an attribute and its form
 abbrev pub specification_of : AttributeSpecification → Specification

@@ -7,7 +7,7 @@ use Rattle.dwp_bytes.specs.declared.fault.ReadError.{ReadError}
 use Rattle.dwp_dwarf.specs.Abbreviations.{Declaration, declaration}
 use Rattle.dwp_dwarf.specs.Declarations.{declaration_of}
 use Rattle.dwp_dwarf.specs.Offsets.{from_at}
-use Rattle.dwp_dwarf.specs.declared.abbreviation.Abbreviation.{Abbreviation}
+use Rattle.dwp_dwarf.specs.declared.abbrev.Abbreviation.{Abbreviation}
 
 -- a declaration that is remembered, or what the rest of the table says
 abbrev pub known_or : {R : Type 0} → (R → Input) → Option (Abbreviation R) → Result (Option Declaration) ReadError → Result (Option Declaration) ReadError

@@ -8,12 +8,12 @@ use Rattle.dwp_bytes.specs.declared.encoding.Format.{Format}
 use Rattle.dwp_bytes.specs.declared.encoding.Format.TheVariants.{Dwarf32, Dwarf64}
 use Rattle.dwp_bytes.specs.declared.fault.ReadError.{ReadError}
 use Rattle.dwp_bytes.specs.declared.fault.ReadError.TheVariants.{ReservedLength, UnknownVersion, UnknownUnitType, AddressSize}
-use Rattle.dwp_dwarf.specs.declared.header.UnitType.{UnitType}
-use Rattle.dwp_dwarf.specs.declared.header.UnitType.TheVariants.{Compilation, Partial, Skeleton, SplitCompilation, TypeUnit, SplitType}
-use Rattle.dwp_dwarf.specs.declared.header.UnitSection.{UnitSection}
-use Rattle.dwp_dwarf.specs.declared.header.UnitSection.TheVariants.{Info, Types}
-use Rattle.dwp_dwarf.specs.declared.header.UnitHeader.{UnitHeader}
-use Rattle.dwp_dwarf.specs.declared.header.UnitHeaders.{UnitHeaders}
+use Rattle.dwp_dwarf.specs.declared.unit.UnitType.{UnitType}
+use Rattle.dwp_dwarf.specs.declared.unit.UnitType.TheVariants.{Compilation, Partial, Skeleton, SplitCompilation, TypeUnit, SplitType}
+use Rattle.dwp_dwarf.specs.declared.unit.UnitSection.{UnitSection}
+use Rattle.dwp_dwarf.specs.declared.unit.UnitSection.TheVariants.{Info, Types}
+use Rattle.dwp_dwarf.specs.declared.unit.UnitHeader.{UnitHeader}
+use Rattle.dwp_dwarf.specs.declared.unit.UnitHeaders.{UnitHeaders}
 
 -- a unit: what its header says, all of its bytes, and those after its header
 pub record Unit : Type 0 where

@@ -10,9 +10,8 @@ ghost use Rattle.dwp_dwarf.specs.Grammar.{next_at};
 ghost use Rattle.dwp_dwarf.specs.Offsets.{from_at};
 ghost use Rattle.dwp_dwarf.specs.Remembered.{next_of, remembered};
 
-use crate::abbreviation::{Abbreviation, Abbreviations};
+use crate::abbrev::{Abbreviation, Abbreviations, read_code, read_declaration};
 use crate::offset::from_offset;
-use crate::table::{read_code, read_declaration};
 use dwp_bytes::{ReadError, Reader, lebs_take_bytes};
 use std::alloc::Global;
 use std::collections::BTreeMap;

@@ -1,4 +1,21 @@
-use dwp_bytes::Encoding;
+//! Root entries and their attributes (DWARF 5, 7.5.2 to 7.5.5).
+
+ghost use Rattle.std.specs.Prelude.{◌≡◌, [], ◌∷◌, MatchOption};
+ghost use Rattle.std.specs.Iterator.{YieldsFirstBy, item_count};
+ghost use Rattle.dwp_base.specs.Reading.{Answers, Reads};
+ghost use Rattle.dwp_dwarf.specs.Units.{unit_of};
+ghost use Rattle.dwp_dwarf.specs.Abbreviations.{pairs_in};
+ghost use Rattle.dwp_dwarf.specs.Declarations.{specification_of, declaration_of, table_of};
+ghost use Rattle.dwp_dwarf.specs.Entries.{attribute_at, entry, entry_at, root_code_at, root_at, number_of, place_of};
+ghost use Rattle.dwp_dwarf.specs.Attributes.{attribute_of, attribute_seen, attributes_left, entry_of, root_of, root_code_of};
+
+use crate::abbrev::{
+    Abbreviation, Abbreviations, AttributeSpecification, read_code, read_specification,
+};
+use crate::form::{DATA1, DATA2, DATA4, DATA8, SEC_OFFSET, UDATA};
+use crate::unit::UnitHeader;
+use crate::value::{named_form, read_value};
+use dwp_bytes::{Encoding, Format, ReadError, Reader, lebs_take_bytes};
 
 /// An attribute of an entry (DWARF 5, 7.5.4 and 7.5.5).
 #[derive(Clone, Copy, Debug)]
@@ -27,4 +44,148 @@ pub struct RootEntry<R> {
     pub tag: u64,
     /// Its attributes.
     pub attributes: Attributes<R>,
+}
+
+/// The next attribute and its form; None at the end of the list.
+fn next_specification<R: Reader>(specifications: &mut R) -> Option<AttributeSpecification>
+    ensures { MatchOption result (pairs_in (R.input specifications.old) ≡ []) (λ s. pairs_in (R.input specifications.old) ≡ specification_of s ∷ pairs_in (R.input specifications.new)) }
+{
+    lebs_take_bytes();
+    match read_specification(specifications) {
+        Ok(specification) if !specification.is_last() => Some(specification),
+        Ok(_) => None,
+        Err(_) => None,
+    }
+}
+
+#[tactic(auto, unfolding(crate::specs::Entries::attribute_at))]
+fn read_attribute<R: Reader>(
+    values: &mut R,
+    specification: AttributeSpecification,
+    encoding: Encoding,
+) -> Result<Attribute<R>, ReadError>
+    ensures { Reads (attribute_of R.input) result (R.input values.old) (R.input values.new) (attribute_at encoding (specification_of specification)) }
+{
+    let (form, mut at) = named_form(*values, specification.form)?;
+    let value = read_value(&mut at, form, encoding)?;
+    *values = at;
+    Ok(Attribute {
+        name: specification.name,
+        form,
+        value,
+    })
+}
+
+impl<R: Reader> Iterator for Attributes<R> {
+    type Item = Result<Attribute<R>, ReadError>;
+
+    ghost next_gives = { YieldsFirstBy (attribute_seen R.input) (attributes_left R.input) };
+
+    ghost remaining = { item_count (attributes_left R.input) };
+
+    fn next(&mut self) -> Option<Result<Attribute<R>, ReadError>> {
+        if self.ended {
+            return None;
+        }
+        let Some(specification) = next_specification(&mut self.specifications) else {
+            self.ended = true;
+            return None;
+        };
+        let attribute = read_attribute(&mut self.values, specification, self.encoding);
+        self.ended = attribute.is_err();
+        Some(attribute)
+    }
+}
+
+impl<R: Reader> Attribute<R> {
+    /// The number of a value of the forms data1, data2, data4, data8 and udata; None for other forms.
+    #[tactic(auto, unfolding(crate::specs::Entries::number_of))]
+    pub fn number(&self) -> Option<u64>
+        ensures { result ≡ number_of (attribute_of R.input self.now) }
+    {
+        let mut value = self.value;
+        let number = match self.form {
+            DATA1 => u64::from(value.read_u8().ok()?),
+            DATA2 => u64::from(value.read_u16().ok()?),
+            DATA4 => u64::from(value.read_u32().ok()?),
+            DATA8 => value.read_u64().ok()?,
+            UDATA => value.read_uleb128().ok()?,
+            _ => return None,
+        };
+        Some(number)
+    }
+
+    /// The place in a section that a value of the forms sec_offset, data4 and data8 names; None for other forms.
+    #[tactic(auto, unfolding(crate::specs::Entries::place_of))]
+    pub fn section_offset(&self, format: Format) -> Option<u64>
+        ensures { result ≡ place_of format (attribute_of R.input self.now) }
+    {
+        let mut value = self.value;
+        let offset = match self.form {
+            SEC_OFFSET => value.read_offset(format).ok()?,
+            DATA4 => u64::from(value.read_u32().ok()?),
+            DATA8 => value.read_u64().ok()?,
+            _ => return None,
+        };
+        Some(offset)
+    }
+}
+
+impl<R: Reader> UnitHeader<R> {
+    /// The code of the root entry, and a reader at the values of its attributes. None where no byte is left
+    /// behind the header, or the code is 0. UnexpectedEof or BigLeb for a code that can't be read.
+    #[tactic(auto, unfolding(crate::specs::Entries::root_code_at))]
+    pub fn root_code(&self) -> Result<Option<(u64, R)>, ReadError>
+        ensures { Answers (root_code_of R.input) result (root_code_at (unit_of R.input self.now).entries) }
+    {
+        let mut at = self.entries;
+        let code = read_code(&mut at)?;
+        if code == 0 {
+            return Ok(None);
+        }
+        Ok(Some((code, at)))
+    }
+}
+
+impl<R: Reader> Abbreviation<R> {
+    /// The entry of this abbreviation whose values stand there.
+    pub fn entry(&self, encoding: Encoding, values: R) -> RootEntry<R>
+        ensures { entry_of R.input result ≡ entry encoding (declaration_of R.input self.now) (R.input values) }
+    {
+        RootEntry {
+            tag: self.tag,
+            attributes: Attributes {
+                encoding,
+                specifications: self.specifications,
+                values,
+                ended: false,
+            },
+        }
+    }
+}
+
+impl<R: Reader> Abbreviations<R> {
+    /// The entry of a code whose values stand there. UnknownCode where the table doesn't have the code.
+    #[tactic(auto, unfolding(crate::specs::Entries::entry_at))]
+    fn entry(&self, encoding: Encoding, code: u64, values: R) -> Result<RootEntry<R>, ReadError>
+        ensures { Answers (entry_of R.input) result (entry_at encoding (table_of R.input self.now) (code, R.input values)) }
+    {
+        let abbreviation = self.get(code)?.ok_or(ReadError::UnknownCode)?;
+        Ok(abbreviation.entry(encoding, values))
+    }
+}
+
+/// The root entry of a unit; None where no byte is left behind the header, or its code is 0.
+/// UnknownCode where the table doesn't have its code, and the faults of `UnitHeader::root_code` and `Abbreviations::get`.
+#[tactic(auto, unfolding(crate::specs::Entries::root_at))]
+pub fn root<R: Reader>(
+    header: &UnitHeader<R>,
+    abbreviations: &Abbreviations<R>,
+) -> Result<Option<RootEntry<R>>, ReadError>
+    ensures { Answers (root_of R.input) result (root_at (unit_of R.input header.now) (table_of R.input abbreviations.now)) }
+{
+    match header.root_code()? {
+        None => Ok(None),
+        Some((code, values)) => Ok(Some(abbreviations.entry(header.encoding(), code, values)?)),
+    }
 }

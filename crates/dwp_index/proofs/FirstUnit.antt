@@ -7,7 +7,7 @@ use Rattle.dwp_bytes.specs.Input.{Input, section, number_at}
 use Rattle.dwp_bytes.specs.declared.fault.ReadError.{ReadError}
 use Rattle.dwp_bytes.specs.declared.fault.ReadError.TheVariants.{UnexpectedEof}
 use Rattle.dwp_dwarf.specs.Units.{Unit, unit_at, initial_length_at, listed, units, units_within}
-use Rattle.dwp_dwarf.specs.declared.header.UnitSection.{UnitSection}
+use Rattle.dwp_dwarf.specs.declared.unit.UnitSection.{UnitSection}
 use Rattle.dwp_index.specs.Package.{encoding_in}
 
 listed_some : {A E : Type 0} (r : Result (A × Input) E) (others : Input → List (Result A E)) → listed r others ≡ [] → ⊥

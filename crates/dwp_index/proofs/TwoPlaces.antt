@@ -8,8 +8,8 @@ use Rattle.dwp_bytes.specs.Encoding.{offset_size}
 use Rattle.dwp_bytes.specs.declared.encoding.Format.{Format}
 use Rattle.dwp_bytes.specs.declared.fault.ReadError.{ReadError}
 use Rattle.dwp_dwarf.specs.Units.{Unit, address_size_at, type_at, older_type_at, unit_code_at, unit_type_at, older_at, newer_at, header_at}
-use Rattle.dwp_dwarf.specs.declared.header.UnitSection.{UnitSection}
-use Rattle.dwp_dwarf.specs.declared.header.UnitSection.TheVariants.{Info, Types}
+use Rattle.dwp_dwarf.specs.declared.unit.UnitSection.{UnitSection}
+use Rattle.dwp_dwarf.specs.declared.unit.UnitSection.TheVariants.{Info, Types}
 
 -- bytes that nothing relocates, from a place on
 abbrev pub plain : Endianness → ℕ → List ℕ → Input

@@ -15,7 +15,7 @@ use Rattle.dwp_bytes.specs.declared.fault.ReadError.{ReadError}
 use Rattle.dwp_bytes.specs.declared.fault.ReadError.TheVariants.{UnexpectedEof, ReservedLength, UnknownVersion}
 use Rattle.dwp_bytes.specs.declared.encoding.Encoding.{Encoding}
 use Rattle.dwp_dwarf.specs.Units.{Unit, initial_length_at, address_size_at, older_type_at, older_at, newer_at, header_at, unit_at, listed, units_within, units, UnitsAreTaken}
-use Rattle.dwp_dwarf.specs.declared.header.UnitSection.{UnitSection}
+use Rattle.dwp_dwarf.specs.declared.unit.UnitSection.{UnitSection}
 use Rattle.dwp_index.specs.Package.{encoding_in}
 use Rattle.dwp_index.proofs.Steps.{bind_ok, guard_ok, chosen}
 use Rattle.dwp_index.proofs.TwoPlaces.{plain, SameEncoding, header_agrees}

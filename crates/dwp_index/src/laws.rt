@@ -9,7 +9,7 @@ ghost use Rattle.dwp_base.specs.declared.endian.Endianness.{Endianness};
 ghost use Rattle.dwp_bytes.specs.Input.{section};
 ghost use Rattle.dwp_bytes.specs.declared.encoding.Encoding.{Encoding};
 ghost use Rattle.dwp_dwarf.specs.Units.{Unit, units, unit_bytes};
-ghost use Rattle.dwp_dwarf.specs.declared.header.UnitSection.{UnitSection};
+ghost use Rattle.dwp_dwarf.specs.declared.unit.UnitSection.{UnitSection};
 ghost use Rattle.dwp_table.specs.Table.{IsIndex};
 ghost use Rattle.dwp_table.specs.declared.object.DwarfObject.{DwarfObject};
 ghost use Rattle.dwp_index.specs.Contents.{Sections, content, is_of_kind};

@@ -10,8 +10,8 @@ use Rattle.dwp_bytes.specs.Input.{section}
 use Rattle.dwp_bytes.specs.declared.encoding.Encoding.{Encoding}
 use Rattle.dwp_bytes.specs.declared.fault.ReadError.{ReadError}
 use Rattle.dwp_dwarf.specs.Units.{Unit, units}
-use Rattle.dwp_dwarf.specs.declared.header.UnitSection.{UnitSection}
-use Rattle.dwp_dwarf.specs.declared.header.UnitSection.TheVariants as places
+use Rattle.dwp_dwarf.specs.declared.unit.UnitSection.{UnitSection}
+use Rattle.dwp_dwarf.specs.declared.unit.UnitSection.TheVariants as places
 use Rattle.thorin_parts.specs.EntryTests.{same_encoding}
 use Rattle.thorin_faults.specs.Fault.{Fault, ParseUnitHeader, NoCompilationUnits}
 use Rattle.thorin_builder.specs.NewUnits.{unit_section}

@@ -14,7 +14,7 @@ use Rattle.dwp_bytes.specs.StringOffsets.{header_size, entry_count}
 use Rattle.dwp_bytes.specs.declared.encoding.Encoding.{Encoding}
 use Rattle.dwp_bytes.specs.declared.fault.ReadError.{ReadError}
 use Rattle.dwp_dwarf.specs.Units.{Unit as Header, units}
-use Rattle.dwp_dwarf.specs.declared.header.UnitSection.{UnitSection}
+use Rattle.dwp_dwarf.specs.declared.unit.UnitSection.{UnitSection}
 use Rattle.dwp_index.specs.Index.{Index, Ranges, row_in, range_in}
 use Rattle.dwp_index.specs.Package.{part_of, is_outside}
 use Rattle.dwp_table.specs.declared.object.DwarfObject.{DwarfObject}

@@ -8,7 +8,7 @@ use Rattle.dwp_base.specs.declared.section.Contribution.{Contribution}
 use Rattle.dwp_base.specs.declared.endian.Endianness.{Endianness}
 use Rattle.dwp_elf.specs.Contents.{content_of}
 use Rattle.dwp_bytes.specs.declared.encoding.Encoding.{Encoding}
-use Rattle.dwp_dwarf.specs.declared.header.UnitSection.{UnitSection}
+use Rattle.dwp_dwarf.specs.declared.unit.UnitSection.{UnitSection}
 use Rattle.dwp_index.specs.Package.{part_of, encoding_in, place_of}
 use Rattle.dwp_index.specs.Strings.{string_in}
 use Rattle.dwp_table.specs.declared.object.DwarfObject.{DwarfObject}

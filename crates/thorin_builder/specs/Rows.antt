@@ -7,8 +7,8 @@ use Rattle.dwp_base.specs.Reading.{◌>>=◌}
 use Rattle.dwp_base.specs.Sections.{name_of}
 use Rattle.dwp_bytes.specs.declared.encoding.Encoding.{Encoding}
 use Rattle.dwp_dwarf.specs.Units.{Unit as Header}
-use Rattle.dwp_dwarf.specs.declared.header.UnitType.{UnitType}
-use Rattle.dwp_dwarf.specs.declared.header.UnitType.TheVariants as unit_types
+use Rattle.dwp_dwarf.specs.declared.unit.UnitType.{UnitType}
+use Rattle.dwp_dwarf.specs.declared.unit.UnitType.TheVariants as unit_types
 use Rattle.dwp_index.specs.Index.{Index, Ranges, row_in, range_in}
 use Rattle.dwp_index.specs.Package.{part_of, is_outside}
 use Rattle.dwp_table.specs.Objects.{identifier_of}

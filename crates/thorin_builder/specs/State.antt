@@ -10,8 +10,8 @@ use Rattle.dwp_base.specs.Reading.{◌>>=◌}
 use Rattle.dwp_base.specs.Sections.{name_of}
 use Rattle.dwp_elf.specs.Contents.{content_of}
 use Rattle.dwp_elf.specs.FileText.{Object as File}
-use Rattle.dwp_dwarf.specs.declared.header.UnitSection.{UnitSection}
-use Rattle.dwp_dwarf.specs.declared.header.UnitSection.TheVariants as places
+use Rattle.dwp_dwarf.specs.declared.unit.UnitSection.{UnitSection}
+use Rattle.dwp_dwarf.specs.declared.unit.UnitSection.TheVariants as places
 use Rattle.dwp_index.specs.Package.{part_of, place_of}
 use Rattle.dwp_table.specs.declared.object.DwarfObject.{DwarfObject}
 use Rattle.thorin_parts.specs.Entries.{contribution_to}

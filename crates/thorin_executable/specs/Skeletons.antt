@@ -5,7 +5,7 @@ use Rattle.dwp_base.specs.Reading.{◌>>=◌}
 use Rattle.dwp_bytes.specs.declared.fault.ReadError.{ReadError}
 use Rattle.dwp_dwarf.specs.Entries.{DebugAttribute}
 use Rattle.dwp_dwarf.specs.Units.{Unit, units}
-use Rattle.dwp_dwarf.specs.declared.header.UnitSection.TheVariants.{Info}
+use Rattle.dwp_dwarf.specs.declared.unit.UnitSection.TheVariants.{Info}
 use Rattle.dwp_table.specs.declared.object.DwarfObject.{DwarfObject}
 use Rattle.dwp_table.specs.declared.object.DwarfObject.TheVariants.{Compilation, TypeUnit}
 use Rattle.thorin_faults.specs.Fault.{Fault, MissingDwoName, ParseUnitHeader}

@@ -3,7 +3,7 @@
 ghost use Rattle.std.specs.Prelude.{◌≡◌, map, option_map, OnErr};
 ghost use Rattle.dwp_dwarf.specs.Units.{unit_of, unit_seen, units};
 ghost use Rattle.thorin_faults.specs.Answers.{Gives};
-ghost use Rattle.dwp_dwarf.specs.declared.header.UnitSection.TheVariants.{Info};
+ghost use Rattle.dwp_dwarf.specs.declared.unit.UnitSection.TheVariants.{Info};
 ghost use Rattle.thorin_executable.specs.Skeletons as spec;
 ghost use Rattle.thorin_executable.specs.View.{data_of, named, listed, IsFront, UnlessMemory};
 

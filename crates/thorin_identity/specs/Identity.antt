@@ -6,8 +6,8 @@ use Rattle.dwp_base.specs.Reading.{◌>>=◌}
 use Rattle.dwp_bytes.specs.Input.{Input}
 use Rattle.dwp_bytes.specs.declared.fault.ReadError.{ReadError}
 use Rattle.dwp_bytes.specs.declared.fault.ReadError.TheVariants.{UnknownCode}
-use Rattle.dwp_dwarf.specs.declared.header.UnitType.{UnitType}
-use Rattle.dwp_dwarf.specs.declared.header.UnitType.TheVariants as unit_types
+use Rattle.dwp_dwarf.specs.declared.unit.UnitType.{UnitType}
+use Rattle.dwp_dwarf.specs.declared.unit.UnitType.TheVariants as unit_types
 use Rattle.dwp_dwarf.specs.Units.{Unit}
 use Rattle.dwp_dwarf.specs.Abbreviations.{declaration}
 use Rattle.dwp_dwarf.specs.Entries.{DebugAttribute, DebugEntry, entry, root_code_at, number_of}

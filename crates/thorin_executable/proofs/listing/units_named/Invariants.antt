@@ -1,6 +1,6 @@
 use Rattle.std.proofs.Common.{◌≡◌, map}
 use Rattle.dwp_dwarf.specs.Units.{units, units_left}
-use Rattle.dwp_dwarf.specs.declared.header.UnitSection.TheVariants.{Info}
+use Rattle.dwp_dwarf.specs.declared.unit.UnitSection.TheVariants.{Info}
 use Rattle.thorin_executable.specs.Skeletons.{skeletons_from}
 use Rattle.thorin_executable.specs.View.{data_of, named}
 use Rattle.thorin_executable.proofs.NamedSteps.{put}

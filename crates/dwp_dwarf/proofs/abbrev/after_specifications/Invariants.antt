@@ -1,6 +1,6 @@
 use Rattle.std.proofs.Common.{◌≡◌, length}
 use Rattle.dwp_dwarf.specs.Abbreviations.{past_specifications}
-use Rattle.dwp_dwarf.proofs.table.after_specifications.Given as goal
+use Rattle.dwp_dwarf.proofs.abbrev.after_specifications.Given as goal
 
 -- what is left of the list ends where all of it does
 abbrev pub invariant-loop-specification : goal.invariant-loop-specification

@@ -1,13 +1,35 @@
+//! Abbreviations and their table (DWARF 5, 7.5.3).
+
 ghost use Rattle.std.specs.Prelude.{◌≡◌};
 ghost use Rattle.dwp_base.specs.Reading.{Answers, Reads};
 ghost use Rattle.dwp_dwarf.specs.Abbreviations.{constant_at, specification_at, past_specifications, specifications_at, tag_at, children_at, declaration_at, code_at, declaration, is_last};
 ghost use Rattle.dwp_dwarf.specs.Offsets.{from_at};
 ghost use Rattle.dwp_dwarf.specs.Declarations.{specification_of, declaration_of, table_of, found_of};
 
-use crate::abbreviation::{Abbreviation, Abbreviations, AttributeSpecification};
 use crate::form::IMPLICIT_CONST;
 use crate::offset::from_offset;
 use dwp_bytes::{ReadError, Reader, lebs_take_bytes};
+
+/// An attribute and its form, as an abbreviation lists them.
+#[derive(Clone, Copy, Debug)]
+pub(crate) struct AttributeSpecification {
+    pub(crate) name: u64,
+    pub(crate) form: u64,
+}
+
+/// An abbreviation's declaration (DWARF 5, 7.5.3).
+#[derive(Clone, Copy, Debug)]
+pub struct Abbreviation<R> {
+    pub(crate) tag: u64,
+    pub(crate) has_children: bool,
+    pub(crate) specifications: R,
+}
+
+/// A table of abbreviations.
+#[derive(Clone, Copy, Debug)]
+pub struct Abbreviations<R> {
+    pub(crate) table: R,
+}
 
 #[tactic(auto, unfolding(crate::specs::Abbreviations::constant_at))]
 fn skip_constant<R: Reader>(reader: &mut R, form: u64) -> Result<(), ReadError>

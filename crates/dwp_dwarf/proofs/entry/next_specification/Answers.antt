@@ -1,6 +1,6 @@
 use Rattle.std.proofs.Common.{sym, ◌∙◌}
 use Rattle.dwp_dwarf.proofs.TableForward.{pairs-more, pairs-last, pairs-fault}
-use Rattle.dwp_dwarf.proofs.roots.next_specification.Goals as goal
+use Rattle.dwp_dwarf.proofs.entry.next_specification.Goals as goal
 
 pub returns-in-Ok : goal.returns-in-Ok
 returns-in-Ok g c = pairs-more c.lebs_take_bytes.ensures _ _ c.in-Ok.ensures (sym c.is_last.ensures ∙ c.if-not-is_last.true)

@@ -1,7 +1,7 @@
 use Rattle.std.proofs.Common.{sym, ◌∙◌}
 use Rattle.std.proofs.lemmas.Result.{err_from_is_err_and}
 use Rattle.dwp_dwarf.proofs.TableForward.{specification_shorter, past-last, past-other, past-fault}
-use Rattle.dwp_dwarf.proofs.table.after_specifications.Goals as goal
+use Rattle.dwp_dwarf.proofs.abbrev.after_specifications.Goals as goal
 
 pub returns-in_err-specification : goal.returns-in_err-specification
 returns-in_err-specification g c =

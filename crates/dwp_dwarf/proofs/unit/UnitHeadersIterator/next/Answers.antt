@@ -1,7 +1,7 @@
 use Rattle.std.proofs.Common.{sym, ◌∙◌, refl}
 use Rattle.dwp_dwarf.proofs.UnitLists.{first_unit, goes_on, nothing_left}
-use Rattle.dwp_dwarf.proofs.units.UnitHeadersIterator.next.Goals as goal
-use Rattle.dwp_dwarf.proofs.units.UnitHeadersIterator.next.Goals.{then-self-via-then-self, then-self-via-else-self+then-is_empty}
+use Rattle.dwp_dwarf.proofs.unit.UnitHeadersIterator.next.Goals as goal
+use Rattle.dwp_dwarf.proofs.unit.UnitHeadersIterator.next.Goals.{then-self-via-then-self, then-self-via-else-self+then-is_empty}
 
 pub returns-clause-steps : goal.returns-clause-steps
 returns-clause-steps g c =

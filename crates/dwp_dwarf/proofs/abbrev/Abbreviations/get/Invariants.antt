@@ -1,6 +1,6 @@
 use Rattle.std.proofs.Common.{◌≡◌, length}
 use Rattle.dwp_dwarf.specs.Abbreviations.{declaration}
-use Rattle.dwp_dwarf.proofs.abbreviation.Abbreviations.get.Given as goal
+use Rattle.dwp_dwarf.proofs.abbrev.Abbreviations.get.Given as goal
 
 -- the first declaration in what is left is the first one in all
 abbrev pub invariant-loop-found : goal.invariant-loop-found

@@ -2,7 +2,7 @@ use Rattle.std.proofs.Common.{sym, ◌∙◌, arith, eq-eqb}
 use Rattle.std.proofs.lemmas.Bool.{ne_eqb}
 use Rattle.std.proofs.lemmas.Result.{err_from_is_err_and}
 use Rattle.dwp_dwarf.proofs.TableForward.{declaration_shorter, code_no_longer, declaration-bad_code, declaration-none, declaration-fault, declaration-found, declaration-other}
-use Rattle.dwp_dwarf.proofs.abbreviation.Abbreviations.get.Goals as goal
+use Rattle.dwp_dwarf.proofs.abbrev.Abbreviations.get.Goals as goal
 
 pub returns-in_err-found : goal.returns-in_err-found
 returns-in_err-found g c =
