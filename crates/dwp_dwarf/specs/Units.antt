@@ -54,19 +54,38 @@ older_type_at Types format i = do
   Ok (TypeUnit t.0.0 t.0.1, t.1)
 
 -- the code of a unit type of version 5
+-- the codes of unit types (DWARF 5, 7.5.1, Table 7.2)
+abbrev pub DW_UT_compile : ℕ
+DW_UT_compile = 1
+
+abbrev pub DW_UT_type : ℕ
+DW_UT_type = 2
+
+abbrev pub DW_UT_partial : ℕ
+DW_UT_partial = 3
+
+abbrev pub DW_UT_skeleton : ℕ
+DW_UT_skeleton = 4
+
+abbrev pub DW_UT_split_compile : ℕ
+DW_UT_split_compile = 5
+
+abbrev pub DW_UT_split_type : ℕ
+DW_UT_split_type = 6
+
 unfoldable pub unit_code_at : Input → Result (ℕ × Input) ReadError
 unit_code_at i = do
   n ← byte_at i
-  if nat_le 1 n.0 && nat_le n.0 6 then Ok n else Err UnknownUnitType
+  if nat_le DW_UT_compile n.0 && nat_le n.0 DW_UT_split_type then Ok n else Err UnknownUnitType
 
 -- what a unit type of version 5 adds to the header (7.5.1, table 7.2)
 unfoldable pub unit_type_at : ℕ → Format → Input → Result (UnitType × Input) ReadError
 unit_type_at code format i =
-    if code == 1 then Ok (Compilation, i) else
-    (if code == 2 then (type_at format i >>= λ t. Ok (TypeUnit t.0.0 t.0.1, t.1)) else
-    (if code == 3 then Ok (Partial, i) else
-    (if code == 4 then (number_at 8 i >>= λ n. Ok (Skeleton n.0, n.1)) else
-    (if code == 5 then (number_at 8 i >>= λ n. Ok (SplitCompilation n.0, n.1)) else
+    if code == DW_UT_compile then Ok (Compilation, i) else
+    (if code == DW_UT_type then (type_at format i >>= λ t. Ok (TypeUnit t.0.0 t.0.1, t.1)) else
+    (if code == DW_UT_partial then Ok (Partial, i) else
+    (if code == DW_UT_skeleton then (number_at 8 i >>= λ n. Ok (Skeleton n.0, n.1)) else
+    (if code == DW_UT_split_compile then (number_at 8 i >>= λ n. Ok (SplitCompilation n.0, n.1)) else
     (type_at format i >>= λ t. Ok (SplitType t.0.0 t.0.1, t.1))))))
 
 -- the header of versions 2 to 4 after its version

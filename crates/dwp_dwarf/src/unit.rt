@@ -61,6 +61,19 @@ pub struct UnitHeaders<R> {
     pub(crate) ended: bool,
 }
 
+/// The codes of unit types (DWARF 5, 7.5.1, Table 7.2).
+const DW_UT_COMPILE: u8 = 0x01;
+
+const DW_UT_TYPE: u8 = 0x02;
+
+const DW_UT_PARTIAL: u8 = 0x03;
+
+const DW_UT_SKELETON: u8 = 0x04;
+
+const DW_UT_SPLIT_COMPILE: u8 = 0x05;
+
+const DW_UT_SPLIT_TYPE: u8 = 0x06;
+
 /// The format of a unit, and the length of what follows.
 #[tactic(auto, unfolding(crate::specs::Units::initial_length_at))]
 fn read_initial_length<R: Reader>(reader: &mut R) -> Result<(Format, u64), ReadError>
@@ -131,7 +144,7 @@ fn read_unit_code<R: Reader>(reader: &mut R) -> Result<u8, ReadError>
 {
     let mut at = *reader;
     let code = at.read_u8()?;
-    if code >= 1 && code <= 6 {
+    if code >= DW_UT_COMPILE && code <= DW_UT_SPLIT_TYPE {
         *reader = at;
         Ok(code)
     } else {
@@ -147,19 +160,19 @@ fn read_unit_type<R: Reader>(
 ) -> Result<UnitType, ReadError>
     ensures { Reads (λ x. x) result (R.input reader.old) (R.input reader.new) (unit_type_at code format) }
 {
-    if code == 1 {
+    if code == DW_UT_COMPILE {
         Ok(UnitType::Compilation)
-    } else if code == 2 {
+    } else if code == DW_UT_TYPE {
         let (type_signature, type_offset) = read_type(reader, format)?;
         Ok(UnitType::TypeUnit {
             type_signature,
             type_offset,
         })
-    } else if code == 3 {
+    } else if code == DW_UT_PARTIAL {
         Ok(UnitType::Partial)
-    } else if code == 4 {
+    } else if code == DW_UT_SKELETON {
         Ok(UnitType::Skeleton(reader.read_u64()?))
-    } else if code == 5 {
+    } else if code == DW_UT_SPLIT_COMPILE {
         Ok(UnitType::SplitCompilation(reader.read_u64()?))
     } else {
         let (type_signature, type_offset) = read_type(reader, format)?;

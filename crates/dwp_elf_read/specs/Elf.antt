@@ -34,13 +34,13 @@ pub record Elf : Type 0 where
   pub sections : List SectionMeaning
 
 -- SHT_NOBITS
-abbrev pub nobits : ℕ
-nobits = 8
+abbrev pub SHT_NOBITS : ℕ
+SHT_NOBITS = 8
 
 -- a section occupies no bytes where its type is NOBITS, else those that its header names
 unfoldable pub content_of : List ℕ → SectionHeader → Option (List ℕ)
 content_of bytes header =
-    if header.kind == nobits then Some []
+    if header.kind == SHT_NOBITS then Some []
     else (if is_inside bytes header.offset header.size
     then Some (slice_range bytes header.offset (header.offset + header.size))
     else None)
@@ -148,5 +148,9 @@ abbrev pub is_named : List ℕ → SectionMeaning → Bool
 is_named text section = name_is text section.name
 
 -- SHF_COMPRESSED is set
+-- the flag of a section whose content is compressed
+abbrev pub SHF_COMPRESSED : ℕ
+SHF_COMPRESSED = 0x800
+
 abbrev pub has_compressed_flag : SectionMeaning → Bool
-has_compressed_flag section = not (bit_and section.flags 0x800 == 0)
+has_compressed_flag section = not (bit_and section.flags SHF_COMPRESSED == 0)

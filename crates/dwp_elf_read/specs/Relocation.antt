@@ -14,11 +14,11 @@ use Rattle.dwp_elf_read.specs.Layout.{word_size, number_at}
 use Rattle.dwp_elf_read.specs.Elf.{Elf, SectionMeaning}
 
 -- SHT_RELA and SHT_REL
-abbrev pub rela : ℕ
-rela = 4
+abbrev pub SHT_RELA : ℕ
+SHT_RELA = 4
 
-abbrev pub rel : ℕ
-rel = 9
+abbrev pub SHT_REL : ℕ
+SHT_REL = 9
 
 -- the type and the symbol that r_info names
 abbrev pub type_of : Class → ℕ → ℕ
@@ -72,15 +72,15 @@ entry_count class explicit content = length content / relocation_size class expl
 unfoldable pub table_of : Class → SectionMeaning → Result (List ℕ) ReadError
 table_of class section = do
   content ← ok_or section.content RelocationTable
-  if has_whole_entries class (section.kind == rela) content then Ok content else Err RelocationTable
+  if has_whole_entries class (section.kind == SHT_RELA) content then Ok content else Err RelocationTable
 
 -- the section has relocations of the section numbered target
 unfoldable pub relocates : ℕ → SectionMeaning → Bool
-relocates target section = (section.kind == rela || section.kind == rel) && section.info == target
+relocates target section = (section.kind == SHT_RELA || section.kind == SHT_REL) && section.info == target
 
 -- the entries of a table and what follows them; nothing follows a table that can't be read
 abbrev pub entries_then : Class → Endianness → SectionMeaning → Result (List ℕ) ReadError → List (Result RawRelocation ReadError) → List (Result RawRelocation ReadError)
-entries_then class order section (Ok content) rest = entries_from class order (section.kind == rela) section.link content 0 (entry_count class (section.kind == rela) content) ++ rest
+entries_then class order section (Ok content) rest = entries_from class order (section.kind == SHT_RELA) section.link content 0 (entry_count class (section.kind == SHT_RELA) content) ++ rest
 entries_then class order section (Err e) rest = Err e ∷ []
 
 -- the relocations of the section numbered target that some sections have, in order

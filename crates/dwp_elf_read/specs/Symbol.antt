@@ -11,8 +11,8 @@ use Rattle.dwp_elf_read.specs.Layout.{word_size, number_at}
 use Rattle.dwp_elf_read.specs.Elf.{Elf, SectionMeaning}
 
 -- SHT_SYMTAB
-abbrev pub symtab : ℕ
-symtab = 2
+abbrev pub SHT_SYMTAB : ℕ
+SHT_SYMTAB = 2
 
 -- the bytes of a symbol, and the place of st_value in it
 abbrev pub symbol_size : Class → ℕ
@@ -26,7 +26,7 @@ value_place Elf64 = 8
 -- the content of a section that is a symbol table
 unfoldable pub symbols_of : Option SectionMeaning → Result (List ℕ) ReadError
 symbols_of None = Err SymbolTable
-symbols_of (Some section) = if section.kind == symtab then ok_or section.content SymbolTable else Err SymbolTable
+symbols_of (Some section) = if section.kind == SHT_SYMTAB then ok_or section.content SymbolTable else Err SymbolTable
 
 -- the value of the i-th symbol of a table's content
 unfoldable pub value_in : Class → Endianness → List ℕ → ℕ → Result ℕ ReadError

@@ -6,7 +6,7 @@ ghost use Rattle.dwp_elf_read.specs.Elf.{header_at, content_of};
 use crate::image::{Image, entry_size_of, word_size_of};
 
 /// The type of a section that has no bytes in the file (`SHT_NOBITS`).
-pub(crate) const NOBITS: u32 = 8;
+pub(crate) const SHT_NOBITS: u32 = 8;
 
 /// What is read of a file's header.
 #[derive(Clone, Copy)]
@@ -95,7 +95,7 @@ impl<'a> Image<'a> {
     pub fn content(&self, header: &SectionHeader) -> Option<&'a [u8]>
         ensures { option_copied result ≡ content_of self.now.bytes.now header.now }
     {
-        if header.kind == NOBITS {
+        if header.kind == SHT_NOBITS {
             return Some(&[]);
         }
         if !self.contains(header.offset, header.size) {

@@ -14,9 +14,9 @@ use crate::table::Table;
 use dwp_base::Class;
 
 /// The types of sections of relocations with an addend and without one.
-const RELA: u32 = 4;
+const SHT_RELA: u32 = 4;
 
-const REL: u32 = 9;
+const SHT_REL: u32 = 9;
 
 /// The content of a table of relocations, which has whole entries.
 #[tactic(auto, unfolding(crate::specs::Relocation::table_of))]
@@ -26,7 +26,7 @@ fn content_of_table<'a>(class: Class, table: &Section<'a>) -> Result<&'a [u8], R
     let Ok(content) = table.data() else {
         return Err(ReadError::RelocationTable);
     };
-    if content.len() % size_of_entry(class, table.kind() == RELA) != 0 {
+    if content.len() % size_of_entry(class, table.kind() == SHT_RELA) != 0 {
         return Err(ReadError::RelocationTable);
     }
     Ok(content)
@@ -38,7 +38,7 @@ fn names(table: &Section, target: usize) -> bool
     ensures { result ≡ relocates target (view.section table.now) }
 {
     let kind = table.kind();
-    (kind == RELA || kind == REL) && table.info() as usize == target
+    (kind == SHT_RELA || kind == SHT_REL) && table.info() as usize == target
 }
 
 /// The entries of a section of relocations.
@@ -49,7 +49,7 @@ fn table_in<'a>(file: &ElfFile<'a>, section: &Section<'a>) -> Result<Table<'a>, 
 {
     let class = file.image.class;
     let content = content_of_table(class, section)?;
-    let explicit = section.kind() == RELA;
+    let explicit = section.kind() == SHT_RELA;
     Ok(Table {
         entries: file.image.with_bytes(content),
         explicit,

@@ -1,12 +1,12 @@
 use crate::fault::ReadError;
 use crate::file::ElfFile;
-use crate::header::{NOBITS, SectionHeader};
+use crate::header::{SHT_NOBITS, SectionHeader};
 use crate::name::{is_text_at, text_in};
 use crate::relocations::Relocations;
 use dwp_base::SectionKind;
 
 /// The flag of a section whose content is compressed (`SHF_COMPRESSED`).
-const COMPRESSED: u64 = 0x800;
+const SHF_COMPRESSED: u64 = 0x800;
 
 /// A section of an ELF file.
 #[derive(Clone, Copy)]
@@ -78,16 +78,16 @@ impl<'a> Section<'a> {
 
     /// Whether the section has no bytes: its size is 0, or its type is that of sections without bytes.
     pub fn is_empty(&self) -> bool
-        ensures { result ≡ ((section self.now).size == 0 || (section self.now).kind == nobits) }
+        ensures { result ≡ ((section self.now).size == 0 || (section self.now).kind == SHT_NOBITS) }
     {
-        self.size() == 0 || self.kind() == NOBITS
+        self.size() == 0 || self.kind() == SHT_NOBITS
     }
 
     /// Whether the content is compressed (`SHF_COMPRESSED`).
     pub fn is_compressed(&self) -> bool
         ensures { result ≡ has_compressed_flag (section self.now) }
     {
-        self.flags() & COMPRESSED != 0
+        self.flags() & SHF_COMPRESSED != 0
     }
 
     /// The section's name.

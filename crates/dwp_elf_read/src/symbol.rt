@@ -9,7 +9,7 @@ use crate::section::Section;
 use dwp_base::Class;
 
 /// The type of a symbol table.
-const SYMTAB: u32 = 2;
+const SHT_SYMTAB: u32 = 2;
 
 /// The content of a section that is a symbol table.
 #[tactic(auto, unfolding(crate::specs::Symbol::symbols_of))]
@@ -19,7 +19,7 @@ pub(crate) fn symbols<'a>(table: Option<Section<'a>>) -> Result<&'a [u8], ReadEr
     let Some(table) = table else {
         return Err(ReadError::SymbolTable);
     };
-    if table.kind() != SYMTAB {
+    if table.kind() != SHT_SYMTAB {
         return Err(ReadError::SymbolTable);
     }
     match table.data() {

@@ -9,7 +9,7 @@ use Rattle.dwp_base.specs.Reading.{◌>>=◌}
 use Rattle.dwp_base.specs.Sections.{name_of, compressed_name_of, is_named, kind_named, all_kinds, same_kind, rank_of}
 use Rattle.dwp_base.specs.declared.section.SectionKind.{SectionKind}
 use Rattle.dwp_base.specs.declared.section.SectionKind.TheVariants.{Info, Types, Abbrev, Line, Loc, Loclists, Rnglists, StrOffsets, Macinfo, Macro, Str, CuIndex, TuIndex}
-use Rattle.dwp_elf_read.specs.Elf.{Elf, SectionMeaning, nobits, elf_of}
+use Rattle.dwp_elf_read.specs.Elf.{Elf, SectionMeaning, SHT_NOBITS, elf_of}
 use Rattle.dwp_elf_read.specs.declared.fault.ReadError.TheVariants.{SectionRange, Compressed}
 use Rattle.dwp_index.specs.declared.fault.PackageError.TheVariants as faults
 use Rattle.dwp_index.specs.Contents.{content, has_name, is_of_kind, has_older_name, used_bytes, bytes_of, content_of, contents_of}
@@ -81,7 +81,7 @@ not_both false = refl
 
 nameless : (kind : SectionKind) (section : SectionMeaning) → has_name kind section.name ≡ false → is_of_kind kind section ≡ false
 unfolding is_of_kind
-nameless kind section e = ap (λ b. not (eqb section.size 0 || eqb section.kind nobits) && b) e ∙ not_both (not (eqb section.size 0 || eqb section.kind nobits))
+nameless kind section e = ap (λ b. not (eqb section.size 0 || eqb section.kind SHT_NOBITS) && b) e ∙ not_both (not (eqb section.size 0 || eqb section.kind SHT_NOBITS))
 
 pub another_kind : (section : SectionMeaning) (kind other : SectionKind) → section.name ≡ Some (name_of other) → same_kind other kind ≡ false → is_of_kind kind section ≡ false
 another_kind section kind other e ne = nameless kind section (ap (has_name kind) e ∙ other_name other kind ne)
@@ -101,13 +101,13 @@ foreign section kind name e none = nameless kind section (ap (has_name kind) e �
 
 pub empty : (section : SectionMeaning) (kind : SectionKind) → section.size ≡ 0 → is_of_kind kind section ≡ false
 unfolding is_of_kind
-empty section kind e = ap (λ n. not (eqb n 0 || eqb section.kind nobits) && has_name kind section.name) e
+empty section kind e = ap (λ n. not (eqb n 0 || eqb section.kind SHT_NOBITS) && has_name kind section.name) e
 
 holds-kind : (section : SectionMeaning) (kind : SectionKind) (bytes : List ℕ) → Holds section kind bytes → is_of_kind kind section ≡ true
 unfolding is_of_kind
 holds-kind section kind bytes h =
-    ap (λ b. not (b || eqb section.kind nobits) && has_name kind section.name) (ne_eqb section.size 0 (λ e. omega (arith, h.size_is, h.some)))
-    ∙ ap (λ b. not b && has_name kind section.name) (ne_eqb section.kind nobits h.has_bytes)
+    ap (λ b. not (b || eqb section.kind SHT_NOBITS) && has_name kind section.name) (ne_eqb section.size 0 (λ e. omega (arith, h.size_is, h.some)))
+    ∙ ap (λ b. not b && has_name kind section.name) (ne_eqb section.kind SHT_NOBITS h.has_bytes)
     ∙ ap (has_name kind) h.name_is ∙ left_of (is_named (name_of kind) kind) (not (bytes_eq (name_of kind) (compressed_name_of kind))) (own_kind kind)
 
 -- ---- the contents

@@ -3,7 +3,7 @@ use Rattle.std.specs.Prelude.{◌≡◌, ◌≢◌, ◌⊎◌, ℕ, ◌<◌, fal
 use Rattle.dwp_base.specs.Sections.{name_of, same_kind}
 use Rattle.dwp_base.specs.declared.section.SectionKind.{SectionKind}
 use Rattle.dwp_base.specs.declared.section.SectionKind.TheVariants.{Info, Types, Abbrev, Line, Loc, Loclists, Rnglists, StrOffsets, Macinfo, Macro, Str, CuIndex, TuIndex}
-use Rattle.dwp_elf_read.specs.Elf.{SectionMeaning, nobits, has_compressed_flag}
+use Rattle.dwp_elf_read.specs.Elf.{SectionMeaning, SHT_NOBITS, has_compressed_flag}
 use Rattle.dwp_index.specs.Contents.{Sections, is_of_kind}
 
 -- a section has a kind's name and these bytes, which aren't compressed
@@ -12,7 +12,7 @@ pub record Holds (section : SectionMeaning) (kind : SectionKind) (bytes : List �
   pub size_is : section.size ≡ length bytes
   pub content_is : section.content ≡ Some bytes
   pub some : 0 < length bytes
-  pub has_bytes : section.kind ≢ nobits
+  pub has_bytes : section.kind ≢ SHT_NOBITS
   pub stored : has_compressed_flag section ≡ false
 
 -- the first of these sections that is of a kind holds these bytes; there are none where no section is

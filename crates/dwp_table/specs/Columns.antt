@@ -8,34 +8,81 @@ use Rattle.dwp_base.specs.declared.section.SectionKind.TheVariants.{Info, Types,
 abbrev pub contribution_kinds : List SectionKind
 contribution_kinds = Info ∷ Types ∷ Abbrev ∷ Line ∷ Loc ∷ Loclists ∷ Rnglists ∷ StrOffsets ∷ Macinfo ∷ Macro ∷ []
 
+-- the numbers of columns in an index of version 2 (the GNU page)
+abbrev pub GNU_SECT_INFO : ℕ
+GNU_SECT_INFO = 1
+
+abbrev pub GNU_SECT_TYPES : ℕ
+GNU_SECT_TYPES = 2
+
+abbrev pub GNU_SECT_ABBREV : ℕ
+GNU_SECT_ABBREV = 3
+
+abbrev pub GNU_SECT_LINE : ℕ
+GNU_SECT_LINE = 4
+
+abbrev pub GNU_SECT_LOC : ℕ
+GNU_SECT_LOC = 5
+
+abbrev pub GNU_SECT_STR_OFFSETS : ℕ
+GNU_SECT_STR_OFFSETS = 6
+
+abbrev pub GNU_SECT_MACINFO : ℕ
+GNU_SECT_MACINFO = 7
+
+abbrev pub GNU_SECT_MACRO : ℕ
+GNU_SECT_MACRO = 8
+
 -- in an index of version 2
 abbrev pub gnu_column : SectionKind → Option ℕ
-gnu_column Info = Some 1
-gnu_column Types = Some 2
-gnu_column Abbrev = Some 3
-gnu_column Line = Some 4
-gnu_column Loc = Some 5
+gnu_column Info = Some GNU_SECT_INFO
+gnu_column Types = Some GNU_SECT_TYPES
+gnu_column Abbrev = Some GNU_SECT_ABBREV
+gnu_column Line = Some GNU_SECT_LINE
+gnu_column Loc = Some GNU_SECT_LOC
 gnu_column Loclists = None
 gnu_column Rnglists = None
-gnu_column StrOffsets = Some 6
-gnu_column Macinfo = Some 7
-gnu_column Macro = Some 8
+gnu_column StrOffsets = Some GNU_SECT_STR_OFFSETS
+gnu_column Macinfo = Some GNU_SECT_MACINFO
+gnu_column Macro = Some GNU_SECT_MACRO
 gnu_column Str = None
 gnu_column CuIndex = None
 gnu_column TuIndex = None
 
+-- the numbers of columns in an index of version 5 (Table 7.1)
+abbrev pub DW_SECT_INFO : ℕ
+DW_SECT_INFO = 1
+
+abbrev pub DW_SECT_ABBREV : ℕ
+DW_SECT_ABBREV = 3
+
+abbrev pub DW_SECT_LINE : ℕ
+DW_SECT_LINE = 4
+
+abbrev pub DW_SECT_LOCLISTS : ℕ
+DW_SECT_LOCLISTS = 5
+
+abbrev pub DW_SECT_STR_OFFSETS : ℕ
+DW_SECT_STR_OFFSETS = 6
+
+abbrev pub DW_SECT_MACRO : ℕ
+DW_SECT_MACRO = 7
+
+abbrev pub DW_SECT_RNGLISTS : ℕ
+DW_SECT_RNGLISTS = 8
+
 -- in an index of version 5
 abbrev pub standard_column : SectionKind → Option ℕ
-standard_column Info = Some 1
+standard_column Info = Some DW_SECT_INFO
 standard_column Types = None
-standard_column Abbrev = Some 3
-standard_column Line = Some 4
+standard_column Abbrev = Some DW_SECT_ABBREV
+standard_column Line = Some DW_SECT_LINE
 standard_column Loc = None
-standard_column Loclists = Some 5
-standard_column Rnglists = Some 8
-standard_column StrOffsets = Some 6
+standard_column Loclists = Some DW_SECT_LOCLISTS
+standard_column Rnglists = Some DW_SECT_RNGLISTS
+standard_column StrOffsets = Some DW_SECT_STR_OFFSETS
 standard_column Macinfo = None
-standard_column Macro = Some 7
+standard_column Macro = Some DW_SECT_MACRO
 standard_column Str = None
 standard_column CuIndex = None
 standard_column TuIndex = None

@@ -12,7 +12,7 @@ use Rattle.dwp_elf_read.specs.declared.fault.ReadError.TheVariants.{Compressed, 
 use Rattle.dwp_elf_read.specs.declared.kind.FileKind.{FileKind}
 use Rattle.dwp_elf_read.specs.declared.kind.FileKind.TheVariants.{Archive, Elf32, Elf64}
 use Rattle.dwp_elf_read.specs.Elf as elf
-use Rattle.dwp_elf_read.specs.Elf.{Elf, SectionMeaning, elf_of, nobits, has_compressed_flag}
+use Rattle.dwp_elf_read.specs.Elf.{Elf, SectionMeaning, elf_of, SHT_NOBITS, has_compressed_flag}
 use Rattle.dwp_elf_read.specs.Identification as identification
 use Rattle.thorin_faults.specs.Fault.{Fault, ParseFileKind, InvalidInputKind, ParseObjectFile, DecompressData, ObjectRead}
 use Rattle.thorin_faults.specs.Answers.{as_fault}
@@ -49,7 +49,7 @@ is_present kind file = is_some (find (elf.is_named (name_of kind)) file.sections
 
 -- a section has no bytes
 abbrev pub is_empty : SectionMeaning → Bool
-is_empty section = section.size == 0 || section.kind == nobits
+is_empty section = section.size == 0 || section.kind == SHT_NOBITS
 
 -- the name and the kind of a section that has bytes
 abbrev pub with_kind : List ℕ → Option SectionKind → Option (SectionKind × List ℕ)

@@ -7,7 +7,7 @@ use Rattle.dwp_bytes.specs.declared.encoding.Format.{Format}
 use Rattle.dwp_bytes.specs.declared.fault.ReadError.{ReadError}
 use Rattle.dwp_dwarf.specs.Entries.{DebugAttribute}
 use Rattle.thorin_faults.specs.Fault.{Fault, ParseUnit}
-use Rattle.thorin_executable.specs.Roots.{SplitAttributes, split_attributes, with_attribute, all_read, base_in, first_base, is_attribute, at_dwo_name, at_gnu_dwo_name, at_comp_dir}
+use Rattle.thorin_executable.specs.Roots.{SplitAttributes, split_attributes, with_attribute, all_read, base_in, first_base, is_attribute, DW_AT_dwo_name, DW_AT_GNU_dwo_name, DW_AT_comp_dir}
 
 -- the first of each name, before and among others
 abbrev pub joined : SplitAttributes → SplitAttributes → SplitAttributes
@@ -39,7 +39,7 @@ or-find x p a rest = ap (option_or x) (cond-or (p a) a (find p rest)) ∙ or-ass
 
 joined-first : (format : Format) (before : SplitAttributes) (a : DebugAttribute) (rest : List DebugAttribute) → joined before (split_attributes format (a ∷ rest)) ≡ joined (with_attribute format before a) (split_attributes format rest)
 joined-first format before a rest =
-    rw (or-find before.dwo_name (is_attribute at_dwo_name) a rest, or-find before.gnu_dwo_name (is_attribute at_gnu_dwo_name) a rest, or-find before.comp_dir (is_attribute at_comp_dir) a rest, or-assoc before.str_offsets_base (base_in format a) (first_base format rest))
+    rw (or-find before.dwo_name (is_attribute DW_AT_dwo_name) a rest, or-find before.gnu_dwo_name (is_attribute DW_AT_GNU_dwo_name) a rest, or-find before.comp_dir (is_attribute DW_AT_comp_dir) a rest, or-assoc before.str_offsets_base (base_in format a) (first_base format rest))
 
 pub after-end : (format : Format) (before : SplitAttributes) → after format before [] ≡ Ok before
 after-end format before = rw (or-none before.dwo_name, or-none before.gnu_dwo_name, or-none before.comp_dir, or-none before.str_offsets_base)

@@ -14,17 +14,17 @@ use Rattle.thorin_faults.specs.Fault.{Fault, NoDie, ParseUnit}
 use Rattle.thorin_faults.specs.Answers.{as_fault}
 
 -- DW_AT_comp_dir, DW_AT_str_offsets_base, DW_AT_dwo_name and DW_AT_GNU_dwo_name
-abbrev pub at_comp_dir : ℕ
-at_comp_dir = 0x1b
+abbrev pub DW_AT_comp_dir : ℕ
+DW_AT_comp_dir = 0x1b
 
-abbrev pub at_str_offsets_base : ℕ
-at_str_offsets_base = 0x72
+abbrev pub DW_AT_str_offsets_base : ℕ
+DW_AT_str_offsets_base = 0x72
 
-abbrev pub at_dwo_name : ℕ
-at_dwo_name = 0x76
+abbrev pub DW_AT_dwo_name : ℕ
+DW_AT_dwo_name = 0x76
 
-abbrev pub at_gnu_dwo_name : ℕ
-at_gnu_dwo_name = 0x2130
+abbrev pub DW_AT_GNU_dwo_name : ℕ
+DW_AT_GNU_dwo_name = 0x2130
 
 -- a unit's root entry; its abbreviations stand in that section
 unfoldable pub root_entry : Input → Unit → Result DebugEntry Fault
@@ -48,7 +48,7 @@ is_attribute name a = a.name == name
 
 -- the place that an attribute names as the base of string offsets
 abbrev pub base_in : Format → DebugAttribute → Option ℕ
-base_in format a = if a.name == at_str_offsets_base then place_of format a else None
+base_in format a = if a.name == DW_AT_str_offsets_base then place_of format a else None
 
 -- the first such place
 abbrev pub first_base : Format → List DebugAttribute → Option ℕ
@@ -65,18 +65,18 @@ pub record SplitAttributes : Type 0 where
 -- one more attribute behind those before
 abbrev pub with_attribute : Format → SplitAttributes → DebugAttribute → SplitAttributes
 with_attribute format before a = record {
-  dwo_name = option_or before.dwo_name (find (is_attribute at_dwo_name) (a ∷ []));
-  gnu_dwo_name = option_or before.gnu_dwo_name (find (is_attribute at_gnu_dwo_name) (a ∷ []));
-  comp_dir = option_or before.comp_dir (find (is_attribute at_comp_dir) (a ∷ []));
+  dwo_name = option_or before.dwo_name (find (is_attribute DW_AT_dwo_name) (a ∷ []));
+  gnu_dwo_name = option_or before.gnu_dwo_name (find (is_attribute DW_AT_GNU_dwo_name) (a ∷ []));
+  comp_dir = option_or before.comp_dir (find (is_attribute DW_AT_comp_dir) (a ∷ []));
   str_offsets_base = option_or before.str_offsets_base (base_in format a);
 }
 
 -- those of some attributes
 abbrev pub split_attributes : Format → List DebugAttribute → SplitAttributes
 split_attributes format attributes = record {
-  dwo_name = find (is_attribute at_dwo_name) attributes;
-  gnu_dwo_name = find (is_attribute at_gnu_dwo_name) attributes;
-  comp_dir = find (is_attribute at_comp_dir) attributes;
+  dwo_name = find (is_attribute DW_AT_dwo_name) attributes;
+  gnu_dwo_name = find (is_attribute DW_AT_GNU_dwo_name) attributes;
+  comp_dir = find (is_attribute DW_AT_comp_dir) attributes;
   str_offsets_base = first_base format attributes;
 }
 

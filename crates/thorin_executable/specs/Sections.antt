@@ -5,7 +5,7 @@ use Rattle.std.specs.Str.{bytes_eq}
 use Rattle.dwp_base.specs.declared.endian.Endianness.{Endianness}
 use Rattle.dwp_base.specs.Reading.{◌>>=◌}
 use Rattle.dwp_elf_read.specs.declared.fault.ReadError.TheVariants.{Compressed, SectionRange}
-use Rattle.dwp_elf_read.specs.Elf.{Elf, SectionMeaning, elf_of, nobits, has_compressed_flag}
+use Rattle.dwp_elf_read.specs.Elf.{Elf, SectionMeaning, elf_of, SHT_NOBITS, has_compressed_flag}
 use Rattle.dwp_elf_read.specs.Relocation.{relocations_of}
 use Rattle.dwp_bytes.specs.declared.relocation.Relocation.{Relocation}
 use Rattle.dwp_bytes.specs.declared.relocation.RelocationEntry.{RelocationEntry}
@@ -44,7 +44,7 @@ is_named kind name = bytes_eq name (name_of kind) || is_older_name kind name
 
 -- a section has no bytes
 abbrev pub is_empty : SectionMeaning → Bool
-is_empty section = section.size == 0 || section.kind == nobits
+is_empty section = section.size == 0 || section.kind == SHT_NOBITS
 
 -- a section is of a kind, and has bytes
 unfoldable pub is_used : DebugSection → SectionMeaning → Bool

@@ -24,13 +24,24 @@ compilation id = Compilation (record { 0 = id })
 abbrev pub type_unit : ℕ → DwarfObject
 type_unit signature = TypeUnit (record { 0 = signature })
 
--- DW_TAG_compile_unit and DW_TAG_type_unit
+-- the tags of units' root entries (DWARF 5, 7.5.3, Table 7.3)
+abbrev pub DW_TAG_compile_unit : ℕ
+DW_TAG_compile_unit = 0x11
+
+abbrev pub DW_TAG_type_unit : ℕ
+DW_TAG_type_unit = 0x41
+
+-- a compilation unit's or a type unit's
 abbrev pub is_unit_tag : ℕ → Bool
-is_unit_tag tag = tag == 0x11 || tag == 0x41
+is_unit_tag tag = tag == DW_TAG_compile_unit || tag == DW_TAG_type_unit
+
+-- the identifier's attribute in units before DWARF 5 (the GNU page DebugFission)
+abbrev pub DW_AT_GNU_dwo_id : ℕ
+DW_AT_GNU_dwo_id = 0x2131
 
 -- the number of an attribute that is a GNU_dwo_id
 abbrev pub identifier_in : DebugAttribute → Option ℕ
-identifier_in a = if a.name == 0x2131 then number_of a else None
+identifier_in a = if a.name == DW_AT_GNU_dwo_id then number_of a else None
 
 -- what was found, or what comes of the others
 abbrev pub found_or : Option ℕ → Result (Option DwarfObject) Fault → Result (Option DwarfObject) Fault

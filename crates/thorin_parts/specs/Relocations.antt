@@ -15,12 +15,55 @@ use Rattle.dwp_bytes.specs.declared.relocation.Relocation.{Relocation}
 use Rattle.dwp_bytes.specs.declared.relocation.RelocationEntry.{RelocationEntry}
 use Rattle.thorin_faults.specs.Fault.{Fault, NamelessSection, UnsupportedRelocation, RelocationWithInvalidSymbol, MultipleRelocations, ObjectRead}
 
+-- machines, and their relocations that store a symbol's value plus an addend (the processor supplements of the ELF specification)
+abbrev pub EM_386 : ℕ
+EM_386 = 3
+
+abbrev pub EM_X86_64 : ℕ
+EM_X86_64 = 62
+
+abbrev pub EM_AARCH64 : ℕ
+EM_AARCH64 = 183
+
+abbrev pub R_X86_64_64 : ℕ
+R_X86_64_64 = 1
+
+abbrev pub R_X86_64_32 : ℕ
+R_X86_64_32 = 10
+
+abbrev pub R_X86_64_32S : ℕ
+R_X86_64_32S = 11
+
+abbrev pub R_X86_64_16 : ℕ
+R_X86_64_16 = 12
+
+abbrev pub R_X86_64_8 : ℕ
+R_X86_64_8 = 14
+
+abbrev pub R_386_32 : ℕ
+R_386_32 = 1
+
+abbrev pub R_386_16 : ℕ
+R_386_16 = 20
+
+abbrev pub R_386_8 : ℕ
+R_386_8 = 22
+
+abbrev pub R_AARCH64_ABS64 : ℕ
+R_AARCH64_ABS64 = 257
+
+abbrev pub R_AARCH64_ABS32 : ℕ
+R_AARCH64_ABS32 = 258
+
+abbrev pub R_AARCH64_ABS16 : ℕ
+R_AARCH64_ABS16 = 259
+
 -- the type of a relocation that stores a symbol's value plus an addend, of 8, 4, 2 or 1 bytes
 abbrev pub is_absolute : ℕ → ℕ → Bool
 is_absolute machine kind =
-    if machine == 62 then kind == 1 || kind == 10 || kind == 11 || kind == 12 || kind == 14
-    else (if machine == 3 then kind == 1 || kind == 20 || kind == 22
-    else (if machine == 183 then kind == 257 || kind == 258 || kind == 259
+    if machine == EM_X86_64 then kind == R_X86_64_64 || kind == R_X86_64_32 || kind == R_X86_64_32S || kind == R_X86_64_16 || kind == R_X86_64_8
+    else (if machine == EM_386 then kind == R_386_32 || kind == R_386_16 || kind == R_386_8
+    else (if machine == EM_AARCH64 then kind == R_AARCH64_ABS64 || kind == R_AARCH64_ABS32 || kind == R_AARCH64_ABS16
     else false))
 
 -- a fault of a relocation names its section and its place; without a name the fault is that

@@ -14,11 +14,34 @@ use std::collections::BTreeMap;
 use thorin_faults::Error;
 
 /// `e_machine` of i386, x86-64 and AArch64.
-const I386: u16 = 3;
+const EM_386: u16 = 3;
 
-const X86_64: u16 = 62;
+const EM_X86_64: u16 = 62;
 
-const AARCH64: u16 = 183;
+const EM_AARCH64: u16 = 183;
+
+/// The types of relocations that store a symbol's value plus an addend (the processor supplements).
+const R_X86_64_64: u32 = 1;
+
+const R_X86_64_32: u32 = 10;
+
+const R_X86_64_32S: u32 = 11;
+
+const R_X86_64_16: u32 = 12;
+
+const R_X86_64_8: u32 = 14;
+
+const R_386_32: u32 = 1;
+
+const R_386_16: u32 = 20;
+
+const R_386_8: u32 = 22;
+
+const R_AARCH64_ABS64: u32 = 257;
+
+const R_AARCH64_ABS32: u32 = 258;
+
+const R_AARCH64_ABS16: u32 = 259;
 
 /// Why a relocation can't be used.
 #[derive(Clone, Copy)]
@@ -114,9 +137,12 @@ fn is_absolute(machine: u16, kind: u32) -> bool
     ensures { result ≡ is_absolute machine kind }
 {
     match machine {
-        X86_64 => matches!(kind, 1 | 10 | 11 | 12 | 14),
-        I386 => matches!(kind, 1 | 20 | 22),
-        AARCH64 => matches!(kind, 257 | 258 | 259),
+        EM_X86_64 => matches!(
+            kind,
+            R_X86_64_64 | R_X86_64_32 | R_X86_64_32S | R_X86_64_16 | R_X86_64_8
+        ),
+        EM_386 => matches!(kind, R_386_32 | R_386_16 | R_386_8),
+        EM_AARCH64 => matches!(kind, R_AARCH64_ABS64 | R_AARCH64_ABS32 | R_AARCH64_ABS16),
         _ => false,
     }
 }
