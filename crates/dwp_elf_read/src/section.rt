@@ -23,7 +23,7 @@ impl<'a> Section<'a> {
     ghost use Rattle.std.specs.Option.{ok_or, option_and_then};
     ghost use Rattle.dwp_base.specs.Sections.{all_kinds, compressed_name_of, kind_named, name_of};
     ghost use Rattle.dwp_base.specs.Reading.{Answers};
-    ghost use Rattle.dwp_elf_read.specs.Elf.{nobits, is_named, has_compressed_flag};
+    ghost use Rattle.dwp_elf_read.specs.Elf.{SHT_NOBITS, is_named, has_compressed_flag};
     ghost use Rattle.dwp_elf_read.specs.Relocation.{relocations_of};
     ghost use Rattle.dwp_elf_read.specs.View.{section, file, relocations_left};
 
