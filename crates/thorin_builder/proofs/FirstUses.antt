@@ -1,5 +1,5 @@
 -- The strings of a package are those that its inputs name, in order of first use.
-use Rattle.std.proofs.Common.{◌≡◌, ◌∙◌, ℕ, zero, suc, ◌+◌, ◌*◌, ◌-◌, ◌/◌, ◌≤◌, ◌<◌, Bool, true, false, cond, not, ◌&&◌, eqb, leb, nat_eq, nat_lt, nat_le, List, [], ◌∷◌, ◌++◌, length, take, drop, length-take, length-drop, ap, sym, subst, refl, Result, Ok, Err, Option, Some, None, inl, inr, arith}
+use Rattle.std.proofs.Common.{◌≡◌, ◌∙◌, ℕ, zero, suc, ◌+◌, ◌*◌, ◌-◌, ◌/◌, ◌%◌, ◌==◌, ◌≤◌, ◌<◌, Bool, true, false, cond, not, ◌&&◌, eqb, leb, nat_eq, nat_lt, nat_le, List, [], ◌∷◌, ◌++◌, length, take, drop, length-take, length-drop, ap, sym, subst, refl, Result, Ok, Err, Option, Some, None, inl, inr, if◌then◌else◌, arith}
 use Rattle.std.specs.Prelude.{slice_range}
 use Rattle.std.specs.List.{list_any}
 use Rattle.std.specs.Result.{result_unwrap_or}
@@ -116,7 +116,8 @@ module _ (order : Endianness) (encoding : Encoding) (section bytes : List ℕ) w
       let string = s3.0 in
       let entry : with_string s1.0.1 string ≡ s2.0.1 = ap (λ (o : ℕ × List (List ℕ)). o.1) (ok-eq {E = Fault} _ s2.0 s4.2) in
       let last : s2.0.1 ≡ out.1 = ap (λ (o : List ℕ × List (List ℕ)). o.1) (ok-eq {E = Fault} _ out s2.2) in
-      let here : string_at section (offset_of_entry order encoding bytes (0 + n)) ≡ Ok string = named-at n string s3.1 in
+      let same : 0 + n ≡ n = omega arith in
+      let here : string_at section (offset_of_entry order encoding bytes (0 + n)) ≡ Ok string = subst (λ m. string_at section (offset_of_entry order encoding bytes m) ≡ Ok string) (sym same) (named-at n string s3.1) in
       record {
         named = before.named ++ string ∷ [];
         are = ap (strings_at section) (each-more (offset_of_entry order encoding bytes) 0 n)
@@ -178,7 +179,7 @@ module _ (source : Source) where
   whole-by size r rs false overlaps w h = absurd cc
   whole-by size r rs true true w h = absurd cc
   whole-by size r rs true false w h = record {
-    inside = leb-true (r.offset.0 + r.size) size (both (nat_le (r.offset.0 + r.size) size) _ w).0;
+    inside = leb-true (r.offset.0 + r.size) size (both (nat_le (r.offset.0 + r.size) size) (nat_le (header_size source.encoding) r.size) (both (nat_le (r.offset.0 + r.size) size && nat_le (header_size source.encoding) r.size) ((r.size - header_size source.encoding) % offset_size source.encoding.format == 0) w).0).0;
     rest = h;
   }
 
@@ -239,14 +240,15 @@ module _ (source : Source) where
       ∙ sym (with-append before.1 (here_named s) (named_in source ss))
 
 -- units bring no strings
+one-strings : (p : InProgress) (u : DwarfObject × NewUnit) (us : List (DwarfObject × NewUnit)) (there : Bool) → (with_new_units p us).strings ≡ p.strings → (with_new_units (with_unit_added p u) us).strings ≡ p.strings
+    → (with_new_units (cond there p (with_unit_added p u)) us).strings ≡ p.strings
+one-strings p u us true same more = same
+one-strings p u us false same more = more
+
 units-strings : (p : InProgress) (us : List (DwarfObject × NewUnit)) → (with_new_units p us).strings ≡ p.strings
 unfolding with_new_units with_new_unit
 units-strings p [] = refl
-units-strings p (u ∷ us) = by (list_any (same_name u.0) (names_of p))
-  where
-    by : (b : Bool) → (with_new_units (cond b p (with_unit_added p u)) us).strings ≡ p.strings
-    by true = units-strings p us
-    by false = units-strings (with_unit_added p u) us
+units-strings p (u ∷ us) = one-strings p u us (list_any (same_name u.0) (names_of p)) (units-strings p us) (units-strings (with_unit_added p u) us)
 
 -- ---- an input
 source-named : (source : Source) (before now : InProgress) → with_source source before ≡ Ok now → now.strings ≡ with_strings before.strings (named_in source source.object.sections)

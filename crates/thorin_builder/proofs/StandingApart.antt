@@ -54,15 +54,15 @@ moved-behind kind id n range (Some w) part h is = by (nat_le (range.offset.0 + r
         let start : w.offset.0 + range.offset.0 ≡ r.offset.0 = ap (λ (c : Contribution). c.offset.0) (same_Some _ _ (ok-eq {E = Fault} _ _ e ∙ k)) in
         let low = h w refl in
         omega (arith, start, low)
-    by false e = absurd cc
+    by false e r k = absurd cc
 
 column-behind : (kind : SectionKind) (id n : ℕ) (range whole part : Option Contribution) (own other : Bool) → Behind n whole
     → cond own (moved_range kind id range whole) (cond other (Ok None) (without_column whole)) ≡ Ok part → Behind n part
 column-behind kind id n None whole part true other h is r k = absurd (none-some r (ok-eq {E = Fault} None part is ∙ k))
-column-behind kind id n (Some range) whole part true other h is = moved-behind kind id n range whole part h is
+column-behind kind id n (Some range) whole part true other h is r k = moved-behind kind id n range whole part h is r k
 column-behind kind id n range whole part false true h is r k = absurd (none-some r (ok-eq {E = Fault} None part is ∙ k))
 column-behind kind id n range None part false false h is r k = absurd (none-some r (ok-eq {E = Fault} None part is ∙ k))
-column-behind kind id n range (Some w) part false false h is = absurd cc
+column-behind kind id n range (Some w) part false false h is r k = absurd cc
 
 abbrev adjustor : Indexes → SectionKind → Adjustor
 adjustor indexes kind = record { compilation = indexes.compilations; types = indexes.types; section = kind }
@@ -150,22 +150,26 @@ record Appended (base : Contents) (rows now : List IndexEntry) : Type 0 where
   is : now ≡ rows ++ added
   behind : EachRow (LieBehind base) added
 
+one-more : (base : Contents) (p : InProgress) (u : DwarfObject × NewUnit) (us : List (DwarfObject × NewUnit)) (there : Bool) → Grows base p.file.contents → LieBehind base u.1.row
+    → Appended base p.rows (with_new_units p us).rows → Appended base (with_unit_added p u).rows (with_new_units (with_unit_added p u) us).rows
+    → Appended base p.rows (with_new_units (cond there p (with_unit_added p u)) us).rows
+one-more base p u us true grows h same more = same
+one-more base p u us false grows h same more =
+    let c = p.file.contents in
+    let row = row_at u.1.row c u.0 u.1.bytes u.1.place in
+    record {
+      added = row ∷ more.added;
+      is = more.is ∙ append_assoc p.rows (row ∷ []) more.added;
+      behind = (own-behind base c u.1.row u.0 u.1.bytes u.1.place grows h, more.behind);
+    }
+
 units-behind : (base : Contents) (p : InProgress) (us : List (DwarfObject × NewUnit)) → Grows base p.file.contents → EachNew base us → Appended base p.rows (with_new_units p us).rows
 unfolding with_new_units with_new_unit
 units-behind base p [] grows all = record { added = []; is = sym (append-nil p.rows); behind = tt }
-units-behind base p (u ∷ us) grows all = by (list_any (same_name u.0) (names_of p))
-  where
-    by : (b : Bool) → Appended base p.rows (with_new_units (cond b p (with_unit_added p u)) us).rows
-    by true = units-behind base p us grows all.1
-    by false =
-        let c = p.file.contents in
-        let row = row_at u.1.row c u.0 u.1.bytes u.1.place in
-        let more = units-behind base (with_unit_added p u) us (grows-trans base c (with_unit_added p u).file.contents grows (grows-with_bytes (kind_at u.1.place) u.1.bytes c)) all.1 in
-        record {
-          added = row ∷ more.added;
-          is = more.is ∙ append_assoc p.rows (row ∷ []) more.added;
-          behind = (own-behind base c u.1.row u.0 u.1.bytes u.1.place grows all.0, more.behind);
-        }
+units-behind base p (u ∷ us) grows all =
+    one-more base p u us (list_any (same_name u.0) (names_of p)) grows all.0
+    (units-behind base p us grows all.1)
+    (units-behind base (with_unit_added p u) us (grows-trans base p.file.contents (with_unit_added p u).file.contents grows (grows-with_bytes (kind_at u.1.place) u.1.bytes p.file.contents)) all.1)
 
 -- ---- an input
 source-behind : (source : Source) (before now : InProgress) → with_source source before ≡ Ok now → Appended before.file.contents before.rows now.rows
@@ -228,7 +232,7 @@ units-appended file begun now h made is =
     is-made begun file made s5.0 (source-behind source (package_or_new file begun) s5.0 s5.1) (same_Some _ _ (ok-eq {E = Fault} _ now s5.2 ∙ is))
 
 info-appended : (file : Elf) (begun now : Option InProgress) (b : Bool) → cond b (with_units file begun) (Ok (Some (package_or_new file begun))) ≡ Ok now → AppendedBegun begun now
-info-appended file begun now true h = units-appended file begun now h
+info-appended file begun now true h made is = units-appended file begun now h made is
 info-appended file begun now false h made is =
     is-made begun file made (package_or_new file begun) (record { added = []; is = sym (append-nil (package_or_new file begun).rows); behind = tt }) (same_Some _ _ (ok-eq {E = Fault} _ now h ∙ is))
 
