@@ -26,6 +26,8 @@ pub mod RowMeaning
 pub mod RowShares
 pub mod SourceAdded
 pub mod InputJoined
+pub mod StandingApart
+pub mod FirstUses
 pub mod RowsFound
 pub mod IndexesRead
 pub mod ReadingFile

@@ -147,7 +147,7 @@ represents-added p parts after differing us ms all rep kept a =
           (subst (λ s. AreRowsOf q.file.order r.file.contents s r.rows all) (sym a.strings) a.rows);
     }
 
-grows-with_parts : (parts c : Contents) → Grows c (with_parts parts c)
+pub grows-with_parts : (parts c : Contents) → Grows c (with_parts parts c)
 grows-with_parts parts c kind = record { rest = joined_parts kind parts; is = content-with_parts kind parts c }
 
 pub source-joins : PartsLaw → RowsLaw → ReadAlone → ReadAnywhere → (source : Source) (before now : InProgress) (ms : Members)

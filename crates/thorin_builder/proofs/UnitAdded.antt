@@ -113,7 +113,7 @@ row-own : (shared : IndexEntry) (c : Contents) (name : DwarfObject) (x : List �
 row-own shared c name x places.Info = refl
 row-own shared c name x places.Types = refl
 
-row-part : (shared : IndexEntry) (c : Contents) (name : DwarfObject) (x : List ℕ) (place : UnitSection) (kind : SectionKind)
+pub row-part : (shared : IndexEntry) (c : Contents) (name : DwarfObject) (x : List ℕ) (place : UnitSection) (kind : SectionKind)
     → (contribution_to kind (row_at shared c name x place) ≡ contribution_to kind shared)
     ⊎ ((kind ≡ kind_at place) × (contribution_to kind (row_at shared c name x place) ≡ range_put (kind_at place) x c))
 row-part shared c name x places.Info kinds.Info = inr (refl, refl)

@@ -18,5 +18,7 @@ pub mod Strings
 pub mod Meaning
 pub mod Represents
 pub mod Join
+pub mod StandApart
+pub mod FirstUse
 pub mod Missing
 pub mod Taking

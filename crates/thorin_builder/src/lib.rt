@@ -3,6 +3,7 @@
 #![tactic(auto)]
 
 mod adding;
+mod beside;
 mod encodings;
 mod growing;
 mod in_progress;
@@ -17,6 +18,7 @@ mod source;
 mod state;
 mod units;
 
+pub use beside::{inputs_stand_apart, strings_stand_in_order_of_first_use};
 pub use in_progress::InProgressDwarfPackage;
 pub use joins::inputs_are_joined;
 pub use laws::{finished_packages_are_read, written_packages_are_read};
