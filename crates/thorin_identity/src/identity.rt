@@ -1,12 +1,15 @@
 //! Which unit a unit of a split object is.
 
-ghost use Rattle.std.specs.Prelude.{◌≢◌, IfErr};
+ghost use Rattle.std.specs.Prelude.{◌≡◌, ◌≢◌, Ok, IfErr};
+ghost use Rattle.dwp_bytes.specs.Input.{Input};
 ghost use Rattle.thorin_faults.specs.Answers.{Gives};
-ghost use Rattle.dwp_dwarf.specs.Units.{unit_of};
+ghost use Rattle.dwp_dwarf.specs.Units.{Unit, unit_of};
 ghost use Rattle.dwp_dwarf.specs.Attributes.{entry_of};
-ghost use Rattle.thorin_identity.specs.Identity.{identity, root_identity, entry_identity, first_identifier, is_unit_tag};
+ghost use Rattle.thorin_identity.specs.Identity.{identity, identity_by, root_identity, entry_identity, first_identifier, is_unit_tag};
 
-use dwp_dwarf::{Abbreviations, ReadError, Reader, RootEntry, UnitHeader, UnitType};
+use dwp_dwarf::{
+    AbbreviationCache, Abbreviations, ReadError, Reader, RootEntry, UnitHeader, UnitType,
+};
 use dwp_table::{DebugTypeSignature, DwarfObject, DwoId};
 use thorin_faults::Error;
 
@@ -31,13 +34,39 @@ pub fn dwo_identifier_of_unit<R: Reader>(
     ensures memory { IfErr result (λ e. e ≢ Error.Memory) }
 {
     match header.unit_type() {
+        UnitType::Compilation => root_identifier(debug_abbrev, header),
+        unit_type => Ok(header_identifier(unit_type)),
+    }
+}
+
+/// The same, where the section's table at hand is remembered: units that use one table, one after the other,
+/// read it once.
+#[tactic(auto, unfolding(crate::specs::Identity::identity))]
+pub fn dwo_identifier_remembering<R: Reader>(
+    debug_abbrev: &mut AbbreviationCache<R>,
+    header: &UnitHeader<R>,
+) -> Result<Option<DwarfObject>, Error>
+    ensures meaning { Gives (λ name. name) result (identity (R.input debug_abbrev.old) (unit_of R.input header.now)) }
+    ensures memory { IfErr result (λ e. e ≢ Error.Memory) }
+    ensures kept { debug_abbrev.new ≡ debug_abbrev.old }
+{
+    match header.unit_type() {
+        UnitType::Compilation => root_identifier_remembering(debug_abbrev, header),
+        unit_type => Ok(header_identifier(unit_type)),
+    }
+}
+
+// The identifier that a unit of this type has in its header.
+fn header_identifier(unit_type: UnitType) -> Option<DwarfObject>
+    ensures { unit_type ≢ UnitType.Compilation → (section : Input) → (unit : Unit) → identity_by section unit unit_type ≡ Ok result }
+{
+    match unit_type {
         UnitType::Skeleton(id) | UnitType::SplitCompilation(id) => {
-            Ok(Some(DwarfObject::Compilation(DwoId(id))))
+            Some(DwarfObject::Compilation(DwoId(id)))
         }
         UnitType::TypeUnit { type_signature, .. } | UnitType::SplitType { type_signature, .. } =>
-            Ok(Some(DwarfObject::TypeUnit(DebugTypeSignature(type_signature)))),
-        UnitType::Compilation => root_identifier(debug_abbrev, header),
-        UnitType::Partial => Ok(None),
+            Some(DwarfObject::TypeUnit(DebugTypeSignature(type_signature))),
+        UnitType::Compilation | UnitType::Partial => None,
     }
 }
 
@@ -56,6 +85,28 @@ fn root_identifier<R: Reader>(
     let (code, values) = header.root_code()?.ok_or(Error::NoDie)?;
     let abbreviation = table
         .get(code)
+        .map_err(Error::ParseUnitAbbreviations)?
+        .ok_or(Error::GimliRead(ReadError::UnknownCode))?;
+    entry_identifier(abbreviation.entry(header.encoding(), values))
+}
+
+// The same by what is remembered.
+#[tactic(auto, unfolding(crate::specs::Identity::root_identity))]
+fn root_identifier_remembering<R: Reader>(
+    debug_abbrev: &mut AbbreviationCache<R>,
+    header: &UnitHeader<R>,
+) -> Result<Option<DwarfObject>, Error>
+    ensures meaning { Gives (λ name. name) result (root_identity (R.input debug_abbrev.old) (unit_of R.input header.now)) }
+    ensures memory { IfErr result (λ e. e ≢ Error.Memory) }
+    ensures kept { debug_abbrev.new ≡ debug_abbrev.old }
+{
+    let offset = header.abbrev_offset();
+    let _table = Abbreviations::new(debug_abbrev.section(), offset).map_err(
+        Error::ParseUnitAbbreviations,
+    )?;
+    let (code, values) = header.root_code()?.ok_or(Error::NoDie)?;
+    let abbreviation = debug_abbrev
+        .get(offset, code)
         .map_err(Error::ParseUnitAbbreviations)?
         .ok_or(Error::GimliRead(ReadError::UnknownCode))?;
     entry_identifier(abbreviation.entry(header.encoding(), values))

@@ -3,4 +3,4 @@
 
 mod identity;
 
-pub use identity::dwo_identifier_of_unit;
+pub use identity::{dwo_identifier_of_unit, dwo_identifier_remembering};
