@@ -46,6 +46,30 @@ pub fn append_to(
     }
 }
 
+/// The same of bytes that are moved: where they are the first of their kind, nothing is copied.
+pub fn move_to(
+    sections: &mut Vec<(SectionKind, Vec<u8>)>,
+    kind: SectionKind,
+    bytes: Vec<u8>,
+) -> Result<usize, AllocError>
+    ensures contents { IfOk result (λ _. contents_of sections.new.items ≡ appended kind bytes.items (contents_of sections.old.items)) }
+    ensures place { IfOk result (λ place. place ≡ length (content_of kind (contents_of sections.old.items))) }
+    ensures unchanged { OnErr result (contents_of sections.new.items ≡ contents_of sections.old.items) }
+{
+    match number_of(sections, kind) {
+        Some(number) => {
+            let section = &mut sections[number];
+            let place = section.1.len();
+            section.1.extend_from_slice(&bytes)?;
+            Ok(place)
+        }
+        None => {
+            sections.push((kind, bytes))?;
+            Ok(0)
+        }
+    }
+}
+
 /// Keeps as many sections as there are sizes, each cut to its size.
 pub fn truncate_to(sections: &mut Vec<(SectionKind, Vec<u8>)>, sizes: &[usize])
     ensures { contents_of sections.new.items ≡ truncated (contents_of sections.old.items) sizes.now }

@@ -12,7 +12,7 @@ ghost use Rattle.dwp_elf.specs.Refusals.{RefusesFile, RefusesWriter, Blames};
 ghost use Rattle.dwp_elf.specs.Writing.{Writes, Faults};
 ghost use Rattle.dwp_elf.specs.Written.{written_elf};
 
-use crate::contents::{append_to, truncate_to};
+use crate::contents::{append_to, move_to, truncate_to};
 use crate::headers::{entry_size, file_header};
 use crate::output::{
     write_contents, write_name_table, write_section_headers, write_whole, write_zeros,
@@ -120,6 +120,33 @@ impl WritableObject {
         Ok(Some(Contribution {
             offset: ContributionOffset(place as u64),
             size: bytes.len() as u64,
+        }))
+    }
+
+    /// As `append`, of bytes that are moved: where they make the section, nothing is copied.
+    pub fn append_moved(
+        &mut self,
+        kind: SectionKind,
+        bytes: Vec<u8>,
+    ) -> Result<Option<Contribution>, WriteError>
+        ensures nothing { length bytes.items ≡ 0 → (result ≡ Ok None) × (self.new ≡ self.old) }
+        ensures place { 0 < length bytes.items → IfOk result (λ place. place ≡ Some (record {
+          offset = record { 0 = length (content_of kind self.old.contents) };
+          size = length bytes.items;
+        })) }
+        ensures contents { 0 < length bytes.items → OnOk result
+            (self.new ≡ record self.old { contents = appended kind bytes.items self.old.contents }) }
+        ensures refused { IfErr result (λ e. e ≡ Memory) }
+        ensures unchanged { OnErr result (self.new ≡ self.old) }
+    {
+        let size = bytes.len();
+        if size == 0 {
+            return Ok(None);
+        }
+        let place = move_to(&mut self.sections, kind, bytes).map_err(|_| WriteError::Memory)?;
+        Ok(Some(Contribution {
+            offset: ContributionOffset(place as u64),
+            size: size as u64,
         }))
     }
 
