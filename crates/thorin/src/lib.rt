@@ -1,10 +1,21 @@
 //! Packing split DWARF objects and finished packages (DWARF 5, 7.3.5; the GNU page
-//! DebugFissionDWP): whole packages from lists of inputs, and the builder.
+//! DebugFissionDWP): whole packages from lists of inputs, the builder, and the reader of packages.
+//! What a caller names besides stands here too: sessions, errors, the names of units and the arena.
 #![tactic(auto)]
 
 mod packing;
 
+pub use bumpalo::Bump;
+pub use dwp_base::{Class, Contribution, ContributionOffset, Endianness, SectionKind};
+pub use dwp_bytes::{Encoding, Format, ReadError, RelocationEntry};
+pub use dwp_elf::{Output, WritableObject, WriteError};
+pub use dwp_index::{PackageError, PackageFile, PackagedUnit, UnitEntry, Units};
+pub use dwp_table::{DebugTypeSignature, DwarfObject, DwoId};
 pub use packing::{Input, Packed, pack};
 pub use thorin_builder::{DwarfPackage, MissingTargets};
 pub use thorin_executable::{Skeleton, SkeletonList, skeletons};
+pub use thorin_faults::{
+    ArenaSession, BytesSession, Error, InputError, MemorySession, MissingReferencedObjectBehaviour,
+    Result, Session,
+};
 pub use thorin_identity::dwo_identifier_of_unit;

@@ -47,10 +47,14 @@ input_fault input.Memory = error.Memory
 abbrev pub FileMap : Type 0
 FileMap = BTreeMap (String Global) (Vec ℕ Global)
 
+-- an error that tells that there is no file
+abbrev pub OffersNone : Result (List ℕ) IoError → Type 0
+OffersNone answer = IsErrAnd answer (λ cause. error_kind cause ≡ NotFound)
+
 -- what is said of a file that may be there
 abbrev pub OffersFile : Option (Vec ℕ Global) → Result (List ℕ) IoError → Type 0
 OffersFile (Some file) answer = answer ≡ Ok file.items
-OffersFile None answer = IsErrAnd answer (λ cause. error_kind cause ≡ NotFound)
+OffersFile None answer = OffersNone answer
 
 -- the bytes of the file at the path, or an error that tells that there is none
 abbrev pub MapOffers : FileMap → List ℕ → Result (List ℕ) IoError → Type 0

@@ -7,4 +7,4 @@ mod session;
 pub use fault::{
     Error, InputError, MissingReferencedObjectBehaviour, Result, every_fault_has_a_text,
 };
-pub use session::{ArenaSession, MemorySession, Session};
+pub use session::{ArenaSession, BytesSession, MemorySession, Session};

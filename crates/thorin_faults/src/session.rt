@@ -10,11 +10,13 @@ use std::borrow::CowSlice;
 use std::path::Path;
 
 mod arena;
+mod bytes;
 mod memory;
 #[cfg(test)]
 mod tests;
 
 pub use arena::ArenaSession;
+pub use bytes::BytesSession;
 pub use memory::MemorySession;
 
 /// What holds the data of a run: inputs that were read, and what was made from them. Its memory isn't given back

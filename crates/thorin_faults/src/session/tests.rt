@@ -1,5 +1,5 @@
 use super::arena::read_into;
-use super::{ArenaSession, MemorySession, Session};
+use super::{ArenaSession, BytesSession, MemorySession, Session};
 use crate::fault::InputError;
 use bumpalo::Bump;
 use std::alloc::AllocError;
@@ -93,6 +93,23 @@ fn a_memory_session_gives_what_it_was_handed(rt: HostRuntime) -> Result<(), Fail
     }
     // Before the last use of what was placed this doesn't compile: the arena is still borrowed (E0502).
     bump.reset()?;
+    Ok(())
+}
+
+#[test]
+fn a_session_for_bytes_has_no_files(rt: HostRuntime) -> Result<(), Fail> {
+    let bump = Bump::new(rt.alloc());
+    let session = BytesSession::new(&bump);
+    match Session::<u64>::read_input(&session, Path::new("a.dwo")) {
+        Err(InputError::Io(cause)) => assert_eq!(&rt; cause.kind(), io::ErrorKind::NotFound),
+        _ => panic!(&rt; "there are no files"),
+    }
+    let bytes = b"de".to_vec(rt.alloc())?;
+    assert_eq!(&rt;
+        Session::<u64>::alloc_data(&session, bytes)?,
+        b"de".as_slice()
+    );
+    assert_eq!(&rt; session.alloc_relocation(&[3u64, 5])?, [3, 5].as_slice());
     Ok(())
 }
 

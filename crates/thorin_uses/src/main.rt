@@ -1,0 +1,27 @@
+//! The examples of the README, run: packs the sample, and prints the first strings of its unit.
+#![tactic(auto)]
+
+mod find_string;
+mod pack_bytes;
+
+use crate::find_string::string_of_unit;
+use crate::pack_bytes::package_of;
+use std::{fs, io};
+use thorin::DwoId;
+
+fn main(rt: HostRuntime) -> io::Result<()> {
+    let object = fs::read(&rt, "hello.dwo")?;
+    let package = match package_of(rt.alloc(), &[object.as_slice()]) {
+        Ok(package) => package,
+        Err(fault) => return println!(rt; "error: {fault}"),
+    };
+    println!(rt; "{} bytes", package.len())?;
+    for number in 0..4 {
+        match string_of_unit(&package, DwoId(0x084a58cc96339e44), number) {
+            Ok(Some(text)) => println!(rt; "{number} {}", text.escape_ascii())?,
+            Ok(None) => println!(rt; "{number} is past the strings")?,
+            Err(fault) => println!(rt; "error: {fault}")?,
+        }
+    }
+    Ok(())
+}
