@@ -8,6 +8,7 @@ ghost use Rattle.dwp_elf_read.specs.View.{elf};
 ghost use Rattle.dwp_index.specs.Contents.{content, contents_of};
 ghost use Rattle.dwp_index.specs.ContentFields.{contents_in};
 ghost use Rattle.dwp_table.specs.Objects.{identifier_of};
+ghost use Rattle.dwp_table.specs.declared.object.DwarfObject.TheVariants.{Compilation, TypeUnit};
 ghost use Rattle.dwp_table.specs.Table.{IsIndex, FindsExactly};
 ghost use Rattle.dwp_index.specs.Finding.{row_number, slots_for};
 ghost use Rattle.dwp_index.specs.Index.{Index, row_in, range_in};
@@ -24,7 +25,7 @@ use dwp_base::{Endianness, SectionKind};
 use dwp_bytes::Encoding;
 use dwp_dwarf::UnitSection;
 use dwp_elf_read::ElfFile;
-use dwp_table::{Bucketable, CONTRIBUTION_KINDS, DwarfObject};
+use dwp_table::{Bucketable, CONTRIBUTION_KINDS, DebugTypeSignature, DwarfObject, DwoId};
 use std::marker::Model;
 
 /// A package file: its sections, and the indexes that say which parts of them belong to which unit
@@ -83,7 +84,24 @@ impl<'a> PackageFile<'a> {
         Ok(unit)
     }
 
-    /// The same, and how many slots were looked at; 0 where there is no index of the kind.
+    /// The compilation unit of a DWO id: `find` of it, with the same refusals.
+    pub fn find_cu(&self, id: DwoId) -> Result<Option<PackagedUnit<'a>>, PackageError>
+        ensures { Answers (λ x. x) result (found self.now (Compilation id)) }
+    {
+        self.find(DwarfObject::Compilation(id))
+    }
+
+    /// The type unit of a signature: `find` of it, with the same refusals.
+    pub fn find_tu(
+        &self,
+        signature: DebugTypeSignature,
+    ) -> Result<Option<PackagedUnit<'a>>, PackageError>
+        ensures { Answers (λ x. x) result (found self.now (TypeUnit signature)) }
+    {
+        self.find(DwarfObject::TypeUnit(signature))
+    }
+
+    /// The unit of an identifier, and how many slots were looked at; 0 where there is no index of the kind.
     #[tactic(auto, unfolding(crate::specs::Package::found_counted))]
     pub fn find_counted(
         &self,

@@ -1,0 +1,381 @@
+#!/usr/bin/env python3
+"""Packs the same real and damaged inputs by thorin, llvm-dwp, binutils' dwp and the Rust crate, and writes what came of each.
+
+    bench/compare_packers.py THORIN [--crate PROGRAM] [--rounds N] > docs/COMPARISON.md
+
+It needs gcc, g++, clang, clang++, ar, objcopy, llvm-dwarfdump and the packers in PATH, and rustc if there is one; PROGRAM is
+bench/crate_program.source, built. Nothing of this is part of the gate. Each run has 20 seconds and 4 GiB of memory.
+N (200 without it) is how many files are damaged at random."""
+import collections
+import os
+import random
+import re
+import resource
+import shutil
+import signal
+import struct
+import subprocess
+import sys
+import tempfile
+from pathlib import Path
+
+SECONDS = 20
+C_MAIN = """#include <stdio.h>
+struct point { int x, y; };
+int squared(struct point from, struct point to);
+int main(void) { struct point a = {0, 0}, b = {3, 4}; printf("%d\\n", squared(a, b)); return 0; }
+"""
+C_PART = """struct point { int x, y; };
+int squared(struct point from, struct point to) { int x = to.x - from.x, y = to.y - from.y; return x * x + y * y; }
+"""
+C_ARRAY = """#include <stdio.h>
+struct row { int cells[1]; };
+int first(struct row *row) { printf("%d", row->cells[0]); return 1; }
+"""
+C_CALLER = """struct row { int cells[1]; };
+int first(struct row *);
+int main(void) { struct row row = {{7}}; return first(&row) - 1; }
+"""
+CXX_MAIN = """#include <map>
+#include <string>
+#include <vector>
+struct Point { int x, y; };
+int squared(const std::vector<Point> &points, const std::string &name);
+int main() { std::map<std::string, int> seen; seen["corner"] = squared({{0, 0}, {3, 4}}, "corner"); return int(seen.size()); }
+"""
+CXX_PART = """#include <map>
+#include <string>
+#include <vector>
+struct Point { int x, y; };
+int squared(const std::vector<Point> &points, const std::string &name) {
+  std::map<std::string, int> seen; seen[name] = 1; return points[1].x * points[1].x;
+}
+"""
+RUST = "struct Point { x: i32, y: i32 }\nfn main() { let p = Point { x: 3, y: 4 }; println!(\"{}\", p.x * p.x + p.y * p.y); }\n"
+
+
+def limits():
+    resource.setrlimit(resource.RLIMIT_CORE, (0, 0))
+    if not os.environ.get("NO_MEMORY_LIMIT"):
+        resource.setrlimit(resource.RLIMIT_AS, (4 << 30, 4 << 30))
+
+
+def run(words, where, seconds=SECONDS):
+    """Status, standard error and output of a command; the status None where it gave no answer in time."""
+    try:
+        done = subprocess.run(words, cwd=where, capture_output=True, timeout=seconds, preexec_fn=limits)
+        return done.returncode, (done.stderr + done.stdout).decode("utf-8", "replace")
+    except subprocess.TimeoutExpired:
+        return None, ""
+
+
+def must(words, where):
+    subprocess.run(words, cwd=where, check=True, capture_output=True)
+
+
+def units(path):
+    """The names of the entries of each unit, by its DWO id or type signature, as llvm-dwarfdump reads them."""
+    words = ["llvm-dwarfdump", "--debug-info", "--debug-types", path]
+    done = subprocess.run(words, capture_output=True, text=True, errors="replace", timeout=120)
+    found, name, texts = {}, None, []
+
+    def close():
+        if name is not None:
+            found[name] = tuple(texts)
+
+    for line in done.stdout.splitlines():
+        unit = re.match(r"0x[0-9a-f]+: (Compile|Type) Unit: .*", line)
+        if unit:
+            close()
+            key = re.search(r"(?:type_signature|DWO_id) = (0x[0-9a-f]+)", line)
+            name, texts = (unit[1], int(key[1], 16)) if key else (unit[1], line), []
+            continue
+        key = re.search(r"DW_AT_GNU_dwo_id\s+\((0x[0-9a-f]+)\)", line)
+        if key:
+            name = ("Compile", int(key[1], 16))
+        text = re.search(r'(DW_AT_\w+)\s+\("(.*)"\)', line)
+        if text:
+            texts.append(text[0].split(None, 1)[-1])
+    close()
+    return found
+
+
+def lengths_are_right(path):
+    """Whether the string offsets of DWARF 5 in a package are headers, each followed by as many bytes as its length says."""
+    data = path.read_bytes()
+    try:
+        index, _, _ = section(data, b".debug_cu_index")
+        place, size, _ = section(data, b".debug_str_offsets.dwo")
+    except KeyError:
+        return True
+    at = place
+    if struct.unpack_from("<H", data, index)[0] != 5:
+        return True
+    while at < place + size:
+        length, version = struct.unpack_from("<IH", data, at)
+        if version != 5:
+            return False
+        at += 4 + length
+    return at == place + size
+
+
+class Packer:
+    def __init__(self, title, command, program):
+        self.title, self.command, self.program = title, command, program
+
+    def pack(self, where, inputs, executable=None, seconds=SECONDS):
+        """Packs to OUT; what is to be said of it, and whether there is a package."""
+        out = where / "OUT"
+        out.unlink(missing_ok=True)
+        words = [*self.program, "-o", "OUT", *(["-e", executable] if executable else []), *inputs]
+        status, text = run(words, where, seconds)
+        if status is None:
+            return f"no answer in {seconds} s", False
+        if status < 0:
+            return f"crash: {signal.Signals(-status).name}", False
+        lines = [line for line in text.splitlines() if line.strip()]
+        panic = [line for line in lines if "panicked at" in line]
+        if panic:
+            return "panic" + (f": {lines[lines.index(panic[0]) + 1]}" if lines[-1] != panic[0] else ""), False
+        if status:
+            crash = [line for line in lines if "Stack dump" in line or "PLEASE submit" in line]
+            said = "crash" if crash else lines[0] if lines else "no word"
+            return f"{said} ({status})", False
+        if lines and all(line.startswith("warning: type unit") for line in lines):
+            return f"packed, but: {len(lines)} warning{'s' * (len(lines) > 1)}", out.exists()
+        return (f"packed, but: {lines[0]}" if lines else "packed"), out.exists()
+
+
+def judged(packer, where, inputs, wanted, executable=None):
+    """How many of the wanted units are in the package with all their names."""
+    said, is_there = packer.pack(where, inputs, executable)
+    if not is_there:
+        return said
+    found = units(where / "OUT")
+    right = sum(found.get(name) in variants for name, variants in wanted.items())
+    size = (where / "OUT").stat().st_size
+    said = "" if said == "packed" else "; " + said.removeprefix("packed, but: ")
+    said += "" if lengths_are_right(where / "OUT") else "; wrong lengths of string offsets"
+    if right == len(wanted):
+        return f"all {right}, {size:,} bytes{said}"
+    return f"**{right} of {len(wanted)}**, {size:,} bytes{said}"
+
+
+def wanted_of(paths):
+    wanted = collections.defaultdict(set)
+    for path in paths:
+        for name, texts in units(path).items():
+            wanted[name].add(texts)
+    return wanted
+
+
+def groups(folder):
+    """Folders of split objects, each with a linked program app: title, folder, objects."""
+    for compiler in ("gcc", "clang", "g++", "clang++"):
+        cxx = compiler.endswith("+")
+        for version in ("4", "5"):
+            for types in ([], ["-fdebug-types-section"]) if cxx else ([],):
+                where = folder / f"{compiler}{version}{len(types)}"
+                where.mkdir()
+                end = "cpp" if cxx else "c"
+                (where / f"main.{end}").write_text(CXX_MAIN if cxx else C_MAIN)
+                (where / f"part.{end}").write_text(CXX_PART if cxx else C_PART)
+                flags = ["-g", f"-gdwarf-{version}", "-gsplit-dwarf", *types]
+                must([compiler, *flags, "-c", f"main.{end}", f"part.{end}"], where)
+                must([compiler, "-o", "app", "main.o", "part.o"], where)
+                yield f"{compiler} -gdwarf-{version}{' ' + types[0] if types else ''}", where, ["main.dwo", "part.dwo"]
+    for version in ("4", "5"):
+        where = folder / f"array{version}"
+        where.mkdir()
+        (where / "array.c").write_text(C_ARRAY)
+        (where / "caller.c").write_text(C_CALLER)
+        must(["gcc", "-g", f"-gdwarf-{version}", "-gsplit-dwarf", "-c", "array.c"], where)
+        must(["gcc", "-o", "app", "array.o", "caller.c"], where)
+        yield f"gcc -gdwarf-{version}, a struct with an array", where, ["array.dwo"]
+    if shutil.which("rustc"):
+        for version in ("4", "5"):
+            where = folder / f"rustc{version}"
+            where.mkdir()
+            (where / "app.rs").write_text(RUST)
+            more = ["-Cdwarf-version=5"] if version == "5" else []
+            must(["rustc", "-g", "-Csplit-debuginfo=unpacked", *more, "app.rs"], where)
+            yield f"rustc, DWARF {version}", where, sorted(p.name for p in where.glob("*.dwo"))
+
+
+def section(data, name):
+    """Place and size of a section of a 64-bit little-endian ELF file, and the place of its header."""
+    headers, = struct.unpack_from("<Q", data, 40)
+    count, names = struct.unpack_from("<HH", data, 60)
+    base, = struct.unpack_from("<Q", data, headers + 64 * names + 24)
+    for i in range(count):
+        at = headers + 64 * i
+        text, = struct.unpack_from("<I", data, at)
+        place, size = struct.unpack_from("<QQ", data, at + 24)
+        if data[base + text:data.index(b"\0", base + text)] == name:
+            return place, size, at
+    raise KeyError(name)
+
+
+def changed(data, name, at, number, size=4):
+    """The file with a number written at a place of a section."""
+    place, _, _ = section(data, name)
+    return data[:place + at] + number.to_bytes(size, "little") + data[place + at + size:]
+
+
+def damaged(folder, objects):
+    """Inputs that are wrong: what is wrong, and the names of files of the folder."""
+
+    def file(name, data):
+        (folder / name).write_bytes(data)
+        return [name]
+
+    data = {v: (objects[v] / "main.dwo").read_bytes() for v in ("4", "5")}
+    packages = {v: (objects[v] / "app.dwp").read_bytes() for v in ("4", "5")}
+    good = file("good.dwo", data["4"])
+    yield "a file that isn't there", ["nowhere.dwo"]
+    yield "an empty file", file("empty.dwo", b"")
+    yield "a text", file("text.dwo", b"no object\n")
+    must(["ar", "rc", "archive.a", "good.dwo"], folder)
+    yield "an archive of an object", ["archive.a"]
+    yield "the same object twice", good + good
+    yield "objects of DWARF 4 and 5", good + file("five.dwo", data["5"])
+    small = Path(__file__).resolve().parent.parent / "crates" / "thorin_cli_tests" / "data"
+    orders = [file(name, (small / name).read_bytes())[0] for name in ("x.dwo", "big32.dwo")]
+    yield "objects of both byte orders", orders
+    (folder / "plain.c").write_text("int x;\n")
+    must(["gcc", "-c", "plain.c"], folder)
+    yield "an object without debug information", ["plain.o"]
+    must(["objcopy", "--compress-debug-sections=zlib", "good.dwo", "compressed.dwo"], folder)
+    yield "compressed sections", ["compressed.dwo"]
+    for v in ("4", "5"):
+        offsets, header = b".debug_str_offsets.dwo", 8 if v == "5" else 0
+        yield f"half of an object, DWARF {v}", file(f"half{v}.dwo", data[v][:len(data[v]) // 2])
+        yield f"a unit longer than its section, DWARF {v}", file(f"long{v}.dwo", changed(data[v], b".debug_info.dwo", 0, 0x10000))
+        yield f"a string offset past the strings, DWARF {v}", file(f"past{v}.dwo", changed(data[v], offsets, header, 0x7fffffff))
+        place, size, _ = section(data[v], b".debug_str.dwo")
+        endless = data[v][:place + size - 1] + b"x" + data[v][place + size:]
+        yield f"a last string without its end, DWARF {v}", file(f"endless{v}.dwo", endless)
+        _, _, header_at = section(data[v], b".debug_abbrev.dwo")
+        outside = data[v][:header_at + 24] + b"\xff" * 4 + data[v][header_at + 28:]
+        yield f"abbreviations past the end of the file, DWARF {v}", file(f"abbrev{v}.dwo", outside)
+    for v in ("4", "5"):
+        index = b".debug_cu_index"
+        package = packages[v]
+        place, _, _ = section(package, index)
+        slots, = struct.unpack_from("<I", package, place + 12)
+        columns, rows = struct.unpack_from("<II", package, place + 4)
+        yield f"a package whose index is of version 7, DWARF {v}", file(f"seven{v}.dwp", changed(package, index, 0, 7))
+        yield f"a package with 3 slots, DWARF {v}", file(f"slots{v}.dwp", changed(package, index, 12, 3))
+        yield f"a package of 2^30 units, DWARF {v}", file(f"units{v}.dwp", changed(package, index, 8, 1 << 30))
+        outside = changed(package, index, 16 + 12 * slots + 4 * columns, 0x7fffffff)
+        yield f"a package with a contribution outside its section, DWARF {v}", file(f"range{v}.dwp", outside)
+
+
+def cell(text):
+    text = text.replace("|", "\\|").strip()
+    return text if len(text) <= 110 else text[:107] + "..."
+
+
+def table(title, packers, rows):
+    print(f"\n## {title}\n")
+    print("| input | " + " | ".join(p.title for p in packers) + " |")
+    print("|---|" + "---|" * len(packers))
+    for name, cells in rows:
+        print(f"| {name} | " + " | ".join(cell(text) for text in cells) + " |")
+    sys.stdout.flush()
+
+
+def at_random(packer, where, files, rounds):
+    """What comes of files with some bytes changed, counted."""
+    counts = collections.Counter()
+    for seed in range(rounds):
+        generator = random.Random(seed)
+        data = bytearray(generator.choice(files))
+        for _ in range(generator.randint(1, 8)):
+            data[generator.randrange(len(data))] = generator.choice([0, 1, 0x7F, 0xFF, generator.randrange(256)])
+        (where / "random.dwo").write_bytes(data)
+        said, is_there = packer.pack(where, ["random.dwo"], seconds=5)
+        kind = "packed" if is_there else next((k for k in ("no answer", "crash", "panic") if said.startswith(k)), "refused")
+        counts[kind] += 1
+    return counts
+
+
+def version(program, pattern):
+    return re.search(pattern, subprocess.run([program, "--version"], capture_output=True, text=True).stdout)[1]
+
+
+def main():
+    words = sys.argv[1:]
+    if not words or words[0].startswith("-"):
+        sys.exit(__doc__)
+    thorin, rounds = Path(words.pop(0)).resolve(), 200
+    llvm, binutils = version("llvm-dwp", r"version ([0-9.]+)"), version("dwp", r"([0-9]+[.][0-9.]+)")
+    packers = [Packer("`thorin`", "thorin pack -o OUT INPUT..", [str(thorin), "pack"]),
+               Packer(f"`llvm-dwp` {llvm}", "llvm-dwp -o OUT INPUT..", ["llvm-dwp"]),
+               Packer(f"`dwp` of binutils {binutils}", "dwp -o OUT INPUT..", ["dwp"])]
+    while words:
+        word = words.pop(0)
+        if word == "--crate":
+            packers.append(Packer("the Rust crate 0.10.0", "PROGRAM -o OUT INPUT..", [str(Path(words.pop(0)).resolve())]))
+        elif word == "--rounds":
+            rounds = int(words.pop(0))
+        else:
+            sys.exit(__doc__)
+    folder = Path(tempfile.gettempdir()) / "compare_packers"  # always the same: identifiers come of paths too
+    shutil.rmtree(folder, ignore_errors=True)
+    folder.mkdir()
+    compare(folder, packers, rounds)
+
+
+def compare(folder, packers, rounds):
+    numbers = r"([0-9]+[.][0-9]+[.][0-9]+)"
+    compilers = ", ".join(f"{c} {version(c, numbers)}" for c in ("gcc", "clang", "rustc") if shutil.which(c))
+    print("# Beside the other packers\n")
+    print("Written by `bench/compare_packers.py`, which anyone can run; its head says how. Each cell is what one command did: "
+          + ", ".join(f"`{p.command}`" for p in packers) + ", for an executable `-e app` in the place of INPUT. "
+          f"A run had {SECONDS} seconds and 4 GiB. The inputs were made by {compilers}. "
+          "Time and memory are in [bench/README.md](../bench/README.md).\n")
+    print("- \"All N\": llvm-dwarfdump reads from the package all N units of the inputs by their DWO ids and type signatures, "
+          "each with just the names and other strings that it reads from the objects. \"**K of N**\": it does so of K units alone.\n"
+          "- \"Wrong lengths of string offsets\": a header of DWARF 5 string offsets doesn't have the length of what follows it "
+          "(DWARF 5, 7.26).\n"
+          "- A warning of `thorin` names a type unit that was passed over though its bytes differ from those that were kept.\n"
+          "- A number in brackets is the exit status. \"No word\" is a failure without a message. \"Leaves a file\": one that was "
+          "begun and is no package.")
+    found, objects = list(groups(folder)), {}
+    rows, again, linked = [], [], []
+    for title, where, inputs in found:
+        wanted = wanted_of(where / i for i in inputs)
+        rows.append((f"{title}: {len(inputs)} object{'s' * (len(inputs) > 1)}", [judged(p, where, inputs, wanted) for p in packers]))
+        linked.append((title, [judged(p, where, [], wanted, "app") for p in packers]))
+        packers[0].pack(where, inputs)
+        shutil.copy(where / "OUT", where / "app.dwp")
+        again.append((title, [judged(p, where, ["app.dwp"], wanted) for p in packers]))
+        if title in ("gcc -gdwarf-4", "gcc -gdwarf-5"):
+            objects["4" if "-4" in title else "5"] = where
+    table("Objects", packers, rows)
+    table("Executables", packers, linked)
+    table("A package packed again", packers, again)
+    print("\nThe package is that of `thorin`.")
+    wrong = folder / "wrong"
+    wrong.mkdir()
+    rows = []
+    for title, inputs in damaged(wrong, objects):
+        cells = []
+        for packer in packers:
+            said, is_there = packer.pack(wrong, inputs)
+            cells.append(said + ("" if is_there or not (wrong / "OUT").exists() else "; leaves a file"))
+        rows.append((title, cells))
+    lost = objects["4"]
+    (lost / "part.dwo").unlink()
+    rows.append(("an executable, an object of which is gone", [p.pack(lost, [], "app")[0] for p in packers]))
+    table("Damaged inputs", packers, rows)
+    files = [(where / i).read_bytes() for _, where, inputs in found for i in inputs if i == "main.dwo"]
+    files += [(where / "app.dwp").read_bytes() for where in objects.values()]
+    counts = [at_random(p, wrong, files, rounds) for p in packers]
+    kinds = ["packed", "refused", "crash", "panic", "no answer in 5 s"]
+    table(f"{rounds} objects and packages with one to eight bytes changed at random", packers,
+          [(kind, [str(c[kind.removesuffix(" in 5 s")]) for c in counts]) for kind in kinds])
+
+
+main()
