@@ -3,7 +3,7 @@
 use std::alloc::Global;
 use thorin::{Bump, BytesSession, Error, Input, pack};
 
-/// The package of these objects, or the first fault.
+/// The package of these objects, or the first error.
 pub fn package_of(alloc: Global, objects: &[&[u8]]) -> Result<Vec<u8>, Error> {
     let arena = Bump::new(alloc);
     let session = BytesSession::new(&arena);
