@@ -10,11 +10,13 @@ ghost use Rattle.thorin_executable.specs.View.{data_of, named, listed, IsFront, 
 use crate::loading::DebugData;
 use crate::paths::object_path;
 use crate::roots::SplitAttributes;
-use dwp_dwarf::{ReadError, Reader, RelocationEntry, UnitHeader, UnitHeaders, UnitSection};
+use dwp_dwarf::{
+    AbbreviationCache, ReadError, Reader, RelocationEntry, UnitHeader, UnitHeaders, UnitSection,
+};
 use dwp_table::DwarfObject;
 use std::alloc::Global;
 use thorin_faults::{Error, Session};
-use thorin_identity::dwo_identifier_of_unit;
+use thorin_identity::dwo_identifier_remembering;
 
 /// A split unit that an executable names, and the path of its object.
 #[derive(Debug, Drop)]
@@ -40,12 +42,15 @@ pub struct SkeletonList {
 fn named_unit<R: Reader>(
     alloc: Global,
     debug: &DebugData<R>,
+    abbreviations: &mut AbbreviationCache<R>,
     header: &UnitHeader<R>,
     target: DwarfObject,
 ) -> Result<Option<Skeleton>, Error>
-    ensures { Gives (option_map named) result (spec.named_in (data_of R.input debug.now) (unit_of R.input header.now) target) }
+    requires { abbreviations.old ≡ debug.now.debug_abbrev }
+    ensures meaning { Gives (option_map named) result (spec.named_in (data_of R.input debug.now) (unit_of R.input header.now) target) }
+    ensures kept { abbreviations.new ≡ abbreviations.old }
 {
-    let root = SplitAttributes::of_unit(&debug.debug_abbrev, header)?;
+    let root = SplitAttributes::of_unit(abbreviations, header)?;
     let format = header.encoding().format;
     match (root.object_name(), target) {
         (Some(name), _) => {
@@ -62,12 +67,15 @@ fn named_unit<R: Reader>(
 fn skeleton_of<R: Reader>(
     alloc: Global,
     debug: &DebugData<R>,
+    abbreviations: &mut AbbreviationCache<R>,
     header: &UnitHeader<R>,
 ) -> Result<Option<Skeleton>, Error>
-    ensures { Gives (option_map named) result (spec.skeleton_of (data_of R.input debug.now) (unit_of R.input header.now)) }
+    requires { abbreviations.old ≡ debug.now.debug_abbrev }
+    ensures meaning { Gives (option_map named) result (spec.skeleton_of (data_of R.input debug.now) (unit_of R.input header.now)) }
+    ensures kept { abbreviations.new ≡ abbreviations.old }
 {
-    match dwo_identifier_of_unit(&debug.debug_abbrev, header)? {
-        Some(target) => named_unit(alloc, debug, header, target),
+    match dwo_identifier_remembering(abbreviations, header)? {
+        Some(target) => named_unit(alloc, debug, abbreviations, header, target),
         None => Ok(None),
     }
 }
@@ -77,14 +85,17 @@ fn skeleton_of<R: Reader>(
 fn add_read<R: Reader>(
     alloc: Global,
     debug: &DebugData<R>,
+    abbreviations: &mut AbbreviationCache<R>,
     read: Result<UnitHeader<R>, ReadError>,
     units: &mut Vec<Skeleton>,
 ) -> Result<(), Error>
+    requires { abbreviations.old ≡ debug.now.debug_abbrev }
     ensures meaning { Gives (λ _. map named units.new.items) result (spec.with_read (data_of R.input debug.now) (map named units.old.items) (unit_seen R.input read)) }
+    ensures kept { abbreviations.new ≡ abbreviations.old }
     ensures refused { OnErr result (units.new.items ≡ units.old.items) }
 {
     let header = read.map_err(Error::ParseUnitHeader)?;
-    if let Some(skeleton) = skeleton_of(alloc, debug, &header)? {
+    if let Some(skeleton) = skeleton_of(alloc, debug, abbreviations, &header)? {
         units.push(skeleton)?;
     }
     Ok(())
@@ -96,8 +107,9 @@ fn units_named<R: Reader>(alloc: Global, debug: &DebugData<R>) -> SkeletonList
     ensures front { IsFront result (spec.skeletons_from (data_of R.input debug.now) (units Info (R.input debug.now.debug_info))) }
 {
     let mut units = Vec::new(alloc);
+    let mut abbreviations = AbbreviationCache::new(alloc, debug.debug_abbrev);
     for read in UnitHeaders::new(debug.debug_info, UnitSection::Info) {
-        if let Err(fault) = add_read(alloc, debug, read, &mut units) {
+        if let Err(fault) = add_read(alloc, debug, &mut abbreviations, read, &mut units) {
             return SkeletonList {
                 units,
                 fault: Some(fault),

@@ -7,7 +7,7 @@ ghost use Rattle.dwp_dwarf.specs.Attributes.{attribute_of, entry_of};
 ghost use Rattle.thorin_executable.specs.Roots as spec;
 ghost use Rattle.thorin_executable.specs.View.{attributes_of};
 
-use dwp_dwarf::{Abbreviations, Attribute, Format, ReadError, Reader, RootEntry, UnitHeader};
+use dwp_dwarf::{AbbreviationCache, Attribute, Format, ReadError, Reader, RootEntry, UnitHeader};
 use thorin_faults::Error;
 
 const DW_AT_COMP_DIR: u64 = 0x1b;
@@ -32,8 +32,12 @@ pub(crate) struct SplitAttributes<R> {
 impl<R: Reader> SplitAttributes<R> {
     /// Those of a unit's root entry: `NoDie` where it has none, `ParseUnit` for any fault in it.
     #[tactic(auto, unfolding(crate::specs::Roots::root_attributes))]
-    pub fn of_unit(debug_abbrev: &R, header: &UnitHeader<R>) -> Result<Self, Error>
-        ensures { Gives (attributes_of R.input) result (spec.root_attributes (R.input debug_abbrev.now) (unit_of R.input header.now)) }
+    pub fn of_unit(
+        debug_abbrev: &mut AbbreviationCache<R>,
+        header: &UnitHeader<R>,
+    ) -> Result<Self, Error>
+        ensures meaning { Gives (attributes_of R.input) result (spec.root_attributes (R.input debug_abbrev.old) (unit_of R.input header.now)) }
+        ensures kept { debug_abbrev.new ≡ debug_abbrev.old }
     {
         let root = root_entry(debug_abbrev, header)?;
         Self::of_entry(root, header.encoding().format)
@@ -82,18 +86,19 @@ impl<R: Reader> SplitAttributes<R> {
 
 // A unit's root entry.
 #[tactic(auto, unfolding(crate::specs::Roots::root_entry))]
-fn root_entry<R: Reader>(debug_abbrev: &R, header: &UnitHeader<R>) -> Result<RootEntry<R>, Error>
-    ensures { Gives (entry_of R.input) result (spec.root_entry (R.input debug_abbrev.now) (unit_of R.input header.now)) }
+fn root_entry<R: Reader>(
+    debug_abbrev: &mut AbbreviationCache<R>,
+    header: &UnitHeader<R>,
+) -> Result<RootEntry<R>, Error>
+    ensures meaning { Gives (entry_of R.input) result (spec.root_entry (R.input debug_abbrev.old) (unit_of R.input header.now)) }
+    ensures kept { debug_abbrev.new ≡ debug_abbrev.old }
 {
     let (code, values) = header
         .root_code()
         .map_err(Error::ParseUnit)?
         .ok_or(Error::NoDie)?;
-    let table = Abbreviations::new(*debug_abbrev, header.abbrev_offset()).map_err(
-        Error::ParseUnit,
-    )?;
-    let abbreviation = table
-        .get(code)
+    let abbreviation = debug_abbrev
+        .get(header.abbrev_offset(), code)
         .map_err(Error::ParseUnit)?
         .ok_or(Error::ParseUnit(ReadError::UnknownCode))?;
     Ok(abbreviation.entry(header.encoding(), values))
