@@ -16,7 +16,9 @@ pub mod Building
 pub mod BuilderView
 pub mod Strings
 pub mod Meaning
+pub mod Laid
 pub mod Represents
 pub mod Join
+pub mod Again
 pub mod Missing
 pub mod Taking

@@ -3,6 +3,7 @@
 #![tactic(auto)]
 
 mod adding;
+mod again;
 mod encodings;
 mod growing;
 mod in_progress;
@@ -17,6 +18,7 @@ mod source;
 mod state;
 mod units;
 
+pub use again::written_packages_mean_their_units;
 pub use in_progress::InProgressDwarfPackage;
 pub use joins::inputs_are_joined;
 pub use laws::{finished_packages_are_read, written_packages_are_read};
