@@ -155,7 +155,7 @@ read-in alone order places.Info bytes k unit h = (alone order places.Info bytes 
 read-in alone order places.Types bytes k unit h = (alone order places.Types bytes k unit h, λ is. types_or_five order bytes k unit h)
 
 -- there are bytes in which a header is read
-some-bytes : (order : Endianness) (place : UnitSection) (bytes : List ℕ) (encoding : Encoding) → encoding_in order place bytes ≡ Ok encoding → 0 < length bytes
+pub some-bytes : (order : Endianness) (place : UnitSection) (bytes : List ℕ) (encoding : Encoding) → encoding_in order place bytes ≡ Ok encoding → 0 < length bytes
 unfolding encoding_in unit_at initial_length_at number_at
 some-bytes order place [] encoding h = absurd cc
 some-bytes order place (b ∷ bs) encoding h = omega arith
@@ -202,7 +202,7 @@ ok_or-some None f name h = absurd cc
 ok_or-some (Some n) f name h = ap Some (same-ok n name h)
 
 -- a name is the identity that a unit has with some abbreviations
-name-identity : (source : Source) (kind : SectionKind) (unit : Header) (name : DwarfObject) → name_for source kind unit ≡ Ok name → (abbreviations : Input) × (identity abbreviations unit ≡ Ok (Some name))
+pub name-identity : (source : Source) (kind : SectionKind) (unit : Header) (name : DwarfObject) → name_for source kind unit ≡ Ok name → (abbreviations : Input) × (identity abbreviations unit ≡ Ok (Some name))
 unfolding name_for
 name-identity source kind unit name h =
     let a = bind-inv (abbreviations_for source kind unit) _ name h in

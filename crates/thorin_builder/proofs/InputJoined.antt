@@ -1,5 +1,5 @@
 -- An input that is taken joins its units to those of the package, and all of them can be found and read.
-use Rattle.std.proofs.Common.{◌≡◌, ◌∙◌, ℕ, Bool, true, false, cond, true≢false, List, [], ◌∷◌, ◌++◌, map, ap, sym, refl, subst, Result, Ok, Err, Option, Some, None, arith}
+use Rattle.std.proofs.Common.{◌≡◌, ◌∙◌, ℕ, Bool, true, false, cond, true≢false, List, [], ◌++◌, ap, sym, refl, subst, Result, Ok, Err, Option, Some, None, arith}
 use Rattle.std.proofs.lemmas.List.{append-nil}
 use Rattle.dwp_base.specs.Reading.{◌>>=◌}
 use Rattle.dwp_base.specs.declared.class.Class.{Class}
@@ -7,6 +7,7 @@ use Rattle.dwp_base.specs.declared.endian.Endianness.{Endianness}
 use Rattle.dwp_base.specs.declared.endian.Endianness.TheVariants.{Little, Big}
 use Rattle.dwp_elf_read.specs.Elf.{Elf}
 use Rattle.dwp_bytes.specs.declared.encoding.Encoding.{Encoding}
+use Rattle.dwp_dwarf.specs.Units.{UnitsAreTaken}
 use Rattle.dwp_table.specs.declared.object.DwarfObject.{DwarfObject}
 use Rattle.thorin_strings.specs.Strings.{IsTable}
 use Rattle.thorin_faults.specs.Fault.{Fault, MixedInputEncodings}
@@ -14,7 +15,8 @@ use Rattle.thorin_builder.specs.Builder.{package_or_new, order_of, same_order, o
 use Rattle.thorin_builder.specs.Encodings.{encoding_of}
 use Rattle.thorin_builder.specs.Indexes.{Indexes, Source, indexes_of}
 use Rattle.thorin_builder.specs.Join.{Joins}
-use Rattle.thorin_builder.specs.Meaning.{Meaning, Members, keys, source_meaning, object_meaning, input_meaning, joining}
+use Rattle.thorin_builder.specs.Laid.{IsLaid}
+use Rattle.thorin_builder.specs.Meaning.{Meaning, Members, source_meaning, object_meaning, input_meaning}
 use Rattle.thorin_builder.specs.Represents.{Represents, AreApart, IsSound, IsSoundBegun, units_of, units_begun}
 use Rattle.thorin_builder.specs.State.{InProgress, empty, names_of, with_source}
 use Rattle.thorin_builder.specs.Used.{Object, opened, has_info, object_of, used_from}
@@ -22,7 +24,7 @@ use Rattle.thorin_builder.proofs.Apart.{apart-none}
 use Rattle.thorin_builder.proofs.HeadersRead.{ReadAlone, ReadAnywhere}
 use Rattle.thorin_builder.proofs.PartsMean.{PartsLaw}
 use Rattle.thorin_builder.proofs.RowShares.{RowsLaw}
-use Rattle.thorin_builder.proofs.SourceAdded.{SourceJoins, source-joins}
+use Rattle.thorin_builder.proofs.SourceAdded.{source-joins}
 use Rattle.thorin_builder.proofs.Steps.{err-ok, ok-eq, bind-ok, bind-inv}
 use Rattle.thorin_builder.proofs.UnitsFound.{units-are, keys-units}
 
@@ -59,6 +61,7 @@ empty-sound : (class : Class) (machine : ℕ) (order : Endianness) → IsSound (
 empty-sound class machine order = record {
   units = record { table = no_strings; no_strings = refl; no_compilations = refl; no_types = refl; rows = tt };
   apart = apart-none;
+  laid = record { info = refl; types = refl; once = tt };
 }
 
 new-sound : (file : Elf) (begun : Option InProgress) → IsSoundBegun begun → IsSound (package_or_new file begun)
@@ -74,23 +77,23 @@ pub record InputKeeps (bytes : List ℕ) (begun now : Option InProgress) : Type 
   pub sound : IsSoundBegun now
   pub joins : Joins bytes (units_begun begun) (units_begun now)
 
-meaning-at : (bytes : List ℕ) (file : Elf) (b : Bool) → opened bytes ≡ Ok file → has_info file ≡ b → input_meaning bytes ≡ cond b (object_of file >>= object_meaning) (Ok [])
+pub meaning-at : (bytes : List ℕ) (file : Elf) (b : Bool) → opened bytes ≡ Ok file → has_info file ≡ b → input_meaning bytes ≡ cond b (object_of file >>= object_meaning) (Ok [])
 unfolding input_meaning
 meaning-at bytes file b h k = bind-ok (opened bytes) file _ h ∙ ap (λ e. cond e (object_of file >>= object_meaning) (Ok [])) k
 
-object-means : (object : Object) (encoding : Encoding) (indexes : Indexes) (units : List (DwarfObject × Option Meaning)) → encoding_of object ≡ Ok encoding → indexes_of object encoding ≡ Ok indexes
+pub object-means : (object : Object) (encoding : Encoding) (indexes : Indexes) (units : List (DwarfObject × Option Meaning)) → encoding_of object ≡ Ok encoding → indexes_of object encoding ≡ Ok indexes
     → source_meaning (record { object = object; encoding = encoding; indexes = indexes }) ≡ Ok units → object_meaning object ≡ Ok units
 unfolding object_meaning
 object-means object encoding indexes units h k m = bind-ok (encoding_of object) encoding _ h ∙ bind-ok (indexes_of object encoding) indexes _ k ∙ m
 
 -- a package that has these units is sound, and they are its units
-sound-of : (made : InProgress) (ms : Members) → Represents made ms → AreApart (names_of made) → IsSound made
-sound-of made ms rep apart = record { units = subst (Represents made) (units-are made ms rep) rep; apart = apart }
+sound-of : (made : InProgress) (ms : Members) → Represents made ms → AreApart (names_of made) → IsLaid made → IsSound made
+sound-of made ms rep apart laid = record { units = subst (Represents made) (units-are made ms rep) rep; apart = apart; laid = laid }
 
-units-keep : PartsLaw → RowsLaw → ReadAlone → ReadAnywhere → (bytes : List ℕ) (file : Elf) (begun now : Option InProgress)
+units-keep : PartsLaw → RowsLaw → ReadAlone → ReadAnywhere → UnitsAreTaken → (bytes : List ℕ) (file : Elf) (begun now : Option InProgress)
     → IsSoundBegun begun → opened bytes ≡ Ok file → has_info file ≡ true → with_units file begun ≡ Ok now → InputKeeps bytes begun now
 unfolding with_units with_source_or_new
-units-keep parts_law rows_law alone anywhere bytes file begun now sound opens info h =
+units-keep parts_law rows_law alone anywhere reads bytes file begun now sound opens info h =
     let s1 = bind-inv (object_of file) _ now h in
     let s2 = bind-inv (encoding_of s1.0) _ now s1.2 in
     let s3 = bind-inv (order_test s1.0.order begun) _ now s2.2 in
@@ -100,11 +103,11 @@ units-keep parts_law rows_law alone anywhere bytes file begun now sound opens in
     let before = package_or_new file begun in
     let fine = new-sound file begun sound in
     let ms = units_of before in
-    let j = source-joins parts_law rows_law alone anywhere source before s5.0 ms fine.units (sym (keys-units before)) fine.apart (made-order file s1.0 begun s1.1 s3.1) s5.1 in
+    let j = source-joins parts_law rows_law alone anywhere reads source before s5.0 ms fine.units (sym (keys-units before)) fine.apart fine.laid (made-order file s1.0 begun s1.1 s3.1) s5.1 in
     let was : ms ≡ units_begun begun = new-units file begun in
     let is : Some s5.0 ≡ now = ok-eq _ now s5.2 in
     record {
-      sound = subst IsSoundBegun is (sound-of s5.0 (ms ++ j.added) j.has j.apart);
+      sound = subst IsSoundBegun is (sound-of s5.0 (ms ++ j.added) j.has j.apart j.laid);
       joins = subst (λ n. Joins bytes (units_begun begun) (units_begun n)) is
           (subst (λ m. Joins bytes m (units_of s5.0)) was (record {
             units = j.units;
@@ -132,13 +135,13 @@ none-keep bytes file begun now sound opens info h =
       });
     }
 
-by-info : PartsLaw → RowsLaw → ReadAlone → ReadAnywhere → (bytes : List ℕ) (file : Elf) (begun now : Option InProgress) (b : Bool)
+by-info : PartsLaw → RowsLaw → ReadAlone → ReadAnywhere → UnitsAreTaken → (bytes : List ℕ) (file : Elf) (begun now : Option InProgress) (b : Bool)
     → IsSoundBegun begun → opened bytes ≡ Ok file → has_info file ≡ b → cond b (with_units file begun) (Ok (Some (package_or_new file begun))) ≡ Ok now → InputKeeps bytes begun now
-by-info parts_law rows_law alone anywhere bytes file begun now true sound opens info h = units-keep parts_law rows_law alone anywhere bytes file begun now sound opens info h
-by-info parts_law rows_law alone anywhere bytes file begun now false sound opens info h = none-keep bytes file begun now sound opens info h
+by-info parts_law rows_law alone anywhere reads bytes file begun now true sound opens info h = units-keep parts_law rows_law alone anywhere reads bytes file begun now sound opens info h
+by-info parts_law rows_law alone anywhere reads bytes file begun now false sound opens info h = none-keep bytes file begun now sound opens info h
 
-pub input-keeps : PartsLaw → RowsLaw → ReadAlone → ReadAnywhere → (bytes : List ℕ) (begun now : Option InProgress) → IsSoundBegun begun → with_input bytes begun ≡ Ok now → InputKeeps bytes begun now
+pub input-keeps : PartsLaw → RowsLaw → ReadAlone → ReadAnywhere → UnitsAreTaken → (bytes : List ℕ) (begun now : Option InProgress) → IsSoundBegun begun → with_input bytes begun ≡ Ok now → InputKeeps bytes begun now
 unfolding with_input
-input-keeps parts_law rows_law alone anywhere bytes begun now sound h =
+input-keeps parts_law rows_law alone anywhere reads bytes begun now sound h =
     let s = bind-inv (opened bytes) _ now h in
-    by-info parts_law rows_law alone anywhere bytes s.0 begun now (has_info s.0) sound s.1 refl s.2
+    by-info parts_law rows_law alone anywhere reads bytes s.0 begun now (has_info s.0) sound s.1 refl s.2

@@ -35,3 +35,12 @@ pub mod PackageFound
 pub mod Written
 pub mod Running
 pub mod MissingLemmas
+pub mod UnitMoved
+pub mod IdentitySort
+pub mod WrittenSections
+pub mod UnitsSplit
+pub mod RowAgain
+pub mod SectionAgain
+pub mod PackedAgain
+pub mod WholeUnits
+pub mod LaidKept

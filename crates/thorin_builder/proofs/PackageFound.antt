@@ -86,7 +86,7 @@ kind-same : (place : UnitSection) → kind_of place ≡ kind_at place
 kind-same places.Info = refl
 kind-same places.Types = refl
 
-part-there : (part : Option Contribution) → ((range : Contribution) → part ≡ Some range → 0 < range.size) → non_empty part ≡ part
+pub part-there : (part : Option Contribution) → ((range : Contribution) → part ≡ Some range → 0 < range.size) → non_empty part ≡ part
 part-there None some = refl
 part-there (Some part) some = by part.size refl
   where

@@ -70,7 +70,7 @@ at_rank Str = refl
 at_rank CuIndex = refl
 at_rank TuIndex = refl
 
-is_same : (a b : SectionKind) → same_kind a b ≡ true → a ≡ b
+pub is_same : (a b : SectionKind) → same_kind a b ≡ true → a ≡ b
 is_same a b e = same_Some _ _ (sym (at_rank a) ∙ ap (slice_get all_kinds) (eqb-true (rank_of a) (rank_of b) e) ∙ at_rank b)
 
 -- ---- at most 13 contents

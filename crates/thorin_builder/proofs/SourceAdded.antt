@@ -1,36 +1,35 @@
 -- A package with the units of an input has them beside its own.
-use Rattle.std.proofs.Common.{◌≡◌, ◌∙◌, ℕ, ◌<◌, Bool, true, false, cond, not, ◌&&◌, List, [], ◌∷◌, ◌++◌, length, take, map, ap, ap₂, sym, subst, refl, Option, Some, Result, Ok}
+use Rattle.std.proofs.Common.{◌≡◌, ◌∙◌, ℕ, ◌<◌, Bool, true, false, cond, not, ◌&&◌, List, [], ◌∷◌, ◌++◌, length, map, ap, ap₂, sym, subst, refl, Option, Some, Ok}
 use Rattle.std.specs.List.{list_any}
 use Rattle.std.proofs.lemmas.List.{append-nil}
 use Rattle.dwp_base.specs.declared.section.SectionKind.{SectionKind}
 use Rattle.dwp_base.specs.declared.section.SectionKind.TheVariants as kinds
-use Rattle.dwp_base.specs.declared.endian.Endianness.{Endianness}
 use Rattle.dwp_elf.specs.Contents.{content_of}
-use Rattle.dwp_dwarf.specs.declared.unit.UnitSection.{UnitSection}
-use Rattle.dwp_dwarf.specs.declared.unit.UnitSection.TheVariants as places
+use Rattle.dwp_dwarf.specs.Units.{UnitsAreTaken}
 use Rattle.dwp_index.specs.Package.{encoding_in}
 use Rattle.dwp_table.specs.declared.object.DwarfObject.{DwarfObject}
-use Rattle.dwp_table.specs.declared.object.DwarfObject.TheVariants.{Compilation, TypeUnit}
 use Rattle.thorin_strings.specs.Strings.{IsTable}
 use Rattle.thorin_parts.specs.declared.entry.IndexEntry.{IndexEntry}
 use Rattle.thorin_builder.specs.Growing.{Contents, with_parts, joined_parts}
 use Rattle.thorin_builder.specs.Indexes.{Source}
-use Rattle.thorin_builder.specs.Meaning.{Meaning, Members, UnitRead, unit_meaning, keys, meant, source_units, source_meaning, joining, can_join}
+use Rattle.thorin_builder.specs.Laid.{IsLaid}
+use Rattle.thorin_builder.specs.Meaning.{Meaning, Members, UnitRead, keys, meant, source_units, source_meaning, joining, can_join}
 use Rattle.thorin_builder.specs.Names.{same_name, is_compilation}
-use Rattle.thorin_builder.specs.NewUnits.{New, NewUnit, new_units, place_for}
+use Rattle.thorin_builder.specs.NewUnits.{New, NewUnit, new_units}
 use Rattle.thorin_builder.specs.Parts.{parts_of}
 use Rattle.thorin_builder.specs.Represents.{Represents, AreApart, AreRowsOf}
 use Rattle.thorin_builder.specs.State.{InProgress, names_of, held_units, unit_bytes, adding, abbreviations_test, with_all, with_source, with_new_units}
 use Rattle.thorin_builder.proofs.Apart.{joined_distinct}
 use Rattle.thorin_builder.proofs.HeadersRead.{ReadAlone, ReadAnywhere, HasHeader, AllHeaders, headers-joining, headers_read}
-use Rattle.thorin_builder.proofs.Joining.{IsAdded, AreAdded, UnitsJoined, units-joined, added-keys}
+use Rattle.thorin_builder.proofs.Joining.{IsAdded, AreAdded, units-joined, added-keys}
 use Rattle.thorin_builder.proofs.Keeping.{Grows, keep-rows}
-use Rattle.thorin_builder.proofs.PartGrowth.{content-with_parts}
+use Rattle.thorin_builder.proofs.LaidKept.{AllCanLie, units-lie, all-can-lie, parts-lie}
+use Rattle.thorin_builder.proofs.PartGrowth.{content-with_parts, parts-none}
 use Rattle.thorin_builder.proofs.PartsMean.{PartsKept, PartsLaw}
 use Rattle.thorin_builder.proofs.RowShares.{RowShares, RowsLaw}
 use Rattle.thorin_builder.proofs.Steps.{bind-ok, bind-inv, ok-eq}
-use Rattle.thorin_builder.proofs.UnitAdded.{Fits}
 use Rattle.thorin_builder.proofs.UnitsAdded.{AllNew, joined-new, new-by-keys, CanBeAdded, AllCanBeAdded, Added, units-added, str-other, cu-other, tu-other}
+use Rattle.thorin_builder.proofs.WholeUnits.{go-joining, units-go}
 
 -- ---- joining keeps what belongs to units
 
@@ -130,6 +129,7 @@ pub record SourceJoins (source : Source) (now : InProgress) (ms : Members) : Typ
   pub joined : joining (keys ms) units ≡ all_there added
   pub has : Represents now (ms ++ added)
   pub apart : AreApart (names_of now)
+  pub laid : IsLaid now
 
 represents-added : (p : InProgress) (parts : Contents) (after : List (List ℕ)) (differing : List ℕ) (us : List (DwarfObject × NewUnit)) (ms all : Members)
     → Represents p ms → PartsKept p.strings parts after → Added (with_all_parts p parts after differing) us all
@@ -150,10 +150,10 @@ represents-added p parts after differing us ms all rep kept a =
 pub grows-with_parts : (parts c : Contents) → Grows c (with_parts parts c)
 grows-with_parts parts c kind = record { rest = joined_parts kind parts; is = content-with_parts kind parts c }
 
-pub source-joins : PartsLaw → RowsLaw → ReadAlone → ReadAnywhere → (source : Source) (before now : InProgress) (ms : Members)
-    → Represents before ms → names_of before ≡ keys ms → AreApart (names_of before) → source.object.order ≡ before.file.order → with_source source before ≡ Ok now → SourceJoins source now ms
+pub source-joins : PartsLaw → RowsLaw → ReadAlone → ReadAnywhere → UnitsAreTaken → (source : Source) (before now : InProgress) (ms : Members)
+    → Represents before ms → names_of before ≡ keys ms → AreApart (names_of before) → IsLaid before → source.object.order ≡ before.file.order → with_source source before ≡ Ok now → SourceJoins source now ms
 unfolding with_source source_meaning
-source-joins parts_law rows_law alone anywhere source before now ms rep named apart same h =
+source-joins parts_law rows_law alone anywhere taken source before now ms rep named apart laid same h =
     let s1 = bind-inv (parts_of source before.strings) _ now h in
     let s2 = bind-inv (abbreviations_test source.object) _ now s1.2 in
     let s3 = bind-inv (new_units (adding source before s1.0.0)) _ now s2.2 in
@@ -172,6 +172,11 @@ source-joins parts_law rows_law alone anywhere source before now ms rep named ap
     (new-by-keys held (joining held j.all) new.units (sym (added-keys (adding source before parts) new.units (joining held j.all) j.are)) (joined-new held j.all)) in
     let rows = keep-rows before.file.order before.file.contents c before.strings after before.rows ms (grows-with_parts parts before.file.contents) kept.longer rep.rows in
     let a = units-added q new.units ms r.members fresh can rows in
+    let go = go-joining source.object.order held j.all (units-go taken alone source j.all j.is) in
+    let can_lie : AllCanLie q.file.order new.units = subst (λ o. AllCanLie o new.units) same (all-can-lie source before parts new.units (joining held j.all) j.are go) in
+    let parted = parts-lie before.file.order before.rows parts before.file.contents (parts-none source before.strings parts after s1.1 kinds.Info refl refl) (parts-none source before.strings parts after s1.1 kinds.Types refl refl)
+    (record { info = laid.info; types = laid.types; once = laid.once }) in
+    let lie = units-lie q new.units fresh can_lie parted in
     let is : with_new_units q new.units ≡ now = sym (all-is before parts after new) ∙ ok-eq _ now s3.2 in
     let names : held ≡ keys ms = keys-held before ∙ named in
     record {
@@ -184,4 +189,5 @@ source-joins parts_law rows_law alone anywhere source before now ms rep named ap
       apart = subst (λ (m : InProgress). AreApart (names_of m)) is
           (subst AreApart (sym (a.names ∙ ap (λ k. names_of before ++ k) (added-keys (adding source before parts) new.units (joining held j.all) j.are)))
           (subst (λ n. AreApart (names_of before ++ keys (joining n j.all))) (sym (keys-held before)) (joined_distinct (names_of before) j.all apart)));
+      laid = subst IsLaid is (record { info = lie.info; types = lie.types; once = lie.once });
     }

@@ -109,7 +109,7 @@ row-name shared c name x places.Info = refl
 row-name shared c name x places.Types = refl
 
 -- its other parts are those that it shares, and its own
-row-own : (shared : IndexEntry) (c : Contents) (name : DwarfObject) (x : List ℕ) (place : UnitSection) → contribution_to (kind_at place) (row_at shared c name x place) ≡ range_put (kind_at place) x c
+pub row-own : (shared : IndexEntry) (c : Contents) (name : DwarfObject) (x : List ℕ) (place : UnitSection) → contribution_to (kind_at place) (row_at shared c name x place) ≡ range_put (kind_at place) x c
 row-own shared c name x places.Info = refl
 row-own shared c name x places.Types = refl
 
@@ -153,7 +153,7 @@ info-place : (name : DwarfObject) → places.Info ≡ index.place_of name None
 info-place (Compilation id) = refl
 info-place (TypeUnit signature) = refl
 
-own-place : (shared : IndexEntry) (c : Contents) (name : DwarfObject) (x : List ℕ) (place : UnitSection) → Fits shared name x place
+pub own-place : (shared : IndexEntry) (c : Contents) (name : DwarfObject) (x : List ℕ) (place : UnitSection) → Fits shared name x place
     → place ≡ index.place_of name (contribution_to kinds.Types (row_at shared c name x place))
 own-place shared c name x places.Info fits = info-place name ∙ ap (index.place_of name) (sym fits.no_types)
 own-place shared c name x places.Types fits =

@@ -4,6 +4,8 @@ use Rattle.std.proofs.Math.Seq.{take-length}
 use Rattle.std.specs.Option.{ok_or}
 use Rattle.std.specs.List.Sorted.{IsPermutation}
 use Rattle.dwp_base.specs.declared.section.SectionKind.TheVariants as kinds
+use Rattle.dwp_dwarf.specs.declared.unit.UnitSection.{UnitSection}
+use Rattle.dwp_dwarf.specs.declared.unit.UnitSection.TheVariants as places
 use Rattle.dwp_elf.specs.Contents.{content_of}
 use Rattle.dwp_elf.specs.FileText.{Object as File, file_text}
 use Rattle.dwp_index.specs.Entries.{entries_from}
@@ -20,7 +22,7 @@ use Rattle.thorin_builder.specs.Builder.{State, IdentifiersFit, IsFinished, IsFi
 use Rattle.thorin_builder.specs.Growing.{Contents, with_bytes}
 use Rattle.thorin_builder.specs.Join.{IsPackageOnceWritten}
 use Rattle.thorin_builder.specs.Represents.{IsSound, IsSoundBegun, units_of, units_in, units_begun}
-use Rattle.thorin_builder.specs.State.{InProgress, names_of}
+use Rattle.thorin_builder.specs.State.{InProgress, kind_at, names_of}
 use Rattle.thorin_builder.proofs.IndexesRead.{HasRows, IndexIsRead, IndexHasEntries, SomeIndex, NoIndex, index-read, chosen-fit}
 use Rattle.thorin_builder.proofs.Apart.{distinct_chosen}
 use Rattle.thorin_builder.proofs.Keeping.{Grows, grows-trans, grows-with_bytes, keep-rows}
@@ -44,7 +46,7 @@ tested-indexes made h =
     let s = bind-inv (index_tests (compilations made.rows)) _ tt h in
     record { compilation_rows = s.1; type_rows = s.2 }
 
-tested-state : (state : State) (made : InProgress) → state.begun ≡ Some made → finish_test state ≡ Ok tt → Tested made
+pub tested-state : (state : State) (made : InProgress) → state.begun ≡ Some made → finish_test state ≡ Ok tt → Tested made
 unfolding finish_test
 tested-state state made begun h =
     let s1 = bind-inv (targets_test (names_in state.begun) state.targets) _ tt h in
@@ -88,6 +90,17 @@ module _ (made : InProgress) (file : File) (f : IsFinished made file) where
   finished-types none = ap (content_of kinds.TuIndex) contents-are
       ∙ content-with_bytes kinds.TuIndex kinds.TuIndex f.type_index with_compilations
       ∙ ap (λ l. l ++ f.type_index) (content-with_bytes kinds.TuIndex kinds.CuIndex f.compilation_index with_strings ∙ content-with_bytes kinds.TuIndex kinds.Str (data_of made.strings) made.file.contents ∙ none)
+
+  -- the units' own bytes
+  pub finished-own : (place : UnitSection) → content_of (kind_at place) file.contents ≡ content_of (kind_at place) made.file.contents
+  finished-own places.Info = ap (content_of kinds.Info) contents-are
+      ∙ content-with_bytes kinds.Info kinds.TuIndex f.type_index with_compilations
+      ∙ content-with_bytes kinds.Info kinds.CuIndex f.compilation_index with_strings
+      ∙ content-with_bytes kinds.Info kinds.Str (data_of made.strings) made.file.contents
+  finished-own places.Types = ap (content_of kinds.Types) contents-are
+      ∙ content-with_bytes kinds.Types kinds.TuIndex f.type_index with_compilations
+      ∙ content-with_bytes kinds.Types kinds.CuIndex f.compilation_index with_strings
+      ∙ content-with_bytes kinds.Types kinds.Str (data_of made.strings) made.file.contents
 
 -- the law of the names in a package
 abbrev pub NamedOnce : Type 0

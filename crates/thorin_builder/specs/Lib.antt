@@ -16,9 +16,11 @@ pub mod Building
 pub mod BuilderView
 pub mod Strings
 pub mod Meaning
+pub mod Laid
 pub mod Represents
 pub mod Join
 pub mod StandApart
 pub mod FirstUse
+pub mod Again
 pub mod Missing
 pub mod Taking

@@ -15,9 +15,10 @@ use Rattle.dwp_table.specs.declared.object.DwarfObject.{DwarfObject}
 use Rattle.thorin_strings.specs.Strings.{IsTable, data_of}
 use Rattle.thorin_parts.specs.Entries.{contribution_to}
 use Rattle.thorin_parts.specs.declared.entry.IndexEntry.{IndexEntry}
-use Rattle.thorin_builder.specs.Builder.{State, names_in}
+use Rattle.thorin_builder.specs.Builder.{State}
 use Rattle.thorin_builder.specs.Growing.{Contents}
-use Rattle.thorin_builder.specs.Meaning.{Meaning, Members, pieces_by, piece, keys}
+use Rattle.thorin_builder.specs.Laid.{IsLaid}
+use Rattle.thorin_builder.specs.Meaning.{Meaning, Members, pieces_by, piece}
 use Rattle.thorin_builder.specs.Names.{same_name}
 use Rattle.thorin_builder.specs.Parts.{is_copied}
 use Rattle.thorin_builder.specs.State.{InProgress, kind_at, names_of, unit_bytes}
@@ -90,10 +91,11 @@ pub record Represents (made : InProgress) (members : Members) : Type 0 where
 abbrev pub AreApart : List DwarfObject → Type 0
 AreApart names = AllPairs (λ a b. same_name a b ≡ false) names
 
--- a package has its units, none twice
+-- a package has its units, none twice, and they lie one after another
 pub record IsSound (made : InProgress) : Type 0 where
   pub units : Represents made (units_of made)
   pub apart : AreApart (names_of made)
+  pub laid : IsLaid made
 
 -- so has a builder, where an input has begun a package
 abbrev pub IsSoundBegun : Option InProgress → Type 0

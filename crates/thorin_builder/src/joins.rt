@@ -6,6 +6,7 @@ ghost use Rattle.thorin_builder.specs.Join.{Joins};
 ghost use Rattle.thorin_builder.specs.Represents.{IsSoundBegun, units_begun};
 ghost use Rattle.thorin_builder.specs.State.{InProgress};
 
+use dwp_dwarf::units_have_all_bytes;
 use dwp_index::units_are_read_alone;
 use thorin_packaged::packaged_rows_are_read_alike;
 use thorin_parts::{joined_string_offsets_are_read_in_turn, rewritten_strings_are_read_alike};
@@ -23,4 +24,5 @@ pub fn inputs_are_joined()
     joined_string_offsets_are_read_in_turn();
     packaged_rows_are_read_alike();
     units_are_read_alone();
+    units_have_all_bytes();
 }

@@ -3,6 +3,7 @@
 #![tactic(auto)]
 
 mod adding;
+mod again;
 mod beside;
 mod encodings;
 mod growing;
@@ -18,6 +19,7 @@ mod source;
 mod state;
 mod units;
 
+pub use again::written_packages_mean_their_units;
 pub use beside::{inputs_stand_apart, strings_stand_in_order_of_first_use};
 pub use in_progress::InProgressDwarfPackage;
 pub use joins::inputs_are_joined;

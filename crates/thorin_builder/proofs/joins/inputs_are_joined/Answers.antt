@@ -1,6 +1,6 @@
 use Rattle.thorin_builder.proofs.PartsMean.{parts-kept}
 use Rattle.thorin_builder.proofs.RowShares.{row-shares}
-use Rattle.thorin_builder.proofs.InputJoined.{InputKeeps, input-keeps}
+use Rattle.thorin_builder.proofs.InputJoined.{input-keeps}
 use Rattle.thorin_builder.proofs.joins.inputs_are_joined.Goals as goal
 
 pub returns-clause-sound : goal.returns-clause-sound
@@ -9,7 +9,7 @@ returns-clause-sound c bytes begun now sound h =
     let packaged = c.packaged_rows_are_read_alike.ensures in
     (input-keeps (parts-kept names packaged)
     (row-shares names c.rewritten_strings_are_read_alike.ensures c.joined_string_offsets_are_read_in_turn.ensures packaged)
-    c.units_are_read_alone.ensures.alone c.units_are_read_alone.ensures.anywhere bytes begun now sound h).sound
+    c.units_are_read_alone.ensures.alone c.units_are_read_alone.ensures.anywhere c.units_have_all_bytes.ensures.taken bytes begun now sound h).sound
 
 pub returns-clause-joins : goal.returns-clause-joins
 returns-clause-joins c bytes begun now sound h =
@@ -17,4 +17,4 @@ returns-clause-joins c bytes begun now sound h =
     let packaged = c.packaged_rows_are_read_alike.ensures in
     (input-keeps (parts-kept names packaged)
     (row-shares names c.rewritten_strings_are_read_alike.ensures c.joined_string_offsets_are_read_in_turn.ensures packaged)
-    c.units_are_read_alone.ensures.alone c.units_are_read_alone.ensures.anywhere bytes begun now sound h).joins
+    c.units_are_read_alone.ensures.alone c.units_are_read_alone.ensures.anywhere c.units_have_all_bytes.ensures.taken bytes begun now sound h).joins
