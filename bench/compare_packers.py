@@ -1,13 +1,12 @@
 #!/usr/bin/env python3
 """Packs the same real and damaged inputs by thorin, llvm-dwp, binutils' dwp and the Rust crate, and writes what came of each.
 
-    bench/compare_packers.py THORIN [--crate PROGRAM] [--rounds N] > docs/COMPARISON.md
+    bench/compare_packers.py THORIN [--crate PROGRAM] [--rounds N] [--note TEXT] > docs/COMPARISON.md
 
 It needs gcc, g++, clang, clang++, ar, objcopy, llvm-dwarfdump and the packers in PATH, and rustc if there is one; PROGRAM is
 bench/crate_program.source, built. Nothing of this is part of the gate. Each run has 20 seconds and 4 GiB of memory.
-N (200 without it) is how many files are damaged at random."""
+N (200 without it) is how many files are damaged at random. TEXT is put at the end of the head."""
 import collections
-import os
 import random
 import re
 import resource
@@ -56,14 +55,13 @@ RUST = "struct Point { x: i32, y: i32 }\nfn main() { let p = Point { x: 3, y: 4 
 
 def limits():
     resource.setrlimit(resource.RLIMIT_CORE, (0, 0))
-    if not os.environ.get("NO_MEMORY_LIMIT"):
-        resource.setrlimit(resource.RLIMIT_AS, (4 << 30, 4 << 30))
+    resource.setrlimit(resource.RLIMIT_AS, (4 << 30, resource.getrlimit(resource.RLIMIT_AS)[1]))
 
 
-def run(words, where, seconds=SECONDS):
+def run(words, where):
     """Status, standard error and output of a command; the status None where it gave no answer in time."""
     try:
-        done = subprocess.run(words, cwd=where, capture_output=True, timeout=seconds, preexec_fn=limits)
+        done = subprocess.run(words, cwd=where, capture_output=True, timeout=SECONDS, preexec_fn=limits)
         return done.returncode, (done.stderr + done.stdout).decode("utf-8", "replace")
     except subprocess.TimeoutExpired:
         return None, ""
@@ -123,14 +121,14 @@ class Packer:
     def __init__(self, title, command, program):
         self.title, self.command, self.program = title, command, program
 
-    def pack(self, where, inputs, executable=None, seconds=SECONDS):
+    def pack(self, where, inputs, executable=None):
         """Packs to OUT; what is to be said of it, and whether there is a package."""
         out = where / "OUT"
         out.unlink(missing_ok=True)
         words = [*self.program, "-o", "OUT", *(["-e", executable] if executable else []), *inputs]
-        status, text = run(words, where, seconds)
+        status, text = run(words, where)
         if status is None:
-            return f"no answer in {seconds} s", False
+            return f"no answer in {SECONDS} s", False
         if status < 0:
             return f"crash: {signal.Signals(-status).name}", False
         lines = [line for line in text.splitlines() if line.strip()]
@@ -294,7 +292,7 @@ def at_random(packer, where, files, rounds):
         for _ in range(generator.randint(1, 8)):
             data[generator.randrange(len(data))] = generator.choice([0, 1, 0x7F, 0xFF, generator.randrange(256)])
         (where / "random.dwo").write_bytes(data)
-        said, is_there = packer.pack(where, ["random.dwo"], seconds=5)
+        said, is_there = packer.pack(where, ["random.dwo"])
         kind = "packed" if is_there else next((k for k in ("no answer", "crash", "panic") if said.startswith(k)), "refused")
         counts[kind] += 1
     return counts
@@ -308,7 +306,7 @@ def main():
     words = sys.argv[1:]
     if not words or words[0].startswith("-"):
         sys.exit(__doc__)
-    thorin, rounds = Path(words.pop(0)).resolve(), 200
+    thorin, rounds, note = Path(words.pop(0)).resolve(), 200, ""
     llvm, binutils = version("llvm-dwp", r"version ([0-9.]+)"), version("dwp", r"([0-9]+[.][0-9.]+)")
     packers = [Packer("`thorin`", "thorin pack -o OUT INPUT..", [str(thorin), "pack"]),
                Packer(f"`llvm-dwp` {llvm}", "llvm-dwp -o OUT INPUT..", ["llvm-dwp"]),
@@ -317,6 +315,8 @@ def main():
         word = words.pop(0)
         if word == "--crate":
             packers.append(Packer("the Rust crate 0.10.0", "PROGRAM -o OUT INPUT..", [str(Path(words.pop(0)).resolve())]))
+        elif word == "--note":
+            note = " " + words.pop(0)
         elif word == "--rounds":
             rounds = int(words.pop(0))
         else:
@@ -324,17 +324,17 @@ def main():
     folder = Path(tempfile.gettempdir()) / "compare_packers"  # always the same: identifiers come of paths too
     shutil.rmtree(folder, ignore_errors=True)
     folder.mkdir()
-    compare(folder, packers, rounds)
+    compare(folder, packers, rounds, note)
 
 
-def compare(folder, packers, rounds):
+def compare(folder, packers, rounds, note):
     numbers = r"([0-9]+[.][0-9]+[.][0-9]+)"
     compilers = ", ".join(f"{c} {version(c, numbers)}" for c in ("gcc", "clang", "rustc") if shutil.which(c))
     print("# Beside the other packers\n")
     print("Written by `bench/compare_packers.py`, which anyone can run; its head says how. Each cell is what one command did: "
           + ", ".join(f"`{p.command}`" for p in packers) + ", for an executable `-e app` in the place of INPUT. "
           f"A run had {SECONDS} seconds and 4 GiB. The inputs were made by {compilers}. "
-          "Time and memory are in [bench/README.md](../bench/README.md).\n")
+          f"Time and memory are in [bench/README.md](../bench/README.md).{note}\n")
     print("- \"All N\": llvm-dwarfdump reads from the package all N units of the inputs by their DWO ids and type signatures, "
           "each with just the names and other strings that it reads from the objects. \"**K of N**\": it does so of K units alone.\n"
           "- \"Wrong lengths of string offsets\": a header of DWARF 5 string offsets doesn't have the length of what follows it "
@@ -373,9 +373,9 @@ def compare(folder, packers, rounds):
     files = [(where / i).read_bytes() for _, where, inputs in found for i in inputs if i == "main.dwo"]
     files += [(where / "app.dwp").read_bytes() for where in objects.values()]
     counts = [at_random(p, wrong, files, rounds) for p in packers]
-    kinds = ["packed", "refused", "crash", "panic", "no answer in 5 s"]
+    kinds = ["packed", "refused", "crash", "panic", "no answer"]
     table(f"{rounds} objects and packages with one to eight bytes changed at random", packers,
-          [(kind, [str(c[kind.removesuffix(" in 5 s")]) for c in counts]) for kind in kinds])
+          [(kind, [str(c[kind]) for c in counts]) for kind in kinds])
 
 
 main()
