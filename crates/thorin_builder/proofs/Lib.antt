@@ -33,3 +33,9 @@ pub mod PackageFound
 pub mod Written
 pub mod Running
 pub mod MissingLemmas
+pub mod OwnSections
+pub mod OwnNames
+pub mod OwnParts
+pub mod OwnIndexes
+pub mod OwnEncodings
+pub mod LongerTables

@@ -44,7 +44,7 @@ tested-indexes made h =
     let s = bind-inv (index_tests (compilations made.rows)) _ tt h in
     record { compilation_rows = s.1; type_rows = s.2 }
 
-tested-state : (state : State) (made : InProgress) → state.begun ≡ Some made → finish_test state ≡ Ok tt → Tested made
+pub tested-state : (state : State) (made : InProgress) → state.begun ≡ Some made → finish_test state ≡ Ok tt → Tested made
 unfolding finish_test
 tested-state state made begun h =
     let s1 = bind-inv (targets_test (names_in state.begun) state.targets) _ tt h in

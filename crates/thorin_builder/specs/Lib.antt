@@ -19,4 +19,7 @@ pub mod Meaning
 pub mod Represents
 pub mod Join
 pub mod Missing
+pub mod Own
+pub mod OwnUnits
+pub mod OwnInput
 pub mod Taking
