@@ -44,3 +44,9 @@ pub mod SectionAgain
 pub mod PackedAgain
 pub mod WholeUnits
 pub mod LaidKept
+pub mod OwnSections
+pub mod OwnNames
+pub mod OwnParts
+pub mod OwnIndexes
+pub mod OwnEncodings
+pub mod LongerTables

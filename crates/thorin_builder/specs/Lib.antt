@@ -23,4 +23,7 @@ pub mod StandApart
 pub mod FirstUse
 pub mod Again
 pub mod Missing
+pub mod Own
+pub mod OwnUnits
+pub mod OwnInput
 pub mod Taking

@@ -12,6 +12,7 @@ mod joins;
 mod laws;
 mod missing;
 mod object;
+mod own;
 mod package;
 mod parts;
 mod rows;
@@ -25,6 +26,10 @@ pub use in_progress::InProgressDwarfPackage;
 pub use joins::inputs_are_joined;
 pub use laws::{finished_packages_are_read, written_packages_are_read};
 pub use missing::MissingTargets;
+pub use own::{
+    identities_stay_in_longer_abbreviations, one_encoding_is_kept,
+    own_packages_are_taken_up_to_their_parts,
+};
 pub use package::DwarfPackage;
 pub use thorin_executable::{Skeleton, SkeletonList, skeletons};
 pub use thorin_identity::dwo_identifier_of_unit;

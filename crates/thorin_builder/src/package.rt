@@ -1,6 +1,6 @@
 //! The package builder.
 
-ghost use Rattle.std.specs.Prelude.{◌≡◌, ℕ, List, map, filter, IfOk, IfErr, OnOk, OnErr};
+ghost use Rattle.std.specs.Prelude.{◌≡◌, ℕ, List, map, filter, length, IsTrue, IfOk, IfErr, OnOk, OnErr};
 ghost use Rattle.thorin_faults.specs.Answers.{Gives};
 ghost use Rattle.std.specs.Path.{path_bytes};
 ghost use Rattle.thorin_builder.specs.Builder as spec;
@@ -9,6 +9,9 @@ ghost use Rattle.thorin_builder.specs.Join.{Joins, IsPackageOnceWritten};
 ghost use Rattle.thorin_builder.specs.Meaning.{keys};
 ghost use Rattle.thorin_builder.specs.Represents.{units_in};
 ghost use Rattle.thorin_builder.specs.Missing.{missing_left};
+ghost use Rattle.thorin_builder.specs.Own.{packs_again};
+ghost use Rattle.thorin_builder.specs.OwnUnits.{HasOneEncoding};
+ghost use Rattle.thorin_builder.specs.StateView.{begun_of};
 ghost use Rattle.thorin_builder.specs.Taking.{TakesFile, TakesExecutable, TakesNamed, TakesEach, TakesSkeleton, TakesReferredFile, with_target, is_there};
 ghost use Rattle.thorin_executable.specs.View.{named};
 
@@ -18,6 +21,7 @@ use crate::in_progress::InProgressDwarfPackage;
 use crate::joins::inputs_are_joined;
 use crate::laws::finished_packages_are_read;
 use crate::missing::MissingTargets;
+use crate::own::one_encoding_is_kept;
 use dwp_bytes::RelocationEntry;
 use dwp_dwarf::Encoding;
 use dwp_elf::WritableObject;
@@ -52,12 +56,13 @@ impl<'output, 'session: 'output, Sess: Session<RelocationEntry>> Model
 
     ghost use Rattle.thorin_builder.specs.BuilderView.{building};
     ghost use Rattle.std.specs.Prelude.{◌≡◌, []};
+    ghost use Rattle.thorin_builder.specs.OwnUnits.{HoldsOwn};
     ghost use Rattle.thorin_builder.specs.Represents.{IsSoundBegun};
     ghost use Rattle.thorin_builder.specs.StateView.{begun_of};
 
     ghost view = { building };
 
-    ghost invariant = { λ p. (p.no_units.keys ≡ []) × IsSoundBegun (begun_of p.in_progress) };
+    ghost invariant = { λ p. (p.no_units.keys ≡ []) × IsSoundBegun (begun_of p.in_progress) × HoldsOwn (building p).state };
 }
 
 impl<'output, 'session: 'output, Sess: Session<RelocationEntry>> fmt::Debug
@@ -126,10 +131,11 @@ impl<'output, 'session: 'output, Sess: Session<RelocationEntry>> DwarfPackage<
         ensures session { self.new.session ≡ self.old.session }
     {
         let is_first = self.in_progress.is_none();
-        let units = self.contained_units().len();
+        let units = unit_count(&self.in_progress);
         inputs_are_joined();
+        one_encoding_is_kept();
         let encoding = add_input(self.alloc, &mut self.in_progress, bytes)?;
-        self.own = if self.contained_units().len() <= units {
+        self.own = if unit_count(&self.in_progress) <= units {
             None
         } else if is_first {
             encoding
@@ -265,14 +271,26 @@ impl<'output, 'session: 'output, Sess: Session<RelocationEntry>> DwarfPackage<
     /// executable refers to and that isn't contained, with `NoOutputObjectCreated` where no input
     /// began a package, for the rows of each index with `NumberTooLarge`, `MixedInputEncodings` and
     /// `SectionOutsideFormat`, as `write_index` does, and with `Memory`.
-    #[tactic(auto, unfolding(crate::specs::Builder::finish_test))]
     pub fn finish(self) -> Result<WritableObject, Error>
         ensures refusal { Gives (λ _. tt) result (spec.finish_test self.entry.state) }
         ensures finished { IfOk result (IsFinishedState self.entry.state) }
         ensures packaged { IfOk result (IsPackageOnceWritten (units_in self.entry.state)) }
     {
+        let (file, _differing) = self.finish_with_differing();
+        file
+    }
+
+    /// The object to be written, or why there is none, as `finish` has it; and the signatures that
+    /// `differing_types` gives. The list is handed on as it is, without memory.
+    #[tactic(auto, unfolding(crate::specs::Builder::finish_test))]
+    pub fn finish_with_differing(self) -> (Result<WritableObject, Error>, Vec<DebugTypeSignature>)
+        ensures refusal { Gives (λ _. tt) result.0 (spec.finish_test self.entry.state) }
+        ensures finished { IfOk result.0 (IsFinishedState self.entry.state) }
+        ensures packaged { IfOk result.0 (IsPackageOnceWritten (units_in self.entry.state)) }
+        ensures differing { map (λ s. s.0) result.1.items ≡ spec.differing_in self.entry.state }
+    {
         let DwarfPackage {
-            alloc: _,
+            alloc,
             session: _,
             in_progress,
             no_units,
@@ -285,10 +303,12 @@ impl<'output, 'session: 'output, Sess: Session<RelocationEntry>> DwarfPackage<
             None => &no_units,
         };
         finished_packages_are_read();
-        test_targets(contained, &targets)?;
-        match in_progress {
-            Some(package) => package.finish(),
-            None => Err(Error::NoOutputObjectCreated),
+        let tested = test_targets(contained, &targets);
+        match (tested, in_progress) {
+            (Ok(()), Some(package)) => package.finish(),
+            (Ok(()), None) => (Err(Error::NoOutputObjectCreated), Vec::new(alloc)),
+            (Err(e), Some(package)) => (Err(e), package.into_differing()),
+            (Err(e), None) => (Err(e), Vec::new(alloc)),
         }
     }
 
@@ -314,12 +334,35 @@ impl<'output, 'session: 'output, Sess: Session<RelocationEntry>> DwarfPackage<
         }
     }
 
+    /// Whether the package, once it is finished and written, may be an input again: every accepted input
+    /// was a plain object that added a unit, all their units have one encoding, those that were passed over
+    /// too, and there are abbreviations and, where there are string offsets, strings. It takes no memory.
+    pub fn packs_again(&self) -> bool
+        ensures exact { result ≡ packs_again self.now.state }
+        ensures encoding { IsTrue result → HasOneEncoding self.now.state }
+    {
+        match &self.in_progress {
+            Some(package) => self.own.is_some() && package.has_sections(),
+            None => false,
+        }
+    }
+
     /// The units that executables refer to and that aren't contained, in order of insertion. It takes no
     /// memory.
     pub fn missing_targets(&self) -> MissingTargets<'_>
         ensures { missing_left result ≡ filter (spec.is_missing (spec.names_in self.now.state.begun)) self.now.state.targets }
     {
         MissingTargets::new(self.contained_units(), &self.targets)
+    }
+}
+
+// How many units a package has, where an input has begun one.
+fn unit_count(in_progress: &Option<InProgressDwarfPackage>) -> usize
+    ensures { result ≡ length (spec.names_in (begun_of in_progress.now)) }
+{
+    match in_progress {
+        Some(package) => package.names().len(),
+        None => 0,
     }
 }
 

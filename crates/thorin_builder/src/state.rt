@@ -1,12 +1,13 @@
 //! A package while it is made.
 
-ghost use Rattle.std.specs.Prelude.{◌≡◌, [], map, length, take, option_map, IfOk, IfErr, OnOk, OnErr};
+ghost use Rattle.std.specs.Prelude.{◌≡◌, ℕ, List, [], map, length, take, option_map, Some, IfOk, IfErr, OnOk, OnErr};
 ghost use Rattle.std.specs.Map.{lookup};
 ghost use Rattle.dwp_index.specs.Package.{part_of};
 ghost use Rattle.thorin_faults.specs.Answers.{Gives};
 ghost use Rattle.thorin_strings.specs.Marks.{mark_of};
 ghost use Rattle.thorin_builder.specs.Builder.{IsFinished, indexes_test, IdentifiersFit, rows_of};
 ghost use Rattle.thorin_builder.specs.Names.{same_name, is_compilation};
+ghost use Rattle.thorin_builder.specs.Own.{has_sections};
 ghost use Rattle.thorin_builder.specs.State as spec;
 ghost use Rattle.thorin_builder.specs.StateView.{in_progress_of, mark_in};
 ghost use Rattle.thorin_builder.specs.UnitView.{new_unit, new_of};
@@ -114,6 +115,22 @@ impl InProgressDwarfPackage {
         ensures { map (λ s. s.0) result.now ≡ (in_progress_of self.now).differing }
     {
         &self.differing
+    }
+
+    /// The same, moved out.
+    pub(crate) fn into_differing(self) -> Vec<DebugTypeSignature>
+        ensures { result.items ≡ self.differing.items }
+    {
+        self.differing
+    }
+
+    /// Whether there are abbreviations and, where there are string offsets, strings.
+    pub(crate) fn has_sections(&self) -> bool
+        ensures { result ≡ has_sections (Some (in_progress_of self.now)) }
+    {
+        let has_offsets = !content(&self.object, SectionKind::StrOffsets).is_empty();
+        !content(&self.object, SectionKind::Abbrev).is_empty()
+            && (!has_offsets || self.strings.len() > 0)
     }
 
     /// The bytes of the unit of a name.
@@ -228,31 +245,46 @@ impl InProgressDwarfPackage {
         self.names.truncate(mark.rows);
     }
 
-    /// The sections with the strings and both indexes, each where it isn't empty. Refuses as
-    /// `write_index` does.
-    #[tactic(auto, unfolding(crate::specs::Builder::indexes_test))]
-    pub(crate) fn finish(self) -> Result<WritableObject, Error>
-        ensures refusal { Gives (λ _. tt) result (indexes_test (in_progress_of self)) }
-        ensures finished { IfOk result (IsFinished (in_progress_of self)) }
+    /// The sections with the strings and both indexes, each where it isn't empty, and the signatures of
+    /// type units that differ. The sections refuse as `write_index` does.
+    pub(crate) fn finish(self) -> (Result<WritableObject, Error>, Vec<DebugTypeSignature>)
+        ensures refusal { Gives (λ _. tt) result.0 (indexes_test (in_progress_of self)) }
+        ensures finished { IfOk result.0 (IsFinished (in_progress_of self)) }
         ensures identifiers { IdentifiersFit self.rows.items }
+        ensures differing { result.1.items ≡ self.differing.items }
     {
         let InProgressDwarfPackage {
             alloc,
-            mut object,
+            object,
             strings,
             names: _,
             rows,
-            differing: _,
+            differing,
         } = self;
-        let order = object.endianness();
         identifiers_fit(&rows);
-        let compilations = write_index(alloc, order, &rows_of(alloc, &rows, true)?)?;
-        let types = write_index(alloc, order, &rows_of(alloc, &rows, false)?)?;
-        put(&mut object, SectionKind::Str, &strings.finish())?;
-        put(&mut object, SectionKind::CuIndex, &compilations)?;
-        put(&mut object, SectionKind::TuIndex, &types)?;
-        Ok(object)
+        (finished(alloc, object, strings, &rows), differing)
     }
+}
+
+// The sections with the strings and both indexes, each where it isn't empty. Refuses as `write_index` does.
+#[tactic(auto, unfolding(crate::specs::Builder::indexes_test))]
+fn finished(
+    alloc: Global,
+    object: WritableObject,
+    strings: PackageStringTable,
+    rows: &[IndexEntry],
+) -> Result<WritableObject, Error>
+    ensures refusal { (differing : List ℕ) → Gives (λ _. tt) result (indexes_test (record { file = object; strings = strings; rows = rows.now; differing = differing })) }
+    ensures finished { (differing : List ℕ) → IfOk result (IsFinished (record { file = object; strings = strings; rows = rows.now; differing = differing })) }
+{
+    let mut object = object;
+    let order = object.endianness();
+    let compilations = write_index(alloc, order, &rows_of(alloc, rows, true)?)?;
+    let types = write_index(alloc, order, &rows_of(alloc, rows, false)?)?;
+    put(&mut object, SectionKind::Str, &strings.finish())?;
+    put(&mut object, SectionKind::CuIndex, &compilations)?;
+    put(&mut object, SectionKind::TuIndex, &types)?;
+    Ok(object)
 }
 
 // Whether a name is that of a compilation unit.
