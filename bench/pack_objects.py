@@ -1,8 +1,9 @@
 #!/usr/bin/env python3
 """Makes real split objects, and measures how long the programs that pack them take.
 
-    pack_objects.py make FOLDER [COUNT]          writes COUNT C++ sources (40 if left out) and compiles each twice, as
-                                                 DWARF 4 and as DWARF 5, by g++: FOLDER/4/*.dwo and FOLDER/5/*.dwo
+    pack_objects.py make FOLDER [COUNT [KIND..]]     writes COUNT C++ sources (40 if left out) and compiles each as each KIND (4
+                                                 and 5 if left out): FOLDER/KIND/*.dwo. 4 and 5 are by g++ as DWARF 4 and 5,
+                                                 5t is 5 with type units, c5 is by clang++ -O2 as DWARF 5
     pack_objects.py run FOLDER RUNS NAME=PROGRAM..      packs each folder's objects by each program, RUNS times in turn
 
 A PROGRAM is called as `PROGRAM -o OUT INPUT..`; of thorin write 'thorin=path/to/thorin pack'. Wall time and peak
@@ -41,16 +42,24 @@ int search@(const std::string &text) {
 """
 
 
-def make(folder, count):
-    for version in ("4", "5"):
-        place = folder / version
+KINDS = {
+    "4": ["g++", "-gdwarf-4"],
+    "5": ["g++", "-gdwarf-5"],
+    "5t": ["g++", "-gdwarf-5", "-fdebug-types-section"],
+    "c5": ["clang++", "-gdwarf-5", "-O2"],
+}
+
+
+def make(folder, count, kinds):
+    for kind in kinds:
+        place = folder / kind
         place.mkdir(parents=True, exist_ok=True)
         for i in range(count):
             source = place / f"source{i}.cpp"
             more = [FURTHER[(i + k) % len(FURTHER)] for k in range(i % 5)]
             source.write_text(HEADERS + "".join(f"#include <{name}>\n" for name in more) + BODY.replace("@", str(i)))
-            flags = ["-std=c++17", "-c", "-g", f"-gdwarf-{version}", "-gsplit-dwarf"]
-            subprocess.run(["g++", *flags, source.name, "-o", f"source{i}.o"], cwd=place, check=True)
+            flags = ["-std=c++17", "-c", "-g", "-gsplit-dwarf"]
+            subprocess.run([*KINDS[kind], *flags, source.name, "-o", f"source{i}.o"], cwd=place, check=True)
 
 
 def measure(words, out):
@@ -90,9 +99,9 @@ def run(folder, runs, programs):
 def main():
     match sys.argv[1:]:
         case ["make", folder]:
-            make(pathlib.Path(folder), 40)
-        case ["make", folder, count]:
-            make(pathlib.Path(folder), int(count))
+            make(pathlib.Path(folder), 40, ["4", "5"])
+        case ["make", folder, count, *kinds]:
+            make(pathlib.Path(folder), int(count), kinds or ["4", "5"])
         case ["run", folder, runs, *programs]:
             pairs = [word.split("=", 1) for word in programs]
             run(pathlib.Path(folder).resolve(), int(runs), [(name, words.split()) for name, words in pairs])

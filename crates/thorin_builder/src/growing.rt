@@ -37,6 +37,19 @@ pub(crate) fn put(
     Ok(file.append(kind, bytes)?)
 }
 
+/// The same of bytes that are moved.
+pub(crate) fn put_moved(
+    file: &mut WritableObject,
+    kind: SectionKind,
+    bytes: Vec<u8>,
+) -> Result<Option<Contribution>, Error>
+    ensures place { IfOk result (λ place. place ≡ spec.range_put kind bytes.items file.old.contents) }
+    ensures contents { OnOk result (file.new ≡ record file.old { contents = spec.with_bytes kind bytes.items file.old.contents }) }
+    ensures refused { IfErr result (λ e. (e ≡ Error.Memory) × (file.new ≡ file.old)) }
+{
+    Ok(file.append_moved(kind, bytes)?)
+}
+
 /// The length of each section's content, in their order.
 pub(crate) fn lengths(alloc: Global, file: &WritableObject) -> Result<Vec<usize>, AllocError>
     ensures { IfOk result (λ lengths. lengths.items ≡ spec.lengths file.now.contents) }

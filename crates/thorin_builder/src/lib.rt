@@ -15,6 +15,7 @@ mod object;
 mod own;
 mod package;
 mod parts;
+mod reader;
 mod rows;
 mod source;
 mod state;
@@ -31,5 +32,6 @@ pub use own::{
     own_packages_are_taken_up_to_their_parts,
 };
 pub use package::DwarfPackage;
+pub use reader::InputReader;
 pub use thorin_executable::{Skeleton, SkeletonList, skeletons};
 pub use thorin_identity::dwo_identifier_of_unit;

@@ -13,7 +13,8 @@ ghost use Rattle.thorin_builder.specs.Own.{packs_again};
 ghost use Rattle.thorin_builder.specs.OwnUnits.{HasOneEncoding};
 ghost use Rattle.thorin_builder.specs.StateView.{begun_of};
 ghost use Rattle.thorin_builder.specs.Taking.{TakesFile, TakesExecutable, TakesNamed, TakesEach, TakesSkeleton, TakesReferredFile, with_target, is_there};
-ghost use Rattle.thorin_executable.specs.View.{named};
+ghost use Rattle.thorin_executable.specs.Skeletons.{skeletons_of};
+ghost use Rattle.thorin_executable.specs.View.{named, listed, IsFront, UnlessMemory};
 
 use crate::adding::add_input;
 use crate::encodings::common;
@@ -22,6 +23,7 @@ use crate::joins::inputs_are_joined;
 use crate::laws::finished_packages_are_read;
 use crate::missing::MissingTargets;
 use crate::own::one_encoding_is_kept;
+use crate::reader::InputReader;
 use dwp_bytes::RelocationEntry;
 use dwp_dwarf::Encoding;
 use dwp_elf::WritableObject;
@@ -102,7 +104,22 @@ impl<'output, 'session: 'output, Sess: Session<RelocationEntry>> DwarfPackage<
         ensures taken { TakesFile (Sess.offer self.old.session (path_bytes path.entry)) self.old.state result self.new.state }
         ensures session { self.new.session ≡ self.old.session }
     {
-        match self.session.read_input(path) {
+        let session = self.session;
+        let mut room = Vec::new(self.alloc);
+        self.add_input_by(session, &mut room, path)
+    }
+
+    /// The same of the object that a reader reads at a path, into room that is free again afterwards.
+    pub fn add_input_by<R: InputReader>(
+        &mut self,
+        reader: &R,
+        room: &mut Vec<u8>,
+        path: Path<'_>,
+    ) -> Result<(), Error>
+        ensures taken { TakesFile (R.offer reader.now (path_bytes path.entry)) self.old.state result self.new.state }
+        ensures session { self.new.session ≡ self.old.session }
+    {
+        match reader.read_into(path, room) {
             Ok(bytes) => self.add_object_bytes(bytes),
             Err(InputError::Io(e)) => Err(Error::ReadInput(e)),
             Err(InputError::Memory) => Err(Error::Memory),
@@ -162,24 +179,47 @@ impl<'output, 'session: 'output, Sess: Session<RelocationEntry>> DwarfPackage<
         ensures taken { TakesExecutable (Sess.offer self.old.session) (path_bytes path.entry) missing self.old.state result self.new.state }
         ensures session { self.new.session ≡ self.old.session }
     {
-        match self.session.read_input(path) {
-            Ok(bytes) => self.add_named(bytes, missing),
-            Err(InputError::Io(e)) => Err(Error::ReadInput(e)),
+        let session = self.session;
+        let mut room = Vec::new(self.alloc);
+        self.add_executable_by(session, &mut room, path, missing)
+    }
+
+    /// The same with a reader, which reads the executable, and then each object, into room that is free
+    /// again afterwards. The executable's relocations are placed in the session.
+    pub fn add_executable_by<R: InputReader>(
+        &mut self,
+        reader: &R,
+        room: &mut Vec<u8>,
+        path: Path<'_>,
+        missing: MissingReferencedObjectBehaviour,
+    ) -> Result<(), Error>
+        ensures taken { TakesExecutable (R.offer reader.now) (path_bytes path.entry) missing self.old.state result self.new.state }
+        ensures session { self.new.session ≡ self.old.session }
+    {
+        match reader.read_into(path, room) {
+            Ok(bytes) => {
+                let list = skeletons(self.alloc, self.session, bytes);
+                self.add_listed(reader, room, list, missing)
+            }
+            Err(InputError::Io(cause)) => Err(Error::ReadInput(cause)),
             Err(InputError::Memory) => Err(Error::Memory),
         }
     }
 
-    // Adds the objects that an executable's bytes refer to.
-    fn add_named(
+    // Adds the objects of the units that an executable's bytes refer to.
+    fn add_listed<R: InputReader>(
         &mut self,
-        bytes: &'session [u8],
+        reader: &R,
+        room: &mut Vec<u8>,
+        list: SkeletonList,
         missing: MissingReferencedObjectBehaviour,
     ) -> Result<(), Error>
-        ensures taken { (accepted : List (List ℕ)) × TakesNamed (Sess.offer self.old.session) missing bytes.now self.old.state result self.new.state accepted }
+        ensures taken { (bytes : List ℕ) → IsFront list (skeletons_of bytes) → UnlessMemory list.fault (skeletons_of bytes ≡ listed list)
+            → (accepted : List (List ℕ)) × TakesNamed (R.offer reader.now) missing bytes self.old.state result self.new.state accepted }
         ensures session { self.new.session ≡ self.old.session }
     {
-        let SkeletonList { units, fault } = skeletons(self.alloc, self.session, bytes);
-        let outcome = self.add_each(&units, missing);
+        let SkeletonList { units, fault } = list;
+        let outcome = self.add_each(reader, room, &units, missing);
         if outcome.is_err() {
             return outcome;
         }
@@ -190,16 +230,18 @@ impl<'output, 'session: 'output, Sess: Session<RelocationEntry>> DwarfPackage<
     }
 
     // Adds the objects of units that an executable refers to, up to the first refusal.
-    fn add_each(
+    fn add_each<R: InputReader>(
         &mut self,
+        reader: &R,
+        room: &mut Vec<u8>,
         units: &[Skeleton],
         missing: MissingReferencedObjectBehaviour,
     ) -> Result<(), Error>
-        ensures taken { (accepted : List (List ℕ)) × TakesEach (Sess.offer self.old.session) missing (map named units.now) self.old.state result self.new.state accepted }
+        ensures taken { (accepted : List (List ℕ)) × TakesEach (R.offer reader.now) missing (map named units.now) self.old.state result self.new.state accepted }
         ensures session { self.new.session ≡ self.old.session }
     {
         for skeleton in units {
-            let outcome = self.add_skeleton(skeleton, missing);
+            let outcome = self.add_skeleton(reader, room, skeleton, missing);
             if outcome.is_err() {
                 return outcome;
             }
@@ -208,19 +250,21 @@ impl<'output, 'session: 'output, Sess: Session<RelocationEntry>> DwarfPackage<
     }
 
     // Adds the object of a unit that an executable refers to.
-    fn add_skeleton(
+    fn add_skeleton<R: InputReader>(
         &mut self,
+        reader: &R,
+        room: &mut Vec<u8>,
         skeleton: &Skeleton,
         missing: MissingReferencedObjectBehaviour,
     ) -> Result<(), Error>
-        ensures taken { (accepted : List (List ℕ)) × TakesSkeleton (Sess.offer self.old.session) missing (named skeleton.now) self.old.state result self.new.state accepted }
+        ensures taken { (accepted : List (List ℕ)) × TakesSkeleton (R.offer reader.now) missing (named skeleton.now) self.old.state result self.new.state accepted }
         ensures session { self.new.session ≡ self.old.session }
     {
         if self.is_there(skeleton.target) {
             return Ok(());
         }
         self.add_target(skeleton.target)?;
-        self.add_referred(Path::new(skeleton.path.as_str()), missing)
+        self.add_referred(reader, room, Path::new(skeleton.path.as_str()), missing)
     }
 
     // Whether a unit is a compilation unit that the package has.
@@ -249,15 +293,17 @@ impl<'output, 'session: 'output, Sess: Session<RelocationEntry>> DwarfPackage<
     }
 
     // Adds the object at a path that an executable refers to; one that can't be read may be passed over.
-    fn add_referred(
+    fn add_referred<R: InputReader>(
         &mut self,
+        reader: &R,
+        room: &mut Vec<u8>,
         path: Path<'_>,
         missing: MissingReferencedObjectBehaviour,
     ) -> Result<(), Error>
-        ensures taken { TakesReferredFile (Sess.offer self.old.session (path_bytes path.entry)) missing self.old.state result self.new.state }
+        ensures taken { TakesReferredFile (R.offer reader.now (path_bytes path.entry)) missing self.old.state result self.new.state }
         ensures session { self.new.session ≡ self.old.session }
     {
-        match self.session.read_input(path) {
+        match reader.read_into(path, room) {
             Ok(bytes) => self.add_object_bytes(bytes),
             Err(InputError::Io(e)) => match missing {
                 MissingReferencedObjectBehaviour::Skip => Ok(()),

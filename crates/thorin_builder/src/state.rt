@@ -13,7 +13,7 @@ ghost use Rattle.thorin_builder.specs.StateView.{in_progress_of, mark_in};
 ghost use Rattle.thorin_builder.specs.UnitView.{new_unit, new_of};
 ghost use Rattle.thorin_builder.specs.View as view;
 
-use crate::growing::{content, lengths, put, restore};
+use crate::growing::{content, lengths, put, put_moved, restore};
 use crate::in_progress::InProgressDwarfPackage;
 use crate::parts::{parts_of, put_parts};
 use crate::rows::Whole;
@@ -281,9 +281,9 @@ fn finished(
     let order = object.endianness();
     let compilations = write_index(alloc, order, &rows_of(alloc, rows, true)?)?;
     let types = write_index(alloc, order, &rows_of(alloc, rows, false)?)?;
-    put(&mut object, SectionKind::Str, &strings.finish())?;
-    put(&mut object, SectionKind::CuIndex, &compilations)?;
-    put(&mut object, SectionKind::TuIndex, &types)?;
+    put_moved(&mut object, SectionKind::Str, strings.finish())?;
+    put_moved(&mut object, SectionKind::CuIndex, compilations)?;
+    put_moved(&mut object, SectionKind::TuIndex, types)?;
     Ok(object)
 }
 

@@ -8,17 +8,17 @@ use Rattle.thorin_builder.proofs.package.DwarfPackage.add_each.Goals as goal
 
 pub returns-then-is_err-clause-taken : goal.returns-then-is_err-clause-taken
 returns-then-is_err-clause-taken g c =
-    let offer = g.Sess.Session.offer c.args.self.now.session in
+    let offer = g.R.InputReader.offer c.args.reader.now in
     let took : (accepted : List (List ℕ)) × TakesSkeleton offer c.args.missing (named c.skeleton-item.result) c.loop-skeleton.self.state c.add_skeleton-outcome.result c.add_skeleton-outcome.new.self.state accepted =
-    rw (← c.loop-skeleton.invariant.1) c.add_skeleton-outcome.ensures.taken in
+    c.add_skeleton-outcome.ensures.taken in
     each-refused offer c.args.missing c.args.units.now c.loop-skeleton.skeleton-index c.skeleton-item.result c.args.self.now.state c.loop-skeleton.self.state c.add_skeleton-outcome.new.self.state c.add_skeleton-outcome.result
     c.loop-skeleton.invariant.0.0 took.0 c.loop-skeleton.invariant.0.1 c.loop-skeleton-test.true c.skeleton-item.is took.1 (search (rules, c.is_err.ensures, c.if-is_err))
 
 pub loop-skeleton-preserved : goal.loop-skeleton-preserved
 loop-skeleton-preserved g c =
-    let offer = g.Sess.Session.offer c.args.self.now.session in
+    let offer = g.R.InputReader.offer c.args.reader.now in
     let took : (accepted : List (List ℕ)) × TakesSkeleton offer c.args.missing (named c.skeleton-item.result) c.loop-skeleton.self.state c.add_skeleton-outcome.result c.add_skeleton-outcome.new.self.state accepted =
-    rw (← c.loop-skeleton.invariant.1) c.add_skeleton-outcome.ensures.taken in (
+    c.add_skeleton-outcome.ensures.taken in (
       (
         c.loop-skeleton.invariant.0.0 ++ took.0,
         each-next offer c.args.missing c.args.units.now c.loop-skeleton.skeleton-index c.skeleton-item.result c.args.self.now.state c.loop-skeleton.self.state c.add_skeleton-outcome.new.self.state c.add_skeleton-outcome.result
@@ -29,7 +29,7 @@ loop-skeleton-preserved g c =
 
 pub returns-clause-taken : goal.returns-clause-taken
 returns-clause-taken g c =
-    let offer = g.Sess.Session.offer c.args.self.now.session in (
+    let offer = g.R.InputReader.offer c.args.reader.now in (
       c.loop-skeleton.invariant.0.0,
       subst (λ l. AllTaken offer c.args.missing (map named l) c.args.self.now.state c.loop-skeleton.self.state c.loop-skeleton.invariant.0.0)
           (take_all c.loop-skeleton.skeleton-index c.args.units.now c.loop-skeleton-test.false) c.loop-skeleton.invariant.0.1,

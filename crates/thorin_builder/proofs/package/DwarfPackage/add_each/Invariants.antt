@@ -6,5 +6,5 @@ use Rattle.thorin_builder.proofs.package.DwarfPackage.add_each.Given as goal
 -- the units so far were taken
 abbrev pub invariant-loop-skeleton : goal.invariant-loop-skeleton
 invariant-loop-skeleton g l =
-    ((accepted : List (List ℕ)) × AllTaken (g.Sess.Session.offer l.fn.self.session) l.missing (map named (take l.skeleton-index l.units)) l.fn.self.state l.self.state accepted)
+    ((accepted : List (List ℕ)) × AllTaken (g.R.InputReader.offer l.reader) l.missing (map named (take l.skeleton-index l.units)) l.fn.self.state l.self.state accepted)
     × (l.self.session ≡ l.fn.self.session)

@@ -2,30 +2,31 @@ use Rattle.std.proofs.Common.{refl, rules, Ok, Err, []}
 use Rattle.thorin_faults.specs.declared.fault.InputError.TheVariants.{Io, Memory}
 use Rattle.thorin_builder.specs.Taking.{accepted_of}
 use Rattle.thorin_builder.proofs.Running.{passed-over, not-passed-over}
-use Rattle.thorin_builder.proofs.package.DwarfPackage.add_referred.Goals.{in-Skip, in-Error}
+use Rattle.thorin_faults.specs.declared.fault.Error.TheVariants as error
 use Rattle.thorin_builder.proofs.package.DwarfPackage.add_referred.Goals as goal
 
 pub returns-in-Ok-clause-taken : goal.returns-in-Ok-clause-taken
 returns-in-Ok-clause-taken g c = record {
   read = Ok c.in-Ok.bytes.now;
-  within = rw (← c.self.view_is) c.in-Ok.ensures.offered;
+  within = c.in-Ok.ensures.offered;
   accepted = accepted_of c.add_object_bytes.result c.in-Ok.bytes.now;
   taken = (record { meaning = c.add_object_bytes.ensures.meaning; joins = c.add_object_bytes.ensures.joins; unchanged = c.add_object_bytes.ensures.err }, refl);
 }
 
-pub returns-after-missing-clause-taken : goal.returns-after-missing-clause-taken
-returns-after-missing-clause-taken g c = record {
+pub returns-in-Skip-clause-taken : goal.returns-in-Skip-clause-taken
+returns-in-Skip-clause-taken g c = record {
   read = Err (Io c.in-Err-Io.e);
-  within = rw (← c.self.view_is) (search (rules, c.in-Err-Io.ensures.offered, c.in-Err-Io.e-is, c.in-Err-Io.field-0-is));
+  within = search (rules, c.in-Err-Io.ensures.offered, c.in-Err-Io.e-is, c.in-Err-Io.field-0-is);
   accepted = [];
-  taken = (
-    elim c.match-missing.branch [
-      | in-Skip w ↦ passed-over c.args.missing c.in-Err-Io.e c.match-missing.result (search (rules, w.in-Skip)) (search (rules, w.result-is))
-      | in-Error w ↦ not-passed-over c.args.missing c.in-Err-Io.e c.match-missing.result (search (rules, w.in-Error)) (search (rules, w.result-is))
-    ],
-    refl,
-    refl,
-  );
+  taken = (passed-over c.args.missing c.in-Err-Io.e (Ok tt) (search (rules, c.in-Skip)) refl, refl, refl);
+}
+
+pub returns-in-Error-clause-taken : goal.returns-in-Error-clause-taken
+returns-in-Error-clause-taken g c = record {
+  read = Err (Io c.in-Err-Io.e);
+  within = search (rules, c.in-Err-Io.ensures.offered, c.in-Err-Io.e-is, c.in-Err-Io.field-0-is);
+  accepted = [];
+  taken = (not-passed-over c.args.missing c.in-Err-Io.e (Err (error.ReadInput c.in-Err-Io.e)) (search (rules, c.in-Error)) refl, refl, refl);
 }
 
 pub returns-in-Err-Memory-clause-taken : goal.returns-in-Err-Memory-clause-taken

@@ -20,13 +20,11 @@ returns-in_err-add_target-clause-taken g c = (
 
 pub returns-clause-taken : goal.returns-clause-taken
 returns-clause-taken g c =
-    let offer = g.Sess.Session.offer c.args.self.now.session in
+    let offer = g.R.InputReader.offer c.args.reader.now in
     let absent : is_there (named c.args.skeleton.now).0 c.args.self.now.state ≡ false = search (rules, c.is_there.ensures, c.if-is_there) in
     let target : c.add_target.new.self.state ≡ with_target (named c.args.skeleton.now).0 c.args.self.now.state = search (rules, c.in_ok-add_target.ensures.target) in
-    let session : c.add_target.new.self.session ≡ c.args.self.now.session = c.add_target.ensures.session in
     let path : path_bytes c.new.result ≡ (named c.args.skeleton.now).1 = search (rules, c.new.ensures, c.as_str.ensures.value) in
     let file : TakesReferredFile (offer (named c.args.skeleton.now).1) c.args.missing (with_target (named c.args.skeleton.now).0 c.args.self.now.state) c.add_referred.result c.add_referred.new.self.state =
     subst (λ s. TakesReferredFile (offer (named c.args.skeleton.now).1) c.args.missing s c.add_referred.result c.add_referred.new.self.state) target
-    (subst (λ p. TakesReferredFile (offer p) c.args.missing c.add_target.new.self.state c.add_referred.result c.add_referred.new.self.state) path
-    (subst (λ s. TakesReferredFile (g.Sess.Session.offer s (path_bytes c.new.result)) c.args.missing c.add_target.new.self.state c.add_referred.result c.add_referred.new.self.state) session c.add_referred.ensures.taken)) in
+    (subst (λ p. TakesReferredFile (offer p) c.args.missing c.add_target.new.self.state c.add_referred.result c.add_referred.new.self.state) path c.add_referred.ensures.taken) in
     (file.accepted, inr (inl (record { absent = absent; file = file; accepted_is = refl })))

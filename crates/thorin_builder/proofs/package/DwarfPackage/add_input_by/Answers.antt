@@ -1,12 +1,12 @@
 use Rattle.std.proofs.Common.{refl, rules, Ok, Err, []}
 use Rattle.thorin_faults.specs.declared.fault.InputError.TheVariants.{Io, Memory}
 use Rattle.thorin_builder.specs.Taking.{accepted_of}
-use Rattle.thorin_builder.proofs.package.DwarfPackage.add_input_object.Goals as goal
+use Rattle.thorin_builder.proofs.package.DwarfPackage.add_input_by.Goals as goal
 
 pub returns-in-Ok-clause-taken : goal.returns-in-Ok-clause-taken
 returns-in-Ok-clause-taken g c = record {
   read = Ok c.in-Ok.bytes.now;
-  within = rw (← c.self.view_is) c.in-Ok.ensures.offered;
+  within = c.in-Ok.ensures.offered;
   accepted = accepted_of c.add_object_bytes.result c.in-Ok.bytes.now;
   taken = (record { meaning = c.add_object_bytes.ensures.meaning; joins = c.add_object_bytes.ensures.joins; unchanged = c.add_object_bytes.ensures.err }, refl);
 }
@@ -14,7 +14,7 @@ returns-in-Ok-clause-taken g c = record {
 pub returns-in-Err-Io-clause-taken : goal.returns-in-Err-Io-clause-taken
 returns-in-Err-Io-clause-taken g c = record {
   read = Err (Io c.in-Err-Io.e);
-  within = rw (← c.self.view_is) (search (rules, c.in-Err-Io.ensures.offered, c.in-Err-Io.e-is, c.in-Err-Io.field-0-is));
+  within = search (rules, c.in-Err-Io.ensures.offered, c.in-Err-Io.e-is, c.in-Err-Io.field-0-is);
   accepted = [];
   taken = (refl, refl, refl);
 }

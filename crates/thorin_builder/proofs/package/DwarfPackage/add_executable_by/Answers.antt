@@ -1,21 +1,21 @@
 use Rattle.std.proofs.Common.{refl, rules, Ok, Err, []}
 use Rattle.thorin_faults.specs.declared.fault.InputError.TheVariants.{Io, Memory}
-use Rattle.thorin_builder.proofs.package.DwarfPackage.add_executable.Goals as goal
+use Rattle.thorin_builder.proofs.package.DwarfPackage.add_executable_by.Goals as goal
 
 pub returns-in-Ok-clause-taken : goal.returns-in-Ok-clause-taken
 returns-in-Ok-clause-taken g c = record {
   read = Ok c.in-Ok.bytes.now;
-  within = rw (← c.self.view_is) c.in-Ok.ensures.offered;
-  accepted = c.add_named.ensures.taken.0;
-  taken = c.add_named.ensures.taken.1;
+  within = c.in-Ok.ensures.offered;
+  accepted = (c.add_listed.ensures.taken c.in-Ok.bytes.now c.skeletons-list.ensures.front c.skeletons-list.ensures.exact).0;
+  taken = (c.add_listed.ensures.taken c.in-Ok.bytes.now c.skeletons-list.ensures.front c.skeletons-list.ensures.exact).1;
 }
 
 pub returns-in-Err-Io-clause-taken : goal.returns-in-Err-Io-clause-taken
 returns-in-Err-Io-clause-taken g c = record {
-  read = Err (Io c.in-Err-Io.e);
-  within = rw (← c.self.view_is) (search (rules, c.in-Err-Io.ensures.offered, c.in-Err-Io.e-is, c.in-Err-Io.field-0-is));
+  read = Err (Io c.in-Err-Io.cause);
+  within = search (rules, c.in-Err-Io.ensures.offered, c.in-Err-Io.cause-is, c.in-Err-Io.field-0-is);
   accepted = [];
-  taken = (search (rules, c.in-Err-Io.e-is, c.in-Err-Io.field-0-is), refl, refl);
+  taken = (search (rules, c.in-Err-Io.cause-is, c.in-Err-Io.field-0-is), refl, refl);
 }
 
 pub returns-in-Err-Memory-clause-taken : goal.returns-in-Err-Memory-clause-taken
