@@ -1,12 +1,14 @@
 //! Whole packages from lists of inputs.
 
-ghost use Rattle.std.specs.Prelude.{◌≡◌, IfOk, IfErr};
+ghost use Rattle.std.specs.Prelude.{◌≡◌, map, IfOk, IfErr};
+ghost use Rattle.thorin_builder.specs.Builder.{differing_in};
 ghost use Rattle.thorin_builder.specs.Join.{IsPackageOf};
 ghost use Rattle.thorin.specs.Packed.{IsPacked};
 ghost use Rattle.thorin_builder.specs.Represents.{units_in};
 ghost use Rattle.thorin.specs.Run.{Took, Writes};
 
 use dwp_bytes::RelocationEntry;
+use dwp_table::DebugTypeSignature;
 use std::alloc::Global;
 use std::path::Path;
 use thorin_builder::DwarfPackage;
@@ -30,6 +32,9 @@ pub struct Packed {
     pub outcomes: Vec<Result<(), Error>>,
     /// The written package, or the first fault of finishing or writing it or `Memory`.
     pub file: Result<Vec<u8>, Error>,
+    /// The signatures of type units that were passed over and whose bytes differ from those of the unit
+    /// of their name that is kept, as `DwarfPackage::differing_types` gives them.
+    pub differing: Vec<DebugTypeSignature>,
 }
 
 /// Packs inputs in order, passing over those that are refused, and writes the package. Its own `Err`
@@ -48,8 +53,12 @@ pub fn pack<'s, Sess: Session<RelocationEntry>>(
         let outcome = take_input(&mut builder, *input);
         outcomes.push(outcome)?;
     }
-    let file = written(builder);
-    Ok(Packed { outcomes, file })
+    let (file, differing) = written(builder);
+    Ok(Packed {
+        outcomes,
+        file,
+        differing,
+    })
 }
 
 // Takes an input of a list.
@@ -67,13 +76,20 @@ fn take_input<'o, 's: 'o, Sess: Session<RelocationEntry>>(
     }
 }
 
-// The file of the finished package.
+// The file of the finished package, and the signatures of type units that differ.
 fn written<'o, 's: 'o, Sess: Session<RelocationEntry>>(
     builder: DwarfPackage<'o, 's, Sess>,
-) -> Result<Vec<u8>, Error>
-    ensures writes { Writes (λ bytes. bytes.items) builder.entry.state result }
-    ensures packaged { IfOk result (λ bytes. IsPackageOf (units_in builder.entry.state) bytes.items) }
+) -> (Result<Vec<u8>, Error>, Vec<DebugTypeSignature>)
+    ensures writes { Writes (λ bytes. bytes.items) builder.entry.state result.0 }
+    ensures packaged { IfOk result.0 (λ bytes. IsPackageOf (units_in builder.entry.state) bytes.items) }
+    ensures differing { map (λ s. s.0) result.1.items ≡ differing_in builder.entry.state }
 {
-    let file = builder.finish()?;
-    Ok(file.write()?)
+    let (finished, differing) = builder.finish_with_differing();
+    match finished {
+        Ok(file) => match file.write() {
+            Ok(bytes) => (Ok(bytes), differing),
+            Err(e) => (Err(Error::from(e)), differing),
+        },
+        Err(e) => (Err(e), differing),
+    }
 }

@@ -12,6 +12,8 @@ mod objects;
 #[cfg(test)]
 mod one_object;
 #[cfg(test)]
+mod own_packages;
+#[cfg(test)]
 mod packages;
 #[cfg(test)]
 mod refused;

@@ -45,8 +45,8 @@ fn a_unit_that_comes_again_is_refused(rt: HostRuntime) -> Result<(), Fail> {
     Ok(())
 }
 
-// A type unit of the same signature with one byte more.
-fn longer_type_unit() -> [u8; 24] {
+/// A type unit of the same signature with one byte more.
+pub fn longer_type_unit() -> [u8; 24] {
     let mut unit = [0u8; 24];
     for (to, from) in unit.iter_mut().zip(TYPE_UNIT) {
         *to = from;

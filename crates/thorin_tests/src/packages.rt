@@ -13,7 +13,7 @@ use thorin::DwarfPackage;
 use thorin_faults::{Error, MemorySession};
 
 /// The type unit 0x11 of version 5 with no entry.
-const SPLIT_TYPE: [u8; 24] = [
+pub const SPLIT_TYPE: [u8; 24] = [
     0x14, 0, 0, 0, 5, 0, 6, 8, 0, 0, 0, 0, 0x11, 0, 0, 0, 0, 0, 0, 0, 0, 0, 0, 0,
 ];
 
@@ -29,7 +29,7 @@ fn put(out: &mut Vec<u8>, number: u32) -> Result<(), Fail> {
 
 /// An index of info and abbreviations: for each slot the identifier and the row number, and for each
 /// row the offset and the size in both sections.
-fn index(
+pub fn index(
     alloc: Global,
     version: u32,
     slots: &[(u64, u32)],

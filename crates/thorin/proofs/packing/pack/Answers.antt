@@ -34,4 +34,5 @@ returns-clause-packed g c =
       joined = run-joined offer c.args.inputs.now start c.loop-input.builder.state c.loop-input.outcomes.items accepted ran;
       written = c.written-file.ensures.writes;
       package_of = c.written-file.ensures.packaged;
+      differing = c.written-file.ensures.differing;
     }
