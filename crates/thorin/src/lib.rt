@@ -2,8 +2,12 @@
 //! DebugFissionDWP): whole packages from lists of inputs, and the builder.
 #![tactic(auto)]
 
+mod groups;
+mod laws;
 mod packing;
 
+pub use groups::pack_groups;
+pub use laws::groups_are_joined_alike;
 pub use packing::{Input, Packed, pack};
 pub use thorin_builder::{DwarfPackage, MissingTargets};
 pub use thorin_executable::{Skeleton, SkeletonList, skeletons};
