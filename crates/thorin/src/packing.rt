@@ -76,8 +76,8 @@ fn take_input<'o, 's: 'o, Sess: Session<RelocationEntry>>(
     }
 }
 
-// The file of the finished package, and the signatures of type units that differ.
-fn written<'o, 's: 'o, Sess: Session<RelocationEntry>>(
+/// The file of the finished package, and the signatures of type units that differ.
+pub(crate) fn written<'o, 's: 'o, Sess: Session<RelocationEntry>>(
     builder: DwarfPackage<'o, 's, Sess>,
 ) -> (Result<Vec<u8>, Error>, Vec<DebugTypeSignature>)
     ensures writes { Writes (λ bytes. bytes.items) builder.entry.state result.0 }
