@@ -3,8 +3,10 @@
 #![tactic(auto)]
 
 mod packing;
+mod runs;
 
-pub use packing::{Input, Packed, pack};
-pub use thorin_builder::{DwarfPackage, MissingTargets};
+pub use packing::{Input, Packed, pack, take_input};
+pub use runs::runs_go_on;
+pub use thorin_builder::{DwarfPackage, InputReader, MissingTargets};
 pub use thorin_executable::{Skeleton, SkeletonList, skeletons};
 pub use thorin_identity::dwo_identifier_of_unit;
