@@ -6,6 +6,7 @@
 mod groups;
 mod laws;
 mod packing;
+mod runs;
 
 pub use bumpalo::Bump;
 pub use dwp_base::{Class, Contribution, ContributionOffset, Endianness, SectionKind};
@@ -15,8 +16,9 @@ pub use dwp_index::{PackageError, PackageFile, PackagedUnit, UnitEntry, Units};
 pub use dwp_table::{DebugTypeSignature, DwarfObject, DwoId};
 pub use groups::pack_groups;
 pub use laws::groups_are_joined_alike;
-pub use packing::{Input, Packed, pack};
-pub use thorin_builder::{DwarfPackage, MissingTargets};
+pub use packing::{Input, Packed, pack, take_input};
+pub use runs::runs_go_on;
+pub use thorin_builder::{DwarfPackage, InputReader, MissingTargets};
 pub use thorin_executable::{Skeleton, SkeletonList, skeletons};
 pub use thorin_faults::{
     ArenaSession, BytesSession, Error, InputError, MemorySession, MissingReferencedObjectBehaviour,

@@ -11,7 +11,7 @@ use dwp_bytes::RelocationEntry;
 use dwp_table::DebugTypeSignature;
 use std::alloc::Global;
 use std::path::Path;
-use thorin_builder::DwarfPackage;
+use thorin_builder::{DwarfPackage, InputReader};
 use thorin_faults::{Error, MissingReferencedObjectBehaviour, Session};
 
 /// What a package is made of.
@@ -49,8 +49,9 @@ pub fn pack<'s, Sess: Session<RelocationEntry>>(
 {
     let mut outcomes = Vec::with_capacity(alloc, inputs.len())?;
     let mut builder = DwarfPackage::new(alloc, session);
+    let mut room = Vec::new(alloc);
     for input in inputs {
-        let outcome = take_input(&mut builder, *input);
+        let outcome = take_input(&mut builder, session, &mut room, *input);
         outcomes.push(outcome)?;
     }
     let (file, differing) = written(builder);
@@ -61,18 +62,21 @@ pub fn pack<'s, Sess: Session<RelocationEntry>>(
     })
 }
 
-// Takes an input of a list.
-fn take_input<'o, 's: 'o, Sess: Session<RelocationEntry>>(
+/// Takes an input of a list; what paths name is read by a reader, into room that is free again
+/// afterwards. The errors are those of the builder's call for such an input.
+pub fn take_input<'o, 's: 'o, Sess: Session<RelocationEntry>, R: InputReader>(
     builder: &mut DwarfPackage<'o, 's, Sess>,
-    input: Input<'s>,
+    reader: &R,
+    room: &mut Vec<u8>,
+    input: Input<'_>,
 ) -> Result<(), Error>
-    ensures taken { Took (Sess.offer builder.old.session) input.entry builder.old.state result builder.new.state }
+    ensures taken { Took (R.offer reader.now) input.entry builder.old.state result builder.new.state }
     ensures session { builder.new.session ≡ builder.old.session }
 {
     match input {
-        Input::Object(path) => builder.add_input_object(path),
+        Input::Object(path) => builder.add_input_by(reader, room, path),
         Input::Bytes(bytes) => builder.add_object_bytes(bytes),
-        Input::Executable(path, missing) => builder.add_executable(path, missing),
+        Input::Executable(path, missing) => builder.add_executable_by(reader, room, path, missing),
     }
 }
 
