@@ -79,8 +79,8 @@ unit_of unit slots = record {
 }
 
 -- what a call that looks a unit up gives
-abbrev pub unit_found : List ℕ → ℕ → ℕ → Result ThorinUnit ℤ
-unit_found bytes kind id = looked_up bytes kind id >>= λ found. Ok (unit_of found.0 found.1)
+abbrev pub unit_found : Result Package ℤ → ℕ → ℕ → Result ThorinUnit ℤ
+unit_found pack kind id = pack >>= λ p. (unit_in p kind id >>= λ found. Ok (unit_of found.0 found.1))
 
 -- the section of a number, in the order of columns; status 7 where there is none
 abbrev pub section_of_place : Option SectionKind → Result SectionKind ℤ

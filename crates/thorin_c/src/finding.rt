@@ -18,13 +18,10 @@ use dwp_table::{CONTRIBUTION_KINDS, DebugTypeSignature, DwarfObject, DwoId};
 /// range of the unit and 6 where its header is malformed.
 #[unsafe(no_mangle)]
 pub extern "C" fn thorin_find(bytes: &[u8], kind: u8, id: u64, found: &mut ThorinUnit) -> i32
-    ensures { Fills (λ unit. unit) (unit_found bytes.now kind id) found.old found.new result }
+    ensures { Fills (λ unit. unit) (unit_found (as_status (package_of bytes.now)) kind id) found.old found.new result }
 {
-    match look_up(bytes, kind, id) {
-        Ok((unit, slots)) => {
-            *found = unit_of(&unit, slots);
-            DONE
-        }
+    match open(bytes) {
+        Ok(file) => fill(&file, kind, id, found),
         Err(status) => status,
     }
 }
@@ -133,21 +130,33 @@ fn look_each_up(file: &PackageFile<'_>, lookups: &mut [ThorinLookup])
     ensures { FillsEach (Ok file.now) lookups.old lookups.new (pos 0) }
 {
     for lookup in lookups.iter_mut() {
-        *lookup = looked(file, *lookup);
+        complete(file, lookup);
     }
 }
 
-// A look-up with what came of it.
-fn looked(file: &PackageFile<'_>, asked: ThorinLookup) -> ThorinLookup
-    ensures { result ≡ looked file.now asked }
+// Fills in what came of a look-up.
+fn complete(file: &PackageFile<'_>, lookup: &mut ThorinLookup)
+    ensures { lookup.new ≡ looked file.now lookup.old }
 {
-    match look_up_in(file, asked.kind, asked.id) {
-        Ok((unit, slots)) => ThorinLookup {
-            status: DONE,
-            unit: unit_of(&unit, slots),
-            ..asked
-        },
-        Err(status) => ThorinLookup { status, ..asked },
+    lookup.status = fill(file, lookup.kind, lookup.id, &mut lookup.unit);
+}
+
+// Fills in the unit of a name.
+#[tactic(auto, unfolding(crate::specs::Finding::unit_in))]
+fn fill(file: &PackageFile<'_>, kind: u8, id: u64, found: &mut ThorinUnit) -> i32
+    ensures { Fills (λ unit. unit) (unit_found (Ok file.now) kind id) found.old found.new result }
+{
+    let object = match object_of(kind, id) {
+        Ok(object) => object,
+        Err(status) => return status,
+    };
+    match &file.find_counted(object) {
+        Ok((Some(unit), slots)) => {
+            *found = unit_of(unit, *slots);
+            DONE
+        }
+        Ok((None, _)) => ABSENT,
+        Err(fault) => status_of(*fault),
     }
 }
 

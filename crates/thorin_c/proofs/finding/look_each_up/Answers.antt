@@ -7,6 +7,6 @@ pub loop-lookup-preserved : goal.loop-lookup-preserved
 loop-lookup-preserved c =
     let within : c.loop-lookup.lookup-index < length c.loop-lookup.lookups = omega arith in
     record {
-      done = mapped-next (looked c.args.file.now) c.args.lookups.now c.loop-lookup.lookups c.loop-lookup.lookup-index _ c.looked.result within c.loop-lookup-test.true c.loop-lookup.invariant.done c.loop-lookup.invariant.rest c.looked.ensures;
-      rest = rest-next c.args.lookups.now c.loop-lookup.lookups c.loop-lookup.lookup-index c.looked.result c.loop-lookup.invariant.rest;
+      done = mapped-next (looked c.args.file.now) c.args.lookups.now c.loop-lookup.lookups c.loop-lookup.lookup-index _ c.complete.new.lookup within c.loop-lookup-test.true c.loop-lookup.invariant.done c.loop-lookup.invariant.rest c.complete.ensures;
+      rest = rest-next c.args.lookups.now c.loop-lookup.lookups c.loop-lookup.lookup-index c.complete.new.lookup c.loop-lookup.invariant.rest;
     }
