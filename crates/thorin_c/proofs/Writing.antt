@@ -1,7 +1,7 @@
 -- A list written over another, from its beginning on.
-use Rattle.std.proofs.Common.{◌≡◌, ◌∙◌, ℕ, suc, List, [], ◌∷◌, ◌++◌, refl, sym, ap, ◌<◌, ◌≤◌, length, take, drop, set, min, map, subst, ◌+◌, arith}
+use Rattle.std.proofs.Common.{◌≡◌, ◌∙◌, ℕ, suc, List, [], ◌∷◌, ◌++◌, refl, sym, ap, ◌<◌, ◌≤◌, length, take, drop, set, get_or, min, map, subst, ◌+◌, arith}
 use native.Mathlib.Numerals.{unary_clauses}
-use Rattle.std.proofs.lemmas.List.{append_assoc, map-append, length-append}
+use Rattle.std.proofs.lemmas.List.{append_assoc, map-append, length-append, length-map, length-take-le, take_more}
 use Rattle.thorin_c.specs.Listing.{written_over}
 
 module _ {A : Type 0} where
@@ -57,3 +57,16 @@ module _ {A B : Type 0} where
   pub pass-next : (f : A → B) (old now : List B) (done : List A) (x : A) → now ≡ written_over old (map f done) → length old ≤ length (map f done)
       → now ≡ written_over old (map f (done ++ x ∷ []))
   pass-next f old now done x h k = h ∙ sym (ap (λ l. written_over old l) (map-append f done (x ∷ [])) ∙ none_more old (map f done) (f x) k)
+
+  -- the same over the first of some items
+  pub put-at : (f : A → B) (old now : List B) (items : List A) (d : A) (y : B) (i : ℕ) → now ≡ written_over old (map f (take i items)) → i < length items → i < length old → y ≡ f (get_or items i d)
+      → set now i y ≡ written_over old (map f (take (i + 1) items))
+  put-at f old now items d y i h k room is =
+      let count : i ≡ length (map f (take i items)) = sym (length-map (take i items) f ∙ length-take-le i items (omega arith)) in
+      put-next f old now (take i items) (get_or items i d) y i h room count is ∙ ap (λ l. written_over old (map f l)) (sym (take_more items i d k))
+
+  pub pass-at : (f : A → B) (old now : List B) (items : List A) (d : A) (i : ℕ) → now ≡ written_over old (map f (take i items)) → i < length items → length old ≤ i
+      → now ≡ written_over old (map f (take (i + 1) items))
+  pass-at f old now items d i h k room =
+      let count : i ≡ length (map f (take i items)) = sym (length-map (take i items) f ∙ length-take-le i items (omega arith)) in
+      pass-next f old now (take i items) (get_or items i d) h (subst (λ n. length old ≤ n) count room) ∙ ap (λ l. written_over old (map f l)) (sym (take_more items i d k))
