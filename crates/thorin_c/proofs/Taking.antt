@@ -17,7 +17,7 @@ use Rattle.thorin_builder.specs.Represents.{units_in}
 use Rattle.thorin_c.specs.Packing.{bytes_of, all_taken, Accepts, RefusesAt, TellsRefused, TellsLeft, TellsUnfinished, Refuses, IsUnfinished, IsPackage, Differ}
 use Rattle.thorin_c.specs.declared.types.ThorinBytes.{ThorinBytes}
 
-value : Result State Fault → State → State
+abbrev value : Result State Fault → State → State
 value (Ok s) other = s
 value (Err e) other = other
 
