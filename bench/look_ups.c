@@ -1,0 +1,60 @@
+/* look_ups PACKAGE COUNT: looks COUNT identifiers of a package up, in one call and one by one; prints nanoseconds for each,
+ * the least of seven rounds, and a sum of what was found. */
+#include "thorin.h"
+#include <fcntl.h>
+#include <inttypes.h>
+#include <stdio.h>
+#include <stdlib.h>
+#include <sys/mman.h>
+#include <sys/stat.h>
+#include <time.h>
+
+static double now(void) {
+  struct timespec t;
+  clock_gettime(CLOCK_MONOTONIC, &t);
+  return (double)t.tv_sec * 1e9 + (double)t.tv_nsec;
+}
+
+int main(int argc, char **argv) {
+  if (argc != 3) return 2;
+  int file = open(argv[1], O_RDONLY);
+  struct stat about;
+  if (file < 0 || fstat(file, &about) != 0) return 1;
+  size_t size = (size_t)about.st_size, count = strtoull(argv[2], NULL, 10);
+  const uint8_t *bytes = mmap(NULL, size, PROT_READ, MAP_PRIVATE, file, 0);
+  uint64_t units = 0;
+  if (bytes == MAP_FAILED || thorin_unit_count(bytes, size, &units) != THORIN_DONE || units == 0) return 1;
+  thorin_name *names = calloc(units, sizeof *names);
+  thorin_lookup *lookups = calloc(count, sizeof *lookups);
+  if (!names || !lookups || thorin_list(bytes, size, names, units, &units) != THORIN_DONE) return 1;
+
+  double each = 1e18, single = 1e18;
+  uint64_t each_sum = 0, single_sum = 0;
+  for (int round = 0; round < 7; round++) {
+    for (size_t i = 0; i < count; i++) {
+      lookups[i].id = names[i * 7919 % units].id;
+      lookups[i].kind = names[i * 7919 % units].kind;
+    }
+    double start = now();
+    if (thorin_find_each(bytes, size, lookups, count) != THORIN_DONE) return 1;
+    double took = now() - start;
+    if (took < each) each = took;
+    each_sum = 0;
+    for (size_t i = 0; i < count; i++)
+      if (lookups[i].status == THORIN_DONE) each_sum += lookups[i].unit.info.size + lookups[i].unit.str_offsets.size;
+
+    single_sum = 0;
+    start = now();
+    for (size_t i = 0; i < count; i++) {
+      thorin_unit unit;
+      const thorin_name *name = &names[i * 7919 % units];
+      if (thorin_find(bytes, size, name->kind, name->id, &unit) == THORIN_DONE)
+        single_sum += unit.info.size + unit.str_offsets.size;
+    }
+    took = now() - start;
+    if (took < single) single = took;
+  }
+  printf("thorin_find_each %.0f ns, sum %" PRIu64 "\n", each / (double)count, each_sum);
+  printf("thorin_find %.0f ns, sum %" PRIu64 "\n", single / (double)count, single_sum);
+  return 0;
+}

@@ -1,0 +1,3 @@
+pub mod Writing
+pub mod Looking
+pub mod Taking

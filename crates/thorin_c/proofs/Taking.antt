@@ -1,0 +1,84 @@
+-- Inputs taken one after the other.
+use Rattle.std.proofs.Common.{◌≡◌, ◌∙◌, ℕ, ◌+◌, List, [], ◌∷◌, ◌++◌, refl, sym, ap, subst, Result, Ok, Err, ◌<◌, length, take, get_or, map}
+use Rattle.std.proofs.lemmas.List.{take_more, map-append, length-map}
+use Rattle.dwp_base.specs.Reading.{◌>>=◌}
+use Rattle.thorin_faults.specs.Fault.{Fault, fault_of}
+use Rattle.thorin_faults.specs.Answers.{MemoryAside}
+use Rattle.thorin_faults.specs.declared.fault.Error.{Error}
+use Rattle.thorin.specs.Run.{IsWritten, RefusesToWrite}
+use Rattle.dwp_table.specs.declared.object.DebugTypeSignature.{DebugTypeSignature}
+use Rattle.thorin_c.specs.Listing.{written_over}
+use Rattle.thorin_c.specs.declared.packing.RefusedInput.{RefusedInput}
+use Rattle.thorin_c.specs.declared.types.ThorinReport.{ThorinReport}
+use Rattle.thorin_builder.specs.Builder.{State, start, taken, differing_in}
+use Rattle.thorin_builder.specs.Join.{Joins, JoinAll, IsPackageOf}
+use Rattle.thorin_builder.specs.Meaning.{Members}
+use Rattle.thorin_builder.specs.Represents.{units_in}
+use Rattle.thorin_c.specs.Packing.{bytes_of, all_taken, Accepts, RefusesAt, TellsRefused, TellsLeft, TellsUnfinished, Refuses, IsUnfinished, IsPackage, Differ}
+use Rattle.thorin_c.specs.declared.types.ThorinBytes.{ThorinBytes}
+
+abbrev value : Result State Fault → State → State
+value (Ok s) other = s
+value (Err e) other = other
+
+taken-next : (done : List ThorinBytes) (input : ThorinBytes) (old middle new : State) → all_taken done old ≡ Ok middle → taken input.bytes.now middle ≡ Ok new
+    → all_taken (done ++ input ∷ []) old ≡ Ok new
+taken-next [] input old middle new h k =
+    let same : old ≡ middle = ap (λ r. value r old) h in
+    ap (λ r. r >>= λ s. all_taken [] s) (subst (λ s. taken input.bytes.now s ≡ Ok new) (sym same) k)
+taken-next (x ∷ done) input old middle new h k = step (taken x.bytes.now old) (λ s g. taken-next done input s middle new g k) h where
+  step : (first : Result State Fault) → ((s : State) → all_taken done s ≡ Ok middle → all_taken (done ++ input ∷ []) s ≡ Ok new) → (first >>= λ s. all_taken done s) ≡ Ok middle → (first >>= λ s. all_taken (done ++ input ∷ []) s) ≡ Ok new
+  step (Ok s) next h = next s h
+  step (Err e) next h = absurd cc
+
+joined-next : (done : List (List ℕ)) (bytes : List ℕ) (old middle new : Members) → JoinAll done old middle → Joins bytes middle new → JoinAll (done ++ bytes ∷ []) old new
+joined-next [] bytes old middle new h k = (new, subst (λ m. Joins bytes m new) h k, refl)
+joined-next (x ∷ done) bytes old middle new h k = (h.0, h.1, joined-next done bytes h.0 middle new h.2 k)
+
+-- one more input is accepted
+pub accepts-next : (inputs : List ThorinBytes) (i : ℕ) (d : ThorinBytes) (old middle new : State) → i < length inputs → Accepts (take i inputs) old middle
+    → taken (get_or inputs i d).bytes.now middle ≡ Ok new → Joins (get_or inputs i d).bytes.now (units_in middle) (units_in new) → Accepts (take (i + 1) inputs) old new
+accepts-next inputs i d old middle new h before now joins =
+    subst (λ l. Accepts l old new) (sym (take_more inputs i d h)) (record {
+      taken = taken-next (take i inputs) (get_or inputs i d) old middle new before.taken now;
+      joined = subst (λ l. JoinAll l (units_in old) (units_in new)) (sym (map-append (λ input. input.bytes.now) (take i inputs) (get_or inputs i d ∷ [])))
+          (joined-next (bytes_of (take i inputs)) (get_or inputs i d).bytes.now (units_in old) (units_in middle) (units_in new) before.joined joins);
+    })
+
+-- what is told of a refused input
+pub refuses : (inputs : List ThorinBytes) (old : State) (refusal : RefusedInput) (report : ThorinReport) → old ≡ start
+    → MemoryAside refusal.fault (RefusesAt inputs old refusal.number (fault_of refusal.fault)) → TellsRefused refusal.number refusal.fault report → Refuses inputs report
+refuses inputs old refusal report is at told = record {
+  fault = fault_of refusal.fault;
+  refused = subst (λ s. RefusesAt inputs s report.input (fault_of refusal.fault)) is (subst (λ n. RefusesAt inputs old n (fault_of refusal.fault)) (sym told.input) (at told.not_memory));
+  told = told.told;
+}
+
+-- and of a package that can't be finished
+pub unfinished : (inputs : List ThorinBytes) (fault : Error) (report : ThorinReport) → MemoryAside fault (IsUnfinished inputs (fault_of fault)) → TellsLeft fault report → TellsUnfinished inputs report
+unfinished inputs fault report is told = record { fault = fault_of fault; is = is told.not_memory; told = told.told }
+
+-- the package of inputs that are all accepted
+pub packs : (inputs : List ThorinBytes) (old state : State) (signatures : List DebugTypeSignature) (bytes : List ℕ) → old ≡ start → Accepts inputs old state → IsWritten state bytes → IsPackageOf (units_in state) bytes
+    → map (λ s. s.0) signatures ≡ differing_in state → IsPackage inputs (length signatures) bytes
+packs inputs old state signatures bytes is accepted written joined differ = record {
+  state = state;
+  accepted = subst (λ s. Accepts inputs s state) is accepted;
+  written = written;
+  package_of = joined;
+  differ = sym (length-map signatures (λ s. s.0)) ∙ ap length differ;
+}
+
+-- and why it can't be finished
+pub fails : (inputs : List ThorinBytes) (old state : State) (fault : Error) → old ≡ start → Accepts inputs old state → MemoryAside fault (RefusesToWrite state (fault_of fault)) → MemoryAside fault (IsUnfinished inputs (fault_of fault))
+fails inputs old state fault is accepted refused = λ h. record { state = state; accepted = subst (λ s. Accepts inputs s state) is accepted; refused = refused h }
+
+-- the signatures of those that differ
+pub differs : (inputs : List ThorinBytes) (old state : State) (signatures : List DebugTypeSignature) (report : ThorinReport) (before now : List ℕ) → old ≡ start → Accepts inputs old state
+    → map (λ s. s.0) signatures ≡ differing_in state → report.differing ≡ length signatures → now ≡ written_over before (map (λ s. s.0) signatures) → Differ inputs report before now
+differs inputs old state signatures report before now is accepted differ count written = record {
+  state = state;
+  accepted = subst (λ s. Accepts inputs s state) is accepted;
+  count = count ∙ sym (length-map signatures (λ s. s.0)) ∙ ap length differ;
+  signatures = written ∙ ap (λ l. written_over before l) differ;
+}

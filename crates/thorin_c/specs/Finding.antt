@@ -1,0 +1,128 @@
+-- What the exports that look units up answer.
+use Rattle.std.specs.Prelude.{◌≡◌, ℕ, ℤ, pos, List, map, slice_get, Option, Some, None, Result, Ok, Err, ◌==◌, if◌then◌else◌}
+use Rattle.dwp_base.specs.Reading.{◌>>=◌}
+use Rattle.dwp_base.specs.declared.section.SectionKind.{SectionKind}
+use Rattle.dwp_base.specs.declared.section.SectionKind.TheVariants as kinds
+use Rattle.dwp_base.specs.declared.section.Contribution.{Contribution}
+use Rattle.dwp_bytes.specs.Encoding.{offset_size}
+use Rattle.dwp_bytes.specs.declared.fault.ReadError.{ReadError}
+use Rattle.dwp_table.specs.Columns.{contribution_kinds}
+use Rattle.dwp_table.specs.declared.object.DwarfObject.{DwarfObject}
+use Rattle.dwp_table.specs.declared.object.DwarfObject.TheVariants.{Compilation, TypeUnit}
+use Rattle.dwp_index.specs.Index.{range_in}
+use Rattle.dwp_index.specs.Package.{Package, FoundUnit, package_of, found_counted, row_bytes}
+use Rattle.dwp_index.specs.Strings.{string_in}
+use Rattle.dwp_index.specs.declared.fault.PackageError.{PackageError}
+use Rattle.dwp_index.specs.declared.fault.PackageError.TheVariants as faults
+use Rattle.thorin_c.specs.declared.types.ThorinLookup.{ThorinLookup}
+use Rattle.thorin_c.specs.declared.types.ThorinRange.{ThorinRange}
+use Rattle.thorin_c.specs.declared.types.ThorinUnit.{ThorinUnit}
+
+-- the status of a package, or of one of its units, that can't be read
+abbrev pub status_of : PackageError → ℤ
+status_of (faults.Elf cause) = pos 3
+status_of (faults.Index cause) = pos 4
+status_of (faults.Range kind) = pos 5
+status_of (faults.Unit cause) = pos 6
+
+abbrev pub as_status : {A : Type 0} → Result A PackageError → Result A ℤ
+as_status (Ok x) = Ok x
+as_status (Err fault) = Err (status_of fault)
+
+-- the name of a unit by its kind: 1 for a compilation unit, 2 for a type unit; 2 is also the status of any other
+abbrev pub object_of : ℕ → ℕ → Result DwarfObject ℤ
+object_of kind id =
+    if kind == 1 then Ok (Compilation (record { 0 = id }))
+    else (if kind == 2 then Ok (TypeUnit (record { 0 = id })) else Err (pos 2))
+
+-- the unit that a look-up gave, with how many slots were looked at; status 1 where it gave none
+abbrev pub present : Option FoundUnit × ℕ → Result (FoundUnit × ℕ) ℤ
+present (None, slots) = Err (pos 1)
+present (Some unit, slots) = Ok (unit, slots)
+
+-- the unit of a name in a package
+unfoldable pub unit_in : Package → ℕ → ℕ → Result (FoundUnit × ℕ) ℤ
+unit_in pack kind id = do
+  object ← object_of kind id
+  found ← as_status (found_counted pack object)
+  present found
+
+-- the same in the package of these bytes
+unfoldable pub looked_up : List ℕ → ℕ → ℕ → Result (FoundUnit × ℕ) ℤ
+looked_up bytes kind id = do
+  pack ← as_status (package_of bytes)
+  unit_in pack kind id
+
+-- a range; of no bytes where it is absent
+abbrev pub range_of : Option Contribution → ThorinRange
+range_of None = record { offset = 0; size = 0 }
+range_of (Some range) = record { offset = range.offset.0; size = range.size }
+
+-- a unit with its ranges
+abbrev pub unit_of : FoundUnit → ℕ → ThorinUnit
+unit_of unit slots = record {
+  info = range_of (range_in unit.row kinds.Info);
+  types = range_of (range_in unit.row kinds.Types);
+  abbreviations = range_of (range_in unit.row kinds.Abbrev);
+  line = range_of (range_in unit.row kinds.Line);
+  loc = range_of (range_in unit.row kinds.Loc);
+  loclists = range_of (range_in unit.row kinds.Loclists);
+  rnglists = range_of (range_in unit.row kinds.Rnglists);
+  str_offsets = range_of (range_in unit.row kinds.StrOffsets);
+  macinfo = range_of (range_in unit.row kinds.Macinfo);
+  macros = range_of (range_in unit.row kinds.Macro);
+  row = unit.number;
+  slots = slots;
+  version = unit.encoding.version;
+  offset_size = offset_size unit.encoding.format;
+  address_size = unit.encoding.address_size;
+}
+
+-- what a call that looks a unit up gives
+abbrev pub unit_found : Result Package ℤ → ℕ → ℕ → Result ThorinUnit ℤ
+unit_found pack kind id = pack >>= λ p. (unit_in p kind id >>= λ found. Ok (unit_of found.0 found.1))
+
+-- the section of a number, in the order of columns; status 7 where there is none
+abbrev pub section_of_place : Option SectionKind → Result SectionKind ℤ
+section_of_place (Some kind) = Ok kind
+section_of_place None = Err (pos 7)
+
+abbrev pub section_of : ℕ → Result SectionKind ℤ
+section_of number = section_of_place (slice_get contribution_kinds number)
+
+-- a unit's bytes in a section
+unfoldable pub content_found : List ℕ → ℕ → ℕ → ℕ → Result (List ℕ) ℤ
+content_found bytes kind id section = do
+  found ← looked_up bytes kind id
+  place ← section_of section
+  Ok (row_bytes found.0.contents found.0.row place)
+
+-- a string; status 8 past the last one, 9 where it is malformed
+abbrev pub string_or_status : Result (Option (List ℕ)) ReadError → Result (List ℕ) ℤ
+string_or_status (Ok (Some string)) = Ok string
+string_or_status (Ok None) = Err (pos 8)
+string_or_status (Err fault) = Err (pos 9)
+
+-- a unit's string of a number
+unfoldable pub string_found : List ℕ → ℕ → ℕ → ℕ → Result (List ℕ) ℤ
+string_found bytes kind id i = do
+  found ← looked_up bytes kind id
+  string_or_status (string_in found.0.order found.0.encoding found.0.contents.strings (row_bytes found.0.contents found.0.row kinds.StrOffsets) i)
+
+-- a call answers 0 and writes what is asked for; or it answers the status, and writes nothing
+abbrev pub Fills : {X Y : Type 0} → (Y → X) → Result X ℤ → (old new : Y) → ℤ → Type 0
+Fills view (Ok x) old new status = (status ≡ pos 0) × (view new ≡ x)
+Fills view (Err s) old new status = (status ≡ s) × (new ≡ old)
+
+-- a look-up with what came of it
+abbrev pub with_found : ThorinLookup → Result (FoundUnit × ℕ) ℤ → ThorinLookup
+with_found asked (Ok (unit, slots)) = record asked { status = pos 0; unit = unit_of unit slots }
+with_found asked (Err s) = record asked { status = s }
+
+abbrev pub looked : Package → ThorinLookup → ThorinLookup
+looked pack asked = with_found asked (unit_in pack asked.kind asked.id)
+
+-- each of many look-ups has what came of it; or the package can't be read, and nothing is written
+abbrev pub FillsEach : Result Package ℤ → (old new : List ThorinLookup) → ℤ → Type 0
+FillsEach (Ok pack) old new status = (status ≡ pos 0) × (new ≡ map (looked pack) old)
+FillsEach (Err s) old new status = (status ≡ s) × (new ≡ old)

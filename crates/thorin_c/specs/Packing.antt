@@ -1,0 +1,113 @@
+-- What the exports that pack answer.
+use Rattle.std.specs.Prelude.{◌≡◌, ◌≢◌, ℕ, ℤ, pos, ◌<◌, ◌≤◌, List, [], ◌∷◌, map, take, drop, length, Result, Ok, Err, ◌⊎◌}
+use Rattle.std.specs.List.{HoldsAt}
+use Rattle.dwp_base.specs.Reading.{◌>>=◌}
+use Rattle.thorin_faults.specs.Answers.{MemoryAside}
+use Rattle.thorin_faults.specs.Fault.{Fault, fault_of}
+use Rattle.thorin_faults.specs.declared.fault.Error.{Error}
+use Rattle.thorin_faults.specs.declared.fault.Error.TheVariants as error
+use Rattle.thorin_builder.specs.Builder.{State, start, taken, differing_in}
+use Rattle.thorin_builder.specs.Join.{JoinAll, IsPackageOf}
+use Rattle.thorin_builder.specs.Represents.{units_in}
+use Rattle.thorin.specs.Run.{IsWritten, RefusesToWrite}
+use Rattle.thorin_c.specs.Faults.{Tells}
+use Rattle.thorin_c.specs.Listing.{written_over}
+use Rattle.thorin_c.specs.declared.packing.Refusal.{Refusal}
+use Rattle.thorin_c.specs.declared.packing.Refusal.TheVariants as refusals
+use Rattle.thorin_c.specs.declared.types.ThorinBytes.{ThorinBytes}
+use Rattle.thorin_c.specs.declared.types.ThorinReport.{ThorinReport}
+use Rattle.std.specs.declared.io.Error.{Error as IoError}
+
+-- a read of a path gives nothing
+abbrev pub no_files : List ℕ → Result (List ℕ) IoError → Type 0
+no_files path (Ok bytes) = ⊥
+no_files path (Err cause) = Unit {0}
+
+-- the bytes of each input
+abbrev pub bytes_of : List ThorinBytes → List (List ℕ)
+bytes_of inputs = map (λ input. input.bytes.now) inputs
+
+-- the state once each input was taken, or the first fault
+abbrev pub all_taken : List ThorinBytes → State → Result State Fault
+all_taken [] state = Ok state
+all_taken (input ∷ rest) state = taken input.bytes.now state >>= λ next. all_taken rest next
+
+-- each input is taken, and its units are joined to those before
+pub record Accepts (inputs : List ThorinBytes) (old new : State) : Type 0 where
+  pub taken : all_taken inputs old ≡ Ok new
+  pub joined : JoinAll (bytes_of inputs) (units_in old) (units_in new)
+
+-- the input of this number is refused for this fault, and those before it are accepted
+pub record RefusesAt (inputs : List ThorinBytes) (old : State) (number : ℕ) (fault : Fault) : Type 0 where
+  pub state : State
+  pub before : Accepts (take number inputs) old state
+  pub refused : HoldsAt (λ input. taken input.bytes.now state ≡ Err fault) inputs number
+
+-- all inputs are accepted; the bytes are the file of the finished package, a package of their joined units; and so many type units
+-- were passed over that differ from those kept
+pub record IsPackage (inputs : List ThorinBytes) (differing : ℕ) (bytes : List ℕ) : Type 0 where
+  pub state : State
+  pub accepted : Accepts inputs start state
+  pub written : IsWritten state bytes
+  pub package_of : IsPackageOf (units_in state) bytes
+  pub differ : differing ≡ length (differing_in state)
+
+-- all inputs are accepted, and the package can't be finished or written for this fault
+pub record IsUnfinished (inputs : List ThorinBytes) (fault : Fault) : Type 0 where
+  pub state : State
+  pub accepted : Accepts inputs start state
+  pub refused : RefusesToWrite state fault
+
+-- what stands in a refusal, want of memory aside
+abbrev pub IsRefusal : List ThorinBytes → Refusal → Type 0
+IsRefusal inputs (refusals.Input input) = MemoryAside input.fault (RefusesAt inputs start input.number (fault_of input.fault))
+IsRefusal inputs (refusals.Package fault) = MemoryAside fault (IsUnfinished inputs (fault_of fault))
+
+-- what is told of a refused input, and of a package that can't be finished or written; never of want of memory
+pub record TellsRefused (number : ℕ) (fault : Error) (report : ThorinReport) : Type 0 where
+  pub input : report.input ≡ number
+  pub told : Tells (fault_of fault) report
+  pub not_memory : fault ≢ error.Memory
+
+pub record TellsLeft (fault : Error) (report : ThorinReport) : Type 0 where
+  pub told : Tells (fault_of fault) report
+  pub not_memory : fault ≢ error.Memory
+
+-- the package stands at the beginning of the room, the rest of which is as it was
+pub record Packs (inputs : List ThorinBytes) (report : ThorinReport) (old new : List ℕ) : Type 0 where
+  pub fits : report.size ≤ length new
+  pub is : IsPackage inputs report.differing (take report.size new)
+  pub rest : drop report.size new ≡ drop report.size old
+
+-- the package has a size past the room
+pub record Needs (inputs : List ThorinBytes) (report : ThorinReport) (room : ℕ) : Type 0 where
+  pub bytes : List ℕ
+  pub is : IsPackage inputs report.differing bytes
+  pub size : report.size ≡ length bytes
+  pub past : room < report.size
+
+-- the first input that is refused, and its fault
+pub record Refuses (inputs : List ThorinBytes) (report : ThorinReport) : Type 0 where
+  pub fault : Fault
+  pub refused : RefusesAt inputs start report.input fault
+  pub told : Tells fault report
+
+-- why the package can't be finished or written
+pub record TellsUnfinished (inputs : List ThorinBytes) (report : ThorinReport) : Type 0 where
+  pub fault : Fault
+  pub is : IsUnfinished inputs fault
+  pub told : Tells fault report
+
+-- the signatures of the type units that were passed over and differ, as far as there is room, and how many there are
+pub record Differ (inputs : List ThorinBytes) (report : ThorinReport) (old new : List ℕ) : Type 0 where
+  pub state : State
+  pub accepted : Accepts inputs start state
+  pub count : report.differing ≡ length (differing_in state)
+  pub signatures : new ≡ written_over old (differing_in state)
+
+-- what may be answered
+abbrev pub IsPackingStatus : ℤ → Type 0
+IsPackingStatus status = (status ≡ pos 0) ⊎ ((status ≡ pos 10) ⊎ ((status ≡ pos 11) ⊎ ((status ≡ pos 12) ⊎ (status ≡ pos 13))))
+
+abbrev pub IsDifferingStatus : ℤ → Type 0
+IsDifferingStatus status = (status ≡ pos 0) ⊎ ((status ≡ pos 11) ⊎ (status ≡ pos 13))

@@ -1,0 +1,240 @@
+//! Looking up the units of a package.
+
+ghost use Rattle.std.specs.Prelude.{◌≡◌, pos, Ok};
+ghost use Rattle.dwp_base.specs.Reading.{Answers};
+ghost use Rattle.dwp_index.specs.Package.{package_of, found_counted};
+ghost use Rattle.thorin_c.specs.Finding.{object_of, section_of, as_status, present, range_of, unit_of, unit_in, looked_up, unit_found, content_found, string_found, looked, Fills, FillsEach};
+
+use crate::status::{
+    ABSENT, DONE, MALFORMED_STRING, NO_SUCH_KIND, NO_SUCH_SECTION, NO_SUCH_STRING, status_of,
+};
+use crate::types::{ThorinBytes, ThorinLookup, ThorinRange, ThorinUnit};
+use dwp_base::{Contribution, SectionKind};
+use dwp_index::{PackageFile, PackagedUnit};
+use dwp_table::{CONTRIBUTION_KINDS, DebugTypeSignature, DwarfObject, DwoId};
+
+/// Looks a unit up: `kind` is 1 for a compilation unit and 2 for a type unit. Answers 0 and fills `found`; or leaves it
+/// as it is: 1 where the package has no such unit, 2 for another kind, 3 where the file, 4 where an index, 5 where a
+/// range of the unit and 6 where its header is malformed.
+#[unsafe(no_mangle)]
+pub extern "C" fn thorin_find(bytes: &[u8], kind: u8, id: u64, found: &mut ThorinUnit) -> i32
+    ensures { Fills (λ unit. unit) (unit_found (as_status (package_of bytes.now)) kind id) found.old found.new result }
+{
+    match open(bytes) {
+        Ok(file) => fill(&file, kind, id, found),
+        Err(status) => status,
+    }
+}
+
+/// Looks many units up, the package being read once: fills each status, and each unit whose status is 0. Answers 0; or 3
+/// or 4 where the package can't be read, and then leaves all as it is.
+#[unsafe(no_mangle)]
+pub extern "C" fn thorin_find_each(bytes: &[u8], lookups: &mut [ThorinLookup]) -> i32
+    ensures { FillsEach (as_status (package_of bytes.now)) lookups.old lookups.new result }
+{
+    match open(bytes) {
+        Ok(file) => {
+            look_each_up(&file, lookups);
+            DONE
+        }
+        Err(status) => status,
+    }
+}
+
+/// Lends a unit's bytes in a section: `section` is 0 for `.debug_info.dwo` and so on in the order of `ThorinUnit`.
+/// Answers as `thorin_find`; or 7 for another section.
+#[unsafe(no_mangle)]
+pub extern "C" fn thorin_content<'a>(
+    bytes: &'a [u8],
+    kind: u8,
+    id: u64,
+    section: u8,
+    found: &mut ThorinBytes<'a>,
+) -> i32
+    ensures { Fills (λ lent. lent.bytes.now) (content_found bytes.now kind id section) found.old found.new result }
+{
+    match content(bytes, kind, id, section) {
+        Ok(content) => {
+            found.bytes = content;
+            DONE
+        }
+        Err(status) => status,
+    }
+}
+
+/// Lends the string of a number of a unit, by the unit's own encoding. Answers as `thorin_find`; or 8 past the last
+/// string, 9 where the string is malformed.
+#[unsafe(no_mangle)]
+pub extern "C" fn thorin_string<'a>(
+    bytes: &'a [u8],
+    kind: u8,
+    id: u64,
+    index: u64,
+    found: &mut ThorinBytes<'a>,
+) -> i32
+    ensures { Fills (λ lent. lent.bytes.now) (string_found bytes.now kind id index) found.old found.new result }
+{
+    match string(bytes, kind, id, index) {
+        Ok(string) => {
+            found.bytes = string;
+            DONE
+        }
+        Err(status) => status,
+    }
+}
+
+// Reads a package.
+pub(crate) fn open(bytes: &[u8]) -> Result<PackageFile<'_>, i32>
+    ensures { Answers (λ x. x) result (as_status (package_of bytes.now)) }
+{
+    match PackageFile::parse(bytes) {
+        Ok(file) => Ok(file),
+        Err(fault) => Err(status_of(fault)),
+    }
+}
+
+// The unit of a name, and how many slots were looked at.
+#[tactic(auto, unfolding(crate::specs::Finding::looked_up))]
+fn look_up<'a>(bytes: &'a [u8], kind: u8, id: u64) -> Result<(PackagedUnit<'a>, u32), i32>
+    ensures { Answers (λ x. x) result (looked_up bytes.now kind id) }
+{
+    let file = open(bytes)?;
+    look_up_in(&file, kind, id)
+}
+
+#[tactic(auto, unfolding(crate::specs::Finding::unit_in))]
+fn look_up_in<'a>(file: &PackageFile<'a>, kind: u8, id: u64) -> Result<(PackagedUnit<'a>, u32), i32>
+    ensures { Answers (λ x. x) result (unit_in file.now kind id) }
+{
+    let object = object_of(kind, id)?;
+    let (unit, slots) = find_in(file, object)?;
+    match unit {
+        Some(unit) => Ok((unit, slots)),
+        None => Err(ABSENT),
+    }
+}
+
+fn find_in<'a>(
+    file: &PackageFile<'a>,
+    object: DwarfObject,
+) -> Result<(Option<PackagedUnit<'a>>, u32), i32>
+    ensures { Answers (λ x. x) result (as_status (found_counted file.now object)) }
+{
+    match file.find_counted(object) {
+        Ok(found) => Ok(found),
+        Err(fault) => Err(status_of(fault)),
+    }
+}
+
+fn look_each_up(file: &PackageFile<'_>, lookups: &mut [ThorinLookup])
+    ensures { FillsEach (Ok file.now) lookups.old lookups.new (pos 0) }
+{
+    for lookup in lookups.iter_mut() {
+        complete(file, lookup);
+    }
+}
+
+// Fills in what came of a look-up.
+fn complete(file: &PackageFile<'_>, lookup: &mut ThorinLookup)
+    ensures { lookup.new ≡ looked file.now lookup.old }
+{
+    lookup.status = fill(file, lookup.kind, lookup.id, &mut lookup.unit);
+}
+
+// Fills in the unit of a name.
+#[tactic(auto, unfolding(crate::specs::Finding::unit_in))]
+fn fill(file: &PackageFile<'_>, kind: u8, id: u64, found: &mut ThorinUnit) -> i32
+    ensures { Fills (λ unit. unit) (unit_found (Ok file.now) kind id) found.old found.new result }
+{
+    let object = match object_of(kind, id) {
+        Ok(object) => object,
+        Err(status) => return status,
+    };
+    match &file.find_counted(object) {
+        Ok((Some(unit), slots)) => {
+            *found = unit_of(unit, *slots);
+            DONE
+        }
+        Ok((None, _)) => ABSENT,
+        Err(fault) => status_of(*fault),
+    }
+}
+
+#[tactic(auto, unfolding(crate::specs::Finding::content_found))]
+fn content<'a>(bytes: &'a [u8], kind: u8, id: u64, section: u8) -> Result<&'a [u8], i32>
+    ensures { Answers (λ lent. lent.now) result (content_found bytes.now kind id section) }
+{
+    let (unit, _) = look_up(bytes, kind, id)?;
+    let section = section_of(section)?;
+    Ok(unit.section(section))
+}
+
+#[tactic(auto, unfolding(crate::specs::Finding::string_found))]
+fn string<'a>(bytes: &'a [u8], kind: u8, id: u64, index: u64) -> Result<&'a [u8], i32>
+    ensures { Answers (λ lent. lent.now) result (string_found bytes.now kind id index) }
+{
+    let (unit, _) = look_up(bytes, kind, id)?;
+    match unit.string(index) {
+        Ok(Some(string)) => Ok(string),
+        Ok(None) => Err(NO_SUCH_STRING),
+        Err(_) => Err(MALFORMED_STRING),
+    }
+}
+
+// The name of a unit.
+fn object_of(kind: u8, id: u64) -> Result<DwarfObject, i32>
+    ensures { result ≡ object_of kind id }
+{
+    if kind == 1 {
+        Ok(DwarfObject::Compilation(DwoId(id)))
+    } else if kind == 2 {
+        Ok(DwarfObject::TypeUnit(DebugTypeSignature(id)))
+    } else {
+        Err(NO_SUCH_KIND)
+    }
+}
+
+// The section of a number.
+fn section_of(number: u8) -> Result<SectionKind, i32>
+    ensures { result ≡ section_of number }
+{
+    match CONTRIBUTION_KINDS.get(number as usize) {
+        Some(kind) => Ok(*kind),
+        None => Err(NO_SUCH_SECTION),
+    }
+}
+
+fn unit_of(unit: &PackagedUnit<'_>, slots: u32) -> ThorinUnit
+    ensures { result ≡ unit_of unit.now slots }
+{
+    let encoding = unit.encoding();
+    ThorinUnit {
+        info: range_of(unit.range(SectionKind::Info)),
+        types: range_of(unit.range(SectionKind::Types)),
+        abbreviations: range_of(unit.range(SectionKind::Abbrev)),
+        line: range_of(unit.range(SectionKind::Line)),
+        loc: range_of(unit.range(SectionKind::Loc)),
+        loclists: range_of(unit.range(SectionKind::Loclists)),
+        rnglists: range_of(unit.range(SectionKind::Rnglists)),
+        str_offsets: range_of(unit.range(SectionKind::StrOffsets)),
+        macinfo: range_of(unit.range(SectionKind::Macinfo)),
+        macros: range_of(unit.range(SectionKind::Macro)),
+        row: unit.row(),
+        slots,
+        version: encoding.version,
+        offset_size: encoding.format.offset_size() as u8,
+        address_size: encoding.address_size,
+    }
+}
+
+fn range_of(range: Option<Contribution>) -> ThorinRange
+    ensures { result ≡ range_of range }
+{
+    match range {
+        None => ThorinRange { offset: 0, size: 0 },
+        Some(range) => ThorinRange {
+            offset: range.offset.0,
+            size: range.size,
+        },
+    }
+}

@@ -1,0 +1,190 @@
+//! Packing objects and packages.
+
+ghost use Rattle.std.specs.Prelude.{◌≡◌, ◌≢◌, map, length, IfOk, IfErr, OnOk, pos, ◌⊎◌};
+ghost use Rattle.thorin_builder.specs.Represents.{units_in};
+ghost use Rattle.thorin_builder.specs.Builder.{start};
+ghost use Rattle.thorin_builder.specs.Join.{IsPackageOf};
+ghost use Rattle.thorin_faults.specs.Answers.{MemoryAside};
+ghost use Rattle.thorin_faults.specs.Fault.{fault_of};
+ghost use Rattle.thorin.specs.Run.{Writes};
+ghost use Rattle.thorin_c.specs.Listing.{written_over};
+ghost use Rattle.thorin_c.specs.Packing.{Accepts, RefusesAt, IsPackage, IsRefusal, TellsRefused, TellsLeft, Packs, Needs, Refuses, TellsUnfinished, Differ, IsPackingStatus, IsDifferingStatus};
+
+use crate::faults::tell;
+use crate::session::NoFiles;
+use crate::status::{DONE, NO_MEMORY, REFUSED, TOO_SMALL, UNFINISHED};
+use crate::types::{ThorinBytes, ThorinReport};
+use dwp_table::DebugTypeSignature;
+use std::alloc::Global;
+use thorin::DwarfPackage;
+use thorin_faults::Error;
+
+/// A package's bytes, and how many type units were passed over that differ from those kept.
+#[derive(Drop)]
+struct Packed {
+    file: Vec<u8>,
+    differing: u64,
+}
+
+/// An input that was refused: its number, and its fault.
+#[derive(Drop)]
+struct RefusedInput {
+    number: usize,
+    fault: Error,
+}
+
+/// Why inputs weren't packed.
+#[derive(Drop)]
+enum Refusal {
+    /// An input was refused.
+    Input(RefusedInput),
+    /// The package can't be finished or written.
+    Package(Error),
+}
+
+/// Packs objects and packages in order, and answers 0: the package stands at the beginning of `out`, its length in
+/// `report.size`, and `report.differing` says how many type units were passed over whose bytes differ from those kept.
+/// Else `out` is left as it is: 10 where it is too small, and `report.size` is the length that is needed; 11 where an
+/// input is refused, the first of them `report.input`; 12 where the package can't be finished or written; 13 where memory
+/// ran out. Under 11 and 12 the fault's number and text stand in `report`.
+#[tactic(auto, using(crate::proofs::Taking::refuses, crate::proofs::Taking::unfinished))]
+#[unsafe(no_mangle)]
+pub extern "C" fn thorin_pack(
+    alloc: Global,
+    inputs: &[ThorinBytes<'_>],
+    out: &mut [u8],
+    report: &mut ThorinReport,
+) -> i32
+    ensures packed { result ≡ pos 0 → Packs inputs.now report.new out.old out.new }
+    ensures small { result ≡ pos 10 → Needs inputs.now report.new (length out.old) }
+    ensures refused { result ≡ pos 11 → Refuses inputs.now report.new }
+    ensures unfinished { result ≡ pos 12 → TellsUnfinished inputs.now report.new }
+    ensures status { IsPackingStatus result }
+    ensures unchanged { result ≢ pos 0 → out.new ≡ out.old }
+{
+    match package_of(alloc, inputs) {
+        Ok(packed) => {
+            let len = packed.file.len();
+            report.size = len as u64;
+            report.differing = packed.differing;
+            if len > out.len() {
+                return TOO_SMALL;
+            }
+            out[..len].copy_from_slice(packed.file.as_slice());
+            DONE
+        }
+        Err(refusal) => match refusal {
+            Refusal::Input(input) => refused(input, report),
+            Refusal::Package(fault) => unfinished(fault, report),
+        },
+    }
+}
+
+/// The signatures of the type units of inputs that are passed over and whose bytes differ from those of the unit that is
+/// kept: 0, as many as there is room for in `types`, in the order of passing over, and how many there are in
+/// `report.differing`. 11 and 13 as `thorin_pack`, and then `types` is left as it is.
+#[tactic(auto, using(crate::proofs::Taking::refuses, crate::proofs::Taking::differs))]
+#[unsafe(no_mangle)]
+pub extern "C" fn thorin_differing_types(
+    alloc: Global,
+    inputs: &[ThorinBytes<'_>],
+    types: &mut [u64],
+    report: &mut ThorinReport,
+) -> i32
+    ensures done { result ≡ pos 0 → Differ inputs.now report.new types.old types.new }
+    ensures refused { result ≡ pos 11 → Refuses inputs.now report.new }
+    ensures status { IsDifferingStatus result }
+    ensures unchanged { result ≢ pos 0 → types.new ≡ types.old }
+{
+    let session = NoFiles {};
+    let mut builder = DwarfPackage::new(alloc, &session);
+    match add_all(&mut builder, inputs) {
+        Ok(()) => {
+            let differing = builder.differing_types();
+            report.differing = differing.len() as u64;
+            write_signatures(differing, types);
+            DONE
+        }
+        Err(refusal) => refused(refusal, report),
+    }
+}
+
+// Tells of a refused input.
+fn refused(refusal: RefusedInput, report: &mut ThorinReport) -> i32
+    ensures told { result ≡ pos 11 → TellsRefused refusal.number refusal.fault report.new }
+    ensures status { (result ≡ pos 11) ⊎ (result ≡ pos 13) }
+{
+    let RefusedInput { number, fault } = refusal;
+    if matches!(fault, Error::Memory) {
+        return NO_MEMORY;
+    }
+    tell(fault, report);
+    report.input = number as u64;
+    REFUSED
+}
+
+// Tells of a package that can't be finished or written.
+fn unfinished(fault: Error, report: &mut ThorinReport) -> i32
+    ensures told { result ≡ pos 12 → TellsLeft fault report.new }
+    ensures status { (result ≡ pos 12) ⊎ (result ≡ pos 13) }
+{
+    if matches!(fault, Error::Memory) {
+        return NO_MEMORY;
+    }
+    tell(fault, report);
+    UNFINISHED
+}
+
+// The package of inputs.
+#[tactic(auto, using(crate::proofs::Taking::packs, crate::proofs::Taking::fails))]
+fn package_of(alloc: Global, inputs: &[ThorinBytes<'_>]) -> Result<Packed, Refusal>
+    ensures packed { IfOk result (λ packed. IsPackage inputs.now packed.differing packed.file.items) }
+    ensures refused { IfErr result (IsRefusal inputs.now) }
+{
+    let session = NoFiles {};
+    let mut builder = DwarfPackage::new(alloc, &session);
+    if let Err(refusal) = add_all(&mut builder, inputs) {
+        return Err(Refusal::Input(refusal));
+    }
+    let differing = builder.differing_types().len() as u64;
+    match written(builder) {
+        Ok(file) => Ok(Packed { file, differing }),
+        Err(fault) => Err(Refusal::Package(fault)),
+    }
+}
+
+// Adds inputs in order, up to the first that is refused: its number and its fault.
+fn add_all<'o, 's: 'o>(
+    builder: &mut DwarfPackage<'o, 's, NoFiles>,
+    inputs: &[ThorinBytes<'_>],
+) -> Result<(), RefusedInput>
+    ensures accepted { OnOk result (Accepts inputs.now builder.old.state builder.new.state) }
+    ensures refused { IfErr result (λ refusal. MemoryAside refusal.fault (RefusesAt inputs.now builder.old.state refusal.number (fault_of refusal.fault))) }
+{
+    for (number, input) in inputs.iter().enumerate() {
+        if let Err(fault) = builder.add_object_bytes(input.bytes) {
+            return Err(RefusedInput { number, fault });
+        }
+    }
+    Ok(())
+}
+
+// The file of the finished package.
+fn written<'o, 's: 'o>(builder: DwarfPackage<'o, 's, NoFiles>) -> Result<Vec<u8>, Error>
+    ensures writes { Writes (λ bytes. bytes.items) builder.entry.state result }
+    ensures packaged { IfOk result (λ bytes. IsPackageOf (units_in builder.entry.state) bytes.items) }
+{
+    let file = builder.finish()?;
+    Ok(file.write()?)
+}
+
+// Writes signatures, as many as there is room for.
+fn write_signatures(signatures: &[DebugTypeSignature], types: &mut [u64])
+    ensures { types.new ≡ written_over types.old (map (λ s. s.0) signatures.now) }
+{
+    for (i, signature) in signatures.iter().enumerate() {
+        if i < types.len() {
+            types[i] = signature.0;
+        }
+    }
+}

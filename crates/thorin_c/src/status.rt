@@ -1,0 +1,58 @@
+ghost use Rattle.std.specs.Prelude.{◌≡◌};
+ghost use Rattle.thorin_c.specs.Finding.{status_of};
+
+use dwp_index::PackageError;
+
+/// The call did what was asked.
+pub(crate) const DONE: i32 = 0;
+
+/// The package has no such unit.
+pub(crate) const ABSENT: i32 = 1;
+
+/// There is no such kind of units.
+pub(crate) const NO_SUCH_KIND: i32 = 2;
+
+/// The file is no ELF file that can be read, or one of its sections can't be.
+pub(crate) const MALFORMED_FILE: i32 = 3;
+
+/// An index can't be read, or a row number is past its rows.
+pub(crate) const MALFORMED_INDEX: i32 = 4;
+
+/// A range of the unit is outside its section.
+pub(crate) const RANGE_OUTSIDE: i32 = 5;
+
+/// The unit's header can't be read.
+pub(crate) const MALFORMED_UNIT: i32 = 6;
+
+/// There is no such section.
+pub(crate) const NO_SUCH_SECTION: i32 = 7;
+
+/// The unit has no string of that number.
+pub(crate) const NO_SUCH_STRING: i32 = 8;
+
+/// The string is outside the strings, or no zero byte ends it.
+pub(crate) const MALFORMED_STRING: i32 = 9;
+
+/// The room is too small.
+pub(crate) const TOO_SMALL: i32 = 10;
+
+/// An input was refused.
+pub(crate) const REFUSED: i32 = 11;
+
+/// The package can't be finished or written.
+pub(crate) const UNFINISHED: i32 = 12;
+
+/// Memory ran out.
+pub(crate) const NO_MEMORY: i32 = 13;
+
+/// The status of a package, or of one of its units, that can't be read.
+pub(crate) fn status_of(fault: PackageError) -> i32
+    ensures { result ≡ status_of fault }
+{
+    match fault {
+        PackageError::Elf(_) => MALFORMED_FILE,
+        PackageError::Index(_) => MALFORMED_INDEX,
+        PackageError::Range(_) => RANGE_OUTSIDE,
+        PackageError::Unit(_) => MALFORMED_UNIT,
+    }
+}

@@ -1,0 +1,96 @@
+//! The C calls of thorin, as `include/thorin.h` declares them; it says what each of them does.
+#![no_std]
+#![allow(non_camel_case_types)]
+
+pub const THORIN_DONE: i32 = 0;
+pub const THORIN_TOO_SMALL: i32 = 10;
+pub const THORIN_REFUSED: i32 = 11;
+pub const THORIN_UNFINISHED: i32 = 12;
+pub const THORIN_COMPILATION: u8 = 1;
+pub const THORIN_TYPE_UNIT: u8 = 2;
+
+#[repr(C)]
+#[derive(Clone, Copy, Debug)]
+pub struct thorin_bytes {
+    pub at: *const u8,
+    pub size: usize,
+}
+
+#[repr(C)]
+#[derive(Clone, Copy, Debug, Default, PartialEq, Eq)]
+pub struct thorin_range {
+    pub offset: u64,
+    pub size: u64,
+}
+
+#[repr(C)]
+#[derive(Clone, Copy, Debug, Default, PartialEq, Eq)]
+pub struct thorin_unit {
+    pub info: thorin_range,
+    pub types: thorin_range,
+    pub abbreviations: thorin_range,
+    pub line: thorin_range,
+    pub loc: thorin_range,
+    pub loclists: thorin_range,
+    pub rnglists: thorin_range,
+    pub str_offsets: thorin_range,
+    pub macinfo: thorin_range,
+    pub macros: thorin_range,
+    pub row: u32,
+    pub slots: u32,
+    pub version: u16,
+    pub offset_size: u8,
+    pub address_size: u8,
+}
+
+#[repr(C)]
+#[derive(Clone, Copy, Debug, Default, PartialEq, Eq)]
+pub struct thorin_name {
+    pub id: u64,
+    pub row: u32,
+    pub kind: u8,
+}
+
+#[repr(C)]
+#[derive(Clone, Copy, Debug, Default, PartialEq, Eq)]
+pub struct thorin_lookup {
+    pub id: u64,
+    pub kind: u8,
+    pub status: i32,
+    pub unit: thorin_unit,
+}
+
+#[repr(C)]
+#[derive(Clone, Copy, Debug)]
+pub struct thorin_report {
+    pub size: u64,
+    pub input: u64,
+    pub differing: u64,
+    pub fault: u32,
+    pub text_size: u32,
+    pub text: [u8; 256],
+}
+
+extern "C" {
+    pub fn thorin_version() -> u32;
+    pub fn thorin_status_text(status: i32, text: *mut u8, room: usize) -> usize;
+    pub fn thorin_find(bytes: *const u8, size: usize, kind: u8, id: u64, found: *mut thorin_unit) -> i32;
+    pub fn thorin_find_each(bytes: *const u8, size: usize, lookups: *mut thorin_lookup, count: usize) -> i32;
+    pub fn thorin_content(bytes: *const u8, size: usize, kind: u8, id: u64, section: u8, found: *mut thorin_bytes) -> i32;
+    pub fn thorin_string(bytes: *const u8, size: usize, kind: u8, id: u64, index: u64, found: *mut thorin_bytes) -> i32;
+    pub fn thorin_unit_count(bytes: *const u8, size: usize, count: *mut u64) -> i32;
+    pub fn thorin_list(bytes: *const u8, size: usize, names: *mut thorin_name, room: usize, count: *mut u64) -> i32;
+    pub fn thorin_pack(inputs: *const thorin_bytes, count: usize, out: *mut u8, room: usize, report: *mut thorin_report) -> i32;
+    pub fn thorin_differing_types(inputs: *const thorin_bytes, count: usize, types: *mut u64, room: usize, report: *mut thorin_report) -> i32;
+}
+
+const _: () = {
+    use core::mem::{offset_of, size_of};
+    assert!(size_of::<thorin_bytes>() == 16);
+    assert!(size_of::<thorin_unit>() == 176);
+    assert!(size_of::<thorin_name>() == 16);
+    assert!(size_of::<thorin_lookup>() == 192);
+    assert!(offset_of!(thorin_lookup, unit) == 16);
+    assert!(size_of::<thorin_report>() == 288);
+    assert!(offset_of!(thorin_report, text) == 32);
+};

@@ -1,0 +1,31 @@
+//! pack OUT INPUT..: packs objects and packages into one package.
+use std::{env, fs, process::ExitCode};
+use thorin::PackError;
+
+fn main() -> ExitCode {
+    let words: Vec<String> = env::args().collect();
+    let [_, out, inputs @ ..] = words.as_slice() else {
+        eprintln!("usage: pack OUT INPUT..");
+        return ExitCode::from(2);
+    };
+    match packed(out, inputs) {
+        Ok(()) => ExitCode::SUCCESS,
+        Err(text) => {
+            eprintln!("error: {text}");
+            ExitCode::from(1)
+        }
+    }
+}
+
+fn packed(out: &str, names: &[String]) -> Result<(), String> {
+    let read = |name: &String| fs::read(name).map_err(|e| format!("{name}: {e}"));
+    let inputs = names.iter().map(read).collect::<Result<Vec<_>, _>>()?;
+    let package = thorin::pack(&inputs).map_err(|e| match e {
+        PackError::Input(input, fault, text) => format!("{}: {text} ({fault})", names[input]),
+        other => other.to_string(),
+    })?;
+    if package.differing > 0 {
+        eprintln!("warning: {} type units differ", package.differing);
+    }
+    fs::write(out, package.bytes).map_err(|e| format!("{out}: {e}"))
+}
