@@ -7,7 +7,7 @@ use crate::objects::{
 };
 use crate::packages::{SPLIT_TYPE, index};
 use bumpalo::Bump;
-use dwp_elf::SectionKind;
+use dwp_elf::{Class, Endianness, SectionKind, WritableObject};
 use dwp_table::DebugTypeSignature;
 use std::alloc::Global;
 use std::collections::BTreeMap;
@@ -43,18 +43,15 @@ fn file_of(alloc: Global, inputs: &[&[u8]]) -> Result<Vec<u8>, Fail> {
 
 /// The object of a unit of version 5 without any entry, with these sections besides.
 fn split(alloc: Global, units: &[&[u8]], others: &[(SectionKind, &[u8])]) -> Result<Vec<u8>, Fail> {
-    let mut info = Vec::new(alloc);
+    let mut object = WritableObject::new(alloc, Class::Elf64, 62, Endianness::Little);
     for unit in units {
-        info.extend_from_slice(unit)?;
+        object.append(SectionKind::Info, unit)?;
     }
-    let mut sections = vec![in alloc;
-        (SectionKind::Info, info.as_slice()),
-        (SectionKind::Abbrev, [0u8].as_slice()),
-    ]?;
+    object.append(SectionKind::Abbrev, &[0])?;
     for other in others {
-        sections.push(*other)?;
+        object.append(other.0, other.1)?;
     }
-    Ok(object(alloc, &sections)?)
+    Ok(object.write()?)
 }
 
 #[test]
@@ -86,26 +83,16 @@ fn what_packs_again_is_told(rt: HostRuntime) -> Result<(), Fail> {
         &[SPLIT_TYPE.as_slice()],
         &[(SectionKind::Line, [0xaa].as_slice())],
     )?;
-    let none: [&[u8]; 0] = [];
-    for (inputs, want) in [
-        (none.as_slice(), "Ok false"),
-        ([no_strings.as_slice()].as_slice(), "Ok false"),
-        (
-            [without.as_slice()].as_slice(),
-            r#"MissingRequiredSection(".debug_str.dwo") false"#,
-        ),
-        ([x.as_slice()].as_slice(), "Ok true"),
-        ([strings.as_slice()].as_slice(), "Ok true"),
-        ([own.as_slice()].as_slice(), "Ok false"),
-        ([y.as_slice(), own.as_slice()].as_slice(), "Ok false"),
-        (
-            [x.as_slice(), own.as_slice()].as_slice(),
-            "DuplicateUnit(5) true",
-        ),
-        ([a.as_slice(), b.as_slice()].as_slice(), "Ok false"),
-    ] {
-        assert_eq!(rt; told(alloc, inputs)?.as_str(), want);
-    }
+    assert_eq!(rt; told(alloc, &[])?.as_str(), "Ok false");
+    assert_eq!(rt; told(alloc, &[&no_strings])?.as_str(), "Ok false");
+    let refused = r#"MissingRequiredSection(".debug_str.dwo") false"#;
+    assert_eq!(rt; told(alloc, &[&without])?.as_str(), refused);
+    assert_eq!(rt; told(alloc, &[&x])?.as_str(), "Ok true");
+    assert_eq!(rt; told(alloc, &[&strings])?.as_str(), "Ok true");
+    assert_eq!(rt; told(alloc, &[&own])?.as_str(), "Ok false");
+    assert_eq!(rt; told(alloc, &[&y, &own])?.as_str(), "Ok false");
+    assert_eq!(rt; told(alloc, &[&x, &own])?.as_str(), "DuplicateUnit(5) true");
+    assert_eq!(rt; told(alloc, &[&a, &b])?.as_str(), "Ok false");
     Ok(())
 }
 
