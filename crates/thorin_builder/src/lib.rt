@@ -15,6 +15,7 @@ mod parts;
 mod rows;
 mod source;
 mod state;
+mod tables;
 mod units;
 
 pub use in_progress::InProgressDwarfPackage;

@@ -47,7 +47,7 @@ fn read_sections(file: &ElfFile<'_>, tally: &mut Tally) {
         tally.name.note(section.name().is_ok());
         let kind = section.name().ok().and_then(SectionKind::of_name);
         if kind != section.section_kind() {
-            tally.contradictions = tally.contradictions.saturating_add(1);
+            tally.contradict();
         }
         let content = section.data();
         tally.content.note(content.is_ok());
@@ -120,7 +120,7 @@ fn read_units<R: Reader>(
         }
     }
     if whole && read != units.len() {
-        tally.contradictions = tally.contradictions.saturating_add(1);
+        tally.contradict();
     }
 }
 
@@ -142,7 +142,7 @@ fn read_root<R: Reader>(
     let Ok(table) = table else { return };
     if let Ok(Some((code, _))) = header.root_code() {
         if tag_of(table.get(code)) != tag_of(cache.get(offset, code)) {
-            tally.contradictions = tally.contradictions.saturating_add(1);
+            tally.contradict();
         }
     }
     let entry = root(header, &table);
@@ -174,7 +174,7 @@ fn read_index(content: &[u8], order: Endianness, tally: &mut Tally) {
         if let Ok(row) = row {
             for kind in CONTRIBUTION_KINDS {
                 if row.range(kind).is_some() && !index.has_column(kind) {
-                    tally.contradictions = tally.contradictions.saturating_add(1);
+                    tally.contradict();
                 }
             }
         }

@@ -26,6 +26,9 @@ pub struct Tally {
     pub package: Count,
     pub found: Count,
     pub string: Count,
+    pub added: Count,
+    pub referred: Count,
+    pub finished: Count,
     /// How often two calls that say the same said something else.
     pub contradictions: u64,
 }
@@ -47,8 +50,13 @@ impl Count {
 }
 
 impl Tally {
+    /// Counts a contradiction.
+    pub fn contradict(&mut self) {
+        self.contradictions = self.contradictions.saturating_add(1);
+    }
+
     /// The counts and the names of their calls.
-    pub fn counts(&self) -> [(&'static str, Count); 16] {
+    pub fn counts(&self) -> [(&'static str, Count); 19] {
         [
             ("FileKind::parse", self.kind),
             ("ElfFile::parse", self.file),
@@ -66,6 +74,9 @@ impl Tally {
             ("PackageFile::parse", self.package),
             ("PackageFile::find_counted", self.found),
             ("PackagedUnit::string", self.string),
+            ("DwarfPackage::add_object_bytes", self.added),
+            ("DwarfPackage::add_executable", self.referred),
+            ("DwarfPackage::finish", self.finished),
         ]
     }
 }
