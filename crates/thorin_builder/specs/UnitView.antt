@@ -1,5 +1,7 @@
 -- What the units that an input adds, and what they are added to, stand for.
-use Rattle.std.specs.Prelude.{map}
+use Rattle.std.specs.Prelude.{ℕ, List, map}
+use Rattle.dwp_base.specs.declared.endian.Endianness.{Endianness}
+use Rattle.dwp_base.specs.declared.section.SectionKind.TheVariants.{Abbrev}
 use Rattle.thorin_builder.specs.declared.units.NewUnit.{NewUnit}
 use Rattle.thorin_builder.specs.declared.units.NewUnits.{NewUnits}
 use Rattle.thorin_builder.specs.declared.units.Adding.{Adding}
@@ -9,6 +11,7 @@ use Rattle.dwp_bytes.specs.declared.slice.SliceReader.{SliceReader}
 use Rattle.thorin_builder.specs.NewUnits as spec
 use Rattle.thorin_builder.specs.State.{held_units}
 use Rattle.thorin_builder.specs.StateView.{in_progress_of}
+use Rattle.thorin_builder.specs.Used.{Object, first}
 use Rattle.thorin_builder.specs.View.{source}
 
 abbrev pub new_unit : NewUnit → spec.NewUnit
@@ -26,3 +29,7 @@ met_of m = record { info = m.info; types = m.types }
 -- what a reader of a section has left
 abbrev pub left_in : SliceReader → Input
 left_in r = record { order = r.order; relocated = λ place stored. stored; place = r.place; bytes = r.bytes.now }
+
+-- the byte order and the abbreviations that an input's units are named with
+abbrev pub tables_in : Object → Endianness × List ℕ
+tables_in object = (object.order, first Abbrev object.sections)

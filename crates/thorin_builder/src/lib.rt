@@ -19,6 +19,7 @@ mod reader;
 mod rows;
 mod source;
 mod state;
+mod tables;
 mod units;
 
 pub use again::written_packages_mean_their_units;

@@ -1,10 +1,12 @@
 //! What an input adds to the sections of a package beside its units.
 
 ghost use Rattle.std.specs.Prelude.{◌≡◌, length, take, map, OnOk, OnErr, IfErr};
+ghost use Rattle.dwp_base.specs.declared.section.SectionKind.TheVariants.{Str};
 ghost use Rattle.dwp_elf.specs.FileText.{Object};
 ghost use Rattle.thorin_faults.specs.Answers.{Gives};
 ghost use Rattle.thorin_builder.specs.Growing.{IsGrown, with_parts};
 ghost use Rattle.thorin_builder.specs.Parts as spec;
+ghost use Rattle.thorin_builder.specs.Used.{first};
 ghost use Rattle.thorin_builder.specs.View as view;
 
 use crate::growing::put;
@@ -99,14 +101,15 @@ fn stands_once(source: &Source<'_>, kind: SectionKind) -> bool
 fn rewritten(
     alloc: Global,
     source: &Source<'_>,
+    named: &[u8],
     bytes: &[u8],
     strings: &mut PackageStringTable,
 ) -> Result<Vec<u8>, Error>
+    requires { named.now ≡ first Str (view.source source.now).object.sections }
     ensures meaning { Gives (λ written. (written.items, strings.new)) result (spec.rewritten (view.source source.now) bytes.now strings.old) }
     ensures kept { take (length strings.old) strings.new ≡ strings.old }
 {
     let object = &source.object;
-    let named = object.first(SectionKind::Str);
     if source.indexes.is_package() {
         remap_packaged_offsets(
             alloc,
@@ -130,16 +133,18 @@ fn add_offsets<'a>(
     alloc: Global,
     parts: &mut Vec<Part<'a>>,
     source: &Source<'a>,
+    named: &[u8],
     bytes: &[u8],
     strings: &mut PackageStringTable,
 ) -> Result<(), Error>
+    requires { named.now ≡ first Str (view.source source.now).object.sections }
     ensures meaning { Gives (λ _. (map view.part parts.new.items, strings.new)) result (spec.with_offsets (view.source source.now) (map view.part parts.old.items, strings.old) bytes.now) }
     ensures kept { take (length strings.old) strings.new ≡ strings.old }
 {
     if !source.object.has_strings {
         return Err(Error::MissingRequiredSection(SectionKind::Str.name()));
     }
-    let written = rewritten(alloc, source, bytes, strings)?;
+    let written = rewritten(alloc, source, named, bytes, strings)?;
     parts.push(Part {
         kind: SectionKind::StrOffsets,
         bytes: PartBytes::Rewritten(written),
@@ -154,9 +159,11 @@ fn add_part<'a>(
     alloc: Global,
     parts: &mut Vec<Part<'a>>,
     source: &Source<'a>,
+    named: &[u8],
     section: UsedSection<'a>,
     strings: &mut PackageStringTable,
 ) -> Result<(), Error>
+    requires { named.now ≡ first Str (view.source source.now).object.sections }
     ensures meaning { Gives (λ _. (map view.part parts.new.items, strings.new)) result (spec.with_part (view.source source.now) (map view.part parts.old.items, strings.old) (view.used section.entry)) }
     ensures kept { take (length strings.old) strings.new ≡ strings.old }
 {
@@ -167,7 +174,7 @@ fn add_part<'a>(
         return Err(Error::SectionOutsideFormat(section.kind.name()));
     }
     if section.kind.is(SectionKind::StrOffsets) {
-        return add_offsets(alloc, parts, source, section.bytes, strings);
+        return add_offsets(alloc, parts, source, named, section.bytes, strings);
     }
     if is_copied(section.kind) {
         parts.push(Part {
@@ -191,8 +198,10 @@ pub(crate) fn parts_of<'a>(
     ensures kept { take (length strings.old) strings.new ≡ strings.old }
 {
     let mut parts = Vec::new(alloc);
+    // Looked for once: an input may have many sections of string offsets.
+    let named = source.object.first(SectionKind::Str);
     for section in &source.object.sections {
-        add_part(alloc, &mut parts, source, *section, strings)?;
+        add_part(alloc, &mut parts, source, named, *section, strings)?;
     }
     Ok(parts)
 }

@@ -1,7 +1,9 @@
 //! The rows that units get: each unit's part of each section of its input.
 
-ghost use Rattle.std.specs.Prelude.{◌≡◌, length, map, IfOk, IfErr};
+ghost use Rattle.std.specs.Prelude.{◌≡◌, length, map, false, IfOk, IfErr};
+ghost use Rattle.dwp_base.specs.declared.section.SectionKind.TheVariants.{Abbrev};
 ghost use Rattle.dwp_dwarf.specs.Units.{unit_of};
+ghost use Rattle.dwp_index.specs.Package.{part_of, is_outside};
 ghost use Rattle.dwp_table.specs.Objects.{identifier_of};
 ghost use Rattle.thorin_faults.specs.Answers.{Gives};
 ghost use Rattle.thorin_parts.specs.Adjusting.{GivesExactly};
@@ -228,30 +230,32 @@ pub(crate) fn test_row<'a>(
     }
 }
 
-// The abbreviations of a row; none where it has none. `BadContribution` where they are outside the section.
+// Where the abbreviations of a row stand; none where it has none. `BadContribution` where they are outside
+// the section.
 #[tactic(auto, unfolding(crate::specs::Rows::row_abbreviations))]
-fn row_abbreviations<'a>(bytes: &'a [u8], row: &Row<'_>) -> Result<&'a [u8], Error>
-    ensures { Gives (λ part. part.now) result (spec.row_abbreviations bytes.now row.now) }
+fn row_abbreviations(bytes: &[u8], row: &Row<'_>) -> Result<Option<Contribution>, Error>
+    ensures part { Gives (part_of bytes.now) result (spec.row_abbreviations bytes.now row.now) }
+    ensures inside { IfOk result (λ range. is_outside bytes.now range ≡ false) }
 {
     let Some(range) = row.range(SectionKind::Abbrev) else {
-        return Ok(&[]);
+        return Ok(None);
     };
     let size = bytes.len() as u64;
     if range.offset.0 > size || size - range.offset.0 < range.size {
         return Err(Error::BadContribution(SectionKind::Abbrev.name(), 0));
     }
-    let start = range.offset.0 as usize;
-    Ok(&bytes[start..start + range.size as usize])
+    Ok(Some(range))
 }
 
 // Those of the row of a number of an index.
 #[tactic(auto, unfolding(crate::specs::Rows::numbered_abbreviations))]
-fn numbered_abbreviations<'a>(
-    bytes: &'a [u8],
+fn numbered_abbreviations(
+    bytes: &[u8],
     index: &Option<UnitIndex<'_>>,
     number: Option<u32>,
-) -> Result<&'a [u8], Error>
-    ensures { Gives (λ part. part.now) result (spec.numbered_abbreviations bytes.now index.now number) }
+) -> Result<Option<Contribution>, Error>
+    ensures part { Gives (part_of bytes.now) result (spec.numbered_abbreviations bytes.now index.now number) }
+    ensures inside { IfOk result (λ range. is_outside bytes.now range ≡ false) }
 {
     match (index, number) {
         (Some(index), Some(number)) => match index.row(number) {
@@ -262,23 +266,36 @@ fn numbered_abbreviations<'a>(
     }
 }
 
-/// The abbreviations that a unit's identity is read with: those of the first section; for a compile unit
-/// of a package those of its row by place (`UnitNotInIndex`, `BadContribution`).
+// The range of all bytes.
+fn whole_range_of(bytes: &[u8]) -> Option<Contribution>
+    ensures part { part_of bytes.now result ≡ bytes.now }
+    ensures inside { is_outside bytes.now result ≡ false }
+{
+    Some(Contribution {
+        offset: ContributionOffset(0),
+        size: bytes.len() as u64,
+    })
+}
+
+/// Where in the first section of abbreviations those stand that a unit's identity is read with: all of it;
+/// for a compile unit of a package those of its row by place (`UnitNotInIndex`, `BadContribution`).
 #[tactic(auto, unfolding(crate::specs::Rows::abbreviations_for))]
 pub(crate) fn abbreviations_for<'a>(
     source: &Source<'a>,
+    bytes: &[u8],
     places: &Places<'_, '_>,
     kind: SectionKind,
     header: &UnitHeader<SliceReader<'a>>,
-) -> Result<&'a [u8], Error>
-    requires { places.now.compilations ≡ record { index = (view.source source.now).indexes.compilations; section = kind } }
-    ensures { Gives (λ part. part.now) result (spec.abbreviations_for (view.source source.now) kind (unit_of ⟦<SliceReader<'a> as Reader>⟧.input header.now)) }
+) -> Result<Option<Contribution>, Error>
+    requires places { places.now.compilations ≡ record { index = (view.source source.now).indexes.compilations; section = kind } }
+    requires bytes { bytes.now ≡ first Abbrev (view.source source.now).object.sections }
+    ensures part { Gives (part_of bytes.now) result (spec.abbreviations_for (view.source source.now) kind (unit_of ⟦<SliceReader<'a> as Reader>⟧.input header.now)) }
+    ensures inside { IfOk result (λ range. is_outside bytes.now range ≡ false) }
 {
-    let bytes = source.object.first(SectionKind::Abbrev);
     if source.indexes.is_package() && matches!(header.unit_type(), UnitType::Compilation) {
         let number = places.compilations.find(own_range(header));
         numbered_abbreviations(bytes, &source.indexes.compilations, number)
     } else {
-        Ok(bytes)
+        Ok(whole_range_of(bytes))
     }
 }

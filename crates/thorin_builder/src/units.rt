@@ -6,20 +6,20 @@ ghost use Rattle.thorin_faults.specs.Answers.{Gives};
 ghost use Rattle.thorin_builder.specs.NewUnits as spec;
 ghost use Rattle.thorin_builder.specs.State.{held_units};
 ghost use Rattle.thorin_builder.specs.StateView.{in_progress_of};
-ghost use Rattle.thorin_builder.specs.UnitView.{adding_of, met_of, new_unit, new_of};
+ghost use Rattle.thorin_builder.specs.UnitView.{adding_of, met_of, new_unit, new_of, tables_in};
 ghost use Rattle.thorin_builder.specs.View as view;
 
 use crate::in_progress::InProgressDwarfPackage;
 use crate::object::UsedSection;
 use crate::rows::{Places, Whole, abbreviations_for, test_row, unit_row};
 use crate::source::Source;
+use crate::tables::Tables;
 use dwp_base::SectionKind;
 use dwp_dwarf::{ReadError, Reader, SliceReader, UnitHeader, UnitHeaders, UnitSection};
 use dwp_table::{Bucketable, DebugTypeSignature, DwarfObject};
 use indexmap::IndexMap;
 use std::alloc::Global;
 use thorin_faults::Error;
-use thorin_identity::dwo_identifier_of_unit;
 use thorin_parts::IndexEntry;
 
 /// A unit that is added: whether it goes to info or to types, its bytes, and its row but for them.
@@ -46,11 +46,12 @@ pub(crate) struct Adding<'i, 'a> {
     pub package: &'i InProgressDwarfPackage,
 }
 
-// Which sections of units came before.
+// Which sections of units came before, and what was read of abbreviations.
 #[derive(Drop)]
-struct Met {
+struct Met<'a> {
     info: bool,
     types: bool,
+    tables: Tables<'a>,
 }
 
 // Type units go where they stand, every other unit to info.
@@ -76,7 +77,7 @@ pub(crate) fn unit_section(kind: SectionKind) -> Option<UnitSection>
 
 // `MultipleDebugInfoSection` or `MultipleDebugTypesSection` where a package has a second one.
 #[tactic(auto, unfolding(crate::specs::NewUnits::once_test))]
-fn test_once(adding: &Adding<'_, '_>, place: UnitSection, met: &Met) -> Result<(), Error>
+fn test_once(adding: &Adding<'_, '_>, place: UnitSection, met: &Met<'_>) -> Result<(), Error>
     ensures { Gives (λ _. tt) result (spec.once_test (adding_of adding.now) place (met_of met.now)) }
 {
     if !adding.source.indexes.is_package() {
@@ -94,15 +95,17 @@ fn test_once(adding: &Adding<'_, '_>, place: UnitSection, met: &Met) -> Result<(
 fn name_for<'a>(
     source: &Source<'a>,
     places: &Places<'_, '_>,
+    tables: &mut Tables<'a>,
     kind: SectionKind,
     header: &UnitHeader<SliceReader<'a>>,
 ) -> Result<DwarfObject, Error>
-    requires { places.now.compilations ≡ record { index = (view.source source.now).indexes.compilations; section = kind } }
-    ensures { Gives (λ name. name) result (spec.name_for (view.source source.now) kind (unit_of ⟦<SliceReader<'a> as Reader>⟧.input header.now)) }
+    requires places { places.now.compilations ≡ record { index = (view.source source.now).indexes.compilations; section = kind } }
+    requires tables { tables.old ≡ tables_in (view.source source.now).object }
+    ensures meaning { Gives (λ name. name) result (spec.name_for (view.source source.now) kind (unit_of ⟦<SliceReader<'a> as Reader>⟧.input header.now)) }
+    ensures tables { tables.new ≡ tables.old }
 {
-    let abbreviations = abbreviations_for(source, places, kind, header)?;
-    let reader = SliceReader::new(abbreviations, source.object.order);
-    dwo_identifier_of_unit(&reader, header)?.ok_or(Error::NotSplitUnit)
+    let range = abbreviations_for(source, tables.bytes(), places, kind, header)?;
+    tables.identifier(range, header)?.ok_or(Error::NotSplitUnit)
 }
 
 impl<'a> NewUnits<'a> {
@@ -122,6 +125,7 @@ impl<'a> NewUnits<'a> {
         let mut met = Met {
             info: false,
             types: false,
+            tables: Tables::new(alloc, &adding.source.object),
         };
         for section in &adding.source.object.sections {
             new.add_section(alloc, adding, &mut met, *section)?;
@@ -135,10 +139,12 @@ impl<'a> NewUnits<'a> {
         &mut self,
         alloc: Global,
         adding: &Adding<'_, 'a>,
-        met: &mut Met,
+        met: &mut Met<'a>,
         section: UsedSection<'a>,
     ) -> Result<(), Error>
-        ensures { Gives (λ _. (met_of met.new, new_of self.new)) result (spec.with_section (adding_of adding.now) (met_of met.old, new_of self.old) (view.used section.entry)) }
+        requires tables { met.old.tables ≡ tables_in (view.source adding.now.source.now).object }
+        ensures meaning { Gives (λ _. (met_of met.new, new_of self.new)) result (spec.with_section (adding_of adding.now) (met_of met.old, new_of self.old) (view.used section.entry)) }
+        ensures tables { met.new.tables ≡ met.old.tables }
     {
         match unit_section(section.kind) {
             Some(place) => self.add_section_at(alloc, adding, met, section, place),
@@ -152,11 +158,13 @@ impl<'a> NewUnits<'a> {
         &mut self,
         alloc: Global,
         adding: &Adding<'_, 'a>,
-        met: &mut Met,
+        met: &mut Met<'a>,
         section: UsedSection<'a>,
         place: UnitSection,
     ) -> Result<(), Error>
-        ensures { Gives (λ _. (met_of met.new, new_of self.new)) result (spec.with_section_at (adding_of adding.now) (view.used section.entry) place (met_of met.old, new_of self.old)) }
+        requires tables { met.old.tables ≡ tables_in (view.source adding.now.source.now).object }
+        ensures meaning { Gives (λ _. (met_of met.new, new_of self.new)) result (spec.with_section_at (adding_of adding.now) (view.used section.entry) place (met_of met.old, new_of self.old)) }
+        ensures tables { met.new.tables ≡ met.old.tables }
     {
         test_once(adding, place, met)?;
         match place {
@@ -166,7 +174,7 @@ impl<'a> NewUnits<'a> {
         let places = Places::new(alloc, &adding.source.indexes, section.kind)?;
         let reader = SliceReader::new(section.bytes, adding.source.object.order);
         for read in UnitHeaders::new(reader, place) {
-            self.add_read(adding, &places, section, read)?;
+            self.add_read(adding, &places, &mut met.tables, section, read)?;
         }
         Ok(())
     }
@@ -177,15 +185,18 @@ impl<'a> NewUnits<'a> {
         &mut self,
         adding: &Adding<'_, 'a>,
         places: &Places<'_, '_>,
+        tables: &mut Tables<'a>,
         section: UsedSection<'a>,
         read: Result<UnitHeader<SliceReader<'a>>, ReadError>,
     ) -> Result<(), Error>
         requires compilations { places.now.compilations ≡ record { index = (view.source adding.now.source.now).indexes.compilations; section = section.kind } }
         requires types { places.now.types ≡ record { index = (view.source adding.now.source.now).indexes.types; section = section.kind } }
-        ensures { Gives (λ _. new_of self.new) result (spec.with_read (adding_of adding.now) (view.used section.entry) (new_of self.old) (unit_seen ⟦<SliceReader<'a> as Reader>⟧.input read.entry)) }
+        requires tables { tables.old ≡ tables_in (view.source adding.now.source.now).object }
+        ensures meaning { Gives (λ _. new_of self.new) result (spec.with_read (adding_of adding.now) (view.used section.entry) (new_of self.old) (unit_seen ⟦<SliceReader<'a> as Reader>⟧.input read.entry)) }
+        ensures tables { tables.new ≡ tables.old }
     {
         let header = read.map_err(Error::ParseUnitHeader)?;
-        let name = name_for(adding.source, places, section.kind, &header)?;
+        let name = name_for(adding.source, places, tables, section.kind, &header)?;
         self.add_unit(adding, places, section, name, &header)
     }
 

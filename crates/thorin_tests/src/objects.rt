@@ -4,7 +4,7 @@ use bumpalo::Bump;
 use dwp_elf::{Class, Endianness, SectionKind, WritableObject, WriteError};
 use dwp_index::PackageFile;
 use dwp_table::{DebugTypeSignature, DwarfObject, DwoId};
-use std::alloc::Global;
+use std::alloc::{AllocError, Global};
 use std::collections::BTreeMap;
 use std::test::Fail;
 use thorin::{Input, Packed, pack};
@@ -63,6 +63,25 @@ pub fn plain(alloc: Global, id: u8) -> Result<Vec<u8>, WriteError> {
     )
 }
 
+/// The compilation unit 5, big endian, with addresses of 4 bytes.
+pub const NARROW_UNIT: [u8; 20] = [
+    0, 0, 0, 0x10, 0, 4, 0, 0, 0, 0, 4, 1, 0, 0, 0, 0, 0, 0, 0, 5,
+];
+
+/// The object with that unit, of 32 bits, for MIPS.
+pub fn narrow(alloc: Global) -> Result<Vec<u8>, WriteError> {
+    made(
+        alloc,
+        Class::Elf32,
+        8,
+        Endianness::Big,
+        &[
+            (SectionKind::Info, NARROW_UNIT.as_slice()),
+            (SectionKind::Abbrev, ABBREVIATIONS.as_slice()),
+        ],
+    )
+}
+
 /// The object with the compilation unit of an identifier and two strings, `b` and `a`.
 pub fn with_strings(alloc: Global, id: u8) -> Result<Vec<u8>, WriteError> {
     object(
@@ -109,8 +128,8 @@ pub fn part(bytes: &[u8], from: usize, to: usize) -> &[u8] {
     bytes.get(from..to).unwrap_or(&[])
 }
 
-/// The file with the first of these bytes replaced by others, which aren't more.
-pub fn renamed(alloc: Global, file: &[u8], from: &[u8], to: &[u8]) -> Result<Vec<u8>, Fail> {
+/// The file with the first of these bytes replaced by others, which aren't more; the file where they aren't there.
+pub fn renamed(alloc: Global, file: &[u8], from: &[u8], to: &[u8]) -> Result<Vec<u8>, AllocError> {
     for place in 0..file.len() {
         if part(file, place, place.saturating_add(from.len())) == from {
             let mut bytes = part(file, 0, place).to_vec(alloc)?;
@@ -119,7 +138,7 @@ pub fn renamed(alloc: Global, file: &[u8], from: &[u8], to: &[u8]) -> Result<Vec
             return Ok(bytes);
         }
     }
-    Err("the bytes are there".into())
+    file.to_vec(alloc)
 }
 
 /// The compilation unit of an identifier, and the type unit of a signature.
