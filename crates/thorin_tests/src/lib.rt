@@ -6,6 +6,8 @@ mod counted;
 #[cfg(test)]
 mod executables;
 #[cfg(test)]
+mod groups;
+#[cfg(test)]
 mod large;
 #[cfg(test)]
 mod many_objects;

@@ -42,7 +42,11 @@ fn file_of(alloc: Global, inputs: &[&[u8]]) -> Result<Vec<u8>, Fail> {
 }
 
 /// The object of a unit of version 5 without any entry, with these sections besides.
-fn split(alloc: Global, units: &[&[u8]], others: &[(SectionKind, &[u8])]) -> Result<Vec<u8>, Fail> {
+pub fn split(
+    alloc: Global,
+    units: &[&[u8]],
+    others: &[(SectionKind, &[u8])],
+) -> Result<Vec<u8>, Fail> {
     let mut object = WritableObject::new(alloc, Class::Elf64, 62, Endianness::Little);
     for unit in units {
         object.append(SectionKind::Info, unit)?;
