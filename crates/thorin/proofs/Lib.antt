@@ -1,1 +1,4 @@
 pub mod Running
+pub mod Grouping
+pub mod Shuffled
+pub mod GroupJoins

@@ -1,36 +1,24 @@
 -- A run, one input after the other, and the join of what it accepted.
-use Rattle.std.proofs.Common.{◌≡◌, ◌≢◌, ◌∙◌, ℕ, Bool, true, false, true≢false, List, [], ◌∷◌, ◌++◌, refl, sym, ap, subst, Option, Some, None, Result, Ok, Err, ◌<◌, ◌+◌, add-one, length, take, drop, get_or, map, inl, inr, Bor}
-use Rattle.std.specs.Prelude.{option_map}
+use Rattle.std.proofs.Common.{◌≡◌, ◌∙◌, ℕ, List, [], ◌∷◌, ◌++◌, refl, sym, ap, subst, Option, Result, Ok, Err, ◌<◌, ◌+◌, add-one, length, take, get_or, inl, inr, Bor}
 use Rattle.std.proofs.Math.Seq.{take-suc}
-use Rattle.std.proofs.lemmas.List.{append_assoc, append-nil, map-append, take-append-drop, length-map}
+use Rattle.std.proofs.lemmas.List.{append_assoc, append-nil}
 use Rattle.std.specs.declared.io.Error.{Error as IoError}
 use Rattle.std.specs.Path.{path_bytes}
 use Rattle.std.specs.declared.path.Path.{Path}
 use Rattle.dwp_table.specs.declared.object.DwarfObject.{DwarfObject}
-use Rattle.dwp_table.specs.declared.object.DwoId.{DwoId}
 use Rattle.dwp_table.specs.declared.object.DwarfObject.TheVariants.{Compilation, TypeUnit}
-use Rattle.thorin_faults.specs.Fault.{Fault, fault_of, Memory}
-use Rattle.thorin_faults.specs.declared.fault.Error.{Error}
-use Rattle.thorin_faults.specs.declared.fault.Error.TheVariants as error
+use Rattle.thorin_faults.specs.Fault.{Fault}
 use Rattle.thorin_faults.specs.declared.fault.InputError.{InputError}
 use Rattle.thorin_faults.specs.declared.fault.InputError.TheVariants.{Io, Memory as no_memory}
 use Rattle.thorin_faults.specs.declared.fault.MissingReferencedObjectBehaviour.{MissingReferencedObjectBehaviour}
-use Rattle.thorin_faults.specs.declared.fault.MissingReferencedObjectBehaviour.TheVariants as behaviour
-use Rattle.thorin_executable.specs.View.{UnlessMemory, IsFront, listed, named}
-use Rattle.thorin_executable.specs.Skeletons.{skeletons_of}
-use Rattle.thorin_executable.specs.declared.listing.Skeleton.{Skeleton}
-use Rattle.thorin_executable.specs.declared.listing.SkeletonList.{SkeletonList}
-use Rattle.std.specs.Result.{is_err}
+use Rattle.thorin_executable.specs.View.{named}
 use Rattle.thorin.specs.declared.packing.Input.{Input}
 use Rattle.thorin.specs.declared.packing.Input.TheVariants as inputs
-use Rattle.std.specs.List.{list_any}
-use Rattle.thorin_builder.specs.Builder.{State, names_in}
-use Rattle.thorin_builder.specs.Join.{Joins, JoinAll}
-use Rattle.thorin_builder.specs.Meaning.{Members, keys}
-use Rattle.thorin_builder.specs.Names.{same_name, with_name}
-use Rattle.thorin_builder.specs.State.{InProgress}
-use Rattle.thorin_builder.specs.Represents.{units_in, units_begun}
-use Rattle.thorin_builder.specs.Taking.{Outcome, Takes, accepted_of, TakesRead, with_target, PassesOver, TakesReferred, TakesSkeleton, is_there, EndsWith, Step, GoesOn, TakesSkeletons, AllTaken, TakesEach, TakesNamed, TakesExecutable, TakesFile, TakesExecutableRead}
+use Rattle.thorin_builder.specs.Builder.{State}
+use Rattle.thorin_builder.specs.Join.{JoinAll}
+use Rattle.thorin_builder.specs.Meaning.{Members}
+use Rattle.thorin_builder.specs.Represents.{units_in}
+use Rattle.thorin_builder.specs.Taking.{Outcome, Takes, accepted_of, TakesRead, with_target, TakesReferred, TakesSkeleton, Step, GoesOn, TakesSkeletons, TakesExecutable, TakesFile, TakesExecutableRead}
 use Rattle.thorin.specs.Run.{TakesInput, Took, Ran}
 
 abbrev pub Offer : Type 1
@@ -60,7 +48,7 @@ taken-next xs i d h = ap (λ n. take n xs) (add-one i) ∙ take-suc xs i d h
 
 -- ---- what was accepted is joined
 
-join-append : (a b : List (List ℕ)) (x y z : Members) → JoinAll a x y → JoinAll b y z → JoinAll (a ++ b) x z
+pub join-append : (a b : List (List ℕ)) (x y z : Members) → JoinAll a x y → JoinAll b y z → JoinAll (a ++ b) x z
 join-append [] b x y z h k = subst (λ m. JoinAll b m z) h k
 join-append (bytes ∷ a) b x y z h k = (h.0, h.1, join-append a b h.0 y z h.2 k)
 

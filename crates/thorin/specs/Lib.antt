@@ -1,2 +1,3 @@
 pub mod Run
 pub mod Packed
+pub mod Groups

@@ -1,6 +1,5 @@
 -- A run of inputs, and what is written after it.
-use Rattle.std.specs.Prelude.{◌≡◌, ◌≢◌, ℕ, Bool, true, false, List, [], ◌∷◌, ◌++◌, take, length, Option, Some, None, Result, Ok, Err, OnOk, OnErr, ◌⊎◌}
-use Rattle.std.specs.List.{list_any}
+use Rattle.std.specs.Prelude.{◌≡◌, ℕ, List, [], ◌∷◌, ◌++◌, Result, Ok, Err, ◌⊎◌}
 use Rattle.std.specs.Path.{path_bytes}
 use Rattle.std.specs.declared.io.Error.{Error as IoError}
 use Rattle.dwp_elf.specs.FileText.{Object as File, file_text}
@@ -10,23 +9,11 @@ use Rattle.dwp_elf.specs.Written.{written_elf}
 use Rattle.dwp_elf_read.specs.Elf.{elf_of}
 use Rattle.dwp_elf_read.specs.declared.fault.WriteError.TheVariants as writer
 use Rattle.thorin_faults.specs.declared.fault.Error.{Error}
-use Rattle.thorin_faults.specs.declared.fault.Error.TheVariants as error
-use Rattle.thorin_faults.specs.declared.fault.InputError.{InputError}
-use Rattle.thorin_faults.specs.declared.fault.InputError.TheVariants as input_error
-use Rattle.thorin_faults.specs.Fault.{Fault, fault_of, ObjectWrite, Memory}
-use Rattle.thorin_faults.specs.declared.fault.MissingReferencedObjectBehaviour.{MissingReferencedObjectBehaviour}
-use Rattle.thorin_faults.specs.declared.fault.MissingReferencedObjectBehaviour.TheVariants as behaviour
-use Rattle.thorin_executable.specs.Skeletons.{skeletons_of}
-use Rattle.dwp_table.specs.declared.object.DwarfObject.{DwarfObject}
-use Rattle.dwp_table.specs.declared.object.DwarfObject.TheVariants.{Compilation, TypeUnit}
-use Rattle.thorin_faults.specs.Answers.{Gives, MemoryAside}
-use Rattle.thorin_faults.specs.Sessions.{input_fault}
+use Rattle.thorin_faults.specs.Fault.{Fault, fault_of, ObjectWrite}
+use Rattle.thorin_faults.specs.Answers.{MemoryAside}
 use Rattle.thorin.specs.declared.packing.Input.{Input}
 use Rattle.thorin.specs.declared.packing.Input.TheVariants as inputs
-use Rattle.thorin_builder.specs.Builder.{State, names_in, taken, finish_test, IsFinishedState}
-use Rattle.thorin_builder.specs.Join.{Joins}
-use Rattle.thorin_builder.specs.Names.{same_name, with_name}
-use Rattle.thorin_builder.specs.Represents.{units_in}
+use Rattle.thorin_builder.specs.Builder.{State, finish_test, IsFinishedState}
 use Rattle.thorin_builder.specs.Taking.{Outcome, Takes, accepted_of, TakesFile, TakesExecutable, Step}
 
 -- what came of an input of a list, and the bytes that were accepted

@@ -3,6 +3,8 @@
 //! What a caller names besides stands here too: sessions, errors, the names of units and the arena.
 #![tactic(auto)]
 
+mod groups;
+mod laws;
 mod packing;
 
 pub use bumpalo::Bump;
@@ -11,6 +13,8 @@ pub use dwp_bytes::{Encoding, Format, ReadError, RelocationEntry};
 pub use dwp_elf::{Output, WritableObject, WriteError};
 pub use dwp_index::{PackageError, PackageFile, PackagedUnit, UnitEntry, Units};
 pub use dwp_table::{DebugTypeSignature, DwarfObject, DwoId};
+pub use groups::pack_groups;
+pub use laws::groups_are_joined_alike;
 pub use packing::{Input, Packed, pack};
 pub use thorin_builder::{DwarfPackage, MissingTargets};
 pub use thorin_executable::{Skeleton, SkeletonList, skeletons};

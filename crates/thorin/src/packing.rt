@@ -67,8 +67,8 @@ fn take_input<'o, 's: 'o, Sess: Session<RelocationEntry>>(
     }
 }
 
-// The file of the finished package.
-fn written<'o, 's: 'o, Sess: Session<RelocationEntry>>(
+/// The file of the finished package.
+pub(crate) fn written<'o, 's: 'o, Sess: Session<RelocationEntry>>(
     builder: DwarfPackage<'o, 's, Sess>,
 ) -> Result<Vec<u8>, Error>
     ensures writes { Writes (λ bytes. bytes.items) builder.entry.state result }

@@ -1,0 +1,12 @@
+use Rattle.std.proofs.Common.{◌≡◌, [], take, Ok}
+use Rattle.thorin_builder.specs.Builder.{start}
+use Rattle.thorin_builder.specs.Join.{JoinAll}
+use Rattle.thorin_builder.specs.Represents.{units_in}
+use Rattle.thorin.specs.Groups.{taken_each, bytes_in}
+use Rattle.thorin.proofs.groups.pack_alone.Given as goal
+
+-- the inputs so far were taken, and their units joined
+abbrev pub invariant-loop-input : goal.invariant-loop-input
+invariant-loop-input g l =
+    (taken_each (bytes_in (take l.input-index l.inputs)) start ≡ Ok l.builder.state)
+    × JoinAll (bytes_in (take l.input-index l.inputs)) [] (units_in l.builder.state)

@@ -1,0 +1,91 @@
+-- Packing in groups: each group of inputs into a package of its own, and then these packages into one (DWARF 5, 7.3.5).
+use Rattle.std.specs.Prelude.{◌≡◌, ℕ, true, List, [], ◌∷◌, ◌++◌, map, Result, Ok, Err, IsPermutation, ◌⊎◌}
+use Rattle.std.specs.Borrow.{Bor}
+use Rattle.dwp_base.specs.Reading.{◌>>=◌}
+use Rattle.dwp_table.specs.declared.object.DwarfObject.{DwarfObject}
+use Rattle.thorin_faults.specs.declared.fault.Error.{Error}
+use Rattle.thorin_faults.specs.Fault.{Fault, fault_of}
+use Rattle.thorin_faults.specs.Answers.{MemoryAside}
+use Rattle.thorin_builder.specs.Builder.{State, start, taken}
+use Rattle.thorin_builder.specs.Join.{JoinAll, IsPackageOf}
+use Rattle.thorin_builder.specs.Meaning.{joining, can_join}
+use Rattle.thorin_builder.specs.Represents.{units_in}
+use Rattle.thorin.specs.Run.{IsWritten, RefusesToWrite}
+
+-- the bytes of inputs, and those of groups of inputs
+abbrev pub bytes_in : List (Bor (List ℕ)) → List (List ℕ)
+bytes_in inputs = map (λ input. input.now) inputs
+
+abbrev pub groups_in : List (Bor (List (Bor (List ℕ)))) → List (List (List ℕ))
+groups_in groups = map (λ group. bytes_in group.now) groups
+
+-- the state once each of some inputs was taken, or the first fault
+unfoldable pub taken_each : List (List ℕ) → State → Result State Fault
+taken_each [] state = Ok state
+taken_each (bytes ∷ rest) state = do
+  next ← taken bytes state
+  taken_each rest next
+
+-- inputs packed alone: each was taken, and the package of the units that they join was written
+pub record IsPackedAlone (inputs : List (List ℕ)) (file : List ℕ) : Type 0 where
+  pub state : State
+  pub taken : taken_each inputs start ≡ Ok state
+  pub joined : JoinAll inputs [] (units_in state)
+  pub written : IsWritten state file
+  pub package_of : IsPackageOf (units_in state) file
+
+-- all inputs were taken, and what they make isn't written for this fault
+pub record IsUnwritten (inputs : List (List ℕ)) (fault : Fault) : Type 0 where
+  pub state : State
+  pub taken : taken_each inputs start ≡ Ok state
+  pub refused : RefusesToWrite state fault
+
+-- the first fault of packing inputs alone: of an input, else of finishing or writing
+abbrev pub RefusesAlone : List (List ℕ) → Fault → Type 0
+RefusesAlone inputs fault = (taken_each inputs start ≡ Err fault) ⊎ IsUnwritten inputs fault
+
+-- what packing inputs alone gives, want of memory aside
+abbrev pub PacksAlone : {V : Type 0} → (V → List ℕ) → List (List ℕ) → Result V Error → Type 0
+PacksAlone view inputs (Ok file) = IsPackedAlone inputs (view file)
+PacksAlone view inputs (Err e) = MemoryAside e (RefusesAlone inputs (fault_of e))
+
+-- each group has its package
+abbrev pub ArePackedAlone : List (List (List ℕ)) → List (List ℕ) → Type 0
+ArePackedAlone [] [] = Unit {0}
+ArePackedAlone [] (file ∷ files) = ⊥
+ArePackedAlone (group ∷ groups) [] = ⊥
+ArePackedAlone (group ∷ groups) (file ∷ files) = IsPackedAlone group file × ArePackedAlone groups files
+
+-- groups packed: a package of each, and the one of these
+pub record IsPackedInGroups (groups : List (List (List ℕ))) (file : List ℕ) : Type 0 where
+  pub packages : List (List ℕ)
+  pub each : ArePackedAlone groups packages
+  pub together : IsPackedAlone packages file
+
+-- a group is refused, and those before it were packed
+pub record RefusesGroup (groups : List (List (List ℕ))) (fault : Fault) : Type 0 where
+  pub before : List (List (List ℕ))
+  pub group : List (List ℕ)
+  pub after : List (List (List ℕ))
+  pub are : groups ≡ before ++ group ∷ after
+  pub packages : List (List ℕ)
+  pub each : ArePackedAlone before packages
+  pub refused : RefusesAlone group fault
+
+-- every group was packed, and their packages are refused
+pub record RefusesPackages (groups : List (List (List ℕ))) (fault : Fault) : Type 0 where
+  pub packages : List (List ℕ)
+  pub each : ArePackedAlone groups packages
+  pub refused : RefusesAlone packages fault
+
+-- what packing in groups gives: the package, or the first fault, want of memory aside
+abbrev pub PacksInGroups : {V : Type 0} → (V → List ℕ) → List (List (List ℕ)) → Result V Error → Type 0
+PacksInGroups view groups (Ok file) = IsPackedInGroups groups (view file)
+PacksInGroups view groups (Err e) = MemoryAside e (RefusesGroup groups (fault_of e) ⊎ RefusesPackages groups (fault_of e))
+
+-- the units of groups, each group's in order, joined to no names; and what came of it, in any order
+abbrev pub AreJoined : {X : Type 0} → (groups results : List (List (DwarfObject × X))) → Type 0
+AreJoined [] [] = Unit {0}
+AreJoined [] (result ∷ results) = ⊥
+AreJoined (group ∷ groups) [] = ⊥
+AreJoined (group ∷ groups) (result ∷ results) = (can_join [] group ≡ true) × IsPermutation (joining [] group) result × AreJoined groups results

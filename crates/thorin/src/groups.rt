@@ -1,0 +1,48 @@
+//! Packing in groups.
+
+ghost use Rattle.std.specs.Prelude.{IfOk};
+ghost use Rattle.thorin.specs.Groups.{PacksAlone, PacksInGroups, bytes_in, groups_in};
+
+use crate::packing::written;
+use dwp_bytes::RelocationEntry;
+use std::alloc::Global;
+use thorin_builder::DwarfPackage;
+use thorin_faults::{Error, Session};
+
+/// Packs each group of inputs, given by their bytes, into a package of its own, places these packages in
+/// the session, and packs them, in order, into the one that it answers (DWARF 5, 7.3.5). No input is
+/// passed over: the first refusal ends it.
+///
+/// # Errors
+/// The first of: for each group in order what `DwarfPackage::add_object_bytes` answers of its inputs and
+/// `finish` and `write` of its package (`NoOutputObjectCreated` for a group without inputs); then the same
+/// of the packages. `Memory` at any growth, and where the session has none.
+pub fn pack_groups<'s, Sess: Session<RelocationEntry>>(
+    alloc: Global,
+    session: &'s Sess,
+    groups: &[&[&'s [u8]]],
+) -> Result<Vec<u8>, Error>
+    ensures packed { PacksInGroups (λ file. file.items) (groups_in groups.now) result }
+{
+    let mut packages = Vec::with_capacity(alloc, groups.len())?;
+    for group in groups {
+        let package = pack_alone(alloc, session, group)?;
+        packages.push(session.alloc_data(package)?)?;
+    }
+    pack_alone(alloc, session, &packages)
+}
+
+// Packs inputs into a package of their own, up to the first refusal.
+fn pack_alone<'s, Sess: Session<RelocationEntry>>(
+    alloc: Global,
+    session: &'s Sess,
+    inputs: &[&'s [u8]],
+) -> Result<Vec<u8>, Error>
+    ensures { PacksAlone (λ file. file.items) (bytes_in inputs.now) result }
+{
+    let mut builder = DwarfPackage::new(alloc, session);
+    for input in inputs {
+        builder.add_object_bytes(input)?;
+    }
+    written(builder)
+}
