@@ -8,7 +8,7 @@ use Rattle.thorin_faults.specs.declared.fault.Error.{Error}
 use Rattle.thorin_builder.specs.Builder.{State, start, taken}
 use Rattle.thorin_builder.specs.Join.{JoinAll, IsPackageOf}
 use Rattle.thorin_builder.specs.Represents.{units_in}
-use Rattle.thorin.specs.Groups.{taken_each, IsPackedAlone, ArePackedAlone, PacksAlone, PacksInGroups}
+use Rattle.thorin.specs.Groups.{taken_each, IsPackedAlone, ArePackedAlone, PacksAlone, PacksInGroups, IsPackedInGroups, HaveTheirEncodings, IsPackageOfAll, inputs_of}
 use Rattle.thorin.specs.Run.{Writes}
 use Rattle.thorin.proofs.Running.{taken-next}
 
@@ -78,3 +78,10 @@ packs-alone view inputs state (Err e) took joined writes packaged = λ aside. in
 pub packs-together : {V : Type 0} (view : V → List ℕ) (groups : List (List (List ℕ))) (packages : List (List ℕ)) (result : Result V Error) → ArePackedAlone groups packages → PacksAlone view packages result → PacksInGroups view groups result
 packs-together view groups packages (Ok file) each packs = record { packages = packages; each = each; together = packs }
 packs-together view groups packages (Err e) each packs = λ aside. inr (record { packages = packages; each = each; refused = packs aside })
+
+-- what is so of every file of these groups is so of an answer that is Ok
+pub if-joined : {V E : Type 0} (view : V → List ℕ) (groups : List (List (List ℕ))) (result : Result V E)
+    → ((file : List ℕ) (packed : IsPackedInGroups groups file) → HaveTheirEncodings groups packed.packages packed.each → IsPackageOfAll (inputs_of groups) file)
+    → IfOk result (λ v. (packed : IsPackedInGroups groups (view v)) → HaveTheirEncodings groups packed.packages packed.each → IsPackageOfAll (inputs_of groups) (view v))
+if-joined view groups (Ok v) law = law (view v)
+if-joined view groups (Err e) law = tt

@@ -1,14 +1,18 @@
 -- Packing in groups: each group of inputs into a package of its own, and then these packages into one (DWARF 5, 7.3.5).
 use Rattle.std.specs.Prelude.{◌≡◌, ℕ, true, List, [], ◌∷◌, ◌++◌, map, Result, Ok, Err, IsPermutation, ◌⊎◌}
 use Rattle.std.specs.Borrow.{Bor}
+use Rattle.std.specs.List.{flat_map}
+use Rattle.std.specs.Map.{lookup}
 use Rattle.dwp_base.specs.Reading.{◌>>=◌}
 use Rattle.dwp_table.specs.declared.object.DwarfObject.{DwarfObject}
 use Rattle.thorin_faults.specs.declared.fault.Error.{Error}
 use Rattle.thorin_faults.specs.Fault.{Fault, fault_of}
 use Rattle.thorin_faults.specs.Answers.{MemoryAside}
+use Rattle.thorin_builder.specs.Again.{HaveEncodingOf}
 use Rattle.thorin_builder.specs.Builder.{State, start, taken}
 use Rattle.thorin_builder.specs.Join.{JoinAll, IsPackageOf}
-use Rattle.thorin_builder.specs.Meaning.{joining, can_join}
+use Rattle.thorin_builder.specs.Meaning.{Members, joining, can_join}
+use Rattle.thorin_builder.specs.Names.{same_name}
 use Rattle.thorin_builder.specs.Represents.{units_in}
 use Rattle.thorin.specs.Run.{IsWritten, RefusesToWrite}
 
@@ -89,3 +93,23 @@ AreJoined [] [] = Unit {0}
 AreJoined [] (result ∷ results) = ⊥
 AreJoined (group ∷ groups) [] = ⊥
 AreJoined (group ∷ groups) (result ∷ results) = (can_join [] group ≡ true) × IsPermutation (joining [] group) result × AreJoined groups results
+
+-- each unit of each of these packages has the encoding of its package's first unit (DWARF 5, 7.5.1)
+abbrev pub HaveTheirEncodings : (groups : List (List (List ℕ))) (packages : List (List ℕ)) → ArePackedAlone groups packages → Type 0
+HaveTheirEncodings [] [] each = Unit {0}
+HaveTheirEncodings [] (file ∷ files) each = ⊥
+HaveTheirEncodings (group ∷ groups) [] each = ⊥
+HaveTheirEncodings (group ∷ groups) (file ∷ files) each = HaveEncodingOf file (units_in each.0.state) × HaveTheirEncodings groups files each.1
+
+-- the inputs of all groups, in order
+abbrev pub inputs_of : List (List (List ℕ)) → List (List ℕ)
+inputs_of groups = flat_map (λ group. group) groups
+
+-- a file is a package of the units that some inputs join, in another order perhaps: as a map from names they are the same
+pub record IsPackageOfAll (inputs : List (List ℕ)) (file : List ℕ) : Type 0 where
+  pub units : Members
+  pub joined : JoinAll inputs [] units
+  pub packed : Members
+  pub same : IsPermutation units packed
+  pub found : (name : DwarfObject) → lookup (same_name name) packed ≡ lookup (same_name name) units
+  pub package_of : IsPackageOf packed file

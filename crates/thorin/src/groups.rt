@@ -1,8 +1,9 @@
 //! Packing in groups.
 
 ghost use Rattle.std.specs.Prelude.{IfOk};
-ghost use Rattle.thorin.specs.Groups.{PacksAlone, PacksInGroups, bytes_in, groups_in};
+ghost use Rattle.thorin.specs.Groups.{PacksAlone, PacksInGroups, IsPackedInGroups, HaveTheirEncodings, IsPackageOfAll, bytes_in, groups_in, inputs_of};
 
+use crate::laws::groups_are_packed_alike;
 use crate::packing::written;
 use dwp_bytes::RelocationEntry;
 use std::alloc::Global;
@@ -23,7 +24,12 @@ pub fn pack_groups<'s, Sess: Session<RelocationEntry>>(
     groups: &[&[&'s [u8]]],
 ) -> Result<Vec<u8>, Error>
     ensures packed { PacksInGroups (λ file. file.items) (groups_in groups.now) result }
+
+    // Where each unit of each group's package has the encoding of that package's first unit: the file is a
+    // package of the units that all inputs of all groups at once join.
+    ensures joined { IfOk result (λ file. (packed : IsPackedInGroups (groups_in groups.now) file.items) → HaveTheirEncodings (groups_in groups.now) packed.packages packed.each → IsPackageOfAll (inputs_of (groups_in groups.now)) file.items) }
 {
+    groups_are_packed_alike();
     let mut packages = Vec::with_capacity(alloc, groups.len())?;
     for group in groups {
         let package = pack_alone(alloc, session, group)?;

@@ -15,7 +15,7 @@ pub use dwp_elf::{Output, WritableObject, WriteError};
 pub use dwp_index::{PackageError, PackageFile, PackagedUnit, UnitEntry, Units};
 pub use dwp_table::{DebugTypeSignature, DwarfObject, DwoId};
 pub use groups::pack_groups;
-pub use laws::groups_are_joined_alike;
+pub use laws::{groups_are_joined_alike, groups_are_packed_alike};
 pub use packing::{Input, Packed, pack, take_input};
 pub use runs::runs_go_on;
 pub use thorin_builder::{DwarfPackage, InputReader, MissingTargets};

@@ -2,7 +2,7 @@ use Rattle.std.proofs.Common.{◌≡◌, ◌∙◌, ℕ, ◌+◌, List, [], ◌�
 use Rattle.std.proofs.lemmas.List.{take_all, map-append}
 use Rattle.std.proofs.lemmas.Result.{err_from_is_err_and}
 use Rattle.thorin.specs.Groups.{bytes_in, groups_in, ArePackedAlone, IsPackedAlone}
-use Rattle.thorin.proofs.Grouping.{mapped-next, mapped-around, packed-more, packs-together}
+use Rattle.thorin.proofs.Grouping.{mapped-next, mapped-around, packed-more, packs-together, if-joined}
 use Rattle.thorin.proofs.groups.pack_groups.Goals as goal
 
 abbrev none : Bor (List (Bor (List ℕ)))
@@ -41,6 +41,7 @@ returns-in_err-package g c =
         each = c.loop-group.invariant;
         refused = c.in_err-package.ensures aside;
       }));
+      joined = if-joined (λ file. file.items) (groups_in groups) c.from_residual-in_err-package.result (c.groups_are_packed_alike.ensures (groups_in groups));
     }
 
 pub returns : goal.returns
@@ -50,4 +51,4 @@ returns g c =
     let each : ArePackedAlone (groups_in groups) (bytes_in c.loop-group.packages.items) =
     subst (λ l. ArePackedAlone (groups_in l) (bytes_in c.loop-group.packages.items)) all c.loop-group.invariant in
     let lent : ArePackedAlone (groups_in groups) (bytes_in c.deref.result.now) = subst (λ l. ArePackedAlone (groups_in groups) (bytes_in l)) (sym c.deref.ensures.value) each in
-    record { packed = packs-together (λ file. file.items) (groups_in groups) (bytes_in c.deref.result.now) c.pack_alone-2.result lent c.pack_alone-2.ensures }
+    record { packed = packs-together (λ file. file.items) (groups_in groups) (bytes_in c.deref.result.now) c.pack_alone-2.result lent c.pack_alone-2.ensures; joined = if-joined (λ file. file.items) (groups_in groups) c.pack_alone-2.result (c.groups_are_packed_alike.ensures (groups_in groups)) }
