@@ -1,2 +1,3 @@
 pub mod Identifiers
 pub mod Words
+pub mod Packing

@@ -29,34 +29,63 @@ pub(crate) fn check<O: Write>(
     out: &mut O,
 ) -> Result<u8, Failure> {
     let bytes = read_file(rt, matches.get_str("file").unwrap_or(""))?;
-    let Ok(package) = PackageFile::parse(bytes.as_slice()) else {
-        return Err(Failure::Malformed);
-    };
-    let Ok(file) = ElfFile::parse(bytes.as_slice()) else {
-        return Err(Failure::Malformed);
-    };
-    let entries = entries_by_row(rt, &package)?;
+    let executables = matches.get_strs("exec").unwrap_or(&[]);
     let mut lines = BufWriter::new(rt.alloc(), out).map_err(|e| buffer_failure(&e))?;
-    let mut faults = check_units(
-        rt,
-        &package,
-        file.endianness(),
-        entries.as_slice(),
-        &mut lines,
-    )?;
-    for (kind, is_types) in [(SectionKind::CuIndex, false), (SectionKind::TuIndex, true)] {
-        let rows = row_count(&file, kind);
-        let found = check_rows(entries.as_slice(), is_types, rows, &mut lines)?;
-        faults = faults.saturating_add(found);
-    }
-    for executable in matches.get_strs("exec").unwrap_or(&[]) {
-        let found = check_executable(rt, &package, executable, &mut lines)?;
-        faults = faults.saturating_add(found);
-    }
-    let units = entries.len();
+    let (units, faults) = check_package(rt, bytes.as_slice(), executables, &mut lines)?;
     writeln!(lines, "{units} units, {faults} faults").map_err(|_| Failure::Line)?;
     lines.flush().map_err(|e| buffer_failure(&e))?;
     Ok(if faults == 0 { 0 } else { 1 })
+}
+
+// Checks a package's bytes. Answers the numbers of units and of faults.
+fn check_package<W: Write>(
+    rt: &HostRuntime,
+    bytes: &[u8],
+    executables: &[&str],
+    lines: &mut W,
+) -> Result<(usize, u64), Failure> {
+    let Ok(package) = PackageFile::parse(bytes) else {
+        return Err(Failure::Malformed);
+    };
+    let Ok(file) = ElfFile::parse(bytes) else {
+        return Err(Failure::Malformed);
+    };
+    let entries = entries_by_row(rt, &package)?;
+    let of_units = check_units(rt, &package, file.endianness(), entries.as_slice(), lines)?;
+    let of_rows = check_indexes(&file, entries.as_slice(), lines)?;
+    let of_executables = check_executables(rt, &package, executables, lines)?;
+    let faults = of_units
+        .saturating_add(of_rows)
+        .saturating_add(of_executables);
+    Ok((entries.len(), faults))
+}
+
+// A slot names each row of both indexes. Answers the number of faults.
+fn check_indexes<W: Write>(
+    file: &ElfFile<'_>,
+    entries: &[UnitEntry],
+    lines: &mut W,
+) -> Result<u64, Failure> {
+    let rows = row_count(file, SectionKind::CuIndex);
+    let compilations = check_rows(entries, false, rows, lines)?;
+    let rows = row_count(file, SectionKind::TuIndex);
+    let types = check_rows(entries, true, rows, lines)?;
+    Ok(compilations.saturating_add(types))
+}
+
+// Each split unit that executables name is in the package. Answers the number of faults.
+fn check_executables<W: Write>(
+    rt: &HostRuntime,
+    package: &PackageFile<'_>,
+    executables: &[&str],
+    lines: &mut W,
+) -> Result<u64, Failure> {
+    let mut faults = 0u64;
+    for executable in executables {
+        let found = check_executable(rt, package, executable, lines)?;
+        faults = faults.saturating_add(found);
+    }
+    Ok(faults)
 }
 
 // What is wrong with a unit of a package.

@@ -18,14 +18,19 @@ pub(crate) fn read_file(rt: &HostRuntime, path: &str) -> Result<Vec<u8>, Failure
 
 /// A device isn't read: it may have no end. What isn't there is left to the read.
 pub(crate) fn test_input(rt: &HostRuntime, path: &str) -> Result<(), Failure> {
-    let Ok(metadata) = fs::metadata(rt, path) else {
-        return Ok(());
-    };
-    let kind = metadata.file_type();
-    if kind.is_char_device() || kind.is_block_device() {
+    if is_device(rt, path) {
         return Err(Failure::Input);
     }
     Ok(())
+}
+
+/// Whether there is a device at a path.
+pub(crate) fn is_device(rt: &HostRuntime, path: &str) -> bool {
+    let Ok(metadata) = fs::metadata(rt, path) else {
+        return false;
+    };
+    let kind = metadata.file_type();
+    kind.is_char_device() || kind.is_block_device()
 }
 
 // What a failed read of a file is.

@@ -9,6 +9,7 @@ mod input;
 mod list;
 mod output;
 mod pack;
+mod reader;
 mod response;
 mod sizes;
 mod telling;

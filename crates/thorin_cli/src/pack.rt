@@ -1,18 +1,26 @@
 //! `thorin pack`.
 
-use crate::input::test_input;
+ghost use Rattle.std.specs.Prelude.{◌≡◌, ◌++◌, List, ℕ, Ok, map, OnOk, IfOk};
+ghost use Rattle.thorin_builder.specs.Builder.{IsFinishedState};
+ghost use Rattle.thorin_builder.specs.Join.{IsPackageOnceWritten};
+ghost use Rattle.thorin_builder.specs.Represents.{units_in};
+ghost use Rattle.thorin.specs.Run.{Took};
+ghost use Rattle.thorin_cli.specs.Packing.{anything, asked, object_asked, executable_asked, AreAllAccepted, IsPackedOf};
+
 use crate::output::Failure;
-use crate::telling::{tell_refused, tell_taken, unit_count, warn_differing};
+use crate::reader::FileReader;
+use crate::telling::{tell, warn_differing};
 use crate::write::write_package;
 use bumpalo::Bump;
 use clap::ArgMatches;
 use dwp_bytes::RelocationEntry;
 use dwp_elf::WritableObject;
 use dwp_table::DebugTypeSignature;
+use std::alloc::{AllocError, Global};
 use std::io::Write;
 use std::path::Path;
-use thorin::DwarfPackage;
-use thorin_faults::{ArenaSession, Error, MissingReferencedObjectBehaviour, Session};
+use thorin::{DwarfPackage, Input, runs_go_on, take_input};
+use thorin_faults::{ArenaSession, MissingReferencedObjectBehaviour, Session};
 
 /// What is to be packed, and where to.
 #[derive(Drop)]
@@ -68,131 +76,100 @@ pub(crate) fn pack<E: Write>(
     err: &mut E,
 ) -> Result<u8, Failure> {
     let output = packing.output_name(rt)?;
-    let bump = Bump::new(rt.alloc());
-    let session = ArenaSession::new(rt, &bump);
-    let package = DwarfPackage::new(rt.alloc(), &session);
-    let (object, differing) = packed(rt, packing, package, err)?;
+    let objects = packing.inputs.unwrap_or(&[]);
+    let executables = packing.executables.unwrap_or(&[]);
+    let inputs = inputs_of(rt.alloc(), objects, executables, packing.missing)?;
+    let (object, differing) = packed(rt, inputs.as_slice(), packing.verbose, err)?;
     write_package(rt, &object, output.as_str())?;
     warn_differing(err, differing.as_slice())?;
     Ok(0)
 }
 
+// The objects, and then the executables.
+fn inputs_of<'a>(
+    alloc: Global,
+    objects: &[&'a str],
+    executables: &[&'a str],
+    missing: MissingReferencedObjectBehaviour,
+) -> Result<Vec<Input<'a>>, AllocError>
+    ensures { IfOk result (λ inputs. map asked inputs.items ≡ map object_asked objects.now ++ map (executable_asked missing) executables.now) }
+{
+    let mut inputs = Vec::new(alloc);
+    for object in objects {
+        inputs.push(Input::Object(Path::new(*object)))?;
+    }
+    for executable in executables {
+        inputs.push(Input::Executable(Path::new(*executable), missing))?;
+    }
+    Ok(inputs)
+}
+
 // The object to be written, and the signatures of type units that were passed over and differ from
 // the ones kept.
-fn packed<'o, 's: 'o, Sess: Session<RelocationEntry>, E: Write>(
+fn packed<E: Write>(
     rt: &HostRuntime,
-    packing: &Packing<'_, '_>,
-    mut package: DwarfPackage<'o, 's, Sess>,
+    inputs: &[Input<'_>],
+    verbose: bool,
     err: &mut E,
-) -> Result<(WritableObject, Vec<DebugTypeSignature>), Failure> {
-    add_inputs(rt, packing, &mut package, err)?;
-    add_executables(rt, packing, &mut package, err)?;
-    let differing = differing_types(rt, &package)?;
-    let object = finished(package)?;
+) -> Result<(WritableObject, Vec<DebugTypeSignature>), Failure>
+    ensures { IfOk result (λ made. IsPackedOf inputs.now made.0) }
+{
+    runs_go_on(&FileReader::new(rt));
+    let bump = Bump::new(rt.alloc());
+    let session = ArenaSession::new(rt, &bump);
+    let mut builder = DwarfPackage::new(rt.alloc(), &session);
+    take_all(rt, &mut builder, inputs, verbose, err)?;
+    let differing = builder.differing_types().to_vec(rt.alloc())?;
+    let object = finished(builder)?;
     Ok((object, differing))
 }
 
+// The object of the package.
 fn finished<'o, 's: 'o, Sess: Session<RelocationEntry>>(
-    package: DwarfPackage<'o, 's, Sess>,
-) -> Result<WritableObject, Failure> {
-    Ok(package.finish()?)
+    builder: DwarfPackage<'o, 's, Sess>,
+) -> Result<WritableObject, Failure>
+    ensures finished { IfOk result (IsFinishedState builder.entry.state) }
+    ensures packaged { IfOk result (IsPackageOnceWritten (units_in builder.entry.state)) }
+{
+    Ok(builder.finish()?)
 }
 
-// Adds the inputs in order, up to the first that is refused.
-fn add_inputs<'o, 's: 'o, Sess: Session<RelocationEntry>, E: Write>(
+// Takes the inputs in order, up to the first that is refused.
+fn take_all<'o, 's: 'o, Sess: Session<RelocationEntry>, E: Write>(
     rt: &HostRuntime,
-    packing: &Packing<'_, '_>,
-    package: &mut DwarfPackage<'o, 's, Sess>,
-    err: &mut E,
-) -> Result<(), Failure> {
-    for input in packing.inputs.unwrap_or(&[]) {
-        let before = package.contained_units().len();
-        let outcome = add_input(rt, package, input);
-        let added = package.contained_units().len().saturating_sub(before);
-        tell_input(rt, packing.verbose, input, added, &outcome, err)?;
-        outcome?;
-    }
-    Ok(())
-}
-
-// Adds what each executable refers to, up to the first that is refused.
-fn add_executables<'o, 's: 'o, Sess: Session<RelocationEntry>, E: Write>(
-    rt: &HostRuntime,
-    packing: &Packing<'_, '_>,
-    package: &mut DwarfPackage<'o, 's, Sess>,
-    err: &mut E,
-) -> Result<(), Failure> {
-    for executable in packing.executables.unwrap_or(&[]) {
-        let before = package.contained_units().len();
-        let outcome = add_executable(rt, package, executable, packing.missing);
-        let added = package.contained_units().len().saturating_sub(before);
-        tell_executable(packing.verbose, executable, added, &outcome, err)?;
-        outcome?;
-    }
-    Ok(())
-}
-
-// Tells what came of an input where that is asked for.
-fn tell_input<E: Write>(
-    rt: &HostRuntime,
+    builder: &mut DwarfPackage<'o, 's, Sess>,
+    inputs: &[Input<'_>],
     verbose: bool,
-    input: &str,
-    added: usize,
-    outcome: &Result<(), Failure>,
     err: &mut E,
-) -> Result<(), Failure> {
-    if verbose {
-        match outcome {
-            Ok(()) => tell_taken(err, input, added, unit_count(rt, input)?)?,
-            Err(failure) => tell_refused(err, input, failure)?,
-        }
+) -> Result<(), Failure>
+    ensures { OnOk result ((accepted : List (List ℕ)) × AreAllAccepted inputs.now builder.old.state builder.new.state accepted) }
+{
+    let mut room = Vec::new(rt.alloc());
+    runs_go_on(&FileReader::new(rt));
+    for input in inputs {
+        take(rt, builder, &mut room, *input, verbose, err)?;
     }
     Ok(())
 }
 
-// Tells what came of an executable where that is asked for.
-fn tell_executable<E: Write>(
+// Takes an input, and tells what came of it where that is asked for.
+fn take<'o, 's: 'o, Sess: Session<RelocationEntry>, E: Write>(
+    rt: &HostRuntime,
+    builder: &mut DwarfPackage<'o, 's, Sess>,
+    room: &mut Vec<u8>,
+    input: Input<'_>,
     verbose: bool,
-    executable: &str,
-    added: usize,
-    outcome: &Result<(), Failure>,
     err: &mut E,
-) -> Result<(), Failure> {
+) -> Result<(), Failure>
+    ensures { OnOk result (Took anything input.entry builder.old.state (Ok tt) builder.new.state) }
+{
+    let before = builder.contained_units().len();
+    let reader = FileReader::new(rt);
+    let outcome = take_input(builder, &reader, room, input);
+    let added = builder.contained_units().len().saturating_sub(before);
     if verbose {
-        match outcome {
-            Ok(()) => tell_taken(err, executable, added, None)?,
-            Err(failure) => tell_refused(err, executable, failure)?,
-        }
+        tell(rt, input, added, &outcome, err)?;
     }
+    outcome?;
     Ok(())
-}
-
-fn add_input<'o, 's: 'o, Sess: Session<RelocationEntry>>(
-    rt: &HostRuntime,
-    package: &mut DwarfPackage<'o, 's, Sess>,
-    input: &str,
-) -> Result<(), Failure> {
-    test_input(rt, input)?;
-    package.add_input_object(Path::new(input))?;
-    Ok(())
-}
-
-// Adds the objects that an executable refers to.
-fn add_executable<'o, 's: 'o, Sess: Session<RelocationEntry>>(
-    rt: &HostRuntime,
-    package: &mut DwarfPackage<'o, 's, Sess>,
-    executable: &str,
-    missing: MissingReferencedObjectBehaviour,
-) -> Result<(), Failure> {
-    test_input(rt, executable)?;
-    package.add_executable(Path::new(executable), missing)?;
-    Ok(())
-}
-
-// The signatures of type units that were passed over and differ from the ones kept.
-fn differing_types<'o, 's: 'o, Sess: Session<RelocationEntry>>(
-    rt: &HostRuntime,
-    package: &DwarfPackage<'o, 's, Sess>,
-) -> Result<Vec<DebugTypeSignature>, Failure> {
-    Ok(package.differing_types().to_vec(rt.alloc())?)
 }

@@ -6,12 +6,34 @@ use dwp_dwarf::{SliceReader, UnitHeaders, UnitSection};
 use dwp_elf::{ElfFile, SectionKind};
 use dwp_table::DebugTypeSignature;
 use std::io::Write;
+use std::path::AsPath;
 use std::{fmt, fs};
+use thorin::Input;
 use thorin_faults::Error;
 
-/// Tells that an input was taken: how many units of it were added, and how many were passed over,
-/// where that is known.
-pub(crate) fn tell_taken<E: Write>(
+/// Tells what came of an input that a path names, and how many units of it were added.
+pub(crate) fn tell<E: Write>(
+    rt: &HostRuntime,
+    input: Input<'_>,
+    added: usize,
+    outcome: &Result<(), Error>,
+    err: &mut E,
+) -> Result<(), Failure> {
+    match (input, outcome) {
+        (Input::Bytes(_), _) => Ok(()),
+        (Input::Object(path), Ok(())) => {
+            let name = path.path_text();
+            tell_taken(err, name, added, unit_count(rt, name)?)
+        }
+        (Input::Executable(path, _), Ok(())) => tell_taken(err, path.path_text(), added, None),
+        (Input::Object(path) | Input::Executable(path, _), Err(fault)) => {
+            tell_refused(err, path.path_text(), fault)
+        }
+    }
+}
+
+// Tells how many units of an input were added, and how many were passed over, where that is known.
+fn tell_taken<E: Write>(
     err: &mut E,
     name: &str,
     added: usize,
@@ -27,9 +49,9 @@ pub(crate) fn tell_taken<E: Write>(
     told.map_err(|_| Failure::Line)
 }
 
-/// How many units an object has that was accepted. It is read a second time: none where it is no
-/// regular file.
-pub(crate) fn unit_count(rt: &HostRuntime, path: &str) -> Result<Option<usize>, Failure> {
+// How many units an object has that was accepted. It is read a second time: none where it is no
+// regular file.
+fn unit_count(rt: &HostRuntime, path: &str) -> Result<Option<usize>, Failure> {
     if !fs::metadata(rt, path).is_ok_and(|metadata| metadata.is_file()) {
         return Ok(None);
     }
@@ -54,20 +76,10 @@ pub(crate) fn unit_count(rt: &HostRuntime, path: &str) -> Result<Option<usize>, 
     Ok(Some(units))
 }
 
-/// Tells which input was refused, and why, with all causes.
-pub(crate) fn tell_refused<E: Write>(
-    err: &mut E,
-    name: &str,
-    failure: &Failure,
-) -> Result<(), Failure> {
-    let told = match failure {
-        Failure::Package(fault) => {
-            let causes = Causes(fault);
-            writeln!(err, "{name}: {causes}")
-        }
-        failure => writeln!(err, "{name}: {failure}"),
-    };
-    told.map_err(|_| Failure::Line)
+// Tells which input was refused, and why, with all causes.
+fn tell_refused<E: Write>(err: &mut E, name: &str, fault: &Error) -> Result<(), Failure> {
+    let causes = Causes(fault);
+    writeln!(err, "{name}: {causes}").map_err(|_| Failure::Line)
 }
 
 /// Warns of each type unit that was passed over and differs from the one kept.

@@ -1,0 +1,7 @@
+use Rattle.std.proofs.Common.{ℕ, List, take}
+use Rattle.thorin_cli.specs.Packing.{AreAllAccepted}
+use Rattle.thorin_cli.proofs.pack.take_all.Given as goal
+
+-- the inputs so far were taken
+abbrev pub invariant-loop-input : goal.invariant-loop-input
+invariant-loop-input g l = (accepted : List (List ℕ)) × AreAllAccepted (take l.input-index l.inputs) l.fn.builder.state l.builder.state accepted

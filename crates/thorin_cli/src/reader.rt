@@ -1,0 +1,57 @@
+//! Reading inputs, one after the other into the same room.
+
+ghost use Rattle.std.specs.Prelude.{◌≡◌, OnOk, IfSome};
+ghost use Rattle.thorin_cli.specs.Packing.{anything};
+
+use crate::input::is_device;
+use std::fs::{File, OpenFile};
+use std::io::{self, ErrorKind, Read};
+use std::path::{AsPath, Path};
+use thorin::InputReader;
+use thorin_faults::InputError;
+
+/// Reads files of the system. What has no end, as a device, isn't read.
+#[derive(Drop)]
+pub(crate) struct FileReader<'a> {
+    rt: &'a HostRuntime,
+}
+
+impl<'a> FileReader<'a> {
+    /// A reader of the files of this runtime.
+    pub(crate) fn new(rt: &'a HostRuntime) -> FileReader<'a> {
+        FileReader { rt }
+    }
+}
+
+impl InputReader for FileReader<'_> {
+    ghost offer = { λ _. anything };
+
+    fn read_into<'b>(
+        &'b self,
+        path: Path<'_>,
+        room: &'b mut Vec<u8>,
+    ) -> Result<&'b [u8], InputError> {
+        if is_device(self.rt, path.path_text()) {
+            return Err(InputError::Io(io::Error::from(ErrorKind::Unsupported)));
+        }
+        let mut file = File::open(self.rt, path)?;
+        let len = file.metadata().map_or(0, |metadata| metadata.len());
+        read_whole(&mut file, len, room)?;
+        Ok(room.as_slice())
+    }
+}
+
+// Reads all that is left, which is about `len` bytes, into room that is made anew where it is too small:
+// a byte more than `len` lets the read that finds the end have room.
+fn read_whole<F: Read>(file: &mut F, len: u64, room: &mut Vec<u8>) -> Result<(), InputError>
+    ensures { OnOk result (IfSome (F.remaining file.old) (λ all. room.new.items ≡ all)) }
+{
+    let needed = (len as usize).saturating_add(1);
+    room.clear();
+    if room.capacity() < needed {
+        *room = Vec::new(*room.allocator());
+        room.reserve_exact(needed)?;
+    }
+    file.read_to_end(room)?;
+    Ok(())
+}
