@@ -1,8 +1,8 @@
 //! Packages of several objects.
 
 use crate::objects::{
-    ABBREVIATIONS, TYPE_UNIT, cu, made, narrow, object, package, packed, part, plain, renamed,
-    split_unit, tu, unit, with_strings, with_types,
+    ABBREVIATIONS, TYPE_UNIT, cu, made, object, package, packed, part, plain, renamed, split_unit,
+    tu, unit, with_strings, with_types,
 };
 use dwp_bytes::ReadError;
 use dwp_elf::{Class, Endianness, SectionKind};
@@ -97,7 +97,19 @@ fn a_type_unit_that_comes_again_is_passed_over(rt: HostRuntime) -> Result<(), Fa
 fn another_byte_order_is_refused(rt: HostRuntime) -> Result<(), Fail> {
     let alloc = rt.alloc();
     let x = plain(alloc, 5)?;
-    let other = narrow(alloc)?;
+    let info = [
+        0, 0, 0, 0x10, 0, 4, 0, 0, 0, 0, 4, 1, 0, 0, 0, 0, 0, 0, 0, 5,
+    ];
+    let other = made(
+        alloc,
+        Class::Elf32,
+        8,
+        Endianness::Big,
+        &[
+            (SectionKind::Info, info.as_slice()),
+            (SectionKind::Abbrev, ABBREVIATIONS.as_slice()),
+        ],
+    )?;
     let packed = packed(alloc, &[x.as_slice(), other.as_slice()])?;
     let last = packed.outcomes.last().ok_or("there are outcomes")?;
     assert!(rt; matches!(last, Err(Error::MixedInputEncodings)));

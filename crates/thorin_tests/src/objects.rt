@@ -63,25 +63,6 @@ pub fn plain(alloc: Global, id: u8) -> Result<Vec<u8>, WriteError> {
     )
 }
 
-/// The compilation unit 5, big endian, with addresses of 4 bytes.
-pub const NARROW_UNIT: [u8; 20] = [
-    0, 0, 0, 0x10, 0, 4, 0, 0, 0, 0, 4, 1, 0, 0, 0, 0, 0, 0, 0, 5,
-];
-
-/// The object with that unit, of 32 bits, for MIPS.
-pub fn narrow(alloc: Global) -> Result<Vec<u8>, WriteError> {
-    made(
-        alloc,
-        Class::Elf32,
-        8,
-        Endianness::Big,
-        &[
-            (SectionKind::Info, NARROW_UNIT.as_slice()),
-            (SectionKind::Abbrev, ABBREVIATIONS.as_slice()),
-        ],
-    )
-}
-
 /// The object with the compilation unit of an identifier and two strings, `b` and `a`.
 pub fn with_strings(alloc: Global, id: u8) -> Result<Vec<u8>, WriteError> {
     object(

@@ -1,8 +1,6 @@
 //! Finished packages as inputs.
 
-use crate::objects::{
-    ABBREVIATIONS, cu, narrow, object, package, packed, plain, split_unit, tu, unit, with_strings,
-};
+use crate::objects::{ABBREVIATIONS, cu, object, package, packed, plain, split_unit, tu, unit};
 use bumpalo::Bump;
 use dwp_bytes::ReadError;
 use dwp_elf::{Endianness, SectionKind};
@@ -224,17 +222,14 @@ fn a_package_is_packed_again(rt: HostRuntime) -> Result<(), Fail> {
     Ok(())
 }
 
-/// What adding bytes to a new package answers; the units that it then contains.
+/// What adding bytes to a new package answers.
 fn answer(alloc: Global, bytes: &[u8]) -> Result<String, Fail> {
     let bump = Bump::new(alloc);
     let files = BTreeMap::new(alloc);
     let session = MemorySession::new(&bump, &files);
     let mut builder = DwarfPackage::new(alloc, &session);
     match builder.add_object_bytes(bytes) {
-        Ok(()) => {
-            let names: Vec<DwarfObject> = builder.contained_units().iter().copied().collect(alloc)?;
-            Ok(format!(in alloc; "{names:?}")?)
-        }
+        Ok(()) => Ok(String::from_str(alloc, "Ok")?),
         Err(fault) => Ok(format!(in alloc; "{fault:?}")?),
     }
 }
@@ -245,9 +240,6 @@ fn changed(alloc: Global, file: &[u8], place: usize, byte: u8) -> Result<Vec<u8>
     *bytes.get_mut(place).ok_or("the byte is there")? = byte;
     Ok(bytes)
 }
-
-/// The compilation unit 5 alone.
-const UNIT_FIVE: &str = "[Compilation(DwoId(0x5))]";
 
 /// Bytes of the package of the unit 5, of its ELF file, and what a new package then answers.
 const OF_THE_FILE: [(usize, u8, &str); 9] = [
@@ -269,7 +261,7 @@ const OF_THE_UNIT: [(usize, u8, &str); 13] = [
     (65, 0x34, "TopLevelDieNotUnit"),
     (66, 0x02, "ParseUnitAbbreviations(BadChildren)"),
     (69, 0x02, "GimliRead(UnknownForm)"),
-    (69, 0x0b, UNIT_FIVE),
+    (69, 0x0b, "Ok"),
     (73, 0x11, "ParseUnitHeader(UnexpectedEof)"),
     (77, 0x06, "ParseUnitHeader(UnknownVersion)"),
     (83, 0x03, "ParseUnitHeader(AddressSize)"),
@@ -317,25 +309,17 @@ fn a_lying_package_is_refused(rt: HostRuntime) -> Result<(), Fail> {
 #[test]
 fn a_cut_package_is_refused(rt: HostRuntime) -> Result<(), Fail> {
     let alloc = rt.alloc();
-    for (object, header) in [
-        (plain(alloc, 5)?, 64),
-        (with_strings(alloc, 5)?, 64),
-        (narrow(alloc)?, 52),
-    ] {
-        let whole = packed(alloc, &[object.as_slice()])?.file?;
-        for length in 0..whole.len() {
-            let answer = answer(alloc, whole.get(..length).unwrap_or(&[]))?;
-            let want = if length < 16 {
-                "ParseFileKind(TooShort)"
-            } else if length < header {
-                "ParseObjectFile(TooShort)"
-            } else {
-                "ParseObjectFile(SectionTable)"
-            };
-            assert_eq!(rt; answer.as_str(), want, "the first {length} bytes");
-        }
-        assert_eq!(rt; answer(alloc, &whole)?.as_str(), UNIT_FIVE);
+    let finished = finished(alloc)?;
+    for length in 0..finished.len() {
+        let answer = answer(alloc, finished.get(..length).unwrap_or(&[]))?;
+        let want = match length {
+            0..16 => "ParseFileKind(TooShort)",
+            16..64 => "ParseObjectFile(TooShort)",
+            _ => "ParseObjectFile(SectionTable)",
+        };
+        assert_eq!(rt; answer.as_str(), want, "the first {length} bytes");
     }
+    assert_eq!(rt; answer(alloc, &finished)?.as_str(), "Ok");
     Ok(())
 }
 

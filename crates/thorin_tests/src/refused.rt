@@ -1,17 +1,18 @@
 //! What is left where memory is refused: run with one allocation that fails, for each in turn. The next try
 //! has memory then, and gives the file of a run that met no refusal.
 
-use crate::executables::{files, naming};
-use crate::objects::{TYPE_UNIT, packed, part, plain, unit, with_strings, with_types};
+use crate::objects::{
+    TYPE_UNIT, cu, package, packed, part, plain, tu, unit, with_strings, with_types,
+};
 use bumpalo::Bump;
 use dwp_elf::WriteError;
+use dwp_table::DwarfObject;
 use std::alloc::Global;
 use std::collections::BTreeMap;
-use std::path::{AsPath, Path};
 use std::process::Abort;
 use std::test::Fail;
 use thorin::{DwarfPackage, Packed};
-use thorin_faults::{Error, MemorySession, MissingReferencedObjectBehaviour};
+use thorin_faults::{Error, MemorySession};
 
 // A file, by a second try where the first was refused.
 fn sure(alloc: Global, id: u8) -> Result<Vec<u8>, WriteError> {
@@ -35,19 +36,6 @@ fn sure_with_types(alloc: Global, id: u8) -> Result<Vec<u8>, WriteError> {
     }
 }
 
-fn sure_package(alloc: Global, id: u8) -> Result<Vec<u8>, Error> {
-    let object = sure(alloc, id)?;
-    sure_whole(alloc, &[object.as_slice()])
-}
-
-// The executable of the unit 5 and its object, by their paths.
-fn sure_files(alloc: Global) -> Result<BTreeMap<String, Vec<u8>>, Error> {
-    match files(alloc, naming(alloc, 5)?, Some(plain(alloc, 5)?)) {
-        Ok(made) => Ok(made),
-        Err(_) => files(alloc, naming(alloc, 5)?, Some(plain(alloc, 5)?)),
-    }
-}
-
 // The file that packing objects gives where no memory is refused.
 fn whole(alloc: Global, objects: &[&[u8]]) -> Result<Vec<u8>, Error> {
     let packed = packed(alloc, objects)?;
@@ -64,33 +52,27 @@ fn sure_whole(alloc: Global, objects: &[&[u8]]) -> Result<Vec<u8>, Error> {
     }
 }
 
-// Adds an object's bytes; an executable where there are none.
-fn add<'s, 'm>(
-    builder: &mut DwarfPackage<'_, 's, MemorySession<'m>>,
-    bytes: Option<&[u8]>,
-) -> Result<(), Error> {
-    match bytes {
-        Some(bytes) => builder.add_object_bytes(bytes),
-        None => builder.add_executable(Path::new("/e"), MissingReferencedObjectBehaviour::Skip),
-    }
-}
-
-// The file of a package of objects, each added by itself, and of the executable. What was refused has added no
-// unit, and is added by a second try; so is a file written that was refused.
-fn added(
+// The file of a package of objects, by `add_object_bytes`, `finish` and `write`. An object that was refused has
+// added no unit, and is added by a second try; so is a file written that was refused.
+fn added<'s, 'm>(
     rt: &impl Abort,
     alloc: Global,
-    session: &MemorySession<'_>,
-    objects: &[Option<&[u8]>],
+    session: &'s MemorySession<'m>,
+    objects: &[&'s [u8]],
+    named: &[DwarfObject],
 ) -> Result<Vec<u8>, Error> {
     let mut builder = DwarfPackage::new(alloc, session);
     for bytes in objects {
         let before = builder.contained_units().len();
-        if let Err(fault) = add(&mut builder, *bytes) {
+        if let Err(fault) = builder.add_object_bytes(bytes) {
             assert!(rt; matches!(fault, Error::Memory));
             assert_eq!(rt; builder.contained_units().len(), before);
-            add(&mut builder, *bytes)?;
+            builder.add_object_bytes(bytes)?;
         }
+    }
+    assert_eq!(rt; builder.contained_units().len(), named.len());
+    for name in named {
+        assert!(rt; builder.contained_units().contains(name));
     }
     let object = builder.finish()?;
     match object.write() {
@@ -102,56 +84,94 @@ fn added(
     }
 }
 
-// As `added`, and all of it by a second try where `finish` was refused, which hands nothing back. The file is that
-// of a run that met no refusal.
-fn adds(
+// As `added`, and all of it by a second try where `finish` was refused, which hands nothing back.
+fn adds<'s, 'm>(
     rt: &impl Abort,
     alloc: Global,
-    session: &MemorySession<'_>,
-    objects: &[Option<&[u8]>],
-    expected: &[u8],
-) -> Result<(), Error> {
-    let file = match added(rt, alloc, session, objects) {
+    session: &'s MemorySession<'m>,
+    objects: &[&'s [u8]],
+    named: &[DwarfObject],
+) -> Result<Vec<u8>, Error> {
+    let expected = sure_whole(alloc, objects)?;
+    let file = match added(rt, alloc, session, objects, named) {
         Ok(file) => file,
         Err(fault) => {
             assert!(rt; matches!(fault, Error::Memory));
-            added(rt, alloc, session, objects)?
+            added(rt, alloc, session, objects, named)?
         }
     };
-    assert!(rt; file.as_slice() == expected);
+    assert!(rt; file.as_slice() == expected.as_slice());
+    Ok(file)
+}
+
+#[test]
+fn a_refused_allocation_leaves_a_new_package(rt: HostRuntime) -> Result<(), Fail> {
+    let alloc = rt.alloc();
+    let five = sure(alloc, 5)?;
+    let bump = Bump::new(alloc);
+    let files = BTreeMap::new(alloc);
+    let session = MemorySession::new(&bump, &files);
+    let file = adds(&rt, alloc, &session, &[five.as_slice()], &[cu(5)])?;
+    assert_eq!(rt; file.len(), 544);
+    assert_eq!(rt; part(file.as_slice(), 73, 93), unit(5).as_slice());
     Ok(())
 }
 
 #[test]
-fn a_refused_allocation_leaves_what_was_there(rt: HostRuntime) -> Result<(), Fail> {
+fn a_refused_allocation_leaves_a_package(rt: HostRuntime) -> Result<(), Fail> {
     let alloc = rt.alloc();
     let five = sure(alloc, 5)?;
     let six = sure(alloc, 6)?;
-    let strings = sure_with_strings(alloc, 5)?;
-    let types = sure_with_types(alloc, 7)?;
-    let finished = sure_package(alloc, 5)?;
     let bump = Bump::new(alloc);
-    let files = sure_files(alloc)?;
+    let files = BTreeMap::new(alloc);
     let session = MemorySession::new(&bump, &files);
-    for (first, second, size) in [
-        (five.as_slice(), None, 544),
-        (strings.as_slice(), None, 728),
-        (five.as_slice(), Some(six.as_slice()), 608),
-        (types.as_slice(), Some(strings.as_slice()), 1056),
-        (finished.as_slice(), Some(six.as_slice()), 608),
-    ] {
-        let expected = match second {
-            None => sure_whole(alloc, &[first])?,
-            Some(second) => sure_whole(alloc, &[first, second])?,
-        };
-        assert_eq!(rt; expected.len(), size);
-        match second {
-            None => adds(&rt, alloc, &session, &[Some(first)], &expected)?,
-            Some(_) => adds(&rt, alloc, &session, &[Some(first), second], &expected)?,
-        }
-    }
-    let expected = sure_whole(alloc, &[five.as_slice()])?;
-    Ok(adds(&rt, alloc, &session, &[None], &expected)?)
+    let file = adds(
+        &rt,
+        alloc,
+        &session,
+        &[five.as_slice(), six.as_slice()],
+        &[cu(5), cu(6)],
+    )?;
+    assert_eq!(rt; file.len(), 608);
+    assert_eq!(rt; part(file.as_slice(), 82, 102), unit(5).as_slice());
+    assert_eq!(rt; part(file.as_slice(), 102, 122), unit(6).as_slice());
+    Ok(())
+}
+
+#[test]
+fn a_refused_allocation_leaves_the_strings(rt: HostRuntime) -> Result<(), Fail> {
+    let alloc = rt.alloc();
+    let strings = sure_with_strings(alloc, 5)?;
+    let bump = Bump::new(alloc);
+    let files = BTreeMap::new(alloc);
+    let session = MemorySession::new(&bump, &files);
+    let file = adds(&rt, alloc, &session, &[strings.as_slice()], &[cu(5)])?;
+    assert_eq!(rt; file.len(), 728);
+    assert_eq!(rt; part(file.as_slice(), 101, 105), b"b\0a\0".as_slice());
+    Ok(())
+}
+
+#[test]
+fn a_refused_allocation_leaves_the_type_units(rt: HostRuntime) -> Result<(), Fail> {
+    let alloc = rt.alloc();
+    let types = sure_with_types(alloc, 7)?;
+    let strings = sure_with_strings(alloc, 8)?;
+    let bump = Bump::new(alloc);
+    let files = BTreeMap::new(alloc);
+    let session = MemorySession::new(&bump, &files);
+    let file = adds(
+        &rt,
+        alloc,
+        &session,
+        &[types.as_slice(), strings.as_slice()],
+        &[cu(7), tu(0x11), cu(8)],
+    )?;
+    let package = package(file.as_slice())?;
+    let found = package.find(tu(0x11))?.ok_or("the type unit is there")?;
+    assert_eq!(rt; found.bytes(), TYPE_UNIT.as_slice());
+    let found = package.find(cu(8))?.ok_or("unit 8 is there")?;
+    assert_eq!(rt; found.string(1)?, Some(b"a".as_slice()));
+    Ok(())
 }
 
 // The file of a package of an object and, where it isn't refused, a second one; and whether it was refused.
