@@ -35,7 +35,7 @@ const UNIT_FIVE: [u8; 29] = [
 ];
 
 /// The same of an identifier and a place of abbreviations, which is this byte twice.
-pub fn naming_unit(id: u8, abbreviations: u8) -> [u8; 29] {
+fn naming_unit(id: u8, abbreviations: u8) -> [u8; 29] {
     let mut unit = UNIT_FIVE;
     unit[6] = abbreviations;
     unit[7] = abbreviations;
@@ -44,14 +44,14 @@ pub fn naming_unit(id: u8, abbreviations: u8) -> [u8; 29] {
 }
 
 /// The executable with these sections, whose names lose their end `.dwo`.
-fn executable(alloc: Global, sections: &[(SectionKind, &[u8])]) -> Result<Vec<u8>, Error> {
+fn executable(alloc: Global, sections: &[(SectionKind, &[u8])]) -> Result<Vec<u8>, Fail> {
     let file = object(alloc, sections)?;
     let file = renamed(alloc, &file, b".debug_abbrev.dwo", b".debug_abbrev\0")?;
-    Ok(renamed(alloc, &file, b".debug_info.dwo", b".debug_info\0")?)
+    renamed(alloc, &file, b".debug_info.dwo", b".debug_info\0")
 }
 
-/// The executable with these units.
-pub fn naming_units(alloc: Global, units: &[u8]) -> Result<Vec<u8>, Error> {
+/// The executable with the unit of an identifier.
+fn naming(alloc: Global, id: u8) -> Result<Vec<u8>, Fail> {
     let mut abbreviations = NAMING.to_vec(alloc)?;
     abbreviations.truncate(13);
     abbreviations.push(0)?;
@@ -59,14 +59,9 @@ pub fn naming_units(alloc: Global, units: &[u8]) -> Result<Vec<u8>, Error> {
         alloc,
         &[
             (SectionKind::Abbrev, abbreviations.as_slice()),
-            (SectionKind::Info, units),
+            (SectionKind::Info, naming_unit(id, 0).as_slice()),
         ],
     )
-}
-
-/// The executable with the unit of an identifier.
-pub fn naming(alloc: Global, id: u8) -> Result<Vec<u8>, Error> {
-    naming_units(alloc, naming_unit(id, 0).as_slice())
 }
 
 /// The executable whose unit 5 has its place of abbreviations by a relocation.
@@ -87,7 +82,7 @@ fn relocated(alloc: Global) -> Result<Vec<u8>, Fail> {
 }
 
 /// The executable with a type unit that has no name before the unit 5.
-fn with_type_unit(alloc: Global) -> Result<Vec<u8>, Error> {
+fn with_type_unit(alloc: Global) -> Result<Vec<u8>, Fail> {
     let mut units = TYPE_UNIT.to_vec(alloc)?;
     units.extend_from_slice(&naming_unit(5, 0))?;
     executable(
@@ -100,11 +95,11 @@ fn with_type_unit(alloc: Global) -> Result<Vec<u8>, Error> {
 }
 
 /// The executable at `/e`, and an object at `/b/a.dwo` where there is one.
-pub fn files(
+fn files(
     alloc: Global,
     executable: Vec<u8>,
     object: Option<Vec<u8>>,
-) -> Result<BTreeMap<String, Vec<u8>>, Error> {
+) -> Result<BTreeMap<String, Vec<u8>>, Fail> {
     let mut files = BTreeMap::new(alloc);
     files.insert(String::from_str(alloc, "/e")?, executable)?;
     if let Some(object) = object {

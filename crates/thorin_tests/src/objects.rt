@@ -4,7 +4,7 @@ use bumpalo::Bump;
 use dwp_elf::{Class, Endianness, SectionKind, WritableObject, WriteError};
 use dwp_index::PackageFile;
 use dwp_table::{DebugTypeSignature, DwarfObject, DwoId};
-use std::alloc::{AllocError, Global};
+use std::alloc::Global;
 use std::collections::BTreeMap;
 use std::test::Fail;
 use thorin::{Input, Packed, pack};
@@ -109,8 +109,8 @@ pub fn part(bytes: &[u8], from: usize, to: usize) -> &[u8] {
     bytes.get(from..to).unwrap_or(&[])
 }
 
-/// The file with the first of these bytes replaced by others, which aren't more; the file where they aren't there.
-pub fn renamed(alloc: Global, file: &[u8], from: &[u8], to: &[u8]) -> Result<Vec<u8>, AllocError> {
+/// The file with the first of these bytes replaced by others, which aren't more.
+pub fn renamed(alloc: Global, file: &[u8], from: &[u8], to: &[u8]) -> Result<Vec<u8>, Fail> {
     for place in 0..file.len() {
         if part(file, place, place.saturating_add(from.len())) == from {
             let mut bytes = part(file, 0, place).to_vec(alloc)?;
@@ -119,7 +119,7 @@ pub fn renamed(alloc: Global, file: &[u8], from: &[u8], to: &[u8]) -> Result<Vec
             return Ok(bytes);
         }
     }
-    file.to_vec(alloc)
+    Err("the bytes are there".into())
 }
 
 /// The compilation unit of an identifier, and the type unit of a signature.
