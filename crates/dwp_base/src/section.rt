@@ -1,5 +1,6 @@
 ghost use Rattle.std.specs.Prelude.{◌≡◌};
-ghost use Rattle.dwp_base.specs.Sections.{name_of, compressed_name_of, is_named, all_kinds, kind_named, rank_of, same_kind};
+ghost use Rattle.dwp_base.specs.Sections.{name_of, compressed_name_of, is_named, all_kinds};
+ghost use Rattle.dwp_base.specs.Sections.{kind_named, rank_of, same_kind};
 
 use std::fmt::{Debug, Formatter, Write};
 
