@@ -22,8 +22,8 @@ impl Debug for DebugTypeSignature {
     }
 }
 
-/// The name of a unit: its kind and its number. A compilation unit and a type unit of one number have
-/// two names, and two indexes.
+/// The name of a unit: its kind and its number. A compilation unit and a type unit of one number
+/// have two names, and two indexes.
 #[derive(Clone, Copy, Debug, PartialEq, Eq, Hash)]
 pub enum DwarfObject {
     /// A compilation unit.
