@@ -1,5 +1,7 @@
 -- What the bytes of an ELF file mean (ELF gABI, "Sections").
-use Rattle.std.specs.Prelude.{ℕ, ◌+◌, ◌*◌, List, [], Bool, false, ◌==◌, nat_lt, not, map, drop, take, position, Option, Some, None, Result, Ok, Err, slice_range, if◌then◌else◌}
+use Rattle.std.specs.Prelude.{ℕ, ◌+◌, ◌*◌, List, [], Bool, false, ◌==◌, nat_lt, not, map, drop}
+use Rattle.std.specs.Prelude.{take, position, Option, Some, None, Result, Ok, Err, slice_range}
+use Rattle.std.specs.Prelude.{if◌then◌else◌}
 use Rattle.std.specs.Option.{option_and_then}
 use Rattle.std.specs.List.{range_with_len}
 use Rattle.std.specs.Str.{is_utf8, bytes_eq}
@@ -8,10 +10,12 @@ use Rattle.dwp_base.specs.declared.class.Class.{Class}
 use Rattle.dwp_base.specs.declared.endian.Endianness.{Endianness}
 use Rattle.dwp_base.specs.Reading.{◌>>=◌}
 use Rattle.dwp_elf_read.specs.declared.fault.ReadError.{ReadError}
-use Rattle.dwp_elf_read.specs.declared.fault.ReadError.TheVariants.{SectionTable, SectionEntrySize, NameTable}
+use Rattle.dwp_elf_read.specs.declared.fault.ReadError.TheVariants.{SectionTable, SectionEntrySize}
+use Rattle.dwp_elf_read.specs.declared.fault.ReadError.TheVariants.{NameTable}
 use Rattle.dwp_elf_read.specs.declared.header.FileHeader.{FileHeader}
 use Rattle.dwp_elf_read.specs.declared.header.SectionHeader.{SectionHeader}
-use Rattle.dwp_elf_read.specs.Layout.{word_size, entry_size, is_inside, file_header_of, section_header_of}
+use Rattle.dwp_elf_read.specs.Layout.{word_size, entry_size, is_inside, file_header_of}
+use Rattle.dwp_elf_read.specs.Layout.{section_header_of}
 use Rattle.dwp_elf_read.specs.Identification.{identity_of}
 
 -- a section: its name if that can be read, and its content if that lies in the file
@@ -76,10 +80,12 @@ section_of bytes names number header = record {
 
 -- the header of the i-th section
 abbrev pub header_at : Class → Endianness → List ℕ → ℕ → ℕ → SectionHeader
-header_at class order bytes table i = section_header_of (word_size class) order (drop (table + i * entry_size class) bytes)
+header_at class order bytes table i =
+    section_header_of (word_size class) order (drop (table + i * entry_size class) bytes)
 
 -- the sections from number i on, n of them, each described by the header at its place
-unfoldable pub sections_from : Class → Endianness → List ℕ → ℕ → Option (List ℕ) → ℕ → ℕ → List SectionMeaning
+unfoldable pub sections_from : Class → Endianness → List ℕ → ℕ → Option (List ℕ) → ℕ → ℕ
+    → List SectionMeaning
 sections_from class order bytes table names i n =
     map (λ k. section_of bytes names k (header_at class order bytes table k)) (range_with_len i n)
 
@@ -112,7 +118,8 @@ readable_table None = Err NameTable
 readable_table (Some names) = Ok (Some names)
 
 -- the name table with that number; there is none where the number is 0
-unfoldable pub name_table_numbered : Class → Endianness → List ℕ → FileHeader → ℕ → ℕ → Result (Option (List ℕ)) ReadError
+unfoldable pub name_table_numbered : Class → Endianness → List ℕ → FileHeader → ℕ → ℕ
+    → Result (Option (List ℕ)) ReadError
 name_table_numbered class order bytes header count number =
     if number == 0 then Ok None
     else (if nat_lt number count
@@ -120,7 +127,8 @@ name_table_numbered class order bytes header count number =
     else Err NameTable)
 
 -- the name table, if the file has one
-unfoldable pub name_table : Class → Endianness → List ℕ → FileHeader → ℕ → Result (Option (List ℕ)) ReadError
+unfoldable pub name_table : Class → Endianness → List ℕ → FileHeader → ℕ
+    → Result (Option (List ℕ)) ReadError
 name_table class order bytes header count = do
   number ← name_table_number class order bytes header
   name_table_numbered class order bytes header count number

@@ -14,7 +14,8 @@ const SHT_SYMTAB: u32 = 2;
 /// The content of a section that is a symbol table.
 #[tactic(auto, unfolding(crate::specs::Symbol::symbols_of))]
 pub(crate) fn symbols<'a>(table: Option<Section<'a>>) -> Result<&'a [u8], ReadError>
-    ensures { Answers (λ content. content.now) result (symbols_of (option_map section table.entry)) }
+    ensures { Answers (λ content. content.now) result
+        (symbols_of (option_map section table.entry)) }
 {
     let Some(table) = table else {
         return Err(ReadError::SymbolTable);
@@ -31,7 +32,8 @@ pub(crate) fn symbols<'a>(table: Option<Section<'a>>) -> Result<&'a [u8], ReadEr
 /// The value of the i-th symbol of a symbol table, whose bytes the image has.
 #[tactic(auto, unfolding(crate::specs::Symbol::value_in))]
 pub(crate) fn value(table: &Image, i: u32) -> Result<u64, ReadError>
-    ensures { Answers (λ value. value) result (value_in table.now.class table.now.order table.now.bytes.now i) }
+    ensures { Answers (λ value. value) result
+        (value_in table.now.class table.now.order table.now.bytes.now i) }
 {
     let (size, place) = match table.class {
         Class::Elf32 => (16, 4),

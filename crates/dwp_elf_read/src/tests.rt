@@ -53,7 +53,8 @@ fn big_endian_package(alloc: Global) -> Result<Vec<u8>, AllocError> {
     )
 }
 
-// An object of 64 bits with two relocations of section 1 that have addends, and symbol 1 of value 0x1000.
+// An object of 64 bits with two relocations of section 1 that have addends, and symbol 1 of value
+// 0x1000.
 fn object_with_addends(alloc: Global) -> Result<Vec<u8>, AllocError> {
     bytes_of(
         alloc,
@@ -79,7 +80,8 @@ fn object_with_addends(alloc: Global) -> Result<Vec<u8>, AllocError> {
     )
 }
 
-// An object of 32 bits, big endian, with a relocation of section 1 that has none, and symbol 1 of value 0x2000.
+// An object of 32 bits, big endian, with a relocation of section 1 that has none, and symbol 1 of
+// value 0x2000.
 fn object_without_addends(alloc: Global) -> Result<Vec<u8>, AllocError> {
     bytes_of(
         alloc,
@@ -345,7 +347,8 @@ fn relocations_without_addends(rt: HostRuntime) -> Result<(), Fail> {
     Ok(())
 }
 
-// A table of relocations that isn't of whole entries, after one that is: the iterator ends with the fault.
+// A table of relocations that isn't of whole entries, after one that is: the iterator ends with the
+// fault.
 #[test]
 fn relocations_end_with_a_fault(rt: HostRuntime) -> Result<(), Fail> {
     let bytes = object_with_addends(rt.alloc())?;
