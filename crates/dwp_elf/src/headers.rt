@@ -48,7 +48,8 @@ fn identification(class: Class, endianness: Endianness) -> [u8; 16]
     ]
 }
 
-/// The header of a file whose section headers begin at `headers`, and whose last section has the names.
+/// The header of a file whose section headers begin at `headers`, and whose last section has the
+/// names.
 #[tactic(auto, unfolding(crate::specs::FileText::file_header))]
 pub fn file_header(
     class: Class,
@@ -79,7 +80,8 @@ pub fn file_header(
     header
 }
 
-/// The header of a section with its name at `name` of the name table and its content at `place` of the file.
+/// The header of a section with its name at `name` of the name table and its content at `place` of
+/// the file.
 #[tactic(auto, unfolding(crate::specs::FileText::section_header))]
 pub fn section_header(
     class: Class,

@@ -21,8 +21,10 @@ pub trait Output {
         ensures bound { WritesAtMost result bytes.now }
         ensures bytes { WriteAppends (contents self.old) (contents self.new) result bytes.now }
         ensures refused { IfErr result (λ e. failed self.new (error_kind e)) }
-        ensures none { IfOk result (λ n. n ≡ 0 → 0 < length bytes.now → failed self.new ErrorKind.WriteZero) }
-        ensures some { IfOk result (λ n. 0 < n → (kind : ErrorKind) → failed self.new kind → failed self.old kind) };
+        ensures none { IfOk result (λ n. n ≡ 0 → 0 < length bytes.now
+            → failed self.new ErrorKind.WriteZero) }
+        ensures some { IfOk result (λ n. 0 < n → (kind : ErrorKind) → failed self.new kind
+            → failed self.old kind) };
 }
 
 /// A writer tells nothing of its faults.
