@@ -2,7 +2,8 @@ ghost use Rattle.std.specs.Prelude.{◌≡◌, ◌-◌, ◌==◌, length, MatchR
 ghost use Rattle.std.specs.Str.{IsUtf8};
 ghost use Rattle.dwp_base.specs.Reading.{Answers, Reads};
 ghost use Rattle.dwp_bytes.specs.Leb.{uleb_at, sleb_at};
-ghost use Rattle.dwp_bytes.specs.Input.{Input, front, found_at, bytes_at, split_at, skip_at, truncate_at, byte_at, number_at, sized_at, offset_at};
+ghost use Rattle.dwp_bytes.specs.Input.{Input, front, found_at, bytes_at, split_at, skip_at};
+ghost use Rattle.dwp_bytes.specs.Input.{truncate_at, byte_at, number_at, sized_at, offset_at};
 
 use crate::encoding::Format;
 use crate::fault::ReadError;
@@ -131,10 +132,12 @@ pub trait Reader: Copy {
         Ok(order.read_u64(piece.to_slice()))
     }
 
-    /// Fills the buffer with the next bytes. UnexpectedEof where fewer are left; the buffer is then as it was.
+    /// Fills the buffer with the next bytes. UnexpectedEof where fewer are left; the buffer is then
+    /// as it was.
     #[tactic(auto, unfolding(crate::specs::Input::split_at, crate::specs::Input::bytes_at))]
     fn read_slice(&mut self, buffer: &mut [u8]) -> Result<(), ReadError>
-        ensures read { Reads (λ _. buffer.new) result (input self.old) (input self.new) (bytes_at (length buffer.old)) }
+        ensures read { Reads (λ _. buffer.new) result (input self.old) (input self.new)
+            (bytes_at (length buffer.old)) }
         ensures refused { OnErr result (buffer.new ≡ buffer.old) }
     {
         let piece = self.split(buffer.len())?;
@@ -161,7 +164,8 @@ pub trait Reader: Copy {
 
     /// The bytes that are left, as a text. BadUtf8 where they are none.
     fn to_string(&self) -> Result<&str, ReadError>
-        ensures { MatchResult result (λ s. s.now ≡ (input self.now).bytes) (λ e. (e ≡ ReadError.BadUtf8) × ¬ (IsUtf8 (input self.now).bytes)) }
+        ensures { MatchResult result (λ s. s.now ≡ (input self.now).bytes) (λ e.
+            (e ≡ ReadError.BadUtf8) × ¬ (IsUtf8 (input self.now).bytes)) }
     {
         match str::from_utf8(self.to_slice()) {
             Ok(text) => Ok(text),

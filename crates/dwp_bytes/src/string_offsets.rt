@@ -21,8 +21,8 @@ impl Encoding {
         }
     }
 
-    /// How many whole offsets are in string offsets of so many bytes, their header included (DWARF 5,
-    /// 7.26).
+    /// How many whole offsets are in string offsets of so many bytes, their header included
+    /// (DWARF 5, 7.26).
     pub fn string_offsets_count(self, size: u64) -> u64
         ensures { result ≡ entry_count self size }
     {

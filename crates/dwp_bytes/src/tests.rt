@@ -15,7 +15,10 @@ fn stored_and_read<R: Reader>(reader: &R) -> Result<(u32, u64), ReadError> {
 }
 
 fn entry(offset: usize, addend: u64, implicit_addend: bool) -> RelocationEntry
-    ensures { result ≡ record { offset = offset; relocation = record { addend = addend; implicit_addend = implicit_addend } } }
+    ensures { result ≡ record {
+      offset = offset;
+      relocation = record { addend = addend; implicit_addend = implicit_addend };
+    } }
 {
     RelocationEntry {
         offset,
@@ -137,7 +140,8 @@ fn signed_leb128(rt: HostRuntime) {
     }
 }
 
-// 0x10 is stored, the symbol's value 0x1000 is in the addend, which is 0x100 itself where it is explicit.
+// 0x10 is stored, the symbol's value 0x1000 is in the addend, which is 0x100 itself where it is
+// explicit.
 #[test]
 fn relocated_numbers(rt: HostRuntime) -> Result<(), Fail> {
     let section = SliceReader::new(b"\x10\0\0\0\x10\0\0\0\x10\0\0\0", Endianness::Little);
