@@ -1,4 +1,5 @@
-//! Reading the units of DWARF data: headers, abbreviations, root entries, attributes and their strings.
+//! Reading the units of DWARF data: headers, abbreviations, root entries, attributes and their
+//! strings.
 #![tactic(auto)]
 
 mod abbrev;

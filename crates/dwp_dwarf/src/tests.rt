@@ -192,7 +192,8 @@ fn strings_of_attributes(rt: HostRuntime) {
     }
 }
 
-/// What is relocated at the places of a type unit's length, abbreviation offset, signature and type offset.
+/// What is relocated at the places of a type unit's length, abbreviation offset, signature and type
+/// offset.
 static RELOCATIONS: [RelocationEntry; 4] = [
     RelocationEntry {
         offset: 0,
@@ -230,7 +231,8 @@ fn relocated_root<'a>(
     table: &Abbreviations<Relocate<'a, SliceReader<'a>>>,
 ) -> Result<Option<RootEntry<Relocate<'a, SliceReader<'a>>>>, ReadError>
     ensures { Answers (root_of ⟦<Relocate<'a, SliceReader<'a>> as Reader>⟧.input) result
-        (root_at (unit_of ⟦<Relocate<'a, SliceReader<'a>> as Reader>⟧.input unit.now) (table_of ⟦<Relocate<'a, SliceReader<'a>> as Reader>⟧.input table.now)) }
+        (root_at (unit_of ⟦<Relocate<'a, SliceReader<'a>> as Reader>⟧.input unit.now)
+        (table_of ⟦<Relocate<'a, SliceReader<'a>> as Reader>⟧.input table.now)) }
 {
     root(unit, table)
 }

@@ -74,7 +74,8 @@ static OBJECTS: [Object; 6] = [
                 0x25,
                 0x1a,
                 Some(
-                    b"GNU C17 12.2.0 -mtune=generic -march=x86-64 -g -gdwarf-5 -gsplit-dwarf -fasynchronous-unwind-tables",
+                    b"GNU C17 12.2.0 -mtune=generic -march=x86-64 -g -gdwarf-5 -gsplit-dwarf \
+                        -fasynchronous-unwind-tables",
                 ),
             ),
             (0x13, 0x0b, None),
