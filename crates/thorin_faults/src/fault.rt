@@ -1,5 +1,6 @@
 ghost use Rattle.std.specs.Prelude.{◌≡◌, ◌↔◌, IsTrue};
-ghost use Rattle.thorin_faults.specs.declared.fault.Error.TheVariants.{Io, ObjectRead, GimliRead, GimliWrite, Memory};
+ghost use Rattle.thorin_faults.specs.declared.fault.Error.TheVariants.{Io, ObjectRead, GimliRead};
+ghost use Rattle.thorin_faults.specs.declared.fault.Error.TheVariants.{GimliWrite, Memory};
 ghost use Rattle.thorin_faults.specs.Answers.{written_fault};
 ghost use Rattle.thorin_faults.specs.Sessions.{input_error_of, input_fault};
 ghost use Rattle.thorin_faults.specs.declared.fault.InputError.TheVariants as input;

@@ -19,8 +19,8 @@ pub use arena::ArenaSession;
 pub use bytes::BytesSession;
 pub use memory::MemorySession;
 
-/// What holds the data of a run: inputs that were read, and what was made from them. Its memory isn't given back
-/// while it lives.
+/// What holds the data of a run: inputs that were read, and what was made from them. Its memory
+/// isn't given back while it lives.
 pub trait Session<Relocations> {
     // What a read of the file at a path may answer.
     ghost offer: { Self → List ℕ → Result (List ℕ) IoError → Type 0 };

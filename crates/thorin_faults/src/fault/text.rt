@@ -47,7 +47,8 @@ impl Error {
 
     /// The texts of faults of units.
     fn write_unit_text<W: fmt::Write>(&self, f: &mut fmt::Formatter<W>) -> fmt::Result
-        ensures { DisplaysOnOk W.write_str_gives f.old result (unit_text (fault_of self.now)) f.new }
+        ensures { DisplaysOnOk W.write_str_gives f.old result
+            (unit_text (fault_of self.now)) f.new }
     {
         match self {
             Error::MissingDwoName(unit) => write!(
@@ -85,12 +86,14 @@ impl Error {
 
     /// The texts of faults of indexes and string offsets.
     fn write_index_text<W: fmt::Write>(&self, f: &mut fmt::Formatter<W>) -> fmt::Result
-        ensures { DisplaysOnOk W.write_str_gives f.old result (index_text (fault_of self.now)) f.new }
+        ensures { DisplaysOnOk W.write_str_gives f.old result
+            (index_text (fault_of self.now)) f.new }
     {
         match self {
             Error::IncompatibleIndexVersion(section, expected, found) => write!(
                 f,
-                "Incompatible `{section}` index version: found version {found}, expected version {expected}"
+                "Incompatible `{section}` index version: \
+                 found version {found}, expected version {expected}"
             ),
             Error::OffsetAtIndex(_, index) => write!(
                 f,
@@ -122,10 +125,11 @@ impl Error {
         }
     }
 
-    /// The texts of faults of sections and of what a package is made of, and of causes; the other kinds have
-    /// theirs above.
+    /// The texts of faults of sections and of what a package is made of, and of causes; the other
+    /// kinds have theirs above.
     fn write_section_text<W: fmt::Write>(&self, f: &mut fmt::Formatter<W>) -> fmt::Result
-        ensures { DisplaysOnOk W.write_str_gives f.old result (section_text (fault_of self.now)) f.new }
+        ensures { DisplaysOnOk W.write_str_gives f.old result
+            (section_text (fault_of self.now)) f.new }
     {
         match self {
             Error::MissingRequiredSection(section) => write!(
