@@ -1,5 +1,7 @@
--- The sections of an executable that say which split objects it was made with (DWARF 5, 7.3.2 and Appendix B; ELF gABI, "Sections").
-use Rattle.std.specs.Prelude.{ℕ, List, [], codes, map, Bool, false, ◌&&◌, ◌||◌, ◌==◌, not, if◌then◌else◌, Option, Some, None, Result, Ok, Err, find}
+-- The sections of an executable that say which split objects it was made with (DWARF 5, 7.3.2 and
+-- Appendix B; ELF gABI, "Sections").
+use Rattle.std.specs.Prelude.{ℕ, List, [], codes, map, Bool, false, ◌&&◌, ◌||◌, ◌==◌, not}
+use Rattle.std.specs.Prelude.{if◌then◌else◌, Option, Some, None, Result, Ok, Err, find}
 use Rattle.std.specs.Option.{ok_or, option_map_or}
 use Rattle.std.specs.Str.{bytes_eq}
 use Rattle.dwp_base.specs.declared.endian.Endianness.{Endianness}
@@ -16,7 +18,8 @@ use Rattle.thorin_faults.specs.Fault.{Fault, ParseObjectFile, DecompressData, Ob
 use Rattle.thorin_faults.specs.Answers.{as_fault}
 use Rattle.thorin_parts.specs.Relocations.{with_relocations}
 use Rattle.thorin_executable.specs.declared.loading.DebugSection.{DebugSection}
-use Rattle.thorin_executable.specs.declared.loading.DebugSection.TheVariants.{Abbrev, Info, LineStr, Str, StrOffsets}
+use Rattle.thorin_executable.specs.declared.loading.DebugSection.TheVariants.{Abbrev, Info, LineStr}
+use Rattle.thorin_executable.specs.declared.loading.DebugSection.TheVariants.{Str, StrOffsets}
 
 -- the bytes of a section's name
 abbrev pub name_of : DebugSection → List ℕ
@@ -63,7 +66,8 @@ entry_of found = record { offset = found.0; relocation = found.1 }
 
 -- the bytes of a section from its start, and the numbers in them relocated
 abbrev pub relocated_section : Endianness → List ℕ → List (ℕ × Relocation) → Input
-relocated_section order bytes relocations = relocated_input (map entry_of relocations) 0 (section order bytes)
+relocated_section order bytes relocations =
+    relocated_input (map entry_of relocations) 0 (section order bytes)
 
 -- what there is to read of a section: its content is tested before its relocations
 unfoldable pub loaded : Elf → DebugSection → SectionMeaning → Result Input Fault
@@ -95,7 +99,15 @@ debug_data file = do
   debug_line_str ← loaded_first file LineStr
   debug_str ← loaded_first file Str
   debug_str_offsets ← loaded_first file StrOffsets
-  Ok (record { debug_abbrev = debug_abbrev; debug_info = debug_info; strings = record { debug_str = debug_str; debug_line_str = debug_line_str; debug_str_offsets = debug_str_offsets } })
+  Ok (record {
+    debug_abbrev = debug_abbrev;
+    debug_info = debug_info;
+    strings = record {
+      debug_str = debug_str;
+      debug_line_str = debug_line_str;
+      debug_str_offsets = debug_str_offsets;
+    };
+  })
 
 -- those of the bytes of a file
 unfoldable pub debug_data_of : List ℕ → Result DebugData Fault

@@ -47,7 +47,8 @@ fn named_unit<R: Reader>(
     target: DwarfObject,
 ) -> Result<Option<Skeleton>, Error>
     requires { abbreviations.old ≡ debug.now.debug_abbrev }
-    ensures meaning { Gives (option_map named) result (spec.named_in (data_of R.input debug.now) (unit_of R.input header.now) target) }
+    ensures meaning { Gives (option_map named) result
+        (spec.named_in (data_of R.input debug.now) (unit_of R.input header.now) target) }
     ensures kept { abbreviations.new ≡ abbreviations.old }
 {
     let root = SplitAttributes::of_unit(abbreviations, header)?;
@@ -71,7 +72,8 @@ fn skeleton_of<R: Reader>(
     header: &UnitHeader<R>,
 ) -> Result<Option<Skeleton>, Error>
     requires { abbreviations.old ≡ debug.now.debug_abbrev }
-    ensures meaning { Gives (option_map named) result (spec.skeleton_of (data_of R.input debug.now) (unit_of R.input header.now)) }
+    ensures meaning { Gives (option_map named) result
+        (spec.skeleton_of (data_of R.input debug.now) (unit_of R.input header.now)) }
     ensures kept { abbreviations.new ≡ abbreviations.old }
 {
     match dwo_identifier_remembering(abbreviations, header)? {
@@ -90,7 +92,8 @@ fn add_read<R: Reader>(
     units: &mut Vec<Skeleton>,
 ) -> Result<(), Error>
     requires { abbreviations.old ≡ debug.now.debug_abbrev }
-    ensures meaning { Gives (λ _. map named units.new.items) result (spec.with_read (data_of R.input debug.now) (map named units.old.items) (unit_seen R.input read)) }
+    ensures meaning { Gives (λ _. map named units.new.items) result (spec.with_read
+        (data_of R.input debug.now) (map named units.old.items) (unit_seen R.input read)) }
     ensures kept { abbreviations.new ≡ abbreviations.old }
     ensures refused { OnErr result (units.new.items ≡ units.old.items) }
 {
@@ -103,8 +106,10 @@ fn add_read<R: Reader>(
 
 // The split units that the units of an executable stand for.
 fn units_named<R: Reader>(alloc: Global, debug: &DebugData<R>) -> SkeletonList
-    ensures exact { UnlessMemory result.fault (spec.skeletons_from (data_of R.input debug.now) (units Info (R.input debug.now.debug_info)) ≡ listed result) }
-    ensures front { IsFront result (spec.skeletons_from (data_of R.input debug.now) (units Info (R.input debug.now.debug_info))) }
+    ensures exact { UnlessMemory result.fault (spec.skeletons_from (data_of R.input debug.now)
+        (units Info (R.input debug.now.debug_info)) ≡ listed result) }
+    ensures front { IsFront result (spec.skeletons_from (data_of R.input debug.now)
+        (units Info (R.input debug.now.debug_info))) }
 {
     let mut units = Vec::new(alloc);
     let mut abbreviations = AbbreviationCache::new(alloc, debug.debug_abbrev);

@@ -71,7 +71,8 @@ impl DebugSection {
 
     // Whether a section has the older name of this kind.
     fn is_older_name_of(self, section: &Section<'_>) -> bool
-        ensures { result ≡ option_map_or (spec.is_older_name self) (meaning section.now).name false }
+        ensures { result
+            ≡ option_map_or (spec.is_older_name self) (meaning section.now).name false }
     {
         match section.name() {
             Ok(name) => name == self.compressed_name(),
@@ -126,7 +127,8 @@ fn load<'a, Sess: Session<RelocationEntry>>(
     kind: DebugSection,
 ) -> Result<SectionReader<'a>, Error>
     requires { file_of section.now ≡ elf file.now }
-    ensures { Gives ⟦<SectionReader<'a> as Reader>⟧.input result (spec.loaded (elf file.now) kind (meaning section.now)) }
+    ensures { Gives ⟦<SectionReader<'a> as Reader>⟧.input result
+        (spec.loaded (elf file.now) kind (meaning section.now)) }
 {
     let bytes = content(section, kind)?;
     let found = add_relocations(alloc, file, section)?;
@@ -142,7 +144,8 @@ fn load_first<'a, Sess: Session<RelocationEntry>>(
     file: &ElfFile<'a>,
     kind: DebugSection,
 ) -> Result<SectionReader<'a>, Error>
-    ensures { Gives ⟦<SectionReader<'a> as Reader>⟧.input result (spec.loaded_first (elf file.now) kind) }
+    ensures { Gives ⟦<SectionReader<'a> as Reader>⟧.input result
+        (spec.loaded_first (elf file.now) kind) }
 {
     match find_section(file, kind) {
         Some(section) => load(alloc, session, file, &section, kind),
@@ -158,7 +161,8 @@ impl<'a> DebugData<SectionReader<'a>> {
         session: &'a Sess,
         file: &ElfFile<'a>,
     ) -> Result<Self, Error>
-        ensures { Gives (data_of ⟦<SectionReader<'a> as Reader>⟧.input) result (spec.debug_data (elf file.now)) }
+        ensures { Gives (data_of ⟦<SectionReader<'a> as Reader>⟧.input) result
+            (spec.debug_data (elf file.now)) }
     {
         let debug_abbrev = load_first(alloc, session, file, DebugSection::Abbrev)?;
         let debug_info = load_first(alloc, session, file, DebugSection::Info)?;
@@ -186,7 +190,8 @@ impl<'a> DebugData<SectionReader<'a>> {
         session: &'a Sess,
         bytes: &'a [u8],
     ) -> Result<Self, Error>
-        ensures { Gives (data_of ⟦<SectionReader<'a> as Reader>⟧.input) result (spec.debug_data_of bytes.now) }
+        ensures { Gives (data_of ⟦<SectionReader<'a> as Reader>⟧.input) result
+            (spec.debug_data_of bytes.now) }
     {
         let file = ElfFile::parse(bytes).map_err(Error::ParseObjectFile)?;
         Self::of_file(alloc, session, &file)

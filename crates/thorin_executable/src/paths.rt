@@ -57,7 +57,8 @@ fn directory<R: Reader>(
     base: u64,
 ) -> Option<R>
     requires { base ≡ spec.base_of (attributes_of R.input root.now) }
-    ensures { option_map R.input result ≡ spec.directory_of (strings_of R.input strings.now) format (attributes_of R.input root.now) }
+    ensures { option_map R.input result ≡ spec.directory_of (strings_of R.input strings.now) format
+        (attributes_of R.input root.now) }
 {
     attr_string(strings, format, base, &root.comp_dir?).ok()
 }
@@ -72,7 +73,8 @@ pub(crate) fn object_path<R: Reader>(
     root: &SplitAttributes<R>,
     name: &Attribute<R>,
 ) -> Result<String, Error>
-    ensures { Gives string_bytes result (spec.object_path (strings_of R.input strings.now) format (attributes_of R.input root.now) (attribute_of R.input name.now)) }
+    ensures { Gives string_bytes result (spec.object_path (strings_of R.input strings.now) format
+        (attributes_of R.input root.now) (attribute_of R.input name.now)) }
 {
     let base = root.str_offsets_base.unwrap_or(0);
     let name = attr_string(strings, format, base, name)?;

@@ -36,7 +36,8 @@ impl<R: Reader> SplitAttributes<R> {
         debug_abbrev: &mut AbbreviationCache<R>,
         header: &UnitHeader<R>,
     ) -> Result<Self, Error>
-        ensures meaning { Gives (attributes_of R.input) result (spec.root_attributes (R.input debug_abbrev.old) (unit_of R.input header.now)) }
+        ensures meaning { Gives (attributes_of R.input) result
+            (spec.root_attributes (R.input debug_abbrev.old) (unit_of R.input header.now)) }
         ensures kept { debug_abbrev.new ≡ debug_abbrev.old }
     {
         let root = root_entry(debug_abbrev, header)?;
@@ -46,7 +47,8 @@ impl<R: Reader> SplitAttributes<R> {
     // Those of an entry.
     #[tactic(auto, unfolding(crate::specs::Roots::entry_attributes))]
     fn of_entry(root: RootEntry<R>, format: Format) -> Result<Self, Error>
-        ensures { Gives (attributes_of R.input) result (spec.entry_attributes format (entry_of R.input root)) }
+        ensures { Gives (attributes_of R.input) result
+            (spec.entry_attributes format (entry_of R.input root)) }
     {
         let mut found = SplitAttributes {
             dwo_name: None,
@@ -63,7 +65,8 @@ impl<R: Reader> SplitAttributes<R> {
 
     // Takes an attribute in where it is the first of its name.
     fn add(&mut self, attribute: Attribute<R>, format: Format)
-        ensures { attributes_of R.input self.new ≡ spec.with_attribute format (attributes_of R.input self.old) (attribute_of R.input attribute) }
+        ensures { attributes_of R.input self.new ≡ spec.with_attribute format
+            (attributes_of R.input self.old) (attribute_of R.input attribute) }
     {
         match attribute.name {
             DW_AT_COMP_DIR => self.comp_dir = self.comp_dir.or(Some(attribute)),
@@ -78,7 +81,8 @@ impl<R: Reader> SplitAttributes<R> {
 
     /// The attribute that names the split object: that of DWARF 5, else GNU's.
     pub fn object_name(&self) -> Option<Attribute<R>>
-        ensures { option_map (attribute_of R.input) result ≡ spec.object_name (attributes_of R.input self.now) }
+        ensures { option_map (attribute_of R.input) result
+            ≡ spec.object_name (attributes_of R.input self.now) }
     {
         self.dwo_name.or(self.gnu_dwo_name)
     }
@@ -90,7 +94,8 @@ fn root_entry<R: Reader>(
     debug_abbrev: &mut AbbreviationCache<R>,
     header: &UnitHeader<R>,
 ) -> Result<RootEntry<R>, Error>
-    ensures meaning { Gives (entry_of R.input) result (spec.root_entry (R.input debug_abbrev.old) (unit_of R.input header.now)) }
+    ensures meaning { Gives (entry_of R.input) result
+        (spec.root_entry (R.input debug_abbrev.old) (unit_of R.input header.now)) }
     ensures kept { debug_abbrev.new ≡ debug_abbrev.old }
 {
     let (code, values) = header
