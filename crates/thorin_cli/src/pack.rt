@@ -5,7 +5,8 @@ ghost use Rattle.thorin_builder.specs.Builder.{IsFinishedState};
 ghost use Rattle.thorin_builder.specs.Join.{IsPackageOnceWritten};
 ghost use Rattle.thorin_builder.specs.Represents.{units_in};
 ghost use Rattle.thorin.specs.Run.{Took};
-ghost use Rattle.thorin_cli.specs.Packing.{anything, asked, object_asked, executable_asked, AreAllAccepted, IsPackedOf};
+ghost use Rattle.thorin_cli.specs.Packing.{anything, asked, object_asked, executable_asked};
+ghost use Rattle.thorin_cli.specs.Packing.{AreAllAccepted, IsPackedOf};
 
 use crate::output::Failure;
 use crate::reader::FileReader;
@@ -92,7 +93,8 @@ fn inputs_of<'a>(
     executables: &[&'a str],
     missing: MissingReferencedObjectBehaviour,
 ) -> Result<Vec<Input<'a>>, AllocError>
-    ensures { IfOk result (λ inputs. map asked inputs.items ≡ map object_asked objects.now ++ map (executable_asked missing) executables.now) }
+    ensures { IfOk result (λ inputs. map asked inputs.items ≡ map object_asked objects.now
+        ++ map (executable_asked missing) executables.now) }
 {
     let mut inputs = Vec::new(alloc);
     for object in objects {
@@ -142,7 +144,8 @@ fn take_all<'o, 's: 'o, Sess: Session<RelocationEntry>, E: Write>(
     verbose: bool,
     err: &mut E,
 ) -> Result<(), Failure>
-    ensures { OnOk result ((accepted : List (List ℕ)) × AreAllAccepted inputs.now builder.old.state builder.new.state accepted) }
+    ensures { OnOk result ((accepted : List (List ℕ))
+        × AreAllAccepted inputs.now builder.old.state builder.new.state accepted) }
 {
     let mut room = Vec::new(rt.alloc());
     runs_go_on(&FileReader::new(rt));

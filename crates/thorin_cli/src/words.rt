@@ -1,7 +1,8 @@
 //! The words of a text, as linkers read those of a response file.
 
 ghost use Rattle.std.specs.Prelude.{◌≡◌, ℕ, List, map, IfOk};
-ghost use Rattle.thorin_cli.specs.Words.{behind, keeps, is_between, is_space, is_mark, words_of, quoted};
+ghost use Rattle.thorin_cli.specs.Words.{behind, keeps, is_between, is_space, is_mark, words_of};
+ghost use Rattle.thorin_cli.specs.Words.{quoted};
 
 use std::alloc::{AllocError, Global};
 use std::mem;
