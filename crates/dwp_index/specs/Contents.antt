@@ -1,12 +1,16 @@
 -- The contents of a package's sections (DWARF 5, 7.3.5; the GNU page DebugFissionDWP).
-use Rattle.std.specs.Prelude.{ℕ, Bool, false, ◌&&◌, ◌||◌, ◌==◌, not, List, [], Option, Some, None, Result, Ok, Err, if◌then◌else◌}
+use Rattle.std.specs.Prelude.{ℕ, Bool, false, ◌&&◌, ◌||◌, ◌==◌, not, List, [], Option, Some, None}
+use Rattle.std.specs.Prelude.{Result, Ok, Err, if◌then◌else◌}
 use Rattle.std.specs.List.{find}
 use Rattle.std.specs.Option.{ok_or}
 use Rattle.std.specs.Str.{bytes_eq}
 use Rattle.dwp_base.specs.Reading.{◌>>=◌}
 use Rattle.dwp_base.specs.Sections.{is_named, compressed_name_of}
 use Rattle.dwp_base.specs.declared.section.SectionKind.{SectionKind}
-use Rattle.dwp_base.specs.declared.section.SectionKind.TheVariants.{Info, Types, Abbrev, Line, Loc, Loclists, Rnglists, StrOffsets, Macinfo, Macro, Str, CuIndex, TuIndex}
+use Rattle.dwp_base.specs.declared.section.SectionKind.TheVariants.{Info, Types, Abbrev, Line, Loc}
+use Rattle.dwp_base.specs.declared.section.SectionKind.TheVariants.{Loclists, Rnglists, StrOffsets}
+use Rattle.dwp_base.specs.declared.section.SectionKind.TheVariants.{Macinfo, Macro, Str, CuIndex}
+use Rattle.dwp_base.specs.declared.section.SectionKind.TheVariants.{TuIndex}
 use Rattle.dwp_elf_read.specs.Elf.{SectionMeaning, SHT_NOBITS, has_compressed_flag}
 use Rattle.dwp_elf_read.specs.declared.fault.ReadError.{ReadError}
 use Rattle.dwp_elf_read.specs.declared.fault.ReadError.TheVariants.{SectionRange, Compressed}
@@ -49,7 +53,8 @@ has_name kind (Some name) = is_named name kind
 
 -- a section has bytes, and is one of that kind
 unfoldable pub is_of_kind : SectionKind → SectionMeaning → Bool
-is_of_kind kind section = not (section.size == 0 || section.kind == SHT_NOBITS) && has_name kind section.name
+is_of_kind kind section =
+    not (section.size == 0 || section.kind == SHT_NOBITS) && has_name kind section.name
 
 -- a section's name is the older spelling of a kind's
 abbrev pub has_older_name : SectionKind → Option (List ℕ) → Bool

@@ -2,7 +2,8 @@ ghost use Rattle.std.specs.Prelude.{◌≡◌, option_map};
 ghost use Rattle.std.specs.List.{find};
 ghost use Rattle.dwp_base.specs.Reading.{Answers};
 ghost use Rattle.dwp_elf_read.specs.View.{elf, section};
-ghost use Rattle.dwp_index.specs.Contents.{content, is_of_kind, has_older_name, used_bytes, content_of, contents_of};
+ghost use Rattle.dwp_index.specs.Contents.{content, is_of_kind, has_older_name, used_bytes};
+ghost use Rattle.dwp_index.specs.Contents.{content_of, contents_of};
 ghost use Rattle.dwp_index.specs.ContentFields.{contents_in};
 
 use dwp_base::SectionKind;
@@ -82,7 +83,8 @@ fn content<'a>(file: &ElfFile<'a>, kind: SectionKind) -> Result<&'a [u8], ReadEr
 }
 
 impl<'a> Contents<'a> {
-    /// The contents of a file; Compressed or SectionRange for the first, in order of kind, that can't be used.
+    /// The contents of a file; Compressed or SectionRange for the first, in order of kind, that
+    /// can't be used.
     #[tactic(auto, unfolding(crate::specs::Contents::contents_of))]
     pub fn read(file: &ElfFile<'a>) -> Result<Contents<'a>, ReadError>
         ensures { Answers contents_in result (contents_of (elf file.now).sections) }

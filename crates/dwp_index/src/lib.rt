@@ -1,5 +1,5 @@
-//! The indexes of a package of split DWARF, and reading a package by them (DWARF 5, 7.3.5; the GNU page
-//! DebugFissionDWP).
+//! The indexes of a package of split DWARF, and reading a package by them (DWARF 5, 7.3.5; the
+//! GNU page DebugFissionDWP).
 #![tactic(auto)]
 
 mod contents;

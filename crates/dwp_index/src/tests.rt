@@ -103,7 +103,8 @@ fn look_ups_in_tables_of_identifiers(rt: HostRuntime) -> Result<(), Fail> {
     Ok(())
 }
 
-// A table of four slots, all used, over one row of one column: the last slot's row number is past the rows.
+// A table of four slots, all used, over one row of one column: the last slot's row number is past
+// the rows.
 const FULL: [u8; 76] = [
     2, 0, 0, 0, 1, 0, 0, 0, 1, 0, 0, 0, 4, 0, 0, 0, 4, 0, 0, 0, 0, 0, 0, 0, 1, 0, 0, 0, 0, 0, 0, 0,
     2, 0, 0, 0, 0, 0, 0, 0, 3, 0, 0, 0, 0, 0, 0, 0, 1, 0, 0, 0, 1, 0, 0, 0, 1, 0, 0, 0, 5, 0, 0, 0,

@@ -133,8 +133,10 @@ impl<'a> UnitIndex<'a> {
         ensures bound { result.1 ≤ length self.now.rows }
 
         // In a table of distinct identifiers: each one's row, and none for any other.
-        ensures exact { (ids : List ℕ) → IsIndex ids self.now.signatures self.now.rows → FindsExactly ids identifier result.0 result.1 }
-        ensures few { (ids : List ℕ) → IsIndex ids self.now.signatures self.now.rows → result.1 ≤ length ids + 1 }
+        ensures exact { (ids : List ℕ) → IsIndex ids self.now.signatures self.now.rows
+            → FindsExactly ids identifier result.0 result.1 }
+        ensures few { (ids : List ℕ) → IsIndex ids self.now.signatures self.now.rows
+            → result.1 ≤ length ids + 1 }
     {
         look_up_finds_exactly();
         self.look_up(identifier)
