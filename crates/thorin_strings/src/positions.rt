@@ -1,6 +1,9 @@
-ghost use Rattle.std.specs.Prelude.{◌≡◌, ◌≤◌, ◌<◌, ◌+◌, ◌^◌, List, [], ◌++◌, All, length, slice_index, slice_index_or, slice_set, vec_len, insert, map, filter, nat_lt, take, drop, OnOk, OnErr, IfOk};
+ghost use Rattle.std.specs.Prelude.{◌≡◌, ◌≤◌, ◌<◌, ◌+◌, ◌^◌, List, [], ◌++◌, All, length};
+ghost use Rattle.std.specs.Prelude.{slice_index, slice_index_or, slice_set, vec_len, insert, map};
+ghost use Rattle.std.specs.Prelude.{filter, nat_lt, take, drop, OnOk, OnErr, IfOk};
 ghost use Rattle.std.specs.List.{concat};
-ghost use Rattle.thorin_strings.specs.Chunks.{pieces, starts_from, AreShort, IsHalved, IsPieceOf, IsChunked};
+ghost use Rattle.thorin_strings.specs.Chunks.{pieces, starts_from, AreShort, IsHalved, IsPieceOf};
+ghost use Rattle.thorin_strings.specs.Chunks.{IsChunked};
 
 use std::alloc::{AllocError, Global};
 use std::marker::Model;
@@ -120,7 +123,8 @@ fn room_at(
     ensures same { concat (pieces chunks.new.items) ≡ concat (pieces chunks.old.items) }
     ensures short { AreShort (pieces chunks.new.items) }
     ensures at { IfOk result (IsPieceOf starts.new.items rank) }
-    ensures room { IfOk result (λ at. length (slice_index_or (pieces chunks.new.items) at []) < 1024) }
+    ensures room { IfOk result (λ at.
+        length (slice_index_or (pieces chunks.new.items) at []) < 1024) }
 {
     if chunks.is_empty() {
         chunks.reserve(1)?;
