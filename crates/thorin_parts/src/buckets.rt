@@ -18,14 +18,15 @@ pub struct Buckets {
     pub looked: Vec<u32>,
 }
 
-/// Places units in a hash table in their order, each at the first of its places that is unused. A look-up
-/// finds each of them where no two have one identifier. Refuses more than 1,431,655,765 units with
-/// `NumberTooLarge`, and for memory alone.
+/// Places units in a hash table in their order, each at the first of its places that is unused. A
+/// look-up finds each of them where no two have one identifier. Refuses more than 1,431,655,765
+/// units with `NumberTooLarge`, and for memory alone.
 pub fn bucket<B: Bucketable>(alloc: Global, units: &[B]) -> Result<Buckets, Error>
     ensures refusal { Gives (λ _. tt) result (count_test (length units.now)) }
     ensures table { IfOk result (λ b. IsTable (map B.identifier units.now) b.slots.items) }
     ensures slots { IfOk result (λ b. HasSlots (length units.now) (length b.slots.items)) }
-    ensures looked { IfOk result (λ b. IsLooked (map B.identifier units.now) b.slots.items b.looked.items) }
+    ensures looked { IfOk result (λ b.
+        IsLooked (map B.identifier units.now) b.slots.items b.looked.items) }
 {
     test_count(units.len())?;
     let mut slots = vec![in alloc; 0u32; slot_count(units.len() as u32) as usize]?;
@@ -45,7 +46,8 @@ fn place_units<B: Bucketable>(
     requires room { length units.now < length slots.old }
     requires none_looked { looked.old.items ≡ [] }
     ensures table { OnOk result (IsTable (map B.identifier units.now) slots.new) }
-    ensures looked { OnOk result (IsLooked (map B.identifier units.now) slots.new looked.new.items) }
+    ensures looked { OnOk result
+        (IsLooked (map B.identifier units.now) slots.new looked.new.items) }
 {
     for (i, unit) in units.iter().enumerate() {
         looked.push(place_row(slots, unit.index(), i as u32 + 1).unwrap())?;

@@ -1,5 +1,5 @@
-//! The parts of a package builder: faults and sessions, strings, contributions, the table and the index,
-//! relocations of an executable.
+//! The parts of a package builder: faults and sessions, strings, contributions, the table and the
+//! index, relocations of an executable.
 #![tactic(auto)]
 
 mod adjustor;
