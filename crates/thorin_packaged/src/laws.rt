@@ -20,8 +20,8 @@ pub fn rows_are_found_by_place()
         → IsFirstWith index kind range number }
 {}
 
-/// The first row that has a range in a section is found by it, and where none is found no row has it. It
-/// does nothing.
+/// The first row that has a range in a section is found by it, and where none is found no row has
+/// it. It does nothing.
 pub fn every_row_is_found_by_place()
     ensures first { (index : Index) (kind : SectionKind) (range : Contribution) (number : ℕ)
         → IsFirstWith index kind range number
@@ -33,13 +33,15 @@ pub fn every_row_is_found_by_place()
         → range_in row kind ≢ Some range }
 {}
 
-/// A package's string offsets that were rewritten have as many bytes as before, and the range of each row
-/// is read as before, of each number, in the section of any table that begins with the strings after it.
-/// It does nothing.
+/// A package's string offsets that were rewritten have as many bytes as before, and the range of
+/// each row is read as before, of each number, in the section of any table that begins with the
+/// strings after it. It does nothing.
 pub fn packaged_rows_are_read_alike()
-    ensures { (order : Endianness) (encoding : Encoding) (compilations types : Option Index) (section bytes : List ℕ) (before : List (List ℕ)) (written : List ℕ) (after : List (List ℕ))
+    ensures { (order : Endianness) (encoding : Encoding) (compilations types : Option Index)
+        (section bytes : List ℕ) (before : List (List ℕ)) (written : List ℕ) (after : List (List ℕ))
         → IsTable before
-        → packaged_offsets order encoding compilations types section bytes before ≡ Ok (written, after)
+        → packaged_offsets order encoding compilations types section bytes before
+        ≡ Ok (written, after)
         → PackageReadsAlike order encoding compilations types section bytes before written after }
 {
     rewritten_offsets_name_the_same();

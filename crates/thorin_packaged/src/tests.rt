@@ -63,8 +63,8 @@ fn index_of(
     write_index(alloc, Endianness::Little, &entries)
 }
 
-/// The string offsets of a package whose compilation units have these ranges, and whose one type unit
-/// has that one, rewritten into a table that has `b`; and the strings after it.
+/// The string offsets of a package whose compilation units have these ranges, and whose one type
+/// unit has that one, rewritten into a table that has `b`; and the strings after it.
 fn rewritten(
     alloc: Global,
     encoding: Encoding,
