@@ -1,3 +1,5 @@
+//! What readers of DWARF data do (DWARF 5, 7.4 to 7.6).
+
 ghost use Rattle.std.specs.Prelude.{◌≡◌, ◌-◌, ◌==◌, length, MatchResult, OnErr};
 ghost use Rattle.std.specs.Str.{IsUtf8};
 ghost use Rattle.dwp_base.specs.Reading.{Answers, Reads};

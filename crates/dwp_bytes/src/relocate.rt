@@ -1,3 +1,5 @@
+//! Readers of sections that have relocations.
+
 ghost use Rattle.std.specs.Prelude.{◌≡◌, ◌≤◌, IsTrue, ⊤};
 ghost use Rattle.dwp_bytes.specs.Relocation.{ascends, relocated_input};
 

@@ -1,3 +1,5 @@
+//! Readers of bytes in memory.
+
 ghost use Rattle.std.specs.Prelude.{◌≡◌, ◌+◌, ◌<◌, ◌^◌, length};
 ghost use Rattle.dwp_base.specs.Reading.{Reads};
 ghost use Rattle.dwp_bytes.specs.Input.{section, sized_at};

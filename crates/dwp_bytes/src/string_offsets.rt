@@ -1,3 +1,5 @@
+//! String offsets, and the strings that they name (DWARF 5, 7.26).
+
 ghost use Rattle.std.specs.Prelude.{◌≡◌, ◌≢◌, All, IfOk};
 ghost use Rattle.dwp_base.specs.Reading.{Answers};
 ghost use Rattle.dwp_bytes.specs.StringOffsets.{header_size, entry_count, string_at};

@@ -1,3 +1,5 @@
+//! Numbers of each size and order, relocated or not, and strings.
+
 ghost use Rattle.std.specs.Prelude.{◌≡◌};
 
 use crate::{
