@@ -1,3 +1,5 @@
+//! How the values of forms are laid out (DWARF 5, 7.5.5).
+
 /// How the value of a form is laid out.
 #[derive(Clone, Copy, Debug)]
 pub(crate) enum Layout {

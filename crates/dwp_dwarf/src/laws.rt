@@ -1,3 +1,5 @@
+//! What declarations and values of attributes are, as laws.
+
 ghost use Rattle.dwp_dwarf.specs.Grammar.{FoundIsFirst, AbsentIsNowhere, FaultIsBefore};
 ghost use Rattle.dwp_dwarf.specs.Values.{RootValuesLie};
 

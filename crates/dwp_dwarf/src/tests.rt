@@ -1,3 +1,5 @@
+//! Units and their root entries, read from bytes.
+
 ghost use Rattle.dwp_base.specs.Reading.{Answers};
 ghost use Rattle.dwp_dwarf.specs.Attributes.{root_of};
 ghost use Rattle.dwp_dwarf.specs.Declarations.{table_of};

@@ -1,3 +1,5 @@
+//! The values of attributes, by their forms (DWARF 5, 7.5.5 and 7.5.6).
+
 ghost use Rattle.std.specs.Prelude.{◌≡◌};
 ghost use Rattle.dwp_base.specs.Reading.{Reads, Answers};
 ghost use Rattle.dwp_dwarf.specs.Forms.{fixed_size, unit_size, open_layout, layout_of};

@@ -1,3 +1,5 @@
+//! Abbreviations that are remembered.
+
 use crate::*;
 use std::test::Fail;
 

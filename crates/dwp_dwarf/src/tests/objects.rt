@@ -1,3 +1,5 @@
+//! Objects of compilers, and what their root entries say.
+
 use crate::*;
 use Endianness::Little;
 use std::test::Fail;
