@@ -1,4 +1,5 @@
 //! The contents of the sections, in order of first append.
+
 ghost use Rattle.std.specs.Prelude.{◌≡◌, ◌↔◌, ◌+◌, ◌≤◌, ◌<◌, length, position, IsTrue, IfOk, OnErr};
 ghost use Rattle.std.specs.Prelude.{vec_len};
 ghost use Rattle.dwp_base.specs.Sections.{same_kind};

@@ -1,3 +1,5 @@
+//! What a written file means, as a law.
+
 ghost use Rattle.std.specs.Prelude.{◌≡◌, ◌^◌, ◌<◌, length};
 ghost use Rattle.dwp_elf_read.specs.Layout.{word_size};
 ghost use Rattle.dwp_elf_read.specs.Elf.{elf_of};

@@ -1,4 +1,5 @@
 //! Objects that are made section by section, and written as ELF files.
+
 ghost use Rattle.std.specs.Prelude.{◌≡◌, ℕ, ◌+◌, ◌≤◌, ◌<◌, ◌^◌, ◌*◌, [], List, length, IfOk, IfErr};
 ghost use Rattle.std.specs.Prelude.{OnOk, OnErr, MatchResult, Some, None, Ok, Err, OkIff};
 ghost use Rattle.std.specs.Io.KnownBytes.{Appends};

@@ -1,4 +1,5 @@
 //! Where the parts of a file lie.
+
 ghost use Rattle.std.specs.Prelude.{◌≡◌, ◌+◌, ◌*◌, ◌^◌, ◌<◌, ◌≤◌, length, MatchOption};
 ghost use Rattle.dwp_elf.specs.Contents.{contents_of};
 ghost use Rattle.dwp_elf.specs.FileText.{content_bytes, name_table, zeros_after};

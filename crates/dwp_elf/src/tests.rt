@@ -1,4 +1,5 @@
 //! Worked files, and what a writer that is slow, fails or takes nothing gets of them.
+
 ghost use Rattle.std.specs.Prelude.{Some};
 
 use crate::{
