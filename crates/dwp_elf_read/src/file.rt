@@ -1,3 +1,5 @@
+//! ELF files (ELF gABI, "Sections").
+
 ghost use Rattle.std.specs.Prelude.{◌+◌, ◌*◌, ◌≤◌, length};
 ghost use Rattle.dwp_elf_read.specs.Layout.{entry_size};
 

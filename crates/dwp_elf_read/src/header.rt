@@ -1,3 +1,5 @@
+//! The headers of a file and of its sections (ELF gABI, "ELF Header" and "Section Header").
+
 ghost use Rattle.std.specs.Prelude.{◌≡◌, ◌+◌, ◌*◌, ◌≤◌, length};
 ghost use Rattle.std.specs.Option.{option_copied};
 ghost use Rattle.dwp_elf_read.specs.Layout.{word_size, header_size, entry_size, file_header_of};

@@ -1,3 +1,5 @@
+//! The numbers in the bytes of a file (ELF gABI, "Data Representation").
+
 ghost use Rattle.std.specs.Prelude.{◌≡◌, ◌+◌, ◌*◌, ◌^◌, ◌<◌, ◌≤◌, length};
 ghost use Rattle.dwp_elf_read.specs.Layout.{word_size, entry_size, number_at, is_inside};
 

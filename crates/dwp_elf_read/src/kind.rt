@@ -1,3 +1,5 @@
+//! What a file is, by its first bytes (ELF gABI, "ELF Identification"; ar(5)).
+
 ghost use Rattle.std.specs.Prelude.{◌≤◌, length, IfOk};
 ghost use Rattle.dwp_base.specs.Reading.{Answers};
 ghost use Rattle.dwp_elf_read.specs.Layout.{header_size};

@@ -1,3 +1,5 @@
+//! Texts of string tables (ELF gABI, "String Table").
+
 ghost use Rattle.std.specs.Prelude.{◌≡◌, option_map};
 ghost use Rattle.dwp_elf_read.specs.Elf.{text_of, text_at, name_is};
 

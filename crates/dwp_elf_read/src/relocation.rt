@@ -1,3 +1,5 @@
+//! Relocations as they stand in a file (ELF gABI, "Relocation").
+
 ghost use Rattle.std.specs.Prelude.{◌≡◌, ◌+◌, ◌*◌, ◌^◌, ◌≤◌, ◌<◌, length};
 ghost use Rattle.dwp_elf_read.specs.Layout.{word_size};
 ghost use Rattle.dwp_elf_read.specs.Relocation.{type_of, symbol_of, signed_word, relocation_size};

@@ -1,3 +1,5 @@
+//! The relocations of a section, in file order (ELF gABI, "Relocation").
+
 ghost use Rattle.std.specs.Prelude.{◌≡◌, List, Result};
 ghost use Rattle.dwp_base.specs.Reading.{Answers};
 ghost use Rattle.dwp_elf_read.specs.Relocation.{table_of, relocates, entries_then};

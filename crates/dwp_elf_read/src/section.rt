@@ -1,3 +1,5 @@
+//! Sections of a file (ELF gABI, "Sections").
+
 use crate::fault::ReadError;
 use crate::file::ElfFile;
 use crate::header::{SHT_NOBITS, SectionHeader};

@@ -1,3 +1,5 @@
+//! The values of symbols (ELF gABI, "Symbol Table").
+
 ghost use Rattle.std.specs.Prelude.{◌≡◌, option_map};
 ghost use Rattle.dwp_base.specs.Reading.{Answers};
 ghost use Rattle.dwp_elf_read.specs.Symbol.{symbol_size, value_place, symbols_of, value_in};

@@ -1,3 +1,5 @@
+//! Files of both classes and orders, and damaged ones.
+
 use super::*;
 use dwp_base::{Class, Endianness, SectionKind};
 use std::alloc::{AllocError, Global};
