@@ -1,3 +1,5 @@
+//! The contents of a package's sections (DWARF 5, 7.3.5).
+
 ghost use Rattle.std.specs.Prelude.{◌≡◌, option_map};
 ghost use Rattle.std.specs.List.{find};
 ghost use Rattle.dwp_base.specs.Reading.{Answers};

@@ -1,3 +1,5 @@
+//! What packages give, and what a file of given sections is, as laws.
+
 ghost use Rattle.std.specs.Prelude.{◌≡◌, ℕ, ◌+◌, ◌<◌, ◌≤◌, List, [], length, slice_range};
 ghost use Rattle.std.specs.Prelude.{slice_get, Option, Some, None, Ok, false};
 ghost use Rattle.std.specs.List.Sorted.{IsPermutation};

@@ -1,3 +1,5 @@
+//! Reading an index from its bytes (DWARF 5, 7.3.5.3; the GNU page DebugFissionDWP).
+
 ghost use Rattle.std.specs.Prelude.{◌≡◌, ◌==◌, ◌*◌, ◌<◌, ◌≤◌, ◌+◌, [], length, drop, IfSome, IfOk};
 ghost use Rattle.std.specs.Prelude.{OnOk, IsTrue};
 ghost use Rattle.std.specs.List.{position_from};

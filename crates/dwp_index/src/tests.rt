@@ -1,3 +1,5 @@
+//! Indexes of both versions, and look-ups in them.
+
 ghost use Rattle.std.specs.Prelude.{◌<◌, ◌^◌, length};
 
 use super::*;

@@ -1,3 +1,5 @@
+//! Units of a package, with all that belongs to each (DWARF 5, 7.3.5).
+
 ghost use Rattle.std.specs.Prelude.{◌≡◌};
 ghost use Rattle.std.specs.Option.{option_copied};
 ghost use Rattle.dwp_base.specs.Reading.{Answers};

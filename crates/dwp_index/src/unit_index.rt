@@ -1,3 +1,5 @@
+//! Indexes of a package, and their rows (DWARF 5, 7.3.5.3).
+
 ghost use Rattle.std.specs.Prelude.{◌≡◌, ◌<◌, ◌≤◌, ◌+◌, ℕ, List, length, slice_index, is_some};
 ghost use Rattle.dwp_base.specs.Reading.{Answers};
 ghost use Rattle.dwp_table.specs.Probing.{found_row, look_count};

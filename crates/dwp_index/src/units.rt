@@ -1,3 +1,5 @@
+//! The units that the indexes of a package name, one after the other.
+
 ghost use Rattle.std.specs.Prelude.{◌≡◌, ◌∷◌, [], MatchOption};
 ghost use Rattle.dwp_index.specs.Used.{used_in};
 
