@@ -1,3 +1,5 @@
+//! The columns of an index (DWARF 5, 7.3.5.3, Table 7.1; the GNU page DebugFissionDWP).
+
 ghost use Rattle.std.specs.Prelude.{◌≡◌};
 
 use dwp_base::SectionKind;

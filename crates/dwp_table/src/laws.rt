@@ -1,3 +1,5 @@
+//! What probing, looking up and unused slots are, as laws.
+
 ghost use Rattle.std.specs.Prelude.{◌≡◌, ℕ, List, [], length, ◌+◌, ◌%◌, ◌<◌, ◌≤◌, ◌^◌, IsTrue};
 ghost use Rattle.std.specs.Prelude.{replicate};
 ghost use Rattle.std.specs.Int.{is_power_of_two};

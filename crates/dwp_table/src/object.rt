@@ -1,3 +1,5 @@
+//! The names of units: identifiers and type signatures (DWARF 5, 7.3.5.3).
+
 ghost use Rattle.std.specs.Prelude.{◌≡◌, ℕ};
 
 use std::fmt::{Debug, Formatter, Write};

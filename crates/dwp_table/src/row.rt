@@ -1,3 +1,5 @@
+//! The places of an identifier in a hash table (DWARF 5, 7.3.5.3).
+
 ghost use Rattle.std.specs.Prelude.{◌≡◌, ℕ, List, [], ◌∷◌, ◌++◌, ◌+◌, ◌-◌, ◌<◌, ◌≤◌, ◌^◌, length};
 ghost use Rattle.std.specs.Prelude.{IsTrue, IsSomeAnd};
 ghost use Rattle.std.specs.Int.{is_power_of_two};
