@@ -1,3 +1,5 @@
+//! The faults of packaging.
+
 ghost use Rattle.std.specs.Prelude.{◌≡◌, ◌↔◌, IsTrue};
 ghost use Rattle.thorin_faults.specs.declared.fault.Error.TheVariants.{Io, ObjectRead, GimliRead};
 ghost use Rattle.thorin_faults.specs.declared.fault.Error.TheVariants.{GimliWrite, Memory};

@@ -1,3 +1,5 @@
+//! What sessions do.
+
 ghost use Rattle.std.specs.Prelude.{◌≡◌, ℕ, List, Result, IfOk, IfErr, IsOk};
 ghost use Rattle.std.specs.Path.{path_bytes};
 ghost use Rattle.std.specs.declared.io.Error.{Error as IoError};

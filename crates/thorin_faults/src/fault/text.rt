@@ -1,3 +1,5 @@
+//! The texts of faults, and the law that each has one.
+
 ghost use Rattle.std.specs.Prelude.{◌≡◌, false, IsSome};
 ghost use Rattle.thorin_faults.specs.Fault.{Fault};
 ghost use Rattle.thorin_faults.specs.Text.{fault_text, is_passed_on};

@@ -1,3 +1,5 @@
+//! Sessions that read files of the system.
+
 ghost use Rattle.std.specs.Prelude.{◌≡◌, IfOk, IfErr, IfSome};
 ghost use Rattle.thorin_faults.specs.Sessions.{IsNoWantOfMemory};
 

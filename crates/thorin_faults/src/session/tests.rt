@@ -1,3 +1,5 @@
+//! What sessions read and place, and what they answer where memory runs out.
+
 use super::arena::read_into;
 use super::{ArenaSession, BytesSession, MemorySession, Session};
 use crate::fault::InputError;
