@@ -1,3 +1,5 @@
+//! What rows by place and rewritten offsets of packages are, as laws.
+
 ghost use Rattle.std.specs.Prelude.{◌≡◌, ◌≢◌, ℕ, List, Option, Some, None, Ok};
 ghost use Rattle.dwp_base.specs.declared.endian.Endianness.{Endianness};
 ghost use Rattle.dwp_base.specs.declared.section.SectionKind.{SectionKind};

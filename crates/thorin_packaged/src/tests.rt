@@ -1,3 +1,5 @@
+//! Rows by place, and string offsets of packages that are rewritten.
+
 use super::*;
 use dwp_base::{Contribution, ContributionOffset, Endianness, SectionKind};
 use dwp_bytes::{Encoding, Format, ReadError};
