@@ -1,3 +1,5 @@
+//! Where the parts of an input's section come to lie (DWARF 5, 7.3.5.3).
+
 ghost use Rattle.std.specs.Prelude.{◌≡◌, ◌+◌, ◌<◌, ◌^◌, Ok, Result, is_some};
 ghost use Rattle.std.specs.Option.{ForSome, option_copied};
 ghost use Rattle.thorin_parts.specs.Adjusting.{

@@ -1,3 +1,5 @@
+//! Hash tables of units (DWARF 5, 7.3.5.3).
+
 ghost use Rattle.std.specs.Prelude.{◌≡◌, ◌<◌, [], length, map, IfOk, OnOk};
 ghost use Rattle.dwp_table.specs.Table.{HasSlots, IsTable};
 ghost use Rattle.thorin_faults.specs.Answers.{Gives};

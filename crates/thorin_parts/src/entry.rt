@@ -1,3 +1,5 @@
+//! The entries that an index is written of (DWARF 5, 7.3.5.3).
+
 use dwp_base::{Contribution, SectionKind};
 use dwp_bytes::Encoding;
 use dwp_table::{Bucketable, DwarfObject};

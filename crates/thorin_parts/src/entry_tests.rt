@@ -1,3 +1,5 @@
+//! What is tested of entries before an index is written of them.
+
 ghost use Rattle.std.specs.Prelude.{◌≡◌, ◌≤◌, length, All, Ok, OnOk};
 ghost use Rattle.thorin_parts.specs.Entries.{offset_or_0, size_or_0};
 ghost use Rattle.thorin_parts.specs.IndexText.{FitsRow};

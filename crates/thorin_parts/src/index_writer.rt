@@ -1,3 +1,5 @@
+//! Writing an index (DWARF 5, 7.3.5.3; the GNU page DebugFissionDWP).
+
 ghost use Rattle.std.specs.Prelude.{◌≡◌, ◌<◌, ◌≤◌, ◌^◌, ◌++◌, [], ◌∷◌, length, map, filter, All};
 ghost use Rattle.std.specs.Prelude.{IfOk, OnOk, vec_len};
 ghost use Rattle.std.specs.List.{flat_map};

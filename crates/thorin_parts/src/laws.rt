@@ -1,3 +1,5 @@
+//! What is read of written indexes and rewritten string offsets, as laws.
+
 ghost use Rattle.std.specs.Prelude.{◌≡◌, ℕ, ◌-◌, ◌*◌, ◌<◌, ◌^◌, List, ◌++◌, Ok, length};
 ghost use Rattle.std.specs.Prelude.{slice_index, take, nat_lt, if◌then◌else◌};
 ghost use Rattle.dwp_base.specs.declared.endian.Endianness.{Endianness};

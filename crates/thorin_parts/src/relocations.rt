@@ -1,3 +1,5 @@
+//! The relocations of an executable's section (ELF gABI, "Relocation").
+
 ghost use Rattle.std.specs.Prelude.{◌≡◌, [], map, IfOk, IsTrue};
 ghost use Rattle.dwp_elf_read.specs.Relocation.{relocations_of};
 ghost use Rattle.dwp_elf_read.specs.View.{elf, file, section};
