@@ -1,3 +1,5 @@
+//! Strings whose positions wait while a range is rewritten.
+
 ghost use Rattle.std.specs.Prelude.{◌≡◌, ◌≤◌, ◌<◌, ◌+◌, ◌*◌, ◌^◌, ◌++◌, ℕ, List, [], length, take};
 ghost use Rattle.std.specs.Prelude.{Ok, IfSome};
 ghost use Rattle.dwp_bytes.specs.Encoding.{offset_size};

@@ -1,3 +1,5 @@
+//! Guesses where a string stands, by its hash.
+
 ghost use Rattle.std.specs.Prelude.{◌≡◌, IfSome};
 ghost use Rattle.dwp_bytes.specs.StringOffsets.{string_from};
 ghost use Rattle.thorin_strings.specs.Strings.{IsZeroFree, BeginsAt};

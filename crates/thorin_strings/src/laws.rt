@@ -1,3 +1,5 @@
+//! What rewritten string offsets name, as a law.
+
 ghost use Rattle.std.specs.Prelude.{◌≡◌, ℕ, List, Ok};
 ghost use Rattle.dwp_base.specs.declared.endian.Endianness.{Endianness};
 ghost use Rattle.dwp_bytes.specs.declared.encoding.Encoding.{Encoding};

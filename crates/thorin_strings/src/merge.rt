@@ -1,3 +1,5 @@
+//! Entering positions at their ranks.
+
 ghost use Rattle.std.specs.Prelude.{◌≡◌, ◌≤◌, ◌<◌, ◌+◌, ◌^◌, ◌++◌, ℕ, length, All, IsPermutation};
 ghost use Rattle.std.specs.Prelude.{filter, nat_lt, IfSome, IsTrue};
 ghost use Rattle.thorin_strings.specs.Strings.{IsZeroFree, StandsAt};

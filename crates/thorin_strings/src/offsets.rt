@@ -1,3 +1,5 @@
+//! String offsets, rewritten into a table of strings (DWARF 5, 7.26).
+
 ghost use Rattle.std.specs.Prelude.{◌≡◌, ◌≤◌, ◌<◌, ◌+◌, ◌*◌, ◌^◌, ◌++◌, length, take, Ok, OnOk};
 ghost use Rattle.std.specs.Prelude.{OnErr, IfOk, IsNone, IfSome};
 ghost use Rattle.dwp_base.specs.Numbers.{number_bytes};

@@ -1,3 +1,5 @@
+//! Putting places in the order of their strings.
+
 ghost use Rattle.std.specs.Prelude.{◌<◌, ◌≤◌, length, IsPermutation};
 
 use dwp_base::Endianness;

@@ -1,3 +1,5 @@
+//! Lists of numbers, read and changed by rank.
+
 ghost use Rattle.std.specs.Prelude.{◌≡◌, ◌≤◌, ◌<◌, ◌+◌, ◌^◌, List, [], ◌++◌, All, length};
 ghost use Rattle.std.specs.Prelude.{slice_index, slice_index_or, slice_set, vec_len, insert, map};
 ghost use Rattle.std.specs.Prelude.{filter, nat_lt, take, drop, OnOk, OnErr, IfOk};

@@ -1,3 +1,5 @@
+//! The table of distinct strings of a package (DWARF 5, 7.26).
+
 ghost use Rattle.std.specs.Prelude.{◌≡◌, ◌↔◌, ◌+◌, ◌*◌, ◌<◌, ◌^◌, ◌++◌, ℕ, List, [], length, take};
 ghost use Rattle.std.specs.Prelude.{filter, nat_lt, Ok, OnOk, IfOk, IfErr, IsSome, IfSome, IsNone};
 ghost use Rattle.std.specs.Prelude.{IsTrue, Contains};

@@ -1,3 +1,5 @@
+//! Tables of strings, and string offsets that are rewritten.
+
 use crate::guess::hash_of;
 use crate::{PackageStringOffset, PackageStringTable};
 use dwp_base::Endianness;
