@@ -33,7 +33,9 @@ impl Encoding {
     }
 }
 
-/// The string at an offset of a string section, without the zero byte that ends it (DWARF 5, 7.26):
+/// The string at an offset of a string section, without the zero byte that ends it (DWARF 5, 7.26).
+///
+/// # Errors
 /// `OffsetOutOfRange` past the section's end, `NoTerminator` where no zero byte follows.
 #[tactic(auto, unfolding(crate::specs::StringOffsets::string_at))]
 pub fn string_at(section: &[u8], offset: u64) -> Result<&[u8], ReadError>
