@@ -137,7 +137,10 @@ impl AttributeSpecification {
 }
 
 impl<R: Reader> Abbreviations<R> {
-    /// The table at an offset of the section of abbreviations. OffsetOutOfRange past its end.
+    /// The table at an offset of the section of abbreviations.
+    ///
+    /// # Errors
+    /// `OffsetOutOfRange` past the section's end.
     pub fn new(section: R, offset: u64) -> Result<Abbreviations<R>, ReadError>
         ensures { Answers (table_of R.input) result (from_at offset (R.input section)) }
     {
@@ -146,8 +149,11 @@ impl<R: Reader> Abbreviations<R> {
     }
 
     /// The first declaration of a code; None where the table has none. The table is read no
-    /// further, so that faults after it don't count. ZeroTag, BadChildren, BigLeb or UnexpectedEof
-    /// for a fault before its end.
+    /// further, so that faults after it don't count.
+    ///
+    /// # Errors
+    /// `ZeroTag`, `BadChildren`, `BigLeb` or `UnexpectedEof` for a fault before the declaration and
+    /// before the table's end.
     pub fn get(&self, code: u64) -> Result<Option<Abbreviation<R>>, ReadError>
         ensures { Answers (found_of R.input) result (declaration code (table_of R.input self.now)) }
     {

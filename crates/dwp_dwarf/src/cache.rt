@@ -65,11 +65,14 @@ impl<R: Reader> AbbreviationCache<R> {
         self.section
     }
 
-    /// What `Abbreviations::get` says of a code in the table at that offset of the section, want of
-    /// memory aside: that is never met. OffsetOutOfRange past the section's end.
+    /// What `Abbreviations::get` says of a code in the table at that offset of the section.
     ///
     /// While the offset stays the same no declaration is read twice, where there is memory to
     /// remember it. Another offset forgets the table at hand.
+    ///
+    /// # Errors
+    /// `OffsetOutOfRange` past the section's end, and those of `Abbreviations::get`. Want of memory
+    /// is never met.
     pub fn get(&mut self, offset: u64, code: u64) -> Result<Option<Abbreviation<R>>, ReadError>
         ensures declared { (table : Input) → from_at offset (R.input self.old) ≡ Ok table
             → Answers (found_of R.input) result (declaration code table) }

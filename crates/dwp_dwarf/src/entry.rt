@@ -139,8 +139,10 @@ impl<R: Reader> Attribute<R> {
 
 impl<R: Reader> UnitHeader<R> {
     /// The code of the root entry, and a reader at the values of its attributes. None where no byte
-    /// is left behind the header, or the code is 0. UnexpectedEof or BigLeb for a code that can't
-    /// be read.
+    /// is left behind the header, or the code is 0.
+    ///
+    /// # Errors
+    /// `UnexpectedEof` or `BigLeb` for a code that can't be read.
     #[tactic(auto, unfolding(crate::specs::Entries::root_code_at))]
     pub fn root_code(&self) -> Result<Option<(u64, R)>, ReadError>
         ensures { Answers (root_code_of R.input) result
@@ -187,7 +189,9 @@ impl<R: Reader> Abbreviations<R> {
 }
 
 /// The root entry of a unit; None where no byte is left behind the header, or its code is 0.
-/// UnknownCode where the table doesn't have its code, and the faults of `UnitHeader::root_code` and
+///
+/// # Errors
+/// `UnknownCode` where the table doesn't have its code, and those of `UnitHeader::root_code` and
 /// `Abbreviations::get`.
 #[tactic(auto, unfolding(crate::specs::Entries::root_at))]
 pub fn root<R: Reader>(

@@ -67,9 +67,12 @@ fn indexed_string<R: Reader>(
 }
 
 /// The string of an attribute, without a zero byte at its end. `base` is where the unit's entries
-/// of `.debug_str_offsets` begin. NotAString for a form that is no string, OffsetOutOfRange for an
-/// offset past its section, NoTerminator for a string without a zero byte, UnexpectedEof for an
-/// entry past the end of its section.
+/// of `.debug_str_offsets` begin.
+///
+/// # Errors
+/// `NotAString` for a form that is no string, `OffsetOutOfRange` for an offset past its section,
+/// `NoTerminator` for a string without a zero byte, `UnexpectedEof` for an entry past the end of
+/// its section.
 #[tactic(auto, unfolding(crate::specs::Strings::string_of))]
 pub fn attr_string<R: Reader>(
     sections: &StringSections<R>,
