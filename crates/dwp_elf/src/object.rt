@@ -97,8 +97,10 @@ impl WritableObject {
     }
 
     /// Adds bytes at the end of a section's content, and tells where they are in it. The first
-    /// bytes of a kind make its section; no bytes make none. It refuses for want of memory alone,
-    /// and then changes nothing.
+    /// bytes of a kind make its section; no bytes make none.
+    ///
+    /// # Errors
+    /// `Memory` alone, and then nothing has changed.
     pub fn append(
         &mut self,
         kind: SectionKind,
@@ -127,6 +129,9 @@ impl WritableObject {
     }
 
     /// As `append`, of bytes that are moved: where they make the section, nothing is copied.
+    ///
+    /// # Errors
+    /// Those of `append`.
     pub fn append_moved(
         &mut self,
         kind: SectionKind,
@@ -162,8 +167,11 @@ impl WritableObject {
         truncate_to(&mut self.sections, sizes);
     }
 
-    /// How many bytes the file has; NumberTooLarge where one of its offsets and sizes, or the
-    /// length of an ELF 64 file, passes the limit of its class. It takes no memory.
+    /// How many bytes the file has. It takes no memory.
+    ///
+    /// # Errors
+    /// `NumberTooLarge` where one of the file's offsets and sizes, or the length of an ELF 64 file,
+    /// passes the limit of its class.
     pub fn file_size(&self) -> Result<u64, WriteError>
         ensures size { OkIff result (Fits self.now) (length (file_text self.now)) }
         ensures refused { IfErr result (λ e. e ≡ NumberTooLarge) }
@@ -171,8 +179,10 @@ impl WritableObject {
         Ok(self.places()?.size)
     }
 
-    /// The file as bytes: NumberTooLarge where `file_size` refuses, else Memory where memory runs
-    /// out. Read back, it has the contents in order under their names.
+    /// The file as bytes. Read back, it has the contents in order under their names.
+    ///
+    /// # Errors
+    /// `NumberTooLarge` where `file_size` refuses, else `Memory` where memory runs out.
     pub fn write(&self) -> Result<Vec<u8>, WriteError>
         ensures text { IfOk result (λ file. file.items ≡ file_text self.now) }
         ensures read_back { IfOk result (λ file. elf_of file.items ≡ Ok (written_elf self.now)) }
@@ -192,8 +202,9 @@ impl WritableObject {
     /// Hands the file to a writer, large contents whole. It takes no memory, and calls no `write`
     /// again that failed.
     ///
-    /// NumberTooLarge where `file_size` refuses, and then nothing is written; Io just where a write
-    /// failed or took no bytes, and then the writer has a beginning of the file.
+    /// # Errors
+    /// `NumberTooLarge` where `file_size` refuses, and then nothing is written; `Io` just where a
+    /// write failed or took no bytes, and then the writer has a beginning of the file.
     pub fn write_to<O: Output>(&self, out: &mut O) -> Result<(), WriteError>
         ensures fits { OnOk result (Fits self.now) }
         ensures text { OnOk result

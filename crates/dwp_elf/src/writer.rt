@@ -18,6 +18,9 @@ pub trait Output {
     ghost failed: { Self → ErrorKind → Type 0 };
 
     /// Takes some of the bytes, from the first on, and answers how many.
+    ///
+    /// # Errors
+    /// That of the write that failed.
     fn put(&mut self, bytes: &[u8]) -> io::Result<usize>
         ensures bound { WritesAtMost result bytes.now }
         ensures bytes { WriteAppends (contents self.old) (contents self.new) result bytes.now }
