@@ -85,8 +85,10 @@ fn content<'a>(file: &ElfFile<'a>, kind: SectionKind) -> Result<&'a [u8], ReadEr
 }
 
 impl<'a> Contents<'a> {
-    /// The contents of a file; Compressed or SectionRange for the first, in order of kind, that
-    /// can't be used.
+    /// The contents of a file.
+    ///
+    /// # Errors
+    /// `Compressed` or `SectionRange` for the first, in order of kind, that can't be used.
     #[tactic(auto, unfolding(crate::specs::Contents::contents_of))]
     pub fn read(file: &ElfFile<'a>) -> Result<Contents<'a>, ReadError>
         ensures { Answers contents_in result (contents_of (elf file.now).sections) }

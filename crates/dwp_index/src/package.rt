@@ -55,9 +55,11 @@ impl<'a> PackageFile<'a> {
     ghost use Rattle.dwp_index.specs.Entries.{units_left, entries_from};
     ghost use Rattle.dwp_index.specs.Naming.{entries_of, IsIndexOf};
 
-    /// Reads a package. `Elf` where the file, or the first section of one of the names of a
-    /// package, can't be read or is compressed; `Index` where an index is malformed, the one of
-    /// compilation units first. An empty index section is none.
+    /// Reads a package. An empty index section is none.
+    ///
+    /// # Errors
+    /// `Elf` where the file, or the first section of one of the names of a package, can't be read
+    /// or is compressed; `Index` where an index is malformed, the one of compilation units first.
     #[tactic(auto, unfolding(crate::specs::Package::package_of))]
     pub fn parse(bytes: &'a [u8]) -> Result<PackageFile<'a>, PackageError>
         ensures { Answers (λ x. x) result (package_of bytes.now) }
@@ -76,8 +78,11 @@ impl<'a> PackageFile<'a> {
     }
 
     /// The unit of an identifier, by the probing of DWARF 5, 7.3.5.3, in the index of its kind;
-    /// None where the index hasn't it. `Index` where its row is past the rows, `Range` for the
-    /// first range outside its section, `Unit` where its header can't be read.
+    /// None where the index hasn't it.
+    ///
+    /// # Errors
+    /// `Index` where its row is past the rows, `Range` for the first range outside its section,
+    /// `Unit` where its header can't be read.
     #[tactic(auto, unfolding(crate::specs::Package::found))]
     pub fn find(&self, object: DwarfObject) -> Result<Option<PackagedUnit<'a>>, PackageError>
         ensures { Answers (λ x. x) result (found self.now object) }
@@ -86,14 +91,20 @@ impl<'a> PackageFile<'a> {
         Ok(unit)
     }
 
-    /// The compilation unit of a DWO id: `find` of it, with the same refusals.
+    /// The compilation unit of a DWO id: `find` of it.
+    ///
+    /// # Errors
+    /// Those of `find`.
     pub fn find_cu(&self, id: DwoId) -> Result<Option<PackagedUnit<'a>>, PackageError>
         ensures { Answers (λ x. x) result (found self.now (Compilation id)) }
     {
         self.find(DwarfObject::Compilation(id))
     }
 
-    /// The type unit of a signature: `find` of it, with the same refusals.
+    /// The type unit of a signature: `find` of it.
+    ///
+    /// # Errors
+    /// Those of `find`.
     pub fn find_tu(
         &self,
         signature: DebugTypeSignature,
@@ -105,6 +116,9 @@ impl<'a> PackageFile<'a> {
 
     /// The unit of an identifier, and how many slots were looked at; 0 where there is no index of
     /// the kind.
+    ///
+    /// # Errors
+    /// Those of `find`.
     #[tactic(auto, unfolding(crate::specs::Package::found_counted))]
     pub fn find_counted(
         &self,

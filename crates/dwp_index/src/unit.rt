@@ -77,8 +77,11 @@ impl<'a> PackagedUnit<'a> {
     }
 
     /// The string of a number, by the unit's own encoding; None past the last whole entry of its
-    /// string offsets. OffsetOutOfRange for an offset past the strings, NoTerminator where no zero
-    /// byte ends the string.
+    /// string offsets.
+    ///
+    /// # Errors
+    /// `OffsetOutOfRange` for an offset past the strings, `NoTerminator` where no zero byte ends
+    /// the string.
     pub fn string(&self, i: u64) -> Result<Option<&'a [u8]>, ReadError>
         ensures { Answers option_copied result
             (string_in self.now.order self.now.encoding self.now.contents.strings

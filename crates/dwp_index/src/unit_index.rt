@@ -70,8 +70,11 @@ impl<'a> Model for Row<'a> {
 }
 
 impl<'a> UnitIndex<'a> {
-    /// Reads an index. It answers the first fault in order of place: UnexpectedEof, IndexVersion,
-    /// SlotCount, UnknownColumn or RepeatedColumn. Bytes after the index are passed over.
+    /// Reads an index. Bytes after the index are passed over.
+    ///
+    /// # Errors
+    /// The first fault in order of place: `UnexpectedEof`, `IndexVersion`, `SlotCount`,
+    /// `UnknownColumn` or `RepeatedColumn`.
     #[tactic(auto, unfolding(crate::specs::IndexBytes::index_of))]
     pub fn parse(bytes: &'a [u8], order: Endianness) -> Result<UnitIndex<'a>, ReadError>
         ensures { Answers (λ x. x) result (index_of order bytes.now) }
@@ -165,7 +168,10 @@ impl<'a> UnitIndex<'a> {
         (None, self.slot_count)
     }
 
-    /// The ranges of a row, counted from 1; RowOutOfRange past the rows.
+    /// The ranges of a row, counted from 1.
+    ///
+    /// # Errors
+    /// `RowOutOfRange` past the rows.
     pub fn row(&self, row: u32) -> Result<Row<'a>, ReadError>
         ensures { result ≡ row_in self.now row }
     {
