@@ -37,8 +37,11 @@ pub struct Packed {
     pub differing: Vec<DebugTypeSignature>,
 }
 
-/// Packs inputs in order, passing over those that are refused, and writes the package. Its own
-/// `Err` is want of memory for the list of outcomes, and nothing else.
+/// Packs inputs in order, passing over those that are refused, and writes the package.
+///
+/// # Errors
+/// `Memory` for the list of outcomes, and nothing else: refused inputs and a package that can't be
+/// written are told in what is packed.
 pub fn pack<'s, Sess: Session<RelocationEntry>>(
     alloc: Global,
     session: &'s Sess,
@@ -63,7 +66,10 @@ pub fn pack<'s, Sess: Session<RelocationEntry>>(
 }
 
 /// Takes an input of a list; what paths name is read by a reader, into room that is free again
-/// afterwards. The errors are those of the builder's call for such an input.
+/// afterwards.
+///
+/// # Errors
+/// Those of the builder's call for such an input.
 pub fn take_input<'o, 's: 'o, Sess: Session<RelocationEntry>, R: InputReader>(
     builder: &mut DwarfPackage<'o, 's, Sess>,
     reader: &R,
