@@ -98,8 +98,11 @@ impl<'output, 'session: 'output, Sess: Session<RelocationEntry>> DwarfPackage<
         }
     }
 
-    /// Adds the object that the session reads at a path: `ReadInput` where it can't, `Memory` where the
-    /// session has none, else as `add_object_bytes`. An `Err` leaves the package as it was.
+    /// Adds the object that the session reads at a path.
+    ///
+    /// # Errors
+    /// `ReadInput` where the session can't read it, `Memory` where it has none, else those of
+    /// `add_object_bytes`. An `Err` leaves the package as it was.
     pub fn add_input_object(&mut self, path: Path<'_>) -> Result<(), Error>
         ensures taken { TakesFile (Sess.offer self.old.session (path_bytes path.entry)) self.old.state result self.new.state }
         ensures session { self.new.session ≡ self.old.session }
@@ -110,6 +113,9 @@ impl<'output, 'session: 'output, Sess: Session<RelocationEntry>> DwarfPackage<
     }
 
     /// The same of the object that a reader reads at a path, into room that is free again afterwards.
+    ///
+    /// # Errors
+    /// Those of `add_input_object`.
     pub fn add_input_by<R: InputReader>(
         &mut self,
         reader: &R,
@@ -126,20 +132,23 @@ impl<'output, 'session: 'output, Sess: Session<RelocationEntry>> DwarfPackage<
         }
     }
 
-    /// Adds an object or a finished package: its units that aren't contained, with all that belongs to
-    /// them (DWARF 5, 7.3.5).
-    /// An object without split units' info section adds nothing and begins the package. An `Err` leaves
-    /// the package as it was; it is `Memory`, or the first fault from left to right: of the file's kind
-    /// (`ParseFileKind`, `InvalidInputKind`), the ELF file (`ParseObjectFile`), the used sections
-    /// (`DecompressData`, `ObjectRead`), the first unit (`ParseUnitHeader`, `NoCompilationUnits`), the
-    /// byte order (`MixedInputEncodings`), both indexes (`ParseIndex`, `IncompatibleIndexVersion`), each
-    /// section's kind and string offsets (`RepeatedSection`, `SectionOutsideFormat`,
-    /// `MissingRequiredSection`, `BadStringOffsets`, `OverlappingStringOffsets`, `OffsetAtIndex`,
-    /// `StrAtOffset`, `NumberTooLarge`), the abbreviations (`MissingRequiredSection`), the units in file
-    /// order: of a package a second section of units (`MultipleDebugInfoSection`,
-    /// `MultipleDebugTypesSection`), `ParseUnitHeader`, what `dwo_identifier_of_unit` answers,
-    /// `NotSplitUnit`, `DuplicateUnit`, `EmptyUnit`, and of a package `UnitNotInIndex`, `RowNotInIndex`,
-    /// `BadContribution`, `SectionNotInRow`.
+    /// Adds an object or a finished package: its units that aren't contained, with all that belongs
+    /// to them (DWARF 5, 7.3.5). An object without split units' info section adds nothing and
+    /// begins the package.
+    ///
+    /// # Errors
+    /// An `Err` leaves the package as it was; it is `Memory`, or the first fault from left to
+    /// right: of the file's kind (`ParseFileKind`, `InvalidInputKind`), the ELF file
+    /// (`ParseObjectFile`), the used sections (`DecompressData`, `ObjectRead`), the first unit
+    /// (`ParseUnitHeader`, `NoCompilationUnits`), the byte order (`MixedInputEncodings`), both
+    /// indexes (`ParseIndex`, `IncompatibleIndexVersion`), each section's kind and string offsets
+    /// (`RepeatedSection`, `SectionOutsideFormat`, `MissingRequiredSection`, `BadStringOffsets`,
+    /// `OverlappingStringOffsets`, `OffsetAtIndex`, `StrAtOffset`, `NumberTooLarge`), the
+    /// abbreviations (`MissingRequiredSection`), the units in file order: of a package a second
+    /// section of units (`MultipleDebugInfoSection`, `MultipleDebugTypesSection`),
+    /// `ParseUnitHeader`, what `dwo_identifier_of_unit` answers, `NotSplitUnit`, `DuplicateUnit`,
+    /// `EmptyUnit`, and of a package `UnitNotInIndex`, `RowNotInIndex`, `BadContribution`,
+    /// `SectionNotInRow`.
     #[tactic(auto, unfolding(crate::specs::Builder::taken))]
     pub fn add_object_bytes(&mut self, bytes: &[u8]) -> Result<(), Error>
         ensures meaning { Gives (λ _. self.new.state) result (spec.taken bytes.now self.old.state) }
@@ -186,6 +195,9 @@ impl<'output, 'session: 'output, Sess: Session<RelocationEntry>> DwarfPackage<
 
     /// The same with a reader, which reads the executable, and then each object, into room that is free
     /// again afterwards. The executable's relocations are placed in the session.
+    ///
+    /// # Errors
+    /// Those of `add_executable`.
     pub fn add_executable_by<R: InputReader>(
         &mut self,
         reader: &R,
@@ -313,10 +325,13 @@ impl<'output, 'session: 'output, Sess: Session<RelocationEntry>> DwarfPackage<
         }
     }
 
-    /// The object to be written. Refuses with `MissingReferencedUnit` for the first unit that an
-    /// executable refers to and that isn't contained, with `NoOutputObjectCreated` where no input
-    /// began a package, for the rows of each index with `NumberTooLarge`, `MixedInputEncodings` and
-    /// `SectionOutsideFormat`, as `write_index` does, and with `Memory`.
+    /// The object to be written.
+    ///
+    /// # Errors
+    /// `MissingReferencedUnit` for the first unit that an executable refers to and that isn't
+    /// contained, `NoOutputObjectCreated` where no input began a package, for the rows of each
+    /// index `NumberTooLarge`, `MixedInputEncodings` and `SectionOutsideFormat`, as `write_index`
+    /// has them, and `Memory`.
     pub fn finish(self) -> Result<WritableObject, Error>
         ensures refusal { Gives (λ _. tt) result (spec.finish_test self.entry.state) }
         ensures finished { IfOk result (IsFinishedState self.entry.state) }
