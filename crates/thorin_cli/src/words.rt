@@ -71,8 +71,10 @@ fn is_mark(byte: u8) -> bool
 
 /// The words of a text: whitespace separates them; a quotation mark, `'` or `"`, takes what stands
 /// up to the next one of its kind into the word, and a backslash the byte behind it, also between
-/// quotation marks. The text's end ends all. So linkers read what stands in the file of `@FILE`. An
-/// `Err` is want of memory.
+/// quotation marks. The text's end ends all. So linkers read what stands in the file of `@FILE`.
+///
+/// # Errors
+/// Want of memory.
 pub fn split_words(alloc: Global, text: &[u8]) -> Result<Vec<Vec<u8>>, AllocError>
     ensures { IfOk result (λ words. map (λ word. word.items) words.items ≡ words_of text.now) }
 {
