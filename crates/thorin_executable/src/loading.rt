@@ -181,9 +181,12 @@ impl<'a> DebugData<SectionReader<'a>> {
         })
     }
 
-    /// Those of the bytes of a file: `ParseObjectFile`, then of the sections of abbreviations,
-    /// units, strings of line tables, strings and offsets of strings, in this order,
-    /// `DecompressData`, `ObjectRead` and the faults of relocations.
+    /// Those of the bytes of a file.
+    ///
+    /// # Errors
+    /// `ParseObjectFile`, then of the sections of abbreviations, units, strings of line tables,
+    /// strings and offsets of strings, in this order, `DecompressData`, `ObjectRead` and the faults
+    /// of relocations; `Memory`.
     #[tactic(auto, unfolding(crate::specs::Sections::debug_data_of))]
     pub fn read<Sess: Session<RelocationEntry>>(
         alloc: Global,

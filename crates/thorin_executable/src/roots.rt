@@ -30,7 +30,10 @@ pub(crate) struct SplitAttributes<R> {
 }
 
 impl<R: Reader> SplitAttributes<R> {
-    /// Those of a unit's root entry: `NoDie` where it has none, `ParseUnit` for any fault in it.
+    /// Those of a unit's root entry.
+    ///
+    /// # Errors
+    /// `NoDie` where it has none, `ParseUnit` for any fault in it.
     #[tactic(auto, unfolding(crate::specs::Roots::root_attributes))]
     pub fn of_unit(
         debug_abbrev: &mut AbbreviationCache<R>,
