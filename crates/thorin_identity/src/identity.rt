@@ -25,9 +25,9 @@ const DW_AT_GNU_DWO_ID: u64 = 0x2131;
 /// the GNU page DebugFission). `debug_abbrev` is the section that the unit's abbreviations stand
 /// in.
 ///
-/// Refuses, for a compile unit alone, with `ParseUnitAbbreviations` (the offset is past the end, or
-/// the table has a fault), `NoDie`, `TopLevelDieNotUnit` and `GimliRead` (the root entry can't be
-/// read).
+/// # Errors
+/// For a compile unit alone: `ParseUnitAbbreviations` (the offset is past the end, or the table has
+/// a fault), `NoDie`, `TopLevelDieNotUnit` and `GimliRead` (the root entry can't be read).
 #[tactic(auto, unfolding(crate::specs::Identity::identity))]
 pub fn dwo_identifier_of_unit<R: Reader>(
     debug_abbrev: &R,
@@ -45,6 +45,9 @@ pub fn dwo_identifier_of_unit<R: Reader>(
 
 /// The same, where the section's table at hand is remembered: units that use one table, one after
 /// the other, read it once.
+///
+/// # Errors
+/// Those of `dwo_identifier_of_unit`.
 #[tactic(auto, unfolding(crate::specs::Identity::identity))]
 pub fn dwo_identifier_remembering<R: Reader>(
     debug_abbrev: &mut AbbreviationCache<R>,
