@@ -19,10 +19,11 @@ use thorin_strings::PackageStringTable;
 /// the ranges as they are. Strings that are new go last; a refusal leaves those that were added
 /// before it.
 ///
-/// Refuses, before any range is rewritten and by their places, with `BadStringOffsets` (a range is
-/// outside the section, shorter than its header, or its entries aren't whole) and
-/// `OverlappingStringOffsets` (a range begins inside the one before it); then with what
-/// `remap_str_offsets_section` refuses a range for.
+/// # Errors
+/// Before any range is rewritten and by their places, `BadStringOffsets` (a range is outside the
+/// section, shorter than its header, or its entries aren't whole) and `OverlappingStringOffsets` (a
+/// range begins inside the one before it); then what `remap_str_offsets_section` refuses a range
+/// for.
 #[tactic(auto, unfolding(crate::specs::PackagedOffsets::packaged_offsets))]
 pub fn remap_packaged_offsets(
     alloc: Global,

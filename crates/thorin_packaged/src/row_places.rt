@@ -34,8 +34,10 @@ impl<'i, 'a> Model for RowPlaces<'i, 'a> {
 }
 
 impl<'i, 'a> RowPlaces<'i, 'a> {
-    /// Goes over the rows of an index once. Without an index there are none. It refuses for want of
-    /// memory alone.
+    /// Goes over the rows of an index once. Without an index there are none.
+    ///
+    /// # Errors
+    /// `Memory` alone.
     pub fn new(
         alloc: Global,
         index: Option<&'i UnitIndex<'a>>,
