@@ -21,8 +21,10 @@ pub struct Buckets {
 }
 
 /// Places units in a hash table in their order, each at the first of its places that is unused. A
-/// look-up finds each of them where no two have one identifier. Refuses more than 1,431,655,765
-/// units with `NumberTooLarge`, and for memory alone.
+/// look-up finds each of them where no two have one identifier.
+///
+/// # Errors
+/// `NumberTooLarge` of more than 1,431,655,765 units; else `Memory` alone.
 pub fn bucket<B: Bucketable>(alloc: Global, units: &[B]) -> Result<Buckets, Error>
     ensures refusal { Gives (λ _. tt) result (count_test (length units.now)) }
     ensures table { IfOk result (λ b. IsTable (map B.identifier units.now) b.slots.items) }

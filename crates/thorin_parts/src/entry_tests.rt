@@ -30,6 +30,9 @@ pub enum PartTest {
 }
 
 /// That an index can name so many units.
+///
+/// # Errors
+/// `NumberTooLarge` of more units.
 pub fn test_count(units: usize) -> Result<(), Error>
     ensures exact { Gives (λ x. x) result (count_test units) }
     ensures few { OnOk result (units ≤ 1431655765) }
@@ -106,8 +109,11 @@ impl PartTest {
     }
 }
 
-/// Whether an index of this encoding can be written of the entries: the first fault, in the order
-/// of the tests.
+/// Whether an index of this encoding can be written of the entries.
+///
+/// # Errors
+/// The first fault, in the order of the tests: `NumberTooLarge`, `MixedInputEncodings`,
+/// `SectionOutsideFormat`, `NumberTooLarge`.
 #[tactic(auto, unfolding(crate::specs::EntryTests::tests_under))]
 pub fn test_entries(encoding: Encoding, entries: &[IndexEntry]) -> Result<(), Error>
     ensures exact { Gives (λ x. x) result (tests_under encoding entries.now) }

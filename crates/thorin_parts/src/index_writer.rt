@@ -36,10 +36,11 @@ use thorin_faults::Error;
 /// GNU page DebugFissionDWP); none where there are no entries. A look-up in it finds each entry
 /// where no two have one identifier.
 ///
-/// Refuses, in this order: `NumberTooLarge` more units than an index can name;
-/// `MixedInputEncodings` encodings that differ; `SectionOutsideFormat` a part of a section that
-/// packages of the version don't have; `NumberTooLarge` an offset past 32 bits, then a size. Beside
-/// these it refuses for memory alone.
+/// # Errors
+/// In this order: `NumberTooLarge` of more units than an index can name; `MixedInputEncodings` of
+/// encodings that differ; `SectionOutsideFormat` of a part of a section that packages of the
+/// version don't have; `NumberTooLarge` of an offset past 32 bits, then of a size. Beside these
+/// `Memory` alone.
 pub fn write_index(
     alloc: Global,
     endianness: Endianness,

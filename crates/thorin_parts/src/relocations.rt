@@ -57,11 +57,12 @@ enum Flaw {
 /// The relocations of a section of an executable, in order of place, no two at one place; the value
 /// of the symbol is added to each addend.
 ///
-/// Refuses with the first fault in file order: `ObjectRead` where a table of relocations can't be
-/// read; `UnsupportedRelocation` a type that isn't an absolute one of x86-64, i386 or AArch64;
-/// `RelocationWithInvalidSymbol` a symbol that can't be read; `MultipleRelocations` a second one at
-/// a place; in place of the last three `NamelessSection` where the section's name can't be read.
-/// Beside these it refuses for memory alone.
+/// # Errors
+/// The first fault in file order: `ObjectRead` where a table of relocations can't be read;
+/// `UnsupportedRelocation` of a type that isn't an absolute one of x86-64, i386 or AArch64;
+/// `RelocationWithInvalidSymbol` of a symbol that can't be read; `MultipleRelocations` of a second
+/// one at a place; in place of the last three `NamelessSection` where the section's name can't be
+/// read. Beside these `Memory` alone.
 pub fn add_relocations(
     alloc: Global,
     executable: &ElfFile,
