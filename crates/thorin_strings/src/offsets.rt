@@ -130,10 +130,13 @@ impl PackageStringTable {
     /// encoding. Strings that are new go last. A refusal leaves the table as it was.
     ///
     /// `section_size` is how many bytes the range has; in a file that is whole it isn't past
-    /// `debug_str_offsets`. A range of no bytes gives none. Otherwise it refuses, in this order: a
-    /// range shorter than its header (`BadStringOffsets(0)`), a length past the format's limit
-    /// (`NumberTooLarge`), and entry by entry one that can't be read (`OffsetAtIndex`), a string
-    /// that can't be read (`StrAtOffset`), an offset past the format's limit (`NumberTooLarge`).
+    /// `debug_str_offsets`. A range of no bytes gives none.
+    ///
+    /// # Errors
+    /// In this order: a range shorter than its header (`BadStringOffsets(0)`), a length past the
+    /// format's limit (`NumberTooLarge`), and entry by entry one that can't be read
+    /// (`OffsetAtIndex`), a string that can't be read (`StrAtOffset`), an offset past the format's
+    /// limit (`NumberTooLarge`); `Memory`.
     pub fn remap_str_offsets_section(
         &mut self,
         debug_str: &[u8],

@@ -201,6 +201,9 @@ impl Positions {
     }
 
     /// Puts a number at a rank, and moves those from there on up by one.
+    ///
+    /// # Errors
+    /// Want of memory, and then the list is as it was.
     pub fn insert(&mut self, rank: usize, position: u64) -> Result<(), AllocError>
         requires within { rank ≤ length self.old }
         requires small { length self.old + 1 < 2 ^ 64 }

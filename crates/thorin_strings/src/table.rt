@@ -137,8 +137,10 @@ impl PackageStringTable {
         (offset, found.compared)
     }
 
-    /// The offset of a string, which goes last where the table hasn't it. Refuses for want of
-    /// memory alone, and then leaves the table as it was.
+    /// The offset of a string, which goes last where the table hasn't it.
+    ///
+    /// # Errors
+    /// `Memory` alone, and then the table is as it was.
     pub fn get_or_insert(&mut self, string: &[u8]) -> Result<PackageStringOffset, Error>
         requires { IsZeroFree string.now }
         ensures offset { IfOk result (λ o. o.0 ≡ offset_of self.old string.now) }
