@@ -8,13 +8,14 @@ use Rattle.dwp_elf_read.specs.declared.section.Sections.{Sections}
 use Rattle.dwp_elf_read.specs.declared.relocation.RawRelocation.{RawRelocation}
 use Rattle.dwp_elf_read.specs.declared.table.Table.{Table}
 use Rattle.dwp_elf_read.specs.declared.relocations.Relocations.{Relocations}
-use Rattle.dwp_elf_read.specs.Elf.{Elf, SectionMeaning, sections_from, section_of, header_at}
+use Rattle.dwp_elf_read.specs.Elf.{Elf, SectionMeaning, sections_from, section_of}
+use Rattle.dwp_elf_read.specs.Elf.{section_header_at}
 use Rattle.dwp_elf_read.specs.Relocation.{entries_from, relocations_in}
 
 -- the i-th section of a file
 abbrev pub nth : ElfFile → ℕ → SectionMeaning
 nth f i = section_of f.image.bytes.now (option_copied f.names) i
-    (header_at f.image.class f.image.order f.image.bytes.now f.table i)
+    (section_header_at f.image.class f.image.order f.image.bytes.now f.table i)
 
 -- the sections of a file from number i on
 unfoldable pub sections_after : ElfFile → ℕ → List SectionMeaning

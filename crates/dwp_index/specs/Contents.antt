@@ -72,25 +72,25 @@ bytes_of kind None = Ok []
 bytes_of kind (Some section) = used_bytes kind section
 
 -- the content of the first section of a kind that has bytes
-unfoldable pub content_of : List SectionMeaning → SectionKind → Result (List ℕ) ReadError
-content_of sections kind = bytes_of kind (find (is_of_kind kind) sections)
+unfoldable pub content_among : List SectionMeaning → SectionKind → Result (List ℕ) ReadError
+content_among sections kind = bytes_of kind (find (is_of_kind kind) sections)
 
 -- that of each kind
 unfoldable pub contents_of : List SectionMeaning → Result Sections ReadError
 contents_of sections = do
-  info ← content_of sections Info
-  types ← content_of sections Types
-  abbrev_bytes ← content_of sections Abbrev
-  line ← content_of sections Line
-  loc ← content_of sections Loc
-  loclists ← content_of sections Loclists
-  rnglists ← content_of sections Rnglists
-  str_offsets ← content_of sections StrOffsets
-  macinfo ← content_of sections Macinfo
-  macros ← content_of sections Macro
-  strings ← content_of sections Str
-  cu_index ← content_of sections CuIndex
-  tu_index ← content_of sections TuIndex
+  info ← content_among sections Info
+  types ← content_among sections Types
+  abbrev_bytes ← content_among sections Abbrev
+  line ← content_among sections Line
+  loc ← content_among sections Loc
+  loclists ← content_among sections Loclists
+  rnglists ← content_among sections Rnglists
+  str_offsets ← content_among sections StrOffsets
+  macinfo ← content_among sections Macinfo
+  macros ← content_among sections Macro
+  strings ← content_among sections Str
+  cu_index ← content_among sections CuIndex
+  tu_index ← content_among sections TuIndex
   Ok (record {
     info = info;
     types = types;

@@ -16,6 +16,6 @@ entries_of ids signatures =
     map compilation_entry (numbered 1 ids) ++ map type_entry (numbered 1 signatures)
 
 -- an index is one of these distinct identifiers; without an index there are none
-abbrev pub IsIndexOf : Option Index → List ℕ → Type 0
-IsIndexOf None ids = ids ≡ []
-IsIndexOf (Some index) ids = IsIndex ids index.signatures index.rows
+abbrev pub IsIndexOfIds : Option Index → List ℕ → Type 0
+IsIndexOfIds None ids = ids ≡ []
+IsIndexOfIds (Some index) ids = IsIndex ids index.signatures index.rows

@@ -5,7 +5,7 @@ ghost use Rattle.std.specs.List.{find};
 ghost use Rattle.dwp_base.specs.Reading.{Answers};
 ghost use Rattle.dwp_elf_read.specs.View.{elf, section};
 ghost use Rattle.dwp_index.specs.Contents.{content, is_of_kind, has_older_name, used_bytes};
-ghost use Rattle.dwp_index.specs.Contents.{content_of, contents_of};
+ghost use Rattle.dwp_index.specs.Contents.{content_among, contents_of};
 ghost use Rattle.dwp_index.specs.ContentFields.{contents_in};
 
 use dwp_base::SectionKind;
@@ -74,9 +74,9 @@ fn first_section<'a>(file: &ElfFile<'a>, kind: SectionKind) -> Option<Section<'a
 }
 
 /// The content of the first section of a kind.
-#[tactic(auto, unfolding(crate::specs::Contents::content_of))]
+#[tactic(auto, unfolding(crate::specs::Contents::content_among))]
 fn content<'a>(file: &ElfFile<'a>, kind: SectionKind) -> Result<&'a [u8], ReadError>
-    ensures { Answers (λ bytes. bytes.now) result (content_of (elf file.now).sections kind) }
+    ensures { Answers (λ bytes. bytes.now) result (content_among (elf file.now).sections kind) }
 {
     match first_section(file, kind) {
         None => Ok(&[]),

@@ -24,7 +24,7 @@ ghost use Rattle.dwp_index.specs.Entries.{entries_from};
 ghost use Rattle.dwp_index.specs.Used.{used_in};
 ghost use Rattle.dwp_index.specs.Finding.{unit_of, HasIndex, IsUnitOf, IsNotNamed, GivesWithin};
 ghost use Rattle.dwp_index.specs.Holding.{HasContent, HoldsInOrder, held_of, sections_of};
-ghost use Rattle.dwp_index.specs.Naming.{numbered, entries_of, IsIndexOf};
+ghost use Rattle.dwp_index.specs.Naming.{numbered, entries_of, IsIndexOfIds};
 
 use dwp_dwarf::units_have_all_bytes;
 use dwp_table::look_up_finds_exactly;
@@ -85,8 +85,8 @@ pub fn units_are_named_once()
         → IsIndex ids index.signatures index.rows
         → IsPermutation (numbered 1 ids) (used_in index 0) }
     ensures package { (compilations types : Option Index) (ids signatures : List ℕ)
-        → IsIndexOf compilations ids
-        → IsIndexOf types signatures
+        → IsIndexOfIds compilations ids
+        → IsIndexOfIds types signatures
         → IsPermutation (entries_of ids signatures) (entries_from compilations types 0 0) }
 {}
 

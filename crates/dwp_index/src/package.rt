@@ -53,7 +53,7 @@ impl<'a> Model for PackageFile<'a> {
 impl<'a> PackageFile<'a> {
     ghost use Rattle.std.specs.List.Sorted.{IsPermutation};
     ghost use Rattle.dwp_index.specs.Entries.{units_left, entries_from};
-    ghost use Rattle.dwp_index.specs.Naming.{entries_of, IsIndexOf};
+    ghost use Rattle.dwp_index.specs.Naming.{entries_of, IsIndexOfIds};
 
     /// Reads a package. An empty index section is none.
     ///
@@ -155,8 +155,8 @@ impl<'a> PackageFile<'a> {
         ensures slots { units_left result ≡ entries_from self.now.compilations self.now.types 0 0 }
 
         // In tables of distinct identifiers: each one once, with the number of its row.
-        ensures once { (ids signatures : List ℕ) → IsIndexOf self.now.compilations ids
-            → IsIndexOf self.now.types signatures
+        ensures once { (ids signatures : List ℕ) → IsIndexOfIds self.now.compilations ids
+            → IsIndexOfIds self.now.types signatures
             → IsPermutation (entries_of ids signatures) (units_left result) }
     {
         Units {

@@ -15,7 +15,7 @@ pub record IsPlacedAfter (rows : List ℕ) (x r i : ℕ) : Type 0 where
 
 -- the rows of a table in which the identifiers were placed in order, the first as row 1;
 -- how many slots it has is said apart
-pub record IsTable (ids rows : List ℕ) : Type 0 where
+pub record IsHashTable (ids rows : List ℕ) : Type 0 where
   pub power : IsTrue (is_power_of_two (length rows))
   pub room : length ids < length rows
   pub small : length rows < 2 ^ 32
@@ -48,7 +48,7 @@ AreDistinct ids =
 
 -- the slots of an index of distinct identifiers
 pub record IsIndex (ids signatures rows : List ℕ) : Type 0 where
-  pub table : IsTable ids rows
+  pub table : IsHashTable ids rows
   pub distinct : AreDistinct ids
   pub beside : (k : ℕ) → k < length rows
       → slice_index signatures k ≡ signature_of ids (slice_index rows k)

@@ -4,7 +4,7 @@ ghost use Rattle.std.specs.Prelude.{◌≡◌, ℕ, List, [], length, ◌+◌, �
 ghost use Rattle.std.specs.Prelude.{replicate};
 ghost use Rattle.std.specs.Int.{is_power_of_two};
 ghost use Rattle.dwp_table.specs.Probing.{found_row, look_count};
-ghost use Rattle.dwp_table.specs.Table.{IsTable, IsIndex, FindsExactly, VisitsEachOnce};
+ghost use Rattle.dwp_table.specs.Table.{IsHashTable, IsIndex, FindsExactly, VisitsEachOnce};
 
 /// The law of probing: an odd step modulo a power of two visits every slot once. It does nothing.
 pub fn odd_step_visits_every_slot()
@@ -27,5 +27,5 @@ pub fn look_up_finds_exactly()
 /// The law of the empty table: unused slots are a table of no identifiers. It does nothing.
 pub fn unused_slots_are_a_table()
     ensures { (size : ℕ) → IsTrue (is_power_of_two size) → size < 2 ^ 32
-        → IsTable [] (replicate size 0) }
+        → IsHashTable [] (replicate size 0) }
 {}

@@ -31,7 +31,7 @@ pub(crate) enum DebugSection {
 
 impl DebugSection {
     fn name(self) -> &'static str
-        ensures { result.now ≡ spec.name_of self }
+        ensures { result.now ≡ spec.debug_name_of self }
     {
         match self {
             DebugSection::Abbrev => ".debug_abbrev",
@@ -44,7 +44,7 @@ impl DebugSection {
 
     // The older name of a section whose content is compressed.
     fn compressed_name(self) -> &'static str
-        ensures { result.now ≡ spec.compressed_name_of self }
+        ensures { result.now ≡ spec.compressed_debug_name_of self }
     {
         match self {
             DebugSection::Abbrev => ".zdebug_abbrev",
@@ -107,9 +107,9 @@ fn find_section<'a>(file: &ElfFile<'a>, kind: DebugSection) -> Option<Section<'a
 
 // The content of a section: `DecompressData` where it is compressed, `ObjectRead` where it is
 // outside the file.
-#[tactic(auto, unfolding(crate::specs::Sections::content_of))]
+#[tactic(auto, unfolding(crate::specs::Sections::debug_content))]
 fn content<'a>(section: &Section<'a>, kind: DebugSection) -> Result<&'a [u8], Error>
-    ensures { Gives (λ bytes. bytes.now) result (spec.content_of kind (meaning section.now)) }
+    ensures { Gives (λ bytes. bytes.now) result (spec.debug_content kind (meaning section.now)) }
 {
     if section.is_compressed() || kind.is_older_name_of(section) {
         return Err(Error::DecompressData(ReadError::Compressed));

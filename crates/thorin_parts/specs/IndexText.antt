@@ -8,7 +8,7 @@ use Rattle.dwp_base.specs.declared.section.SectionKind.{SectionKind}
 use Rattle.dwp_base.specs.declared.section.Contribution.{Contribution}
 use Rattle.dwp_base.specs.Numbers.{number_bytes}
 use Rattle.dwp_table.specs.Objects.{identifier_of}
-use Rattle.dwp_table.specs.Table.{IsTable, HasSlots, signature_of}
+use Rattle.dwp_table.specs.Table.{IsHashTable, HasSlots, signature_of}
 use Rattle.thorin_parts.specs.declared.entry.IndexEntry.{IndexEntry}
 use Rattle.dwp_table.specs.Columns.{column_of, contribution_kinds}
 use Rattle.dwp_bytes.specs.Encoding.{index_version_of}
@@ -69,7 +69,7 @@ index_bytes order version kinds entries rows =
 pub record IsIndexText (order : Endianness) (version : ℕ) (entries : List IndexEntry)
     (bytes : List ℕ) : Type 0 where
   pub rows : List ℕ
-  pub table : IsTable (entry_ids entries) rows
+  pub table : IsHashTable (entry_ids entries) rows
   pub slots : HasSlots (length entries) (length rows)
   pub text : bytes ≡ index_bytes order version (used_sections entries) entries rows
 

@@ -1,7 +1,7 @@
 //! Hash tables of units (DWARF 5, 7.3.5.3).
 
 ghost use Rattle.std.specs.Prelude.{◌≡◌, ◌<◌, [], length, map, IfOk, OnOk};
-ghost use Rattle.dwp_table.specs.Table.{HasSlots, IsTable};
+ghost use Rattle.dwp_table.specs.Table.{HasSlots, IsHashTable};
 ghost use Rattle.thorin_faults.specs.Answers.{Gives};
 ghost use Rattle.thorin_parts.specs.Buckets.{IsLooked};
 ghost use Rattle.thorin_parts.specs.EntryTests.{count_test};
@@ -27,7 +27,7 @@ pub struct Buckets {
 /// `NumberTooLarge` of more than 1,431,655,765 units; else `Memory` alone.
 pub fn bucket<B: Bucketable>(alloc: Global, units: &[B]) -> Result<Buckets, Error>
     ensures refusal { Gives (λ _. tt) result (count_test (length units.now)) }
-    ensures table { IfOk result (λ b. IsTable (map B.identifier units.now) b.slots.items) }
+    ensures table { IfOk result (λ b. IsHashTable (map B.identifier units.now) b.slots.items) }
     ensures slots { IfOk result (λ b. HasSlots (length units.now) (length b.slots.items)) }
     ensures looked { IfOk result (λ b.
         IsLooked (map B.identifier units.now) b.slots.items b.looked.items) }
@@ -46,10 +46,10 @@ fn place_units<B: Bucketable>(
     slots: &mut [u32],
     looked: &mut Vec<u32>,
 ) -> Result<(), AllocError>
-    requires unused { IsTable [] slots.old }
+    requires unused { IsHashTable [] slots.old }
     requires room { length units.now < length slots.old }
     requires none_looked { looked.old.items ≡ [] }
-    ensures table { OnOk result (IsTable (map B.identifier units.now) slots.new) }
+    ensures table { OnOk result (IsHashTable (map B.identifier units.now) slots.new) }
     ensures looked { OnOk result
         (IsLooked (map B.identifier units.now) slots.new looked.new.items) }
 {
