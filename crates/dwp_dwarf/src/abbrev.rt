@@ -11,7 +11,8 @@ ghost use Rattle.dwp_dwarf.specs.Declarations.{found_of};
 
 use crate::form::IMPLICIT_CONST;
 use crate::offset::from_offset;
-use dwp_bytes::{ReadError, Reader, lebs_take_bytes};
+use dwp_bytes::laws::lebs_take_bytes;
+use dwp_bytes::{ReadError, Reader};
 
 /// An attribute and its form, as an abbreviation lists them.
 #[derive(Clone, Copy, Debug)]

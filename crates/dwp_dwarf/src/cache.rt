@@ -14,7 +14,8 @@ ghost use Rattle.dwp_dwarf.specs.Remembered.{next_of, remembered};
 
 use crate::abbrev::{Abbreviation, Abbreviations, read_code, read_declaration};
 use crate::offset::from_offset;
-use dwp_bytes::{ReadError, Reader, lebs_take_bytes};
+use dwp_bytes::laws::lebs_take_bytes;
+use dwp_bytes::{ReadError, Reader};
 use std::alloc::Global;
 use std::collections::BTreeMap;
 use std::marker::Model;

@@ -17,7 +17,8 @@ use crate::abbrev::{
 use crate::form::{DATA1, DATA2, DATA4, DATA8, SEC_OFFSET, UDATA};
 use crate::unit::UnitHeader;
 use crate::value::{named_form, read_value};
-use dwp_bytes::{Encoding, Format, ReadError, Reader, lebs_take_bytes};
+use dwp_bytes::laws::lebs_take_bytes;
+use dwp_bytes::{Encoding, Format, ReadError, Reader};
 
 /// An attribute of an entry (DWARF 5, 7.5.4 and 7.5.5).
 #[derive(Clone, Copy, Debug)]

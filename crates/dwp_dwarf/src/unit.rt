@@ -6,7 +6,6 @@ ghost use Rattle.dwp_base.specs.Reading.{Answers, Reads};
 ghost use Rattle.dwp_dwarf.specs.Units.{initial_length_at, address_size_at, type_at, older_type_at};
 ghost use Rattle.dwp_dwarf.specs.Units.{unit_code_at, unit_type_at, older_at, newer_at, header_at};
 ghost use Rattle.dwp_dwarf.specs.Units.{unit_at, units, units_left, unit_of, unit_seen};
-ghost use Rattle.dwp_dwarf.specs.Units.{UnitsAreTaken, UnitsAreSection, FaultIsNext, UnitsAreOne};
 
 use dwp_bytes::{Encoding, Format, ReadError, Reader};
 
@@ -343,13 +342,3 @@ impl<R: Reader> Iterator for UnitHeaders<R> {
         Some(unit)
     }
 }
-
-/// The units of a section have all its bytes, each byte once and in order; where one can't be read,
-/// all bytes before it. There is no other list of units that goes from the section's start to its
-/// end. A unit has the bytes that reading it takes, at least one. It does nothing.
-pub fn units_have_all_bytes()
-    ensures taken { UnitsAreTaken }
-    ensures whole { UnitsAreSection }
-    ensures fault { FaultIsNext }
-    ensures one { UnitsAreOne }
-{}

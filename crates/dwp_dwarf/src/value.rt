@@ -7,7 +7,8 @@ ghost use Rattle.dwp_dwarf.specs.Forms.{block_length_at, text_at, past_value, va
 ghost use Rattle.dwp_dwarf.specs.Forms.{named_form_at};
 
 use crate::form::*;
-use dwp_bytes::{Encoding, ReadError, Reader, lebs_take_bytes};
+use dwp_bytes::laws::lebs_take_bytes;
+use dwp_bytes::{Encoding, ReadError, Reader};
 
 /// The size of a value that has one of its own.
 fn fixed_size(form: u64) -> Option<u8>

@@ -26,8 +26,8 @@ ghost use Rattle.dwp_index.specs.Finding.{unit_of, HasIndex, IsUnitOf, IsNotName
 ghost use Rattle.dwp_index.specs.Holding.{HasContent, HoldsInOrder, held_of, sections_of};
 ghost use Rattle.dwp_index.specs.Naming.{numbered, entries_of, IsIndexOfIds};
 
-use dwp_dwarf::units_have_all_bytes;
-use dwp_table::look_up_finds_exactly;
+use dwp_dwarf::laws::units_have_all_bytes;
+use dwp_table::laws::look_up_finds_exactly;
 
 /// The law of packages: where the index of a kind is one of distinct identifiers, the unit of each
 /// is found, after at most as many slots as its row's number, if its ranges lie inside their

@@ -13,7 +13,8 @@ use crate::parsing::{
 };
 use dwp_base::{Contribution, ContributionOffset, Endianness, SectionKind};
 use dwp_bytes::ReadError;
-use dwp_table::{column_of, first_place, look_up_finds_exactly, place_after};
+use dwp_table::laws::look_up_finds_exactly;
+use dwp_table::{column_of, first_place, place_after};
 use std::marker::Model;
 
 /// An index of a package: a hash table from identifiers to rows, and for each row its ranges in the

@@ -18,7 +18,7 @@ ghost use Rattle.thorin_builder.specs.Represents.{IsSoundBegun};
 ghost use Rattle.thorin_builder.specs.State.{InProgress};
 
 use crate::joins::inputs_are_joined;
-use thorin_parts::written_index_is_read;
+use thorin_parts::laws::written_index_is_read;
 
 /// The law of the one encoding: where the inputs of a builder have one, there are units, and all of them
 /// come from inputs of it; an input that is taken keeps that so. It does nothing.

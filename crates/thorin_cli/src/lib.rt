@@ -6,6 +6,7 @@ mod command;
 mod find;
 mod identifier;
 mod input;
+pub mod laws;
 mod list;
 mod output;
 mod pack;
@@ -24,7 +25,7 @@ use output::{report, show};
 use pack::Packing;
 use std::convert::AsStr;
 use std::io::Write;
-pub use words::{quoted_words_are_read, split_words};
+pub use words::split_words;
 
 /// Does what a command line asks for: `words` are the program's name and its arguments, where
 /// `@FILE` stands for the words of a file. What is printed goes to `out`, and a fault as one line

@@ -20,7 +20,8 @@ use dwp_table::DebugTypeSignature;
 use std::alloc::{AllocError, Global};
 use std::io::Write;
 use std::path::Path;
-use thorin::{DwarfPackage, Input, runs_go_on, take_input};
+use thorin::laws::runs_go_on;
+use thorin::{DwarfPackage, Input, take_input};
 use thorin_faults::{ArenaSession, MissingReferencedObjectBehaviour, Session};
 
 /// What is to be packed, and where to.

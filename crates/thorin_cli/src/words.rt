@@ -1,8 +1,7 @@
 //! The words of a text, as linkers read those of a response file.
 
-ghost use Rattle.std.specs.Prelude.{◌≡◌, ℕ, List, map, IfOk};
+ghost use Rattle.std.specs.Prelude.{◌≡◌, map, IfOk};
 ghost use Rattle.thorin_cli.specs.Words.{behind, keeps, is_between, is_space, is_mark, words_of};
-ghost use Rattle.thorin_cli.specs.Words.{quoted};
 
 use std::alloc::{AllocError, Global};
 use std::mem;
@@ -95,9 +94,3 @@ pub fn split_words(alloc: Global, text: &[u8]) -> Result<Vec<Vec<u8>>, AllocErro
     }
     Ok(words)
 }
-
-/// Law: each list of words is read from the text that has each of them between quotation marks,
-/// with a backslash before each byte, and a blank behind it.
-pub fn quoted_words_are_read()
-    ensures { (words : List (List ℕ)) → words_of (quoted words) ≡ words }
-{}

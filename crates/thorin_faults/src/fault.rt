@@ -16,8 +16,6 @@ use std::io;
 mod tests;
 mod text;
 
-pub use text::every_fault_has_a_text;
-
 /// What a call of the package builder answers, where no other fault is named.
 pub type Result<T, E = Error> = std::result::Result<T, E>;
 

@@ -11,8 +11,8 @@ ghost use Rattle.thorin_packaged.specs.PackagedOffsets.{packaged_offsets};
 ghost use Rattle.thorin_packaged.specs.PackagedReading.{PackageReadsAlike};
 ghost use Rattle.thorin_packaged.specs.RowPlaces.{IsFirstWith, row_by_place};
 
-use thorin_parts::rewritten_strings_are_read_alike;
-use thorin_strings::rewritten_offsets_name_the_same;
+use thorin_parts::laws::rewritten_strings_are_read_alike;
+use thorin_strings::laws::rewritten_offsets_name_the_same;
 
 /// A row that is found by its range in a section has that range, and no row before it has. It does
 /// nothing.

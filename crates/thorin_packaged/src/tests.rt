@@ -1,5 +1,8 @@
 //! Rows by place, and string offsets of packages that are rewritten.
 
+use super::laws::{
+    every_row_is_found_by_place, packaged_rows_are_read_alike, rows_are_found_by_place,
+};
 use super::*;
 use dwp_base::{Contribution, ContributionOffset, Endianness, SectionKind};
 use dwp_bytes::{Encoding, Format, ReadError};

@@ -7,7 +7,8 @@ ghost use Rattle.thorin_parts.specs.Buckets.{IsLooked};
 ghost use Rattle.thorin_parts.specs.EntryTests.{count_test};
 
 use crate::entry_tests::test_count;
-use dwp_table::{Bucketable, place_row, slot_count, unused_slots_are_a_table};
+use dwp_table::laws::unused_slots_are_a_table;
+use dwp_table::{Bucketable, place_row, slot_count};
 use std::alloc::{AllocError, Global};
 use thorin_faults::Error;
 

@@ -18,7 +18,7 @@ ghost use Rattle.thorin_parts.specs.ReadStrings.{ReadsAlike};
 ghost use Rattle.thorin_strings.specs.StringOffsets.{remapped};
 ghost use Rattle.thorin_strings.specs.Strings.{IsTable, data_of};
 
-use thorin_strings::rewritten_offsets_name_the_same;
+use thorin_strings::laws::rewritten_offsets_name_the_same;
 
 /// An index that was written of entries that passed the tests is read as the index with a row for
 /// each entry, in their order. Identifiers have 64 bits. It does nothing.

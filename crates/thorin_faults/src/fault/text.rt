@@ -1,8 +1,6 @@
-//! The texts of faults, and the law that each has one.
+//! The texts of faults.
 
-ghost use Rattle.std.specs.Prelude.{◌≡◌, false, IsSome};
-ghost use Rattle.thorin_faults.specs.Fault.{Fault};
-ghost use Rattle.thorin_faults.specs.Text.{fault_text, is_passed_on};
+ghost use Rattle.thorin_faults.specs.Text.{fault_text};
 
 use super::Error;
 use std::fmt;
@@ -164,8 +162,3 @@ impl Error {
         }
     }
 }
-
-/// The law of texts: each fault has one, but those that only pass on a cause. It does nothing.
-pub fn every_fault_has_a_text()
-    ensures { (fault : Fault) → is_passed_on fault ≡ false → IsSome (fault_text fault) }
-{}
