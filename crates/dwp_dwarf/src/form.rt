@@ -28,7 +28,7 @@ pub(crate) enum BlockLength {
     Leb,
 }
 
-// The forms (DWARF 5, 7.5.6; the GNU forms of split DWARF and of supplementary files).
+/// The forms (DWARF 5, 7.5.6; the GNU forms of split DWARF and of supplementary files).
 pub(crate) const ADDR: u64 = 0x01;
 
 pub(crate) const BLOCK2: u64 = 0x03;

@@ -167,7 +167,7 @@ impl<'a> PackageFile<'a> {
         }
     }
 
-    // The index of the units of a kind.
+    /// The index of the units of a kind.
     fn index_for(&self, object: DwarfObject) -> Option<&UnitIndex<'a>>
         ensures { option_copied result ≡ index_for self.now object }
     {
@@ -177,7 +177,7 @@ impl<'a> PackageFile<'a> {
         }
     }
 
-    // The unit of a row number.
+    /// The unit of a row number.
     #[tactic(auto, unfolding(crate::specs::Package::unit_at_row))]
     fn unit_at_row(
         &self,
@@ -193,7 +193,7 @@ impl<'a> PackageFile<'a> {
         Ok((Some(unit), count))
     }
 
-    // The unit of a row.
+    /// The unit of a row.
     #[tactic(auto, unfolding(crate::specs::Package::unit_in))]
     fn unit_in(
         &self,
@@ -239,7 +239,7 @@ fn read_contents<'a>(file: &ElfFile<'a>) -> Result<Contents<'a>, PackageError>
     }
 }
 
-// The index in a section's content; none in an empty one.
+/// The index in a section's content; none in an empty one.
 #[tactic(auto, unfolding(crate::specs::Package::index_in_section))]
 fn read_index<'a>(bytes: &'a [u8], order: Endianness) -> Result<Option<UnitIndex<'a>>, PackageError>
     ensures { Answers (λ x. x) result (index_in_section order bytes.now) }
@@ -275,7 +275,7 @@ fn read_encoding(
     }
 }
 
-// The first section, in the order of columns, that a range of the row isn't inside of.
+/// The first section, in the order of columns, that a range of the row isn't inside of.
 #[tactic(auto, unfolding(crate::specs::Package::first_outside))]
 fn first_outside(contents: &Contents<'_>, row: &Row<'_>) -> Option<SectionKind>
     ensures { result ≡ first_outside (contents_in contents.now) row.now }

@@ -42,7 +42,7 @@ pub fn pack_groups<'s, Sess: Session<RelocationEntry>>(
     pack_alone(alloc, session, &packages)
 }
 
-// Packs inputs into a package of their own, up to the first refusal.
+/// Packs inputs into a package of their own, up to the first refusal.
 fn pack_alone<'s, Sess: Session<RelocationEntry>>(
     alloc: Global,
     session: &'s Sess,

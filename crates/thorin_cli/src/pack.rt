@@ -60,7 +60,7 @@ impl<'m, 'a> Packing<'m, 'a> {
         }
     }
 
-    // The name of the package's file.
+    /// The name of the package's file.
     fn output_name(&self, rt: &HostRuntime) -> Result<String, Failure> {
         match (self.output, self.executables) {
             (Some(output), _) => Ok(String::from_str(rt.alloc(), output)?),
@@ -87,7 +87,7 @@ pub(crate) fn pack<E: Write>(
     Ok(0)
 }
 
-// The objects, and then the executables.
+/// The objects, and then the executables.
 fn inputs_of<'a>(
     alloc: Global,
     objects: &[&'a str],
@@ -107,8 +107,8 @@ fn inputs_of<'a>(
     Ok(inputs)
 }
 
-// The object to be written, and the signatures of type units that were passed over and differ from
-// the ones kept.
+/// The object to be written, and the signatures of type units that were passed over and differ from
+/// the ones kept.
 fn packed<E: Write>(
     rt: &HostRuntime,
     inputs: &[Input<'_>],
@@ -127,7 +127,7 @@ fn packed<E: Write>(
     Ok((object, differing))
 }
 
-// The object of the package.
+/// The object of the package.
 fn finished<'o, 's: 'o, Sess: Session<RelocationEntry>>(
     builder: DwarfPackage<'o, 's, Sess>,
 ) -> Result<WritableObject, Failure>
@@ -137,7 +137,7 @@ fn finished<'o, 's: 'o, Sess: Session<RelocationEntry>>(
     Ok(builder.finish()?)
 }
 
-// Takes the inputs in order, up to the first that is refused.
+/// Takes the inputs in order, up to the first that is refused.
 fn take_all<'o, 's: 'o, Sess: Session<RelocationEntry>, E: Write>(
     rt: &HostRuntime,
     builder: &mut DwarfPackage<'o, 's, Sess>,
@@ -156,7 +156,7 @@ fn take_all<'o, 's: 'o, Sess: Session<RelocationEntry>, E: Write>(
     Ok(())
 }
 
-// Takes an input, and tells what came of it where that is asked for.
+/// Takes an input, and tells what came of it where that is asked for.
 fn take<'o, 's: 'o, Sess: Session<RelocationEntry>, E: Write>(
     rt: &HostRuntime,
     builder: &mut DwarfPackage<'o, 's, Sess>,

@@ -18,7 +18,7 @@ enum Place {
 }
 
 impl Place {
-    // The place behind a byte.
+    /// The place behind a byte.
     fn behind(self, byte: u8) -> Place
         ensures { result ≡ behind self byte }
     {
@@ -37,7 +37,7 @@ impl Place {
         }
     }
 
-    // Whether a byte at this place belongs to the word.
+    /// Whether a byte at this place belongs to the word.
     fn keeps(self, byte: u8) -> bool
         ensures { result ≡ keeps self byte }
     {
@@ -55,7 +55,7 @@ impl Place {
     }
 }
 
-// A blank, or one of the five control characters from the tabulator to the carriage return.
+/// A blank, or one of the five control characters from the tabulator to the carriage return.
 fn is_space(byte: u8) -> bool
     ensures { result ≡ is_space byte }
 {

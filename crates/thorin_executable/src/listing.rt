@@ -36,8 +36,8 @@ pub struct SkeletonList {
     pub fault: Option<Error>,
 }
 
-// The split unit of this identity, and the path of its object; none for a type unit that names no
-// object.
+/// The split unit of this identity, and the path of its object; none for a type unit that names no
+/// object.
 #[tactic(auto, unfolding(crate::specs::Skeletons::named_in))]
 fn named_unit<R: Reader>(
     alloc: Global,
@@ -63,7 +63,7 @@ fn named_unit<R: Reader>(
     }
 }
 
-// The split unit that a unit stands for, if it does.
+/// The split unit that a unit stands for, if it does.
 #[tactic(auto, unfolding(crate::specs::Skeletons::skeleton_of))]
 fn skeleton_of<R: Reader>(
     alloc: Global,
@@ -82,7 +82,7 @@ fn skeleton_of<R: Reader>(
     }
 }
 
-// Adds the split unit that the unit read next stands for, if it does.
+/// Adds the split unit that the unit read next stands for, if it does.
 #[tactic(auto, unfolding(crate::specs::Skeletons::skeleton_read, crate::specs::Skeletons::with_read))]
 fn add_read<R: Reader>(
     alloc: Global,
@@ -104,7 +104,7 @@ fn add_read<R: Reader>(
     Ok(())
 }
 
-// The split units that the units of an executable stand for.
+/// The split units that the units of an executable stand for.
 fn units_named<R: Reader>(alloc: Global, debug: &DebugData<R>) -> SkeletonList
     ensures exact { UnlessMemory result.fault (spec.skeletons_from (data_of R.input debug.now)
         (units Info (R.input debug.now.debug_info)) ≡ listed result) }

@@ -42,7 +42,7 @@ impl DebugSection {
         }
     }
 
-    // The older name of a section whose content is compressed.
+    /// The older name of a section whose content is compressed.
     fn compressed_name(self) -> &'static str
         ensures { result.now ≡ spec.compressed_debug_name_of self }
     {
@@ -55,7 +55,7 @@ impl DebugSection {
         }
     }
 
-    // Whether a section is of this kind, in either spelling, and isn't empty.
+    /// Whether a section is of this kind, in either spelling, and isn't empty.
     #[tactic(auto, unfolding(crate::specs::Sections::is_used))]
     fn is_kind_of(self, section: &Section<'_>) -> bool
         ensures { result ≡ spec.is_used self (meaning section.now) }
@@ -69,7 +69,7 @@ impl DebugSection {
         }
     }
 
-    // Whether a section has the older name of this kind.
+    /// Whether a section has the older name of this kind.
     fn is_older_name_of(self, section: &Section<'_>) -> bool
         ensures { result
             ≡ option_map_or (spec.is_older_name self) (meaning section.now).name false }
@@ -90,7 +90,7 @@ pub(crate) struct DebugData<R> {
     pub strings: StringSections<R>,
 }
 
-// The first section of a kind that isn't empty.
+/// The first section of a kind that isn't empty.
 fn find_section<'a>(file: &ElfFile<'a>, kind: DebugSection) -> Option<Section<'a>>
     ensures found { option_map meaning result ≡ find (spec.is_used kind) (elf file.now).sections }
     ensures in_file { IfSome result (λ s. file_of s ≡ elf file.now) }
@@ -105,8 +105,8 @@ fn find_section<'a>(file: &ElfFile<'a>, kind: DebugSection) -> Option<Section<'a
     None
 }
 
-// The content of a section: `DecompressData` where it is compressed, `ObjectRead` where it is
-// outside the file.
+/// The content of a section: `DecompressData` where it is compressed, `ObjectRead` where it is
+/// outside the file.
 #[tactic(auto, unfolding(crate::specs::Sections::debug_content))]
 fn content<'a>(section: &Section<'a>, kind: DebugSection) -> Result<&'a [u8], Error>
     ensures { Gives (λ bytes. bytes.now) result (spec.debug_content kind (meaning section.now)) }
@@ -117,7 +117,7 @@ fn content<'a>(section: &Section<'a>, kind: DebugSection) -> Result<&'a [u8], Er
     section.data().map_err(Error::ObjectRead)
 }
 
-// A reader of a section; its relocations are placed in the session.
+/// A reader of a section; its relocations are placed in the session.
 #[tactic(auto, unfolding(crate::specs::Sections::loaded))]
 fn load<'a, Sess: Session<RelocationEntry>>(
     alloc: Global,
@@ -136,7 +136,7 @@ fn load<'a, Sess: Session<RelocationEntry>>(
     Ok(SectionReader::new(relocations, bytes, file.endianness()))
 }
 
-// A reader of the first section of a kind that isn't empty; of no bytes where there is none.
+/// A reader of the first section of a kind that isn't empty; of no bytes where there is none.
 #[tactic(auto, unfolding(crate::specs::Sections::loaded_first))]
 fn load_first<'a, Sess: Session<RelocationEntry>>(
     alloc: Global,
@@ -154,7 +154,7 @@ fn load_first<'a, Sess: Session<RelocationEntry>>(
 }
 
 impl<'a> DebugData<SectionReader<'a>> {
-    // Those of an ELF file: the first fault of a section, in the order in which they are read.
+    /// Those of an ELF file: the first fault of a section, in the order in which they are read.
     #[tactic(auto, unfolding(crate::specs::Sections::debug_data))]
     fn of_file<Sess: Session<RelocationEntry>>(
         alloc: Global,

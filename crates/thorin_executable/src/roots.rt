@@ -47,7 +47,7 @@ impl<R: Reader> SplitAttributes<R> {
         Self::of_entry(root, header.encoding().format)
     }
 
-    // Those of an entry.
+    /// Those of an entry.
     #[tactic(auto, unfolding(crate::specs::Roots::entry_attributes))]
     fn of_entry(root: RootEntry<R>, format: Format) -> Result<Self, Error>
         ensures { Gives (attributes_of R.input) result
@@ -66,7 +66,7 @@ impl<R: Reader> SplitAttributes<R> {
         Ok(found)
     }
 
-    // Takes an attribute in where it is the first of its name.
+    /// Takes an attribute in where it is the first of its name.
     fn add(&mut self, attribute: Attribute<R>, format: Format)
         ensures { attributes_of R.input self.new ≡ spec.with_attribute format
             (attributes_of R.input self.old) (attribute_of R.input attribute) }
@@ -91,7 +91,7 @@ impl<R: Reader> SplitAttributes<R> {
     }
 }
 
-// A unit's root entry.
+/// A unit's root entry.
 #[tactic(auto, unfolding(crate::specs::Roots::root_entry))]
 fn root_entry<R: Reader>(
     debug_abbrev: &mut AbbreviationCache<R>,

@@ -64,7 +64,7 @@ pub fn dwo_identifier_remembering<R: Reader>(
     }
 }
 
-// The identifier that a unit of this type has in its header.
+/// The identifier that a unit of this type has in its header.
 fn header_identifier(unit_type: UnitType) -> Option<DwarfObject>
     ensures { unit_type ≢ UnitType.Compilation → (section : Input) → (unit : Unit)
         → identity_by section unit unit_type ≡ Ok result }
@@ -79,7 +79,7 @@ fn header_identifier(unit_type: UnitType) -> Option<DwarfObject>
     }
 }
 
-// The identifier in the root entry of a compile unit.
+/// The identifier in the root entry of a compile unit.
 #[tactic(auto, unfolding(crate::specs::Identity::root_identity))]
 fn root_identifier<R: Reader>(
     debug_abbrev: &R,
@@ -100,7 +100,7 @@ fn root_identifier<R: Reader>(
     entry_identifier(abbreviation.entry(header.encoding(), values))
 }
 
-// The same by what is remembered.
+/// The same by what is remembered.
 #[tactic(auto, unfolding(crate::specs::Identity::root_identity))]
 fn root_identifier_remembering<R: Reader>(
     debug_abbrev: &mut AbbreviationCache<R>,
@@ -123,7 +123,7 @@ fn root_identifier_remembering<R: Reader>(
     entry_identifier(abbreviation.entry(header.encoding(), values))
 }
 
-// The identifier in an entry of a unit.
+/// The identifier in an entry of a unit.
 #[tactic(auto, unfolding(crate::specs::Identity::entry_identity))]
 fn entry_identifier<R: Reader>(entry: RootEntry<R>) -> Result<Option<DwarfObject>, Error>
     ensures meaning { Gives (λ name. name) result (entry_identity (entry_of R.input entry)) }
