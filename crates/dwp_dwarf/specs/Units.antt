@@ -43,8 +43,9 @@ unit_of input header = record {
 unfoldable pub initial_length_at : Input → Result ((Format × ℕ) × Input) ReadError
 initial_length_at i = do
   n ← number_at 4 i
-  if nat_lt n.0 0xfffffff0 then Ok ((Dwarf32, n.0), n.1) else (if n.0 == 0xffffffff
-      then (number_at 8 n.1 >>= λ m. Ok ((Dwarf64, m.0), m.1)) else Err ReservedLength)
+  if nat_lt n.0 0xfffffff0 then Ok ((Dwarf32, n.0), n.1)
+      else (if n.0 == 0xffffffff then (number_at 8 n.1 >>= λ m. Ok ((Dwarf64, m.0), m.1))
+      else Err ReservedLength)
 
 -- the size of an address
 unfoldable pub address_size_at : Input → Result (ℕ × Input) ReadError
@@ -139,8 +140,9 @@ newer_at format whole i = do
 unfoldable pub header_at : UnitSection → Format → Input → Input → Result Unit ReadError
 header_at section format whole i = do
   version ← number_at 2 i
-  if version.0 == 5 then newer_at format whole version.1 else (if nat_le 2 version.0 && nat_le
-      version.0 4 then older_at section format version.0 whole version.1 else Err UnknownVersion)
+  if version.0 == 5 then newer_at format whole version.1
+      else (if nat_le 2 version.0 && nat_le version.0 4
+      then older_at section format version.0 whole version.1 else Err UnknownVersion)
 
 -- the first unit, and what comes after it
 unfoldable pub unit_at : UnitSection → Input → Result (Unit × Input) ReadError

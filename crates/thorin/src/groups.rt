@@ -29,8 +29,9 @@ pub fn pack_groups<'s, Sess: Session<RelocationEntry>>(
 
     // Where each unit of each group's package has the encoding of that package's first unit: the
     // file is a package of the units that all inputs of all groups at once join.
-    ensures joined { IfOk result (λ file. (packed : IsPackedInGroups (groups_in groups.now)
-        file.items) → HaveTheirEncodings (groups_in groups.now) packed.packages packed.each
+    ensures joined { IfOk result (λ file.
+        (packed : IsPackedInGroups (groups_in groups.now) file.items)
+        → HaveTheirEncodings (groups_in groups.now) packed.packages packed.each
         → IsPackageOfAll (inputs_of (groups_in groups.now)) file.items) }
 {
     groups_are_packed_alike();
