@@ -1,4 +1,5 @@
--- Numbers in a byte order (ELF gABI, "Data Encoding"; DWARF 5, 7.1: data is in the order of the target).
+-- Numbers in a byte order (ELF gABI, "Data Encoding"; DWARF 5, 7.1: data is in the order of the
+-- target).
 use Rattle.std.specs.Prelude.{ℕ, List}
 use Rattle.byteorder.specs.Endian.{little_number, big_number, little_bytes, big_bytes}
 use Rattle.dwp_base.specs.declared.endian.Endianness.{Endianness}

@@ -12,7 +12,9 @@ abbrev pub Answers : {X Y E : Type 0} → (X → Y) → Result X E → Result Y 
 Answers view (Ok x) meaning = meaning ≡ Ok (view x)
 Answers view (Err e) meaning = meaning ≡ Err e
 
--- the same for a call that moves a reader: what is left is said too, and a refusal leaves it as it was
-abbrev pub Reads : {I X Y E : Type 0} → (X → Y) → Result X E → I → I → (I → Result (Y × I) E) → Type 0
+-- the same for a call that moves a reader: what is left is said too, and a refusal leaves it as it
+-- was
+abbrev pub Reads : {I X Y E : Type 0} → (X → Y) → Result X E → I → I
+    → (I → Result (Y × I) E) → Type 0
 Reads view (Ok x) old new meaning = meaning old ≡ Ok (view x, new)
 Reads view (Err e) old new meaning = (meaning old ≡ Err e) × (new ≡ old)

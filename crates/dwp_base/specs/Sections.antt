@@ -1,8 +1,12 @@
--- The sections of a split DWARF object and of a package (DWARF 5, 7.3.5; the GNU page DebugFissionDWP).
+-- The sections of a split DWARF object and of a package (DWARF 5, 7.3.5; the
+-- GNU page DebugFissionDWP).
 use Rattle.std.specs.Prelude.{ℕ, List, [], ◌∷◌, codes, Bool, ◌||◌, ◌==◌, Option, find}
 use Rattle.std.specs.Str.{bytes_eq}
 use Rattle.dwp_base.specs.declared.section.SectionKind.{SectionKind}
-use Rattle.dwp_base.specs.declared.section.SectionKind.TheVariants.{Info, Types, Abbrev, Line, Loc, Loclists, Rnglists, StrOffsets, Macinfo, Macro, Str, CuIndex, TuIndex}
+use Rattle.dwp_base.specs.declared.section.SectionKind.TheVariants.{Info, Types, Abbrev, Line, Loc}
+use Rattle.dwp_base.specs.declared.section.SectionKind.TheVariants.{Loclists, Rnglists, StrOffsets}
+use Rattle.dwp_base.specs.declared.section.SectionKind.TheVariants.{Macinfo, Macro, Str, CuIndex}
+use Rattle.dwp_base.specs.declared.section.SectionKind.TheVariants.{TuIndex}
 
 -- the bytes of a section's name
 abbrev pub name_of : SectionKind → List ℕ
@@ -42,7 +46,8 @@ is_named name kind = bytes_eq name (name_of kind) || bytes_eq name (compressed_n
 
 -- each of them
 abbrev pub all_kinds : List SectionKind
-all_kinds = Info ∷ Types ∷ Abbrev ∷ Line ∷ Loc ∷ Loclists ∷ Rnglists ∷ StrOffsets ∷ Macinfo ∷ Macro ∷ Str ∷ CuIndex ∷ TuIndex ∷ []
+all_kinds = Info ∷ Types ∷ Abbrev ∷ Line ∷ Loc ∷ Loclists ∷ Rnglists ∷ StrOffsets ∷ Macinfo ∷ Macro
+    ∷ Str ∷ CuIndex ∷ TuIndex ∷ []
 
 -- the kind of section that a name belongs to, in either spelling
 abbrev pub kind_named : List ℕ → Option SectionKind

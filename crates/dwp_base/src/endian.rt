@@ -1,3 +1,5 @@
+//! Byte orders, and the numbers that they write (ELF gABI, "Data Encoding").
+
 ghost use Rattle.std.specs.Prelude.{◌≡◌, ◌≤◌, ◌++◌, length, OnOk, OnErr};
 ghost use Rattle.dwp_base.specs.Numbers.{number, number_bytes};
 

@@ -1,4 +1,5 @@
-//! What the crates of the DWARF formats share: file classes, byte orders, section kinds and contributions.
+//! What the crates of the DWARF formats share: file classes, byte orders, section kinds and
+//! contributions.
 #![tactic(auto)]
 
 mod class;

@@ -1,5 +1,8 @@
+//! The kinds of sections of split DWARF, and contributions to them (DWARF 5, 7.3.5).
+
 ghost use Rattle.std.specs.Prelude.{◌≡◌};
-ghost use Rattle.dwp_base.specs.Sections.{name_of, compressed_name_of, is_named, all_kinds, kind_named, rank_of, same_kind};
+ghost use Rattle.dwp_base.specs.Sections.{name_of, compressed_name_of, is_named, all_kinds};
+ghost use Rattle.dwp_base.specs.Sections.{kind_named, rank_of, same_kind};
 
 use std::fmt::{Debug, Formatter, Write};
 

@@ -1,3 +1,5 @@
+//! Numbers in both byte orders, names of sections, and how contributions print.
+
 use super::*;
 use std::test::Fail;
 

@@ -1,4 +1,5 @@
--- The two formats of DWARF data, and which package form fits a version (DWARF 5, 7.4 and 7.3.5; the GNU page DebugFissionDWP).
+-- The two formats of DWARF data, and which package form fits a version (DWARF 5, 7.4 and 7.3.5; the
+-- GNU page DebugFissionDWP).
 use Rattle.std.specs.Prelude.{ℕ, Bool, nat_le, ◌==◌, if◌then◌else◌}
 use Rattle.dwp_bytes.specs.declared.encoding.Format.{Format}
 use Rattle.dwp_bytes.specs.declared.encoding.Format.TheVariants.{Dwarf32, Dwarf64}

@@ -1,12 +1,14 @@
--- What a reader of DWARF data has left, and what a call of it takes from the front (DWARF 5, 7.4: lengths, offsets
--- and addresses; ELF gABI, "Data Encoding").
-use Rattle.std.specs.Prelude.{◌≡◌, ◌≤◌, ℕ, ◌+◌, ◌==◌, ◌||◌, Bool, List, length, take, drop, slice_index, nat_lt, if◌then◌else◌, Result, Ok, Err, position}
+-- What a reader of DWARF data has left, and what a call of it takes from the front (DWARF 5, 7.4:
+-- lengths, offsets and addresses; ELF gABI, "Data Encoding").
+use Rattle.std.specs.Prelude.{◌≡◌, ◌≤◌, ℕ, ◌+◌, ◌==◌, ◌||◌, Bool, List, length, take, drop}
+use Rattle.std.specs.Prelude.{slice_index, nat_lt, if◌then◌else◌, Result, Ok, Err, position}
 use Rattle.std.specs.Option.{ok_or}
 use Rattle.dwp_base.specs.declared.endian.Endianness.{Endianness}
 use Rattle.dwp_base.specs.Numbers.{number}
 use Rattle.dwp_bytes.specs.declared.encoding.Format.{Format}
 use Rattle.dwp_bytes.specs.declared.fault.ReadError.{ReadError}
-use Rattle.dwp_bytes.specs.declared.fault.ReadError.TheVariants.{UnexpectedEof, AddressSize, NoTerminator}
+use Rattle.dwp_bytes.specs.declared.fault.ReadError.TheVariants.{UnexpectedEof, AddressSize}
+use Rattle.dwp_bytes.specs.declared.fault.ReadError.TheVariants.{NoTerminator}
 use Rattle.dwp_bytes.specs.Encoding.{offset_size}
 
 -- what a reader has left
@@ -22,7 +24,8 @@ pub record Input : Type 0 where
 
 -- a section that nothing relocates, from its start
 abbrev pub section : Endianness → List ℕ → Input
-section order bytes = record { order = order; relocated = λ place stored. stored; place = 0; bytes = bytes }
+section order bytes =
+    record { order = order; relocated = λ place stored. stored; place = 0; bytes = bytes }
 
 -- the first n bytes, or all where there are fewer
 abbrev pub front : ℕ → Input → Input
@@ -45,7 +48,8 @@ split_at n i = if nat_lt (length i.bytes) n then Err UnexpectedEof else Ok (fron
 
 -- the next n bytes
 unfoldable pub bytes_at : ℕ → Input → Result (List ℕ × Input) ReadError
-bytes_at n i = if nat_lt (length i.bytes) n then Err UnexpectedEof else Ok (take n i.bytes, after n i)
+bytes_at n i =
+    if nat_lt (length i.bytes) n then Err UnexpectedEof else Ok (take n i.bytes, after n i)
 
 -- n bytes passed over
 unfoldable pub skip_at : ℕ → Input → Result (Unit {0} × Input) ReadError
@@ -57,20 +61,24 @@ truncate_at n i = if nat_lt (length i.bytes) n then Err UnexpectedEof else Ok (t
 
 -- the next byte
 unfoldable pub byte_at : Input → Result (ℕ × Input) ReadError
-byte_at i = if nat_lt (length i.bytes) 1 then Err UnexpectedEof else Ok (slice_index i.bytes 0, after 1 i)
+byte_at i =
+    if nat_lt (length i.bytes) 1 then Err UnexpectedEof else Ok (slice_index i.bytes 0, after 1 i)
 
--- how far ahead the first byte of that value stands (a string ends at its first zero byte: DWARF 5, 7.5.5)
+-- how far ahead the first byte of that value stands (a string ends at its first zero byte: DWARF 5,
+-- 7.5.5)
 unfoldable pub found_at : ℕ → List ℕ → Result ℕ ReadError
 found_at byte bytes = ok_or (position (λ x. x == byte) bytes) NoTerminator
 
 -- the number in the next n bytes
 unfoldable pub number_at : ℕ → Input → Result (ℕ × Input) ReadError
-number_at n i = if nat_lt (length i.bytes) n then Err UnexpectedEof else Ok (number i.order n i.bytes, after n i)
+number_at n i = if nat_lt (length i.bytes) n then Err UnexpectedEof
+    else Ok (number i.order n i.bytes, after n i)
 
 -- the number in the next n bytes, relocated
 unfoldable pub relocated_at : ℕ → Input → Result (ℕ × Input) ReadError
 relocated_at n i =
-    if nat_lt (length i.bytes) n then Err UnexpectedEof else Ok (i.relocated i.place (number i.order n i.bytes), after n i)
+    if nat_lt (length i.bytes) n then Err UnexpectedEof
+    else Ok (i.relocated i.place (number i.order n i.bytes), after n i)
 
 -- numbers of these sizes can be addresses
 abbrev pub is_address_size : ℕ → Bool

@@ -1,5 +1,7 @@
--- String offsets: offsets of strings, by number (DWARF 5, 7.26). Before DWARF 5 they have no header (the GNU page DebugFissionDWP).
-use Rattle.std.specs.Prelude.{ℕ, ◌+◌, ◌-◌, ◌/◌, nat_lt, nat_le, ◌==◌, if◌then◌else◌, List, length, drop, Result, Ok, Err}
+-- String offsets: offsets of strings, by number (DWARF 5, 7.26). Before DWARF 5 they have no header
+-- (the GNU page DebugFissionDWP).
+use Rattle.std.specs.Prelude.{ℕ, ◌+◌, ◌-◌, ◌/◌, nat_lt, nat_le, ◌==◌, if◌then◌else◌, List, length}
+use Rattle.std.specs.Prelude.{drop, Result, Ok, Err}
 use Rattle.std.specs.List.{list_any, before_first}
 use Rattle.dwp_bytes.specs.declared.encoding.Encoding.{Encoding}
 use Rattle.dwp_bytes.specs.declared.encoding.Format.{Format}
@@ -13,7 +15,8 @@ abbrev pub length_size : Format → ℕ
 length_size Dwarf32 = 4
 length_size Dwarf64 = 12
 
--- how many bytes stand before the offsets: a length, a version of 2 bytes and padding of 2 bytes, or before DWARF 5 none
+-- how many bytes stand before the offsets: a length, a version of 2 bytes and padding of 2 bytes,
+-- or before DWARF 5 none
 abbrev pub header_size : Encoding → ℕ
 header_size encoding = if nat_le 5 encoding.version then length_size encoding.format + 4 else 0
 
@@ -30,4 +33,5 @@ unfoldable pub string_at : List ℕ → ℕ → Result (List ℕ) ReadError
 string_at section at =
     if nat_lt (length section) at
     then Err OffsetOutOfRange
-    else (if list_any (λ b. b == 0) (drop at section) then Ok (string_from section at) else Err NoTerminator)
+    else (if list_any (λ b. b == 0) (drop at section) then Ok (string_from section at)
+    else Err NoTerminator)

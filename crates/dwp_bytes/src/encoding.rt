@@ -1,3 +1,5 @@
+//! The two formats of DWARF data, and the encoding of a unit (DWARF 5, 7.4 and 7.5.1).
+
 ghost use Rattle.std.specs.Prelude.{◌≡◌, nat_le, nat_lt};
 ghost use Rattle.dwp_bytes.specs.Encoding.{offset_size, index_version_of, is_compatible};
 

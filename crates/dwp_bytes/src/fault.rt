@@ -1,3 +1,5 @@
+//! What is wrong with DWARF data.
+
 use thiserror::Error;
 
 /// What is wrong with DWARF data, or with an index of a package.

@@ -3,7 +3,7 @@
 
 mod encoding;
 mod fault;
-mod laws;
+pub mod laws;
 mod reader;
 mod relocate;
 mod relocation;
@@ -12,7 +12,6 @@ mod string_offsets;
 
 pub use encoding::{Encoding, Format};
 pub use fault::{ReadError, WriteError};
-pub use laws::lebs_take_bytes;
 pub use reader::Reader;
 pub use relocate::Relocate;
 pub use relocation::{Relocation, RelocationEntry};

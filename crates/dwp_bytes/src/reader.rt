@@ -1,8 +1,11 @@
+//! What readers of DWARF data do (DWARF 5, 7.4 to 7.6).
+
 ghost use Rattle.std.specs.Prelude.{◌≡◌, ◌-◌, ◌==◌, length, MatchResult, OnErr};
 ghost use Rattle.std.specs.Str.{IsUtf8};
 ghost use Rattle.dwp_base.specs.Reading.{Answers, Reads};
 ghost use Rattle.dwp_bytes.specs.Leb.{uleb_at, sleb_at};
-ghost use Rattle.dwp_bytes.specs.Input.{Input, front, found_at, bytes_at, split_at, skip_at, truncate_at, byte_at, number_at, sized_at, offset_at};
+ghost use Rattle.dwp_bytes.specs.Input.{Input, front, found_at, bytes_at, split_at, skip_at};
+ghost use Rattle.dwp_bytes.specs.Input.{truncate_at, byte_at, number_at, sized_at, offset_at};
 
 use crate::encoding::Format;
 use crate::fault::ReadError;
@@ -27,23 +30,38 @@ pub trait Reader: Copy {
     fn to_slice(&self) -> &[u8]
         ensures { result.now ≡ (input self.now).bytes };
 
-    /// The next `n` bytes as a reader; this one keeps the rest. UnexpectedEof where fewer are left.
+    /// The next `n` bytes as a reader; this one keeps the rest.
+    ///
+    /// # Errors
+    /// `UnexpectedEof` where fewer are left.
     fn split(&mut self, n: usize) -> Result<Self, ReadError>
         ensures { Reads input result (input self.old) (input self.new) (split_at n) };
 
-    /// An address of that many bytes, relocated. AddressSize unless it has 1, 2, 4 or 8.
+    /// An address of that many bytes, relocated.
+    ///
+    /// # Errors
+    /// `AddressSize` unless it has 1, 2, 4 or 8 bytes, `UnexpectedEof` where fewer are left.
     fn read_address(&mut self, address_size: u8) -> Result<u64, ReadError>
         ensures { Reads (λ x. x) result (input self.old) (input self.new) (sized_at address_size) };
 
     /// A length of the format's size, relocated.
+    ///
+    /// # Errors
+    /// `UnexpectedEof` where fewer bytes are left.
     fn read_length(&mut self, format: Format) -> Result<u64, ReadError>
         ensures { Reads (λ x. x) result (input self.old) (input self.new) (offset_at format) };
 
     /// An offset of the format's size, relocated.
+    ///
+    /// # Errors
+    /// `UnexpectedEof` where fewer bytes are left.
     fn read_offset(&mut self, format: Format) -> Result<u64, ReadError>
         ensures { Reads (λ x. x) result (input self.old) (input self.new) (offset_at format) };
 
-    /// An offset of that many bytes, relocated. AddressSize unless it has 1, 2, 4 or 8.
+    /// An offset of that many bytes, relocated.
+    ///
+    /// # Errors
+    /// `AddressSize` unless it has 1, 2, 4 or 8 bytes, `UnexpectedEof` where fewer are left.
     fn read_sized_offset(&mut self, size: u8) -> Result<u64, ReadError>
         ensures { Reads (λ x. x) result (input self.old) (input self.new) (sized_at size) };
 
@@ -61,7 +79,10 @@ pub trait Reader: Copy {
         self.to_slice().is_empty()
     }
 
-    /// Passes over the next `n` bytes. UnexpectedEof where fewer are left.
+    /// Passes over the next `n` bytes.
+    ///
+    /// # Errors
+    /// `UnexpectedEof` where fewer are left.
     #[tactic(auto, unfolding(crate::specs::Input::split_at, crate::specs::Input::skip_at))]
     fn skip(&mut self, n: usize) -> Result<(), ReadError>
         ensures { Reads (λ x. x) result (input self.old) (input self.new) (skip_at n) }
@@ -70,7 +91,10 @@ pub trait Reader: Copy {
         Ok(())
     }
 
-    /// Drops all but the first `n` bytes. UnexpectedEof where fewer are left.
+    /// Drops all but the first `n` bytes.
+    ///
+    /// # Errors
+    /// `UnexpectedEof` where fewer are left.
     #[tactic(auto, unfolding(crate::specs::Input::split_at, crate::specs::Input::truncate_at))]
     fn truncate(&mut self, n: usize) -> Result<(), ReadError>
         ensures { Reads (λ x. x) result (input self.old) (input self.new) (truncate_at n) }
@@ -80,6 +104,9 @@ pub trait Reader: Copy {
     }
 
     /// The next byte.
+    ///
+    /// # Errors
+    /// `UnexpectedEof` where none is left.
     #[tactic(auto, unfolding(crate::specs::Input::split_at, crate::specs::Input::byte_at))]
     fn read_u8(&mut self) -> Result<u8, ReadError>
         ensures { Reads (λ x. x) result (input self.old) (input self.new) byte_at }
@@ -89,6 +116,9 @@ pub trait Reader: Copy {
     }
 
     /// The number in the next two bytes.
+    ///
+    /// # Errors
+    /// `UnexpectedEof` where fewer are left.
     #[tactic(auto, unfolding(crate::specs::Input::split_at, crate::specs::Input::number_at))]
     fn read_u16(&mut self) -> Result<u16, ReadError>
         ensures { Reads (λ x. x) result (input self.old) (input self.new) (number_at 2) }
@@ -99,6 +129,9 @@ pub trait Reader: Copy {
     }
 
     /// The number in the next three bytes.
+    ///
+    /// # Errors
+    /// `UnexpectedEof` where fewer are left.
     #[tactic(auto, unfolding(crate::specs::Input::split_at, crate::specs::Input::number_at))]
     fn read_u24(&mut self) -> Result<u32, ReadError>
         ensures { Reads (λ x. x) result (input self.old) (input self.new) (number_at 3) }
@@ -112,6 +145,9 @@ pub trait Reader: Copy {
     }
 
     /// The number in the next four bytes.
+    ///
+    /// # Errors
+    /// `UnexpectedEof` where fewer are left.
     #[tactic(auto, unfolding(crate::specs::Input::split_at, crate::specs::Input::number_at))]
     fn read_u32(&mut self) -> Result<u32, ReadError>
         ensures { Reads (λ x. x) result (input self.old) (input self.new) (number_at 4) }
@@ -122,6 +158,9 @@ pub trait Reader: Copy {
     }
 
     /// The number in the next eight bytes.
+    ///
+    /// # Errors
+    /// `UnexpectedEof` where fewer are left.
     #[tactic(auto, unfolding(crate::specs::Input::split_at, crate::specs::Input::number_at))]
     fn read_u64(&mut self) -> Result<u64, ReadError>
         ensures { Reads (λ x. x) result (input self.old) (input self.new) (number_at 8) }
@@ -131,10 +170,14 @@ pub trait Reader: Copy {
         Ok(order.read_u64(piece.to_slice()))
     }
 
-    /// Fills the buffer with the next bytes. UnexpectedEof where fewer are left; the buffer is then as it was.
+    /// Fills the buffer with the next bytes.
+    ///
+    /// # Errors
+    /// `UnexpectedEof` where fewer are left; the buffer is then as it was.
     #[tactic(auto, unfolding(crate::specs::Input::split_at, crate::specs::Input::bytes_at))]
     fn read_slice(&mut self, buffer: &mut [u8]) -> Result<(), ReadError>
-        ensures read { Reads (λ _. buffer.new) result (input self.old) (input self.new) (bytes_at (length buffer.old)) }
+        ensures read { Reads (λ _. buffer.new) result (input self.old) (input self.new)
+            (bytes_at (length buffer.old)) }
         ensures refused { OnErr result (buffer.new ≡ buffer.old) }
     {
         let piece = self.split(buffer.len())?;
@@ -152,16 +195,23 @@ pub trait Reader: Copy {
         }
     }
 
-    /// How far ahead the first such byte stands. NoTerminator where there is none.
+    /// How far ahead the first such byte stands.
+    ///
+    /// # Errors
+    /// `NoTerminator` where there is none.
     fn find(&self, byte: u8) -> Result<usize, ReadError>
         ensures { Answers (λ x. x) result (found_at byte (input self.now).bytes) }
     {
         memchr(byte, self.to_slice()).ok_or(ReadError::NoTerminator)
     }
 
-    /// The bytes that are left, as a text. BadUtf8 where they are none.
+    /// The bytes that are left, as a text.
+    ///
+    /// # Errors
+    /// `BadUtf8` where they are none.
     fn to_string(&self) -> Result<&str, ReadError>
-        ensures { MatchResult result (λ s. s.now ≡ (input self.now).bytes) (λ e. (e ≡ ReadError.BadUtf8) × ¬ (IsUtf8 (input self.now).bytes)) }
+        ensures { MatchResult result (λ s. s.now ≡ (input self.now).bytes) (λ e.
+            (e ≡ ReadError.BadUtf8) × ¬ (IsUtf8 (input self.now).bytes)) }
     {
         match str::from_utf8(self.to_slice()) {
             Ok(text) => Ok(text),
@@ -169,7 +219,10 @@ pub trait Reader: Copy {
         }
     }
 
-    /// An unsigned number of variable length. BigLeb past 10 bytes or 64 bits.
+    /// An unsigned number of variable length.
+    ///
+    /// # Errors
+    /// `BigLeb` past 10 bytes or 64 bits, `UnexpectedEof` where the bytes end before the number.
     fn read_uleb128(&mut self) -> Result<u64, ReadError>
         ensures { Reads (λ x. x) result (input self.old) (input self.new) uleb_at }
     {
@@ -193,7 +246,10 @@ pub trait Reader: Copy {
         Ok(value + u64::from(last) * scale)
     }
 
-    /// A signed number of variable length. BigLeb past 10 bytes or 64 bits.
+    /// A signed number of variable length.
+    ///
+    /// # Errors
+    /// `BigLeb` past 10 bytes or 64 bits, `UnexpectedEof` where the bytes end before the number.
     fn read_sleb128(&mut self) -> Result<i64, ReadError>
         ensures { Reads (λ x. x) result (input self.old) (input self.new) sleb_at }
     {

@@ -1,3 +1,5 @@
+//! Readers of sections that have relocations.
+
 ghost use Rattle.std.specs.Prelude.{◌≡◌, ◌≤◌, IsTrue, ⊤};
 ghost use Rattle.dwp_bytes.specs.Relocation.{ascends, relocated_input};
 
@@ -26,7 +28,8 @@ impl<'a, R: Reader> Relocate<'a, R> {
     /// Reads a section from its start, by relocations whose offsets ascend.
     pub fn new(relocations: &'a [RelocationEntry], section: R) -> Self
         requires { IsTrue (ascends relocations.now) }
-        ensures { ⟦<Relocate<'a, R> as Reader>⟧.input result ≡ relocated_input relocations.now (R.input section).place (R.input section) }
+        ensures { ⟦<Relocate<'a, R> as Reader>⟧.input result
+            ≡ relocated_input relocations.now (R.input section).place (R.input section) }
     {
         Relocate {
             relocations,
@@ -39,7 +42,8 @@ impl<'a, R: Reader> Relocate<'a, R> {
 impl<'a, R: Reader> Copy for Relocate<'a, R> {}
 
 impl<'a, R: Reader> Clone for Relocate<'a, R> {
-    ghost is_clone = { λ x y. (y.relocations ≡ x.relocations) × (y.section ≡ x.section) × (y.reader ≡ x.reader) };
+    ghost is_clone = { λ x y. (y.relocations ≡ x.relocations) × (y.section ≡ x.section)
+        × (y.reader ≡ x.reader) };
 
     ghost is_infallible = { λ _. ⊤ };
 
@@ -53,7 +57,8 @@ impl<'a, R: Reader> Clone for Relocate<'a, R> {
 }
 
 impl<'a, R: Reader> Reader for Relocate<'a, R> {
-    ghost input = { λ r. relocated_input r.relocations.now (R.input r.section).place (R.input r.reader) };
+    ghost input = { λ r.
+        relocated_input r.relocations.now (R.input r.section).place (R.input r.reader) };
 
     fn endian(&self) -> Endianness {
         self.reader.endian()

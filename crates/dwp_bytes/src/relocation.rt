@@ -1,3 +1,5 @@
+//! What a relocation makes of a stored number (ELF gABI, "Relocation").
+
 ghost use Rattle.std.specs.Prelude.{◌≡◌, IsTrue};
 ghost use Rattle.dwp_bytes.specs.Relocation.{ascends, relocated_by, value_of};
 

@@ -1,3 +1,5 @@
+//! Readers of bytes in memory.
+
 ghost use Rattle.std.specs.Prelude.{◌≡◌, ◌+◌, ◌<◌, ◌^◌, length};
 ghost use Rattle.dwp_base.specs.Reading.{Reads};
 ghost use Rattle.dwp_bytes.specs.Input.{section, sized_at};
@@ -38,7 +40,8 @@ impl<'a> SliceReader<'a> {
     /// A number of that many bytes.
     #[tactic(auto, unfolding(crate::specs::Input::sized_at, crate::specs::Input::relocated_at, crate::specs::Input::number_at, crate::specs::Input::byte_at))]
     fn sized_number(&mut self, size: u8) -> Result<u64, ReadError>
-        ensures { Reads (λ x. x) result (⟦<SliceReader<'a> as Reader>⟧.input self.old) (⟦<SliceReader<'a> as Reader>⟧.input self.new) (sized_at size) }
+        ensures { Reads (λ x. x) result (⟦<SliceReader<'a> as Reader>⟧.input self.old)
+            (⟦<SliceReader<'a> as Reader>⟧.input self.new) (sized_at size) }
     {
         match size {
             1 => Ok(u64::from(self.read_u8()?)),
@@ -51,7 +54,12 @@ impl<'a> SliceReader<'a> {
 }
 
 impl<'a> Reader for SliceReader<'a> {
-    ghost input = { λ r. record { order = r.order; relocated = λ place stored. stored; place = r.place; bytes = r.bytes.now } };
+    ghost input = { λ r. record {
+      order = r.order;
+      relocated = λ place stored. stored;
+      place = r.place;
+      bytes = r.bytes.now;
+    } };
 
     fn endian(&self) -> Endianness {
         self.order

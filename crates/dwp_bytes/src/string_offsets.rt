@@ -1,3 +1,5 @@
+//! String offsets, and the strings that they name (DWARF 5, 7.26).
+
 ghost use Rattle.std.specs.Prelude.{◌≡◌, ◌≢◌, All, IfOk};
 ghost use Rattle.dwp_base.specs.Reading.{Answers};
 ghost use Rattle.dwp_bytes.specs.StringOffsets.{header_size, entry_count, string_at};
@@ -21,8 +23,8 @@ impl Encoding {
         }
     }
 
-    /// How many whole offsets are in string offsets of so many bytes, their header included (DWARF 5,
-    /// 7.26).
+    /// How many whole offsets are in string offsets of so many bytes, their header included
+    /// (DWARF 5, 7.26).
     pub fn string_offsets_count(self, size: u64) -> u64
         ensures { result ≡ entry_count self size }
     {
@@ -31,7 +33,9 @@ impl Encoding {
     }
 }
 
-/// The string at an offset of a string section, without the zero byte that ends it (DWARF 5, 7.26):
+/// The string at an offset of a string section, without the zero byte that ends it (DWARF 5, 7.26).
+///
+/// # Errors
 /// `OffsetOutOfRange` past the section's end, `NoTerminator` where no zero byte follows.
 #[tactic(auto, unfolding(crate::specs::StringOffsets::string_at))]
 pub fn string_at(section: &[u8], offset: u64) -> Result<&[u8], ReadError>

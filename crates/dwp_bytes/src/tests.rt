@@ -1,3 +1,5 @@
+//! Numbers of each size and order, relocated or not, and strings.
+
 ghost use Rattle.std.specs.Prelude.{◌≡◌};
 
 use crate::{
@@ -7,7 +9,7 @@ use crate::{
 use dwp_base::Endianness;
 use std::test::Fail;
 
-// A generic call at each type of reader: what is stored, and what an offset reads as.
+/// A generic call at each type of reader: what is stored, and what an offset reads as.
 fn stored_and_read<R: Reader>(reader: &R) -> Result<(u32, u64), ReadError> {
     let mut at = *reader;
     let mut again = *reader;
@@ -15,7 +17,10 @@ fn stored_and_read<R: Reader>(reader: &R) -> Result<(u32, u64), ReadError> {
 }
 
 fn entry(offset: usize, addend: u64, implicit_addend: bool) -> RelocationEntry
-    ensures { result ≡ record { offset = offset; relocation = record { addend = addend; implicit_addend = implicit_addend } } }
+    ensures { result ≡ record {
+      offset = offset;
+      relocation = record { addend = addend; implicit_addend = implicit_addend };
+    } }
 {
     RelocationEntry {
         offset,
@@ -89,7 +94,7 @@ fn pieces(rt: HostRuntime) -> Result<(), Fail> {
     Ok(())
 }
 
-// The examples of DWARF 5's tables 7.7 and 7.8, and the limits of 64 bits and 10 bytes.
+/// The examples of DWARF 5's tables 7.7 and 7.8, and the limits of 64 bits and 10 bytes.
 #[test]
 fn unsigned_leb128(rt: HostRuntime) {
     let full = ReadError::BigLeb;
@@ -137,7 +142,8 @@ fn signed_leb128(rt: HostRuntime) {
     }
 }
 
-// 0x10 is stored, the symbol's value 0x1000 is in the addend, which is 0x100 itself where it is explicit.
+/// 0x10 is stored, the symbol's value 0x1000 is in the addend, which is 0x100 itself where it is
+/// explicit.
 #[test]
 fn relocated_numbers(rt: HostRuntime) -> Result<(), Fail> {
     let section = SliceReader::new(b"\x10\0\0\0\x10\0\0\0\x10\0\0\0", Endianness::Little);

@@ -1,10 +1,13 @@
--- A table of abbreviations: the tag of an entry, and the form of each of its attributes (DWARF 5, 7.5.3).
-use Rattle.std.specs.Prelude.{ℕ, zero, suc, List, [], ◌∷◌, length, Bool, true, false, Option, Some, None, Result, Ok, Err, ◌==◌, ◌&&◌, if◌then◌else◌}
+-- A table of abbreviations: the tag of an entry, and the form of each of its attributes (DWARF 5,
+-- 7.5.3).
+use Rattle.std.specs.Prelude.{ℕ, zero, suc, List, [], ◌∷◌, length, Bool, true, false, Option, Some}
+use Rattle.std.specs.Prelude.{None, Result, Ok, Err, ◌==◌, ◌&&◌, if◌then◌else◌}
 use Rattle.dwp_base.specs.Reading.{◌>>=◌}
 use Rattle.dwp_bytes.specs.Input.{Input, byte_at}
 use Rattle.dwp_bytes.specs.Leb.{uleb_at, sleb_at}
 use Rattle.dwp_bytes.specs.declared.fault.ReadError.{ReadError}
-use Rattle.dwp_bytes.specs.declared.fault.ReadError.TheVariants.{UnexpectedEof, ZeroTag, BadChildren}
+use Rattle.dwp_bytes.specs.declared.fault.ReadError.TheVariants.{UnexpectedEof, ZeroTag}
+use Rattle.dwp_bytes.specs.declared.fault.ReadError.TheVariants.{BadChildren}
 
 -- an attribute and its form
 pub record Specification : Type 0 where
@@ -33,7 +36,8 @@ abbrev pub is_last : Specification → Bool
 is_last s = s.name == 0 && s.form == 0
 
 -- a pair and those after it; none at the end and at a fault
-abbrev pub pairs_from : Result (Specification × Input) ReadError → (Input → List Specification) → List Specification
+abbrev pub pairs_from : Result (Specification × Input) ReadError → (Input → List Specification)
+    → List Specification
 pairs_from (Ok first) others = if is_last first.0 then [] else first.0 ∷ others first.1
 pairs_from (Err e) others = []
 
@@ -72,7 +76,8 @@ tag_at i = do
 unfoldable pub children_at : Input → Result (Bool × Input) ReadError
 children_at i = do
   byte ← byte_at i
-  if byte.0 == 0 then Ok (false, byte.1) else (if byte.0 == 1 then Ok (true, byte.1) else Err BadChildren)
+  if byte.0 == 0 then Ok (false, byte.1)
+      else (if byte.0 == 1 then Ok (true, byte.1) else Err BadChildren)
 
 -- a declaration behind its code
 unfoldable pub declaration_at : Input → Result (Declaration × Input) ReadError

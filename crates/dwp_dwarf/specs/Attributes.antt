@@ -13,13 +13,16 @@ abbrev pub attribute_of : {R : Type 0} → (R → Input) → Attribute R → Deb
 attribute_of input a = record { name = a.name; form = a.form; value = input a.value }
 
 -- an item of an iterator over attributes
-abbrev pub attribute_seen : {R : Type 0} → (R → Input) → Result (Attribute R) ReadError → Result DebugAttribute ReadError
+abbrev pub attribute_seen : {R : Type 0} → (R → Input) → Result (Attribute R) ReadError
+    → Result DebugAttribute ReadError
 attribute_seen input (Ok a) = Ok (attribute_of input a)
 attribute_seen input (Err e) = Err e
 
 -- what that iterator has left: nothing after a fault
-abbrev pub attributes_left : {R : Type 0} → (R → Input) → Attributes R → List (Result DebugAttribute ReadError)
-attributes_left input a = if a.ended then [] else attributes a.encoding (pairs_in (input a.specifications)) (input a.values)
+abbrev pub attributes_left : {R : Type 0} → (R → Input) → Attributes R
+    → List (Result DebugAttribute ReadError)
+attributes_left input a = if a.ended then []
+    else attributes a.encoding (pairs_in (input a.specifications)) (input a.values)
 
 -- an entry as it was read from an input
 abbrev pub entry_of : {R : Type 0} → (R → Input) → RootEntry R → DebugEntry

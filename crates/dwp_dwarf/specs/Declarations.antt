@@ -12,7 +12,11 @@ specification_of s = record { name = s.name; form = s.form }
 
 -- a declaration as it was read from an input
 abbrev pub declaration_of : {R : Type 0} → (R → Input) → Abbreviation R → Declaration
-declaration_of input a = record { tag = a.tag; children = a.has_children; specifications = pairs_in (input a.specifications) }
+declaration_of input a = record {
+  tag = a.tag;
+  children = a.has_children;
+  specifications = pairs_in (input a.specifications);
+}
 
 -- the bytes of a table
 abbrev pub table_of : {R : Type 0} → (R → Input) → Abbreviations R → Input

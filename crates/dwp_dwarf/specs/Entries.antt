@@ -1,6 +1,7 @@
--- The root entry of a unit: its tag, and its attributes with their values, laid out one after the other behind the
--- entry's code (DWARF 5, 7.5.2 to 7.5.5).
-use Rattle.std.specs.Prelude.{ℕ, List, [], ◌∷◌, Option, Some, None, Result, Ok, Err, ◌==◌, if◌then◌else◌}
+-- The root entry of a unit: its tag, and its attributes with their values, laid out one after the
+-- other behind the entry's code (DWARF 5, 7.5.2 to 7.5.5).
+use Rattle.std.specs.Prelude.{ℕ, List, [], ◌∷◌, Option, Some, None, Result, Ok, Err, ◌==◌}
+use Rattle.std.specs.Prelude.{if◌then◌else◌}
 use Rattle.std.specs.Option.{ok_or}
 use Rattle.dwp_base.specs.Reading.{◌>>=◌}
 use Rattle.dwp_bytes.specs.Input.{Input, byte_at, number_at, offset_at}
@@ -25,14 +26,16 @@ pub record DebugEntry : Type 0 where
   pub attributes : List (Result DebugAttribute ReadError)
 
 -- the next attribute; its form is the one that the form indirect names
-unfoldable pub attribute_at : Encoding → Specification → Input → Result (DebugAttribute × Input) ReadError
+unfoldable pub attribute_at : Encoding → Specification → Input
+    → Result (DebugAttribute × Input) ReadError
 attribute_at encoding s i = do
   form ← named_form_at s.form i
   value ← value_at encoding form.0 form.1
   Ok (record { name = s.name; form = form.0; value = value.0 }, value.1)
 
 -- the attributes one after the other, up to the end or the first fault
-abbrev pub attributes : Encoding → List Specification → Input → List (Result DebugAttribute ReadError)
+abbrev pub attributes : Encoding → List Specification → Input
+    → List (Result DebugAttribute ReadError)
 attributes encoding [] i = []
 attributes encoding (s ∷ ss) i = listed (attribute_at encoding s i) (attributes encoding ss)
 
@@ -40,7 +43,8 @@ attributes encoding (s ∷ ss) i = listed (attribute_at encoding s i) (attribute
 abbrev pub entry : Encoding → Declaration → Input → DebugEntry
 entry encoding d i = record { tag = d.tag; attributes = attributes encoding d.specifications i }
 
--- a unit's root code and what comes behind it; None where no byte is left behind the header, or the code is 0
+-- a unit's root code and what comes behind it; None where no byte is left behind the header, or the
+-- code is 0
 unfoldable pub root_code_at : Input → Result (Option (ℕ × Input)) ReadError
 root_code_at i = do
   code ← code_at i
@@ -54,7 +58,8 @@ entry_at encoding table code = do
   Ok (entry encoding d code.1)
 
 -- a unit's root entry; None where it has none
-abbrev pub root_of_code : Encoding → Input → Option (ℕ × Input) → Result (Option DebugEntry) ReadError
+abbrev pub root_of_code : Encoding → Input → Option (ℕ × Input)
+    → Result (Option DebugEntry) ReadError
 root_of_code encoding table None = Ok None
 root_of_code encoding table (Some code) = entry_at encoding table code >>= λ root. Ok (Some root)
 

@@ -1,6 +1,7 @@
--- How the value of an attribute is laid out, by its form (DWARF 5, 7.5.5 and 7.5.6; DWARF 4, 7.5.4; the GNU forms of
--- split DWARF and of supplementary files).
-use Rattle.std.specs.Prelude.{ℕ, zero, suc, ◌-◌, List, [], ◌∷◌, length, Bool, false, Option, Some, None, Result, Ok, Err, ◌==◌, ◌||◌, if◌then◌else◌}
+-- How the value of an attribute is laid out, by its form (DWARF 5, 7.5.5 and 7.5.6; DWARF 4, 7.5.4;
+-- the GNU forms of split DWARF and of supplementary files).
+use Rattle.std.specs.Prelude.{ℕ, zero, suc, ◌-◌, List, [], ◌∷◌, length, Bool, false, Option, Some}
+use Rattle.std.specs.Prelude.{None, Result, Ok, Err, ◌==◌, ◌||◌, if◌then◌else◌}
 use Rattle.std.specs.Option.{ok_or}
 use Rattle.dwp_base.specs.Reading.{◌>>=◌}
 use Rattle.dwp_bytes.specs.Encoding.{offset_size}
@@ -42,9 +43,11 @@ unit_size encoding form =
     -- addr
     if form == 0x01 then Some encoding.address_size else
     -- strp, sec_offset, strp_sup, line_strp, GNU_ref_alt, GNU_strp_alt
-    (if is_one_of (0x0e ∷ 0x17 ∷ 0x1d ∷ 0x1f ∷ 0x1f20 ∷ 0x1f21 ∷ []) form then Some (offset_size encoding.format) else
+    (if is_one_of (0x0e ∷ 0x17 ∷ 0x1d ∷ 0x1f ∷ 0x1f20 ∷ 0x1f21 ∷ []) form
+    then Some (offset_size encoding.format) else
     -- ref_addr, an address in version 2
-    (if form == 0x10 then Some (if encoding.version == 2 then encoding.address_size else offset_size encoding.format) else None))
+    (if form == 0x10 then Some (if encoding.version == 2 then encoding.address_size
+    else offset_size encoding.format) else None))
 
 -- the forms whose values say how long they are
 abbrev pub open_layout : ℕ → Option Layout
@@ -60,7 +63,8 @@ open_layout form =
     -- sdata
     (if form == 0x0d then Some Signed else
     -- udata, ref_udata, strx, addrx, loclistx, rnglistx, GNU_addr_index, GNU_str_index
-    (if is_one_of (0x0f ∷ 0x15 ∷ 0x1a ∷ 0x1b ∷ 0x22 ∷ 0x23 ∷ 0x1f01 ∷ 0x1f02 ∷ []) form then Some Unsigned else None))))))
+    (if is_one_of (0x0f ∷ 0x15 ∷ 0x1a ∷ 0x1b ∷ 0x22 ∷ 0x23 ∷ 0x1f01 ∷ 0x1f02 ∷ []) form
+    then Some Unsigned else None))))))
 
 -- the first of two that is there, the first as a size
 abbrev pub sized_or : Option ℕ → Option Layout → Option Layout
@@ -69,7 +73,8 @@ sized_or None other = other
 
 -- how a form's value is laid out; None for a form that isn't known
 abbrev pub layout_of : Encoding → ℕ → Option Layout
-layout_of encoding form = sized_or (fixed_size form) (sized_or (unit_size encoding form) (open_layout form))
+layout_of encoding form =
+    sized_or (fixed_size form) (sized_or (unit_size encoding form) (open_layout form))
 
 -- the length of a block
 unfoldable pub block_length_at : BlockLength → Input → Result (ℕ × Input) ReadError
@@ -102,10 +107,12 @@ value_at encoding form i = do
   value ← split_at (rest.place - i.place) i
   Ok (value.0, rest)
 
--- the form indirect, 0x16, stands for the form named before the value, at most n times over; implicit_const can't be named
+-- the form indirect, 0x16, stands for the form named before the value, at most n times over;
+-- implicit_const can't be named
 unfoldable pub named_within : ℕ → ℕ → Input → Result (ℕ × Input) ReadError
 named_within zero form i = if form == 0x16 then Err UnexpectedEof else Ok (form, i)
-named_within (suc n) form i = if form == 0x16 then (uleb_at i >>= λ named. if named.0 == 0x21 then Err UnknownForm else named_within n named.0 named.1) else Ok (form, i)
+named_within (suc n) form i = if form == 0x16 then (uleb_at i >>= λ named. if named.0 == 0x21
+    then Err UnknownForm else named_within n named.0 named.1) else Ok (form, i)
 
 -- the form that a value really has; each name of a form has at least a byte
 unfoldable pub named_form_at : ℕ → Input → Result (ℕ × Input) ReadError

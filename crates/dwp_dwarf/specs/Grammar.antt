@@ -1,6 +1,7 @@
--- A table of abbreviations as a list: declarations one after the other, each behind its code, up to a code 0 or the end of
--- the bytes (DWARF 5, 7.5.3).
-use Rattle.std.specs.Prelude.{◌≡◌, ◌≢◌, ◌↔◌, ℕ, List, [], ◌∷◌, Option, Some, None, Result, Ok, Err, ◌==◌, if◌then◌else◌}
+-- A table of abbreviations as a list: declarations one after the other, each behind its code, up to
+-- a code 0 or the end of the bytes (DWARF 5, 7.5.3).
+use Rattle.std.specs.Prelude.{◌≡◌, ◌≢◌, ◌↔◌, ℕ, List, [], ◌∷◌, Option, Some, None, Result, Ok, Err}
+use Rattle.std.specs.Prelude.{◌==◌, if◌then◌else◌}
 use Rattle.std.specs.List.{AllByRecursion}
 use Rattle.dwp_base.specs.Reading.{◌>>=◌}
 use Rattle.dwp_bytes.specs.Input.{Input}
@@ -18,7 +19,8 @@ next_at i = do
 -- declarations that lie one after the other, and the rest of the table behind them
 abbrev pub DeclarationsLie : Input → List (ℕ × Declaration) → Input → Type 0
 DeclarationsLie i [] rest = rest ≡ i
-DeclarationsLie i (d ∷ ds) rest = (next : Input) × (next_at i ≡ Ok (Some (d, next))) × DeclarationsLie next ds rest
+DeclarationsLie i (d ∷ ds) rest =
+    (next : Input) × (next_at i ≡ Ok (Some (d, next))) × DeclarationsLie next ds rest
 
 -- the rest of a table behind declarations of other codes alone
 pub record IsBehindOthers (code : ℕ) (i rest : Input) : Type 0 where
@@ -28,12 +30,16 @@ pub record IsBehindOthers (code : ℕ) (i rest : Input) : Type 0 where
 
 -- what a table declares for a code is the first declaration of the code
 abbrev pub FoundIsFirst : Type 0
-FoundIsFirst = (code : ℕ) (i : Input) (d : Declaration) → (declaration code i ≡ Ok (Some d)) ↔ ((rest : Input) × IsBehindOthers code i rest × ((next : Input) × (next_at rest ≡ Ok (Some ((code, d), next)))))
+FoundIsFirst =
+    (code : ℕ) (i : Input) (d : Declaration) → (declaration code i ≡ Ok (Some d)) ↔ ((rest : Input)
+    × IsBehindOthers code i rest × ((next : Input) × (next_at rest ≡ Ok (Some ((code, d), next)))))
 
 -- it declares nothing where all its declarations, up to its end, are of other codes
 abbrev pub AbsentIsNowhere : Type 0
-AbsentIsNowhere = (code : ℕ) (i : Input) → (declaration code i ≡ Ok None) ↔ ((rest : Input) × IsBehindOthers code i rest × (next_at rest ≡ Ok None))
+AbsentIsNowhere = (code : ℕ) (i : Input) → (declaration code i ≡ Ok None)
+    ↔ ((rest : Input) × IsBehindOthers code i rest × (next_at rest ≡ Ok None))
 
 -- it has a fault where the first declaration that can't be read comes before one of the code
 abbrev pub FaultIsBefore : Type 0
-FaultIsBefore = (code : ℕ) (i : Input) (e : ReadError) → (declaration code i ≡ Err e) ↔ ((rest : Input) × IsBehindOthers code i rest × (next_at rest ≡ Err e))
+FaultIsBefore = (code : ℕ) (i : Input) (e : ReadError) → (declaration code i ≡ Err e)
+    ↔ ((rest : Input) × IsBehindOthers code i rest × (next_at rest ≡ Err e))

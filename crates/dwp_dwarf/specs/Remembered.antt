@@ -1,4 +1,5 @@
--- A table of abbreviations that is read once: what was read of it is remembered by code, beside what is left of it.
+-- A table of abbreviations that is read once: what was read of it is remembered by code, beside
+-- what is left of it.
 use Rattle.std.specs.Prelude.{◌≡◌, ℕ, Option, Some, None, Result, Ok}
 use Rattle.std.specs.Ordering.{nat_cmp}
 use Rattle.std.specs.BTreeMap.{BTreeMap, get}
@@ -10,21 +11,25 @@ use Rattle.dwp_dwarf.specs.Offsets.{from_at}
 use Rattle.dwp_dwarf.specs.declared.abbrev.Abbreviation.{Abbreviation}
 
 -- a declaration that is remembered, or what the rest of the table says
-abbrev pub known_or : {R : Type 0} → (R → Input) → Option (Abbreviation R) → Result (Option Declaration) ReadError → Result (Option Declaration) ReadError
+abbrev pub known_or : {R : Type 0} → (R → Input) → Option (Abbreviation R)
+    → Result (Option Declaration) ReadError → Result (Option Declaration) ReadError
 known_or input (Some a) others = Ok (Some (declaration_of input a))
 known_or input None others = others
 
 -- what is remembered of a code, or what the rest of the table says of it
-abbrev pub remembered : {R : Type 0} → (R → Input) → BTreeMap ℕ (Abbreviation R) → Input → ℕ → Result (Option Declaration) ReadError
+abbrev pub remembered : {R : Type 0} → (R → Input) → BTreeMap ℕ (Abbreviation R) → Input → ℕ
+    → Result (Option Declaration) ReadError
 remembered input known rest code = known_or input (get nat_cmp known code) (declaration code rest)
 
 -- what is remembered and the rest say of each code what the table at an offset of the section says
-pub record RemembersTable {R : Type 0} (input : R → Input) (section : Input) (offset : ℕ) (known : BTreeMap ℕ (Abbreviation R)) (rest : Input) : Type 0 where
+pub record RemembersTable {R : Type 0} (input : R → Input) (section : Input) (offset : ℕ)
+    (known : BTreeMap ℕ (Abbreviation R)) (rest : Input) : Type 0 where
   pub table : Input
   pub is : from_at offset section ≡ Ok table
   pub same : (code : ℕ) → remembered input known rest code ≡ declaration code table
 
 -- the next declaration with its code, as it was read from an input, and what is left
-abbrev pub next_of : {R : Type 0} → (R → Input) → Option (ℕ × Abbreviation R × R) → Option ((ℕ × Declaration) × Input)
+abbrev pub next_of : {R : Type 0} → (R → Input) → Option (ℕ × Abbreviation R × R)
+    → Option ((ℕ × Declaration) × Input)
 next_of input (Some x) = Some ((x.0, declaration_of input x.1), input x.2)
 next_of input None = None

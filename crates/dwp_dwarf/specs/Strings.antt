@@ -1,5 +1,5 @@
--- The string of an attribute: in the unit, in a section of strings, or in one by an index (DWARF 5, 7.5.5 "string", 7.26;
--- the GNU page DebugFission for GNU_str_index).
+-- The string of an attribute: in the unit, in a section of strings, or in one by an index (DWARF 5,
+-- 7.5.5 "string", 7.26; the GNU page DebugFission for GNU_str_index).
 use Rattle.std.specs.Prelude.{ℕ, ◌+◌, ◌*◌, Result, Ok, Err, ◌==◌, ◌||◌, if◌then◌else◌}
 use Rattle.dwp_base.specs.Reading.{◌>>=◌}
 use Rattle.dwp_bytes.specs.Encoding.{offset_size}
@@ -36,11 +36,18 @@ indexed_at strings format base index = do
 unfoldable pub string_of : Strings → Format → ℕ → DebugAttribute → Result Input ReadError
 string_of strings format base a =
     if a.form == 0x08 then (text_at a.value >>= λ text. Ok text.0) else
-    (if a.form == 0x0e then (offset_at format a.value >>= λ offset. string_at strings.debug_str offset.0) else
-    (if a.form == 0x1f then (offset_at format a.value >>= λ offset. string_at strings.debug_line_str offset.0) else
-    (if a.form == 0x1a || a.form == 0x1f02 then (uleb_at a.value >>= λ index. indexed_at strings format base index.0) else
-    (if a.form == 0x25 then (byte_at a.value >>= λ index. indexed_at strings format base index.0) else
-    (if a.form == 0x26 then (number_at 2 a.value >>= λ index. indexed_at strings format base index.0) else
-    (if a.form == 0x27 then (number_at 3 a.value >>= λ index. indexed_at strings format base index.0) else
-    (if a.form == 0x28 then (number_at 4 a.value >>= λ index. indexed_at strings format base index.0) else
+    (if a.form == 0x0e
+    then (offset_at format a.value >>= λ offset. string_at strings.debug_str offset.0) else
+    (if a.form == 0x1f
+    then (offset_at format a.value >>= λ offset. string_at strings.debug_line_str offset.0) else
+    (if a.form == 0x1a || a.form == 0x1f02
+    then (uleb_at a.value >>= λ index. indexed_at strings format base index.0) else
+    (if a.form == 0x25
+    then (byte_at a.value >>= λ index. indexed_at strings format base index.0) else
+    (if a.form == 0x26
+    then (number_at 2 a.value >>= λ index. indexed_at strings format base index.0) else
+    (if a.form == 0x27
+    then (number_at 3 a.value >>= λ index. indexed_at strings format base index.0) else
+    (if a.form == 0x28
+    then (number_at 4 a.value >>= λ index. indexed_at strings format base index.0) else
     Err NotAString)))))))

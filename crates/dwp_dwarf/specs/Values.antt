@@ -1,6 +1,7 @@
--- Where the values of a root entry lie in the bytes of its unit: behind the header and the entry's code, one after the other
--- (DWARF 5, 7.5.2 to 7.5.5).
-use Rattle.std.specs.Prelude.{◌≡◌, ◌≢◌, ◌≤◌, ℕ, ◌+◌, List, [], ◌∷◌, ◌++◌, length, map, Some, Result, Ok, ⊤}
+-- Where the values of a root entry lie in the bytes of its unit: behind the header and the entry's
+-- code, one after the other (DWARF 5, 7.5.2 to 7.5.5).
+use Rattle.std.specs.Prelude.{◌≡◌, ◌≢◌, ◌≤◌, ℕ, ◌+◌, List, [], ◌∷◌, ◌++◌, length, map, Some, Result}
+use Rattle.std.specs.Prelude.{Ok, ⊤}
 use Rattle.dwp_bytes.specs.Input.{Input, front, after}
 use Rattle.dwp_bytes.specs.declared.fault.ReadError.{ReadError}
 use Rattle.dwp_dwarf.specs.declared.unit.UnitSection.{UnitSection}
@@ -8,9 +9,10 @@ use Rattle.dwp_dwarf.specs.Abbreviations.{Specification, Declaration, declaratio
 use Rattle.dwp_dwarf.specs.Entries.{DebugAttribute, DebugEntry, root_at}
 use Rattle.dwp_dwarf.specs.Units.{Unit, unit_at}
 
--- an attribute's value lies first, behind the names of its form, and the rest behind it; no name stands there but for the
--- form indirect, 0x16
-pub record LiesFirst (s : Specification) (i : Input) (a : DebugAttribute) (rest : Input) : Type 0 where
+-- an attribute's value lies first, behind the names of its form, and the rest behind it; no name
+-- stands there but for the form indirect, 0x16
+pub record LiesFirst (s : Specification) (i : Input) (a : DebugAttribute)
+    (rest : Input) : Type 0 where
   pub names : ℕ
   pub size : ℕ
   pub fits : names + size ≤ length i.bytes
@@ -25,8 +27,10 @@ ValuesLie [] ss i = ⊤
 ValuesLie (a ∷ more) [] i = ⊥
 ValuesLie (a ∷ more) (s ∷ ss) i = (rest : Input) × LiesFirst s i a rest × ValuesLie more ss rest
 
--- attributes that an entry begins with lie in the bytes of its unit, as the abbreviation of its code lists them
-pub record LiesInUnit (table : Input) (u : Unit) (e : DebugEntry) (read : List DebugAttribute) : Type 0 where
+-- attributes that an entry begins with lie in the bytes of its unit, as the abbreviation of its
+-- code lists them
+pub record LiesInUnit (table : Input) (u : Unit) (e : DebugEntry)
+    (read : List DebugAttribute) : Type 0 where
   pub code : ℕ
   pub declared : Declaration
   pub start : ℕ
@@ -37,5 +41,7 @@ pub record LiesInUnit (table : Input) (u : Unit) (e : DebugEntry) (read : List D
 
 -- the attributes that a root entry begins with, up to a fault or the end, lie in its unit
 abbrev pub RootValuesLie : Type 0
-RootValuesLie = (section : UnitSection) (i rest table : Input) (u : Unit) (e : DebugEntry) (read : List DebugAttribute) (others : List (Result DebugAttribute ReadError))
-    → unit_at section i ≡ Ok (u, rest) → root_at u table ≡ Ok (Some e) → e.attributes ≡ map Ok read ++ others → LiesInUnit table u e read
+RootValuesLie = (section : UnitSection) (i rest table : Input) (u : Unit) (e : DebugEntry)
+    (read : List DebugAttribute) (others : List (Result DebugAttribute ReadError))
+    → unit_at section i ≡ Ok (u, rest) → root_at u table ≡ Ok (Some e)
+    → e.attributes ≡ map Ok read ++ others → LiesInUnit table u e read

@@ -2,13 +2,17 @@
 
 ghost use Rattle.std.specs.Prelude.{◌≡◌};
 ghost use Rattle.dwp_base.specs.Reading.{Answers, Reads};
-ghost use Rattle.dwp_dwarf.specs.Abbreviations.{constant_at, specification_at, past_specifications, specifications_at, tag_at, children_at, declaration_at, code_at, declaration, is_last};
+ghost use Rattle.dwp_dwarf.specs.Abbreviations.{constant_at, specification_at, past_specifications};
+ghost use Rattle.dwp_dwarf.specs.Abbreviations.{specifications_at, tag_at, children_at};
+ghost use Rattle.dwp_dwarf.specs.Abbreviations.{declaration_at, code_at, declaration, is_last};
 ghost use Rattle.dwp_dwarf.specs.Offsets.{from_at};
-ghost use Rattle.dwp_dwarf.specs.Declarations.{specification_of, declaration_of, table_of, found_of};
+ghost use Rattle.dwp_dwarf.specs.Declarations.{specification_of, declaration_of, table_of};
+ghost use Rattle.dwp_dwarf.specs.Declarations.{found_of};
 
 use crate::form::IMPLICIT_CONST;
 use crate::offset::from_offset;
-use dwp_bytes::{ReadError, Reader, lebs_take_bytes};
+use dwp_bytes::laws::lebs_take_bytes;
+use dwp_bytes::{ReadError, Reader};
 
 /// An attribute and its form, as an abbreviation lists them.
 #[derive(Clone, Copy, Debug)]
@@ -46,7 +50,8 @@ fn skip_constant<R: Reader>(reader: &mut R, form: u64) -> Result<(), ReadError>
 pub(crate) fn read_specification<R: Reader>(
     reader: &mut R,
 ) -> Result<AttributeSpecification, ReadError>
-    ensures { Reads specification_of result (R.input reader.old) (R.input reader.new) specification_at }
+    ensures { Reads specification_of result (R.input reader.old) (R.input reader.new)
+        specification_at }
 {
     let mut at = *reader;
     let name = at.read_uleb128()?;
@@ -98,7 +103,8 @@ fn read_children<R: Reader>(reader: &mut R) -> Result<bool, ReadError>
 /// A declaration behind its code.
 #[tactic(auto, unfolding(crate::specs::Abbreviations::declaration_at))]
 pub(crate) fn read_declaration<R: Reader>(reader: &mut R) -> Result<Abbreviation<R>, ReadError>
-    ensures { Reads (declaration_of R.input) result (R.input reader.old) (R.input reader.new) declaration_at }
+    ensures { Reads (declaration_of R.input) result (R.input reader.old) (R.input reader.new)
+        declaration_at }
 {
     let mut specifications = *reader;
     let tag = read_tag(&mut specifications)?;
@@ -132,7 +138,10 @@ impl AttributeSpecification {
 }
 
 impl<R: Reader> Abbreviations<R> {
-    /// The table at an offset of the section of abbreviations. OffsetOutOfRange past its end.
+    /// The table at an offset of the section of abbreviations.
+    ///
+    /// # Errors
+    /// `OffsetOutOfRange` past the section's end.
     pub fn new(section: R, offset: u64) -> Result<Abbreviations<R>, ReadError>
         ensures { Answers (table_of R.input) result (from_at offset (R.input section)) }
     {
@@ -140,8 +149,12 @@ impl<R: Reader> Abbreviations<R> {
         Ok(Abbreviations { table })
     }
 
-    /// The first declaration of a code; None where the table has none. The table is read no further, so
-    /// that faults after it don't count. ZeroTag, BadChildren, BigLeb or UnexpectedEof for a fault before its end.
+    /// The first declaration of a code; None where the table has none. The table is read no
+    /// further, so that faults after it don't count.
+    ///
+    /// # Errors
+    /// `ZeroTag`, `BadChildren`, `BigLeb` or `UnexpectedEof` for a fault before the declaration and
+    /// before the table's end.
     pub fn get(&self, code: u64) -> Result<Option<Abbreviation<R>>, ReadError>
         ensures { Answers (found_of R.input) result (declaration code (table_of R.input self.now)) }
     {

@@ -1,3 +1,5 @@
+//! Abbreviations that are remembered (DWARF 5, 7.5.3).
+
 ghost use Rattle.std.specs.Prelude.{◌≡◌, ◌≢◌, ℕ, Ok, Err, Some, None, true, false};
 ghost use Rattle.std.specs.Ordering.{nat_cmp};
 ghost use Rattle.std.specs.BTreeMap.{get};
@@ -12,7 +14,8 @@ ghost use Rattle.dwp_dwarf.specs.Remembered.{next_of, remembered};
 
 use crate::abbrev::{Abbreviation, Abbreviations, read_code, read_declaration};
 use crate::offset::from_offset;
-use dwp_bytes::{ReadError, Reader, lebs_take_bytes};
+use dwp_bytes::laws::lebs_take_bytes;
+use dwp_bytes::{ReadError, Reader};
 use std::alloc::Global;
 use std::collections::BTreeMap;
 use std::marker::Model;
@@ -39,7 +42,8 @@ impl<R: Reader> Model for AbbreviationCache<R> {
 
     ghost view = { λ c. c.section };
 
-    ghost invariant = { λ c. RemembersTable R.input (R.input c.section) c.offset c.known (R.input c.rest) };
+    ghost invariant = { λ c.
+        RemembersTable R.input (R.input c.section) c.offset c.known (R.input c.rest) };
 }
 
 impl<R: Reader> AbbreviationCache<R> {
@@ -62,14 +66,19 @@ impl<R: Reader> AbbreviationCache<R> {
         self.section
     }
 
-    /// What `Abbreviations::get` says of a code in the table at that offset of the section, want of
-    /// memory aside: that is never met. OffsetOutOfRange past the section's end.
+    /// What `Abbreviations::get` says of a code in the table at that offset of the section.
     ///
     /// While the offset stays the same no declaration is read twice, where there is memory to
     /// remember it. Another offset forgets the table at hand.
+    ///
+    /// # Errors
+    /// `OffsetOutOfRange` past the section's end, and those of `Abbreviations::get`. Want of memory
+    /// is never met.
     pub fn get(&mut self, offset: u64, code: u64) -> Result<Option<Abbreviation<R>>, ReadError>
-        ensures declared { (table : Input) → from_at offset (R.input self.old) ≡ Ok table → Answers (found_of R.input) result (declaration code table) }
-        ensures outside { (e : ReadError) → from_at offset (R.input self.old) ≡ Err e → result ≡ Err e }
+        ensures declared { (table : Input) → from_at offset (R.input self.old) ≡ Ok table
+            → Answers (found_of R.input) result (declaration code table) }
+        ensures outside { (e : ReadError) → from_at offset (R.input self.old) ≡ Err e
+            → result ≡ Err e }
         ensures kept { self.new ≡ self.old }
     {
         if offset != self.offset {
@@ -104,9 +113,13 @@ fn remember<R: Reader>(
     code: u64,
     abbreviation: Abbreviation<R>,
 ) -> bool
-    ensures kept { result ≡ true → (rest behind : Input) → next_at rest ≡ Ok (Some ((code, declaration_of R.input abbreviation), behind)) → (other : ℕ) → remembered R.input known.new behind other ≡ remembered R.input known.old rest other }
-    ensures others { (other : ℕ) → other ≢ code → get nat_cmp known.new other ≡ get nat_cmp known.old other }
-    ensures refused { result ≡ false → (other : ℕ) → get nat_cmp known.new other ≡ get nat_cmp known.old other }
+    ensures kept { result ≡ true → (rest behind : Input) → next_at rest
+        ≡ Ok (Some ((code, declaration_of R.input abbreviation), behind)) → (other : ℕ)
+        → remembered R.input known.new behind other ≡ remembered R.input known.old rest other }
+    ensures others { (other : ℕ) → other ≢ code
+        → get nat_cmp known.new other ≡ get nat_cmp known.old other }
+    ensures refused { result ≡ false → (other : ℕ)
+        → get nat_cmp known.new other ≡ get nat_cmp known.old other }
 {
     lebs_take_bytes();
     if known.contains_key(&code) {
@@ -124,7 +137,8 @@ fn read_on<R: Reader>(
 ) -> Result<Option<Abbreviation<R>>, ReadError>
     requires { get nat_cmp known.old code ≡ None }
     ensures declared { Answers (found_of R.input) result (declaration code (R.input rest.old)) }
-    ensures kept { (other : ℕ) → remembered R.input known.new (R.input rest.new) other ≡ remembered R.input known.old (R.input rest.old) other }
+    ensures kept { (other : ℕ) → remembered R.input known.new (R.input rest.new) other
+        ≡ remembered R.input known.old (R.input rest.old) other }
 {
     lebs_take_bytes();
     while let Some((found, abbreviation, behind)) = next_declaration(*rest)? {

@@ -6,8 +6,10 @@ ghost use Rattle.dwp_base.specs.Reading.{Answers, Reads};
 ghost use Rattle.dwp_dwarf.specs.Units.{unit_of};
 ghost use Rattle.dwp_dwarf.specs.Abbreviations.{pairs_in};
 ghost use Rattle.dwp_dwarf.specs.Declarations.{specification_of, declaration_of, table_of};
-ghost use Rattle.dwp_dwarf.specs.Entries.{attribute_at, entry, entry_at, root_code_at, root_at, number_of, place_of};
-ghost use Rattle.dwp_dwarf.specs.Attributes.{attribute_of, attribute_seen, attributes_left, entry_of, root_of, root_code_of};
+ghost use Rattle.dwp_dwarf.specs.Entries.{attribute_at, entry, entry_at, root_code_at, root_at};
+ghost use Rattle.dwp_dwarf.specs.Entries.{number_of, place_of};
+ghost use Rattle.dwp_dwarf.specs.Attributes.{attribute_of, attribute_seen, attributes_left};
+ghost use Rattle.dwp_dwarf.specs.Attributes.{entry_of, root_of, root_code_of};
 
 use crate::abbrev::{
     Abbreviation, Abbreviations, AttributeSpecification, read_code, read_specification,
@@ -15,7 +17,8 @@ use crate::abbrev::{
 use crate::form::{DATA1, DATA2, DATA4, DATA8, SEC_OFFSET, UDATA};
 use crate::unit::UnitHeader;
 use crate::value::{named_form, read_value};
-use dwp_bytes::{Encoding, Format, ReadError, Reader, lebs_take_bytes};
+use dwp_bytes::laws::lebs_take_bytes;
+use dwp_bytes::{Encoding, Format, ReadError, Reader};
 
 /// An attribute of an entry (DWARF 5, 7.5.4 and 7.5.5).
 #[derive(Clone, Copy, Debug)]
@@ -48,7 +51,8 @@ pub struct RootEntry<R> {
 
 /// The next attribute and its form; None at the end of the list.
 fn next_specification<R: Reader>(specifications: &mut R) -> Option<AttributeSpecification>
-    ensures { MatchOption result (pairs_in (R.input specifications.old) ≡ []) (λ s. pairs_in (R.input specifications.old) ≡ specification_of s ∷ pairs_in (R.input specifications.new)) }
+    ensures { MatchOption result (pairs_in (R.input specifications.old) ≡ []) (λ s. pairs_in
+        (R.input specifications.old) ≡ specification_of s ∷ pairs_in (R.input specifications.new)) }
 {
     lebs_take_bytes();
     match read_specification(specifications) {
@@ -64,7 +68,8 @@ fn read_attribute<R: Reader>(
     specification: AttributeSpecification,
     encoding: Encoding,
 ) -> Result<Attribute<R>, ReadError>
-    ensures { Reads (attribute_of R.input) result (R.input values.old) (R.input values.new) (attribute_at encoding (specification_of specification)) }
+    ensures { Reads (attribute_of R.input) result (R.input values.old) (R.input values.new)
+        (attribute_at encoding (specification_of specification)) }
 {
     let (form, mut at) = named_form(*values, specification.form)?;
     let value = read_value(&mut at, form, encoding)?;
@@ -98,7 +103,8 @@ impl<R: Reader> Iterator for Attributes<R> {
 }
 
 impl<R: Reader> Attribute<R> {
-    /// The number of a value of the forms data1, data2, data4, data8 and udata; None for other forms.
+    /// The number of a value of the forms data1, data2, data4, data8 and udata; None for other
+    /// forms.
     #[tactic(auto, unfolding(crate::specs::Entries::number_of))]
     pub fn number(&self) -> Option<u64>
         ensures { result ≡ number_of (attribute_of R.input self.now) }
@@ -115,7 +121,8 @@ impl<R: Reader> Attribute<R> {
         Some(number)
     }
 
-    /// The place in a section that a value of the forms sec_offset, data4 and data8 names; None for other forms.
+    /// The place in a section that a value of the forms sec_offset, data4 and data8 names; None for
+    /// other forms.
     #[tactic(auto, unfolding(crate::specs::Entries::place_of))]
     pub fn section_offset(&self, format: Format) -> Option<u64>
         ensures { result ≡ place_of format (attribute_of R.input self.now) }
@@ -132,11 +139,15 @@ impl<R: Reader> Attribute<R> {
 }
 
 impl<R: Reader> UnitHeader<R> {
-    /// The code of the root entry, and a reader at the values of its attributes. None where no byte is left
-    /// behind the header, or the code is 0. UnexpectedEof or BigLeb for a code that can't be read.
+    /// The code of the root entry, and a reader at the values of its attributes. None where no byte
+    /// is left behind the header, or the code is 0.
+    ///
+    /// # Errors
+    /// `UnexpectedEof` or `BigLeb` for a code that can't be read.
     #[tactic(auto, unfolding(crate::specs::Entries::root_code_at))]
     pub fn root_code(&self) -> Result<Option<(u64, R)>, ReadError>
-        ensures { Answers (root_code_of R.input) result (root_code_at (unit_of R.input self.now).entries) }
+        ensures { Answers (root_code_of R.input) result
+            (root_code_at (unit_of R.input self.now).entries) }
     {
         let mut at = self.entries;
         let code = read_code(&mut at)?;
@@ -150,7 +161,8 @@ impl<R: Reader> UnitHeader<R> {
 impl<R: Reader> Abbreviation<R> {
     /// The entry of this abbreviation whose values stand there.
     pub fn entry(&self, encoding: Encoding, values: R) -> RootEntry<R>
-        ensures { entry_of R.input result ≡ entry encoding (declaration_of R.input self.now) (R.input values) }
+        ensures { entry_of R.input result
+            ≡ entry encoding (declaration_of R.input self.now) (R.input values) }
     {
         RootEntry {
             tag: self.tag,
@@ -165,10 +177,12 @@ impl<R: Reader> Abbreviation<R> {
 }
 
 impl<R: Reader> Abbreviations<R> {
-    /// The entry of a code whose values stand there. UnknownCode where the table doesn't have the code.
+    /// The entry of a code whose values stand there. UnknownCode where the table doesn't have the
+    /// code.
     #[tactic(auto, unfolding(crate::specs::Entries::entry_at))]
     fn entry(&self, encoding: Encoding, code: u64, values: R) -> Result<RootEntry<R>, ReadError>
-        ensures { Answers (entry_of R.input) result (entry_at encoding (table_of R.input self.now) (code, R.input values)) }
+        ensures { Answers (entry_of R.input) result
+            (entry_at encoding (table_of R.input self.now) (code, R.input values)) }
     {
         let abbreviation = self.get(code)?.ok_or(ReadError::UnknownCode)?;
         Ok(abbreviation.entry(encoding, values))
@@ -176,13 +190,17 @@ impl<R: Reader> Abbreviations<R> {
 }
 
 /// The root entry of a unit; None where no byte is left behind the header, or its code is 0.
-/// UnknownCode where the table doesn't have its code, and the faults of `UnitHeader::root_code` and `Abbreviations::get`.
+///
+/// # Errors
+/// `UnknownCode` where the table doesn't have its code, and those of `UnitHeader::root_code` and
+/// `Abbreviations::get`.
 #[tactic(auto, unfolding(crate::specs::Entries::root_at))]
 pub fn root<R: Reader>(
     header: &UnitHeader<R>,
     abbreviations: &Abbreviations<R>,
 ) -> Result<Option<RootEntry<R>>, ReadError>
-    ensures { Answers (root_of R.input) result (root_at (unit_of R.input header.now) (table_of R.input abbreviations.now)) }
+    ensures { Answers (root_of R.input) result
+        (root_at (unit_of R.input header.now) (table_of R.input abbreviations.now)) }
 {
     match header.root_code()? {
         None => Ok(None),

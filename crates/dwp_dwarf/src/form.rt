@@ -1,3 +1,5 @@
+//! How the values of forms are laid out (DWARF 5, 7.5.5).
+
 /// How the value of a form is laid out.
 #[derive(Clone, Copy, Debug)]
 pub(crate) enum Layout {
@@ -26,7 +28,7 @@ pub(crate) enum BlockLength {
     Leb,
 }
 
-// The forms (DWARF 5, 7.5.6; the GNU forms of split DWARF and of supplementary files).
+/// The forms (DWARF 5, 7.5.6; the GNU forms of split DWARF and of supplementary files).
 pub(crate) const ADDR: u64 = 0x01;
 
 pub(crate) const BLOCK2: u64 = 0x03;

@@ -1,7 +1,10 @@
+//! What declarations, values of attributes and units are, as laws.
+
 ghost use Rattle.dwp_dwarf.specs.Grammar.{FoundIsFirst, AbsentIsNowhere, FaultIsBefore};
+ghost use Rattle.dwp_dwarf.specs.Units.{UnitsAreTaken, UnitsAreSection, FaultIsNext, UnitsAreOne};
 ghost use Rattle.dwp_dwarf.specs.Values.{RootValuesLie};
 
-use dwp_bytes::lebs_take_bytes;
+use dwp_bytes::laws::lebs_take_bytes;
 
 /// What a table of abbreviations declares for a code is its first declaration of that code; it
 /// declares nothing where all up to its end are of other codes, and has a fault where the first
@@ -21,3 +24,13 @@ pub fn root_values_lie_in_the_unit()
 {
     lebs_take_bytes();
 }
+
+/// The units of a section have all its bytes, each byte once and in order; where one can't be read,
+/// all bytes before it. There is no other list of units that goes from the section's start to its
+/// end. A unit has the bytes that reading it takes, at least one. It does nothing.
+pub fn units_have_all_bytes()
+    ensures taken { UnitsAreTaken }
+    ensures whole { UnitsAreSection }
+    ensures fault { FaultIsNext }
+    ensures one { UnitsAreOne }
+{}

@@ -1,3 +1,5 @@
+//! What stands from an offset of a section on.
+
 ghost use Rattle.dwp_base.specs.Reading.{Answers};
 ghost use Rattle.dwp_dwarf.specs.Offsets.{from_at};
 

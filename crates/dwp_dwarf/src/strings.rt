@@ -58,16 +58,21 @@ fn indexed_string<R: Reader>(
     base: u64,
     index: u64,
 ) -> Result<R, ReadError>
-    ensures { Answers R.input result (indexed_at (strings_of R.input sections.now) format base index) }
+    ensures { Answers R.input result
+        (indexed_at (strings_of R.input sections.now) format base index) }
 {
     let mut entry = from_entry(sections.debug_str_offsets, format, base, index)?;
     let offset = entry.read_offset(format)?;
     string_at(sections.debug_str, offset)
 }
 
-/// The string of an attribute, without a zero byte at its end. `base` is where the unit's entries of
-/// `.debug_str_offsets` begin. NotAString for a form that is no string, OffsetOutOfRange for an offset past its section,
-/// NoTerminator for a string without a zero byte, UnexpectedEof for an entry past the end of its section.
+/// The string of an attribute, without a zero byte at its end. `base` is where the unit's entries
+/// of `.debug_str_offsets` begin.
+///
+/// # Errors
+/// `NotAString` for a form that is no string, `OffsetOutOfRange` for an offset past its section,
+/// `NoTerminator` for a string without a zero byte, `UnexpectedEof` for an entry past the end of
+/// its section.
 #[tactic(auto, unfolding(crate::specs::Strings::string_of))]
 pub fn attr_string<R: Reader>(
     sections: &StringSections<R>,
@@ -75,7 +80,8 @@ pub fn attr_string<R: Reader>(
     base: u64,
     attribute: &Attribute<R>,
 ) -> Result<R, ReadError>
-    ensures { Answers R.input result (string_of (strings_of R.input sections.now) format base (attribute_of R.input attribute.now)) }
+    ensures { Answers R.input result (string_of (strings_of R.input sections.now) format base
+        (attribute_of R.input attribute.now)) }
 {
     let mut value = attribute.value;
     match attribute.form {

@@ -1,3 +1,5 @@
+//! Units and their root entries, read from bytes.
+
 ghost use Rattle.dwp_base.specs.Reading.{Answers};
 ghost use Rattle.dwp_dwarf.specs.Attributes.{root_of};
 ghost use Rattle.dwp_dwarf.specs.Declarations.{table_of};
@@ -192,7 +194,8 @@ fn strings_of_attributes(rt: HostRuntime) {
     }
 }
 
-/// What is relocated at the places of a type unit's length, abbreviation offset, signature and type offset.
+/// What is relocated at the places of a type unit's length, abbreviation offset, signature and type
+/// offset.
 static RELOCATIONS: [RelocationEntry; 4] = [
     RelocationEntry {
         offset: 0,
@@ -230,7 +233,8 @@ fn relocated_root<'a>(
     table: &Abbreviations<Relocate<'a, SliceReader<'a>>>,
 ) -> Result<Option<RootEntry<Relocate<'a, SliceReader<'a>>>>, ReadError>
     ensures { Answers (root_of ⟦<Relocate<'a, SliceReader<'a>> as Reader>⟧.input) result
-        (root_at (unit_of ⟦<Relocate<'a, SliceReader<'a>> as Reader>⟧.input unit.now) (table_of ⟦<Relocate<'a, SliceReader<'a>> as Reader>⟧.input table.now)) }
+        (root_at (unit_of ⟦<Relocate<'a, SliceReader<'a>> as Reader>⟧.input unit.now)
+        (table_of ⟦<Relocate<'a, SliceReader<'a>> as Reader>⟧.input table.now)) }
 {
     root(unit, table)
 }

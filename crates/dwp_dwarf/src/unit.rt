@@ -3,7 +3,9 @@
 ghost use Rattle.std.specs.Prelude.{◌≡◌, ◌≤◌, length};
 ghost use Rattle.std.specs.Iterator.{YieldsFirstBy, item_count};
 ghost use Rattle.dwp_base.specs.Reading.{Answers, Reads};
-ghost use Rattle.dwp_dwarf.specs.Units.{initial_length_at, address_size_at, type_at, older_type_at, unit_code_at, unit_type_at, older_at, newer_at, header_at, unit_at, units, units_left, unit_of, unit_seen, UnitsAreTaken, UnitsAreSection, FaultIsNext, UnitsAreOne};
+ghost use Rattle.dwp_dwarf.specs.Units.{initial_length_at, address_size_at, type_at, older_type_at};
+ghost use Rattle.dwp_dwarf.specs.Units.{unit_code_at, unit_type_at, older_at, newer_at, header_at};
+ghost use Rattle.dwp_dwarf.specs.Units.{unit_at, units, units_left, unit_of, unit_seen};
 
 use dwp_bytes::{Encoding, Format, ReadError, Reader};
 
@@ -124,7 +126,8 @@ fn read_older_type<R: Reader>(
     section: UnitSection,
     format: Format,
 ) -> Result<UnitType, ReadError>
-    ensures { Reads (λ x. x) result (R.input reader.old) (R.input reader.new) (older_type_at section format) }
+    ensures { Reads (λ x. x) result (R.input reader.old) (R.input reader.new)
+        (older_type_at section format) }
 {
     match section {
         UnitSection::Info => Ok(UnitType::Compilation),
@@ -158,7 +161,8 @@ fn read_unit_type<R: Reader>(
     code: u8,
     format: Format,
 ) -> Result<UnitType, ReadError>
-    ensures { Reads (λ x. x) result (R.input reader.old) (R.input reader.new) (unit_type_at code format) }
+    ensures { Reads (λ x. x) result (R.input reader.old) (R.input reader.new)
+        (unit_type_at code format) }
 {
     if code == DW_UT_COMPILE {
         Ok(UnitType::Compilation)
@@ -192,7 +196,8 @@ fn older_header<R: Reader>(
     version: u16,
     whole: R,
 ) -> Result<UnitHeader<R>, ReadError>
-    ensures { Answers (unit_of R.input) result (older_at section format version (R.input whole) (R.input at)) }
+    ensures { Answers (unit_of R.input) result
+        (older_at section format version (R.input whole) (R.input at)) }
 {
     let abbrev_offset = at.read_offset(format)?;
     let address_size = read_address_size(&mut at)?;
@@ -241,7 +246,8 @@ fn header<R: Reader>(
     format: Format,
     whole: R,
 ) -> Result<UnitHeader<R>, ReadError>
-    ensures { Answers (unit_of R.input) result (header_at section format (R.input whole) (R.input at)) }
+    ensures { Answers (unit_of R.input) result
+        (header_at section format (R.input whole) (R.input at)) }
 {
     let version = at.read_u16()?;
     if version == 5 {
@@ -256,7 +262,8 @@ fn header<R: Reader>(
 /// The first unit.
 #[tactic(auto, unfolding(crate::specs::Units::unit_at))]
 fn read_unit<R: Reader>(reader: &mut R, section: UnitSection) -> Result<UnitHeader<R>, ReadError>
-    ensures { Reads (unit_of R.input) result (R.input reader.old) (R.input reader.new) (unit_at section) }
+    ensures { Reads (unit_of R.input) result (R.input reader.old) (R.input reader.new)
+        (unit_at section) }
 {
     let mut rest = *reader;
     let (format, length) = read_initial_length(&mut rest)?;
@@ -335,13 +342,3 @@ impl<R: Reader> Iterator for UnitHeaders<R> {
         Some(unit)
     }
 }
-
-/// The units of a section have all its bytes, each byte once and in order; where one can't be read, all bytes before it.
-/// There is no other list of units that goes from the section's start to its end. A unit has the bytes that
-/// reading it takes, at least one. It does nothing.
-pub fn units_have_all_bytes()
-    ensures taken { UnitsAreTaken }
-    ensures whole { UnitsAreSection }
-    ensures fault { FaultIsNext }
-    ensures one { UnitsAreOne }
-{}

@@ -1,9 +1,14 @@
+//! The values of attributes, by their forms (DWARF 5, 7.5.5 and 7.5.6).
+
 ghost use Rattle.std.specs.Prelude.{◌≡◌};
 ghost use Rattle.dwp_base.specs.Reading.{Reads, Answers};
-ghost use Rattle.dwp_dwarf.specs.Forms.{fixed_size, unit_size, open_layout, layout_of, block_length_at, text_at, past_value, value_at, named_form_at};
+ghost use Rattle.dwp_dwarf.specs.Forms.{fixed_size, unit_size, open_layout, layout_of};
+ghost use Rattle.dwp_dwarf.specs.Forms.{block_length_at, text_at, past_value, value_at};
+ghost use Rattle.dwp_dwarf.specs.Forms.{named_form_at};
 
 use crate::form::*;
-use dwp_bytes::{Encoding, ReadError, Reader, lebs_take_bytes};
+use dwp_bytes::laws::lebs_take_bytes;
+use dwp_bytes::{Encoding, ReadError, Reader};
 
 /// The size of a value that has one of its own.
 fn fixed_size(form: u64) -> Option<u8>
@@ -66,7 +71,8 @@ fn layout_of(form: u64, encoding: Encoding) -> Option<Layout>
 
 #[tactic(auto, unfolding(crate::specs::Forms::block_length_at))]
 fn read_block_length<R: Reader>(reader: &mut R, length: BlockLength) -> Result<u64, ReadError>
-    ensures { Reads (λ x. x) result (R.input reader.old) (R.input reader.new) (block_length_at length) }
+    ensures { Reads (λ x. x) result (R.input reader.old) (R.input reader.new)
+        (block_length_at length) }
 {
     match length {
         BlockLength::One => Ok(u64::from(reader.read_u8()?)),
@@ -120,7 +126,8 @@ pub(crate) fn read_value<R: Reader>(
     form: u64,
     encoding: Encoding,
 ) -> Result<R, ReadError>
-    ensures { Reads R.input result (R.input reader.old) (R.input reader.new) (value_at encoding form) }
+    ensures { Reads R.input result (R.input reader.old) (R.input reader.new)
+        (value_at encoding form) }
 {
     let layout = layout_of(form, encoding).ok_or(ReadError::UnknownForm)?;
     let rest = after_value(*reader, layout)?;

@@ -12,7 +12,7 @@ use Rattle.dwp_elf_read.specs.Identification.{identity_of}
 use Rattle.dwp_base.specs.declared.class.Class.{Class}
 use Rattle.dwp_base.specs.declared.class.Class.TheVariants.{Elf32, Elf64}
 use Rattle.dwp_elf.proofs.WrittenFields.{spelled, file_fields, file_header-spelled}
-use Rattle.dwp_elf_read.specs.Elf.{SectionMeaning, section_of, header_at, sections_from, elf_of}
+use Rattle.dwp_elf_read.specs.Elf.{SectionMeaning, section_of, section_header_at, sections_from, elf_of}
 use Rattle.dwp_elf.specs.FileText.{Object, identification, file_header, content_bytes, names_of, name_table, section_count, headers_place, names_end, zeros_after, headers_from, null_header, section_headers, file_text}
 use Rattle.dwp_elf.proofs.Limits.{length-file_header, length-null_header, length-file_text}
 use Rattle.dwp_elf.proofs.Parts.{length-name_of}
@@ -82,8 +82,8 @@ all-sections o fits few =
     let rest = replicate (zeros_after (names_end o.class o.contents)) 0 ++ section_headers o in
     let two : length o.contents + 2 ≡ suc (suc (length o.contents)) = omega arith in
     let start : headers ≡ headers + 0 * entry_size o.class = omega arith in
-    ap (λ (n : ℕ). map (λ k. section_of text (Some names) k (header_at o.class o.order text headers k)) (range_with_len 0 n)) two
-    ∙ ap (λ (s : SectionMeaning). s ∷ map (λ k. section_of text (Some names) k (header_at o.class o.order text headers k)) (range_with_len 1 (suc (length o.contents))))
+    ap (λ (n : ℕ). map (λ k. section_of text (Some names) k (section_header_at o.class o.order text headers k)) (range_with_len 0 n)) two
+    ∙ ap (λ (s : SectionMeaning). s ∷ map (λ k. section_of text (Some names) k (section_header_at o.class o.order text headers k)) (range_with_len 1 (suc (length o.contents))))
     (null-back o.class o.order text (names_of o.contents ++ (codes ".shstrtab" ++ 0 ∷ [])) (headers_from o.class o.order (length names) 1 (header_size o.class) o.contents) headers (ap (λ (k : ℕ). drop k text) (sym start) ∙ headers-behind o))
     ∙ ap (λ (ss : List SectionMeaning). plain_section 0 0 [] [] ∷ ss)
     (sections-back o.class o.order text names rest headers o.contents 1 1 (header_size o.class) (first-behind o) (contents-behind o) refl (within-text o) (omega arith) (omega (arith, length-names_of o.contents)))

@@ -6,7 +6,7 @@ use Rattle.dwp_base.specs.declared.class.Class.TheVariants.{Elf32, Elf64}
 use Rattle.dwp_base.specs.declared.endian.Endianness.{Endianness}
 use Rattle.dwp_elf_read.specs.Layout.{word_size, entry_size, file_header_of, is_inside}
 use Rattle.dwp_elf_read.specs.Identification.{identity_of}
-use Rattle.dwp_elf_read.specs.Elf.{SectionMeaning, content_of, header_at, named_count, section_count, name_table_number, name_table_numbered, name_table, sections_from, elf_of}
+use Rattle.dwp_elf_read.specs.Elf.{SectionMeaning, section_content, section_header_at, named_count, section_count, name_table_number, name_table_numbered, name_table, sections_from, elf_of}
 
 not-zero : (n : ℕ) → 0 < n → (n == 0) ≡ false
 not-zero n h = ne_eqb n 0 (λ e. absurd (omega arith))
@@ -22,7 +22,7 @@ unfolding named_count section_count
 section_count-facts class order bytes machine table count names a b within = rw (not-zero table a, own-size class, not-zero count b, within) refl
 
 pub name_table-facts : (class : Class) (order : Endianness) (bytes content : List ℕ) (machine table count names : ℕ) → (names == 0xffff) ≡ false
-    → 0 < names → nat_lt names count ≡ true → content_of bytes (header_at class order bytes table names) ≡ Some content
+    → 0 < names → nat_lt names count ≡ true → section_content bytes (section_header_at class order bytes table names) ≡ Some content
     → name_table class order bytes (record { machine = machine; table = table; entry_size = entry_size class; count = count; names = names }) count ≡ Ok (Some content)
 unfolding name_table_number name_table_numbered name_table
 name_table-facts class order bytes content machine table count names plain a b got = rw (plain, not-zero names a, b, got) refl

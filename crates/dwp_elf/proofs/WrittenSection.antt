@@ -11,7 +11,7 @@ use Rattle.std.proofs.lemmas.Str.Ascii.{IsAscii-nil}
 use Rattle.dwp_base.specs.declared.section.SectionKind.{SectionKind}
 use Rattle.dwp_base.specs.declared.section.SectionKind.TheVariants.{Info, Types, Abbrev, Line, Loc, Loclists, Rnglists, StrOffsets, Macinfo, Macro, Str, CuIndex, TuIndex}
 use Rattle.dwp_base.specs.Sections.{name_of}
-use Rattle.dwp_elf_read.specs.Elf.{content_of, text_of, text_at, section_of}
+use Rattle.dwp_elf_read.specs.Elf.{section_content, text_of, text_at, section_of}
 use Rattle.dwp_elf.specs.Written.{plain_section}
 
 -- a text that a zero byte ends, and that is UTF-8
@@ -81,8 +81,8 @@ slice-content bytes content after place e =
 -- a content is read from its place in the file
 pub content_of-place : (bytes content after : List ℕ) (place name type : ℕ) → (type == 8) ≡ false → drop place bytes ≡ content ++ after
     → nat_le (place + length content) (length bytes) ≡ true
-    → content_of bytes (record { name = name; kind = type; flags = 0; address = 0; offset = place; size = length content; link = 0; info = 0 }) ≡ Some content
-unfolding content_of
+    → section_content bytes (record { name = name; kind = type; flags = 0; address = 0; offset = place; size = length content; link = 0; info = 0 }) ≡ Some content
+unfolding section_content
 content_of-place bytes content after place name type other e within =
     ap (λ (b : Bool). cond b (Some []) (cond (nat_le (place + length content) (length bytes)) (Some (slice_range bytes place (place + length content))) None)) other
     ∙ ap (λ (b : Bool). cond b (Some (slice_range bytes place (place + length content))) None) within

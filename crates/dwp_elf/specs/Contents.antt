@@ -1,4 +1,5 @@
--- The contents of an object: what is written under the name of each kind of section, in order of first append.
+-- The contents of an object: what is written under the name of each kind of section, in order of
+-- first append.
 use Rattle.std.specs.Prelude.{ℕ, ◌+◌, ◌≤◌, if◌then◌else◌, List, [], ◌∷◌, ◌++◌, take, map}
 use Rattle.std.specs.Global.{Vec}
 use Rattle.dwp_base.specs.declared.section.SectionKind.{SectionKind}
@@ -19,9 +20,11 @@ content_of kind [] = []
 content_of kind (c ∷ cs) = if same_kind c.0 kind then c.1 else content_of kind cs
 
 -- the contents once bytes were added at the end of a kind's, the first of a kind making it
-abbrev pub appended : SectionKind → List ℕ → List (SectionKind × List ℕ) → List (SectionKind × List ℕ)
+abbrev pub appended : SectionKind → List ℕ → List (SectionKind × List ℕ)
+    → List (SectionKind × List ℕ)
 appended kind bytes [] = (kind, bytes) ∷ []
-appended kind bytes (c ∷ cs) = if same_kind c.0 kind then (c.0, c.1 ++ bytes) ∷ cs else c ∷ appended kind bytes cs
+appended kind bytes (c ∷ cs) =
+    if same_kind c.0 kind then (c.0, c.1 ++ bytes) ∷ cs else c ∷ appended kind bytes cs
 
 -- as many contents as there are sizes, each cut to its size
 abbrev pub truncated : List (SectionKind × List ℕ) → List ℕ → List (SectionKind × List ℕ)

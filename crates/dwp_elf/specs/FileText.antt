@@ -1,4 +1,5 @@
--- The ELF file that a list of contents is written as (ELF gABI, "ELF Header", "Sections" and "String Table").
+-- The ELF file that a list of contents is written as (ELF gABI, "ELF Header", "Sections" and
+-- "String Table").
 use Rattle.std.specs.Prelude.{ℕ, ◌+◌, ◌-◌, ◌%◌, List, [], ◌∷◌, ◌++◌, length, replicate, codes}
 use Rattle.dwp_base.specs.declared.class.Class.{Class}
 use Rattle.dwp_base.specs.declared.class.Class.TheVariants.{Elf32, Elf64}
@@ -37,7 +38,8 @@ order_byte Big = 2
 
 -- the magic number, class, byte order, version 1 and nine zeros
 abbrev pub identification : Class → Endianness → List ℕ
-identification class order = 127 ∷ 69 ∷ 76 ∷ 70 ∷ class_byte class ∷ order_byte order ∷ 1 ∷ 0 ∷ 0 ∷ 0 ∷ 0 ∷ 0 ∷ 0 ∷ 0 ∷ 0 ∷ 0 ∷ []
+identification class order = 127 ∷ 69 ∷ 76 ∷ 70 ∷ class_byte class ∷ order_byte order ∷ 1 ∷ 0 ∷ 0
+    ∷ 0 ∷ 0 ∷ 0 ∷ 0 ∷ 0 ∷ 0 ∷ 0 ∷ []
 
 -- the contents, one after the other
 unfoldable pub content_bytes : List (SectionKind × List ℕ) → List ℕ
@@ -72,7 +74,8 @@ zeros_after n = (8 - n % 8) % 8
 abbrev pub headers_place : Class → List (SectionKind × List ℕ) → ℕ
 headers_place class contents = names_end class contents + zeros_after (names_end class contents)
 
--- A relocatable file (1) of version 1, with no program headers, whose last section has the names ("ELF Header").
+-- a relocatable file (1) of version 1, with no program headers, whose last section has the names
+-- ("ELF Header")
 unfoldable pub file_header : Class → Endianness → ℕ → ℕ → ℕ → List ℕ
 file_header class order machine headers count =
     identification class order ++ half order 1 ++ half order machine ++ word order 1
@@ -80,8 +83,8 @@ file_header class order machine headers count =
     ++ half order (header_size class) ++ half order 0 ++ half order 0
     ++ half order (entry_size class) ++ half order count ++ half order (count - 1)
 
--- A section header: place of the name in the name table, type, no flags, no address, place, size, no link, no information,
--- alignment 1 and no entries ("Section Header").
+-- a section header: place of the name in the name table, type, no flags, no address, place, size,
+-- no link, no information, alignment 1 and no entries ("Section Header")
 unfoldable pub section_header : Class → Endianness → ℕ → ℕ → ℕ → ℕ → List ℕ
 section_header class order name type place size =
     word order name ++ word order type ++ wide class order 0 ++ wide class order 0
@@ -92,8 +95,9 @@ section_header class order name type place size =
 abbrev pub null_header : Class → List ℕ
 null_header class = replicate (entry_size class) 0
 
--- The headers of contents of type PROGBITS (1), and after them that of `.shstrtab`, of type STRTAB (3). The first name stands
--- at `name` of the name table, and the first content at `place` of the file.
+-- the headers of contents of type PROGBITS (1), and after them that of `.shstrtab`, of type STRTAB
+-- (3); the first name stands at `name` of the name table, and the first content at `place` of the
+-- file
 unfoldable pub headers_from : Class → Endianness → ℕ → ℕ → ℕ → List (SectionKind × List ℕ) → List ℕ
 headers_from class order size name place [] = section_header class order name 3 place size
 headers_from class order size name place (c ∷ cs) =
@@ -103,11 +107,14 @@ headers_from class order size name place (c ∷ cs) =
 -- the section headers of a file
 abbrev pub section_headers : Object → List ℕ
 section_headers o =
-    null_header o.class ++ headers_from o.class o.order (length (name_table o.contents)) 1 (header_size o.class) o.contents
+    null_header o.class ++ headers_from o.class o.order (length (name_table o.contents)) 1
+    (header_size o.class) o.contents
 
--- The whole file: header, contents, names, zeros up to a multiple of 8, section headers.
+-- the whole file: header, contents, names, zeros up to a multiple of 8, section headers
 unfoldable pub file_text : Object → List ℕ
 file_text o =
-    file_header o.class o.order o.machine (headers_place o.class o.contents) (section_count o.contents)
-    ++ content_bytes o.contents ++ name_table o.contents ++ replicate (zeros_after (names_end o.class o.contents)) 0
+    file_header o.class o.order o.machine (headers_place o.class o.contents)
+    (section_count o.contents)
+    ++ content_bytes o.contents ++ name_table o.contents
+    ++ replicate (zeros_after (names_end o.class o.contents)) 0
     ++ section_headers o

@@ -1,5 +1,5 @@
--- The numbers of a file that its class limits: offsets and sizes of an ELF 32 file are below 2 ^ 32, those of an ELF 64 file
--- and its length below 2 ^ 64 (ELF gABI, "Data Representation").
+-- The numbers of a file that its class limits: offsets and sizes of an ELF 32 file are below
+-- 2 ^ 32, those of an ELF 64 file and its length below 2 ^ 64 (ELF gABI, "Data Representation").
 use Rattle.std.specs.Prelude.{ℕ, ◌+◌, ◌*◌, ◌^◌, ◌<◌, List, [], ◌∷◌, length}
 use Rattle.std.specs.List.{All}
 use Rattle.dwp_base.specs.declared.class.Class.{Class}
@@ -15,7 +15,8 @@ places_from size place (c ∷ cs) = place ∷ length c.1 ∷ places_from size (p
 
 -- the offsets and sizes that the headers hold
 abbrev pub offsets_and_sizes : Object → List ℕ
-offsets_and_sizes o = headers_place o.class o.contents ∷ places_from (length (name_table o.contents)) (header_size o.class) o.contents
+offsets_and_sizes o = headers_place o.class o.contents
+    ∷ places_from (length (name_table o.contents)) (header_size o.class) o.contents
 
 -- the numbers that are limited
 abbrev pub limited_by : Class → Object → List ℕ

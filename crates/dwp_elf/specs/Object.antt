@@ -5,4 +5,9 @@ use Rattle.dwp_elf.specs.FileText.{Object}
 
 -- the class, machine and byte order of the file, and the contents so far
 abbrev pub object_of : Inside → Object
-object_of w = record { class = w.class; machine = w.machine; order = w.endianness; contents = contents_of w.sections.items }
+object_of w = record {
+  class = w.class;
+  machine = w.machine;
+  order = w.endianness;
+  contents = contents_of w.sections.items;
+}

@@ -9,7 +9,8 @@ use Rattle.dwp_elf.specs.FileText.{headers_place, section_count, name_table, nam
 
 -- how many bytes a file has
 abbrev pub file_length : Class → List (SectionKind × List ℕ) → ℕ
-file_length class contents = headers_place class contents + entry_size class * section_count contents
+file_length class contents =
+    headers_place class contents + entry_size class * section_count contents
 
 -- the greatest of the numbers that the class limits passes the limit
 abbrev pub PassesLimit : Class → List (SectionKind × List ℕ) → Type 0
@@ -17,7 +18,8 @@ PassesLimit Elf32 contents = 2 ^ 32 ≤ headers_place Elf32 contents
 PassesLimit Elf64 contents = 2 ^ 64 ≤ file_length Elf64 contents
 
 -- it doesn't, and these are the file's places
-pub record ArePlaces (class : Class) (contents : List (SectionKind × List ℕ)) (p : Places) : Type 0 where
+pub record ArePlaces (class : Class) (contents : List (SectionKind × List ℕ))
+    (p : Places) : Type 0 where
   pub names_size : p.names_size ≡ length (name_table contents)
   pub zeros : p.zeros ≡ zeros_after (names_end class contents)
   pub headers : p.headers ≡ headers_place class contents

@@ -15,8 +15,8 @@ RefusesFile o NumberTooLarge = ¬ Fits o
 RefusesFile o Memory = Fits o
 RefusesFile o (Io e) = ⊥
 
--- a file that is handed to a writer: a number is too large and nothing was written, or else the writer failed and has a
--- beginning of the file
+-- a file that is handed to a writer: a number is too large and nothing was written, or else the
+-- writer failed and has a beginning of the file
 abbrev pub RefusesWriter : Object → Option (List ℕ) → Option (List ℕ) → WriteError → Type 0
 RefusesWriter o old new NumberTooLarge = (¬ Fits o) × Keeps old new
 RefusesWriter o old new Memory = ⊥

@@ -22,7 +22,8 @@ plain_section number kind name content = record {
 -- the sections of contents, of type PROGBITS, and after them the name table, of type STRTAB
 abbrev pub written_sections : ℕ → List ℕ → List (SectionKind × List ℕ) → List SectionMeaning
 written_sections number names [] = plain_section number 3 (codes ".shstrtab") names ∷ []
-written_sections number names (c ∷ cs) = plain_section number 1 (name_of c.0) c.1 ∷ written_sections (number + 1) names cs
+written_sections number names (c ∷ cs) =
+    plain_section number 1 (name_of c.0) c.1 ∷ written_sections (number + 1) names cs
 
 -- the file: a null section, the contents in order under their names, and the name table
 abbrev pub written_elf : Object → Elf

@@ -1,5 +1,7 @@
 //! The contents of the sections, in order of first append.
-ghost use Rattle.std.specs.Prelude.{◌≡◌, ◌↔◌, ◌+◌, ◌≤◌, ◌<◌, length, position, IsTrue, IfOk, OnErr, vec_len};
+
+ghost use Rattle.std.specs.Prelude.{◌≡◌, ◌↔◌, ◌+◌, ◌≤◌, ◌<◌, length, position, IsTrue, IfOk, OnErr};
+ghost use Rattle.std.specs.Prelude.{vec_len};
 ghost use Rattle.dwp_base.specs.Sections.{same_kind};
 ghost use Rattle.dwp_elf.specs.Contents.{contents_of, content_of, appended, truncated};
 
@@ -20,16 +22,20 @@ fn number_of(sections: &[(SectionKind, Vec<u8>)], kind: SectionKind) -> Option<u
     sections.iter().position(|section| is_same(section.0, kind))
 }
 
-/// Adds bytes at the end of the content of a kind, which the first of them make, and tells where they begin in it.
+/// Adds bytes at the end of the content of a kind, which the first of them make, and tells where
+/// they begin in it.
 pub fn append_to(
     alloc: Global,
     sections: &mut Vec<(SectionKind, Vec<u8>)>,
     kind: SectionKind,
     bytes: &[u8],
 ) -> Result<usize, AllocError>
-    ensures contents { IfOk result (λ _. contents_of sections.new.items ≡ appended kind bytes.now (contents_of sections.old.items)) }
-    ensures place { IfOk result (λ place. place ≡ length (content_of kind (contents_of sections.old.items))) }
-    ensures unchanged { OnErr result (contents_of sections.new.items ≡ contents_of sections.old.items) }
+    ensures contents { IfOk result (λ _. contents_of sections.new.items
+        ≡ appended kind bytes.now (contents_of sections.old.items)) }
+    ensures place { IfOk result (λ place.
+        place ≡ length (content_of kind (contents_of sections.old.items))) }
+    ensures unchanged { OnErr result (contents_of sections.new.items
+        ≡ contents_of sections.old.items) }
 {
     match number_of(sections, kind) {
         Some(number) => {
@@ -52,9 +58,12 @@ pub fn move_to(
     kind: SectionKind,
     bytes: Vec<u8>,
 ) -> Result<usize, AllocError>
-    ensures contents { IfOk result (λ _. contents_of sections.new.items ≡ appended kind bytes.items (contents_of sections.old.items)) }
-    ensures place { IfOk result (λ place. place ≡ length (content_of kind (contents_of sections.old.items))) }
-    ensures unchanged { OnErr result (contents_of sections.new.items ≡ contents_of sections.old.items) }
+    ensures contents { IfOk result (λ _. contents_of sections.new.items
+        ≡ appended kind bytes.items (contents_of sections.old.items)) }
+    ensures place { IfOk result (λ place.
+        place ≡ length (content_of kind (contents_of sections.old.items))) }
+    ensures unchanged { OnErr result (contents_of sections.new.items
+        ≡ contents_of sections.old.items) }
 {
     match number_of(sections, kind) {
         Some(number) => {
@@ -72,7 +81,8 @@ pub fn move_to(
 
 /// Keeps as many sections as there are sizes, each cut to its size.
 pub fn truncate_to(sections: &mut Vec<(SectionKind, Vec<u8>)>, sizes: &[usize])
-    ensures { contents_of sections.new.items ≡ truncated (contents_of sections.old.items) sizes.now }
+    ensures { contents_of sections.new.items
+        ≡ truncated (contents_of sections.old.items) sizes.now }
 {
     sections.truncate(sizes.len());
     for number in 0..sections.len() {

@@ -1,4 +1,5 @@
 //! The bytes of a header, gathered in a small array.
+
 ghost use Rattle.std.specs.Prelude.{◌≡◌, ℕ, ◌+◌, ◌≤◌, ◌<◌, ◌^◌, ◌*◌, ◌++◌, [], List, length, take};
 ghost use Rattle.dwp_elf_read.specs.Layout.{word_size};
 ghost use Rattle.dwp_elf.specs.FileText.{half, word, wide};

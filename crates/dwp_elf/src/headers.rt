@@ -1,4 +1,5 @@
 //! The headers of a file and of its sections (ELF gABI, "ELF Header" and "Sections").
+
 ghost use Rattle.std.specs.Prelude.{◌≡◌, ◌+◌, ◌*◌, ◌^◌, ◌<◌, ◌≤◌};
 ghost use Rattle.dwp_elf_read.specs.Layout.{header_size, entry_size, word_size};
 ghost use Rattle.dwp_elf.specs.FileText.{identification, file_header, section_header};
@@ -48,7 +49,8 @@ fn identification(class: Class, endianness: Endianness) -> [u8; 16]
     ]
 }
 
-/// The header of a file whose section headers begin at `headers`, and whose last section has the names.
+/// The header of a file whose section headers begin at `headers`, and whose last section has the
+/// names.
 #[tactic(auto, unfolding(crate::specs::FileText::file_header))]
 pub fn file_header(
     class: Class,
@@ -79,7 +81,8 @@ pub fn file_header(
     header
 }
 
-/// The header of a section with its name at `name` of the name table and its content at `place` of the file.
+/// The header of a section with its name at `name` of the name table and its content at `place` of
+/// the file.
 #[tactic(auto, unfolding(crate::specs::FileText::section_header))]
 pub fn section_header(
     class: Class,

@@ -4,7 +4,7 @@
 mod contents;
 mod gathered;
 mod headers;
-mod law;
+pub mod laws;
 mod object;
 mod output;
 mod places;
@@ -14,7 +14,6 @@ pub use dwp_base::{Class, Contribution, ContributionOffset, Endianness, SectionK
 pub use dwp_elf_read::{
     ElfFile, FileKind, RawRelocation, ReadError, Relocations, Section, Sections, WriteError,
 };
-pub use law::written_contents_are_read_back;
 pub use object::WritableObject;
 pub use writer::{Output, Watched};
 

@@ -1,5 +1,7 @@
 //! Objects that are made section by section, and written as ELF files.
-ghost use Rattle.std.specs.Prelude.{◌≡◌, ℕ, ◌+◌, ◌≤◌, ◌<◌, ◌^◌, ◌*◌, [], List, length, IfOk, IfErr, OnOk, OnErr, MatchResult, Some, None, Ok, Err, OkIff};
+
+ghost use Rattle.std.specs.Prelude.{◌≡◌, ℕ, ◌+◌, ◌≤◌, ◌<◌, ◌^◌, ◌*◌, [], List, length, IfOk, IfErr};
+ghost use Rattle.std.specs.Prelude.{OnOk, OnErr, MatchResult, Some, None, Ok, Err, OkIff};
 ghost use Rattle.std.specs.Io.KnownBytes.{Appends};
 ghost use Rattle.std.specs.declared.io.ErrorKind.{ErrorKind};
 ghost use Rattle.dwp_elf_read.specs.Elf.{elf_of};
@@ -94,8 +96,11 @@ impl WritableObject {
         self.sections.as_slice()
     }
 
-    /// Adds bytes at the end of a section's content, and tells where they are in it. The first bytes of a kind make its section;
-    /// no bytes make none. It refuses for want of memory alone, and then changes nothing.
+    /// Adds bytes at the end of a section's content, and tells where they are in it. The first
+    /// bytes of a kind make its section; no bytes make none.
+    ///
+    /// # Errors
+    /// `Memory` alone, and then nothing has changed.
     pub fn append(
         &mut self,
         kind: SectionKind,
@@ -124,6 +129,9 @@ impl WritableObject {
     }
 
     /// As `append`, of bytes that are moved: where they make the section, nothing is copied.
+    ///
+    /// # Errors
+    /// Those of `append`.
     pub fn append_moved(
         &mut self,
         kind: SectionKind,
@@ -135,7 +143,8 @@ impl WritableObject {
           size = length bytes.items;
         })) }
         ensures contents { 0 < length bytes.items → OnOk result
-            (self.new ≡ record self.old { contents = appended kind bytes.items self.old.contents }) }
+            (self.new
+            ≡ record self.old { contents = appended kind bytes.items self.old.contents }) }
         ensures refused { IfErr result (λ e. e ≡ Memory) }
         ensures unchanged { OnErr result (self.new ≡ self.old) }
     {
@@ -150,15 +159,19 @@ impl WritableObject {
         }))
     }
 
-    /// Keeps as many sections as there are sizes, the first ones, each cut to its size. A content that is as short stays.
+    /// Keeps as many sections as there are sizes, the first ones, each cut to its size. A content
+    /// that is as short stays.
     pub fn truncate(&mut self, sizes: &[usize])
         ensures { self.new ≡ record self.old { contents = truncated self.old.contents sizes.now } }
     {
         truncate_to(&mut self.sections, sizes);
     }
 
-    /// How many bytes the file has; NumberTooLarge where one of its offsets and sizes, or the length of an ELF 64 file, passes
-    /// the limit of its class. It takes no memory.
+    /// How many bytes the file has. It takes no memory.
+    ///
+    /// # Errors
+    /// `NumberTooLarge` where one of the file's offsets and sizes, or the length of an ELF 64 file,
+    /// passes the limit of its class.
     pub fn file_size(&self) -> Result<u64, WriteError>
         ensures size { OkIff result (Fits self.now) (length (file_text self.now)) }
         ensures refused { IfErr result (λ e. e ≡ NumberTooLarge) }
@@ -166,8 +179,10 @@ impl WritableObject {
         Ok(self.places()?.size)
     }
 
-    /// The file as bytes: NumberTooLarge where `file_size` refuses, else Memory where memory runs out. Read back, it has the
-    /// contents in order under their names.
+    /// The file as bytes. Read back, it has the contents in order under their names.
+    ///
+    /// # Errors
+    /// `NumberTooLarge` where `file_size` refuses, else `Memory` where memory runs out.
     pub fn write(&self) -> Result<Vec<u8>, WriteError>
         ensures text { IfOk result (λ file. file.items ≡ file_text self.now) }
         ensures read_back { IfOk result (λ file. elf_of file.items ≡ Ok (written_elf self.now)) }
@@ -184,17 +199,22 @@ impl WritableObject {
         Ok(file)
     }
 
-    /// Hands the file to a writer, large contents whole. It takes no memory, and calls no `write` again that failed.
+    /// Hands the file to a writer, large contents whole. It takes no memory, and calls no `write`
+    /// again that failed.
     ///
-    /// NumberTooLarge where `file_size` refuses, and then nothing is written; Io just where a write failed or took no bytes, and
-    /// then the writer has a beginning of the file.
+    /// # Errors
+    /// `NumberTooLarge` where `file_size` refuses, and then nothing is written; `Io` just where a
+    /// write failed or took no bytes, and then the writer has a beginning of the file.
     pub fn write_to<O: Output>(&self, out: &mut O) -> Result<(), WriteError>
         ensures fits { OnOk result (Fits self.now) }
-        ensures text { OnOk result (Appends (O.contents out.old) (O.contents out.new) (file_text self.now)) }
+        ensures text { OnOk result
+            (Appends (O.contents out.old) (O.contents out.new) (file_text self.now)) }
         ensures read_back { OnOk result (elf_of (file_text self.now) ≡ Ok (written_elf self.now)) }
-        ensures refused { IfErr result (RefusesWriter self.now (O.contents out.old) (O.contents out.new)) }
+        ensures refused { IfErr result
+            (RefusesWriter self.now (O.contents out.old) (O.contents out.new)) }
         ensures blamed { IfErr result (Blames (O.failed out.new)) }
-        ensures no_fault { OnOk result ((kind : ErrorKind) → O.failed out.new kind → O.failed out.old kind) }
+        ensures no_fault { OnOk result ((kind : ErrorKind) → O.failed out.new kind
+            → O.failed out.old kind) }
         ensures untouched { result ≡ Err NumberTooLarge → out.new ≡ out.old }
     {
         let places = self.places()?;
@@ -215,7 +235,8 @@ impl WritableObject {
     /// Hands the parts of the file to a writer, one after the other.
     fn write_parts<O: Output>(&self, places: &Places, out: &mut O) -> io::Result<()>
         requires { ArePlaces self.now.class self.now.contents places.now }
-        ensures text { Writes result (O.contents out.old) (O.contents out.new) (file_text self.now) }
+        ensures text { Writes result (O.contents out.old) (O.contents out.new)
+            (file_text self.now) }
         ensures fault { Faults result (O.failed out.old) (O.failed out.new) }
     {
         let count = self.sections.len() as u16 + 2;

@@ -1,4 +1,5 @@
 //! Writing the parts of a file to a writer.
+
 ghost use Rattle.std.specs.Prelude.{◌≡◌, ◌+◌, ◌*◌, ◌^◌, ◌<◌, ◌≤◌, length, replicate};
 ghost use Rattle.dwp_elf.specs.Contents.{contents_of};
 ghost use Rattle.dwp_elf_read.specs.Layout.{header_size, word_size};
@@ -51,7 +52,8 @@ pub fn write_zeros<O: Output>(out: &mut O, count: usize) -> io::Result<()>
 
 /// Writes the contents, one after the other.
 pub fn write_contents<O: Output>(out: &mut O, sections: &[(SectionKind, Vec<u8>)]) -> io::Result<()>
-    ensures text { Writes result (O.contents out.old) (O.contents out.new) (content_bytes (contents_of sections.now)) }
+    ensures text { Writes result (O.contents out.old) (O.contents out.new)
+        (content_bytes (contents_of sections.now)) }
     ensures fault { Faults result (O.failed out.old) (O.failed out.new) }
 {
     for section in sections {
@@ -62,7 +64,8 @@ pub fn write_contents<O: Output>(out: &mut O, sections: &[(SectionKind, Vec<u8>)
 
 /// Writes the names of the contents, each ended by a zero byte.
 fn write_names<O: Output>(out: &mut O, sections: &[(SectionKind, Vec<u8>)]) -> io::Result<()>
-    ensures text { Writes result (O.contents out.old) (O.contents out.new) (names_of (contents_of sections.now)) }
+    ensures text { Writes result (O.contents out.old) (O.contents out.new)
+        (names_of (contents_of sections.now)) }
     ensures fault { Faults result (O.failed out.old) (O.failed out.new) }
 {
     for section in sections {
@@ -77,7 +80,8 @@ pub fn write_name_table<O: Output>(
     out: &mut O,
     sections: &[(SectionKind, Vec<u8>)],
 ) -> io::Result<()>
-    ensures text { Writes result (O.contents out.old) (O.contents out.new) (name_table (contents_of sections.now)) }
+    ensures text { Writes result (O.contents out.old) (O.contents out.new)
+        (name_table (contents_of sections.now)) }
     ensures fault { Faults result (O.failed out.old) (O.failed out.new) }
 {
     write_whole(out, &[0])?;
@@ -94,10 +98,12 @@ pub fn write_section_headers<O: Output>(
     sections: &[(SectionKind, Vec<u8>)],
 ) -> io::Result<()>
     requires few { length sections.now ≤ 13 }
-    requires places_fit { header_size class + length (content_bytes (contents_of sections.now)) < 2 ^ (8 * word_size class) }
+    requires places_fit { header_size class + length (content_bytes (contents_of sections.now))
+        < 2 ^ (8 * word_size class) }
     requires names_fit { names_size < 2 ^ (8 * word_size class) }
     ensures text { Writes result (O.contents out.old) (O.contents out.new)
-        (headers_from class endianness names_size 1 (header_size class) (contents_of sections.now)) }
+        (headers_from class endianness names_size 1 (header_size class)
+        (contents_of sections.now)) }
     ensures fault { Faults result (O.failed out.old) (O.failed out.new) }
 {
     let mut name = 1;

@@ -1,4 +1,5 @@
 //! Where the parts of a file lie.
+
 ghost use Rattle.std.specs.Prelude.{◌≡◌, ◌+◌, ◌*◌, ◌^◌, ◌<◌, ◌≤◌, length, MatchOption};
 ghost use Rattle.dwp_elf.specs.Contents.{contents_of};
 ghost use Rattle.dwp_elf.specs.FileText.{content_bytes, name_table, zeros_after};
@@ -57,7 +58,8 @@ pub struct Places {
 /// The places of a file, None where a number passes the limit of its class.
 pub fn places_of(class: Class, sections: &[(SectionKind, Vec<u8>)]) -> Option<Places>
     requires { length sections.now ≤ 13 }
-    ensures { MatchOption result (PassesLimit class (contents_of sections.now)) (ArePlaces class (contents_of sections.now)) }
+    ensures { MatchOption result (PassesLimit class (contents_of sections.now))
+        (ArePlaces class (contents_of sections.now)) }
 {
     let names_size = name_table_size(sections);
     let names_place = u64::from(header_size(class)).checked_add(content_size(sections)?)?;

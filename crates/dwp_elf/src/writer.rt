@@ -1,4 +1,5 @@
 //! What a file is handed to, and whether a write of it failed.
+
 ghost use Rattle.std.specs.Prelude.{◌≡◌, ℕ, ◌<◌, List, length, Option, Some, None, IfOk, IfErr, ⊤};
 ghost use Rattle.std.specs.Io.{WritesAtMost};
 ghost use Rattle.std.specs.Io.KnownBytes.{WriteAppends};
@@ -17,12 +18,17 @@ pub trait Output {
     ghost failed: { Self → ErrorKind → Type 0 };
 
     /// Takes some of the bytes, from the first on, and answers how many.
+    ///
+    /// # Errors
+    /// That of the write that failed.
     fn put(&mut self, bytes: &[u8]) -> io::Result<usize>
         ensures bound { WritesAtMost result bytes.now }
         ensures bytes { WriteAppends (contents self.old) (contents self.new) result bytes.now }
         ensures refused { IfErr result (λ e. failed self.new (error_kind e)) }
-        ensures none { IfOk result (λ n. n ≡ 0 → 0 < length bytes.now → failed self.new ErrorKind.WriteZero) }
-        ensures some { IfOk result (λ n. 0 < n → (kind : ErrorKind) → failed self.new kind → failed self.old kind) };
+        ensures none { IfOk result (λ n. n ≡ 0 → 0 < length bytes.now
+            → failed self.new ErrorKind.WriteZero) }
+        ensures some { IfOk result (λ n. 0 < n → (kind : ErrorKind) → failed self.new kind
+            → failed self.old kind) };
 }
 
 /// A writer tells nothing of its faults.

@@ -1,5 +1,7 @@
 -- What the bytes of an ELF file mean (ELF gABI, "Sections").
-use Rattle.std.specs.Prelude.{ℕ, ◌+◌, ◌*◌, List, [], Bool, false, ◌==◌, nat_lt, not, map, drop, take, position, Option, Some, None, Result, Ok, Err, slice_range, if◌then◌else◌}
+use Rattle.std.specs.Prelude.{ℕ, ◌+◌, ◌*◌, List, [], Bool, false, ◌==◌, nat_lt, not, map, drop}
+use Rattle.std.specs.Prelude.{take, position, Option, Some, None, Result, Ok, Err, slice_range}
+use Rattle.std.specs.Prelude.{if◌then◌else◌}
 use Rattle.std.specs.Option.{option_and_then}
 use Rattle.std.specs.List.{range_with_len}
 use Rattle.std.specs.Str.{is_utf8, bytes_eq}
@@ -8,10 +10,12 @@ use Rattle.dwp_base.specs.declared.class.Class.{Class}
 use Rattle.dwp_base.specs.declared.endian.Endianness.{Endianness}
 use Rattle.dwp_base.specs.Reading.{◌>>=◌}
 use Rattle.dwp_elf_read.specs.declared.fault.ReadError.{ReadError}
-use Rattle.dwp_elf_read.specs.declared.fault.ReadError.TheVariants.{SectionTable, SectionEntrySize, NameTable}
+use Rattle.dwp_elf_read.specs.declared.fault.ReadError.TheVariants.{SectionTable, SectionEntrySize}
+use Rattle.dwp_elf_read.specs.declared.fault.ReadError.TheVariants.{NameTable}
 use Rattle.dwp_elf_read.specs.declared.header.FileHeader.{FileHeader}
 use Rattle.dwp_elf_read.specs.declared.header.SectionHeader.{SectionHeader}
-use Rattle.dwp_elf_read.specs.Layout.{word_size, entry_size, is_inside, file_header_of, section_header_of}
+use Rattle.dwp_elf_read.specs.Layout.{word_size, entry_size, is_inside, file_header_of}
+use Rattle.dwp_elf_read.specs.Layout.{section_header_of}
 use Rattle.dwp_elf_read.specs.Identification.{identity_of}
 
 -- a section: its name if that can be read, and its content if that lies in the file
@@ -38,8 +42,8 @@ abbrev pub SHT_NOBITS : ℕ
 SHT_NOBITS = 8
 
 -- a section occupies no bytes where its type is NOBITS, else those that its header names
-unfoldable pub content_of : List ℕ → SectionHeader → Option (List ℕ)
-content_of bytes header =
+unfoldable pub section_content : List ℕ → SectionHeader → Option (List ℕ)
+section_content bytes header =
     if header.kind == SHT_NOBITS then Some []
     else (if is_inside bytes header.offset header.size
     then Some (slice_range bytes header.offset (header.offset + header.size))
@@ -56,32 +60,35 @@ text_at table place =
     option_and_then (λ n. text_of (take n rest)) (position (λ b. b == 0) rest)
 
 -- a section's name; without a name table none can be read
-abbrev pub name_of : Option (List ℕ) → ℕ → Option (List ℕ)
-name_of None place = None
-name_of (Some table) place = text_at table place
+abbrev pub section_name : Option (List ℕ) → ℕ → Option (List ℕ)
+section_name None place = None
+section_name (Some table) place = text_at table place
 
 -- the section that a header describes
 unfoldable pub section_of : List ℕ → Option (List ℕ) → ℕ → SectionHeader → SectionMeaning
 section_of bytes names number header = record {
   number = number;
-  name = name_of names header.name;
+  name = section_name names header.name;
   kind = header.kind;
   flags = header.flags;
   address = header.address;
   size = header.size;
-  content = content_of bytes header;
+  content = section_content bytes header;
   link = header.link;
   info = header.info;
 }
 
 -- the header of the i-th section
-abbrev pub header_at : Class → Endianness → List ℕ → ℕ → ℕ → SectionHeader
-header_at class order bytes table i = section_header_of (word_size class) order (drop (table + i * entry_size class) bytes)
+abbrev pub section_header_at : Class → Endianness → List ℕ → ℕ → ℕ → SectionHeader
+section_header_at class order bytes table i =
+    section_header_of (word_size class) order (drop (table + i * entry_size class) bytes)
 
 -- the sections from number i on, n of them, each described by the header at its place
-unfoldable pub sections_from : Class → Endianness → List ℕ → ℕ → Option (List ℕ) → ℕ → ℕ → List SectionMeaning
+unfoldable pub sections_from : Class → Endianness → List ℕ → ℕ → Option (List ℕ) → ℕ → ℕ
+    → List SectionMeaning
 sections_from class order bytes table names i n =
-    map (λ k. section_of bytes names k (header_at class order bytes table k)) (range_with_len i n)
+    map (λ k.
+    section_of bytes names k (section_header_at class order bytes table k)) (range_with_len i n)
 
 -- how many sections the header names: where e_shnum is 0, the size of section 0 says it
 unfoldable pub named_count : Class → Endianness → List ℕ → FileHeader → Result ℕ ReadError
@@ -90,7 +97,7 @@ named_count class order bytes header =
     else (if not (header.entry_size == entry_size class) then Err SectionEntrySize
     else (if not (header.count == 0) then Ok header.count
     else (if is_inside bytes header.table (entry_size class)
-    then Ok (header_at class order bytes header.table 0).size
+    then Ok (section_header_at class order bytes header.table 0).size
     else Err SectionTable)))
 
 -- how many sections there are, all of whose headers lie in the file
@@ -104,7 +111,7 @@ unfoldable pub name_table_number : Class → Endianness → List ℕ → FileHea
 name_table_number class order bytes header =
     if not (header.names == 0xffff) then Ok header.names
     else (if header.table == 0 then Err NameTable
-    else Ok (header_at class order bytes header.table 0).link)
+    else Ok (section_header_at class order bytes header.table 0).link)
 
 -- the content of the name table, which has to lie in the file
 abbrev pub readable_table : Option (List ℕ) → Result (Option (List ℕ)) ReadError
@@ -112,15 +119,18 @@ readable_table None = Err NameTable
 readable_table (Some names) = Ok (Some names)
 
 -- the name table with that number; there is none where the number is 0
-unfoldable pub name_table_numbered : Class → Endianness → List ℕ → FileHeader → ℕ → ℕ → Result (Option (List ℕ)) ReadError
+unfoldable pub name_table_numbered : Class → Endianness → List ℕ → FileHeader → ℕ → ℕ
+    → Result (Option (List ℕ)) ReadError
 name_table_numbered class order bytes header count number =
     if number == 0 then Ok None
     else (if nat_lt number count
-    then readable_table (content_of bytes (header_at class order bytes header.table number))
+    then readable_table
+    (section_content bytes (section_header_at class order bytes header.table number))
     else Err NameTable)
 
 -- the name table, if the file has one
-unfoldable pub name_table : Class → Endianness → List ℕ → FileHeader → ℕ → Result (Option (List ℕ)) ReadError
+unfoldable pub name_table : Class → Endianness → List ℕ → FileHeader → ℕ
+    → Result (Option (List ℕ)) ReadError
 name_table class order bytes header count = do
   number ← name_table_number class order bytes header
   name_table_numbered class order bytes header count number

@@ -1,5 +1,6 @@
 -- The first bytes of a file (ELF gABI, "ELF Identification"; ar(5) for archives).
-use Rattle.std.specs.Prelude.{ℕ, List, [], ◌∷◌, Result, Ok, Err, length, nat_lt, nat_eq, ◌==◌, slice_index, codes, if◌then◌else◌, ◌++◌}
+use Rattle.std.specs.Prelude.{ℕ, List, [], ◌∷◌, Result, Ok, Err, length, nat_lt, nat_eq, ◌==◌}
+use Rattle.std.specs.Prelude.{slice_index, codes, if◌then◌else◌, ◌++◌}
 use Rattle.std.specs.List.{starts_with}
 use Rattle.dwp_base.specs.declared.class.Class.{Class}
 use Rattle.dwp_base.specs.declared.class.Class.TheVariants as classes
@@ -7,7 +8,8 @@ use Rattle.dwp_base.specs.declared.endian.Endianness.{Endianness}
 use Rattle.dwp_base.specs.declared.endian.Endianness.TheVariants.{Little, Big}
 use Rattle.dwp_base.specs.Reading.{◌>>=◌}
 use Rattle.dwp_elf_read.specs.declared.fault.ReadError.{ReadError}
-use Rattle.dwp_elf_read.specs.declared.fault.ReadError.TheVariants.{TooShort, NotElf, ByteOrder, Version}
+use Rattle.dwp_elf_read.specs.declared.fault.ReadError.TheVariants.{TooShort, NotElf, ByteOrder}
+use Rattle.dwp_elf_read.specs.declared.fault.ReadError.TheVariants.{Version}
 use Rattle.dwp_elf_read.specs.declared.kind.FileKind.{FileKind}
 use Rattle.dwp_elf_read.specs.declared.kind.FileKind.TheVariants.{Archive, Elf32, Elf64}
 use Rattle.dwp_elf_read.specs.Layout.{header_size}
@@ -44,12 +46,14 @@ class_of Elf64 = Ok classes.Elf64
 
 -- the byte order that EI_DATA names
 abbrev pub order_of : ℕ → Result Endianness ReadError
-order_of data_encoding = if data_encoding == 1 then Ok Little else (if data_encoding == 2 then Ok Big else Err ByteOrder)
+order_of data_encoding =
+    if data_encoding == 1 then Ok Little else (if data_encoding == 2 then Ok Big else Err ByteOrder)
 
 -- class and byte order, of a file that has a whole header of version 1
 unfoldable pub identity_of : List ℕ → Result (Class × Endianness) ReadError
 identity_of bytes = do
   kind ← kind_of bytes
   class ← class_of kind
-  order ← if nat_lt (length bytes) (header_size class) then Err TooShort else order_of (slice_index bytes 5)
+  order ← if nat_lt (length bytes) (header_size class) then Err TooShort
+      else order_of (slice_index bytes 5)
   if slice_index bytes 6 == 1 then Ok (class, order) else Err Version

@@ -1,5 +1,7 @@
 -- The relocations of a section (ELF gABI, "Relocation").
-use Rattle.std.specs.Prelude.{ℕ, ◌+◌, ◌*◌, ◌/◌, ◌%◌, ◌^◌, ℤ, pos, List, [], ◌∷◌, ◌++◌, Bool, true, false, ◌&&◌, ◌||◌, ◌==◌, not, length, map, Result, Ok, Err, if◌then◌else◌}
+use Rattle.std.specs.Prelude.{ℕ, ◌+◌, ◌*◌, ◌/◌, ◌%◌, ◌^◌, ℤ, pos, List, [], ◌∷◌, ◌++◌, Bool, true}
+use Rattle.std.specs.Prelude.{false, ◌&&◌, ◌||◌, ◌==◌, not, length, map, Result, Ok, Err}
+use Rattle.std.specs.Prelude.{if◌then◌else◌}
 use Rattle.std.specs.Option.{ok_or}
 use Rattle.std.specs.List.{range_with_len}
 use Rattle.std.specs.Int.{w32, w64, cast_signed}
@@ -41,7 +43,8 @@ relocation_size class false = 2 * word_size class
 
 -- the addend of the entry at a place; in REL it is where the relocation is applied
 abbrev pub addend_at : Class → Endianness → Bool → List ℕ → ℕ → ℤ
-addend_at class order true bytes place = signed_word class (number_at order (word_size class) bytes (place + 2 * word_size class))
+addend_at class order true bytes place =
+    signed_word class (number_at order (word_size class) bytes (place + 2 * word_size class))
 addend_at class order false bytes place = pos 0
 
 -- the entry at a place of a table of REL or, where `explicit`, of RELA
@@ -57,9 +60,11 @@ relocation_at class order explicit link bytes place =
     }
 
 -- n entries of a table, from the i-th on
-unfoldable pub entries_from : Class → Endianness → Bool → ℕ → List ℕ → ℕ → ℕ → List (Result RawRelocation ReadError)
+unfoldable pub entries_from : Class → Endianness → Bool → ℕ → List ℕ → ℕ → ℕ
+    → List (Result RawRelocation ReadError)
 entries_from class order explicit link bytes i n =
-    map (λ k. Ok (relocation_at class order explicit link bytes (k * relocation_size class explicit))) (range_with_len i n)
+    map (λ k. Ok (relocation_at class order explicit link bytes (k
+    * relocation_size class explicit))) (range_with_len i n)
 
 -- a table has whole entries
 abbrev pub has_whole_entries : Class → Bool → List ℕ → Bool
@@ -72,23 +77,30 @@ entry_count class explicit content = length content / relocation_size class expl
 unfoldable pub table_of : Class → SectionMeaning → Result (List ℕ) ReadError
 table_of class section = do
   content ← ok_or section.content RelocationTable
-  if has_whole_entries class (section.kind == SHT_RELA) content then Ok content else Err RelocationTable
+  if has_whole_entries class (section.kind == SHT_RELA) content then Ok content
+      else Err RelocationTable
 
 -- the section has relocations of the section numbered target
 unfoldable pub relocates : ℕ → SectionMeaning → Bool
-relocates target section = (section.kind == SHT_RELA || section.kind == SHT_REL) && section.info == target
+relocates target section =
+    (section.kind == SHT_RELA || section.kind == SHT_REL) && section.info == target
 
 -- the entries of a table and what follows them; nothing follows a table that can't be read
-abbrev pub entries_then : Class → Endianness → SectionMeaning → Result (List ℕ) ReadError → List (Result RawRelocation ReadError) → List (Result RawRelocation ReadError)
-entries_then class order section (Ok content) rest = entries_from class order (section.kind == SHT_RELA) section.link content 0 (entry_count class (section.kind == SHT_RELA) content) ++ rest
+abbrev pub entries_then : Class → Endianness → SectionMeaning → Result (List ℕ) ReadError
+    → List (Result RawRelocation ReadError) → List (Result RawRelocation ReadError)
+entries_then class order section (Ok content) rest =
+    entries_from class order (section.kind == SHT_RELA) section.link content 0
+    (entry_count class (section.kind == SHT_RELA) content) ++ rest
 entries_then class order section (Err e) rest = Err e ∷ []
 
 -- the relocations of the section numbered target that some sections have, in order
-unfoldable pub relocations_in : Class → Endianness → ℕ → List SectionMeaning → List (Result RawRelocation ReadError)
+unfoldable pub relocations_in : Class → Endianness → ℕ → List SectionMeaning
+    → List (Result RawRelocation ReadError)
 relocations_in class order target [] = []
 relocations_in class order target (section ∷ sections) =
     if relocates target section
-    then entries_then class order section (table_of class section) (relocations_in class order target sections)
+    then entries_then class order section (table_of class section)
+    (relocations_in class order target sections)
     else relocations_in class order target sections
 
 -- all relocations of a section, in file order, up to the first table that can't be read

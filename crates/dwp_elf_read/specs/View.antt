@@ -8,20 +8,28 @@ use Rattle.dwp_elf_read.specs.declared.section.Sections.{Sections}
 use Rattle.dwp_elf_read.specs.declared.relocation.RawRelocation.{RawRelocation}
 use Rattle.dwp_elf_read.specs.declared.table.Table.{Table}
 use Rattle.dwp_elf_read.specs.declared.relocations.Relocations.{Relocations}
-use Rattle.dwp_elf_read.specs.Elf.{Elf, SectionMeaning, sections_from, section_of, header_at}
+use Rattle.dwp_elf_read.specs.Elf.{Elf, SectionMeaning, sections_from, section_of}
+use Rattle.dwp_elf_read.specs.Elf.{section_header_at}
 use Rattle.dwp_elf_read.specs.Relocation.{entries_from, relocations_in}
 
 -- the i-th section of a file
 abbrev pub nth : ElfFile → ℕ → SectionMeaning
-nth f i = section_of f.image.bytes.now (option_copied f.names) i (header_at f.image.class f.image.order f.image.bytes.now f.table i)
+nth f i = section_of f.image.bytes.now (option_copied f.names) i
+    (section_header_at f.image.class f.image.order f.image.bytes.now f.table i)
 
 -- the sections of a file from number i on
 unfoldable pub sections_after : ElfFile → ℕ → List SectionMeaning
-sections_after f i = sections_from f.image.class f.image.order f.image.bytes.now f.table (option_copied f.names) i (f.count - i)
+sections_after f i = sections_from f.image.class f.image.order f.image.bytes.now f.table
+    (option_copied f.names) i (f.count - i)
 
 -- a file
 unfoldable pub elf : ElfFile → Elf
-elf f = record { class = f.image.class; order = f.image.order; machine = f.machine; sections = sections_after f 0 }
+elf f = record {
+  class = f.image.class;
+  order = f.image.order;
+  machine = f.machine;
+  sections = sections_after f 0;
+}
 
 -- a section, and the file that it stands in
 unfoldable pub section : Section → SectionMeaning
@@ -48,13 +56,16 @@ sections_left it = placed_sections (elf it.file) (sections_after it.file it.next
 
 -- the entries that are left of a table
 unfoldable pub entries_left : Table → List (Result RawRelocation ReadError)
-entries_left t = entries_from t.entries.class t.entries.order t.explicit t.link t.entries.bytes.now t.next (t.count - t.next)
+entries_left t = entries_from t.entries.class t.entries.order t.explicit t.link t.entries.bytes.now
+    t.next (t.count - t.next)
 
 -- the entries of a table and what follows them; nothing follows one that can't be read
-abbrev pub begun : Result Table ReadError → List (Result RawRelocation ReadError) → List (Result RawRelocation ReadError)
+abbrev pub begun : Result Table ReadError → List (Result RawRelocation ReadError)
+    → List (Result RawRelocation ReadError)
 begun (Ok t) rest = entries_left t ++ rest
 begun (Err e) rest = Err e ∷ []
 
 -- the relocations that an iterator has left
 unfoldable pub relocations_left : Relocations → List (Result RawRelocation ReadError)
-relocations_left it = entries_left it.table ++ relocations_in it.file.image.class it.file.image.order it.target (sections_after it.file it.section)
+relocations_left it = entries_left it.table ++ relocations_in it.file.image.class
+    it.file.image.order it.target (sections_after it.file it.section)

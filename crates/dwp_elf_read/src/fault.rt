@@ -1,3 +1,5 @@
+//! What is wrong with an ELF file.
+
 use std::io;
 use thiserror::Error;
 

@@ -1,3 +1,5 @@
+//! ELF files (ELF gABI, "Sections").
+
 ghost use Rattle.std.specs.Prelude.{◌+◌, ◌*◌, ◌≤◌, length};
 ghost use Rattle.dwp_elf_read.specs.Layout.{entry_size};
 
@@ -24,13 +26,15 @@ impl<'a> ElfFile<'a> {
     ghost use Rattle.dwp_base.specs.Reading.{Answers};
     ghost use Rattle.dwp_elf_read.specs.Elf.{elf_of, is_named};
     ghost use Rattle.dwp_elf_read.specs.Symbol.{symbol_value_of};
-    ghost use Rattle.dwp_elf_read.specs.View.{elf, nth, section, file, sections_left, placed_sections};
+    ghost use Rattle.dwp_elf_read.specs.View.{elf, nth, section, file, sections_left};
+    ghost use Rattle.dwp_elf_read.specs.View.{placed_sections};
 
     /// The file that the bytes are.
     ///
     /// # Errors
-    /// The first fault, in this order: `TooShort` below 16 bytes, `NotElf`, `TooShort` below a header of the class,
-    /// `ByteOrder`, `Version`, `SectionEntrySize`, `SectionTable` and `NameTable`.
+    /// The first fault, in this order: `TooShort` below 16 bytes, `NotElf`, `TooShort` below a
+    /// header of the class, `ByteOrder`, `Version`, `SectionEntrySize`, `SectionTable` and
+    /// `NameTable`.
     #[tactic(auto, unfolding(crate::specs::Elf::elf_of, crate::specs::View::elf, crate::specs::View::sections_after))]
     pub fn parse(bytes: &'a [u8]) -> Result<ElfFile<'a>, ReadError>
         ensures { Answers elf result (elf_of bytes.now) }
@@ -113,7 +117,8 @@ impl<'a> ElfFile<'a> {
     /// The sections in order of number.
     #[tactic(auto, unfolding(crate::specs::View::sections_left, crate::specs::View::elf))]
     pub fn sections(&self) -> Sections<'a>
-        ensures sections { sections_left result ≡ placed_sections (elf self.now) (elf self.now).sections }
+        ensures sections { sections_left result
+            ≡ placed_sections (elf self.now) (elf self.now).sections }
         ensures bound { length (sections_left result) < 2 ^ 64 }
     {
         let _count = self.count;
@@ -125,7 +130,8 @@ impl<'a> ElfFile<'a> {
 
     /// The first section of a name. Sections whose name can't be read are passed over.
     pub fn section_by_name(&self, name: &str) -> Option<Section<'a>>
-        ensures found { option_map section result ≡ find (is_named name.now) (elf self.now).sections }
+        ensures found { option_map section result
+            ≡ find (is_named name.now) (elf self.now).sections }
         ensures in_file { IfSome result (λ s. file s ≡ elf self.now) }
     {
         for i in 0..self.count {
@@ -140,8 +146,8 @@ impl<'a> ElfFile<'a> {
     /// The value of symbol `i` of the symbol table with the number `table`. That of symbol 0 is 0.
     ///
     /// # Errors
-    /// `SymbolTable` where the section isn't a symbol table whose content lies in the file, `SymbolIndex` where the
-    /// table has no such symbol.
+    /// `SymbolTable` where the section isn't a symbol table whose content lies in the file,
+    /// `SymbolIndex` where the table has no such symbol.
     #[tactic(auto, unfolding(crate::specs::Symbol::symbol_value_of, crate::specs::View::elf))]
     pub fn symbol_value(&self, table: u32, i: u32) -> Result<u64, ReadError>
         ensures { Answers (λ value. value) result (symbol_value_of (elf self.now) table i) }

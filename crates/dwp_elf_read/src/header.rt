@@ -1,7 +1,10 @@
+//! The headers of a file and of its sections (ELF gABI, "ELF Header" and "Section Header").
+
 ghost use Rattle.std.specs.Prelude.{◌≡◌, ◌+◌, ◌*◌, ◌≤◌, length};
 ghost use Rattle.std.specs.Option.{option_copied};
-ghost use Rattle.dwp_elf_read.specs.Layout.{word_size, header_size, entry_size, file_header_of, section_header_of};
-ghost use Rattle.dwp_elf_read.specs.Elf.{header_at, content_of};
+ghost use Rattle.dwp_elf_read.specs.Layout.{word_size, header_size, entry_size, file_header_of};
+ghost use Rattle.dwp_elf_read.specs.Layout.{section_header_of};
+ghost use Rattle.dwp_elf_read.specs.Elf.{section_header_at, section_content};
 
 use crate::image::{Image, entry_size_of, word_size_of};
 
@@ -49,7 +52,8 @@ impl<'a> Image<'a> {
     #[tactic(auto, unfolding(crate::specs::Layout::file_header_of))]
     pub fn file_header(&self) -> FileHeader
         requires { header_size self.now.class ≤ length self.now.bytes.now }
-        ensures { result ≡ file_header_of (word_size self.now.class) self.now.order self.now.bytes.now }
+        ensures { result
+            ≡ file_header_of (word_size self.now.class) self.now.order self.now.bytes.now }
     {
         let word = word_size_of(self.class);
         FileHeader {
@@ -65,7 +69,8 @@ impl<'a> Image<'a> {
     #[tactic(auto, unfolding(crate::specs::Layout::section_header_of))]
     fn section_header(&self) -> SectionHeader
         requires { entry_size self.now.class ≤ length self.now.bytes.now }
-        ensures { result ≡ section_header_of (word_size self.now.class) self.now.order self.now.bytes.now }
+        ensures { result
+            ≡ section_header_of (word_size self.now.class) self.now.order self.now.bytes.now }
     {
         let word = word_size_of(self.class);
         SectionHeader {
@@ -82,8 +87,10 @@ impl<'a> Image<'a> {
 
     /// The header of the i-th section, where the section headers begin at `table`.
     pub fn header_of(&self, table: usize, i: usize) -> SectionHeader
-        requires { table + (i * entry_size self.now.class + entry_size self.now.class) ≤ length self.now.bytes.now }
-        ensures { result ≡ header_at self.now.class self.now.order self.now.bytes.now table i }
+        requires { table + (i * entry_size self.now.class + entry_size self.now.class)
+            ≤ length self.now.bytes.now }
+        ensures { result
+            ≡ section_header_at self.now.class self.now.order self.now.bytes.now table i }
     {
         let place = table + i * entry_size_of(self.class);
         self.with_bytes(self.bytes.split_at(place).1)
@@ -91,9 +98,9 @@ impl<'a> Image<'a> {
     }
 
     /// The content of a section, if it lies in the file.
-    #[tactic(auto, unfolding(crate::specs::Elf::content_of))]
+    #[tactic(auto, unfolding(crate::specs::Elf::section_content))]
     pub fn content(&self, header: &SectionHeader) -> Option<&'a [u8]>
-        ensures { option_copied result ≡ content_of self.now.bytes.now header.now }
+        ensures { option_copied result ≡ section_content self.now.bytes.now header.now }
     {
         if header.kind == SHT_NOBITS {
             return Some(&[]);

@@ -1,3 +1,5 @@
+//! The numbers in the bytes of a file (ELF gABI, "Data Representation").
+
 ghost use Rattle.std.specs.Prelude.{◌≡◌, ◌+◌, ◌*◌, ◌^◌, ◌<◌, ◌≤◌, length};
 ghost use Rattle.dwp_elf_read.specs.Layout.{word_size, entry_size, number_at, is_inside};
 
@@ -34,7 +36,11 @@ pub(crate) fn entry_size_of(class: Class) -> usize
 impl<'a> Image<'a> {
     /// The same for other bytes of the file.
     pub fn with_bytes<'b>(&self, bytes: &'b [u8]) -> Image<'b>
-        ensures { result ≡ record { class = self.now.class; order = self.now.order; bytes = bytes.entry } }
+        ensures { result ≡ record {
+          class = self.now.class;
+          order = self.now.order;
+          bytes = bytes.entry;
+        } }
     {
         Image {
             class: self.class,
@@ -62,7 +68,8 @@ impl<'a> Image<'a> {
     /// The number in the word at a place: an address, an offset or a size.
     pub fn word_at(&self, place: usize) -> u64
         requires { place + word_size self.now.class ≤ length self.now.bytes.now }
-        ensures value { result ≡ number_at self.now.order (word_size self.now.class) self.now.bytes.now place }
+        ensures value { result
+            ≡ number_at self.now.order (word_size self.now.class) self.now.bytes.now place }
         ensures fits { result < 2 ^ (8 * word_size self.now.class) }
     {
         let rest = self.bytes.split_at(place).1;

@@ -1,3 +1,5 @@
+//! What a file is, by its first bytes (ELF gABI, "ELF Identification"; ar(5)).
+
 ghost use Rattle.std.specs.Prelude.{◌≤◌, length, IfOk};
 ghost use Rattle.dwp_base.specs.Reading.{Answers};
 ghost use Rattle.dwp_elf_read.specs.Layout.{header_size};
@@ -21,7 +23,8 @@ impl FileKind {
     /// The kind of the file that the bytes are, or begin.
     ///
     /// # Errors
-    /// `TooShort` below 16 bytes, and `NotElf` where the bytes are neither an archive nor an ELF file.
+    /// `TooShort` below 16 bytes, and `NotElf` where the bytes are neither an archive nor an ELF
+    /// file.
     #[tactic(auto, unfolding(crate::specs::Identification::kind_of))]
     pub fn parse(bytes: &[u8]) -> Result<FileKind, ReadError>
         ensures { Answers (λ kind. kind) result (kind_of bytes.now) }

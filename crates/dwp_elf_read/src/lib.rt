@@ -1,6 +1,7 @@
 //! Reading ELF files: sections, their relocations, and the values of symbols (ELF gABI).
 //!
-//! A file is read in place: what is given borrows from the bytes that were handed in, and nothing is allocated.
+//! A file is read in place: what is given borrows from the bytes that were handed in, and nothing
+//! is allocated.
 #![tactic(auto)]
 
 mod fault;

@@ -1,3 +1,5 @@
+//! Texts of string tables (ELF gABI, "String Table").
+
 ghost use Rattle.std.specs.Prelude.{◌≡◌, option_map};
 ghost use Rattle.dwp_elf_read.specs.Elf.{text_of, text_at, name_is};
 
@@ -25,8 +27,8 @@ pub(crate) fn text_in(table: &[u8], place: u32) -> Option<&str>
     text(rest.split_at(end).0)
 }
 
-/// Whether the text at a place of a string table is this one. No more of the table is looked at than
-/// the text is long, and its end.
+/// Whether the text at a place of a string table is this one. No more of the table is looked at
+/// than the text is long, and its end.
 pub(crate) fn is_text_at(table: &[u8], place: u32, text: &str) -> bool
     ensures { result ≡ name_is text.now (text_at table.now place) }
 {

@@ -1,6 +1,9 @@
+//! Relocations as they stand in a file (ELF gABI, "Relocation").
+
 ghost use Rattle.std.specs.Prelude.{◌≡◌, ◌+◌, ◌*◌, ◌^◌, ◌≤◌, ◌<◌, length};
 ghost use Rattle.dwp_elf_read.specs.Layout.{word_size};
-ghost use Rattle.dwp_elf_read.specs.Relocation.{type_of, symbol_of, signed_word, relocation_size, relocation_at};
+ghost use Rattle.dwp_elf_read.specs.Relocation.{type_of, symbol_of, signed_word, relocation_size};
+ghost use Rattle.dwp_elf_read.specs.Relocation.{relocation_at};
 
 use crate::image::{Image, word_size_of};
 use dwp_base::Class;
@@ -60,7 +63,8 @@ fn kind_and_symbol(class: Class, info: u64) -> (u32, u32)
 #[tactic(auto, unfolding(crate::specs::Relocation::relocation_at))]
 pub(crate) fn entry_at(table: &Image, explicit: bool, link: u32, place: usize) -> RawRelocation
     requires { place + relocation_size table.now.class explicit ≤ length table.now.bytes.now }
-    ensures { result ≡ relocation_at table.now.class table.now.order explicit link table.now.bytes.now place }
+    ensures { result
+        ≡ relocation_at table.now.class table.now.order explicit link table.now.bytes.now place }
 {
     let word = word_size_of(table.class);
     let offset = table.word_at(place);

@@ -1,3 +1,5 @@
+//! The relocations of a section, in file order (ELF gABI, "Relocation").
+
 ghost use Rattle.std.specs.Prelude.{◌≡◌, List, Result};
 ghost use Rattle.dwp_base.specs.Reading.{Answers};
 ghost use Rattle.dwp_elf_read.specs.Relocation.{table_of, relocates, entries_then};
@@ -45,7 +47,8 @@ fn names(table: &Section, target: usize) -> bool
 #[tactic(auto, unfolding(crate::specs::Relocation::table_of, crate::specs::View::entries_left))]
 fn table_in<'a>(file: &ElfFile<'a>, section: &Section<'a>) -> Result<Table<'a>, ReadError>
     ensures { (rest : List (Result RawRelocation ReadError)) → begun result rest
-        ≡ entries_then file.now.image.class file.now.image.order (view.section section.now) (table_of file.now.image.class (view.section section.now)) rest }
+        ≡ entries_then file.now.image.class file.now.image.order (view.section section.now)
+        (table_of file.now.image.class (view.section section.now)) rest }
 {
     let class = file.image.class;
     let content = content_of_table(class, section)?;

@@ -1,3 +1,5 @@
+//! Sections of a file (ELF gABI, "Sections").
+
 use crate::fault::ReadError;
 use crate::file::ElfFile;
 use crate::header::{SHT_NOBITS, SectionHeader};
@@ -18,7 +20,8 @@ pub struct Section<'a> {
 
 #[tactic(auto, unfolding(crate::specs::View::section, crate::specs::Elf::section_of))]
 impl<'a> Section<'a> {
-    ghost use Rattle.dwp_elf_read.specs.declared.fault.ReadError.TheVariants.{NameRange, SectionRange};
+    ghost use Rattle.dwp_elf_read.specs.declared.fault.ReadError.TheVariants.{NameRange};
+    ghost use Rattle.dwp_elf_read.specs.declared.fault.ReadError.TheVariants.{SectionRange};
     ghost use Rattle.std.specs.Prelude.{◌≡◌, ◌↔◌, ◌||◌, ◌==◌, IsTrue, find};
     ghost use Rattle.std.specs.Option.{ok_or, option_and_then};
     ghost use Rattle.dwp_base.specs.Sections.{all_kinds, compressed_name_of, kind_named, name_of};
@@ -76,7 +79,8 @@ impl<'a> Section<'a> {
         self.header.info
     }
 
-    /// Whether the section has no bytes: its size is 0, or its type is that of sections without bytes.
+    /// Whether the section has no bytes: its size is 0, or its type is that of sections without
+    /// bytes.
     pub fn is_empty(&self) -> bool
         ensures { result ≡ ((section self.now).size == 0 || (section self.now).kind == SHT_NOBITS) }
     {
@@ -93,7 +97,8 @@ impl<'a> Section<'a> {
     /// The section's name.
     ///
     /// # Errors
-    /// `NameRange` where the file has no name table, the name lies outside of it, has no end or isn't UTF-8.
+    /// `NameRange` where the file has no name table, the name lies outside of it, has no end or
+    /// isn't UTF-8.
     pub fn name(&self) -> Result<&'a str, ReadError>
         ensures { Answers (λ name. name.now) result (ok_or (section self.now).name NameRange) }
     {
@@ -103,8 +108,8 @@ impl<'a> Section<'a> {
         text_in(table, self.header.name).ok_or(ReadError::NameRange)
     }
 
-    /// Whether the section has a name that can be read, and it is this one. No more of a long name is
-    /// looked at than `name` is long.
+    /// Whether the section has a name that can be read, and it is this one. No more of a long name
+    /// is looked at than `name` is long.
     pub fn is_called(&self, name: &str) -> bool
         ensures { result ≡ is_named name.now (section self.now) }
     {
@@ -123,7 +128,8 @@ impl<'a> Section<'a> {
     }
 
     fn first_kind(&self) -> Option<SectionKind>
-        ensures { result ≡ find (λ kind. is_named (name_of kind) (section self.now) || is_named (compressed_name_of kind) (section self.now)) all_kinds }
+        ensures { result ≡ find (λ kind. is_named (name_of kind) (section self.now)
+            || is_named (compressed_name_of kind) (section self.now)) all_kinds }
     {
         SectionKind::ALL.iter().copied().find(|kind| self.is_called(kind.name())
             || self.is_called(kind.compressed_name()))
@@ -134,7 +140,8 @@ impl<'a> Section<'a> {
     /// # Errors
     /// `SectionRange` where it lies outside the file.
     pub fn data(&self) -> Result<&'a [u8], ReadError>
-        ensures { Answers (λ bytes. bytes.now) result (ok_or (section self.now).content SectionRange) }
+        ensures { Answers (λ bytes. bytes.now) result
+            (ok_or (section self.now).content SectionRange) }
     {
         self.file
             .image
@@ -142,10 +149,12 @@ impl<'a> Section<'a> {
             .ok_or(ReadError::SectionRange)
     }
 
-    /// The relocations of this section, in file order: those of every section of relocations that names it.
+    /// The relocations of this section, in file order: those of every section of relocations that
+    /// names it.
     #[tactic(auto, unfolding(crate::specs::View::section, crate::specs::View::file, crate::specs::Elf::section_of))]
     pub fn relocations(&self) -> Relocations<'a>
-        ensures { relocations_left result ≡ relocations_of (file self.now) (section self.now).number }
+        ensures { relocations_left result
+            ≡ relocations_of (file self.now) (section self.now).number }
     {
         Relocations::of(self.file, self.number)
     }

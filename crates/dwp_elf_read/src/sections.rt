@@ -1,3 +1,5 @@
+//! How many sections a file has, and where their names are (ELF gABI, "Sections").
+
 ghost use Rattle.std.specs.Prelude.{◌≡◌, ◌+◌, ◌*◌, ◌≤◌, ◌<◌, length, IfOk, OnOk};
 ghost use Rattle.std.specs.Option.{option_copied};
 ghost use Rattle.dwp_base.specs.Reading.{Answers};
@@ -73,7 +75,8 @@ impl<'a> Image<'a> {
     /// The bytes of the sections' names, if the file has them.
     #[tactic(auto, unfolding(crate::specs::Elf::name_table, crate::specs::Elf::name_table_numbered))]
     pub fn names(&self, header: &FileHeader, count: usize) -> Result<Option<&'a [u8]>, ReadError>
-        requires headers { header.now.table + count * entry_size self.now.class ≤ length self.now.bytes.now }
+        requires headers { header.now.table + count * entry_size self.now.class
+            ≤ length self.now.bytes.now }
         requires first { 0 < header.now.table
             → header.now.table + entry_size self.now.class ≤ length self.now.bytes.now }
         ensures { Answers option_copied result

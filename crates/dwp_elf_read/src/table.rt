@@ -1,3 +1,5 @@
+//! Tables of relocations, entry by entry (ELF gABI, "Relocation").
+
 ghost use Rattle.std.specs.Prelude.{◌*◌, ◌≤◌, length};
 ghost use Rattle.dwp_elf_read.specs.Relocation.{relocation_size};
 

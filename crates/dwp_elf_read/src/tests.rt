@@ -1,3 +1,5 @@
+//! Files of both classes and orders, and damaged ones.
+
 use super::*;
 use dwp_base::{Class, Endianness, SectionKind};
 use std::alloc::{AllocError, Global};
@@ -5,7 +7,7 @@ use std::io;
 use std::process::Abort;
 use std::test::Fail;
 
-// A GNU package of one unit, in ELF of 64 bits: 544 bytes.
+/// A GNU package of one unit, in ELF of 64 bits: 544 bytes.
 fn package(alloc: Global) -> Result<Vec<u8>, AllocError> {
     bytes_of(
         alloc,
@@ -31,7 +33,7 @@ fn package(alloc: Global) -> Result<Vec<u8>, AllocError> {
     )
 }
 
-// The same in ELF of 32 bits, big endian: 408 bytes.
+/// The same in ELF of 32 bits, big endian: 408 bytes.
 fn big_endian_package(alloc: Global) -> Result<Vec<u8>, AllocError> {
     bytes_of(
         alloc,
@@ -53,7 +55,8 @@ fn big_endian_package(alloc: Global) -> Result<Vec<u8>, AllocError> {
     )
 }
 
-// An object of 64 bits with two relocations of section 1 that have addends, and symbol 1 of value 0x1000.
+/// An object of 64 bits with two relocations of section 1 that have addends, and symbol 1 of value
+/// 0x1000.
 fn object_with_addends(alloc: Global) -> Result<Vec<u8>, AllocError> {
     bytes_of(
         alloc,
@@ -79,7 +82,8 @@ fn object_with_addends(alloc: Global) -> Result<Vec<u8>, AllocError> {
     )
 }
 
-// An object of 32 bits, big endian, with a relocation of section 1 that has none, and symbol 1 of value 0x2000.
+/// An object of 32 bits, big endian, with a relocation of section 1 that has none, and symbol 1 of
+/// value 0x2000.
 fn object_without_addends(alloc: Global) -> Result<Vec<u8>, AllocError> {
     bytes_of(
         alloc,
@@ -107,7 +111,7 @@ fn digit(c: u8) -> u8 {
     }
 }
 
-// The bytes of hexadecimal text with blanks in it.
+/// The bytes of hexadecimal text with blanks in it.
 fn bytes_of(alloc: Global, text: &str) -> Result<Vec<u8>, AllocError> {
     let mut bytes = Vec::new(alloc);
     let mut high = None;
@@ -126,7 +130,7 @@ fn bytes_of(alloc: Global, text: &str) -> Result<Vec<u8>, AllocError> {
     Ok(bytes)
 }
 
-// The bytes with some of them changed, each a place and a byte.
+/// The bytes with some of them changed, each a place and a byte.
 fn changed(alloc: Global, bytes: &[u8], changes: &[(usize, u8)]) -> Result<Vec<u8>, AllocError> {
     let mut copy = Vec::from_slice(alloc, bytes)?;
     for &(place, byte) in changes {
@@ -137,7 +141,7 @@ fn changed(alloc: Global, bytes: &[u8], changes: &[(usize, u8)]) -> Result<Vec<u
     Ok(copy)
 }
 
-// Each section of the package by name, type, and where its content lies.
+/// Each section of the package by name, type, and where its content lies.
 fn assert_sections(rt: &impl Abort, bytes: &[u8], table: [(&str, u32, usize, usize); 4]) {
     let Ok(file) = ElfFile::parse(bytes) else {
         assert!(rt; false, "the file is not read");
@@ -199,7 +203,7 @@ fn package_of_32_bits_big_endian(rt: HostRuntime) -> Result<(), Fail> {
     Ok(())
 }
 
-// Section 0 says the count of sections in its size, and the name table's number in its link.
+/// Section 0 says the count of sections in its size, and the name table's number in its link.
 #[test]
 fn extended_numbering(rt: HostRuntime) -> Result<(), Fail> {
     let bytes = package(rt.alloc())?;
@@ -345,7 +349,8 @@ fn relocations_without_addends(rt: HostRuntime) -> Result<(), Fail> {
     Ok(())
 }
 
-// A table of relocations that isn't of whole entries, after one that is: the iterator ends with the fault.
+/// A table of relocations that isn't of whole entries, after one that is: the iterator ends with
+/// the fault.
 #[test]
 fn relocations_end_with_a_fault(rt: HostRuntime) -> Result<(), Fail> {
     let bytes = object_with_addends(rt.alloc())?;

@@ -12,7 +12,7 @@ use Rattle.dwp_base.specs.declared.section.SectionKind.TheVariants.{Info, Types,
 use Rattle.dwp_elf_read.specs.Elf.{Elf, SectionMeaning, SHT_NOBITS, elf_of}
 use Rattle.dwp_elf_read.specs.declared.fault.ReadError.TheVariants.{SectionRange, Compressed}
 use Rattle.dwp_index.specs.declared.fault.PackageError.TheVariants as faults
-use Rattle.dwp_index.specs.Contents.{content, has_name, is_of_kind, has_older_name, used_bytes, bytes_of, content_of, contents_of}
+use Rattle.dwp_index.specs.Contents.{content, has_name, is_of_kind, has_older_name, used_bytes, bytes_of, content_among, contents_of}
 use Rattle.dwp_base.specs.declared.endian.Endianness.{Endianness}
 use Rattle.dwp_bytes.specs.declared.fault.ReadError.{ReadError as UnitFault}
 use Rattle.dwp_index.specs.Index.{Index}
@@ -119,8 +119,8 @@ holds-used section kind bytes h =
     ∙ ap (λ b. cond b (Err Compressed) (ok_or section.content SectionRange)) older
     ∙ ap (λ o. ok_or o SectionRange) h.content_is
 
-pub content_is : (sections : List SectionMeaning) (kind : SectionKind) (bytes : List ℕ) → HasContent sections kind bytes → content_of sections kind ≡ Ok bytes
-unfolding content_of
+pub content_is : (sections : List SectionMeaning) (kind : SectionKind) (bytes : List ℕ) → HasContent sections kind bytes → content_among sections kind ≡ Ok bytes
+unfolding content_among
 content_is [] kind bytes h = ap (λ l. Ok l) (sym h)
 content_is (s ∷ ss) kind bytes (inl h) = ap (λ b. bytes_of kind (cond b (Some s) (find (is_of_kind kind) ss))) (holds-kind s kind bytes h) ∙ holds-used s kind bytes h
 content_is (s ∷ ss) kind bytes (inr h) = ap (λ b. bytes_of kind (cond b (Some s) (find (is_of_kind kind) ss))) h.0 ∙ content_is ss kind bytes h.1

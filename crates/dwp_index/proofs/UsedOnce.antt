@@ -10,12 +10,12 @@ use Rattle.std.proofs.lemmas.Bool.{ne_eqb}
 use Rattle.std.proofs.lemmas.List.{take-append-drop, take-set, drop-set-lt, get_or-set_same, get_or-set_other, length-set, drop_all}
 use Rattle.std.proofs.lemmas.List.Elements.{filter-append}
 use Rattle.std.proofs.lemmas.List.Sorted.{IsPermutation-refl, IsPermutation-sym, IsPermutation-cons, IsPermutation-to_front, IsPermutation-trans, IsPermutation-middle, IsPermutation-map, IsPermutation-append}
-use Rattle.dwp_table.specs.Table.{IsTable, IsIndex, signature_of}
+use Rattle.dwp_table.specs.Table.{IsHashTable, IsIndex, signature_of}
 use Rattle.dwp_table.specs.Probing.{place}
 use Rattle.dwp_index.specs.Index.{Index}
 use Rattle.dwp_index.specs.Used.{slot_at, used_in, used_from}
 use Rattle.dwp_index.specs.Entries.{compilation_entry, type_entry, entries_from}
-use Rattle.dwp_index.specs.Naming.{numbered, entries_of, IsIndexOf}
+use Rattle.dwp_index.specs.Naming.{numbered, entries_of, IsIndexOfIds}
 use Rattle.dwp_index.proofs.UsedSlots.{used_here, used_after, used_none}
 
 same_or_not : (a b : ℕ) → (a ≡ b) ⊎ (a ≡ b → ⊥)
@@ -121,7 +121,7 @@ named ids r = (signature_of ids r, r)
 slot-within : (rows : List ℕ) (k r : ℕ) → get_or rows k 0 ≡ suc r → k < length rows
 slot-within rows k r e = elim (dec_lt k (length rows)) [ yes p ↦ p | no p ↦ absurd (omega (arith, e, get_or-eq_default rows 0 {n = k} (omega arith))) ]
 
-pub rows_have_each : (ids rows : List ℕ) → IsTable ids rows → HasEach (length ids) rows
+pub rows_have_each : (ids rows : List ℕ) → IsHashTable ids rows → HasEach (length ids) rows
 rows_have_each ids rows table = record {
   each = λ r h.
       let at = table.placed r h in
@@ -179,11 +179,11 @@ slots_once ids index is =
     (subst (λ l. IsPermutation (map (named ids) (range_with_len 1 (length ids))) l) (sym (used-from ids index is (length index.rows) 0 (omega arith)))
     (IsPermutation-map (named ids) (range_with_len 1 (length ids)) (filter used index.rows) (each_once (length ids) index.rows (rows_have_each ids index.rows is.table))))
 
-used_once : (index : Option Index) (ids : List ℕ) → IsIndexOf index ids → IsPermutation (numbered 1 ids) (used_from index 0)
+used_once : (index : Option Index) (ids : List ℕ) → IsIndexOfIds index ids → IsPermutation (numbered 1 ids) (used_from index 0)
 used_once None ids none = subst (λ l. IsPermutation (numbered 1 l) []) (sym none) (IsPermutation-refl [])
 used_once (Some index) ids is = slots_once ids index is
 
-pub entries_once : (compilations types : Option Index) (ids signatures : List ℕ) → IsIndexOf compilations ids → IsIndexOf types signatures
+pub entries_once : (compilations types : Option Index) (ids signatures : List ℕ) → IsIndexOfIds compilations ids → IsIndexOfIds types signatures
     → IsPermutation (entries_of ids signatures) (entries_from compilations types 0 0)
 entries_once compilations types ids signatures c t =
     IsPermutation-append (map compilation_entry (numbered 1 ids)) (map compilation_entry (used_from compilations 0)) (map type_entry (numbered 1 signatures)) (map type_entry (used_from types 0))

@@ -1,12 +1,16 @@
 -- The contents of a package's sections (DWARF 5, 7.3.5; the GNU page DebugFissionDWP).
-use Rattle.std.specs.Prelude.{ℕ, Bool, false, ◌&&◌, ◌||◌, ◌==◌, not, List, [], Option, Some, None, Result, Ok, Err, if◌then◌else◌}
+use Rattle.std.specs.Prelude.{ℕ, Bool, false, ◌&&◌, ◌||◌, ◌==◌, not, List, [], Option, Some, None}
+use Rattle.std.specs.Prelude.{Result, Ok, Err, if◌then◌else◌}
 use Rattle.std.specs.List.{find}
 use Rattle.std.specs.Option.{ok_or}
 use Rattle.std.specs.Str.{bytes_eq}
 use Rattle.dwp_base.specs.Reading.{◌>>=◌}
 use Rattle.dwp_base.specs.Sections.{is_named, compressed_name_of}
 use Rattle.dwp_base.specs.declared.section.SectionKind.{SectionKind}
-use Rattle.dwp_base.specs.declared.section.SectionKind.TheVariants.{Info, Types, Abbrev, Line, Loc, Loclists, Rnglists, StrOffsets, Macinfo, Macro, Str, CuIndex, TuIndex}
+use Rattle.dwp_base.specs.declared.section.SectionKind.TheVariants.{Info, Types, Abbrev, Line, Loc}
+use Rattle.dwp_base.specs.declared.section.SectionKind.TheVariants.{Loclists, Rnglists, StrOffsets}
+use Rattle.dwp_base.specs.declared.section.SectionKind.TheVariants.{Macinfo, Macro, Str, CuIndex}
+use Rattle.dwp_base.specs.declared.section.SectionKind.TheVariants.{TuIndex}
 use Rattle.dwp_elf_read.specs.Elf.{SectionMeaning, SHT_NOBITS, has_compressed_flag}
 use Rattle.dwp_elf_read.specs.declared.fault.ReadError.{ReadError}
 use Rattle.dwp_elf_read.specs.declared.fault.ReadError.TheVariants.{SectionRange, Compressed}
@@ -49,7 +53,8 @@ has_name kind (Some name) = is_named name kind
 
 -- a section has bytes, and is one of that kind
 unfoldable pub is_of_kind : SectionKind → SectionMeaning → Bool
-is_of_kind kind section = not (section.size == 0 || section.kind == SHT_NOBITS) && has_name kind section.name
+is_of_kind kind section =
+    not (section.size == 0 || section.kind == SHT_NOBITS) && has_name kind section.name
 
 -- a section's name is the older spelling of a kind's
 abbrev pub has_older_name : SectionKind → Option (List ℕ) → Bool
@@ -67,25 +72,25 @@ bytes_of kind None = Ok []
 bytes_of kind (Some section) = used_bytes kind section
 
 -- the content of the first section of a kind that has bytes
-unfoldable pub content_of : List SectionMeaning → SectionKind → Result (List ℕ) ReadError
-content_of sections kind = bytes_of kind (find (is_of_kind kind) sections)
+unfoldable pub content_among : List SectionMeaning → SectionKind → Result (List ℕ) ReadError
+content_among sections kind = bytes_of kind (find (is_of_kind kind) sections)
 
 -- that of each kind
 unfoldable pub contents_of : List SectionMeaning → Result Sections ReadError
 contents_of sections = do
-  info ← content_of sections Info
-  types ← content_of sections Types
-  abbrev_bytes ← content_of sections Abbrev
-  line ← content_of sections Line
-  loc ← content_of sections Loc
-  loclists ← content_of sections Loclists
-  rnglists ← content_of sections Rnglists
-  str_offsets ← content_of sections StrOffsets
-  macinfo ← content_of sections Macinfo
-  macros ← content_of sections Macro
-  strings ← content_of sections Str
-  cu_index ← content_of sections CuIndex
-  tu_index ← content_of sections TuIndex
+  info ← content_among sections Info
+  types ← content_among sections Types
+  abbrev_bytes ← content_among sections Abbrev
+  line ← content_among sections Line
+  loc ← content_among sections Loc
+  loclists ← content_among sections Loclists
+  rnglists ← content_among sections Rnglists
+  str_offsets ← content_among sections StrOffsets
+  macinfo ← content_among sections Macinfo
+  macros ← content_among sections Macro
+  strings ← content_among sections Str
+  cu_index ← content_among sections CuIndex
+  tu_index ← content_among sections TuIndex
   Ok (record {
     info = info;
     types = types;

@@ -15,8 +15,10 @@ type_entry s = record { object = TypeUnit (record { 0 = s.0 }); row = s.1 }
 
 -- the used slots of both indexes from these slots on, the compilation index first
 abbrev pub entries_from : Option Index → Option Index → ℕ → ℕ → List UnitEntry
-entries_from compilations types c t = map compilation_entry (used_from compilations c) ++ map type_entry (used_from types t)
+entries_from compilations types c t =
+    map compilation_entry (used_from compilations c) ++ map type_entry (used_from types t)
 
 -- what the iterator has left
 abbrev pub units_left : Units → List UnitEntry
-units_left u = entries_from (option_copied u.compilations) (option_copied u.types) u.compilation u.type_unit
+units_left u =
+    entries_from (option_copied u.compilations) (option_copied u.types) u.compilation u.type_unit

@@ -1,6 +1,7 @@
--- What looking a unit up in a package gives, where the index of its kind is a table of distinct identifiers
--- (DWARF 5, 7.3.5.3).
-use Rattle.std.specs.Prelude.{◌≡◌, ◌≢◌, ℕ, ◌+◌, ◌<◌, ◌≤◌, List, length, slice_index, Option, Some, Ok}
+-- What looking a unit up in a package gives, where the index of its kind is a table of distinct
+-- identifiers (DWARF 5, 7.3.5.3).
+use Rattle.std.specs.Prelude.{◌≡◌, ◌≢◌, ℕ, ◌+◌, ◌<◌, ◌≤◌, List, length, slice_index, Option, Some}
+use Rattle.std.specs.Prelude.{Ok}
 use Rattle.std.specs.Option.{option_map, option_map_or}
 use Rattle.dwp_base.specs.declared.section.SectionKind.{SectionKind}
 use Rattle.dwp_base.specs.declared.section.SectionKind.TheVariants as kinds
@@ -12,7 +13,8 @@ use Rattle.dwp_table.specs.Table.{IsIndex}
 use Rattle.dwp_table.specs.declared.object.DwarfObject.{DwarfObject}
 use Rattle.dwp_index.specs.Contents.{Sections, content}
 use Rattle.dwp_index.specs.Index.{Index, Ranges, row_in, range_in}
-use Rattle.dwp_index.specs.Package.{Package, FoundUnit, place_of, kind_of, row_bytes, encoding_in, index_for, found_counted, found}
+use Rattle.dwp_index.specs.Package.{Package, FoundUnit, place_of, kind_of, row_bytes, encoding_in}
+use Rattle.dwp_index.specs.Package.{index_for, found_counted, found}
 
 -- where a unit's own bytes stand, and these bytes
 abbrev pub own_place : DwarfObject → Ranges → UnitSection
@@ -23,7 +25,8 @@ own_bytes contents object row = row_bytes contents row (kind_of (own_place objec
 
 -- the ranges of a row lie inside their sections
 abbrev pub LiesInside : Sections → Ranges → Type 0
-LiesInside contents row = (kind : SectionKind) (range : Contribution) → range_in row kind ≡ Some range → range.offset.0 + range.size ≤ length (content contents kind)
+LiesInside contents row = (kind : SectionKind) (range : Contribution)
+    → range_in row kind ≡ Some range → range.offset.0 + range.size ≤ length (content contents kind)
 
 -- the unit of a row number and its row, with this encoding in its header
 abbrev pub unit_of : Package → DwarfObject → ℕ → Ranges → Encoding → FoundUnit
@@ -37,24 +40,29 @@ unit_of pack object number row encoding = record {
 }
 
 -- the index of an object's kind is one of these distinct identifiers
-pub record HasIndex (pack : Package) (object : DwarfObject) (ids : List ℕ) (index : Index) : Type 0 where
+pub record HasIndex (pack : Package) (object : DwarfObject) (ids : List ℕ)
+    (index : Index) : Type 0 where
   pub index_is : index_for pack object ≡ Some index
   pub slots : IsIndex ids index.signatures index.rows
 
--- the object is the one of row r + 1: its ranges lie inside their sections, and its header can be read
-pub record IsUnitOf (pack : Package) (object : DwarfObject) (ids : List ℕ) (index : Index) (r : ℕ) (row : Ranges) (encoding : Encoding) : Type 0 where
+-- the object is the one of row r + 1: its ranges lie inside their sections, and its header can be
+-- read
+pub record IsUnitOf (pack : Package) (object : DwarfObject) (ids : List ℕ) (index : Index) (r : ℕ)
+    (row : Ranges) (encoding : Encoding) : Type 0 where
   pub within : r < length ids
   pub named : slice_index ids r ≡ identifier_of object
   pub row_is : row_in index (r + 1) ≡ Ok row
   pub inside : LiesInside pack.contents row
-  pub header : encoding_in pack.order (own_place object row) (own_bytes pack.contents object row) ≡ Ok encoding
+  pub header : encoding_in pack.order (own_place object row) (own_bytes pack.contents object row)
+      ≡ Ok encoding
 
 -- no row is the object's
 abbrev pub IsNotNamed : DwarfObject → List ℕ → Type 0
 IsNotNamed object ids = (r : ℕ) → r < length ids → slice_index ids r ≢ identifier_of object
 
 -- looking the object up gives this unit or none, after at most so many slots
-pub record GivesWithin (pack : Package) (object : DwarfObject) (unit : Option FoundUnit) (most : ℕ) : Type 0 where
+pub record GivesWithin (pack : Package) (object : DwarfObject) (unit : Option FoundUnit)
+    (most : ℕ) : Type 0 where
   pub count : ℕ
   pub few : count ≤ most
   pub counted : found_counted pack object ≡ Ok (unit, count)

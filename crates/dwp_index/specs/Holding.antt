@@ -1,8 +1,12 @@
 -- Files whose sections are contents as they stand (DWARF 5, 7.3.5).
-use Rattle.std.specs.Prelude.{◌≡◌, ◌≢◌, ◌⊎◌, ℕ, ◌<◌, false, List, [], ◌∷◌, length, Some, if◌then◌else◌}
+use Rattle.std.specs.Prelude.{◌≡◌, ◌≢◌, ◌⊎◌, ℕ, ◌<◌, false, List, [], ◌∷◌, length, Some}
+use Rattle.std.specs.Prelude.{if◌then◌else◌}
 use Rattle.dwp_base.specs.Sections.{name_of, same_kind}
 use Rattle.dwp_base.specs.declared.section.SectionKind.{SectionKind}
-use Rattle.dwp_base.specs.declared.section.SectionKind.TheVariants.{Info, Types, Abbrev, Line, Loc, Loclists, Rnglists, StrOffsets, Macinfo, Macro, Str, CuIndex, TuIndex}
+use Rattle.dwp_base.specs.declared.section.SectionKind.TheVariants.{Info, Types, Abbrev, Line, Loc}
+use Rattle.dwp_base.specs.declared.section.SectionKind.TheVariants.{Loclists, Rnglists, StrOffsets}
+use Rattle.dwp_base.specs.declared.section.SectionKind.TheVariants.{Macinfo, Macro, Str, CuIndex}
+use Rattle.dwp_base.specs.declared.section.SectionKind.TheVariants.{TuIndex}
 use Rattle.dwp_elf_read.specs.Elf.{SectionMeaning, SHT_NOBITS, has_compressed_flag}
 use Rattle.dwp_index.specs.Contents.{Sections, is_of_kind}
 
@@ -15,20 +19,24 @@ pub record Holds (section : SectionMeaning) (kind : SectionKind) (bytes : List �
   pub has_bytes : section.kind ≢ SHT_NOBITS
   pub stored : has_compressed_flag section ≡ false
 
--- the first of these sections that is of a kind holds these bytes; there are none where no section is
+-- the first of these sections that is of a kind holds these bytes; there are none where no section
+-- is
 abbrev pub HasContent : List SectionMeaning → SectionKind → List ℕ → Type 0
 HasContent [] kind bytes = bytes ≡ []
-HasContent (s ∷ ss) kind bytes = Holds s kind bytes ⊎ ((is_of_kind kind s ≡ false) × HasContent ss kind bytes)
+HasContent (s ∷ ss) kind bytes =
+    Holds s kind bytes ⊎ ((is_of_kind kind s ≡ false) × HasContent ss kind bytes)
 
 -- a section of no kind
 abbrev pub IsOther : SectionMeaning → Type 0
 IsOther section = (kind : SectionKind) → is_of_kind kind section ≡ false
 
--- the sections hold these contents, each under its kind's name, in order; the others between them are of no kind
+-- the sections hold these contents, each under its kind's name, in order; the others between them
+-- are of no kind
 abbrev pub HoldsInOrder : List SectionMeaning → List (SectionKind × List ℕ) → Type 0
 HoldsInOrder [] contents = contents ≡ []
 HoldsInOrder (s ∷ ss) [] = IsOther s × HoldsInOrder ss []
-HoldsInOrder (s ∷ ss) (c ∷ cs) = (IsOther s × HoldsInOrder ss (c ∷ cs)) ⊎ (Holds s c.0 c.1 × HoldsInOrder ss cs)
+HoldsInOrder (s ∷ ss) (c ∷ cs) =
+    (IsOther s × HoldsInOrder ss (c ∷ cs)) ⊎ (Holds s c.0 c.1 × HoldsInOrder ss cs)
 
 -- the first content of a kind, no bytes where there is none
 abbrev pub held_of : SectionKind → List (SectionKind × List ℕ) → List ℕ

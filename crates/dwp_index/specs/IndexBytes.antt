@@ -1,24 +1,30 @@
--- The bytes of an index, read from left to right (DWARF 5, 7.3.5.3; for version 2 the GNU page DebugFissionDWP).
-use Rattle.std.specs.Prelude.{ℕ, zero, suc, ◌*◌, Bool, List, [], ◌∷◌, ◌++◌, length, drop, Result, Ok, Err, is_none, ◌==◌, ◌&&◌, ◌||◌, nat_lt, if◌then◌else◌}
+-- The bytes of an index, read from left to right (DWARF 5, 7.3.5.3; for version 2 the
+-- GNU page DebugFissionDWP).
+use Rattle.std.specs.Prelude.{ℕ, zero, suc, ◌*◌, Bool, List, [], ◌∷◌, ◌++◌, length, drop, Result}
+use Rattle.std.specs.Prelude.{Ok, Err, is_none, ◌==◌, ◌&&◌, ◌||◌, nat_lt, if◌then◌else◌}
 use Rattle.std.specs.Int.{is_power_of_two}
 use Rattle.std.specs.List.{list_any}
 use Rattle.dwp_base.specs.Numbers.{number}
 use Rattle.dwp_base.specs.Reading.{◌>>=◌}
 use Rattle.dwp_base.specs.declared.endian.Endianness.{Endianness}
 use Rattle.dwp_bytes.specs.declared.fault.ReadError.{ReadError}
-use Rattle.dwp_bytes.specs.declared.fault.ReadError.TheVariants.{UnexpectedEof, IndexVersion, SlotCount, UnknownColumn, RepeatedColumn}
+use Rattle.dwp_bytes.specs.declared.fault.ReadError.TheVariants.{UnexpectedEof, IndexVersion}
+use Rattle.dwp_bytes.specs.declared.fault.ReadError.TheVariants.{SlotCount, UnknownColumn}
+use Rattle.dwp_bytes.specs.declared.fault.ReadError.TheVariants.{RepeatedColumn}
 use Rattle.dwp_table.specs.Columns.{kind_of_column}
 use Rattle.dwp_index.specs.Index.{Index}
 
 -- n numbers of so many bytes, one after the other
 abbrev pub numbers : Endianness → ℕ → ℕ → List ℕ → List ℕ
 numbers order width zero bytes = []
-numbers order width (suc n) bytes = number order width bytes ∷ numbers order width n (drop width bytes)
+numbers order width (suc n) bytes =
+    number order width bytes ∷ numbers order width n (drop width bytes)
 
 -- n rows of so many numbers of 4 bytes
 abbrev pub number_rows : Endianness → ℕ → ℕ → List ℕ → List (List ℕ)
 number_rows order columns zero bytes = []
-number_rows order columns (suc n) bytes = numbers order 4 columns bytes ∷ number_rows order columns n (drop (4 * columns) bytes)
+number_rows order columns (suc n) bytes =
+    numbers order 4 columns bytes ∷ number_rows order columns n (drop (4 * columns) bytes)
 
 -- what is left after n bytes
 abbrev pub after : ℕ → List ℕ → Result (List ℕ) ReadError
@@ -40,13 +46,18 @@ pub record Counts : Type 0 where
 
 -- a power of two above the number of rows, or no slots and no rows
 abbrev pub is_slot_count : ℕ → ℕ → Bool
-is_slot_count units slots = (is_power_of_two slots && nat_lt units slots) || (slots == 0 && units == 0)
+is_slot_count units slots =
+    (is_power_of_two slots && nat_lt units slots) || (slots == 0 && units == 0)
 
 unfoldable pub counts_of : Endianness → List ℕ → Result Counts ReadError
 counts_of order bytes =
     if nat_lt (length bytes) 16 then Err UnexpectedEof
     else if is_slot_count (number order 4 (drop 8 bytes)) (number order 4 (drop 12 bytes))
-    then Ok (record { columns = number order 4 (drop 4 bytes); units = number order 4 (drop 8 bytes); slots = number order 4 (drop 12 bytes) })
+    then Ok (record {
+      columns = number order 4 (drop 4 bytes);
+      units = number order 4 (drop 8 bytes);
+      slots = number order 4 (drop 12 bytes);
+    })
     else Err SlotCount
 
 -- a further column, after those before it
@@ -57,14 +68,16 @@ new_column version before n =
     else Ok n
 
 -- so many further columns, and what is left after them
-unfoldable pub columns_at : Endianness → ℕ → List ℕ → ℕ → List ℕ → Result (List ℕ × List ℕ) ReadError
+unfoldable pub columns_at : Endianness → ℕ → List ℕ → ℕ → List ℕ
+    → Result (List ℕ × List ℕ) ReadError
 columns_at order version before zero bytes = Ok (before, bytes)
 columns_at order version before (suc count) bytes = do
   rest ← after 4 bytes
   n ← new_column version before (number order 4 bytes)
   columns_at order version (before ++ n ∷ []) count rest
 
--- the header of 16 bytes, and then the signatures, the row numbers, the columns, the offsets and the sizes
+-- the header of 16 bytes, and then the signatures, the row numbers, the columns, the offsets and
+-- the sizes
 unfoldable pub index_of : Endianness → List ℕ → Result Index ReadError
 index_of order bytes = do
   version ← version_of order bytes

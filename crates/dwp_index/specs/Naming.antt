@@ -12,9 +12,10 @@ numbered r (id ∷ ids) = (id, r) ∷ numbered (r + 1) ids
 
 -- the units of these identifiers and of these type signatures
 abbrev pub entries_of : (ids signatures : List ℕ) → List UnitEntry
-entries_of ids signatures = map compilation_entry (numbered 1 ids) ++ map type_entry (numbered 1 signatures)
+entries_of ids signatures =
+    map compilation_entry (numbered 1 ids) ++ map type_entry (numbered 1 signatures)
 
 -- an index is one of these distinct identifiers; without an index there are none
-abbrev pub IsIndexOf : Option Index → List ℕ → Type 0
-IsIndexOf None ids = ids ≡ []
-IsIndexOf (Some index) ids = IsIndex ids index.signatures index.rows
+abbrev pub IsIndexOfIds : Option Index → List ℕ → Type 0
+IsIndexOfIds None ids = ids ≡ []
+IsIndexOfIds (Some index) ids = IsIndex ids index.signatures index.rows

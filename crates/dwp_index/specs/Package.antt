@@ -1,5 +1,7 @@
--- What a package file means: the units that its indexes name (DWARF 5, 7.3.5; the GNU page DebugFissionDWP).
-use Rattle.std.specs.Prelude.{ℕ, ◌+◌, Bool, false, not, List, [], length, slice_range, Option, Some, None, Result, Ok, Err, ◌==◌, nat_le, if◌then◌else◌}
+-- What a package file means: the units that its indexes name (DWARF 5, 7.3.5; the
+-- GNU page DebugFissionDWP).
+use Rattle.std.specs.Prelude.{ℕ, ◌+◌, Bool, false, not, List, [], length, slice_range, Option, Some}
+use Rattle.std.specs.Prelude.{None, Result, Ok, Err, ◌==◌, nat_le, if◌then◌else◌}
 use Rattle.std.specs.List.{find}
 use Rattle.dwp_base.specs.Reading.{◌>>=◌}
 use Rattle.dwp_base.specs.declared.endian.Endianness.{Endianness}
@@ -58,7 +60,12 @@ package_of bytes = do
   contents ← as_fault faults.Elf (contents_of file.sections)
   compilations ← index_in_section file.order contents.cu_index
   types ← index_in_section file.order contents.tu_index
-  Ok (record { order = file.order; contents = contents; compilations = compilations; types = types })
+  Ok (record {
+    order = file.order;
+    contents = contents;
+    compilations = compilations;
+    types = types;
+  })
 
 abbrev pub lies_inside : List ℕ → Contribution → Bool
 lies_inside bytes range = nat_le (range.offset.0 + range.size) (length bytes)
@@ -66,7 +73,8 @@ lies_inside bytes range = nat_le (range.offset.0 + range.size) (length bytes)
 -- the bytes of a range; none where it is absent
 abbrev pub part_of : List ℕ → Option Contribution → List ℕ
 part_of bytes None = []
-part_of bytes (Some range) = if lies_inside bytes range then slice_range bytes range.offset.0 (range.offset.0 + range.size) else []
+part_of bytes (Some range) = if lies_inside bytes range
+    then slice_range bytes range.offset.0 (range.offset.0 + range.size) else []
 
 abbrev pub is_outside : List ℕ → Option Contribution → Bool
 is_outside bytes None = false
@@ -74,7 +82,8 @@ is_outside bytes (Some range) = not (lies_inside bytes range)
 
 -- the first section, in the order of columns, that a range of the row isn't inside of
 unfoldable pub first_outside : Sections → Ranges → Option SectionKind
-first_outside contents row = find (λ kind. is_outside (content contents kind) (range_in row kind)) contribution_kinds
+first_outside contents row =
+    find (λ kind. is_outside (content contents kind) (range_in row kind)) contribution_kinds
 
 abbrev pub all_inside : Option SectionKind → Result (Unit {0}) PackageError
 all_inside None = Ok tt
@@ -105,7 +114,14 @@ unit_in pack object number row = do
   let place = place_of object (range_in row kinds.Types)
   let bytes = row_bytes pack.contents row (kind_of place)
   encoding ← as_fault faults.Unit (encoding_in pack.order place bytes)
-  Ok (record { order = pack.order; contents = pack.contents; number = number; row = row; bytes = bytes; encoding = encoding })
+  Ok (record {
+    order = pack.order;
+    contents = pack.contents;
+    number = number;
+    row = row;
+    bytes = bytes;
+    encoding = encoding;
+  })
 
 -- the index of the units of a kind
 abbrev pub index_for : Package → DwarfObject → Option Index
@@ -113,22 +129,27 @@ index_for pack (Compilation id) = pack.compilations
 index_for pack (TypeUnit signature) = pack.types
 
 -- the unit of a row number, and how many slots were looked at
-unfoldable pub unit_at_row : Package → DwarfObject → Index → ℕ → ℕ → Result (Option FoundUnit × ℕ) PackageError
+unfoldable pub unit_at_row : Package → DwarfObject → Index → ℕ → ℕ
+    → Result (Option FoundUnit × ℕ) PackageError
 unit_at_row pack object index number count = do
   row ← as_fault faults.Index (row_in index number)
   unit ← unit_in pack object number row
   Ok (Some unit, count)
 
-abbrev pub unit_found : Package → DwarfObject → Index → Option ℕ → ℕ → Result (Option FoundUnit × ℕ) PackageError
+abbrev pub unit_found : Package → DwarfObject → Index → Option ℕ → ℕ
+    → Result (Option FoundUnit × ℕ) PackageError
 unit_found pack object index None count = Ok (None, count)
 unit_found pack object index (Some number) count = unit_at_row pack object index number count
 
-abbrev pub found_by : Package → DwarfObject → Option Index → Result (Option FoundUnit × ℕ) PackageError
+abbrev pub found_by : Package → DwarfObject → Option Index
+    → Result (Option FoundUnit × ℕ) PackageError
 found_by pack object None = Ok (None, 0)
 found_by pack object (Some index) =
-    unit_found pack object index (found_row index.signatures index.rows (identifier_of object)) (look_count index.signatures index.rows (identifier_of object))
+    unit_found pack object index (found_row index.signatures index.rows (identifier_of object))
+    (look_count index.signatures index.rows (identifier_of object))
 
--- the unit of an identifier, by the look-up in the index of its kind, and how many slots were looked at
+-- the unit of an identifier, by the look-up in the index of its kind, and how many slots were
+-- looked at
 unfoldable pub found_counted : Package → DwarfObject → Result (Option FoundUnit × ℕ) PackageError
 found_counted pack object = found_by pack object (index_for pack object)
 

@@ -1,8 +1,11 @@
+//! The contents of a package's sections (DWARF 5, 7.3.5).
+
 ghost use Rattle.std.specs.Prelude.{◌≡◌, option_map};
 ghost use Rattle.std.specs.List.{find};
 ghost use Rattle.dwp_base.specs.Reading.{Answers};
 ghost use Rattle.dwp_elf_read.specs.View.{elf, section};
-ghost use Rattle.dwp_index.specs.Contents.{content, is_of_kind, has_older_name, used_bytes, content_of, contents_of};
+ghost use Rattle.dwp_index.specs.Contents.{content, is_of_kind, has_older_name, used_bytes};
+ghost use Rattle.dwp_index.specs.Contents.{content_among, contents_of};
 ghost use Rattle.dwp_index.specs.ContentFields.{contents_in};
 
 use dwp_base::SectionKind;
@@ -71,9 +74,9 @@ fn first_section<'a>(file: &ElfFile<'a>, kind: SectionKind) -> Option<Section<'a
 }
 
 /// The content of the first section of a kind.
-#[tactic(auto, unfolding(crate::specs::Contents::content_of))]
+#[tactic(auto, unfolding(crate::specs::Contents::content_among))]
 fn content<'a>(file: &ElfFile<'a>, kind: SectionKind) -> Result<&'a [u8], ReadError>
-    ensures { Answers (λ bytes. bytes.now) result (content_of (elf file.now).sections kind) }
+    ensures { Answers (λ bytes. bytes.now) result (content_among (elf file.now).sections kind) }
 {
     match first_section(file, kind) {
         None => Ok(&[]),
@@ -82,7 +85,10 @@ fn content<'a>(file: &ElfFile<'a>, kind: SectionKind) -> Result<&'a [u8], ReadEr
 }
 
 impl<'a> Contents<'a> {
-    /// The contents of a file; Compressed or SectionRange for the first, in order of kind, that can't be used.
+    /// The contents of a file.
+    ///
+    /// # Errors
+    /// `Compressed` or `SectionRange` for the first, in order of kind, that can't be used.
     #[tactic(auto, unfolding(crate::specs::Contents::contents_of))]
     pub fn read(file: &ElfFile<'a>) -> Result<Contents<'a>, ReadError>
         ensures { Answers contents_in result (contents_of (elf file.now).sections) }

@@ -1,3 +1,5 @@
+//! What is wrong with a package.
+
 use dwp_base::SectionKind;
 use dwp_bytes::ReadError;
 use dwp_elf_read::ReadError as ElfReadError;

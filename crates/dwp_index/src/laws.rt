@@ -1,4 +1,7 @@
-ghost use Rattle.std.specs.Prelude.{◌≡◌, ℕ, ◌+◌, ◌<◌, ◌≤◌, List, [], length, slice_range, slice_get, Option, Some, None, Ok, false};
+//! What packages give, and what a file of given sections is, as laws.
+
+ghost use Rattle.std.specs.Prelude.{◌≡◌, ℕ, ◌+◌, ◌<◌, ◌≤◌, List, [], length, slice_range};
+ghost use Rattle.std.specs.Prelude.{slice_get, Option, Some, None, Ok, false};
 ghost use Rattle.std.specs.List.Sorted.{IsPermutation};
 ghost use Rattle.dwp_base.specs.Sections.{name_of, same_kind, kind_named};
 ghost use Rattle.dwp_base.specs.declared.section.SectionKind.{SectionKind};
@@ -15,22 +18,24 @@ ghost use Rattle.dwp_table.specs.declared.object.DwarfObject.{DwarfObject};
 ghost use Rattle.dwp_index.specs.Contents.{Sections, content, is_of_kind};
 ghost use Rattle.dwp_index.specs.Index.{Index, Ranges, range_in};
 ghost use Rattle.dwp_index.specs.IndexBytes.{index_of};
-ghost use Rattle.dwp_index.specs.Package.{Package, package_of, index_in_section, row_bytes, encoding_in, index_for};
+ghost use Rattle.dwp_index.specs.Package.{Package, package_of, index_in_section, row_bytes};
+ghost use Rattle.dwp_index.specs.Package.{encoding_in, index_for};
 ghost use Rattle.dwp_index.specs.Entries.{entries_from};
 ghost use Rattle.dwp_index.specs.Used.{used_in};
 ghost use Rattle.dwp_index.specs.Finding.{unit_of, HasIndex, IsUnitOf, IsNotNamed, GivesWithin};
 ghost use Rattle.dwp_index.specs.Holding.{HasContent, HoldsInOrder, held_of, sections_of};
-ghost use Rattle.dwp_index.specs.Naming.{numbered, entries_of, IsIndexOf};
+ghost use Rattle.dwp_index.specs.Naming.{numbered, entries_of, IsIndexOfIds};
 
-use dwp_dwarf::units_have_all_bytes;
-use dwp_table::look_up_finds_exactly;
+use dwp_dwarf::laws::units_have_all_bytes;
+use dwp_table::laws::look_up_finds_exactly;
 
-/// The law of packages: where the index of a kind is one of distinct identifiers, the unit of each is
-/// found, after at most as many slots as its row's number, if its ranges lie inside their sections and its
-/// header can be read; every other is absent, after at most one slot more than there are identifiers.
-/// Where there is no index it is absent after none. It does nothing.
+/// The law of packages: where the index of a kind is one of distinct identifiers, the unit of each
+/// is found, after at most as many slots as its row's number, if its ranges lie inside their
+/// sections and its header can be read; every other is absent, after at most one slot more than
+/// there are identifiers. Where there is no index it is absent after none. It does nothing.
 pub fn packages_find_exactly()
-    ensures present { (pack : Package) (object : DwarfObject) (ids : List ℕ) (index : Index) (r : ℕ) (row : Ranges) (encoding : Encoding)
+    ensures present { (pack : Package) (object : DwarfObject) (ids : List ℕ) (index : Index) (r : ℕ)
+        (row : Ranges) (encoding : Encoding)
         → HasIndex pack object ids index
         → IsUnitOf pack object ids index r row encoding
         → GivesWithin pack object (Some (unit_of pack object (r + 1) row encoding)) (r + 1) }
@@ -38,30 +43,34 @@ pub fn packages_find_exactly()
         → HasIndex pack object ids index
         → IsNotNamed object ids
         → GivesWithin pack object None (length ids + 1) }
-    ensures no_index { (pack : Package) (object : DwarfObject) → index_for pack object ≡ None → GivesWithin pack object None 0 }
+    ensures no_index { (pack : Package) (object : DwarfObject) → index_for pack object ≡ None
+        → GivesWithin pack object None 0 }
 {
     look_up_finds_exactly();
 }
 
-/// The law of parts: the bytes of a row's range are that part of the section, and none where it has no
-/// range there. It does nothing.
+/// The law of parts: the bytes of a row's range are that part of the section, and none where it has
+/// no range there. It does nothing.
 pub fn ranges_are_parts()
     ensures part { (contents : Sections) (row : Ranges) (kind : SectionKind) (range : Contribution)
         → range_in row kind ≡ Some range
         → range.offset.0 + range.size ≤ length (content contents kind)
-        → row_bytes contents row kind ≡ slice_range (content contents kind) range.offset.0 (range.offset.0 + range.size) }
+        → row_bytes contents row kind
+        ≡ slice_range (content contents kind) range.offset.0 (range.offset.0 + range.size) }
     ensures absent { (contents : Sections) (row : Ranges) (kind : SectionKind)
         → range_in row kind ≡ None
         → row_bytes contents row kind ≡ [] }
 {}
 
-/// The law of units: a unit of a section is read from its own bytes alone, with the same encoding; one of
-/// version 5 also where it stands in the other section. It does nothing.
+/// The law of units: a unit of a section is read from its own bytes alone, with the same encoding;
+/// one of version 5 also where it stands in the other section. It does nothing.
 pub fn units_are_read_alone()
-    ensures alone { (order : Endianness) (place : UnitSection) (bytes : List ℕ) (k : ℕ) (unit : Unit)
+    ensures alone { (order : Endianness) (place : UnitSection) (bytes : List ℕ)
+        (k : ℕ) (unit : Unit)
         → slice_get (units place (section order bytes)) k ≡ Some (Ok unit)
         → encoding_in order place (unit_bytes unit) ≡ Ok unit.encoding }
-    ensures anywhere { (order : Endianness) (place other : UnitSection) (bytes : List ℕ) (encoding : Encoding)
+    ensures anywhere { (order : Endianness) (place other : UnitSection) (bytes : List ℕ)
+        (encoding : Encoding)
         → encoding.version ≡ 5
         → encoding_in order place bytes ≡ Ok encoding
         → encoding_in order other bytes ≡ Ok encoding }
@@ -69,34 +78,42 @@ pub fn units_are_read_alone()
     units_have_all_bytes();
 }
 
-/// The law of names: the used slots of an index of distinct identifiers name each of them once, with the
-/// number of its row; so do the units of a package. It does nothing.
+/// The law of names: the used slots of an index of distinct identifiers name each of them once,
+/// with the number of its row; so do the units of a package. It does nothing.
 pub fn units_are_named_once()
     ensures index { (ids : List ℕ) (index : Index)
         → IsIndex ids index.signatures index.rows
         → IsPermutation (numbered 1 ids) (used_in index 0) }
     ensures package { (compilations types : Option Index) (ids signatures : List ℕ)
-        → IsIndexOf compilations ids
-        → IsIndexOf types signatures
+        → IsIndexOfIds compilations ids
+        → IsIndexOfIds types signatures
         → IsPermutation (entries_of ids signatures) (entries_from compilations types 0 0) }
 {}
 
-/// The law of files: a file whose sections hold contents as they stand is read as the package of these
-/// contents, with the indexes that stand in them. A section of another name, of the name of another kind or
-/// of no bytes isn't of a kind. It does nothing.
+/// The law of files: a file whose sections hold contents as they stand is read as the package of
+/// these contents, with the indexes that stand in them. A section of another name, of the name of
+/// another kind or of no bytes isn't of a kind. It does nothing.
 pub fn contents_are_read()
-    ensures package { (bytes : List ℕ) (file : Elf) (held : SectionKind → List ℕ) (compilations types : Option Index)
+    ensures package { (bytes : List ℕ) (file : Elf) (held : SectionKind
+        → List ℕ) (compilations types : Option Index)
         → elf_of bytes ≡ Ok file
         → ((kind : SectionKind) → HasContent file.sections kind (held kind))
         → index_in_section file.order (held kinds.CuIndex) ≡ Ok compilations
         → index_in_section file.order (held kinds.TuIndex) ≡ Ok types
-        → package_of bytes ≡ Ok (record { order = file.order; contents = sections_of held; compilations = compilations; types = types }) }
-    ensures held { (held : SectionKind → List ℕ) (kind : SectionKind) → content (sections_of held) kind ≡ held kind }
+        → package_of bytes ≡ Ok (record {
+          order = file.order;
+          contents = sections_of held;
+          compilations = compilations;
+          types = types;
+        }) }
+    ensures held { (held : SectionKind → List ℕ) (kind : SectionKind)
+        → content (sections_of held) kind ≡ held kind }
     ensures index { (order : Endianness) (bytes : List ℕ) (index : Index)
         → 0 < length bytes
         → index_of order bytes ≡ Ok index
         → index_in_section order bytes ≡ Ok (Some index) }
-    ensures no_index { (order : Endianness) (bytes : List ℕ) → bytes ≡ [] → index_in_section order bytes ≡ Ok None }
+    ensures no_index { (order : Endianness) (bytes : List ℕ) → bytes ≡ []
+        → index_in_section order bytes ≡ Ok None }
     ensures in_order { (sections : List SectionMeaning) (contents : List (SectionKind × List ℕ))
         → HoldsInOrder sections contents
         → (kind : SectionKind) → HasContent sections kind (held_of kind contents) }
@@ -108,5 +125,6 @@ pub fn contents_are_read()
         → section.name ≡ Some name
         → kind_named name ≡ None
         → is_of_kind kind section ≡ false }
-    ensures empty { (section : SectionMeaning) (kind : SectionKind) → section.size ≡ 0 → is_of_kind kind section ≡ false }
+    ensures empty { (section : SectionMeaning) (kind : SectionKind) → section.size ≡ 0
+        → is_of_kind kind section ≡ false }
 {}

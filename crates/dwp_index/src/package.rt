@@ -13,7 +13,9 @@ ghost use Rattle.dwp_table.specs.Table.{IsIndex, FindsExactly};
 ghost use Rattle.dwp_index.specs.Finding.{row_number, slots_for};
 ghost use Rattle.dwp_index.specs.Index.{Index, row_in, range_in};
 ghost use Rattle.dwp_index.specs.IndexBytes.{index_of};
-ghost use Rattle.dwp_index.specs.Package.{as_fault, is_outside, package_of, index_in_section, index_for, first_outside, encoding_in, unit_in, unit_at_row, found_counted, found};
+ghost use Rattle.dwp_index.specs.Package.{as_fault, is_outside, package_of, index_in_section};
+ghost use Rattle.dwp_index.specs.Package.{index_for, first_outside, encoding_in, unit_in};
+ghost use Rattle.dwp_index.specs.Package.{unit_at_row, found_counted, found};
 ghost use Rattle.dwp_index.specs.declared.fault.PackageError.TheVariants as faults;
 
 use crate::contents::Contents;
@@ -51,11 +53,13 @@ impl<'a> Model for PackageFile<'a> {
 impl<'a> PackageFile<'a> {
     ghost use Rattle.std.specs.List.Sorted.{IsPermutation};
     ghost use Rattle.dwp_index.specs.Entries.{units_left, entries_from};
-    ghost use Rattle.dwp_index.specs.Naming.{entries_of, IsIndexOf};
+    ghost use Rattle.dwp_index.specs.Naming.{entries_of, IsIndexOfIds};
 
-    /// Reads a package. `Elf` where the file, or the first section of one of the names of a package,
-    /// can't be read or is compressed; `Index` where an index is malformed, the one of compilation
-    /// units first. An empty index section is none.
+    /// Reads a package. An empty index section is none.
+    ///
+    /// # Errors
+    /// `Elf` where the file, or the first section of one of the names of a package, can't be read
+    /// or is compressed; `Index` where an index is malformed, the one of compilation units first.
     #[tactic(auto, unfolding(crate::specs::Package::package_of))]
     pub fn parse(bytes: &'a [u8]) -> Result<PackageFile<'a>, PackageError>
         ensures { Answers (λ x. x) result (package_of bytes.now) }
@@ -73,9 +77,12 @@ impl<'a> PackageFile<'a> {
         })
     }
 
-    /// The unit of an identifier, by the probing of DWARF 5, 7.3.5.3, in the index of its kind; None
-    /// where the index hasn't it. `Index` where its row is past the rows, `Range` for the first range
-    /// outside its section, `Unit` where its header can't be read.
+    /// The unit of an identifier, by the probing of DWARF 5, 7.3.5.3, in the index of its kind;
+    /// None where the index hasn't it.
+    ///
+    /// # Errors
+    /// `Index` where its row is past the rows, `Range` for the first range outside its section,
+    /// `Unit` where its header can't be read.
     #[tactic(auto, unfolding(crate::specs::Package::found))]
     pub fn find(&self, object: DwarfObject) -> Result<Option<PackagedUnit<'a>>, PackageError>
         ensures { Answers (λ x. x) result (found self.now object) }
@@ -84,14 +91,20 @@ impl<'a> PackageFile<'a> {
         Ok(unit)
     }
 
-    /// The compilation unit of a DWO id: `find` of it, with the same refusals.
+    /// The compilation unit of a DWO id: `find` of it.
+    ///
+    /// # Errors
+    /// Those of `find`.
     pub fn find_cu(&self, id: DwoId) -> Result<Option<PackagedUnit<'a>>, PackageError>
         ensures { Answers (λ x. x) result (found self.now (Compilation id)) }
     {
         self.find(DwarfObject::Compilation(id))
     }
 
-    /// The type unit of a signature: `find` of it, with the same refusals.
+    /// The type unit of a signature: `find` of it.
+    ///
+    /// # Errors
+    /// Those of `find`.
     pub fn find_tu(
         &self,
         signature: DebugTypeSignature,
@@ -101,7 +114,11 @@ impl<'a> PackageFile<'a> {
         self.find(DwarfObject::TypeUnit(signature))
     }
 
-    /// The unit of an identifier, and how many slots were looked at; 0 where there is no index of the kind.
+    /// The unit of an identifier, and how many slots were looked at; 0 where there is no index of
+    /// the kind.
+    ///
+    /// # Errors
+    /// Those of `find`.
     #[tactic(auto, unfolding(crate::specs::Package::found_counted))]
     pub fn find_counted(
         &self,
@@ -113,8 +130,12 @@ impl<'a> PackageFile<'a> {
         ensures bound { IfOk result (λ found. found.1 ≤ slots_for self.now object) }
 
         // In a table of distinct identifiers: each one's row, and none for any other.
-        ensures exact { IfOk result (λ found. (ids : List ℕ) (index : Index) → index_for self.now object ≡ Some index → IsIndex ids index.signatures index.rows → FindsExactly ids (identifier_of object) (row_number found.0) found.1) }
-        ensures few { IfOk result (λ found. (ids : List ℕ) (index : Index) → index_for self.now object ≡ Some index → IsIndex ids index.signatures index.rows → found.1 ≤ length ids + 1) }
+        ensures exact { IfOk result (λ found. (ids : List ℕ) (index : Index)
+            → index_for self.now object ≡ Some index → IsIndex ids index.signatures index.rows
+            → FindsExactly ids (identifier_of object) (row_number found.0) found.1) }
+        ensures few { IfOk result (λ found. (ids : List ℕ) (index : Index)
+            → index_for self.now object ≡ Some index → IsIndex ids index.signatures index.rows
+            → found.1 ≤ length ids + 1) }
     {
         match self.index_for(object) {
             None => Ok((None, 0)),
@@ -128,12 +149,15 @@ impl<'a> PackageFile<'a> {
         }
     }
 
-    /// The units that the slots of both indexes name, in order of slot, those of the compilation index first.
+    /// The units that the slots of both indexes name, in order of slot, those of the compilation
+    /// index first.
     pub fn units(&self) -> Units<'_>
         ensures slots { units_left result ≡ entries_from self.now.compilations self.now.types 0 0 }
 
         // In tables of distinct identifiers: each one once, with the number of its row.
-        ensures once { (ids signatures : List ℕ) → IsIndexOf self.now.compilations ids → IsIndexOf self.now.types signatures → IsPermutation (entries_of ids signatures) (units_left result) }
+        ensures once { (ids signatures : List ℕ) → IsIndexOfIds self.now.compilations ids
+            → IsIndexOfIds self.now.types signatures
+            → IsPermutation (entries_of ids signatures) (units_left result) }
     {
         Units {
             compilations: self.compilations.as_ref(),
@@ -143,7 +167,7 @@ impl<'a> PackageFile<'a> {
         }
     }
 
-    // The index of the units of a kind.
+    /// The index of the units of a kind.
     fn index_for(&self, object: DwarfObject) -> Option<&UnitIndex<'a>>
         ensures { option_copied result ≡ index_for self.now object }
     {
@@ -153,7 +177,7 @@ impl<'a> PackageFile<'a> {
         }
     }
 
-    // The unit of a row number.
+    /// The unit of a row number.
     #[tactic(auto, unfolding(crate::specs::Package::unit_at_row))]
     fn unit_at_row(
         &self,
@@ -169,7 +193,7 @@ impl<'a> PackageFile<'a> {
         Ok((Some(unit), count))
     }
 
-    // The unit of a row.
+    /// The unit of a row.
     #[tactic(auto, unfolding(crate::specs::Package::unit_in))]
     fn unit_in(
         &self,
@@ -206,7 +230,8 @@ fn read_file(bytes: &[u8]) -> Result<ElfFile<'_>, PackageError>
 }
 
 fn read_contents<'a>(file: &ElfFile<'a>) -> Result<Contents<'a>, PackageError>
-    ensures { Answers contents_in result (as_fault faults.Elf (contents_of (elf file.now).sections)) }
+    ensures { Answers contents_in result
+        (as_fault faults.Elf (contents_of (elf file.now).sections)) }
 {
     match Contents::read(file) {
         Ok(contents) => Ok(contents),
@@ -214,7 +239,7 @@ fn read_contents<'a>(file: &ElfFile<'a>) -> Result<Contents<'a>, PackageError>
     }
 }
 
-// The index in a section's content; none in an empty one.
+/// The index in a section's content; none in an empty one.
 #[tactic(auto, unfolding(crate::specs::Package::index_in_section))]
 fn read_index<'a>(bytes: &'a [u8], order: Endianness) -> Result<Option<UnitIndex<'a>>, PackageError>
     ensures { Answers (λ x. x) result (index_in_section order bytes.now) }
@@ -250,7 +275,7 @@ fn read_encoding(
     }
 }
 
-// The first section, in the order of columns, that a range of the row isn't inside of.
+/// The first section, in the order of columns, that a range of the row isn't inside of.
 #[tactic(auto, unfolding(crate::specs::Package::first_outside))]
 fn first_outside(contents: &Contents<'_>, row: &Row<'_>) -> Option<SectionKind>
     ensures { result ≡ first_outside (contents_in contents.now) row.now }
@@ -262,7 +287,8 @@ fn first_outside(contents: &Contents<'_>, row: &Row<'_>) -> Option<SectionKind>
 }
 
 fn is_outside(contents: &Contents<'_>, row: &Row<'_>, kind: SectionKind) -> bool
-    ensures { result ≡ is_outside (content (contents_in contents.now) kind) (range_in row.now kind) }
+    ensures { result
+        ≡ is_outside (content (contents_in contents.now) kind) (range_in row.now kind) }
 {
     match row.range(kind) {
         None => false,

@@ -1,9 +1,13 @@
-ghost use Rattle.std.specs.Prelude.{◌≡◌, ◌==◌, ◌*◌, ◌<◌, ◌≤◌, ◌+◌, [], length, drop, IfSome, IfOk, OnOk, IsTrue};
+//! Reading an index from its bytes (DWARF 5, 7.3.5.3; the GNU page DebugFissionDWP).
+
+ghost use Rattle.std.specs.Prelude.{◌≡◌, ◌==◌, ◌*◌, ◌<◌, ◌≤◌, ◌+◌, [], length, drop, IfSome, IfOk};
+ghost use Rattle.std.specs.Prelude.{OnOk, IsTrue};
 ghost use Rattle.std.specs.List.{position_from};
 ghost use Rattle.dwp_base.specs.Numbers.{number};
 ghost use Rattle.dwp_base.specs.Reading.{Answers};
 ghost use Rattle.dwp_index.specs.Index.{column_place};
-ghost use Rattle.dwp_index.specs.IndexBytes.{numbers, after, version_of, counts_of, columns_at, is_slot_count, Counts};
+ghost use Rattle.dwp_index.specs.IndexBytes.{numbers, after, version_of, counts_of, columns_at};
+ghost use Rattle.dwp_index.specs.IndexBytes.{is_slot_count, Counts};
 
 use dwp_base::{Endianness, SectionKind};
 use dwp_bytes::ReadError;
@@ -62,7 +66,8 @@ pub(crate) fn version_of(bytes: &[u8], order: Endianness) -> Result<u16, ReadErr
 /// The counts of an index's header.
 #[tactic(auto, unfolding(crate::specs::IndexBytes::counts_of))]
 pub(crate) fn counts_of(bytes: &[u8], order: Endianness) -> Result<Sizes, ReadError>
-    ensures exact { Answers (λ x. record { columns = x.columns; units = x.units; slots = x.slots }) result (counts_of order bytes.now) }
+    ensures exact { Answers (λ x. record { columns = x.columns; units = x.units; slots = x.slots })
+        result (counts_of order bytes.now) }
     ensures enough { OnOk result (16 ≤ length bytes.now) }
     ensures slots { IfOk result (λ x. IsTrue (is_slot_count x.units x.slots)) }
 {
@@ -112,7 +117,8 @@ pub(crate) fn after_columns(
     version: u16,
     count: u32,
 ) -> Result<&[u8], ReadError>
-    ensures exact { Answers (λ x. (numbers order 4 count bytes.now, x.now)) result (columns_at order version [] count bytes.now) }
+    ensures exact { Answers (λ x. (numbers order 4 count bytes.now, x.now)) result
+        (columns_at order version [] count bytes.now) }
     ensures enough { OnOk result (4 * count ≤ length bytes.now) }
 {
     for i in 0..count {

@@ -1,3 +1,5 @@
+//! The strings that a unit's string offsets name (DWARF 5, 7.26).
+
 ghost use Rattle.std.specs.Prelude.{◌≡◌};
 ghost use Rattle.std.specs.Option.{option_copied};
 ghost use Rattle.dwp_base.specs.Reading.{Answers};

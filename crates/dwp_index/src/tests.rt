@@ -1,3 +1,5 @@
+//! Indexes of both versions, and look-ups in them.
+
 ghost use Rattle.std.specs.Prelude.{◌<◌, ◌^◌, length};
 
 use super::*;
@@ -7,21 +9,21 @@ use dwp_elf_read::ReadError as ElfReadError;
 use std::alloc::{AllocError, Global};
 use std::test::Fail;
 
-// The unit 0x5 with 0x20 bytes of info and 0x10 of abbreviations, in the GNU form.
+/// The unit 0x5 with 0x20 bytes of info and 0x10 of abbreviations, in the GNU form.
 const GNU: [u8; 64] = [
     2, 0, 0, 0, 2, 0, 0, 0, 1, 0, 0, 0, 2, 0, 0, 0, 0, 0, 0, 0, 0, 0, 0, 0, 5, 0, 0, 0, 0, 0, 0, 0,
     0, 0, 0, 0, 1, 0, 0, 0, 1, 0, 0, 0, 3, 0, 0, 0, 0, 0, 0, 0, 0, 0, 0, 0, 0x20, 0, 0, 0, 0x10, 0,
     0, 0,
 ];
 
-// The same in DWARF 5, the highest byte of a number first.
+/// The same in DWARF 5, the highest byte of a number first.
 const STANDARD: [u8; 64] = [
     0, 5, 0, 0, 0, 0, 0, 2, 0, 0, 0, 1, 0, 0, 0, 2, 0, 0, 0, 0, 0, 0, 0, 0, 0, 0, 0, 0, 0, 0, 0, 5,
     0, 0, 0, 0, 0, 0, 0, 1, 0, 0, 0, 1, 0, 0, 0, 3, 0, 0, 0, 0, 0, 0, 0, 0, 0, 0, 0, 0x20, 0, 0, 0,
     0x10,
 ];
 
-// An index without columns, by its slots.
+/// An index without columns, by its slots.
 fn index(alloc: Global, units: u32, slots: &[(u64, u32)]) -> Result<Vec<u8>, AllocError>
     requires { length slots.now < 2 ^ 32 }
 {
@@ -103,7 +105,8 @@ fn look_ups_in_tables_of_identifiers(rt: HostRuntime) -> Result<(), Fail> {
     Ok(())
 }
 
-// A table of four slots, all used, over one row of one column: the last slot's row number is past the rows.
+/// A table of four slots, all used, over one row of one column: the last slot's row number is past
+/// the rows.
 const FULL: [u8; 76] = [
     2, 0, 0, 0, 1, 0, 0, 0, 1, 0, 0, 0, 4, 0, 0, 0, 4, 0, 0, 0, 0, 0, 0, 0, 1, 0, 0, 0, 0, 0, 0, 0,
     2, 0, 0, 0, 0, 0, 0, 0, 3, 0, 0, 0, 0, 0, 0, 0, 1, 0, 0, 0, 1, 0, 0, 0, 1, 0, 0, 0, 5, 0, 0, 0,
@@ -144,7 +147,7 @@ fn damaged_indexes(rt: HostRuntime) {
     assert_eq!(rt; fault(&repeated), Some(ReadError::RepeatedColumn));
 }
 
-// A package of one unit, 0x5: abbreviations at 64, info at 73, the index at 93 and names at 157.
+/// A package of one unit, 0x5: abbreviations at 64, info at 73, the index at 93 and names at 157.
 const PACKAGE: [u8; 544] = [
     0x7f, 0x45, 0x4c, 0x46, 0x02, 0x01, 0x01, 0x00, 0x00, 0x00, 0x00, 0x00, 0x00, 0x00, 0x00, 0x00,
     0x01, 0x00, 0x3e, 0x00, 0x01, 0x00, 0x00, 0x00, 0x00, 0x00, 0x00, 0x00, 0x00, 0x00, 0x00, 0x00,

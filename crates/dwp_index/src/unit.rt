@@ -1,10 +1,13 @@
+//! Units of a package, with all that belongs to each (DWARF 5, 7.3.5).
+
 ghost use Rattle.std.specs.Prelude.{◌≡◌};
 ghost use Rattle.std.specs.Option.{option_copied};
 ghost use Rattle.dwp_base.specs.Reading.{Answers};
 ghost use Rattle.dwp_index.specs.Contents.{content};
 ghost use Rattle.dwp_index.specs.ContentFields.{contents_in};
 ghost use Rattle.dwp_index.specs.Index.{range_in};
-ghost use Rattle.dwp_index.specs.Package.{part_of, lies_inside, row_bytes, kind_of, place_of, encoding_in};
+ghost use Rattle.dwp_index.specs.Package.{part_of, lies_inside, row_bytes, kind_of, place_of};
+ghost use Rattle.dwp_index.specs.Package.{encoding_in};
 ghost use Rattle.dwp_index.specs.Strings.{string_in};
 
 use crate::contents::Contents;
@@ -73,11 +76,16 @@ impl<'a> PackagedUnit<'a> {
         row_bytes(&self.contents, &self.row, kind)
     }
 
-    /// The string of a number, by the unit's own encoding; None past the last whole entry of its string
-    /// offsets. OffsetOutOfRange for an offset past the strings, NoTerminator where no zero byte ends
+    /// The string of a number, by the unit's own encoding; None past the last whole entry of its
+    /// string offsets.
+    ///
+    /// # Errors
+    /// `OffsetOutOfRange` for an offset past the strings, `NoTerminator` where no zero byte ends
     /// the string.
     pub fn string(&self, i: u64) -> Result<Option<&'a [u8]>, ReadError>
-        ensures { Answers option_copied result (string_in self.now.order self.now.encoding self.now.contents.strings (row_bytes self.now.contents self.now.row SectionKind.StrOffsets) i) }
+        ensures { Answers option_copied result
+            (string_in self.now.order self.now.encoding self.now.contents.strings
+            (row_bytes self.now.contents self.now.row SectionKind.StrOffsets) i) }
     {
         string_in(
             self.order,

@@ -1,3 +1,5 @@
+//! Indexes of a package, and their rows (DWARF 5, 7.3.5.3).
+
 ghost use Rattle.std.specs.Prelude.{◌≡◌, ◌<◌, ◌≤◌, ◌+◌, ℕ, List, length, slice_index, is_some};
 ghost use Rattle.dwp_base.specs.Reading.{Answers};
 ghost use Rattle.dwp_table.specs.Probing.{found_row, look_count};
@@ -11,7 +13,8 @@ use crate::parsing::{
 };
 use dwp_base::{Contribution, ContributionOffset, Endianness, SectionKind};
 use dwp_bytes::ReadError;
-use dwp_table::{column_of, first_place, look_up_finds_exactly, place_after};
+use dwp_table::laws::look_up_finds_exactly;
+use dwp_table::{column_of, first_place, place_after};
 use std::marker::Model;
 
 /// An index of a package: a hash table from identifiers to rows, and for each row its ranges in the
@@ -68,8 +71,11 @@ impl<'a> Model for Row<'a> {
 }
 
 impl<'a> UnitIndex<'a> {
-    /// Reads an index. It answers the first fault in order of place: UnexpectedEof, IndexVersion,
-    /// SlotCount, UnknownColumn or RepeatedColumn. Bytes after the index are passed over.
+    /// Reads an index. Bytes after the index are passed over.
+    ///
+    /// # Errors
+    /// The first fault in order of place: `UnexpectedEof`, `IndexVersion`, `SlotCount`,
+    /// `UnknownColumn` or `RepeatedColumn`.
     #[tactic(auto, unfolding(crate::specs::IndexBytes::index_of))]
     pub fn parse(bytes: &'a [u8], order: Endianness) -> Result<UnitIndex<'a>, ReadError>
         ensures { Answers (λ x. x) result (index_of order bytes.now) }
@@ -133,8 +139,10 @@ impl<'a> UnitIndex<'a> {
         ensures bound { result.1 ≤ length self.now.rows }
 
         // In a table of distinct identifiers: each one's row, and none for any other.
-        ensures exact { (ids : List ℕ) → IsIndex ids self.now.signatures self.now.rows → FindsExactly ids identifier result.0 result.1 }
-        ensures few { (ids : List ℕ) → IsIndex ids self.now.signatures self.now.rows → result.1 ≤ length ids + 1 }
+        ensures exact { (ids : List ℕ) → IsIndex ids self.now.signatures self.now.rows
+            → FindsExactly ids identifier result.0 result.1 }
+        ensures few { (ids : List ℕ) → IsIndex ids self.now.signatures self.now.rows
+            → result.1 ≤ length ids + 1 }
     {
         look_up_finds_exactly();
         self.look_up(identifier)
@@ -161,7 +169,10 @@ impl<'a> UnitIndex<'a> {
         (None, self.slot_count)
     }
 
-    /// The ranges of a row, counted from 1; RowOutOfRange past the rows.
+    /// The ranges of a row, counted from 1.
+    ///
+    /// # Errors
+    /// `RowOutOfRange` past the rows.
     pub fn row(&self, row: u32) -> Result<Row<'a>, ReadError>
         ensures { result ≡ row_in self.now row }
     {

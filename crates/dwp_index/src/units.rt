@@ -1,3 +1,5 @@
+//! The units that the indexes of a package name, one after the other.
+
 ghost use Rattle.std.specs.Prelude.{◌≡◌, ◌∷◌, [], MatchOption};
 ghost use Rattle.dwp_index.specs.Used.{used_in};
 
@@ -58,9 +60,10 @@ impl Iterator for Units<'_> {
     }
 }
 
-// The identifier and the row of the first used slot from a place on, and the place after it.
+/// The identifier and the row of the first used slot from a place on, and the place after it.
 fn used_slot(index: &UnitIndex<'_>, start: u32) -> Option<(u64, u32, u32)>
-    ensures { MatchOption result (used_in index.now start ≡ []) (λ s. used_in index.now start ≡ (s.0, s.1) ∷ used_in index.now s.2) }
+    ensures { MatchOption result (used_in index.now start ≡ []) (λ s.
+        used_in index.now start ≡ (s.0, s.1) ∷ used_in index.now s.2) }
 {
     for slot in start..index.slot_count() {
         let (signature, row) = index.slot(slot);

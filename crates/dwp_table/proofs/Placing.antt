@@ -10,7 +10,7 @@ use Rattle.std.proofs.Math.ListN.{get_or-append}
 use Rattle.std.proofs.Math.Seq.{get_or-append_seam}
 use Rattle.std.proofs.Math.Decide.{dec_lt}
 use Rattle.dwp_table.specs.Probing.{place}
-use Rattle.dwp_table.specs.Table.{IsPlacedAfter, IsTable, first_unused, rows_with}
+use Rattle.dwp_table.specs.Table.{IsPlacedAfter, IsHashTable, first_unused, rows_with}
 use Rattle.dwp_table.proofs.Finding.{find-first, find-none}
 use Rattle.dwp_table.proofs.Tables.{row_at, IsFree, has_free}
 use Rattle.dwp_table.proofs.Places.{place-lt, positive}
@@ -55,7 +55,7 @@ module _ (rows : List ℕ) (x i row : ℕ) (free : IsFree rows x i) where
       (λ k h. omega (arith, kept _ (free.earlier k h), more (place (length rows) x k)))
 
 -- ---- one more identifier
-module _ (ids rows : List ℕ) (x i : ℕ) (table : IsTable ids rows) (free : IsFree rows x i) (room : length ids + 1 < length rows) where
+module _ (ids rows : List ℕ) (x i : ℕ) (table : IsHashTable ids rows) (free : IsFree rows x i) (room : length ids + 1 < length rows) where
   abbrev last_slot : ℕ
   last_slot = place (length rows) x i
 
@@ -88,7 +88,7 @@ module _ (ids rows : List ℕ) (x i : ℕ) (table : IsTable ids rows) (free : Is
         (i, subst (λ y. IsPlacedAfter with_last y (r + 1) i) same (subst (λ n. IsPlacedAfter with_last x (n + 1) i) last last_placed))
   ]
 
-  pub placed_table : IsTable (ids ++ x ∷ []) with_last
+  pub placed_table : IsHashTable (ids ++ x ∷ []) with_last
   placed_table =
       let more = length-append ids (x ∷ []) in
       let same = length-set rows last_slot (length ids + 1) in
@@ -136,7 +136,7 @@ pub rows_with-none : (rows : List ℕ) (x r : ℕ) → AllUsed rows x → rows_w
 unfolding rows_with
 rows_with-none rows x r used = ap (λ o. option_map_or (λ j. set rows (place (length rows) x j) r) o rows) (first_unused-none rows x used)
 
-pub not_all_used : (ids rows : List ℕ) (x : ℕ) → IsTable ids rows → AllUsed rows x → ⊥
+pub not_all_used : (ids rows : List ℕ) (x : ℕ) → IsHashTable ids rows → AllUsed rows x → ⊥
 not_all_used ids rows x table used = let free = has_free ids rows x table in omega (arith, free.1.here, used free.0 free.1.within)
 
 -- ---- what the loop over the places knows
@@ -154,15 +154,15 @@ all_used old rows x i same within used = λ j h. subst (λ l. (k : ℕ) → k < 
 pub written-rows : (old rows : List ℕ) (x r i at : ℕ) → rows ≡ old → at ≡ place (length old) x i → IsFree old x i → set rows at r ≡ rows_with old x r
 written-rows old rows x r i at same at_place free = ap (λ l. set l at r) same ∙ ap (λ k. set old k r) at_place ∙ sym (rows_with-free old x r i free)
 
-pub written_table : (ids old : List ℕ) (x r : ℕ) (i : ℕ) → IsFree old x i → IsTable ids old → r ≡ length ids + 1 → r < length old → IsTable (ids ++ x ∷ []) (rows_with old x r)
+pub written_table : (ids old : List ℕ) (x r : ℕ) (i : ℕ) → IsFree old x i → IsHashTable ids old → r ≡ length ids + 1 → r < length old → IsHashTable (ids ++ x ∷ []) (rows_with old x r)
 written_table ids old x r i free table last room =
-    subst (λ l. IsTable (ids ++ x ∷ []) l) (ap (λ n. set old (place (length old) x i) n) (sym last) ∙ sym (rows_with-free old x r i free)) (placed_table ids old x i table free (omega arith))
+    subst (λ l. IsHashTable (ids ++ x ∷ []) l) (ap (λ n. set old (place (length old) x i) n) (sym last) ∙ sym (rows_with-free old x r i free)) (placed_table ids old x i table free (omega arith))
 
 -- what writing it does to the rows that were there, and where it stands
 pub stays_written : (old : List ℕ) (x v i : ℕ) → IsFree old x i → (y r j : ℕ) → 0 < r → IsPlacedAfter old y r j → IsPlacedAfter (rows_with old x v) y r j
 stays_written old x v i free y r j some at = subst (λ l. IsPlacedAfter l y r j) (sym (rows_with-free old x v i free)) (stays old x i v free y r j some at)
 
-pub stands_written : (ids old : List ℕ) (x r i : ℕ) → IsFree old x i → IsTable ids old → r ≡ length ids + 1 → IsPlacedAfter (rows_with old x r) x r i
+pub stands_written : (ids old : List ℕ) (x r i : ℕ) → IsFree old x i → IsHashTable ids old → r ≡ length ids + 1 → IsPlacedAfter (rows_with old x r) x r i
 stands_written ids old x r i free table last =
     subst (λ l. IsPlacedAfter l x r i) (sym (rows_with-free old x r i free)) (stands old x i r free table.power (λ k. omega (arith, table.only k)))
 
@@ -176,7 +176,7 @@ zero_in n k = elim (dec_lt k n) [
   | no p ↦ get_or_past (zeros n) k 0 (let same : length (zeros n) ≡ n = length-replicate n 0 in omega arith)
 ]
 
-pub empty_table : (size : ℕ) → IsTrue (is_power_of_two size) → size < 2 ^ 32 → IsTable [] (replicate size 0)
+pub empty_table : (size : ℕ) → IsTrue (is_power_of_two size) → size < 2 ^ 32 → IsHashTable [] (replicate size 0)
 empty_table size power small =
     let same : length (zeros size) ≡ size = length-replicate size 0 in
     record {

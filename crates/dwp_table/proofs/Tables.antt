@@ -4,7 +4,7 @@ use Rattle.std.specs.Prelude.{Option, Some}
 use Rattle.std.specs.Option.{option_map_or, option_and_then}
 use Rattle.std.proofs.lemmas.Bool.{eqb-true, eqb-false, ne_eqb}
 use Rattle.dwp_table.specs.Probing.{place, is_end, first_end, found_row, look_count, row_of}
-use Rattle.dwp_table.specs.Table.{IsPlacedAfter, IsTable, IsIndex, FindsExactly, signature_of}
+use Rattle.dwp_table.specs.Table.{IsPlacedAfter, IsHashTable, IsIndex, FindsExactly, signature_of}
 use Rattle.dwp_table.proofs.Finding.{IsFirst, first_or_none, find-first, find-none}
 use Rattle.dwp_table.proofs.Numbers.{pigeonhole}
 use Rattle.dwp_table.proofs.Places.{place-lt, places_apart}
@@ -14,7 +14,7 @@ abbrev pub row_at : List ℕ → ℕ → ℕ → ℕ
 row_at rows x j = get_or rows (place (length rows) x j) 0
 
 -- places that are used by rows up to m are no more than m
-used_few : (ids rows : List ℕ) (x n m : ℕ) → IsTable ids rows → n ≤ length rows → ((j : ℕ) → j < n → 0 < row_at rows x j) → ((j : ℕ) → j < n → row_at rows x j ≤ m) → n ≤ m
+used_few : (ids rows : List ℕ) (x n m : ℕ) → IsHashTable ids rows → n ≤ length rows → ((j : ℕ) → j < n → 0 < row_at rows x j) → ((j : ℕ) → j < n → row_at rows x j ≤ m) → n ≤ m
 used_few ids rows x n m table within used low =
     let size = length rows in
     pigeonhole n m (λ j. row_at rows x j - 1)
@@ -24,7 +24,7 @@ used_few ids rows x n m table within used low =
     places_apart size x table.power i j (omega arith) (omega arith)
     (table.once (place size x i) (place size x j) (place-lt size x i table.power) (place-lt size x j table.power) (used i p) same))
 
-pub placed_early : (ids rows : List ℕ) (x r i : ℕ) → IsTable ids rows → IsPlacedAfter rows x (r + 1) i → i ≤ r
+pub placed_early : (ids rows : List ℕ) (x r i : ℕ) → IsHashTable ids rows → IsPlacedAfter rows x (r + 1) i → i ≤ r
 placed_early ids rows x r i table at = used_few ids rows x i r table (omega (arith, at.within)) at.earlier_used (λ j h. omega (arith, at.earlier_smaller j h))
 
 -- the first place of x that is unused
@@ -33,17 +33,17 @@ pub record IsFree (rows : List ℕ) (x i : ℕ) : Type 0 where
   pub here : row_at rows x i ≡ 0
   pub earlier : (j : ℕ) → j < i → 0 < row_at rows x j
 
-pub free_by : (ids rows : List ℕ) (x i : ℕ) → IsTable ids rows → IsFirst (λ j. eqb (row_at rows x j) 0) (length rows) i → IsFree rows x i
+pub free_by : (ids rows : List ℕ) (x i : ℕ) → IsHashTable ids rows → IsFirst (λ j. eqb (row_at rows x j) 0) (length rows) i → IsFree rows x i
 free_by ids rows x i table first = record {
   within = first.within;
   here = eqb-true _ _ first.here;
   earlier = λ j h. let used = eqb-false _ _ (first.earlier j h) in omega (arith, used);
 }
 
-pub free_early : (ids rows : List ℕ) (x i : ℕ) → IsTable ids rows → IsFree rows x i → i ≤ length ids
+pub free_early : (ids rows : List ℕ) (x i : ℕ) → IsHashTable ids rows → IsFree rows x i → i ≤ length ids
 free_early ids rows x i table free = used_few ids rows x i (length ids) table (omega (arith, free.within)) free.earlier (λ j h. table.only _)
 
-pub has_free : (ids rows : List ℕ) (x : ℕ) → IsTable ids rows → (i : ℕ) × IsFree rows x i
+pub has_free : (ids rows : List ℕ) (x : ℕ) → IsHashTable ids rows → (i : ℕ) × IsFree rows x i
 has_free ids rows x table =
     elim (first_or_none (λ j. eqb (row_at rows x j) 0) (length rows)) [
       | inl w ↦ (w.0, free_by ids rows x w.0 table w.1)

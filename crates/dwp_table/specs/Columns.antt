@@ -1,12 +1,19 @@
--- Which number names the column of a section in an index (DWARF 5, 7.3.5.3, Table 7.1; for version 2 the GNU page DebugFissionDWP).
-use Rattle.std.specs.Prelude.{ℕ, Bool, false, List, [], ◌∷◌, Option, Some, None, ◌==◌, if◌then◌else◌}
+-- Which number names the column of a section in an index (DWARF 5, 7.3.5.3, Table 7.1; for
+-- version 2 the GNU page DebugFissionDWP).
+use Rattle.std.specs.Prelude.{ℕ, Bool, false, List, [], ◌∷◌, Option, Some, None, ◌==◌}
+use Rattle.std.specs.Prelude.{if◌then◌else◌}
 use Rattle.std.specs.List.{find}
 use Rattle.dwp_base.specs.declared.section.SectionKind.{SectionKind}
-use Rattle.dwp_base.specs.declared.section.SectionKind.TheVariants.{Info, Types, Abbrev, Line, Loc, Loclists, Rnglists, StrOffsets, Macinfo, Macro, Str, CuIndex, TuIndex}
+use Rattle.dwp_base.specs.declared.section.SectionKind.TheVariants.{Info, Types, Abbrev, Line, Loc}
+use Rattle.dwp_base.specs.declared.section.SectionKind.TheVariants.{Loclists, Rnglists, StrOffsets}
+use Rattle.dwp_base.specs.declared.section.SectionKind.TheVariants.{Macinfo, Macro, Str, CuIndex}
+use Rattle.dwp_base.specs.declared.section.SectionKind.TheVariants.{TuIndex}
 
--- the sections that a unit may have a contribution to, in the order in which their columns are written
+-- the sections that a unit may have a contribution to, in the order in which their columns are
+-- written
 abbrev pub contribution_kinds : List SectionKind
-contribution_kinds = Info ∷ Types ∷ Abbrev ∷ Line ∷ Loc ∷ Loclists ∷ Rnglists ∷ StrOffsets ∷ Macinfo ∷ Macro ∷ []
+contribution_kinds =
+    Info ∷ Types ∷ Abbrev ∷ Line ∷ Loc ∷ Loclists ∷ Rnglists ∷ StrOffsets ∷ Macinfo ∷ Macro ∷ []
 
 -- the numbers of columns in an index of version 2 (the GNU page)
 abbrev pub GNU_SECT_INFO : ℕ
@@ -100,4 +107,5 @@ abbrev pub kind_with : (SectionKind → Option ℕ) → ℕ → Option SectionKi
 kind_with column n = find (λ kind. is_number (column kind) n) contribution_kinds
 
 abbrev pub kind_of_column : ℕ → ℕ → Option SectionKind
-kind_of_column version n = if version == 5 then kind_with standard_column n else kind_with gnu_column n
+kind_of_column version n =
+    if version == 5 then kind_with standard_column n else kind_with gnu_column n

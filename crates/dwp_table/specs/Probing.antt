@@ -1,7 +1,10 @@
--- Looking an identifier up in the hash table of an index (DWARF 5, 7.3.5.3; the GNU page DebugFissionDWP).
--- A table has a number of slots, a power of two. Slot k has the identifier at k in a list of signatures,
--- and the row number at k in a list of rows. Rows count from 1: a slot whose row is 0 is unused, whatever its signature.
-use Rattle.std.specs.Prelude.{ℕ, zero, suc, ◌+◌, ◌-◌, ◌*◌, ◌/◌, ◌%◌, ◌^◌, Bool, List, length, slice_index, Option, Some, None, bit_and, bit_or, ◌==◌, ◌||◌}
+-- Looking an identifier up in the hash table of an index (DWARF 5, 7.3.5.3; the
+-- GNU page DebugFissionDWP).
+-- A table has a number of slots, a power of two. Slot k has the identifier at k in a list of
+-- signatures, and the row number at k in a list of rows. Rows count from 1: a slot whose row is 0
+-- is unused, whatever its signature.
+use Rattle.std.specs.Prelude.{ℕ, zero, suc, ◌+◌, ◌-◌, ◌*◌, ◌/◌, ◌%◌, ◌^◌, Bool, List, length}
+use Rattle.std.specs.Prelude.{slice_index, Option, Some, None, bit_and, bit_or, ◌==◌, ◌||◌}
 use Rattle.std.specs.List.{find, range_with_len}
 use Rattle.std.specs.Option.{option_and_then, option_map_or}
 
@@ -19,7 +22,8 @@ is_end signatures rows x k = (slice_index rows k == 0) || (slice_index signature
 
 -- after how many other slots the look-up of x ends
 unfoldable pub first_end : List ℕ → List ℕ → ℕ → Option ℕ
-first_end signatures rows x = find (λ i. is_end signatures rows x (place (length rows) x i)) (range_with_len 0 (length rows))
+first_end signatures rows x =
+    find (λ i. is_end signatures rows x (place (length rows) x i)) (range_with_len 0 (length rows))
 
 -- the row of a slot: none where it is unused
 abbrev pub row_of : ℕ → Option ℕ
@@ -28,7 +32,8 @@ row_of (suc r) = Some (suc r)
 
 -- what the look-up of x finds
 unfoldable pub found_row : List ℕ → List ℕ → ℕ → Option ℕ
-found_row signatures rows x = option_and_then (λ i. row_of (slice_index rows (place (length rows) x i))) (first_end signatures rows x)
+found_row signatures rows x = option_and_then (λ i.
+    row_of (slice_index rows (place (length rows) x i))) (first_end signatures rows x)
 
 -- at how many slots the look-up of x looks
 unfoldable pub look_count : List ℕ → List ℕ → ℕ → ℕ

@@ -1,8 +1,11 @@
+//! The columns of an index (DWARF 5, 7.3.5.3, Table 7.1; the GNU page DebugFissionDWP).
+
 ghost use Rattle.std.specs.Prelude.{◌≡◌};
 
 use dwp_base::SectionKind;
 
-/// The sections that a unit may have a contribution to, in the order in which their columns are written.
+/// The sections that a unit may have a contribution to, in the order in which their columns are
+/// written.
 pub const CONTRIBUTION_KINDS: [SectionKind; 10] = [
     SectionKind::Info,
     SectionKind::Types,
@@ -16,7 +19,8 @@ pub const CONTRIBUTION_KINDS: [SectionKind; 10] = [
     SectionKind::Macro,
 ];
 
-ghost use Rattle.dwp_table.specs.Columns.{standard_column, gnu_column, column_of, kind_with, kind_of_column};
+ghost use Rattle.dwp_table.specs.Columns.{standard_column, gnu_column, column_of, kind_with};
+ghost use Rattle.dwp_table.specs.Columns.{kind_of_column};
 
 /// The numbers of columns in an index of DWARF 5 (7.3.5.3, Table 7.1).
 const DW_SECT_INFO: u32 = 1;
@@ -83,8 +87,8 @@ fn gnu_column_of(kind: SectionKind) -> Option<u32>
     }
 }
 
-/// The number of a section's column in an index of that version, 5 or else 2; None where that version
-/// has no such column (DWARF 5, 7.3.5.3, Table 7.1).
+/// The number of a section's column in an index of that version, 5 or else 2; None where that
+/// version has no such column (DWARF 5, 7.3.5.3, Table 7.1).
 pub fn column_of(version: u16, kind: SectionKind) -> Option<u32>
     ensures { result ≡ column_of version kind }
 {

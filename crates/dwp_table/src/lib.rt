@@ -2,13 +2,12 @@
 #![tactic(auto)]
 
 mod column;
-mod laws;
+pub mod laws;
 mod object;
 mod row;
 mod slots;
 
 pub use column::{CONTRIBUTION_KINDS, column_of, kind_of_column};
-pub use laws::{look_up_finds_exactly, odd_step_visits_every_slot, unused_slots_are_a_table};
 pub use object::{Bucketable, DebugTypeSignature, DwarfObject, DwoId};
 pub use row::{first_place, place_after, place_row};
 pub use slots::slot_count;

@@ -1,3 +1,5 @@
+//! The names of units: identifiers and type signatures (DWARF 5, 7.3.5.3).
+
 ghost use Rattle.std.specs.Prelude.{◌≡◌, ℕ};
 
 use std::fmt::{Debug, Formatter, Write};
@@ -22,8 +24,8 @@ impl Debug for DebugTypeSignature {
     }
 }
 
-/// The name of a unit: its kind and its number. A compilation unit and a type unit of one number have
-/// two names, and two indexes.
+/// The name of a unit: its kind and its number. A compilation unit and a type unit of one number
+/// have two names, and two indexes.
 #[derive(Clone, Copy, Debug, PartialEq, Eq, Hash)]
 pub enum DwarfObject {
     /// A compilation unit.

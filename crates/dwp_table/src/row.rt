@@ -1,8 +1,11 @@
-ghost use Rattle.std.specs.Prelude.{◌≡◌, ℕ, List, [], ◌∷◌, ◌++◌, ◌+◌, ◌-◌, ◌<◌, ◌≤◌, ◌^◌, length, IsTrue, IsSomeAnd};
+//! The places of an identifier in a hash table (DWARF 5, 7.3.5.3).
+
+ghost use Rattle.std.specs.Prelude.{◌≡◌, ℕ, List, [], ◌∷◌, ◌++◌, ◌+◌, ◌-◌, ◌<◌, ◌≤◌, ◌^◌, length};
+ghost use Rattle.std.specs.Prelude.{IsTrue, IsSomeAnd};
 ghost use Rattle.std.specs.Int.{is_power_of_two};
 ghost use Rattle.std.specs.Option.{option_map};
 ghost use Rattle.dwp_table.specs.Probing.{place};
-ghost use Rattle.dwp_table.specs.Table.{IsPlacedAfter, IsTable, first_unused, rows_with};
+ghost use Rattle.dwp_table.specs.Table.{IsPlacedAfter, IsHashTable, first_unused, rows_with};
 
 /// The slot that the look-up of `x` looks at first, in a table of `size` slots.
 #[tactic(auto, unfolding(crate::specs::Probing::place))]
@@ -35,12 +38,16 @@ pub fn place_row(slots: &mut [u32], x: u64, row: u32) -> Option<u32>
     ensures placed { slots.new ≡ rows_with slots.old x row }
 
     // What was placed stays at its place.
-    ensures kept { (y r i : ℕ) → 0 < r → IsPlacedAfter slots.old y r i → IsPlacedAfter slots.new y r i }
+    ensures kept { (y r i : ℕ) → 0 < r → IsPlacedAfter slots.old y r i
+        → IsPlacedAfter slots.new y r i }
 
     // A table has the identifier as its last then, in the last slot that was looked at.
-    ensures table { (ids : List ℕ) → IsTable ids slots.old → row ≡ length ids + 1 → row < length slots.old → IsTable (ids ++ x ∷ []) slots.new }
-    ensures last { (ids : List ℕ) → IsTable ids slots.old → row ≡ length ids + 1 → IsSomeAnd result (λ looked. (0 < looked) × IsPlacedAfter slots.new x row (looked - 1)) }
-    ensures count { (ids : List ℕ) → IsTable ids slots.old → IsSomeAnd result (λ looked. looked ≤ length ids + 1) }
+    ensures table { (ids : List ℕ) → IsHashTable ids slots.old → row ≡ length ids + 1
+        → row < length slots.old → IsHashTable (ids ++ x ∷ []) slots.new }
+    ensures last { (ids : List ℕ) → IsHashTable ids slots.old → row ≡ length ids + 1
+        → IsSomeAnd result (λ looked. (0 < looked) × IsPlacedAfter slots.new x row (looked - 1)) }
+    ensures count { (ids : List ℕ) → IsHashTable ids slots.old
+        → IsSomeAnd result (λ looked. looked ≤ length ids + 1) }
 {
     let size = slots.len() as u32;
     let mut at = first_place(size, x);

@@ -1,3 +1,5 @@
+//! Names of units, columns, and numbers of slots.
+
 use super::*;
 use dwp_base::SectionKind;
 use std::test::Fail;

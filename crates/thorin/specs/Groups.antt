@@ -1,5 +1,7 @@
--- Packing in groups: each group of inputs into a package of its own, and then these packages into one (DWARF 5, 7.3.5).
-use Rattle.std.specs.Prelude.{◌≡◌, ℕ, true, List, [], ◌∷◌, ◌++◌, map, Result, Ok, Err, IsPermutation, ◌⊎◌}
+-- Packing in groups: each group of inputs into a package of its own, and then these packages into
+-- one (DWARF 5, 7.3.5).
+use Rattle.std.specs.Prelude.{◌≡◌, ℕ, true, List, [], ◌∷◌, ◌++◌, map, Result, Ok, Err}
+use Rattle.std.specs.Prelude.{IsPermutation, ◌⊎◌}
 use Rattle.std.specs.Borrow.{Bor}
 use Rattle.std.specs.List.{flat_map}
 use Rattle.std.specs.Map.{lookup}
@@ -58,7 +60,8 @@ abbrev pub ArePackedAlone : List (List (List ℕ)) → List (List ℕ) → Type 
 ArePackedAlone [] [] = Unit {0}
 ArePackedAlone [] (file ∷ files) = ⊥
 ArePackedAlone (group ∷ groups) [] = ⊥
-ArePackedAlone (group ∷ groups) (file ∷ files) = IsPackedAlone group file × ArePackedAlone groups files
+ArePackedAlone (group ∷ groups) (file ∷ files) =
+    IsPackedAlone group file × ArePackedAlone groups files
 
 -- groups packed: a package of each, and the one of these
 pub record IsPackedInGroups (groups : List (List (List ℕ))) (file : List ℕ) : Type 0 where
@@ -83,29 +86,35 @@ pub record RefusesPackages (groups : List (List (List ℕ))) (fault : Fault) : T
   pub refused : RefusesAlone packages fault
 
 -- what packing in groups gives: the package, or the first fault, want of memory aside
-abbrev pub PacksInGroups : {V : Type 0} → (V → List ℕ) → List (List (List ℕ)) → Result V Error → Type 0
+abbrev pub PacksInGroups : {V : Type 0} → (V → List ℕ) → List (List (List ℕ))
+    → Result V Error → Type 0
 PacksInGroups view groups (Ok file) = IsPackedInGroups groups (view file)
-PacksInGroups view groups (Err e) = MemoryAside e (RefusesGroup groups (fault_of e) ⊎ RefusesPackages groups (fault_of e))
+PacksInGroups view groups (Err e) =
+    MemoryAside e (RefusesGroup groups (fault_of e) ⊎ RefusesPackages groups (fault_of e))
 
 -- the units of groups, each group's in order, joined to no names; and what came of it, in any order
 abbrev pub AreJoined : {X : Type 0} → (groups results : List (List (DwarfObject × X))) → Type 0
 AreJoined [] [] = Unit {0}
 AreJoined [] (result ∷ results) = ⊥
 AreJoined (group ∷ groups) [] = ⊥
-AreJoined (group ∷ groups) (result ∷ results) = (can_join [] group ≡ true) × IsPermutation (joining [] group) result × AreJoined groups results
+AreJoined (group ∷ groups) (result ∷ results) =
+    (can_join [] group ≡ true) × IsPermutation (joining [] group) result × AreJoined groups results
 
 -- each unit of each of these packages has the encoding of its package's first unit (DWARF 5, 7.5.1)
-abbrev pub HaveTheirEncodings : (groups : List (List (List ℕ))) (packages : List (List ℕ)) → ArePackedAlone groups packages → Type 0
+abbrev pub HaveTheirEncodings : (groups : List (List (List ℕ))) (packages : List (List ℕ))
+    → ArePackedAlone groups packages → Type 0
 HaveTheirEncodings [] [] each = Unit {0}
 HaveTheirEncodings [] (file ∷ files) each = ⊥
 HaveTheirEncodings (group ∷ groups) [] each = ⊥
-HaveTheirEncodings (group ∷ groups) (file ∷ files) each = HaveEncodingOf file (units_in each.0.state) × HaveTheirEncodings groups files each.1
+HaveTheirEncodings (group ∷ groups) (file ∷ files) each =
+    HaveEncodingOf file (units_in each.0.state) × HaveTheirEncodings groups files each.1
 
 -- the inputs of all groups, in order
 abbrev pub inputs_of : List (List (List ℕ)) → List (List ℕ)
 inputs_of groups = flat_map (λ group. group) groups
 
--- a file is a package of the units that some inputs join, in another order perhaps: as a map from names they are the same
+-- a file is a package of the units that some inputs join, in another order perhaps: as a map from
+-- names they are the same
 pub record IsPackageOfAll (inputs : List (List ℕ)) (file : List ℕ) : Type 0 where
   pub units : Members
   pub joined : JoinAll inputs [] units

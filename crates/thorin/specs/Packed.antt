@@ -8,9 +8,11 @@ use Rattle.thorin_builder.specs.Join.{JoinAll, IsPackageOf}
 use Rattle.thorin_builder.specs.Represents.{units_in}
 use Rattle.thorin.specs.Run.{Ran, Writes}
 
--- the outcomes are those of a run from the start; its package has the units of the accepted inputs, joined; what is written is the
--- file of the state after it, a package of these units; and the type units that differ are those of that state
-pub record IsPacked (offer : List ℕ → Result (List ℕ) IoError → Type 0) (inputs : List Input) (packed : Packed) : Type 0 where
+-- the outcomes are those of a run from the start; its package has the units of the accepted inputs,
+-- joined; what is written is the file of the state after it, a package of these units; and the type
+-- units that differ are those of that state
+pub record IsPacked (offer : List ℕ → Result (List ℕ) IoError
+    → Type 0) (inputs : List Input) (packed : Packed) : Type 0 where
   pub state : State
   pub accepted : List (List ℕ)
   pub ran : Ran offer inputs start packed.outcomes.items state accepted

@@ -14,26 +14,35 @@ use Rattle.thorin_faults.specs.Answers.{MemoryAside}
 use Rattle.thorin.specs.declared.packing.Input.{Input}
 use Rattle.thorin.specs.declared.packing.Input.TheVariants as inputs
 use Rattle.thorin_builder.specs.Builder.{State, finish_test, IsFinishedState}
-use Rattle.thorin_builder.specs.Taking.{Outcome, Takes, accepted_of, TakesFile, TakesExecutable, Step}
+use Rattle.thorin_builder.specs.Taking.{Outcome, Takes, accepted_of, TakesFile, TakesExecutable}
+use Rattle.thorin_builder.specs.Taking.{Step}
 
 -- what came of an input of a list, and the bytes that were accepted
-abbrev pub TakesInput : (List ℕ → Result (List ℕ) IoError → Type 0) → Input → State → Outcome → State → List (List ℕ) → Type 0
-TakesInput offer (inputs.Object path) old outcome new accepted = (t : TakesFile (offer (path_bytes path)) old outcome new) × (accepted ≡ t.accepted)
-TakesInput offer (inputs.Bytes bytes) old outcome new accepted = Takes bytes.now old outcome new × (accepted ≡ accepted_of outcome bytes.now)
-TakesInput offer (inputs.Executable path missing) old outcome new accepted = (t : TakesExecutable offer (path_bytes path) missing old outcome new) × (accepted ≡ t.accepted)
+abbrev pub TakesInput : (List ℕ → Result (List ℕ) IoError → Type 0) → Input → State → Outcome
+    → State → List (List ℕ) → Type 0
+TakesInput offer (inputs.Object path) old outcome new accepted =
+    (t : TakesFile (offer (path_bytes path)) old outcome new) × (accepted ≡ t.accepted)
+TakesInput offer (inputs.Bytes bytes) old outcome new accepted =
+    Takes bytes.now old outcome new × (accepted ≡ accepted_of outcome bytes.now)
+TakesInput offer (inputs.Executable path missing) old outcome new accepted =
+    (t : TakesExecutable offer (path_bytes path) missing old outcome new) × (accepted ≡ t.accepted)
 
 -- the same, with the bytes that were accepted
-pub record Took (offer : List ℕ → Result (List ℕ) IoError → Type 0) (input : Input) (old : State) (outcome : Outcome) (new : State) : Type 0 where
+pub record Took (offer : List ℕ → Result (List ℕ) IoError
+    → Type 0) (input : Input) (old : State) (outcome : Outcome) (new : State) : Type 0 where
   pub accepted : List (List ℕ)
   pub takes : TakesInput offer input old outcome new accepted
 
--- a run: each input in order, refused ones passed over; and the bytes of all that were accepted, in order
-abbrev pub Ran : (List ℕ → Result (List ℕ) IoError → Type 0) → List Input → State → List Outcome → State → List (List ℕ) → Type 0
+-- a run: each input in order, refused ones passed over; and the bytes of all that were accepted, in
+-- order
+abbrev pub Ran : (List ℕ → Result (List ℕ) IoError → Type 0) → List Input → State → List Outcome
+    → State → List (List ℕ) → Type 0
 Ran offer [] old [] new accepted = (new ≡ old) × (accepted ≡ [])
 Ran offer [] old (outcome ∷ outcomes) new accepted = ⊥
 Ran offer (input ∷ rest) old [] new accepted = ⊥
 Ran offer (input ∷ rest) old (outcome ∷ outcomes) new accepted =
-    (s : Step) × TakesInput offer input old outcome s.middle s.here × Ran offer rest s.middle outcomes new s.later × (accepted ≡ s.here ++ s.later)
+    (s : Step) × TakesInput offer input old outcome s.middle s.here
+    × Ran offer rest s.middle outcomes new s.later × (accepted ≡ s.here ++ s.later)
 
 -- the bytes are the file of the finished package, and a reader finds in them what was written
 pub record IsWritten (state : State) (bytes : List ℕ) : Type 0 where
@@ -54,7 +63,8 @@ pub record IsTooLarge (state : State) : Type 0 where
 
 -- why nothing was written: the first fault of finishing, or a number that doesn't fit
 abbrev pub RefusesToWrite : State → Fault → Type 0
-RefusesToWrite state fault = (finish_test state ≡ Err fault) ⊎ ((fault ≡ ObjectWrite writer.NumberTooLarge) × IsTooLarge state)
+RefusesToWrite state fault = (finish_test state ≡ Err fault)
+    ⊎ ((fault ≡ ObjectWrite writer.NumberTooLarge) × IsTooLarge state)
 
 -- what was written
 abbrev pub Writes : {V : Type 0} → (V → List ℕ) → State → Result V Error → Type 0

@@ -1,7 +1,9 @@
 //! Packing in groups.
 
 ghost use Rattle.std.specs.Prelude.{IfOk};
-ghost use Rattle.thorin.specs.Groups.{PacksAlone, PacksInGroups, IsPackedInGroups, HaveTheirEncodings, IsPackageOfAll, bytes_in, groups_in, inputs_of};
+ghost use Rattle.thorin.specs.Groups.{PacksAlone, PacksInGroups, IsPackedInGroups};
+ghost use Rattle.thorin.specs.Groups.{HaveTheirEncodings, IsPackageOfAll, bytes_in, groups_in};
+ghost use Rattle.thorin.specs.Groups.{inputs_of};
 
 use crate::laws::groups_are_packed_alike;
 use crate::packing::written;
@@ -10,14 +12,14 @@ use std::alloc::Global;
 use thorin_builder::DwarfPackage;
 use thorin_faults::{Error, Session};
 
-/// Packs each group of inputs, given by their bytes, into a package of its own, places these packages in
-/// the session, and packs them, in order, into the one that it answers (DWARF 5, 7.3.5). No input is
-/// passed over: the first refusal ends it.
+/// Packs each group of inputs, given by their bytes, into a package of its own, places these
+/// packages in the session, and packs them, in order, into the one that it answers (DWARF 5,
+/// 7.3.5). No input is passed over: the first refusal ends it.
 ///
 /// # Errors
-/// The first of: for each group in order what `DwarfPackage::add_object_bytes` answers of its inputs and
-/// `finish` and `write` of its package (`NoOutputObjectCreated` for a group without inputs); then the same
-/// of the packages. `Memory` at any growth, and where the session has none.
+/// The first of: for each group in order what `DwarfPackage::add_object_bytes` answers of its
+/// inputs and `finish` and `write` of its package (`NoOutputObjectCreated` for a group without
+/// inputs); then the same of the packages. `Memory` at any growth, and where the session has none.
 pub fn pack_groups<'s, Sess: Session<RelocationEntry>>(
     alloc: Global,
     session: &'s Sess,
@@ -25,9 +27,12 @@ pub fn pack_groups<'s, Sess: Session<RelocationEntry>>(
 ) -> Result<Vec<u8>, Error>
     ensures packed { PacksInGroups (λ file. file.items) (groups_in groups.now) result }
 
-    // Where each unit of each group's package has the encoding of that package's first unit: the file is a
-    // package of the units that all inputs of all groups at once join.
-    ensures joined { IfOk result (λ file. (packed : IsPackedInGroups (groups_in groups.now) file.items) → HaveTheirEncodings (groups_in groups.now) packed.packages packed.each → IsPackageOfAll (inputs_of (groups_in groups.now)) file.items) }
+    // Where each unit of each group's package has the encoding of that package's first unit: the
+    // file is a package of the units that all inputs of all groups at once join.
+    ensures joined { IfOk result (λ file.
+        (packed : IsPackedInGroups (groups_in groups.now) file.items)
+        → HaveTheirEncodings (groups_in groups.now) packed.packages packed.each
+        → IsPackageOfAll (inputs_of (groups_in groups.now)) file.items) }
 {
     groups_are_packed_alike();
     let mut packages = Vec::with_capacity(alloc, groups.len())?;
@@ -38,7 +43,7 @@ pub fn pack_groups<'s, Sess: Session<RelocationEntry>>(
     pack_alone(alloc, session, &packages)
 }
 
-// Packs inputs into a package of their own, up to the first refusal.
+/// Packs inputs into a package of their own, up to the first refusal.
 fn pack_alone<'s, Sess: Session<RelocationEntry>>(
     alloc: Global,
     session: &'s Sess,

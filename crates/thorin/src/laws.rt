@@ -1,31 +1,61 @@
-//! What packing in groups means, as laws.
+//! What runs and packing in groups mean, as laws.
 
-ghost use Rattle.std.specs.Prelude.{◌≡◌, ℕ, List, [], Option, IsPermutation};
+ghost use Rattle.std.specs.Prelude.{◌≡◌, ◌∷◌, ◌++◌, ℕ, List, [], Option, IsPermutation};
 ghost use Rattle.std.specs.List.{flat_map};
 ghost use Rattle.dwp_table.specs.declared.object.DwarfObject.{DwarfObject};
+ghost use Rattle.thorin_builder.specs.Builder.{State};
+ghost use Rattle.thorin_builder.specs.Join.{JoinAll};
 ghost use Rattle.thorin_builder.specs.Meaning.{Meaning, joining, can_join};
-ghost use Rattle.thorin.specs.Groups.{AreJoined, HaveTheirEncodings, IsPackedInGroups, IsPackageOfAll, inputs_of};
+ghost use Rattle.thorin_builder.specs.Represents.{units_in};
+ghost use Rattle.thorin_builder.specs.Taking.{Outcome};
+ghost use Rattle.thorin.specs.declared.packing.Input.{Input};
+ghost use Rattle.thorin.specs.Groups.{AreJoined, HaveTheirEncodings, IsPackedInGroups};
+ghost use Rattle.thorin.specs.Groups.{IsPackageOfAll, inputs_of};
+ghost use Rattle.thorin.specs.Run.{Ran, TakesInput};
 
-use thorin_builder::{inputs_are_joined, written_packages_mean_their_units};
+use thorin_builder::{InputReader, inputs_are_joined, written_packages_mean_their_units};
 
-/// The law of joining in groups, on lists of units alone: where each group is joined to nothing, and what
-/// came of the groups, each in any order, is joined then, that is defined where joining all units at once
-/// is, and gives the same units, perhaps in another order. It does nothing.
+/// The law of joining in groups, on lists of units alone: where each group is joined to nothing,
+/// and what came of the groups, each in any order, is joined then, that is defined where joining
+/// all units at once is, and gives the same units, perhaps in another order. It does nothing.
 pub fn groups_are_joined_alike()
-    ensures defined { (groups results : List (List (DwarfObject × Option Meaning))) → AreJoined groups results
-        → can_join [] (flat_map (λ units. units) groups) ≡ can_join [] (flat_map (λ units. units) results) }
-    ensures joined { (groups results : List (List (DwarfObject × Option Meaning))) → AreJoined groups results
-        → IsPermutation (joining [] (flat_map (λ units. units) groups)) (joining [] (flat_map (λ units. units) results)) }
+    ensures defined { (groups results : List (List (DwarfObject × Option Meaning)))
+        → AreJoined groups results
+        → can_join [] (flat_map (λ units. units) groups)
+        ≡ can_join [] (flat_map (λ units. units) results) }
+    ensures joined { (groups results : List (List (DwarfObject × Option Meaning)))
+        → AreJoined groups results
+        → IsPermutation (joining [] (flat_map (λ units. units) groups))
+        (joining [] (flat_map (λ units. units) results)) }
 {}
 
-/// The law of packing in groups: where groups were packed, and each unit of each group's package has the
-/// encoding of that package's first unit, the file is a package of the units that all inputs of all groups
-/// at once join: under each name the same unit, whichever row it has (DWARF 5, 7.3.5). It does nothing.
+/// The law of packing in groups: where groups were packed, and each unit of each group's package
+/// has the encoding of that package's first unit, the file is a package of the units that all
+/// inputs of all groups at once join: under each name the same unit, whichever row it has (DWARF 5,
+/// 7.3.5). It does nothing.
 pub fn groups_are_packed_alike()
-    ensures { (groups : List (List (List ℕ))) (file : List ℕ) (packed : IsPackedInGroups groups file)
+    ensures { (groups : List (List (List ℕ))) (file : List ℕ)
+        (packed : IsPackedInGroups groups file)
         → HaveTheirEncodings groups packed.packages packed.each
         → IsPackageOfAll (inputs_of groups) file }
 {
     inputs_are_joined();
     written_packages_mean_their_units();
+}
+
+/// The laws that a run goes on with what came of one more input, and that what a run accepted is
+/// joined. It does nothing: its contract is the laws, about every run with this reader.
+pub fn runs_go_on<R: InputReader>(reader: &R)
+    ensures next { (done : List Input) (input : Input) (old middle new : State)
+        (outcomes : List Outcome) (outcome : Outcome) (before here : List (List ℕ))
+        → Ran (R.offer reader.now) done old outcomes middle before
+        → TakesInput (R.offer reader.now) input middle outcome new here
+        → Ran (R.offer reader.now) (done ++ input ∷ []) old
+        (outcomes ++ outcome ∷ []) new (before ++ here) }
+    ensures joined { (inputs : List Input) (old new : State) (outcomes : List Outcome)
+        (accepted : List (List ℕ))
+        → Ran (R.offer reader.now) inputs old outcomes new accepted
+        → JoinAll accepted (units_in old) (units_in new) }
+{
+    let _ = reader;
 }

@@ -4,9 +4,8 @@
 #![tactic(auto)]
 
 mod groups;
-mod laws;
+pub mod laws;
 mod packing;
-mod runs;
 
 pub use bumpalo::Bump;
 pub use dwp_base::{Class, Contribution, ContributionOffset, Endianness, SectionKind};
@@ -15,9 +14,7 @@ pub use dwp_elf::{Output, WritableObject, WriteError};
 pub use dwp_index::{PackageError, PackageFile, PackagedUnit, UnitEntry, Units};
 pub use dwp_table::{DebugTypeSignature, DwarfObject, DwoId};
 pub use groups::pack_groups;
-pub use laws::{groups_are_joined_alike, groups_are_packed_alike};
 pub use packing::{Input, Packed, pack, take_input};
-pub use runs::runs_go_on;
 pub use thorin_builder::{DwarfPackage, InputReader, MissingTargets};
 pub use thorin_executable::{Skeleton, SkeletonList, skeletons};
 pub use thorin_faults::{

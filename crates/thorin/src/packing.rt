@@ -32,13 +32,16 @@ pub struct Packed {
     pub outcomes: Vec<Result<(), Error>>,
     /// The written package, or the first fault of finishing or writing it or `Memory`.
     pub file: Result<Vec<u8>, Error>,
-    /// The signatures of type units that were passed over and whose bytes differ from those of the unit
-    /// of their name that is kept, as `DwarfPackage::differing_types` gives them.
+    /// The signatures of type units that were passed over and whose bytes differ from those of the
+    /// unit of their name that is kept, as `DwarfPackage::differing_types` gives them.
     pub differing: Vec<DebugTypeSignature>,
 }
 
-/// Packs inputs in order, passing over those that are refused, and writes the package. Its own `Err`
-/// is want of memory for the list of outcomes, and nothing else.
+/// Packs inputs in order, passing over those that are refused, and writes the package.
+///
+/// # Errors
+/// `Memory` for the list of outcomes, and nothing else: refused inputs and a package that can't be
+/// written are told in what is packed.
 pub fn pack<'s, Sess: Session<RelocationEntry>>(
     alloc: Global,
     session: &'s Sess,
@@ -63,14 +66,18 @@ pub fn pack<'s, Sess: Session<RelocationEntry>>(
 }
 
 /// Takes an input of a list; what paths name is read by a reader, into room that is free again
-/// afterwards. The errors are those of the builder's call for such an input.
+/// afterwards.
+///
+/// # Errors
+/// Those of the builder's call for such an input.
 pub fn take_input<'o, 's: 'o, Sess: Session<RelocationEntry>, R: InputReader>(
     builder: &mut DwarfPackage<'o, 's, Sess>,
     reader: &R,
     room: &mut Vec<u8>,
     input: Input<'_>,
 ) -> Result<(), Error>
-    ensures taken { Took (R.offer reader.now) input.entry builder.old.state result builder.new.state }
+    ensures taken { Took (R.offer reader.now) input.entry builder.old.state result
+        builder.new.state }
     ensures session { builder.new.session ≡ builder.old.session }
 {
     match input {
@@ -85,7 +92,8 @@ pub(crate) fn written<'o, 's: 'o, Sess: Session<RelocationEntry>>(
     builder: DwarfPackage<'o, 's, Sess>,
 ) -> (Result<Vec<u8>, Error>, Vec<DebugTypeSignature>)
     ensures writes { Writes (λ bytes. bytes.items) builder.entry.state result.0 }
-    ensures packaged { IfOk result.0 (λ bytes. IsPackageOf (units_in builder.entry.state) bytes.items) }
+    ensures packaged { IfOk result.0 (λ bytes.
+        IsPackageOf (units_in builder.entry.state) bytes.items) }
     ensures differing { map (λ s. s.0) result.1.items ≡ differing_in builder.entry.state }
 {
     let (finished, differing) = builder.finish_with_differing();

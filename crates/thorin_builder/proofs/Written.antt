@@ -11,7 +11,7 @@ use Rattle.dwp_elf.specs.FileText.{Object as File, file_text}
 use Rattle.dwp_index.specs.Entries.{entries_from}
 use Rattle.dwp_index.specs.Holding.{sections_of}
 use Rattle.dwp_index.specs.Index.{Index}
-use Rattle.dwp_index.specs.Naming.{IsIndexOf, entries_of}
+use Rattle.dwp_index.specs.Naming.{IsIndexOfIds, entries_of}
 use Rattle.dwp_index.specs.Package.{Package as Pack, index_in_section}
 use Rattle.thorin_strings.specs.Strings.{data_of}
 use Rattle.thorin_parts.specs.declared.entry.IndexEntry.{IndexEntry}
@@ -105,11 +105,11 @@ module _ (made : InProgress) (file : File) (f : IsFinished made file) where
 -- the law of the names in a package
 abbrev pub NamedOnce : Type 0
 NamedOnce = (compilations types : Option Index) (ids signatures : List ℕ)
-    → IsIndexOf compilations ids
-    → IsIndexOf types signatures
+    → IsIndexOfIds compilations ids
+    → IsIndexOfIds types signatures
     → IsPermutation (entries_of ids signatures) (entries_from compilations types 0 0)
 
-index-ids : (index : Option Index) (rows : List IndexEntry) → HasRows index rows → IsIndexOf index (entry_ids rows)
+index-ids : (index : Option Index) (rows : List IndexEntry) → HasRows index rows → IsIndexOfIds index (entry_ids rows)
 index-ids None rows has = ap entry_ids has
 index-ids (Some index) rows has = has.1.slots
 

@@ -1,4 +1,5 @@
--- A written package that is taken as an input: it means the units that were joined in it (DWARF 5, 7.3.5).
+-- A written package that is taken as an input: it means the units that were joined in it (DWARF 5,
+-- 7.3.5).
 use Rattle.std.specs.Prelude.{◌≡◌, ℕ, List, map, Option, Some, Result, Ok, All, IsPermutation}
 use Rattle.dwp_base.specs.Reading.{◌>>=◌}
 use Rattle.dwp_bytes.specs.declared.encoding.Encoding.{Encoding}
@@ -33,7 +34,7 @@ abbrev pub MeansWhereTaken : Members → List ℕ → Type 0
 MeansWhereTaken units bytes = (before after : State) → taken bytes before ≡ Ok after
     → (meant : List (DwarfObject × Option Meaning)) → input_meaning bytes ≡ Ok meant → IsPermutation (all_meant units) meant
 
--- so does the file of these contents, once it is written and read back as an ELF file, as `write` says, if each unit has the
--- encoding of its first
+-- so does the file of these contents, once it is written and read back as an ELF file, as `write`
+-- says, if each unit has the encoding of its first
 abbrev pub MeansOnceWritten : Members → File → Type 0
 MeansOnceWritten units file = KindsDiffer file.contents → elf_of (file_text file) ≡ Ok (written_elf file) → HaveEncodingOf (file_text file) units → MeansWhereTaken units (file_text file)

@@ -1,4 +1,5 @@
--- What each input does to a package that is made, and what is written of it (DWARF 5, 7.3.5; the GNU page DebugFissionDWP).
+-- What each input does to a package that is made, and what is written of it (DWARF 5, 7.3.5; the
+-- GNU page DebugFissionDWP).
 use Rattle.std.specs.Prelude.{◌≡◌, ℕ, ◌<◌, ◌^◌, Bool, true, false, not, List, [], ◌∷◌, Option, Some, None, Result, Ok, Err, unwrap_or, filter, find, length, nat_lt, if◌then◌else◌}
 use Rattle.std.specs.List.{list_any}
 use Rattle.std.specs.Option.{ok_or}
@@ -23,8 +24,9 @@ use Rattle.thorin_builder.specs.Names.{same_name, is_compilation}
 use Rattle.thorin_builder.specs.State.{InProgress, empty, names_of, with_source}
 use Rattle.thorin_builder.specs.Used.{opened, has_info, object_of}
 
--- a builder: the package, where an input has begun one, the units that executables refer to, and the one encoding of all
--- units of the accepted inputs, those passed over too, where there is one and each input was a plain object that added a unit
+-- a builder: the package, where an input has begun one, the units that executables refer to, and
+-- the one encoding of all units of the accepted inputs, those passed over too, where there is one
+-- and each input was a plain object that added a unit
 pub record State : Type 0 where
   pub begun : Option InProgress
   pub targets : List DwarfObject
@@ -69,7 +71,8 @@ with_units file begun = do
   indexes ← indexes_of object encoding
   with_source_or_new file (record { object = object; encoding = encoding; indexes = indexes }) begun
 
--- what an object's bytes make of a package, or the first fault; without an info section they only begin it
+-- what an object's bytes make of a package, or the first fault; without an info section they only
+-- begin it
 unfoldable pub with_input : List ℕ → Option InProgress → Result (Option InProgress) Fault
 with_input bytes begun = do
   file ← opened bytes

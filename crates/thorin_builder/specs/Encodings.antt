@@ -1,4 +1,5 @@
--- The encoding of an input: that of its first unit; and the one encoding of all units, where there is one (DWARF 5, 7.5.1).
+-- The encoding of an input: that of its first unit; and the one encoding of all units, where there
+-- is one (DWARF 5, 7.5.1).
 use Rattle.std.specs.Prelude.{ℕ, Bool, true, false, not, ◌&&◌, ◌||◌, List, [], ◌∷◌, Option, Some, None, Result, Ok, Err, if◌then◌else◌}
 use Rattle.std.specs.List.{list_all, list_any}
 use Rattle.dwp_base.specs.declared.endian.Endianness.{Endianness}
@@ -46,7 +47,8 @@ is_index used = same_kind used.kind CuIndex || same_kind used.kind TuIndex
 abbrev pub is_plain : List Used → Bool
 is_plain sections = not (list_any is_index sections)
 
--- the one encoding of all units of a plain object whose first unit has this encoding, where there is one
+-- the one encoding of all units of a plain object whose first unit has this encoding, where there
+-- is one
 abbrev pub one_encoding : Object → Encoding → Option Encoding
 one_encoding object encoding =
     if is_plain object.sections && list_all (section_has encoding object.order) object.sections then Some encoding else None

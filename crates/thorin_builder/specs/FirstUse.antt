@@ -1,4 +1,5 @@
--- The strings of a package: those that the string offsets of its inputs name, each once, in order of first use (DWARF 5, 7.26).
+-- The strings of a package: those that the string offsets of its inputs name, each once, in order
+-- of first use (DWARF 5, 7.26).
 use Rattle.std.specs.Prelude.{◌≡◌, ◌≢◌, AllPairs, ℕ, List, [], ◌∷◌, ◌++◌, Option, Some, None, Result, Ok, if◌then◌else◌}
 use Rattle.std.specs.Result.{result_unwrap_or}
 use Rattle.dwp_base.specs.declared.endian.Endianness.{Endianness}
@@ -63,7 +64,8 @@ used_by bytes = do
   file ← opened bytes
   if has_info file then named_in_file file else Ok []
 
--- the strings before come first, and those that an input names follow, each once, in order of first use
+-- the strings before come first, and those that an input names follow, each once, in order of first
+-- use
 pub record UsesStrings (bytes : List ℕ) (before : Option InProgress) (now : InProgress) : Type 0 where
   pub used : List (List ℕ)
   pub named : used_by bytes ≡ Ok used

@@ -1,4 +1,5 @@
--- The indexes of an input: a finished package has at least one, a plain object none (DWARF 5, 7.3.5.3; the GNU page DebugFissionDWP).
+-- The indexes of an input: a finished package has at least one, a plain object none (DWARF 5,
+-- 7.3.5.3; the GNU page DebugFissionDWP).
 use Rattle.std.specs.Prelude.{ℕ, Bool, ◌||◌, ◌==◌, List, length, Option, Some, None, Result, Ok, Err, is_some, if◌then◌else◌}
 use Rattle.dwp_base.specs.declared.endian.Endianness.{Endianness}
 use Rattle.dwp_base.specs.declared.section.SectionKind.{SectionKind}

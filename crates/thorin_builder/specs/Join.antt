@@ -1,4 +1,5 @@
--- A list of inputs as the join of what they mean: the first accepted unit of a name stays. And a package that means it.
+-- A list of inputs as the join of what they mean: the first accepted unit of a name stays. And a
+-- package that means it.
 use Rattle.std.specs.Prelude.{◌≡◌, ℕ, zero, suc, ◌+◌, ◌≤◌, Bool, true, false, List, [], ◌∷◌, ◌++◌, not, map, length, filter, slice_get, Option, Some, None, Ok, IsPermutation, MatchOption}
 use Rattle.std.specs.Map.{lookup}
 use Rattle.dwp_base.specs.declared.section.SectionKind.{SectionKind}
@@ -19,8 +20,8 @@ use Rattle.thorin_builder.specs.Meaning.{Meaning, Members, piece, keys, input_me
 use Rattle.thorin_builder.specs.Names.{same_name, is_compilation}
 use Rattle.thorin_builder.specs.Parts.{is_copied}
 
--- an input joins its units to those before: a type unit whose name is there is passed over, no compilation unit is, and all that
--- belongs to each unit that is added is there
+-- an input joins its units to those before: a type unit whose name is there is passed over, no
+-- compilation unit is, and all that belongs to each unit that is added is there
 pub record Joins (bytes : List ℕ) (before now : Members) : Type 0 where
   pub units : List (DwarfObject × Option Meaning)
   pub meaning : input_meaning bytes ≡ Ok units
@@ -34,7 +35,8 @@ abbrev pub JoinAll : List (List ℕ) → (before now : Members) → Type 0
 JoinAll [] before now = now ≡ before
 JoinAll (bytes ∷ rest) before now = (middle : Members) × Joins bytes before middle × JoinAll rest middle now
 
--- a unit of a package file is a unit with all that belongs to it; its strings too, where it has its input's encoding
+-- a unit of a package file is a unit with all that belongs to it; its strings too, where it has its
+-- input's encoding
 pub record IsUnit (found : index.FoundUnit) (unit : Meaning) : Type 0 where
   pub bytes : found.bytes ≡ unit.bytes
   pub content : (kind : SectionKind) → is_copied kind ≡ true → row_bytes found.contents found.row kind ≡ piece unit.pieces kind
@@ -61,7 +63,8 @@ same_sort (Compilation a) (Compilation b) = true
 same_sort (TypeUnit a) (TypeUnit b) = true
 same_sort _ _ = false
 
--- how many slots are looked at at most: one more than there are units of the name's kind, and none where there are none
+-- how many slots are looked at at most: one more than there are units of the name's kind, and none
+-- where there are none
 abbrev pub limit_of : ℕ → ℕ
 limit_of zero = zero
 limit_of (suc n) = suc n + 1
@@ -76,13 +79,16 @@ identifiers units = map (λ u. identifier_of u.0) (filter (λ u. is_compilation 
 abbrev pub signatures : Members → List ℕ
 signatures units = map (λ u. identifier_of u.0) (filter (λ u. not (is_compilation u.0)) units)
 
--- the bytes of a file are a package whose used slots name just these units, each once, with the numbers of their rows, and in which looking up any name gives just the unit of that name among these, or none
+-- the bytes of a file are a package whose used slots name just these units, each once, with the
+-- numbers of their rows, and in which looking up any name gives just the unit of that name among
+-- these, or none
 pub record IsPackageOf (units : Members) (bytes : List ℕ) : Type 0 where
   pub pack : Package
   pub parsed : package_of bytes ≡ Ok pack
   pub named : IsPermutation (entries_of (identifiers units) (signatures units)) (entries_from pack.compilations pack.types 0 0)
   pub finds : (name : DwarfObject) → MatchOption (lookup (same_name name) units) (GivesNone pack name (look_limit units name)) (GivesUnit pack name (look_limit units name))
 
--- the file of these contents is a package of these units, once it is written and read back as an ELF file, as `write` says
+-- the file of these contents is a package of these units, once it is written and read back as an
+-- ELF file, as `write` says
 abbrev pub IsPackageOnceWritten : Members → File → Type 0
 IsPackageOnceWritten units file = KindsDiffer file.contents → elf_of (file_text file) ≡ Ok (written_elf file) → IsPackageOf units (file_text file)

@@ -1,4 +1,5 @@
--- How the units of a package lie in its sections of units: one after another, each where its row says (DWARF 5, 7.3.5).
+-- How the units of a package lie in its sections of units: one after another, each where its row
+-- says (DWARF 5, 7.3.5).
 use Rattle.std.specs.Prelude.{◌≡◌, ℕ, ◌+◌, ◌<◌, Bool, true, false, List, [], ◌∷◌, ◌++◌, length, filter, Option, Some, None, Ok}
 use Rattle.dwp_base.specs.declared.endian.Endianness.{Endianness}
 use Rattle.dwp_bytes.specs.Input.{Input, section}

@@ -1,5 +1,5 @@
--- What an input means: its units by name, in file order, with all that belongs to each; and how such lists are joined
--- (DWARF 5, 7.3.5; the GNU page DebugFissionDWP).
+-- What an input means: its units by name, in file order, with all that belongs to each; and how
+-- such lists are joined (DWARF 5, 7.3.5; the GNU page DebugFissionDWP).
 use Rattle.std.specs.Prelude.{ℕ, Bool, true, not, ◌&&◌, ◌+◌, ◌*◌, List, [], ◌∷◌, ◌++◌, map, take, length, find, is_none, Option, Some, None, Result, Ok, Err, if◌then◌else◌}
 use Rattle.std.specs.List.{list_any}
 use Rattle.std.specs.Option.{option_and_then}
@@ -62,7 +62,8 @@ pieces_by bytes = record {
   macros = bytes Macro;
 }
 
--- all that belongs to a unit: its bytes, its pieces, its strings in the order of their offsets, and its input's encoding
+-- all that belongs to a unit: its bytes, its pieces, its strings in the order of their offsets, and
+-- its input's encoding
 pub record Meaning : Type 0 where
   pub bytes : List ℕ
   pub pieces : Pieces
@@ -88,7 +89,8 @@ joined_offsets encoding [] = []
 joined_offsets encoding (s ∷ ss) =
     if same_kind s.kind StrOffsets then whole_entries encoding s.bytes ++ joined_offsets encoding ss else joined_offsets encoding ss
 
--- a unit's part of the sections of a kind: by its row, where its input is a package, else all of them
+-- a unit's part of the sections of a kind: by its row, where its input is a package, else all of
+-- them
 abbrev pub part_by : Source → Option Ranges → SectionKind → List ℕ
 part_by source None kind = joined_content kind source.object.sections
 part_by source (Some row) kind = part_of (first kind source.object.sections) (range_in row kind)
@@ -134,7 +136,8 @@ pub record UnitRead : Type 0 where
   pub from : SectionKind
   pub unit : Header
 
--- a unit with all that belongs to it: of a package by its row by place, and nothing without that row
+-- a unit with all that belongs to it: of a package by its row by place, and nothing without that
+-- row
 unfoldable pub unit_meaning : Source → DwarfObject × UnitRead → Option Meaning
 unit_meaning source read =
     if is_package source.indexes
@@ -198,7 +201,8 @@ input_meaning bytes = do
 abbrev pub keys : {X : Type 0} → List (DwarfObject × X) → List DwarfObject
 keys units = map (λ u. u.0) units
 
--- what a list adds to names that are there: a unit whose name is there, or came before, is passed over
+-- what a list adds to names that are there: a unit whose name is there, or came before, is passed
+-- over
 abbrev pub joining : {X : Type 0} → List DwarfObject → List (DwarfObject × X) → List (DwarfObject × X)
 joining names [] = []
 joining names (unit ∷ rest) =

@@ -29,12 +29,14 @@ pub record NewUnit : Type 0 where
   pub bytes : List ℕ
   pub row : IndexEntry
 
--- the units that are added, in order, and the signatures of type units passed over whose bytes differ from those kept
+-- the units that are added, in order, and the signatures of type units passed over whose bytes
+-- differ from those kept
 pub record New : Type 0 where
   pub units : List (DwarfObject × NewUnit)
   pub differing : List ℕ
 
--- what units are added to: an input, the row of a unit that has all of it, and the bytes of each unit that the package has
+-- what units are added to: an input, the row of a unit that has all of it, and the bytes of each
+-- unit that the package has
 pub record Adding : Type 0 where
   pub source : Source
   pub whole : IndexEntry

@@ -10,11 +10,13 @@ use Rattle.thorin_builder.specs.State.{InProgress}
 abbrev pub has_content : SectionKind → InProgress → Bool
 has_content kind made = nat_lt 0 (length (content_of kind made.file.contents))
 
--- the sections that an input must have beside its units: abbreviations, and strings where there are string offsets
+-- the sections that an input must have beside its units: abbreviations, and strings where there are
+-- string offsets
 abbrev pub has_sections : Option InProgress → Bool
 has_sections None = false
 has_sections (Some made) = has_content Abbrev made && (not (has_content StrOffsets made) || nat_lt 0 (length made.strings))
 
--- each accepted input was a plain object that added a unit, all their units have one encoding, and these sections are there
+-- each accepted input was a plain object that added a unit, all their units have one encoding, and
+-- these sections are there
 abbrev pub packs_again : State → Bool
 packs_again state = is_some state.own && has_sections state.begun

@@ -31,8 +31,8 @@ written_object file = record {
   has_abbreviations = is_present Abbrev (written_elf file);
 }
 
--- a file is that of a builder's finished package, all of whose units come from inputs of this encoding, and the first unit of
--- info has it
+-- a file is that of a builder's finished package, all of whose units come from inputs of this
+-- encoding, and the first unit of info has it
 pub record IsOwn (state : State) (encoding : Encoding) (file : File) : Type 0 where
   pub sound : IsSoundBegun state.begun
   pub tested : finish_test state ≡ Ok tt
@@ -44,14 +44,16 @@ pub record IsOwn (state : State) (encoding : Encoding) (file : File) : Type 0 wh
   pub info : 0 < length (content_of Info file.contents)
   pub first : encoding_of (written_object file) ≡ Ok encoding
 
--- a package of that byte order, or none, takes its bytes up to its parts, with the indexes that were written
+-- a package of that byte order, or none, takes its bytes up to its parts, with the indexes that
+-- were written
 pub record TakesUpToParts (file : File) (encoding : Encoding) (before : Option InProgress) : Type 0 where
   pub indexes : Indexes
   pub read : indexes_of (written_object file) encoding ≡ Ok indexes
   pub finished : is_package indexes ≡ true
   pub is : with_input (file_text file) before ≡ with_source_or_new (written_elf file) (record { object = written_object file; encoding = encoding; indexes = indexes }) before
 
--- contents are in the format of an encoding, and where there are string offsets there are strings, among which they can be rewritten
+-- contents are in the format of an encoding, and where there are string offsets there are strings,
+-- among which they can be rewritten
 pub record CanTake (source : Source) (contents : Contents) (strings : List (List ℕ)) : Type 0 where
   pub finished : is_package source.indexes ≡ true
   pub format : (kind : SectionKind) → 0 < length (content_of kind contents) → is_in_format source.encoding kind ≡ true

@@ -9,7 +9,8 @@ use Rattle.thorin_builder.specs.Represents.{units_in}
 abbrev pub AllOf : Encoding → Members → Type 0
 AllOf encoding units = All (λ unit. unit.1.encoding ≡ encoding) units
 
--- where a builder's inputs have one encoding, there are units, and all come from inputs of that encoding
+-- where a builder's inputs have one encoding, there are units, and all come from inputs of that
+-- encoding
 pub record HoldsOwn (state : State) : Type 0 where
   pub some : (encoding : Encoding) → state.own ≡ Some encoding → 0 < length (units_in state)
   pub all : (encoding : Encoding) → state.own ≡ Some encoding → AllOf encoding (units_in state)

@@ -1,4 +1,5 @@
--- What an input adds to the sections of a package beside its units (DWARF 5, 7.3.5; the GNU page DebugFissionDWP).
+-- What an input adds to the sections of a package beside its units (DWARF 5, 7.3.5; the
+-- GNU page DebugFissionDWP).
 use Rattle.std.specs.Prelude.{ℕ, Bool, true, false, ◌&&◌, ◌||◌, not, nat_le, List, [], ◌∷◌, ◌++◌, length, Result, Ok, Err, if◌then◌else◌}
 use Rattle.std.specs.List.{list_any}
 use Rattle.dwp_base.specs.declared.section.SectionKind.{SectionKind}
@@ -13,8 +14,8 @@ use Rattle.thorin_builder.specs.Growing.{Contents}
 use Rattle.thorin_builder.specs.Indexes.{Source, is_package}
 use Rattle.thorin_builder.specs.Used.{Used, Object, first}
 
--- packages of an encoding's version have the section: location and range lists of DWARF 5 from version 5 on, type units,
--- location lists and macros of older versions below it
+-- packages of an encoding's version have the section: location and range lists of DWARF 5 from
+-- version 5 on, type units, location lists and macros of older versions below it
 abbrev pub is_in_format : Encoding → SectionKind → Bool
 is_in_format encoding Loclists = nat_le 5 encoding.version
 is_in_format encoding Rnglists = nat_le 5 encoding.version
@@ -42,7 +43,8 @@ Parts = Contents × List (List ℕ)
 abbrev pub has_part : SectionKind → Contents → Bool
 has_part kind parts = list_any (λ part. same_kind part.0 kind) parts
 
--- an input may have one section of the kind alone: a package of each kind, an object of DWARF 5 of string offsets
+-- an input may have one section of the kind alone: a package of each kind, an object of DWARF 5 of
+-- string offsets
 abbrev pub stands_once : Source → SectionKind → Bool
 stands_once source kind = is_package source.indexes || (nat_le 5 source.encoding.version && same_kind kind StrOffsets)
 

@@ -1,5 +1,5 @@
--- The units of a package that is made: what a reader would find under each name, and that it can be read
--- (DWARF 5, 7.3.5.3; the GNU page DebugFissionDWP).
+-- The units of a package that is made: what a reader would find under each name, and that it can be
+-- read (DWARF 5, 7.3.5.3; the GNU page DebugFissionDWP).
 use Rattle.std.specs.Prelude.{◌≡◌, ℕ, ◌+◌, ◌<◌, ◌≤◌, true, false, List, [], ◌∷◌, map, take, length, slice_get, Option, Some, None, Ok, AllPairs}
 use Rattle.std.specs.Result.{result_unwrap_or}
 use Rattle.dwp_base.specs.declared.section.SectionKind.{SectionKind}
@@ -24,7 +24,8 @@ use Rattle.thorin_builder.specs.Parts.{is_copied}
 use Rattle.thorin_builder.specs.State.{InProgress, kind_at, names_of, unit_bytes}
 use Rattle.thorin_builder.specs.Strings.{strings_of}
 
--- all that belongs to the unit of a row: what stands in the row's ranges, and the strings that its string offsets name
+-- all that belongs to the unit of a row: what stands in the row's ranges, and the strings that its
+-- string offsets name
 abbrev pub meaning_at : Endianness → Contents → List (List ℕ) → IndexEntry → Meaning
 meaning_at order contents strings row = record {
   bytes = unit_bytes contents row;

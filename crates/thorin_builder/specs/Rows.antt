@@ -1,4 +1,5 @@
--- The rows that units get: each unit's part of each section of its input, where it comes to lie in the package (DWARF 5, 7.3.5.3).
+-- The rows that units get: each unit's part of each section of its input, where it comes to lie in
+-- the package (DWARF 5, 7.3.5.3).
 use Rattle.std.specs.Prelude.{ℕ, Bool, true, false, ◌==◌, ◌&&◌, not, List, length, Option, Some, None, Result, Ok, Err, if◌then◌else◌}
 use Rattle.dwp_base.specs.declared.section.SectionKind.{SectionKind}
 use Rattle.dwp_base.specs.declared.section.SectionKind.TheVariants.{Abbrev, Line, Loc, Loclists, Rnglists, StrOffsets, Macinfo, Macro}
@@ -23,7 +24,8 @@ use Rattle.thorin_builder.specs.Growing.{Contents, joined_parts, range_put}
 use Rattle.thorin_builder.specs.Indexes.{Indexes, Source, is_package, index_for, looked_up}
 use Rattle.thorin_builder.specs.Used.{first}
 
--- where the whole of each section that units share comes to lie, once parts are added to contents: as the row of a unit that has all of it
+-- where the whole of each section that units share comes to lie, once parts are added to contents:
+-- as the row of a unit that has all of it
 unfoldable pub whole_row : Encoding → Contents → Contents → IndexEntry
 whole_row encoding before parts = record {
   encoding = encoding;
@@ -71,7 +73,8 @@ unit_row indexes whole name = do
 abbrev pub own_range : Header → Contribution
 own_range unit = record { offset = record { 0 = unit.whole.place }; size = length unit.whole.bytes }
 
--- the number of the row by place: the lowest of the index of a name's kind whose range in the section is exactly the unit's
+-- the number of the row by place: the lowest of the index of a name's kind whose range in the
+-- section is exactly the unit's
 abbrev pub number_by_place : Indexes → SectionKind → DwarfObject → Header → Option ℕ
 number_by_place indexes kind name unit = row_by_place (index_for indexes name) kind (own_range unit)
 
@@ -87,7 +90,8 @@ row_test indexes kind name unit =
     else (if is_same_row (number_by_place indexes kind name unit) (looked_up (index_for indexes name) (identifier_of name)) then Ok tt
     else Err (UnitNotInIndex (identifier_of name)))
 
--- the abbreviations of a row; none where it has none. Before its unit's identity is known, faults have the number 0
+-- the abbreviations of a row; none where it has none. Before its unit's identity is known, faults
+-- have the number 0
 unfoldable pub row_abbreviations : List ℕ → Ranges → Result (List ℕ) Fault
 row_abbreviations bytes row =
     if is_outside bytes (range_in row Abbrev) then Err (BadContribution (name_of Abbrev) 0)
@@ -105,7 +109,8 @@ abbrev pub is_compile : UnitType → Bool
 is_compile unit_types.Compilation = true
 is_compile _ = false
 
--- the abbreviations that a unit's identity is read with: those of the first section, for a compile unit of a package those of its row by place
+-- the abbreviations that a unit's identity is read with: those of the first section, for a compile
+-- unit of a package those of its row by place
 unfoldable pub abbreviations_for : Source → SectionKind → Header → Result (List ℕ) Fault
 abbreviations_for source kind unit =
     if is_package source.indexes && is_compile unit.unit_type

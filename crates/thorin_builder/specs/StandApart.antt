@@ -27,8 +27,8 @@ abbrev pub EachRow : (IndexEntry → Type 0) → List IndexEntry → Type 0
 EachRow P [] = Unit {0}
 EachRow P (row ∷ rows) = P row × EachRow P rows
 
--- the ranges of the units before lie inside the contents before, those of the units that an input added behind these; all of them
--- have bytes, inside the contents
+-- the ranges of the units before lie inside the contents before, those of the units that an input
+-- added behind these; all of them have bytes, inside the contents
 pub record StandApart (before : Option InProgress) (now : InProgress) : Type 0 where
   pub added : List IndexEntry
   pub rows : now.rows ≡ rows_begun before ++ added

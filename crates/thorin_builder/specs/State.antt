@@ -1,4 +1,5 @@
--- A package while it is made: what each input adds to it (DWARF 5, 7.3.5; the GNU page DebugFissionDWP).
+-- A package while it is made: what each input adds to it (DWARF 5, 7.3.5; the
+-- GNU page DebugFissionDWP).
 use Rattle.std.specs.Prelude.{◌≡◌, ℕ, List, [], ◌∷◌, ◌++◌, map, take, length, Option, Some, None, Result, Ok, Err, if◌then◌else◌}
 use Rattle.std.specs.List.{list_any}
 use Rattle.dwp_base.specs.declared.class.Class.{Class}
@@ -25,8 +26,8 @@ use Rattle.thorin_builder.specs.Parts.{parts_of}
 use Rattle.thorin_builder.specs.Rows.{whole_row}
 use Rattle.thorin_builder.specs.Used.{Object}
 
--- a package that was begun: the file so far, the distinct strings, a row for each unit, and the signatures of type units that
--- were passed over and differ from those kept
+-- a package that was begun: the file so far, the distinct strings, a row for each unit, and the
+-- signatures of type units that were passed over and differ from those kept
 pub record InProgress : Type 0 where
   pub file : File
   pub strings : List (List ℕ)
@@ -42,7 +43,8 @@ abbrev pub kind_at : UnitSection → SectionKind
 kind_at places.Info = kinds.Info
 kind_at places.Types = kinds.Types
 
--- the bytes of the unit of a row: its range of types, where it is a type unit and has one, else of info
+-- the bytes of the unit of a row: its range of types, where it is a type unit and has one, else of
+-- info
 abbrev pub unit_bytes : Contents → IndexEntry → List ℕ
 unit_bytes contents row =
     let kind = kind_at (place_of row.id row.debug_types) in
@@ -116,7 +118,8 @@ empty class machine order = record {
   differing = [];
 }
 
--- how much of a package there is: the length of each content, and how many strings, rows and signatures
+-- how much of a package there is: the length of each content, and how many strings, rows and
+-- signatures
 pub record Amount : Type 0 where
   pub lengths : List ℕ
   pub strings : ℕ

@@ -30,8 +30,8 @@ use Rattle.thorin_builder.specs.Represents.{units_in}
 abbrev pub Outcome : Type 0
 Outcome = Result (Unit {0}) Error
 
--- an input's bytes were taken, and their units joined; or they were refused for their first fault, want of memory aside, and then
--- nothing changed
+-- an input's bytes were taken, and their units joined; or they were refused for their first fault,
+-- want of memory aside, and then nothing changed
 pub record Takes (bytes : List ℕ) (old : State) (outcome : Outcome) (new : State) : Type 0 where
   pub meaning : Gives (λ _. new) outcome (taken bytes old)
   pub joins : OnOk outcome (Joins bytes (units_in old) (units_in new))
@@ -62,7 +62,8 @@ pub record TakesFile (offered : Result (List ℕ) IoError → Type 0) (old : Sta
 
 -- ---- executables
 
--- the units that executables refer to, with one more; a type unit isn't looked for when a package is finished
+-- the units that executables refer to, with one more; a type unit isn't looked for when a package
+-- is finished
 abbrev pub with_target : DwarfObject → State → State
 with_target (Compilation id) state = record state { targets = with_name state.targets (Compilation id) }
 with_target (TypeUnit signature) state = state
@@ -96,7 +97,8 @@ pub record TakesAbsent (offer : List ℕ → Result (List ℕ) IoError → Type 
   pub file : TakesReferredFile (offer named.1) missing (with_target named.0 old) outcome new
   pub accepted_is : accepted ≡ file.accepted
 
--- a unit that an executable refers to, with the path of its object: it is there; or its object was taken; or memory ran out before
+-- a unit that an executable refers to, with the path of its object: it is there; or its object was
+-- taken; or memory ran out before
 abbrev pub TakesSkeleton : (List ℕ → Result (List ℕ) IoError → Type 0) → MissingReferencedObjectBehaviour → DwarfObject × List ℕ → State → Outcome → State → List (List ℕ) → Type 0
 TakesSkeleton offer missing named old outcome new accepted =
     ((is_there named.0 old ≡ true) × (outcome ≡ Ok tt) × (new ≡ old) × (accepted ≡ []))
@@ -138,7 +140,8 @@ abbrev pub TakesEach : (List ℕ → Result (List ℕ) IoError → Type 0) → M
 TakesEach offer missing list old (Ok x) new accepted = AllTaken offer missing list old new accepted
 TakesEach offer missing list old (Err e) new accepted = (fault : Option Fault) → TakesSkeletons offer missing list fault old (Err e) new accepted
 
--- the units that an executable's bytes refer to and the fault that ends their list; where memory ran out, the first of them
+-- the units that an executable's bytes refer to and the fault that ends their list; where memory
+-- ran out, the first of them
 pub record TakesNamed (offer : List ℕ → Result (List ℕ) IoError → Type 0) (missing : MissingReferencedObjectBehaviour) (bytes : List ℕ) (old : State) (outcome : Outcome) (new : State) (accepted : List (List ℕ)) : Type 0 where
   pub named : List (DwarfObject × List ℕ)
   pub fault : Option Fault

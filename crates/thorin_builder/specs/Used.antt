@@ -1,4 +1,5 @@
--- Which sections of an input a package is made of, and what they hold (DWARF 5, 7.3.5; the GNU page DebugFissionDWP).
+-- Which sections of an input a package is made of, and what they hold (DWARF 5, 7.3.5; the
+-- GNU page DebugFissionDWP).
 use Rattle.std.specs.Prelude.{ℕ, List, [], ◌∷◌, ◌++◌, Bool, false, ◌&&◌, ◌||◌, ◌==◌, if◌then◌else◌, Option, Some, None, Result, Ok, Err, find, is_some}
 use Rattle.std.specs.Option.{option_and_then, ok_or, option_map_or}
 use Rattle.std.specs.List.{list_any}

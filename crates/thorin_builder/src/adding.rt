@@ -17,14 +17,14 @@ use dwp_elf_read::ElfFile;
 use std::alloc::Global;
 use thorin_faults::Error;
 
-// A package of the class, machine and byte order of its first input.
+/// A package of the class, machine and byte order of its first input.
 fn begun_by(alloc: Global, file: &ElfFile<'_>) -> InProgressDwarfPackage
     ensures { in_progress_of result ≡ spec.begun_by (elf file.now) }
 {
     InProgressDwarfPackage::new(alloc, file.class(), file.machine(), file.endianness())
 }
 
-// Whether two byte orders are the same.
+/// Whether two byte orders are the same.
 fn is_same_order(a: Endianness, b: Endianness) -> bool
     ensures { result ≡ spec.same_order a b }
 {
@@ -34,7 +34,7 @@ fn is_same_order(a: Endianness, b: Endianness) -> bool
     }
 }
 
-// `MixedInputEncodings` where the package has another byte order.
+/// `MixedInputEncodings` where the package has another byte order.
 #[tactic(auto, unfolding(crate::specs::Builder::order_test))]
 fn test_order(in_progress: &Option<InProgressDwarfPackage>, order: Endianness) -> Result<(), Error>
     ensures { Gives (λ _. tt) result (spec.order_test order (begun_of in_progress.now)) }
@@ -51,7 +51,7 @@ fn test_order(in_progress: &Option<InProgressDwarfPackage>, order: Endianness) -
     }
 }
 
-// Adds the units of an input to the package, which it may begin.
+/// Adds the units of an input to the package, which it may begin.
 #[tactic(auto, unfolding(crate::specs::Builder::with_source_or_new))]
 fn add_source(
     alloc: Global,
@@ -73,7 +73,7 @@ fn add_source(
     }
 }
 
-// Adds an input with units, and gives the one encoding of all of them, where there is one.
+/// Adds an input with units, and gives the one encoding of all of them, where there is one.
 #[tactic(auto, unfolding(crate::specs::Builder::with_units, crate::specs::Encodings::file_encoding))]
 fn add_units(
     alloc: Global,
@@ -97,11 +97,11 @@ fn add_units(
     Ok(source.object.one_encoding(encoding))
 }
 
-/// Adds an input: its units that aren't there, with all that belongs to them; without an info section
-/// it only begins the package. Gives the one encoding of all its units, where it is a plain object and
-/// there is one. The first fault from left to right: of the file's kind, the ELF file, the used sections,
-/// the first unit, the byte order, the indexes, the kinds of sections and the string offsets, the
-/// abbreviations, the units. An `Err` leaves the package as it was.
+/// Adds an input: its units that aren't there, with all that belongs to them; without an info
+/// section it only begins the package. Gives the one encoding of all its units, where it is a plain
+/// object and there is one. The first fault from left to right: of the file's kind, the ELF file,
+/// the used sections, the first unit, the byte order, the indexes, the kinds of sections and the
+/// string offsets, the abbreviations, the units. An `Err` leaves the package as it was.
 #[tactic(auto, unfolding(crate::specs::Builder::with_input, crate::specs::Encodings::own_encoding))]
 pub(crate) fn add_input(
     alloc: Global,

@@ -13,7 +13,7 @@ use dwp_base::{Endianness, SectionKind};
 use dwp_dwarf::{Encoding, ReadError, Reader, SliceReader, UnitHeader, UnitHeaders, UnitSection};
 use thorin_faults::Error;
 
-// Whether a unit that was read has this encoding.
+/// Whether a unit that was read has this encoding.
 fn has_encoding<'a>(
     encoding: Encoding,
     read: Result<UnitHeader<SliceReader<'a>>, ReadError>,
@@ -26,7 +26,7 @@ fn has_encoding<'a>(
     }
 }
 
-// Whether each unit of a section has this encoding.
+/// Whether each unit of a section has this encoding.
 fn section_has(encoding: Encoding, order: Endianness, section: UsedSection<'_>) -> bool
     ensures { result ≡ spec.section_has encoding order (used section.entry) }
 {
@@ -41,7 +41,7 @@ fn section_has(encoding: Encoding, order: Endianness, section: UsedSection<'_>) 
     true
 }
 
-// Whether each unit of these sections has this encoding.
+/// Whether each unit of these sections has this encoding.
 fn all_have(encoding: Encoding, order: Endianness, sections: &[UsedSection<'_>]) -> bool
     ensures { result ≡ list_all (spec.section_has encoding order) (map used sections.now) }
 {
@@ -69,7 +69,7 @@ impl<'a> InputObject<'a> {
         }
     }
 
-    // Whether no section is an index.
+    /// Whether no section is an index.
     fn is_plain(&self) -> bool
         ensures { result ≡ spec.is_plain (object self.now).sections }
     {
@@ -81,8 +81,8 @@ impl<'a> InputObject<'a> {
         true
     }
 
-    /// The one encoding of all units of a plain object, whose first unit has this one; none where they
-    /// differ, and of a finished package.
+    /// The one encoding of all units of a plain object, whose first unit has this one; none where
+    /// they differ, and of a finished package.
     pub fn one_encoding(&self, encoding: Encoding) -> Option<Encoding>
         ensures { result ≡ spec.one_encoding (object self.now) encoding }
     {

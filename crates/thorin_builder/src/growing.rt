@@ -23,8 +23,8 @@ pub(crate) fn content(file: &WritableObject, kind: SectionKind) -> &[u8]
     &[]
 }
 
-/// Adds bytes at the end of a section's content, and tells where they lie. It refuses for memory alone,
-/// and then changes nothing.
+/// Adds bytes at the end of a section's content, and tells where they lie. It refuses for memory
+/// alone, and then changes nothing.
 pub(crate) fn put(
     file: &mut WritableObject,
     kind: SectionKind,

@@ -6,15 +6,17 @@ ghost use Rattle.thorin_builder.specs.Join.{Joins};
 ghost use Rattle.thorin_builder.specs.Represents.{IsSoundBegun, units_begun};
 ghost use Rattle.thorin_builder.specs.State.{InProgress};
 
-use dwp_dwarf::units_have_all_bytes;
-use dwp_index::units_are_read_alone;
-use thorin_packaged::packaged_rows_are_read_alike;
-use thorin_parts::{joined_string_offsets_are_read_in_turn, rewritten_strings_are_read_alike};
-use thorin_strings::rewritten_offsets_name_the_same;
+use dwp_dwarf::laws::units_have_all_bytes;
+use dwp_index::laws::units_are_read_alone;
+use thorin_packaged::laws::packaged_rows_are_read_alike;
+use thorin_parts::laws::{
+    joined_string_offsets_are_read_in_turn, rewritten_strings_are_read_alike,
+};
+use thorin_strings::laws::rewritten_offsets_name_the_same;
 
-/// The law of accepted inputs: a package whose units can be found and read has, once an input was taken,
-/// the units that it had and those that the input joins to them, and all of them can be found and read. It
-/// does nothing.
+/// The law of accepted inputs: a package whose units can be found and read has, once an input was
+/// taken, the units that it had and those that the input joins to them, and all of them can be
+/// found and read. It does nothing.
 pub fn inputs_are_joined()
     ensures sound { (bytes : List ℕ) (begun now : Option InProgress) → IsSoundBegun begun → with_input bytes begun ≡ Ok now → IsSoundBegun now }
     ensures joins { (bytes : List ℕ) (begun now : Option InProgress) → IsSoundBegun begun → with_input bytes begun ≡ Ok now → Joins bytes (units_begun begun) (units_begun now) }

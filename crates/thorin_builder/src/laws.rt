@@ -12,9 +12,9 @@ ghost use Rattle.thorin_builder.specs.Builder.{State, finish_test, IsFinishedSta
 ghost use Rattle.thorin_builder.specs.Join.{IsPackageOnceWritten};
 ghost use Rattle.thorin_builder.specs.Represents.{IsSoundBegun, units_in};
 
-use dwp_elf::written_contents_are_read_back;
-use dwp_index::{contents_are_read, packages_find_exactly, units_are_named_once};
-use thorin_parts::{written_index_has_the_entries, written_index_is_read};
+use dwp_elf::laws::written_contents_are_read_back;
+use dwp_index::laws::{contents_are_read, packages_find_exactly, units_are_named_once};
+use thorin_parts::laws::{written_index_has_the_entries, written_index_is_read};
 
 /// The law of written packages: a file that is written of contents of distinct kinds, and whose
 /// numbers fit its class, is read as the package of these contents, with the indexes that stand in

@@ -55,7 +55,7 @@ impl Iterator for MissingTargets<'_> {
     }
 }
 
-// The first unit from a place on that isn't contained, and the place after it.
+/// The first unit from a place on that isn't contained, and the place after it.
 fn first_missing(
     contained: &IndexSet<DwarfObject>,
     targets: &IndexSet<DwarfObject>,

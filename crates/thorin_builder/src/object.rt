@@ -19,8 +19,8 @@ pub(crate) struct UsedSection<'a> {
     pub address: u64,
 }
 
-/// The used sections of an input, in file order, none empty: all that units have contributions to, the
-/// first of strings, and the first of each index.
+/// The used sections of an input, in file order, none empty: all that units have contributions to,
+/// the first of strings, and the first of each index.
 #[derive(Drop)]
 pub(crate) struct InputObject<'a> {
     pub order: Endianness,
@@ -31,7 +31,8 @@ pub(crate) struct InputObject<'a> {
     pub has_abbreviations: bool,
 }
 
-/// The ELF file that an input is: `ParseFileKind`, `InvalidInputKind` for an archive, `ParseObjectFile`.
+/// The ELF file that an input is: `ParseFileKind`, `InvalidInputKind` for an archive,
+/// `ParseObjectFile`.
 #[tactic(auto, unfolding(crate::specs::Used::opened))]
 pub(crate) fn opened(bytes: &[u8]) -> Result<ElfFile<'_>, Error>
     ensures { Gives elf result (spec.opened bytes.now) }
@@ -56,14 +57,14 @@ pub(crate) fn has_info(file: &ElfFile<'_>) -> bool
     false
 }
 
-// Whether a section of this kind is there under its own name, an empty one too.
+/// Whether a section of this kind is there under its own name, an empty one too.
 fn is_present(file: &ElfFile<'_>, kind: SectionKind) -> bool
     ensures { result ≡ spec.is_present kind (elf file.now) }
 {
     file.section_by_name(kind.name()).is_some()
 }
 
-// The kind of a section that isn't empty, and its name.
+/// The kind of a section that isn't empty, and its name.
 #[tactic(auto, unfolding(crate::specs::Used::used_kind))]
 fn used_kind<'a>(section: &Section<'a>) -> Option<(SectionKind, &'a str)>
     ensures { option_map (λ k. (k.0, k.1.now)) result ≡ spec.used_kind (meaning section.now) }
@@ -80,8 +81,8 @@ fn used_kind<'a>(section: &Section<'a>) -> Option<(SectionKind, &'a str)>
     }
 }
 
-// The content of a section that is used: `DecompressData` where it is compressed, `ObjectRead` where it
-// is outside the file.
+/// The content of a section that is used: `DecompressData` where it is compressed, `ObjectRead`
+/// where it is outside the file.
 #[tactic(auto, unfolding(crate::specs::Used::used_bytes))]
 fn used_bytes<'a>(section: &Section<'a>, kind: SectionKind, name: &str) -> Result<&'a [u8], Error>
     ensures { Gives (λ bytes. bytes.now) result (spec.used_bytes (meaning section.now) kind name.now) }
@@ -92,7 +93,7 @@ fn used_bytes<'a>(section: &Section<'a>, kind: SectionKind, name: &str) -> Resul
     section.data().map_err(Error::ObjectRead)
 }
 
-// Whether only the first section of this kind counts.
+/// Whether only the first section of this kind counts.
 fn counts_once(kind: SectionKind) -> bool
     ensures { result ≡ spec.counts_once kind }
 {
@@ -114,7 +115,7 @@ pub(crate) fn find_in<'a>(
     None
 }
 
-// Takes a section in if it is used.
+/// Takes a section in if it is used.
 fn take<'a>(sections: &mut Vec<UsedSection<'a>>, section: &Section<'a>) -> Result<(), Error>
     ensures { Gives (λ _. map used sections.new.items) result (spec.with_used (map used sections.old.items) (meaning section.now) (spec.used_kind (meaning section.now))) }
 {
@@ -134,7 +135,7 @@ fn take<'a>(sections: &mut Vec<UsedSection<'a>>, section: &Section<'a>) -> Resul
     Ok(())
 }
 
-// The used sections of a file; `DecompressData` and `ObjectRead` for the first that can't be used.
+/// The used sections of a file; `DecompressData` and `ObjectRead` for the first that can't be used.
 fn used_sections<'a>(alloc: Global, file: &ElfFile<'a>) -> Result<Vec<UsedSection<'a>>, Error>
     ensures { Gives (λ sections. map used sections.items) result (spec.used_from [] (elf file.now).sections) }
 {
@@ -146,7 +147,8 @@ fn used_sections<'a>(alloc: Global, file: &ElfFile<'a>) -> Result<Vec<UsedSectio
 }
 
 impl<'a> InputObject<'a> {
-    /// The used sections of a file; `DecompressData` and `ObjectRead` for the first that can't be used.
+    /// The used sections of a file; `DecompressData` and `ObjectRead` for the first that can't be
+    /// used.
     #[tactic(auto, unfolding(crate::specs::Used::object_of))]
     pub fn read(alloc: Global, file: &ElfFile<'a>) -> Result<InputObject<'a>, Error>
         ensures { Gives object result (spec.object_of (elf file.now)) }

@@ -18,10 +18,10 @@ ghost use Rattle.thorin_builder.specs.Represents.{IsSoundBegun};
 ghost use Rattle.thorin_builder.specs.State.{InProgress};
 
 use crate::joins::inputs_are_joined;
-use thorin_parts::written_index_is_read;
+use thorin_parts::laws::written_index_is_read;
 
-/// The law of the one encoding: where the inputs of a builder have one, there are units, and all of them
-/// come from inputs of it; an input that is taken keeps that so. It does nothing.
+/// The law of the one encoding: where the inputs of a builder have one, there are units, and all of
+/// them come from inputs of it; an input that is taken keeps that so. It does nothing.
 pub fn one_encoding_is_kept()
     ensures { (bytes : List ℕ) (old new : State) → IsSoundBegun old.begun → HoldsOwn old → taken bytes old ≡ Ok new → HoldsOwn new }
 {
@@ -29,9 +29,9 @@ pub fn one_encoding_is_kept()
 }
 
 /// The law of own packages up to their parts: the bytes of a written package whose units come from
-/// inputs of one encoding pass the tests of the file, its sections, its encoding, its byte order and both
-/// indexes, in a package of their byte order or a new one; and its sections are taken as parts where they
-/// are in the format and its string offsets can be rewritten. It does nothing.
+/// inputs of one encoding pass the tests of the file, its sections, its encoding, its byte order
+/// and both indexes, in a package of their byte order or a new one; and its sections are taken as
+/// parts where they are in the format and its string offsets can be rewritten. It does nothing.
 pub fn own_packages_are_taken_up_to_their_parts()
     ensures tests { (state : State) (encoding : Encoding) (file : Object) → IsOwn state encoding file
         → (before : Option InProgress) → order_of before file.order ≡ file.order → TakesUpToParts file encoding before }
@@ -41,8 +41,8 @@ pub fn own_packages_are_taken_up_to_their_parts()
     written_index_is_read();
 }
 
-/// The law of longer abbreviations: the identity that a unit has by a table of abbreviations it has too
-/// where more bytes follow the table (DWARF 5, 7.5.3). It does nothing.
+/// The law of longer abbreviations: the identity that a unit has by a table of abbreviations it has
+/// too where more bytes follow the table (DWARF 5, 7.5.3). It does nothing.
 pub fn identities_stay_in_longer_abbreviations()
     ensures { (order : Endianness) (table rest : List ℕ) (unit : Unit) (name : Option DwarfObject)
         → identity (section order table) unit ≡ Ok name → identity (section order (table ++ rest)) unit ≡ Ok name }

@@ -36,7 +36,8 @@ use std::path::Path;
 use thorin_executable::{Skeleton, SkeletonList, skeletons};
 use thorin_faults::{Error, InputError, MissingReferencedObjectBehaviour, Session};
 
-/// A package that is made of input objects, one after another. What inputs hold is kept by a session.
+/// A package that is made of input objects, one after another. What inputs hold is kept by a
+/// session.
 #[derive(Drop)]
 pub struct DwarfPackage<'output, 'session: 'output, Sess: Session<RelocationEntry>> {
     alloc: Global,
@@ -98,8 +99,11 @@ impl<'output, 'session: 'output, Sess: Session<RelocationEntry>> DwarfPackage<
         }
     }
 
-    /// Adds the object that the session reads at a path: `ReadInput` where it can't, `Memory` where the
-    /// session has none, else as `add_object_bytes`. An `Err` leaves the package as it was.
+    /// Adds the object that the session reads at a path.
+    ///
+    /// # Errors
+    /// `ReadInput` where the session can't read it, `Memory` where it has none, else those of
+    /// `add_object_bytes`. An `Err` leaves the package as it was.
     pub fn add_input_object(&mut self, path: Path<'_>) -> Result<(), Error>
         ensures taken { TakesFile (Sess.offer self.old.session (path_bytes path.entry)) self.old.state result self.new.state }
         ensures session { self.new.session ≡ self.old.session }
@@ -109,7 +113,11 @@ impl<'output, 'session: 'output, Sess: Session<RelocationEntry>> DwarfPackage<
         self.add_input_by(session, &mut room, path)
     }
 
-    /// The same of the object that a reader reads at a path, into room that is free again afterwards.
+    /// The same of the object that a reader reads at a path, into room that is free again
+    /// afterwards.
+    ///
+    /// # Errors
+    /// Those of `add_input_object`.
     pub fn add_input_by<R: InputReader>(
         &mut self,
         reader: &R,
@@ -126,20 +134,23 @@ impl<'output, 'session: 'output, Sess: Session<RelocationEntry>> DwarfPackage<
         }
     }
 
-    /// Adds an object or a finished package: its units that aren't contained, with all that belongs to
-    /// them (DWARF 5, 7.3.5).
-    /// An object without split units' info section adds nothing and begins the package. An `Err` leaves
-    /// the package as it was; it is `Memory`, or the first fault from left to right: of the file's kind
-    /// (`ParseFileKind`, `InvalidInputKind`), the ELF file (`ParseObjectFile`), the used sections
-    /// (`DecompressData`, `ObjectRead`), the first unit (`ParseUnitHeader`, `NoCompilationUnits`), the
-    /// byte order (`MixedInputEncodings`), both indexes (`ParseIndex`, `IncompatibleIndexVersion`), each
-    /// section's kind and string offsets (`RepeatedSection`, `SectionOutsideFormat`,
-    /// `MissingRequiredSection`, `BadStringOffsets`, `OverlappingStringOffsets`, `OffsetAtIndex`,
-    /// `StrAtOffset`, `NumberTooLarge`), the abbreviations (`MissingRequiredSection`), the units in file
-    /// order: of a package a second section of units (`MultipleDebugInfoSection`,
-    /// `MultipleDebugTypesSection`), `ParseUnitHeader`, what `dwo_identifier_of_unit` answers,
-    /// `NotSplitUnit`, `DuplicateUnit`, `EmptyUnit`, and of a package `UnitNotInIndex`, `RowNotInIndex`,
-    /// `BadContribution`, `SectionNotInRow`.
+    /// Adds an object or a finished package: its units that aren't contained, with all that belongs
+    /// to them (DWARF 5, 7.3.5). An object without split units' info section adds nothing and
+    /// begins the package.
+    ///
+    /// # Errors
+    /// An `Err` leaves the package as it was; it is `Memory`, or the first fault from left to
+    /// right: of the file's kind (`ParseFileKind`, `InvalidInputKind`), the ELF file
+    /// (`ParseObjectFile`), the used sections (`DecompressData`, `ObjectRead`), the first unit
+    /// (`ParseUnitHeader`, `NoCompilationUnits`), the byte order (`MixedInputEncodings`), both
+    /// indexes (`ParseIndex`, `IncompatibleIndexVersion`), each section's kind and string offsets
+    /// (`RepeatedSection`, `SectionOutsideFormat`, `MissingRequiredSection`, `BadStringOffsets`,
+    /// `OverlappingStringOffsets`, `OffsetAtIndex`, `StrAtOffset`, `NumberTooLarge`), the
+    /// abbreviations (`MissingRequiredSection`), the units in file order: of a package a second
+    /// section of units (`MultipleDebugInfoSection`, `MultipleDebugTypesSection`),
+    /// `ParseUnitHeader`, what `dwo_identifier_of_unit` answers, `NotSplitUnit`, `DuplicateUnit`,
+    /// `EmptyUnit`, and of a package `UnitNotInIndex`, `RowNotInIndex`, `BadContribution`,
+    /// `SectionNotInRow`.
     #[tactic(auto, unfolding(crate::specs::Builder::taken))]
     pub fn add_object_bytes(&mut self, bytes: &[u8]) -> Result<(), Error>
         ensures meaning { Gives (λ _. self.new.state) result (spec.taken bytes.now self.old.state) }
@@ -162,15 +173,17 @@ impl<'output, 'session: 'output, Sess: Session<RelocationEntry>> DwarfPackage<
         Ok(())
     }
 
-    /// Adds the objects that the executable at a path refers to, in the order of its units: of a compilation
-    /// unit that isn't contained and of each type unit the object at the path that is named beside it. Each
-    /// such compilation unit joins the targets, which `finish` wants to be contained, before its object is
-    /// read; with `Skip` an object that can't be read is passed over.
+    /// Adds the objects that the executable at a path refers to, in the order of its units: of a
+    /// compilation unit that isn't contained and of each type unit the object at the path that is
+    /// named beside it. Each such compilation unit joins the targets, which `finish` wants to be
+    /// contained, before its object is read; with `Skip` an object that can't be read is passed
+    /// over.
     ///
     /// # Errors
-    /// `ReadInput` where the executable, or with `Error` an object, can't be read; what `skeletons` answers, at
-    /// its place in the list; what `add_object_bytes` answers of an object; `Memory`. An `Err` leaves the
-    /// objects that were accepted before and the targets, that of the refused object among them.
+    /// `ReadInput` where the executable, or with `Error` an object, can't be read; what `skeletons`
+    /// answers, at its place in the list; what `add_object_bytes` answers of an object; `Memory`.
+    /// An `Err` leaves the objects that were accepted before and the targets, that of the refused
+    /// object among them.
     pub fn add_executable(
         &mut self,
         path: Path<'_>,
@@ -184,8 +197,11 @@ impl<'output, 'session: 'output, Sess: Session<RelocationEntry>> DwarfPackage<
         self.add_executable_by(session, &mut room, path, missing)
     }
 
-    /// The same with a reader, which reads the executable, and then each object, into room that is free
-    /// again afterwards. The executable's relocations are placed in the session.
+    /// The same with a reader, which reads the executable, and then each object, into room that is
+    /// free again afterwards. The executable's relocations are placed in the session.
+    ///
+    /// # Errors
+    /// Those of `add_executable`.
     pub fn add_executable_by<R: InputReader>(
         &mut self,
         reader: &R,
@@ -206,7 +222,7 @@ impl<'output, 'session: 'output, Sess: Session<RelocationEntry>> DwarfPackage<
         }
     }
 
-    // Adds the objects of the units that an executable's bytes refer to.
+    /// Adds the objects of the units that an executable's bytes refer to.
     fn add_listed<R: InputReader>(
         &mut self,
         reader: &R,
@@ -229,7 +245,7 @@ impl<'output, 'session: 'output, Sess: Session<RelocationEntry>> DwarfPackage<
         }
     }
 
-    // Adds the objects of units that an executable refers to, up to the first refusal.
+    /// Adds the objects of units that an executable refers to, up to the first refusal.
     fn add_each<R: InputReader>(
         &mut self,
         reader: &R,
@@ -249,7 +265,7 @@ impl<'output, 'session: 'output, Sess: Session<RelocationEntry>> DwarfPackage<
         Ok(())
     }
 
-    // Adds the object of a unit that an executable refers to.
+    /// Adds the object of a unit that an executable refers to.
     fn add_skeleton<R: InputReader>(
         &mut self,
         reader: &R,
@@ -267,7 +283,7 @@ impl<'output, 'session: 'output, Sess: Session<RelocationEntry>> DwarfPackage<
         self.add_referred(reader, room, Path::new(skeleton.path.as_str()), missing)
     }
 
-    // Whether a unit is a compilation unit that the package has.
+    /// Whether a unit is a compilation unit that the package has.
     fn is_there(&self, target: DwarfObject) -> bool
         ensures { result ≡ is_there target self.now.state }
     {
@@ -277,7 +293,8 @@ impl<'output, 'session: 'output, Sess: Session<RelocationEntry>> DwarfPackage<
         }
     }
 
-    // Adds a compilation unit to the targets. It refuses for memory alone, and then changes nothing.
+    /// Adds a compilation unit to the targets. It refuses for memory alone, and then changes
+    /// nothing.
     fn add_target(&mut self, target: DwarfObject) -> Result<(), Error>
         ensures target { OnOk result (self.new.state ≡ with_target target self.old.state) }
         ensures refused { IfErr result (λ e. (e ≡ Error.Memory) × (self.new.state ≡ self.old.state)) }
@@ -292,7 +309,8 @@ impl<'output, 'session: 'output, Sess: Session<RelocationEntry>> DwarfPackage<
         }
     }
 
-    // Adds the object at a path that an executable refers to; one that can't be read may be passed over.
+    /// Adds the object at a path that an executable refers to; one that can't be read may be passed
+    /// over.
     fn add_referred<R: InputReader>(
         &mut self,
         reader: &R,
@@ -313,10 +331,13 @@ impl<'output, 'session: 'output, Sess: Session<RelocationEntry>> DwarfPackage<
         }
     }
 
-    /// The object to be written. Refuses with `MissingReferencedUnit` for the first unit that an
-    /// executable refers to and that isn't contained, with `NoOutputObjectCreated` where no input
-    /// began a package, for the rows of each index with `NumberTooLarge`, `MixedInputEncodings` and
-    /// `SectionOutsideFormat`, as `write_index` does, and with `Memory`.
+    /// The object to be written.
+    ///
+    /// # Errors
+    /// `MissingReferencedUnit` for the first unit that an executable refers to and that isn't
+    /// contained, `NoOutputObjectCreated` where no input began a package, for the rows of each
+    /// index `NumberTooLarge`, `MixedInputEncodings` and `SectionOutsideFormat`, as `write_index`
+    /// has them, and `Memory`.
     pub fn finish(self) -> Result<WritableObject, Error>
         ensures refusal { Gives (λ _. tt) result (spec.finish_test self.entry.state) }
         ensures finished { IfOk result (IsFinishedState self.entry.state) }
@@ -368,9 +389,9 @@ impl<'output, 'session: 'output, Sess: Session<RelocationEntry>> DwarfPackage<
         }
     }
 
-    /// The signatures of type units that were passed over and whose bytes differ from those of the unit
-    /// of their name that is kept, in the order of passing over, as often as it happened. It takes no
-    /// memory.
+    /// The signatures of type units that were passed over and whose bytes differ from those of the
+    /// unit of their name that is kept, in the order of passing over, as often as it happened. It
+    /// takes no memory.
     pub fn differing_types(&self) -> &[DebugTypeSignature]
         ensures { map (λ s. s.0) result.now ≡ spec.differing_in self.now.state }
     {
@@ -380,9 +401,10 @@ impl<'output, 'session: 'output, Sess: Session<RelocationEntry>> DwarfPackage<
         }
     }
 
-    /// Whether the package, once it is finished and written, may be an input again: every accepted input
-    /// was a plain object that added a unit, all their units have one encoding, those that were passed over
-    /// too, and there are abbreviations and, where there are string offsets, strings. It takes no memory.
+    /// Whether the package, once it is finished and written, may be an input again: every accepted
+    /// input was a plain object that added a unit, all their units have one encoding, those that
+    /// were passed over too, and there are abbreviations and, where there are string offsets,
+    /// strings. It takes no memory.
     pub fn packs_again(&self) -> bool
         ensures exact { result ≡ packs_again self.now.state }
         ensures encoding { IsTrue result → HasOneEncoding self.now.state }
@@ -393,8 +415,8 @@ impl<'output, 'session: 'output, Sess: Session<RelocationEntry>> DwarfPackage<
         }
     }
 
-    /// The units that executables refer to and that aren't contained, in order of insertion. It takes no
-    /// memory.
+    /// The units that executables refer to and that aren't contained, in order of insertion. It
+    /// takes no memory.
     pub fn missing_targets(&self) -> MissingTargets<'_>
         ensures { missing_left result ≡ filter (spec.is_missing (spec.names_in self.now.state.begun)) self.now.state.targets }
     {
@@ -402,7 +424,7 @@ impl<'output, 'session: 'output, Sess: Session<RelocationEntry>> DwarfPackage<
     }
 }
 
-// How many units a package has, where an input has begun one.
+/// How many units a package has, where an input has begun one.
 fn unit_count(in_progress: &Option<InProgressDwarfPackage>) -> usize
     ensures { result ≡ length (spec.names_in (begun_of in_progress.now)) }
 {
@@ -412,7 +434,7 @@ fn unit_count(in_progress: &Option<InProgressDwarfPackage>) -> usize
     }
 }
 
-// `MissingReferencedUnit` for the first unit that executables refer to and that isn't contained.
+/// `MissingReferencedUnit` for the first unit that executables refer to and that isn't contained.
 #[tactic(auto, unfolding(crate::specs::Builder::targets_test))]
 fn test_targets(
     contained: &IndexSet<DwarfObject>,

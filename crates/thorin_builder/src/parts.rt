@@ -46,7 +46,7 @@ impl<'a> Part<'a> {
     }
 }
 
-// Whether packages of an encoding's version have a section of this kind.
+/// Whether packages of an encoding's version have a section of this kind.
 fn is_in_format(encoding: Encoding, kind: SectionKind) -> bool
     ensures { result ≡ spec.is_in_format encoding kind }
 {
@@ -59,7 +59,7 @@ fn is_in_format(encoding: Encoding, kind: SectionKind) -> bool
     }
 }
 
-// Whether a section goes to the package whole and as it is.
+/// Whether a section goes to the package whole and as it is.
 fn is_copied(kind: SectionKind) -> bool
     ensures { result ≡ spec.is_copied kind }
 {
@@ -75,7 +75,7 @@ fn is_copied(kind: SectionKind) -> bool
     }
 }
 
-// Whether a part of a kind is there.
+/// Whether a part of a kind is there.
 fn has_part(parts: &[Part<'_>], kind: SectionKind) -> bool
     ensures { result ≡ spec.has_part kind (map view.part parts.now) }
 {
@@ -87,7 +87,7 @@ fn has_part(parts: &[Part<'_>], kind: SectionKind) -> bool
     false
 }
 
-// Whether an input may have one section of a kind alone.
+/// Whether an input may have one section of a kind alone.
 fn stands_once(source: &Source<'_>, kind: SectionKind) -> bool
     ensures { result ≡ spec.stands_once (view.source source.now) kind }
 {
@@ -95,8 +95,8 @@ fn stands_once(source: &Source<'_>, kind: SectionKind) -> bool
         || source.encoding.is_std_dwarf_package_format() && kind.is(SectionKind::StrOffsets)
 }
 
-// String offsets that name their strings in the table: those of a package range by range. An `Err` may
-// leave strings behind those before.
+/// String offsets that name their strings in the table: those of a package range by range. An `Err`
+/// may leave strings behind those before.
 #[tactic(auto, unfolding(crate::specs::Parts::rewritten))]
 fn rewritten(
     alloc: Global,
@@ -127,7 +127,7 @@ fn rewritten(
     }
 }
 
-// Adds a section of string offsets, rewritten. An `Err` may leave strings behind those before.
+/// Adds a section of string offsets, rewritten. An `Err` may leave strings behind those before.
 #[tactic(auto, unfolding(crate::specs::Parts::with_offsets))]
 fn add_offsets<'a>(
     alloc: Global,
@@ -152,8 +152,8 @@ fn add_offsets<'a>(
     Ok(())
 }
 
-// Adds what a section adds: `RepeatedSection`, `SectionOutsideFormat`, `MissingRequiredSection`, and the
-// faults of string offsets.
+/// Adds what a section adds: `RepeatedSection`, `SectionOutsideFormat`, `MissingRequiredSection`,
+/// and the faults of string offsets.
 #[tactic(auto, unfolding(crate::specs::Parts::with_part))]
 fn add_part<'a>(
     alloc: Global,
@@ -185,9 +185,9 @@ fn add_part<'a>(
     Ok(())
 }
 
-/// What an input adds to sections beside its units, in file order, its string offsets rewritten over
-/// the strings of the package: the first fault of its sections. An `Err` may leave strings behind those
-/// before.
+/// What an input adds to sections beside its units, in file order, its string offsets rewritten
+/// over the strings of the package: the first fault of its sections. An `Err` may leave strings
+/// behind those before.
 #[tactic(auto, unfolding(crate::specs::Parts::with_each_part))]
 pub(crate) fn parts_of<'a>(
     alloc: Global,

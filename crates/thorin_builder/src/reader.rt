@@ -15,7 +15,10 @@ pub trait InputReader {
     // What a read of the file at a path may answer.
     ghost offer: { Self → List ℕ → Result (List ℕ) IoError → Type 0 };
 
-    /// Reads the file at a path, into the room or elsewhere. Want of memory is `InputError::Memory`.
+    /// Reads the file at a path, into the room or elsewhere.
+    ///
+    /// # Errors
+    /// Why it couldn't be read; want of memory is `InputError::Memory`.
     fn read_into<'b>(
         &'b self,
         path: Path<'_>,

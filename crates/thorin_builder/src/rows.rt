@@ -28,14 +28,15 @@ use thorin_faults::Error;
 use thorin_packaged::RowPlaces;
 use thorin_parts::{ContributionAdjustor, IndexEntry};
 
-/// Where the whole of each section that units share comes to lie, as the row of a unit that has all of it.
+/// Where the whole of each section that units share comes to lie, as the row of a unit that has all
+/// of it.
 #[derive(Clone, Copy)]
 pub(crate) struct Whole {
     pub row: IndexEntry,
     ghost fits: { EndsFit row },
 }
 
-// How many bytes parts add to the section of a kind. `Memory` where no memory could hold them.
+/// How many bytes parts add to the section of a kind. `Memory` where no memory could hold them.
 fn added(parts: &[Part<'_>], kind: SectionKind) -> Result<usize, Error>
     ensures size { IfOk result (λ size. size ≡ length (joined_parts kind (map view.part parts.now))) }
     ensures refused { IfErr result (λ e. e ≡ Error.Memory) }
@@ -49,8 +50,8 @@ fn added(parts: &[Part<'_>], kind: SectionKind) -> Result<usize, Error>
     Ok(size)
 }
 
-// Where the whole of the section of a kind comes to lie once parts are put. `Memory` where no memory
-// could hold it.
+/// Where the whole of the section of a kind comes to lie once parts are put. `Memory` where no
+/// memory could hold it.
 fn whole_range(
     file: &WritableObject,
     parts: &[Part<'_>],
@@ -75,8 +76,8 @@ fn whole_range(
 }
 
 impl Whole {
-    /// Where the whole of each section comes to lie once parts are put behind the contents of a file. It
-    /// refuses for memory alone.
+    /// Where the whole of each section comes to lie once parts are put behind the contents of a
+    /// file. It refuses for memory alone.
     #[tactic(auto, unfolding(crate::specs::Rows::whole_row))]
     pub fn of(encoding: Encoding, file: &WritableObject, parts: &[Part<'_>]) -> Result<Whole, Error>
         ensures row { IfOk result (λ whole. whole.row ≡ spec.whole_row encoding file.now.contents (map view.part parts.now)) }
@@ -109,7 +110,7 @@ impl Whole {
     }
 }
 
-// A unit's part of a section which as a whole lies there in the package.
+/// A unit's part of a section which as a whole lies there in the package.
 fn adjusted_part(
     indexes: &Indexes<'_>,
     name: DwarfObject,
@@ -163,7 +164,7 @@ pub(crate) fn unit_row(
     })
 }
 
-// A unit's range of its section.
+/// A unit's range of its section.
 fn own_range<'a>(header: &UnitHeader<SliceReader<'a>>) -> Contribution
     ensures { result ≡ spec.own_range (unit_of ⟦<SliceReader<'a> as Reader>⟧.input header.now) }
 {
@@ -202,8 +203,8 @@ impl<'i, 'a> Places<'i, 'a> {
     }
 }
 
-/// `UnitNotInIndex` where, in a package, a unit's row by place isn't the one that looking its identifier
-/// up gives.
+/// `UnitNotInIndex` where, in a package, a unit's row by place isn't the one that looking its
+/// identifier up gives.
 #[tactic(auto, unfolding(crate::specs::Rows::row_test))]
 pub(crate) fn test_row<'a>(
     indexes: &Indexes<'_>,
@@ -230,8 +231,8 @@ pub(crate) fn test_row<'a>(
     }
 }
 
-// Where the abbreviations of a row stand; none where it has none. `BadContribution` where they are outside
-// the section.
+/// Where the abbreviations of a row stand; none where it has none. `BadContribution` where they are
+/// outside the section.
 #[tactic(auto, unfolding(crate::specs::Rows::row_abbreviations))]
 fn row_abbreviations(bytes: &[u8], row: &Row<'_>) -> Result<Option<Contribution>, Error>
     ensures part { Gives (part_of bytes.now) result (spec.row_abbreviations bytes.now row.now) }
@@ -247,7 +248,7 @@ fn row_abbreviations(bytes: &[u8], row: &Row<'_>) -> Result<Option<Contribution>
     Ok(Some(range))
 }
 
-// Those of the row of a number of an index.
+/// Those of the row of a number of an index.
 #[tactic(auto, unfolding(crate::specs::Rows::numbered_abbreviations))]
 fn numbered_abbreviations(
     bytes: &[u8],
@@ -266,7 +267,7 @@ fn numbered_abbreviations(
     }
 }
 
-// The range of all bytes.
+/// The range of all bytes.
 fn whole_range_of(bytes: &[u8]) -> Option<Contribution>
     ensures part { part_of bytes.now result ≡ bytes.now }
     ensures inside { is_outside bytes.now result ≡ false }
@@ -277,8 +278,9 @@ fn whole_range_of(bytes: &[u8]) -> Option<Contribution>
     })
 }
 
-/// Where in the first section of abbreviations those stand that a unit's identity is read with: all of it;
-/// for a compile unit of a package those of its row by place (`UnitNotInIndex`, `BadContribution`).
+/// Where in the first section of abbreviations those stand that a unit's identity is read with: all
+/// of it; for a compile unit of a package those of its row by place (`UnitNotInIndex`,
+/// `BadContribution`).
 #[tactic(auto, unfolding(crate::specs::Rows::abbreviations_for))]
 pub(crate) fn abbreviations_for<'a>(
     source: &Source<'a>,

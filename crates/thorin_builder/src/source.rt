@@ -29,7 +29,7 @@ pub(crate) struct Source<'a> {
     pub indexes: Indexes<'a>,
 }
 
-// The index that the first section of a kind is; none where there is no such section.
+/// The index that the first section of a kind is; none where there is no such section.
 #[tactic(auto, unfolding(crate::specs::Indexes::index_in))]
 fn index_in<'a>(object: &InputObject<'a>, kind: SectionKind) -> Result<Option<UnitIndex<'a>>, Error>
     ensures { Gives (λ index. index) result (spec.index_in (view.object object.now).order kind (first kind (view.object object.now).sections)) }
@@ -44,7 +44,7 @@ fn index_in<'a>(object: &InputObject<'a>, kind: SectionKind) -> Result<Option<Un
     }
 }
 
-// `IncompatibleIndexVersion` where an index has a version that doesn't go with the encoding.
+/// `IncompatibleIndexVersion` where an index has a version that doesn't go with the encoding.
 fn test_version(
     encoding: Encoding,
     kind: SectionKind,

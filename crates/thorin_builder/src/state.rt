@@ -39,7 +39,7 @@ struct Mark {
     differing: usize,
 }
 
-// The section of a place.
+/// The section of a place.
 fn kind_at(place: UnitSection) -> SectionKind
     ensures { result ≡ spec.kind_at place }
 {
@@ -49,7 +49,7 @@ fn kind_at(place: UnitSection) -> SectionKind
     }
 }
 
-// The bytes of a range of a section's content; none where it is absent or outside.
+/// The bytes of a range of a section's content; none where it is absent or outside.
 fn part_of(content: &[u8], range: Option<Contribution>) -> &[u8]
     ensures { result.now ≡ part_of content.now range }
 {
@@ -64,7 +64,8 @@ fn part_of(content: &[u8], range: Option<Contribution>) -> &[u8]
     &content[start..start + range.size as usize]
 }
 
-// The bytes of the unit of a row: its range of types, where it is a type unit and has one, else of info.
+/// The bytes of the unit of a row: its range of types, where it is a type unit and has one, else of
+/// info.
 fn unit_bytes<'p>(object: &'p WritableObject, row: &IndexEntry) -> &'p [u8]
     ensures { result.now ≡ spec.unit_bytes object.now.contents row.now }
 {
@@ -146,7 +147,8 @@ impl InProgressDwarfPackage {
         }
     }
 
-    /// Adds the units of an input with all that belongs to them. An `Err` leaves the package as it was.
+    /// Adds the units of an input with all that belongs to them. An `Err` leaves the package as it
+    /// was.
     pub(crate) fn add(&mut self, source: &Source<'_>) -> Result<(), Error>
         ensures meaning { Gives (λ _. in_progress_of self.new) result (spec.with_source (view.source source.now) (in_progress_of self.old)) }
         ensures err { OnErr result (in_progress_of self.new ≡ in_progress_of self.old) }
@@ -159,7 +161,7 @@ impl InProgressDwarfPackage {
         added
     }
 
-    // The same, but an `Err` may leave more than there was.
+    /// The same, but an `Err` may leave more than there was.
     #[tactic(auto, unfolding(crate::specs::State::with_source, crate::specs::State::abbreviations_test))]
     fn try_add(&mut self, source: &Source<'_>) -> Result<(), Error>
         ensures meaning { Gives (λ _. in_progress_of self.new) result (spec.with_source (view.source source.now) (in_progress_of self.old)) }
@@ -183,7 +185,7 @@ impl InProgressDwarfPackage {
         Ok(())
     }
 
-    // Adds units. It refuses for memory alone.
+    /// Adds units. It refuses for memory alone.
     #[tactic(auto, unfolding(crate::specs::State::with_new_units))]
     fn add_units(&mut self, new: &NewUnits<'_>) -> Result<(), Error>
         ensures meaning { OnOk result (in_progress_of self.new ≡ spec.with_new_units (in_progress_of self.old) (new_of new.now).units) }
@@ -196,7 +198,7 @@ impl InProgressDwarfPackage {
         Ok(())
     }
 
-    // Adds a unit whose name isn't there. It refuses for memory alone.
+    /// Adds a unit whose name isn't there. It refuses for memory alone.
     #[tactic(auto, unfolding(crate::specs::State::with_new_unit))]
     fn add_unit(&mut self, name: DwarfObject, unit: NewUnit<'_>) -> Result<(), Error>
         ensures meaning { OnOk result (in_progress_of self.new ≡ spec.with_new_unit (in_progress_of self.old) (name, new_unit unit.entry)) }
@@ -219,7 +221,7 @@ impl InProgressDwarfPackage {
         Ok(())
     }
 
-    // How much of the package there is. It refuses for memory alone.
+    /// How much of the package there is. It refuses for memory alone.
     fn mark(&self) -> Result<Mark, Error>
         ensures mark { IfOk result (λ mark. mark_in mark ≡ spec.mark_of (in_progress_of self.now)) }
         ensures strings { IfOk result (λ mark. mark.strings ≡ mark_of self.now.strings) }
@@ -233,7 +235,7 @@ impl InProgressDwarfPackage {
         })
     }
 
-    // Takes back what was added since.
+    /// Takes back what was added since.
     fn restore(&mut self, mark: &Mark)
         requires { mark.now.strings ≡ mark_of (take mark.now.strings.strings self.old.strings) }
         ensures { (before : spec.InProgress) → spec.Extends before (in_progress_of self.old) → mark_in mark.now ≡ spec.mark_of before → in_progress_of self.new ≡ before }
@@ -245,8 +247,8 @@ impl InProgressDwarfPackage {
         self.names.truncate(mark.rows);
     }
 
-    /// The sections with the strings and both indexes, each where it isn't empty, and the signatures of
-    /// type units that differ. The sections refuse as `write_index` does.
+    /// The sections with the strings and both indexes, each where it isn't empty, and the
+    /// signatures of type units that differ. The sections refuse as `write_index` does.
     pub(crate) fn finish(self) -> (Result<WritableObject, Error>, Vec<DebugTypeSignature>)
         ensures refusal { Gives (λ _. tt) result.0 (indexes_test (in_progress_of self)) }
         ensures finished { IfOk result.0 (IsFinished (in_progress_of self)) }
@@ -266,7 +268,8 @@ impl InProgressDwarfPackage {
     }
 }
 
-// The sections with the strings and both indexes, each where it isn't empty. Refuses as `write_index` does.
+/// The sections with the strings and both indexes, each where it isn't empty. Refuses as
+/// `write_index` does.
 #[tactic(auto, unfolding(crate::specs::Builder::indexes_test))]
 fn finished(
     alloc: Global,
@@ -287,7 +290,7 @@ fn finished(
     Ok(object)
 }
 
-// Whether a name is that of a compilation unit.
+/// Whether a name is that of a compilation unit.
 fn is_compilation(name: DwarfObject) -> bool
     ensures { result ≡ is_compilation name }
 {
@@ -297,7 +300,7 @@ fn is_compilation(name: DwarfObject) -> bool
     }
 }
 
-// The rows of compilation units, or those of type units.
+/// The rows of compilation units, or those of type units.
 fn rows_of(alloc: Global, rows: &[IndexEntry], compilations: bool) -> Result<Vec<IndexEntry>, Error>
     ensures rows { IfOk result (λ chosen. chosen.items ≡ rows_of compilations rows.now) }
     ensures refused { IfErr result (λ e. e ≡ Error.Memory) }
@@ -311,7 +314,8 @@ fn rows_of(alloc: Global, rows: &[IndexEntry], compilations: bool) -> Result<Vec
     Ok(chosen)
 }
 
-// The identifiers of rows have 64 bits, as their type says: what the law of written indexes asks of numbers.
+/// The identifiers of rows have 64 bits, as their type says: what the law of written indexes asks
+/// of numbers.
 fn identifiers_fit(rows: &[IndexEntry])
     ensures { IdentifiersFit rows.now }
 {

@@ -43,7 +43,7 @@ impl<'a> Model for Tables<'a> {
     ghost invariant = { λ t. ⟦<SliceReader<'static> as Reader>⟧.input t.cache ≡ section t.order (part_of t.bytes.now t.range) };
 }
 
-// The bytes of a part of a section.
+/// The bytes of a part of a section.
 fn part<'a>(bytes: &'a [u8], range: Option<Contribution>) -> &'a [u8]
     requires { is_outside bytes.now range ≡ false }
     ensures { result.now ≡ part_of bytes.now range }
@@ -78,8 +78,8 @@ impl<'a> Tables<'a> {
         self.bytes
     }
 
-    /// What `dwo_identifier_of_unit` says of a unit whose abbreviations stand in a part of the section.
-    /// Units that use one table in one part, one after the other, read it once.
+    /// What `dwo_identifier_of_unit` says of a unit whose abbreviations stand in a part of the
+    /// section. Units that use one table in one part, one after the other, read it once.
     pub fn identifier(
         &mut self,
         range: Option<Contribution>,

@@ -38,7 +38,8 @@ pub(crate) struct NewUnits<'a> {
     pub differing: Vec<DebugTypeSignature>,
 }
 
-/// What units are added to: an input, where the whole of its sections comes to lie, and the package.
+/// What units are added to: an input, where the whole of its sections comes to lie, and the
+/// package.
 #[derive(Clone, Copy)]
 pub(crate) struct Adding<'i, 'a> {
     pub source: &'i Source<'a>,
@@ -46,7 +47,7 @@ pub(crate) struct Adding<'i, 'a> {
     pub package: &'i InProgressDwarfPackage,
 }
 
-// Which sections of units came before, and what was read of abbreviations.
+/// Which sections of units came before, and what was read of abbreviations.
 #[derive(Drop)]
 struct Met<'a> {
     info: bool,
@@ -54,7 +55,7 @@ struct Met<'a> {
     tables: Tables<'a>,
 }
 
-// Type units go where they stand, every other unit to info.
+/// Type units go where they stand, every other unit to info.
 fn place_for(name: DwarfObject, kind: SectionKind) -> UnitSection
     ensures { result ≡ spec.place_for name kind }
 {
@@ -75,7 +76,7 @@ pub(crate) fn unit_section(kind: SectionKind) -> Option<UnitSection>
     }
 }
 
-// `MultipleDebugInfoSection` or `MultipleDebugTypesSection` where a package has a second one.
+/// `MultipleDebugInfoSection` or `MultipleDebugTypesSection` where a package has a second one.
 #[tactic(auto, unfolding(crate::specs::NewUnits::once_test))]
 fn test_once(adding: &Adding<'_, '_>, place: UnitSection, met: &Met<'_>) -> Result<(), Error>
     ensures { Gives (λ _. tt) result (spec.once_test (adding_of adding.now) place (met_of met.now)) }
@@ -90,7 +91,7 @@ fn test_once(adding: &Adding<'_, '_>, place: UnitSection, met: &Met<'_>) -> Resu
     }
 }
 
-// The name of a unit that was read in a section.
+/// The name of a unit that was read in a section.
 #[tactic(auto, unfolding(crate::specs::NewUnits::name_for))]
 fn name_for<'a>(
     source: &Source<'a>,
@@ -109,10 +110,10 @@ fn name_for<'a>(
 }
 
 impl<'a> NewUnits<'a> {
-    /// The units that an input adds to what is there, or its first fault: of a package a second section
-    /// of units (`MultipleDebugInfoSection`, `MultipleDebugTypesSection`); unit by unit
-    /// `ParseUnitHeader`, of a package `UnitNotInIndex` and `BadContribution` of a compile unit's row,
-    /// what `dwo_identifier_of_unit` answers, `NotSplitUnit`, `DuplicateUnit`, `EmptyUnit`,
+    /// The units that an input adds to what is there, or its first fault: of a package a second
+    /// section of units (`MultipleDebugInfoSection`, `MultipleDebugTypesSection`); unit by unit
+    /// `ParseUnitHeader`, of a package `UnitNotInIndex` and `BadContribution` of a compile unit's
+    /// row, what `dwo_identifier_of_unit` answers, `NotSplitUnit`, `DuplicateUnit`, `EmptyUnit`,
     /// `UnitNotInIndex`, and what the adjustor of contributions answers.
     #[tactic(auto, unfolding(crate::specs::NewUnits::new_units, crate::specs::NewUnits::with_each_section))]
     pub fn read(alloc: Global, adding: &Adding<'_, 'a>) -> Result<NewUnits<'a>, Error>
@@ -133,7 +134,7 @@ impl<'a> NewUnits<'a> {
         Ok(new)
     }
 
-    // Adds the units of a section.
+    /// Adds the units of a section.
     #[tactic(auto, unfolding(crate::specs::NewUnits::with_section))]
     fn add_section(
         &mut self,
@@ -152,7 +153,7 @@ impl<'a> NewUnits<'a> {
         }
     }
 
-    // Adds the units of a section of units.
+    /// Adds the units of a section of units.
     #[tactic(auto, unfolding(crate::specs::NewUnits::with_section_at, crate::specs::NewUnits::with_each_read))]
     fn add_section_at(
         &mut self,
@@ -179,7 +180,7 @@ impl<'a> NewUnits<'a> {
         Ok(())
     }
 
-    // Adds the unit that was read next.
+    /// Adds the unit that was read next.
     #[tactic(auto, unfolding(crate::specs::NewUnits::with_read))]
     fn add_read(
         &mut self,
@@ -200,7 +201,8 @@ impl<'a> NewUnits<'a> {
         self.add_unit(adding, places, section, name, &header)
     }
 
-    // The bytes that are kept for a name: those of a unit that is added, else those that the package has.
+    /// The bytes that are kept for a name: those of a unit that is added, else those that the
+    /// package has.
     fn kept_bytes<'x>(
         &'x self,
         made: &'x InProgressDwarfPackage,
@@ -214,7 +216,7 @@ impl<'a> NewUnits<'a> {
         }
     }
 
-    // Adds a unit, or passes over a type unit that is kept already.
+    /// Adds a unit, or passes over a type unit that is kept already.
     #[tactic(auto, unfolding(crate::specs::NewUnits::with_unit))]
     fn add_unit(
         &mut self,
@@ -241,7 +243,7 @@ impl<'a> NewUnits<'a> {
         }
     }
 
-    // Adds the first unit of its name.
+    /// Adds the first unit of its name.
     #[tactic(auto, unfolding(crate::specs::NewUnits::with_first))]
     fn add_first(
         &mut self,

@@ -29,7 +29,8 @@ abbrev pub as_status : {A : Type 0} → Result A PackageError → Result A ℤ
 as_status (Ok x) = Ok x
 as_status (Err fault) = Err (status_of fault)
 
--- the name of a unit by its kind: 1 for a compilation unit, 2 for a type unit; 2 is also the status of any other
+-- the name of a unit by its kind: 1 for a compilation unit, 2 for a type unit; 2 is also the status
+-- of any other
 abbrev pub object_of : ℕ → ℕ → Result DwarfObject ℤ
 object_of kind id =
     if kind == 1 then Ok (Compilation (record { 0 = id }))

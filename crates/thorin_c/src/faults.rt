@@ -1,3 +1,5 @@
+//! The numbers of the faults of packing.
+
 ghost use Rattle.std.specs.Prelude.{◌≡◌, take, slice_index};
 ghost use Rattle.thorin_faults.specs.Fault.{fault_of};
 ghost use Rattle.thorin_c.specs.Faults.{number_of, Tells};
@@ -6,7 +8,7 @@ use crate::types::ThorinReport;
 use std::fmt::InlineText;
 use thorin_faults::Error;
 
-// Writes a fault's number and text, with a zero byte behind it.
+/// Writes a fault's number and text, with a zero byte behind it.
 pub(crate) fn tell(fault: Error, report: &mut ThorinReport)
     ensures { Tells (fault_of fault) report.new }
 {
@@ -19,7 +21,7 @@ pub(crate) fn tell(fault: Error, report: &mut ThorinReport)
     report.text_size = len as u32;
 }
 
-// The number of a fault, from 1 on in the order of `Error`.
+/// The number of a fault, from 1 on in the order of `Error`.
 fn number_of(fault: &Error) -> u32
     ensures { result ≡ number_of (fault_of fault.now) }
 {

@@ -1,3 +1,5 @@
+//! The statuses that exports answer.
+
 ghost use Rattle.std.specs.Prelude.{◌≡◌};
 ghost use Rattle.thorin_c.specs.Finding.{status_of};
 

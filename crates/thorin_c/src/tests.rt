@@ -1,3 +1,5 @@
+//! What the exports answer, as a caller sees it.
+
 use crate::{
     ThorinBytes, ThorinLookup, ThorinName, ThorinRange, ThorinReport, ThorinUnit, thorin_content,
     thorin_differing_types, thorin_find, thorin_find_each, thorin_list, thorin_pack, thorin_string,

@@ -1,3 +1,5 @@
+//! What exports take and answer.
+
 /// Bytes that were lent: where they begin, and how many there are.
 #[repr(C)]
 #[derive(Clone, Copy)]

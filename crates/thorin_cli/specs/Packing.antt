@@ -27,15 +27,17 @@ asked (inputs.Executable path missing) = Some (path_bytes path, Some missing)
 abbrev pub object_asked : Bor (List ℕ) → Option (List ℕ × Option MissingReferencedObjectBehaviour)
 object_asked path = Some (path.now, None)
 
-abbrev pub executable_asked : MissingReferencedObjectBehaviour → Bor (List ℕ) → Option (List ℕ × Option MissingReferencedObjectBehaviour)
+abbrev pub executable_asked : MissingReferencedObjectBehaviour → Bor (List ℕ)
+    → Option (List ℕ × Option MissingReferencedObjectBehaviour)
 executable_asked missing path = Some (path.now, Some missing)
 
 -- each input was taken, in order, and none was refused; and the bytes that were read of them
 abbrev pub AreAllAccepted : List Input → (old new : State) → List (List ℕ) → Type 0
-AreAllAccepted list old new accepted = Ran anything list old (map {B = Outcome} (λ input. Ok tt) list) new accepted
+AreAllAccepted list old new accepted =
+    Ran anything list old (map {B = Outcome} (λ input. Ok tt) list) new accepted
 
--- all inputs were taken; the state after that has the units of the bytes that were read, joined; and the object is finished from it, a
--- package of these units
+-- all inputs were taken; the state after that has the units of the bytes that were read, joined;
+-- and the object is finished from it, a package of these units
 pub record IsPackedOf (list : List Input) (object : File) : Type 0 where
   pub state : State
   pub accepted : List (List ℕ)

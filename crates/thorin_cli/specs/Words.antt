@@ -1,7 +1,8 @@
 -- The words of a text, as the manuals of the GNU programs have it for `@FILE`: whitespace
 -- separates; a word, or a part of it, may stand between single or double quotation marks; a
 -- backslash takes the byte behind it, whatever it is.
-use Rattle.std.specs.Prelude.{ℕ, Bool, true, false, ◌==◌, ◌&&◌, ◌||◌, not, nat_le, List, [], ◌∷◌, ◌++◌, Option, Some, None, if◌then◌else◌}
+use Rattle.std.specs.Prelude.{ℕ, Bool, true, false, ◌==◌, ◌&&◌, ◌||◌, not, nat_le, List, [], ◌∷◌}
+use Rattle.std.specs.Prelude.{◌++◌, Option, Some, None, if◌then◌else◌}
 use Rattle.thorin_cli.specs.declared.words.Place.{Place}
 use Rattle.thorin_cli.specs.declared.words.Place.TheVariants.{Between, Inside, Escaped}
 
@@ -22,10 +23,12 @@ is_between _ = false
 -- the place behind a byte that no backslash takes
 abbrev pub behind_in : Option ℕ → ℕ → Place
 behind_in (Some mark) byte =
-    if byte == backslash then Escaped (Some mark) else (if byte == mark then Inside None else Inside (Some mark))
+    if byte == backslash then Escaped (Some mark)
+    else (if byte == mark then Inside None else Inside (Some mark))
 behind_in None byte =
     if byte == backslash then Escaped None
-    else (if is_space byte then Between else (if is_mark byte then Inside (Some byte) else Inside None))
+    else (if is_space byte then Between
+    else (if is_mark byte then Inside (Some byte) else Inside None))
 
 -- the place behind a byte
 abbrev pub behind : Place → ℕ → Place
@@ -54,7 +57,8 @@ abbrev pub words_from : Place → List ℕ → List (List ℕ)
 words_from place [] = if is_between place then [] else ([] ∷ [])
 words_from place (byte ∷ rest) =
     if keeps place byte then put byte (words_from (behind place byte) rest)
-    else (if is_between (behind place byte) && not (is_between place) then [] ∷ words_from (behind place byte) rest
+    else (if is_between (behind place byte) && not (is_between place)
+    then [] ∷ words_from (behind place byte) rest
     else words_from (behind place byte) rest)
 
 -- the words of a text

@@ -37,7 +37,7 @@ pub(crate) fn check<O: Write>(
     Ok(if faults == 0 { 0 } else { 1 })
 }
 
-// Checks a package's bytes. Answers the numbers of units and of faults.
+/// Checks a package's bytes. Answers the numbers of units and of faults.
 fn check_package<W: Write>(
     rt: &HostRuntime,
     bytes: &[u8],
@@ -60,7 +60,7 @@ fn check_package<W: Write>(
     Ok((entries.len(), faults))
 }
 
-// A slot names each row of both indexes. Answers the number of faults.
+/// A slot names each row of both indexes. Answers the number of faults.
 fn check_indexes<W: Write>(
     file: &ElfFile<'_>,
     entries: &[UnitEntry],
@@ -73,7 +73,7 @@ fn check_indexes<W: Write>(
     Ok(compilations.saturating_add(types))
 }
 
-// Each split unit that executables name is in the package. Answers the number of faults.
+/// Each split unit that executables name is in the package. Answers the number of faults.
 fn check_executables<W: Write>(
     rt: &HostRuntime,
     package: &PackageFile<'_>,
@@ -88,7 +88,7 @@ fn check_executables<W: Write>(
     Ok(faults)
 }
 
-// What is wrong with a unit of a package.
+/// What is wrong with a unit of a package.
 #[derive(Debug, Drop)]
 enum Fault {
     // Its identifier isn't found.
@@ -127,14 +127,14 @@ impl fmt::Display for Fault {
     }
 }
 
-// Prints a fault of a unit.
+/// Prints a fault of a unit.
 fn tell<W: Write>(object: DwarfObject, fault: &Fault, lines: &mut W) -> Result<(), Failure> {
     let kind = short_kind(object);
     let id = object.index();
     writeln!(lines, "{kind} 0x{id:016x}: {fault}").map_err(|_| Failure::Line)
 }
 
-// The string offsets of a unit: units that have the same ones have the same strings.
+/// The string offsets of a unit: units that have the same ones have the same strings.
 #[derive(Clone, Copy, PartialEq, Eq, PartialOrd, Ord)]
 struct StringRange {
     offset: u64,
@@ -143,8 +143,8 @@ struct StringRange {
     is_64: bool,
 }
 
-// Checks each unit that a slot names, then the strings of each range of string offsets. Answers the
-// number of faults.
+/// Checks each unit that a slot names, then the strings of each range of string offsets. Answers
+/// the number of faults.
 fn check_units<W: Write>(
     rt: &HostRuntime,
     package: &PackageFile<'_>,
@@ -176,7 +176,7 @@ fn check_units<W: Write>(
     Ok(faults)
 }
 
-// The unit that a slot names.
+/// The unit that a slot names.
 fn check_unit<'a>(
     package: &PackageFile<'a>,
     order: Endianness,
@@ -196,7 +196,7 @@ fn check_unit<'a>(
     }
 }
 
-// The identifier that a unit's own bytes give.
+/// The identifier that a unit's own bytes give.
 fn own_identifier(
     unit: &PackagedUnit<'_>,
     order: Endianness,
@@ -228,7 +228,7 @@ fn string_range(unit: &PackagedUnit<'_>) -> Option<StringRange> {
     })
 }
 
-// Reads each string of a unit. Answers the number of faults.
+/// Reads each string of a unit. Answers the number of faults.
 fn check_strings<W: Write>(
     package: &PackageFile<'_>,
     object: DwarfObject,
@@ -251,7 +251,7 @@ fn check_strings<W: Write>(
     Ok(faults)
 }
 
-// How many rows the index of a kind has: the first that isn't empty.
+/// How many rows the index of a kind has: the first that isn't empty.
 fn row_count(file: &ElfFile<'_>, kind: SectionKind) -> u32 {
     for section in file.sections() {
         if let (Ok(name), Ok(bytes)) = (section.name(), section.data()) {
@@ -264,8 +264,8 @@ fn row_count(file: &ElfFile<'_>, kind: SectionKind) -> u32 {
     0
 }
 
-// A slot names each row of an index; `entries` are in the order of rows. Answers the number of
-// faults.
+/// A slot names each row of an index; `entries` are in the order of rows. Answers the number of
+/// faults.
 fn check_rows<W: Write>(
     entries: &[UnitEntry],
     is_types: bool,
@@ -295,7 +295,7 @@ fn check_rows<W: Write>(
     Ok(faults)
 }
 
-// Each split unit that an executable names is in the package. Answers the number of faults.
+/// Each split unit that an executable names is in the package. Answers the number of faults.
 fn check_executable<W: Write>(
     rt: &HostRuntime,
     package: &PackageFile<'_>,
@@ -308,7 +308,7 @@ fn check_executable<W: Write>(
     check_named(rt.alloc(), &session, package, executable, lines)
 }
 
-// The same, with a session that reads the executable.
+/// The same, with a session that reads the executable.
 fn check_named<'s, Sess: Session<RelocationEntry>, W: Write>(
     alloc: Global,
     session: &'s Sess,
@@ -335,7 +335,7 @@ fn check_named<'s, Sess: Session<RelocationEntry>, W: Write>(
     }
 }
 
-// Prints that the package lacks a unit that an executable names, and the path of its object.
+/// Prints that the package lacks a unit that an executable names, and the path of its object.
 fn tell_missing<W: Write>(
     object: DwarfObject,
     executable: &str,
@@ -351,12 +351,12 @@ fn tell_missing<W: Write>(
     .map_err(|_| Failure::Line)
 }
 
-// Prints why an executable can't be read to its end.
+/// Prints why an executable can't be read to its end.
 fn tell_fault<W: Write>(executable: &str, fault: &Error, lines: &mut W) -> Result<(), Failure> {
     writeln!(lines, "{executable}: {fault}").map_err(|_| Failure::Line)
 }
 
-// The split units that an executable names.
+/// The split units that an executable names.
 fn named_units<Sess: Session<RelocationEntry>>(
     alloc: Global,
     session: &Sess,

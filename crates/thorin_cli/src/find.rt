@@ -48,7 +48,7 @@ pub(crate) fn find<O: Write>(
     }
 }
 
-// The unit that is asked for: first its kind is tested, then its identifier.
+/// The unit that is asked for: first its kind is tested, then its identifier.
 fn object(matches: &ArgMatches<'_>) -> Result<DwarfObject, Failure> {
     let id = matches.get_str("id").unwrap_or("");
     match matches.get_str("kind").unwrap_or("") {
@@ -101,7 +101,7 @@ pub(crate) fn short_kind(object: DwarfObject) -> &'static str {
     }
 }
 
-// How many strings a unit has: the first number that has none.
+/// How many strings a unit has: the first number that has none.
 fn string_count(unit: &PackagedUnit<'_>) -> u64 {
     for i in 0..u64::MAX {
         if let Ok(None) = unit.string(i) {

@@ -14,7 +14,8 @@ pub(crate) fn identifier(text: &str) -> Result<u64, Failure> {
 
 /// The number that 1 to 16 hexadecimal digits write, in either case; none for another text.
 pub fn hexadecimal(digits: &str) -> Option<u64>
-    ensures { MatchOption result (¬ (IsIdentifier digits.now)) (λ n. IsIdentifier digits.now × (n ≡ digits_value 16 digits.now)) }
+    ensures { MatchOption result (¬ (IsIdentifier digits.now)) (λ n. IsIdentifier digits.now
+        × (n ≡ digits_value 16 digits.now)) }
 {
     if digits.is_empty() || digits.len() > 16 || digits.as_bytes()[0] == b'+' {
         return None;

@@ -33,7 +33,7 @@ pub(crate) fn is_device(rt: &HostRuntime, path: &str) -> bool {
     kind.is_char_device() || kind.is_block_device()
 }
 
-// What a failed read of a file is.
+/// What a failed read of a file is.
 fn read_failure(e: &io::Error) -> Failure {
     if e.kind() == io::ErrorKind::OutOfMemory {
         Failure::Memory

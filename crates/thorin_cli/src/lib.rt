@@ -6,6 +6,7 @@ mod command;
 mod find;
 mod identifier;
 mod input;
+pub mod laws;
 mod list;
 mod output;
 mod pack;
@@ -24,7 +25,7 @@ use output::{report, show};
 use pack::Packing;
 use std::convert::AsStr;
 use std::io::Write;
-pub use words::{quoted_words_are_read, split_words};
+pub use words::split_words;
 
 /// Does what a command line asks for: `words` are the program's name and its arguments, where
 /// `@FILE` stands for the words of a file. What is printed goes to `out`, and a fault as one line
@@ -71,8 +72,8 @@ fn run_words<O: Write, E: Write>(
     }
 }
 
-// Prints what is said of a command line that asks for nothing to be done, help among it, and
-// answers the status.
+/// Prints what is said of a command line that asks for nothing to be done, help among it, and
+/// answers the status.
 fn refuse<O: Write, E: Write>(error: &Error, out: &mut O, err: &mut E) -> u8 {
     if error.kind() == ErrorKind::OutOfMemory {
         report(err, &Failure::Memory)
@@ -85,7 +86,7 @@ fn refuse<O: Write, E: Write>(error: &Error, out: &mut O, err: &mut E) -> u8 {
     }
 }
 
-// The program's name where it is that of a peer, whose command lines it then takes.
+/// The program's name where it is that of a peer, whose command lines it then takes.
 fn peer_name(words: &[String]) -> Option<&str> {
     let path = words.first()?.as_str();
     let name = path.rsplit('/').next()?;
@@ -95,7 +96,7 @@ fn peer_name(words: &[String]) -> Option<&str> {
     }
 }
 
-// Does what the words ask for, and answers the status.
+/// Does what the words ask for, and answers the status.
 fn dispatch<O: Write, E: Write>(
     rt: &HostRuntime,
     matches: &ArgMatches<'_>,

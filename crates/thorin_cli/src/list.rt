@@ -61,7 +61,7 @@ pub(crate) fn is_type(object: DwarfObject) -> bool {
     matches!(object, DwarfObject::TypeUnit(_))
 }
 
-// The line of a unit, with its sizes where these are asked for.
+/// The line of a unit, with its sizes where these are asked for.
 fn line<W: Write>(
     object: DwarfObject,
     unit: &PackagedUnit<'_>,

@@ -5,7 +5,8 @@ ghost use Rattle.thorin_builder.specs.Builder.{IsFinishedState};
 ghost use Rattle.thorin_builder.specs.Join.{IsPackageOnceWritten};
 ghost use Rattle.thorin_builder.specs.Represents.{units_in};
 ghost use Rattle.thorin.specs.Run.{Took};
-ghost use Rattle.thorin_cli.specs.Packing.{anything, asked, object_asked, executable_asked, AreAllAccepted, IsPackedOf};
+ghost use Rattle.thorin_cli.specs.Packing.{anything, asked, object_asked, executable_asked};
+ghost use Rattle.thorin_cli.specs.Packing.{AreAllAccepted, IsPackedOf};
 
 use crate::output::Failure;
 use crate::reader::FileReader;
@@ -19,7 +20,8 @@ use dwp_table::DebugTypeSignature;
 use std::alloc::{AllocError, Global};
 use std::io::Write;
 use std::path::Path;
-use thorin::{DwarfPackage, Input, runs_go_on, take_input};
+use thorin::laws::runs_go_on;
+use thorin::{DwarfPackage, Input, take_input};
 use thorin_faults::{ArenaSession, MissingReferencedObjectBehaviour, Session};
 
 /// What is to be packed, and where to.
@@ -58,7 +60,7 @@ impl<'m, 'a> Packing<'m, 'a> {
         }
     }
 
-    // The name of the package's file.
+    /// The name of the package's file.
     fn output_name(&self, rt: &HostRuntime) -> Result<String, Failure> {
         match (self.output, self.executables) {
             (Some(output), _) => Ok(String::from_str(rt.alloc(), output)?),
@@ -85,14 +87,15 @@ pub(crate) fn pack<E: Write>(
     Ok(0)
 }
 
-// The objects, and then the executables.
+/// The objects, and then the executables.
 fn inputs_of<'a>(
     alloc: Global,
     objects: &[&'a str],
     executables: &[&'a str],
     missing: MissingReferencedObjectBehaviour,
 ) -> Result<Vec<Input<'a>>, AllocError>
-    ensures { IfOk result (λ inputs. map asked inputs.items ≡ map object_asked objects.now ++ map (executable_asked missing) executables.now) }
+    ensures { IfOk result (λ inputs. map asked inputs.items ≡ map object_asked objects.now
+        ++ map (executable_asked missing) executables.now) }
 {
     let mut inputs = Vec::new(alloc);
     for object in objects {
@@ -104,8 +107,8 @@ fn inputs_of<'a>(
     Ok(inputs)
 }
 
-// The object to be written, and the signatures of type units that were passed over and differ from
-// the ones kept.
+/// The object to be written, and the signatures of type units that were passed over and differ from
+/// the ones kept.
 fn packed<E: Write>(
     rt: &HostRuntime,
     inputs: &[Input<'_>],
@@ -124,7 +127,7 @@ fn packed<E: Write>(
     Ok((object, differing))
 }
 
-// The object of the package.
+/// The object of the package.
 fn finished<'o, 's: 'o, Sess: Session<RelocationEntry>>(
     builder: DwarfPackage<'o, 's, Sess>,
 ) -> Result<WritableObject, Failure>
@@ -134,7 +137,7 @@ fn finished<'o, 's: 'o, Sess: Session<RelocationEntry>>(
     Ok(builder.finish()?)
 }
 
-// Takes the inputs in order, up to the first that is refused.
+/// Takes the inputs in order, up to the first that is refused.
 fn take_all<'o, 's: 'o, Sess: Session<RelocationEntry>, E: Write>(
     rt: &HostRuntime,
     builder: &mut DwarfPackage<'o, 's, Sess>,
@@ -142,7 +145,8 @@ fn take_all<'o, 's: 'o, Sess: Session<RelocationEntry>, E: Write>(
     verbose: bool,
     err: &mut E,
 ) -> Result<(), Failure>
-    ensures { OnOk result ((accepted : List (List ℕ)) × AreAllAccepted inputs.now builder.old.state builder.new.state accepted) }
+    ensures { OnOk result ((accepted : List (List ℕ))
+        × AreAllAccepted inputs.now builder.old.state builder.new.state accepted) }
 {
     let mut room = Vec::new(rt.alloc());
     runs_go_on(&FileReader::new(rt));
@@ -152,7 +156,7 @@ fn take_all<'o, 's: 'o, Sess: Session<RelocationEntry>, E: Write>(
     Ok(())
 }
 
-// Takes an input, and tells what came of it where that is asked for.
+/// Takes an input, and tells what came of it where that is asked for.
 fn take<'o, 's: 'o, Sess: Session<RelocationEntry>, E: Write>(
     rt: &HostRuntime,
     builder: &mut DwarfPackage<'o, 's, Sess>,

@@ -41,8 +41,8 @@ impl InputReader for FileReader<'_> {
     }
 }
 
-// Reads all that is left, which is about `len` bytes, into room that is made anew where it is too small:
-// a byte more than `len` lets the read that finds the end have room.
+/// Reads all that is left, which is about `len` bytes, into room that is made anew where it is too
+/// small: a byte more than `len` lets the read that finds the end have room.
 fn read_whole<F: Read>(file: &mut F, len: u64, room: &mut Vec<u8>) -> Result<(), InputError>
     ensures { OnOk result (IfSome (F.remaining file.old) (λ all. room.new.items ≡ all)) }
 {

@@ -6,7 +6,7 @@ use crate::words::split_words;
 use std::convert::AsStr;
 use std::fs;
 
-// How many response files a command line may name, those among them that response files name.
+/// How many response files a command line may name, those among them that response files name.
 const MOST_FILES: u32 = 2000;
 
 /// The words of a command line with the words of its response files in place of each `@FILE`. Those
@@ -42,8 +42,8 @@ pub(crate) fn expanded<S: AsStr>(rt: &HostRuntime, words: &[S]) -> Result<Vec<St
     Ok(all)
 }
 
-// The words of the file that a word `@FILE` names; none for another word, or where there is no such
-// file.
+/// The words of the file that a word `@FILE` names; none for another word, or where there is no
+/// such file.
 fn response(rt: &HostRuntime, word: &str) -> Result<Option<Vec<Vec<u8>>>, Failure> {
     let Some(name) = word.strip_prefix("@") else {
         return Ok(None);
@@ -58,7 +58,7 @@ fn response(rt: &HostRuntime, word: &str) -> Result<Option<Vec<Vec<u8>>>, Failur
     }
 }
 
-// A word is UTF-8.
+/// A word is UTF-8.
 fn text(word: Vec<u8>) -> Result<String, Failure> {
     match String::from_utf8(word) {
         Ok(word) => Ok(word),

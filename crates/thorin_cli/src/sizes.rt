@@ -8,7 +8,7 @@ use dwp_elf::{Contribution, ElfFile, SectionKind};
 use std::alloc::Global;
 use std::io::Write;
 
-// The sections that no unit has a range of, with their short names.
+/// The sections that no unit has a range of, with their short names.
 const WHOLE: [(SectionKind, &'static str); 3] = [
     (SectionKind::Str, "str"),
     (SectionKind::CuIndex, "cu_index"),
@@ -75,7 +75,7 @@ impl Sizes {
         writeln!(lines, "total file {size}").map_err(|_| Failure::Line)
     }
 
-    // The bytes of all ranges of a section together, and those of its distinct ranges.
+    /// The bytes of all ranges of a section together, and those of its distinct ranges.
     fn of(&self, kind: SectionKind) -> Result<(u64, u64), Failure> {
         let section = kind.rank();
         let alloc = *self.ranges.allocator();
@@ -91,7 +91,7 @@ impl Sizes {
     }
 }
 
-// The bytes of ranges together, as far as 64 bits go.
+/// The bytes of ranges together, as far as 64 bits go.
 fn total(ranges: &[Range]) -> u64
     ensures { result ≡ min (sum_by (λ range. range.size) ranges.now) (2 ^ 64 - 1) }
 {
@@ -102,7 +102,7 @@ fn total(ranges: &[Range]) -> u64
     bytes
 }
 
-// How many bytes the section of a kind has: the first that isn't empty.
+/// How many bytes the section of a kind has: the first that isn't empty.
 fn content_size(file: &ElfFile<'_>, kind: SectionKind) -> usize {
     for section in file.sections() {
         if let Ok(name) = section.name() {

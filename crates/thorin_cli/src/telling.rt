@@ -32,7 +32,7 @@ pub(crate) fn tell<E: Write>(
     }
 }
 
-// Tells how many units of an input were added, and how many were passed over, where that is known.
+/// Tells how many units of an input were added, and how many were passed over, where that is known.
 fn tell_taken<E: Write>(
     err: &mut E,
     name: &str,
@@ -49,8 +49,8 @@ fn tell_taken<E: Write>(
     told.map_err(|_| Failure::Line)
 }
 
-// How many units an object has that was accepted. It is read a second time: none where it is no
-// regular file.
+/// How many units an object has that was accepted. It is read a second time: none where it is no
+/// regular file.
 fn unit_count(rt: &HostRuntime, path: &str) -> Result<Option<usize>, Failure> {
     if !fs::metadata(rt, path).is_ok_and(|metadata| metadata.is_file()) {
         return Ok(None);
@@ -76,7 +76,7 @@ fn unit_count(rt: &HostRuntime, path: &str) -> Result<Option<usize>, Failure> {
     Ok(Some(units))
 }
 
-// Tells which input was refused, and why, with all causes.
+/// Tells which input was refused, and why, with all causes.
 fn tell_refused<E: Write>(err: &mut E, name: &str, fault: &Error) -> Result<(), Failure> {
     let causes = Causes(fault);
     writeln!(err, "{name}: {causes}").map_err(|_| Failure::Line)
@@ -98,7 +98,7 @@ pub(crate) fn warn_differing<E: Write>(
     Ok(())
 }
 
-// A fault with the causes below it, outermost first.
+/// A fault with the causes below it, outermost first.
 #[derive(Drop)]
 struct Causes<'a>(&'a Error);
 

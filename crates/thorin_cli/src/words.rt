@@ -1,7 +1,7 @@
 //! The words of a text, as linkers read those of a response file.
 
-ghost use Rattle.std.specs.Prelude.{◌≡◌, ℕ, List, map, IfOk};
-ghost use Rattle.thorin_cli.specs.Words.{behind, keeps, is_between, is_space, is_mark, words_of, quoted};
+ghost use Rattle.std.specs.Prelude.{◌≡◌, map, IfOk};
+ghost use Rattle.thorin_cli.specs.Words.{behind, keeps, is_between, is_space, is_mark, words_of};
 
 use std::alloc::{AllocError, Global};
 use std::mem;
@@ -18,7 +18,7 @@ enum Place {
 }
 
 impl Place {
-    // The place behind a byte.
+    /// The place behind a byte.
     fn behind(self, byte: u8) -> Place
         ensures { result ≡ behind self byte }
     {
@@ -37,7 +37,7 @@ impl Place {
         }
     }
 
-    // Whether a byte at this place belongs to the word.
+    /// Whether a byte at this place belongs to the word.
     fn keeps(self, byte: u8) -> bool
         ensures { result ≡ keeps self byte }
     {
@@ -55,7 +55,7 @@ impl Place {
     }
 }
 
-// A blank, or one of the five control characters from the tabulator to the carriage return.
+/// A blank, or one of the five control characters from the tabulator to the carriage return.
 fn is_space(byte: u8) -> bool
     ensures { result ≡ is_space byte }
 {
@@ -70,8 +70,10 @@ fn is_mark(byte: u8) -> bool
 
 /// The words of a text: whitespace separates them; a quotation mark, `'` or `"`, takes what stands
 /// up to the next one of its kind into the word, and a backslash the byte behind it, also between
-/// quotation marks. The text's end ends all. So linkers read what stands in the file of `@FILE`. An
-/// `Err` is want of memory.
+/// quotation marks. The text's end ends all. So linkers read what stands in the file of `@FILE`.
+///
+/// # Errors
+/// Want of memory.
 pub fn split_words(alloc: Global, text: &[u8]) -> Result<Vec<Vec<u8>>, AllocError>
     ensures { IfOk result (λ words. map (λ word. word.items) words.items ≡ words_of text.now) }
 {
@@ -92,9 +94,3 @@ pub fn split_words(alloc: Global, text: &[u8]) -> Result<Vec<Vec<u8>>, AllocErro
     }
     Ok(words)
 }
-
-/// Law: each list of words is read from the text that has each of them between quotation marks,
-/// with a backslash before each byte, and a blank behind it.
-pub fn quoted_words_are_read()
-    ensures { (words : List (List ℕ)) → words_of (quoted words) ≡ words }
-{}

@@ -6,7 +6,7 @@ use std::fs::{self, File};
 use std::io::ErrorKind;
 use thorin_faults::Error;
 
-// How many names beside OUT are tried.
+/// How many names beside OUT are tried.
 const MOST_NAMES: u32 = 100;
 
 /// Writes a package to OUT. Where OUT is a regular file, or isn't there, the package is written
@@ -32,8 +32,8 @@ pub(crate) fn write_package(
     }
 }
 
-// Whether another file may take OUT's place: it is a regular file that may be written, or there is
-// none.
+/// Whether another file may take OUT's place: it is a regular file that may be written, or there is
+/// none.
 fn is_replaceable(rt: &HostRuntime, output: &str) -> Result<bool, Failure> {
     let Ok(metadata) = fs::symlink_metadata(rt, output) else {
         return Ok(true);
@@ -47,7 +47,7 @@ fn is_replaceable(rt: &HostRuntime, output: &str) -> Result<bool, Failure> {
     }
 }
 
-// A new file beside OUT, and its name; none where there can't be one.
+/// A new file beside OUT, and its name; none where there can't be one.
 fn file_beside(rt: &HostRuntime, output: &str) -> Result<Option<(String, File)>, Failure> {
     for n in 0..MOST_NAMES {
         let name = format!(in rt.alloc(); "{output}.{n}.tmp")?;
@@ -63,8 +63,8 @@ fn file_beside(rt: &HostRuntime, output: &str) -> Result<Option<(String, File)>,
     Ok(None)
 }
 
-// Writes the package to the file of that name, which then becomes OUT, with the permissions that
-// OUT had.
+/// Writes the package to the file of that name, which then becomes OUT, with the permissions that
+/// OUT had.
 fn replace(
     rt: &HostRuntime,
     object: &WritableObject,

@@ -22,7 +22,7 @@ fn main(rt: HostRuntime) -> io::Result<()> {
     Ok(())
 }
 
-// A standard output, and what it took.
+/// A standard output, and what it took.
 trait Taker: Write {
     fn taken(&self) -> &[u8];
 }
@@ -33,7 +33,7 @@ impl Taker for Vec<u8> {
     }
 }
 
-// A standard output that takes nothing.
+/// A standard output that takes nothing.
 #[derive(Drop)]
 struct Full;
 

@@ -7,14 +7,14 @@ use Rattle.dwp_bytes.specs.Input.{section as input_section}
 use Rattle.dwp_bytes.specs.Relocation.{relocated_input}
 use Rattle.thorin_parts.specs.Relocations.{pair_of, with_relocations}
 use Rattle.thorin_executable.specs.declared.loading.DebugSection.{DebugSection}
-use Rattle.thorin_executable.specs.Sections.{entry_of, content_of, loaded}
+use Rattle.thorin_executable.specs.Sections.{entry_of, debug_content, loaded}
 
 pub entries-again : (entries : List RelocationEntry) → map entry_of (map pair_of entries) ≡ entries
 entries-again [] = refl
 entries-again (e ∷ es) = ap (λ rest. e ∷ rest) (entries-again es)
 
 pub loaded-is : (file target : Elf) (kind : DebugSection) (section : SectionMeaning) (bytes : List ℕ) (entries placed : List RelocationEntry) → target ≡ file
-    → content_of kind section ≡ Ok bytes
+    → debug_content kind section ≡ Ok bytes
     → with_relocations file section.name (relocations_of target section.number) [] ≡ Ok (map pair_of entries)
     → placed ≡ entries
     → loaded file kind section ≡ Ok (relocated_input placed 0 (input_section file.order bytes))

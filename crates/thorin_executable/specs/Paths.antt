@@ -1,5 +1,7 @@
--- The path of a split object (DWARF 5, 3.1.2: the name is that of a file, in the directory that the unit was compiled in).
-use Rattle.std.specs.Prelude.{ℕ, List, [], ◌∷◌, ◌++◌, ◌==◌, ◌||◌, nat_eq, length, if◌then◌else◌, Option, Some, None, Result, Ok, Err}
+-- The path of a split object (DWARF 5, 3.1.2: the name is that of a file, in the directory that the
+-- unit was compiled in).
+use Rattle.std.specs.Prelude.{ℕ, List, [], ◌∷◌, ◌++◌, ◌==◌, ◌||◌, nat_eq, length, if◌then◌else◌}
+use Rattle.std.specs.Prelude.{Option, Some, None, Result, Ok, Err}
 use Rattle.std.specs.List.{starts_with, ends_with}
 use Rattle.std.specs.Option.{unwrap_or, option_and_then}
 use Rattle.std.specs.Result.{result_ok}
@@ -20,11 +22,13 @@ slash = 47 ∷ []
 
 -- a directory as the front of a path: a slash ends it, unless it is empty
 abbrev pub path_front : List ℕ → List ℕ
-path_front directory = if length directory == 0 || ends_with nat_eq directory slash then directory else directory ++ slash
+path_front directory = if length directory == 0 || ends_with nat_eq directory slash then directory
+    else directory ++ slash
 
 -- the path of a name in a directory; a name from the root on replaces it
 unfoldable pub path_in : List ℕ → List ℕ → List ℕ
-path_in directory name = if starts_with nat_eq name slash then name else path_front directory ++ name
+path_in directory name =
+    if starts_with nat_eq name slash then name else path_front directory ++ name
 
 -- a string that is text
 unfoldable pub text_of : Input → Result (List ℕ) Fault
@@ -41,10 +45,12 @@ base_of root = unwrap_or root.str_offsets_base 0
 
 -- the directory that the unit was compiled in, where its string can be read
 abbrev pub directory_of : Strings → Format → SplitAttributes → Option Input
-directory_of strings format root = option_and_then (λ a. result_ok (string_of strings format (base_of root) a)) root.comp_dir
+directory_of strings format root =
+    option_and_then (λ a. result_ok (string_of strings format (base_of root) a)) root.comp_dir
 
 -- the path of the split object that an attribute names
-unfoldable pub object_path : Strings → Format → SplitAttributes → DebugAttribute → Result (List ℕ) Fault
+unfoldable pub object_path : Strings → Format → SplitAttributes → DebugAttribute
+    → Result (List ℕ) Fault
 object_path strings format root attribute = do
   string ← as_fault GimliRead (string_of strings format (base_of root) attribute)
   name ← text_of string

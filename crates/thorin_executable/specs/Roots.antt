@@ -1,5 +1,7 @@
--- The attributes of a unit's root entry that name its split object (DWARF 5, 3.1.2 and 7.5.4; the GNU page DebugFission).
-use Rattle.std.specs.Prelude.{ℕ, List, [], ◌∷◌, Bool, ◌==◌, if◌then◌else◌, Option, None, Result, Ok, Err, find}
+-- The attributes of a unit's root entry that name its split object (DWARF 5, 3.1.2 and 7.5.4; the
+-- GNU page DebugFission).
+use Rattle.std.specs.Prelude.{ℕ, List, [], ◌∷◌, Bool, ◌==◌, if◌then◌else◌, Option, None, Result, Ok}
+use Rattle.std.specs.Prelude.{Err, find}
 use Rattle.std.specs.Option.{ok_or, option_or}
 use Rattle.dwp_base.specs.Reading.{◌>>=◌}
 use Rattle.dwp_bytes.specs.Input.{Input}
@@ -82,7 +84,8 @@ split_attributes format attributes = record {
 
 -- those of an entry, all of whose attributes can be read
 unfoldable pub entry_attributes : Format → DebugEntry → Result SplitAttributes Fault
-entry_attributes format e = all_read e.attributes >>= λ attributes. Ok (split_attributes format attributes)
+entry_attributes format e =
+    all_read e.attributes >>= λ attributes. Ok (split_attributes format attributes)
 
 -- those of a unit's root entry
 unfoldable pub root_attributes : Input → Unit → Result SplitAttributes Fault

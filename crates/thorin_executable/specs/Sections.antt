@@ -1,5 +1,7 @@
--- The sections of an executable that say which split objects it was made with (DWARF 5, 7.3.2 and Appendix B; ELF gABI, "Sections").
-use Rattle.std.specs.Prelude.{ℕ, List, [], codes, map, Bool, false, ◌&&◌, ◌||◌, ◌==◌, not, if◌then◌else◌, Option, Some, None, Result, Ok, Err, find}
+-- The sections of an executable that say which split objects it was made with (DWARF 5, 7.3.2 and
+-- Appendix B; ELF gABI, "Sections").
+use Rattle.std.specs.Prelude.{ℕ, List, [], codes, map, Bool, false, ◌&&◌, ◌||◌, ◌==◌, not}
+use Rattle.std.specs.Prelude.{if◌then◌else◌, Option, Some, None, Result, Ok, Err, find}
 use Rattle.std.specs.Option.{ok_or, option_map_or}
 use Rattle.std.specs.Str.{bytes_eq}
 use Rattle.dwp_base.specs.declared.endian.Endianness.{Endianness}
@@ -16,31 +18,32 @@ use Rattle.thorin_faults.specs.Fault.{Fault, ParseObjectFile, DecompressData, Ob
 use Rattle.thorin_faults.specs.Answers.{as_fault}
 use Rattle.thorin_parts.specs.Relocations.{with_relocations}
 use Rattle.thorin_executable.specs.declared.loading.DebugSection.{DebugSection}
-use Rattle.thorin_executable.specs.declared.loading.DebugSection.TheVariants.{Abbrev, Info, LineStr, Str, StrOffsets}
+use Rattle.thorin_executable.specs.declared.loading.DebugSection.TheVariants.{Abbrev, Info, LineStr}
+use Rattle.thorin_executable.specs.declared.loading.DebugSection.TheVariants.{Str, StrOffsets}
 
 -- the bytes of a section's name
-abbrev pub name_of : DebugSection → List ℕ
-name_of Abbrev = codes ".debug_abbrev"
-name_of Info = codes ".debug_info"
-name_of LineStr = codes ".debug_line_str"
-name_of Str = codes ".debug_str"
-name_of StrOffsets = codes ".debug_str_offsets"
+abbrev pub debug_name_of : DebugSection → List ℕ
+debug_name_of Abbrev = codes ".debug_abbrev"
+debug_name_of Info = codes ".debug_info"
+debug_name_of LineStr = codes ".debug_line_str"
+debug_name_of Str = codes ".debug_str"
+debug_name_of StrOffsets = codes ".debug_str_offsets"
 
 -- its older name where its content is compressed
-abbrev pub compressed_name_of : DebugSection → List ℕ
-compressed_name_of Abbrev = codes ".zdebug_abbrev"
-compressed_name_of Info = codes ".zdebug_info"
-compressed_name_of LineStr = codes ".zdebug_line_str"
-compressed_name_of Str = codes ".zdebug_str"
-compressed_name_of StrOffsets = codes ".zdebug_str_offsets"
+abbrev pub compressed_debug_name_of : DebugSection → List ℕ
+compressed_debug_name_of Abbrev = codes ".zdebug_abbrev"
+compressed_debug_name_of Info = codes ".zdebug_info"
+compressed_debug_name_of LineStr = codes ".zdebug_line_str"
+compressed_debug_name_of Str = codes ".zdebug_str"
+compressed_debug_name_of StrOffsets = codes ".zdebug_str_offsets"
 
 -- a name is the older one of a kind
 abbrev pub is_older_name : DebugSection → List ℕ → Bool
-is_older_name kind name = bytes_eq name (compressed_name_of kind)
+is_older_name kind name = bytes_eq name (compressed_debug_name_of kind)
 
 -- a name is one of the two spellings
-abbrev pub is_named : DebugSection → List ℕ → Bool
-is_named kind name = bytes_eq name (name_of kind) || is_older_name kind name
+abbrev pub is_debug_named : DebugSection → List ℕ → Bool
+is_debug_named kind name = bytes_eq name (debug_name_of kind) || is_older_name kind name
 
 -- a section has no bytes
 abbrev pub is_empty : SectionMeaning → Bool
@@ -48,11 +51,12 @@ is_empty section = section.size == 0 || section.kind == SHT_NOBITS
 
 -- a section is of a kind, and has bytes
 unfoldable pub is_used : DebugSection → SectionMeaning → Bool
-is_used kind section = not (is_empty section) && option_map_or (is_named kind) section.name false
+is_used kind section =
+    not (is_empty section) && option_map_or (is_debug_named kind) section.name false
 
 -- a section's content, which may not be compressed
-unfoldable pub content_of : DebugSection → SectionMeaning → Result (List ℕ) Fault
-content_of kind section =
+unfoldable pub debug_content : DebugSection → SectionMeaning → Result (List ℕ) Fault
+debug_content kind section =
     if has_compressed_flag section || option_map_or (is_older_name kind) section.name false
     then Err (DecompressData Compressed)
     else as_fault ObjectRead (ok_or section.content SectionRange)
@@ -63,12 +67,13 @@ entry_of found = record { offset = found.0; relocation = found.1 }
 
 -- the bytes of a section from its start, and the numbers in them relocated
 abbrev pub relocated_section : Endianness → List ℕ → List (ℕ × Relocation) → Input
-relocated_section order bytes relocations = relocated_input (map entry_of relocations) 0 (section order bytes)
+relocated_section order bytes relocations =
+    relocated_input (map entry_of relocations) 0 (section order bytes)
 
 -- what there is to read of a section: its content is tested before its relocations
 unfoldable pub loaded : Elf → DebugSection → SectionMeaning → Result Input Fault
 loaded file kind section = do
-  bytes ← content_of kind section
+  bytes ← debug_content kind section
   relocations ← with_relocations file section.name (relocations_of file section.number) []
   Ok (relocated_section file.order bytes relocations)
 
@@ -95,7 +100,15 @@ debug_data file = do
   debug_line_str ← loaded_first file LineStr
   debug_str ← loaded_first file Str
   debug_str_offsets ← loaded_first file StrOffsets
-  Ok (record { debug_abbrev = debug_abbrev; debug_info = debug_info; strings = record { debug_str = debug_str; debug_line_str = debug_line_str; debug_str_offsets = debug_str_offsets } })
+  Ok (record {
+    debug_abbrev = debug_abbrev;
+    debug_info = debug_info;
+    strings = record {
+      debug_str = debug_str;
+      debug_line_str = debug_line_str;
+      debug_str_offsets = debug_str_offsets;
+    };
+  })
 
 -- those of the bytes of a file
 unfoldable pub debug_data_of : List ℕ → Result DebugData Fault

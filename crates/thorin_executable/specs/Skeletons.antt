@@ -1,5 +1,5 @@
--- The split units that an executable names: the skeleton units of DWARF 5 (3.1.2), and before version 5 the units with a
--- GNU_dwo_id (the GNU page DebugFission).
+-- The split units that an executable names: the skeleton units of DWARF 5 (3.1.2), and before
+-- version 5 the units with a GNU_dwo_id (the GNU page DebugFission).
 use Rattle.std.specs.Prelude.{ℕ, List, [], ◌∷◌, ◌++◌, Option, Some, None, Result, Ok, Err}
 use Rattle.dwp_base.specs.Reading.{◌>>=◌}
 use Rattle.dwp_bytes.specs.declared.fault.ReadError.{ReadError}
@@ -25,9 +25,12 @@ unnamed (Compilation id) = Err (MissingDwoName id.0)
 unnamed (TypeUnit signature) = Ok None
 
 -- the object of a unit, by the attribute that names it
-abbrev pub named_by : DebugData → Unit → DwarfObject → SplitAttributes → Option DebugAttribute → Result (Option Named) Fault
+abbrev pub named_by : DebugData → Unit → DwarfObject → SplitAttributes → Option DebugAttribute
+    → Result (Option Named) Fault
 named_by debug unit target root None = unnamed target
-named_by debug unit target root (Some attribute) = object_path debug.strings unit.encoding.format root attribute >>= λ path. Ok (Some (target, path))
+named_by debug unit target root (Some attribute) =
+    object_path debug.strings unit.encoding.format root attribute >>= λ path.
+    Ok (Some (target, path))
 
 -- the object of a unit of this identity
 unfoldable pub named_in : DebugData → Unit → DwarfObject → Result (Option Named) Fault
@@ -54,7 +57,8 @@ with_named before None = before
 with_named before (Some next) = before ++ next ∷ []
 
 -- those before and what the unit that was read next stands for
-unfoldable pub with_read : DebugData → List Named → Result Unit ReadError → Result (List Named) Fault
+unfoldable pub with_read : DebugData → List Named → Result Unit ReadError
+    → Result (List Named) Fault
 with_read debug before read = skeleton_read debug read >>= λ found. Ok (with_named before found)
 
 -- a list up to the first fault, and that fault
@@ -70,7 +74,8 @@ with_first (Err fault) others = ([], Some fault)
 -- what some units stand for
 abbrev pub skeletons_from : DebugData → List (Result Unit ReadError) → Listed
 skeletons_from debug [] = ([], None)
-skeletons_from debug (read ∷ rest) = with_first (skeleton_read debug read) (skeletons_from debug rest)
+skeletons_from debug (read ∷ rest) =
+    with_first (skeleton_read debug read) (skeletons_from debug rest)
 
 -- what the units of an executable stand for
 abbrev pub skeletons_in : Result DebugData Fault → Listed

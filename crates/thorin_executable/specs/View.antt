@@ -16,7 +16,11 @@ use Rattle.thorin_executable.specs.Skeletons.{Named, Listed}
 
 -- the sections of an executable, as readers show them
 abbrev pub data_of : {R : Type 0} → (R → Input) → Data R → DebugData
-data_of input d = record { debug_abbrev = input d.debug_abbrev; debug_info = input d.debug_info; strings = strings_of input d.strings }
+data_of input d = record {
+  debug_abbrev = input d.debug_abbrev;
+  debug_info = input d.debug_info;
+  strings = strings_of input d.strings;
+}
 
 -- attributes as they were read from an input
 abbrev pub attributes_of : {R : Type 0} → (R → Input) → Attributes R → SplitAttributes

@@ -36,8 +36,8 @@ pub struct SkeletonList {
     pub fault: Option<Error>,
 }
 
-// The split unit of this identity, and the path of its object; none for a type unit that names no
-// object.
+/// The split unit of this identity, and the path of its object; none for a type unit that names no
+/// object.
 #[tactic(auto, unfolding(crate::specs::Skeletons::named_in))]
 fn named_unit<R: Reader>(
     alloc: Global,
@@ -47,7 +47,8 @@ fn named_unit<R: Reader>(
     target: DwarfObject,
 ) -> Result<Option<Skeleton>, Error>
     requires { abbreviations.old ≡ debug.now.debug_abbrev }
-    ensures meaning { Gives (option_map named) result (spec.named_in (data_of R.input debug.now) (unit_of R.input header.now) target) }
+    ensures meaning { Gives (option_map named) result
+        (spec.named_in (data_of R.input debug.now) (unit_of R.input header.now) target) }
     ensures kept { abbreviations.new ≡ abbreviations.old }
 {
     let root = SplitAttributes::of_unit(abbreviations, header)?;
@@ -62,7 +63,7 @@ fn named_unit<R: Reader>(
     }
 }
 
-// The split unit that a unit stands for, if it does.
+/// The split unit that a unit stands for, if it does.
 #[tactic(auto, unfolding(crate::specs::Skeletons::skeleton_of))]
 fn skeleton_of<R: Reader>(
     alloc: Global,
@@ -71,7 +72,8 @@ fn skeleton_of<R: Reader>(
     header: &UnitHeader<R>,
 ) -> Result<Option<Skeleton>, Error>
     requires { abbreviations.old ≡ debug.now.debug_abbrev }
-    ensures meaning { Gives (option_map named) result (spec.skeleton_of (data_of R.input debug.now) (unit_of R.input header.now)) }
+    ensures meaning { Gives (option_map named) result
+        (spec.skeleton_of (data_of R.input debug.now) (unit_of R.input header.now)) }
     ensures kept { abbreviations.new ≡ abbreviations.old }
 {
     match dwo_identifier_remembering(abbreviations, header)? {
@@ -80,7 +82,7 @@ fn skeleton_of<R: Reader>(
     }
 }
 
-// Adds the split unit that the unit read next stands for, if it does.
+/// Adds the split unit that the unit read next stands for, if it does.
 #[tactic(auto, unfolding(crate::specs::Skeletons::skeleton_read, crate::specs::Skeletons::with_read))]
 fn add_read<R: Reader>(
     alloc: Global,
@@ -90,7 +92,8 @@ fn add_read<R: Reader>(
     units: &mut Vec<Skeleton>,
 ) -> Result<(), Error>
     requires { abbreviations.old ≡ debug.now.debug_abbrev }
-    ensures meaning { Gives (λ _. map named units.new.items) result (spec.with_read (data_of R.input debug.now) (map named units.old.items) (unit_seen R.input read)) }
+    ensures meaning { Gives (λ _. map named units.new.items) result (spec.with_read
+        (data_of R.input debug.now) (map named units.old.items) (unit_seen R.input read)) }
     ensures kept { abbreviations.new ≡ abbreviations.old }
     ensures refused { OnErr result (units.new.items ≡ units.old.items) }
 {
@@ -101,10 +104,12 @@ fn add_read<R: Reader>(
     Ok(())
 }
 
-// The split units that the units of an executable stand for.
+/// The split units that the units of an executable stand for.
 fn units_named<R: Reader>(alloc: Global, debug: &DebugData<R>) -> SkeletonList
-    ensures exact { UnlessMemory result.fault (spec.skeletons_from (data_of R.input debug.now) (units Info (R.input debug.now.debug_info)) ≡ listed result) }
-    ensures front { IsFront result (spec.skeletons_from (data_of R.input debug.now) (units Info (R.input debug.now.debug_info))) }
+    ensures exact { UnlessMemory result.fault (spec.skeletons_from (data_of R.input debug.now)
+        (units Info (R.input debug.now.debug_info)) ≡ listed result) }
+    ensures front { IsFront result (spec.skeletons_from (data_of R.input debug.now)
+        (units Info (R.input debug.now.debug_info))) }
 {
     let mut units = Vec::new(alloc);
     let mut abbreviations = AbbreviationCache::new(alloc, debug.debug_abbrev);

@@ -31,7 +31,7 @@ pub(crate) enum DebugSection {
 
 impl DebugSection {
     fn name(self) -> &'static str
-        ensures { result.now ≡ spec.name_of self }
+        ensures { result.now ≡ spec.debug_name_of self }
     {
         match self {
             DebugSection::Abbrev => ".debug_abbrev",
@@ -42,9 +42,9 @@ impl DebugSection {
         }
     }
 
-    // The older name of a section whose content is compressed.
+    /// The older name of a section whose content is compressed.
     fn compressed_name(self) -> &'static str
-        ensures { result.now ≡ spec.compressed_name_of self }
+        ensures { result.now ≡ spec.compressed_debug_name_of self }
     {
         match self {
             DebugSection::Abbrev => ".zdebug_abbrev",
@@ -55,7 +55,7 @@ impl DebugSection {
         }
     }
 
-    // Whether a section is of this kind, in either spelling, and isn't empty.
+    /// Whether a section is of this kind, in either spelling, and isn't empty.
     #[tactic(auto, unfolding(crate::specs::Sections::is_used))]
     fn is_kind_of(self, section: &Section<'_>) -> bool
         ensures { result ≡ spec.is_used self (meaning section.now) }
@@ -69,9 +69,10 @@ impl DebugSection {
         }
     }
 
-    // Whether a section has the older name of this kind.
+    /// Whether a section has the older name of this kind.
     fn is_older_name_of(self, section: &Section<'_>) -> bool
-        ensures { result ≡ option_map_or (spec.is_older_name self) (meaning section.now).name false }
+        ensures { result
+            ≡ option_map_or (spec.is_older_name self) (meaning section.now).name false }
     {
         match section.name() {
             Ok(name) => name == self.compressed_name(),
@@ -89,7 +90,7 @@ pub(crate) struct DebugData<R> {
     pub strings: StringSections<R>,
 }
 
-// The first section of a kind that isn't empty.
+/// The first section of a kind that isn't empty.
 fn find_section<'a>(file: &ElfFile<'a>, kind: DebugSection) -> Option<Section<'a>>
     ensures found { option_map meaning result ≡ find (spec.is_used kind) (elf file.now).sections }
     ensures in_file { IfSome result (λ s. file_of s ≡ elf file.now) }
@@ -104,11 +105,11 @@ fn find_section<'a>(file: &ElfFile<'a>, kind: DebugSection) -> Option<Section<'a
     None
 }
 
-// The content of a section: `DecompressData` where it is compressed, `ObjectRead` where it is
-// outside the file.
-#[tactic(auto, unfolding(crate::specs::Sections::content_of))]
+/// The content of a section: `DecompressData` where it is compressed, `ObjectRead` where it is
+/// outside the file.
+#[tactic(auto, unfolding(crate::specs::Sections::debug_content))]
 fn content<'a>(section: &Section<'a>, kind: DebugSection) -> Result<&'a [u8], Error>
-    ensures { Gives (λ bytes. bytes.now) result (spec.content_of kind (meaning section.now)) }
+    ensures { Gives (λ bytes. bytes.now) result (spec.debug_content kind (meaning section.now)) }
 {
     if section.is_compressed() || kind.is_older_name_of(section) {
         return Err(Error::DecompressData(ReadError::Compressed));
@@ -116,7 +117,7 @@ fn content<'a>(section: &Section<'a>, kind: DebugSection) -> Result<&'a [u8], Er
     section.data().map_err(Error::ObjectRead)
 }
 
-// A reader of a section; its relocations are placed in the session.
+/// A reader of a section; its relocations are placed in the session.
 #[tactic(auto, unfolding(crate::specs::Sections::loaded))]
 fn load<'a, Sess: Session<RelocationEntry>>(
     alloc: Global,
@@ -126,7 +127,8 @@ fn load<'a, Sess: Session<RelocationEntry>>(
     kind: DebugSection,
 ) -> Result<SectionReader<'a>, Error>
     requires { file_of section.now ≡ elf file.now }
-    ensures { Gives ⟦<SectionReader<'a> as Reader>⟧.input result (spec.loaded (elf file.now) kind (meaning section.now)) }
+    ensures { Gives ⟦<SectionReader<'a> as Reader>⟧.input result
+        (spec.loaded (elf file.now) kind (meaning section.now)) }
 {
     let bytes = content(section, kind)?;
     let found = add_relocations(alloc, file, section)?;
@@ -134,7 +136,7 @@ fn load<'a, Sess: Session<RelocationEntry>>(
     Ok(SectionReader::new(relocations, bytes, file.endianness()))
 }
 
-// A reader of the first section of a kind that isn't empty; of no bytes where there is none.
+/// A reader of the first section of a kind that isn't empty; of no bytes where there is none.
 #[tactic(auto, unfolding(crate::specs::Sections::loaded_first))]
 fn load_first<'a, Sess: Session<RelocationEntry>>(
     alloc: Global,
@@ -142,7 +144,8 @@ fn load_first<'a, Sess: Session<RelocationEntry>>(
     file: &ElfFile<'a>,
     kind: DebugSection,
 ) -> Result<SectionReader<'a>, Error>
-    ensures { Gives ⟦<SectionReader<'a> as Reader>⟧.input result (spec.loaded_first (elf file.now) kind) }
+    ensures { Gives ⟦<SectionReader<'a> as Reader>⟧.input result
+        (spec.loaded_first (elf file.now) kind) }
 {
     match find_section(file, kind) {
         Some(section) => load(alloc, session, file, &section, kind),
@@ -151,14 +154,15 @@ fn load_first<'a, Sess: Session<RelocationEntry>>(
 }
 
 impl<'a> DebugData<SectionReader<'a>> {
-    // Those of an ELF file: the first fault of a section, in the order in which they are read.
+    /// Those of an ELF file: the first fault of a section, in the order in which they are read.
     #[tactic(auto, unfolding(crate::specs::Sections::debug_data))]
     fn of_file<Sess: Session<RelocationEntry>>(
         alloc: Global,
         session: &'a Sess,
         file: &ElfFile<'a>,
     ) -> Result<Self, Error>
-        ensures { Gives (data_of ⟦<SectionReader<'a> as Reader>⟧.input) result (spec.debug_data (elf file.now)) }
+        ensures { Gives (data_of ⟦<SectionReader<'a> as Reader>⟧.input) result
+            (spec.debug_data (elf file.now)) }
     {
         let debug_abbrev = load_first(alloc, session, file, DebugSection::Abbrev)?;
         let debug_info = load_first(alloc, session, file, DebugSection::Info)?;
@@ -177,16 +181,20 @@ impl<'a> DebugData<SectionReader<'a>> {
         })
     }
 
-    /// Those of the bytes of a file: `ParseObjectFile`, then of the sections of abbreviations,
-    /// units, strings of line tables, strings and offsets of strings, in this order,
-    /// `DecompressData`, `ObjectRead` and the faults of relocations.
+    /// Those of the bytes of a file.
+    ///
+    /// # Errors
+    /// `ParseObjectFile`, then of the sections of abbreviations, units, strings of line tables,
+    /// strings and offsets of strings, in this order, `DecompressData`, `ObjectRead` and the faults
+    /// of relocations; `Memory`.
     #[tactic(auto, unfolding(crate::specs::Sections::debug_data_of))]
     pub fn read<Sess: Session<RelocationEntry>>(
         alloc: Global,
         session: &'a Sess,
         bytes: &'a [u8],
     ) -> Result<Self, Error>
-        ensures { Gives (data_of ⟦<SectionReader<'a> as Reader>⟧.input) result (spec.debug_data_of bytes.now) }
+        ensures { Gives (data_of ⟦<SectionReader<'a> as Reader>⟧.input) result
+            (spec.debug_data_of bytes.now) }
     {
         let file = ElfFile::parse(bytes).map_err(Error::ParseObjectFile)?;
         Self::of_file(alloc, session, &file)

@@ -12,7 +12,7 @@ use dwp_dwarf::{Attribute, Format, ReadError, Reader, StringSections, attr_strin
 use std::alloc::{AllocError, Global};
 use thorin_faults::Error;
 
-// The path of a name in a directory; a name from the root on replaces it.
+/// The path of a name in a directory; a name from the root on replaces it.
 #[tactic(auto, unfolding(crate::specs::Paths::path_in))]
 fn path_in(alloc: Global, directory: &str, name: &str) -> Result<String, AllocError>
     ensures { IfOk result (λ path. string_bytes path ≡ spec.path_in directory.now name.now) }
@@ -28,7 +28,7 @@ fn path_in(alloc: Global, directory: &str, name: &str) -> Result<String, AllocEr
     Ok(path)
 }
 
-// A string as text.
+/// A string as text.
 #[tactic(auto, unfolding(crate::specs::Paths::text_of))]
 fn text<R: Reader>(string: &R) -> Result<&str, Error>
     ensures { Gives (λ text. text.now) result (spec.text_of (R.input string.now)) }
@@ -39,7 +39,7 @@ fn text<R: Reader>(string: &R) -> Result<&str, Error>
     }
 }
 
-// A string that may be absent as text.
+/// A string that may be absent as text.
 fn text_if<R: Reader>(string: &Option<R>) -> Result<&str, Error>
     ensures { Gives (λ text. text.now) result (spec.text_if (option_map R.input string.now)) }
 {
@@ -49,7 +49,7 @@ fn text_if<R: Reader>(string: &Option<R>) -> Result<&str, Error>
     }
 }
 
-// The directory that a unit was compiled in, where its string can be read.
+/// The directory that a unit was compiled in, where its string can be read.
 fn directory<R: Reader>(
     strings: &StringSections<R>,
     format: Format,
@@ -57,7 +57,8 @@ fn directory<R: Reader>(
     base: u64,
 ) -> Option<R>
     requires { base ≡ spec.base_of (attributes_of R.input root.now) }
-    ensures { option_map R.input result ≡ spec.directory_of (strings_of R.input strings.now) format (attributes_of R.input root.now) }
+    ensures { option_map R.input result ≡ spec.directory_of (strings_of R.input strings.now) format
+        (attributes_of R.input root.now) }
 {
     attr_string(strings, format, base, &root.comp_dir?).ok()
 }
@@ -72,7 +73,8 @@ pub(crate) fn object_path<R: Reader>(
     root: &SplitAttributes<R>,
     name: &Attribute<R>,
 ) -> Result<String, Error>
-    ensures { Gives string_bytes result (spec.object_path (strings_of R.input strings.now) format (attributes_of R.input root.now) (attribute_of R.input name.now)) }
+    ensures { Gives string_bytes result (spec.object_path (strings_of R.input strings.now) format
+        (attributes_of R.input root.now) (attribute_of R.input name.now)) }
 {
     let base = root.str_offsets_base.unwrap_or(0);
     let name = attr_string(strings, format, base, name)?;

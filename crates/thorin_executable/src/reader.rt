@@ -16,7 +16,8 @@ impl<'a> SectionReader<'a> {
     /// Reads a section from its start, by relocations whose offsets ascend.
     pub fn new(relocations: &'a [RelocationEntry], bytes: &'a [u8], order: Endianness) -> Self
         requires { IsTrue (ascends relocations.now) }
-        ensures { ⟦<SectionReader<'a> as Reader>⟧.input result ≡ relocated_input relocations.now 0 (section order bytes.now) }
+        ensures { ⟦<SectionReader<'a> as Reader>⟧.input result
+            ≡ relocated_input relocations.now 0 (section order bytes.now) }
     {
         SectionReader {
             reader: Relocate::new(relocations, SliceReader::new(bytes, order)),

@@ -30,23 +30,28 @@ pub(crate) struct SplitAttributes<R> {
 }
 
 impl<R: Reader> SplitAttributes<R> {
-    /// Those of a unit's root entry: `NoDie` where it has none, `ParseUnit` for any fault in it.
+    /// Those of a unit's root entry.
+    ///
+    /// # Errors
+    /// `NoDie` where it has none, `ParseUnit` for any fault in it.
     #[tactic(auto, unfolding(crate::specs::Roots::root_attributes))]
     pub fn of_unit(
         debug_abbrev: &mut AbbreviationCache<R>,
         header: &UnitHeader<R>,
     ) -> Result<Self, Error>
-        ensures meaning { Gives (attributes_of R.input) result (spec.root_attributes (R.input debug_abbrev.old) (unit_of R.input header.now)) }
+        ensures meaning { Gives (attributes_of R.input) result
+            (spec.root_attributes (R.input debug_abbrev.old) (unit_of R.input header.now)) }
         ensures kept { debug_abbrev.new ≡ debug_abbrev.old }
     {
         let root = root_entry(debug_abbrev, header)?;
         Self::of_entry(root, header.encoding().format)
     }
 
-    // Those of an entry.
+    /// Those of an entry.
     #[tactic(auto, unfolding(crate::specs::Roots::entry_attributes))]
     fn of_entry(root: RootEntry<R>, format: Format) -> Result<Self, Error>
-        ensures { Gives (attributes_of R.input) result (spec.entry_attributes format (entry_of R.input root)) }
+        ensures { Gives (attributes_of R.input) result
+            (spec.entry_attributes format (entry_of R.input root)) }
     {
         let mut found = SplitAttributes {
             dwo_name: None,
@@ -61,9 +66,10 @@ impl<R: Reader> SplitAttributes<R> {
         Ok(found)
     }
 
-    // Takes an attribute in where it is the first of its name.
+    /// Takes an attribute in where it is the first of its name.
     fn add(&mut self, attribute: Attribute<R>, format: Format)
-        ensures { attributes_of R.input self.new ≡ spec.with_attribute format (attributes_of R.input self.old) (attribute_of R.input attribute) }
+        ensures { attributes_of R.input self.new ≡ spec.with_attribute format
+            (attributes_of R.input self.old) (attribute_of R.input attribute) }
     {
         match attribute.name {
             DW_AT_COMP_DIR => self.comp_dir = self.comp_dir.or(Some(attribute)),
@@ -78,19 +84,21 @@ impl<R: Reader> SplitAttributes<R> {
 
     /// The attribute that names the split object: that of DWARF 5, else GNU's.
     pub fn object_name(&self) -> Option<Attribute<R>>
-        ensures { option_map (attribute_of R.input) result ≡ spec.object_name (attributes_of R.input self.now) }
+        ensures { option_map (attribute_of R.input) result
+            ≡ spec.object_name (attributes_of R.input self.now) }
     {
         self.dwo_name.or(self.gnu_dwo_name)
     }
 }
 
-// A unit's root entry.
+/// A unit's root entry.
 #[tactic(auto, unfolding(crate::specs::Roots::root_entry))]
 fn root_entry<R: Reader>(
     debug_abbrev: &mut AbbreviationCache<R>,
     header: &UnitHeader<R>,
 ) -> Result<RootEntry<R>, Error>
-    ensures meaning { Gives (entry_of R.input) result (spec.root_entry (R.input debug_abbrev.old) (unit_of R.input header.now)) }
+    ensures meaning { Gives (entry_of R.input) result
+        (spec.root_entry (R.input debug_abbrev.old) (unit_of R.input header.now)) }
     ensures kept { debug_abbrev.new ≡ debug_abbrev.old }
 {
     let (code, values) = header

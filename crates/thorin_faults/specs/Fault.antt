@@ -1,4 +1,5 @@
--- The faults of packaging as definitions speak of them: fixed names and sections' names are their bytes.
+-- The faults of packaging as definitions speak of them: fixed names and sections' names are their
+-- bytes.
 use Rattle.std.specs.Prelude.{ℕ, List, string_bytes}
 use Rattle.std.specs.declared.io.Error.{Error as IoError}
 use Rattle.dwp_elf_read.specs.declared.fault.ReadError.{ReadError as ElfReadError}
@@ -63,9 +64,12 @@ fault_of (error.ParseObjectFile cause) = ParseObjectFile cause
 fault_of error.InvalidInputKind = InvalidInputKind
 fault_of (error.DecompressData cause) = DecompressData cause
 fault_of (error.NamelessSection cause place) = NamelessSection cause place
-fault_of (error.RelocationWithInvalidSymbol section place) = RelocationWithInvalidSymbol (string_bytes section) place
-fault_of (error.MultipleRelocations section place) = MultipleRelocations (string_bytes section) place
-fault_of (error.UnsupportedRelocation section place) = UnsupportedRelocation (string_bytes section) place
+fault_of (error.RelocationWithInvalidSymbol section place) =
+    RelocationWithInvalidSymbol (string_bytes section) place
+fault_of (error.MultipleRelocations section place) =
+    MultipleRelocations (string_bytes section) place
+fault_of (error.UnsupportedRelocation section place) =
+    UnsupportedRelocation (string_bytes section) place
 fault_of (error.MissingDwoName unit) = MissingDwoName unit
 fault_of error.NoCompilationUnits = NoCompilationUnits
 fault_of error.NoDie = NoDie
@@ -74,7 +78,8 @@ fault_of (error.MissingRequiredSection section) = MissingRequiredSection section
 fault_of (error.ParseUnitAbbreviations cause) = ParseUnitAbbreviations cause
 fault_of (error.ParseUnitHeader cause) = ParseUnitHeader cause
 fault_of (error.ParseUnit cause) = ParseUnit cause
-fault_of (error.IncompatibleIndexVersion section expected found) = IncompatibleIndexVersion section.now expected found
+fault_of (error.IncompatibleIndexVersion section expected found) =
+    IncompatibleIndexVersion section.now expected found
 fault_of (error.OffsetAtIndex cause index) = OffsetAtIndex cause index
 fault_of (error.StrAtOffset cause offset) = StrAtOffset cause offset
 fault_of (error.ParseIndex cause section) = ParseIndex cause section.now

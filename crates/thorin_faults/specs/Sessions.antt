@@ -1,5 +1,6 @@
 -- What sessions read, and what they place.
-use Rattle.std.specs.Prelude.{◌≡◌, ◌≢◌, ℕ, List, Result, Ok, Err, Option, Some, None, String, Vec, IsErrAnd}
+use Rattle.std.specs.Prelude.{◌≡◌, ◌≢◌, ℕ, List, Result, Ok, Err, Option, Some, None, String, Vec}
+use Rattle.std.specs.Prelude.{IsErrAnd}
 use Rattle.std.specs.Borrow.{Bor}
 use Rattle.std.specs.BTreeMap.{BTreeMap, get_by_text}
 use Rattle.std.specs.IoError.{error_kind}
@@ -20,7 +21,8 @@ OnBorrowed (Borrowed _) P = P
 OnBorrowed (Owned _) P = Unit {0}
 
 -- a read answered what may be answered there, want of memory aside
-abbrev pub IsOffered : (Result (List ℕ) IoError → Type 0) → Result (Bor (List ℕ)) InputError → Type 0
+abbrev pub IsOffered : (Result (List ℕ) IoError → Type 0)
+    → Result (Bor (List ℕ)) InputError → Type 0
 IsOffered offered (Ok bytes) = offered (Ok bytes.now)
 IsOffered offered (Err (input.Io cause)) = offered (Err cause)
 IsOffered offered (Err input.Memory) = Unit {0}

@@ -1,5 +1,8 @@
+//! The faults of packaging.
+
 ghost use Rattle.std.specs.Prelude.{◌≡◌, ◌↔◌, IsTrue};
-ghost use Rattle.thorin_faults.specs.declared.fault.Error.TheVariants.{Io, ObjectRead, GimliRead, GimliWrite, Memory};
+ghost use Rattle.thorin_faults.specs.declared.fault.Error.TheVariants.{Io, ObjectRead, GimliRead};
+ghost use Rattle.thorin_faults.specs.declared.fault.Error.TheVariants.{GimliWrite, Memory};
 ghost use Rattle.thorin_faults.specs.Answers.{written_fault};
 ghost use Rattle.thorin_faults.specs.Sessions.{input_error_of, input_fault};
 ghost use Rattle.thorin_faults.specs.declared.fault.InputError.TheVariants as input;
@@ -12,8 +15,6 @@ use std::io;
 #[cfg(test)]
 mod tests;
 mod text;
-
-pub use text::every_fault_has_a_text;
 
 /// What a call of the package builder answers, where no other fault is named.
 pub type Result<T, E = Error> = std::result::Result<T, E>;

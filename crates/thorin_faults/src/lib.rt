@@ -2,9 +2,8 @@
 #![tactic(auto)]
 
 mod fault;
+pub mod laws;
 mod session;
 
-pub use fault::{
-    Error, InputError, MissingReferencedObjectBehaviour, Result, every_fault_has_a_text,
-};
+pub use fault::{Error, InputError, MissingReferencedObjectBehaviour, Result};
 pub use session::{ArenaSession, BytesSession, MemorySession, Session};

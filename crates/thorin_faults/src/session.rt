@@ -1,3 +1,5 @@
+//! What sessions do.
+
 ghost use Rattle.std.specs.Prelude.{◌≡◌, ℕ, List, Result, IfOk, IfErr, IsOk};
 ghost use Rattle.std.specs.Path.{path_bytes};
 ghost use Rattle.std.specs.declared.io.Error.{Error as IoError};
@@ -19,17 +21,23 @@ pub use arena::ArenaSession;
 pub use bytes::BytesSession;
 pub use memory::MemorySession;
 
-/// What holds the data of a run: inputs that were read, and what was made from them. Its memory isn't given back
-/// while it lives.
+/// What holds the data of a run: inputs that were read, and what was made from them. Its memory
+/// isn't given back while it lives.
 pub trait Session<Relocations> {
     // What a read of the file at a path may answer.
     ghost offer: { Self → List ℕ → Result (List ℕ) IoError → Type 0 };
 
-    /// Places bytes in the session. A refusal, for want of memory, hands nothing back.
+    /// Places bytes in the session.
+    ///
+    /// # Errors
+    /// Want of memory, and then nothing is handed back.
     fn alloc_data<'s>(&'s self, bytes: Vec<u8>) -> Result<&'s [u8], AllocError>
         ensures { IfOk result (λ placed. placed.now ≡ bytes.items) };
 
     /// Gives borrowed bytes back as they are, and places owned ones in the session.
+    ///
+    /// # Errors
+    /// Want of memory for owned bytes.
     fn alloc_owned_cow<'i, 's: 'i>(
         &'s self,
         bytes: CowSlice<'i, u8>,
@@ -44,10 +52,16 @@ pub trait Session<Relocations> {
     }
 
     /// Places relocations in the session, in the order that they have.
+    ///
+    /// # Errors
+    /// Want of memory.
     fn alloc_relocation<'s>(&'s self, list: &[Relocations]) -> Result<&'s [Relocations], AllocError>
         ensures { IfOk result (λ placed. placed.now ≡ list.now) };
 
-    /// Reads the file at a path. Want of memory is `InputError::Memory` alone.
+    /// Reads the file at a path.
+    ///
+    /// # Errors
+    /// Why it couldn't be read; want of memory is `InputError::Memory` alone.
     fn read_input<'s>(&'s self, path: Path<'_>) -> Result<&'s [u8], InputError>
         ensures offered { IsOffered (offer self.now (path_bytes path.entry)) result }
         ensures memory { IfErr result IsNoWantOfMemory };

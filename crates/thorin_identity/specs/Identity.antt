@@ -1,6 +1,7 @@
--- Which unit a unit of a split object is (DWARF 5, 7.5.1: the identifier or signature in its header; before version 5
--- the GNU_dwo_id of its root entry: the GNU page DebugFission).
-use Rattle.std.specs.Prelude.{ℕ, List, [], ◌∷◌, Bool, ◌||◌, ◌==◌, if◌then◌else◌, Option, Some, None, Result, Ok, Err}
+-- Which unit a unit of a split object is (DWARF 5, 7.5.1: the identifier or signature in its
+-- header; before version 5 the GNU_dwo_id of its root entry: the GNU page DebugFission).
+use Rattle.std.specs.Prelude.{ℕ, List, [], ◌∷◌, Bool, ◌||◌, ◌==◌, if◌then◌else◌, Option, Some, None}
+use Rattle.std.specs.Prelude.{Result, Ok, Err}
 use Rattle.std.specs.Option.{ok_or}
 use Rattle.dwp_base.specs.Reading.{◌>>=◌}
 use Rattle.dwp_bytes.specs.Input.{Input}
@@ -14,7 +15,8 @@ use Rattle.dwp_dwarf.specs.Entries.{DebugAttribute, DebugEntry, entry, root_code
 use Rattle.dwp_dwarf.specs.Offsets.{from_at}
 use Rattle.dwp_table.specs.declared.object.DwarfObject.{DwarfObject}
 use Rattle.dwp_table.specs.declared.object.DwarfObject.TheVariants.{Compilation, TypeUnit}
-use Rattle.thorin_faults.specs.Fault.{Fault, NoDie, TopLevelDieNotUnit, ParseUnitAbbreviations, GimliRead}
+use Rattle.thorin_faults.specs.Fault.{Fault, NoDie, TopLevelDieNotUnit, ParseUnitAbbreviations}
+use Rattle.thorin_faults.specs.Fault.{GimliRead}
 use Rattle.thorin_faults.specs.Answers.{as_fault}
 
 -- the compilation unit of an identifier, the type unit of a signature
@@ -44,19 +46,22 @@ abbrev pub identifier_in : DebugAttribute → Option ℕ
 identifier_in a = if a.name == DW_AT_GNU_dwo_id then number_of a else None
 
 -- what was found, or what comes of the others
-abbrev pub found_or : Option ℕ → Result (Option DwarfObject) Fault → Result (Option DwarfObject) Fault
+abbrev pub found_or : Option ℕ → Result (Option DwarfObject) Fault
+    → Result (Option DwarfObject) Fault
 found_or None others = others
 found_or (Some id) others = Ok (Some (compilation id))
 
 -- the first such number, up to the first fault
-abbrev pub first_identifier : List (Result DebugAttribute ReadError) → Result (Option DwarfObject) Fault
+abbrev pub first_identifier : List (Result DebugAttribute ReadError)
+    → Result (Option DwarfObject) Fault
 first_identifier [] = Ok None
 first_identifier (Ok a ∷ others) = found_or (identifier_in a) (first_identifier others)
 first_identifier (Err e ∷ others) = Err (GimliRead e)
 
 -- the identifier in an entry of a unit
 unfoldable pub entry_identity : DebugEntry → Result (Option DwarfObject) Fault
-entry_identity e = if is_unit_tag e.tag then first_identifier e.attributes else Err TopLevelDieNotUnit
+entry_identity e =
+    if is_unit_tag e.tag then first_identifier e.attributes else Err TopLevelDieNotUnit
 
 -- the identifier in the root entry of a compile unit, whose abbreviations stand in that section
 unfoldable pub root_identity : Input → Unit → Result (Option DwarfObject) Fault

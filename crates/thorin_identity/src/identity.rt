@@ -5,7 +5,8 @@ ghost use Rattle.dwp_bytes.specs.Input.{Input};
 ghost use Rattle.thorin_faults.specs.Answers.{Gives};
 ghost use Rattle.dwp_dwarf.specs.Units.{Unit, unit_of};
 ghost use Rattle.dwp_dwarf.specs.Attributes.{entry_of};
-ghost use Rattle.thorin_identity.specs.Identity.{identity, identity_by, root_identity, entry_identity, first_identifier, is_unit_tag};
+ghost use Rattle.thorin_identity.specs.Identity.{identity, identity_by, root_identity};
+ghost use Rattle.thorin_identity.specs.Identity.{entry_identity, first_identifier, is_unit_tag};
 
 use dwp_dwarf::{
     AbbreviationCache, Abbreviations, ReadError, Reader, RootEntry, UnitHeader, UnitType,
@@ -21,16 +22,19 @@ const DW_AT_GNU_DWO_ID: u64 = 0x2131;
 
 /// The identifier of a unit: from the header of a skeleton, split or type unit; for a compile unit
 /// the first GNU_dwo_id of its root entry whose form is a plain number; else none (DWARF 5, 7.5.1;
-/// the GNU page DebugFission). `debug_abbrev` is the section that the unit's abbreviations stand in.
+/// the GNU page DebugFission). `debug_abbrev` is the section that the unit's abbreviations stand
+/// in.
 ///
-/// Refuses, for a compile unit alone, with `ParseUnitAbbreviations` (the offset is past the end, or
-/// the table has a fault), `NoDie`, `TopLevelDieNotUnit` and `GimliRead` (the root entry can't be read).
+/// # Errors
+/// For a compile unit alone: `ParseUnitAbbreviations` (the offset is past the end, or the table has
+/// a fault), `NoDie`, `TopLevelDieNotUnit` and `GimliRead` (the root entry can't be read).
 #[tactic(auto, unfolding(crate::specs::Identity::identity))]
 pub fn dwo_identifier_of_unit<R: Reader>(
     debug_abbrev: &R,
     header: &UnitHeader<R>,
 ) -> Result<Option<DwarfObject>, Error>
-    ensures meaning { Gives (λ name. name) result (identity (R.input debug_abbrev.now) (unit_of R.input header.now)) }
+    ensures meaning { Gives (λ name. name) result
+        (identity (R.input debug_abbrev.now) (unit_of R.input header.now)) }
     ensures memory { IfErr result (λ e. e ≢ Error.Memory) }
 {
     match header.unit_type() {
@@ -39,14 +43,18 @@ pub fn dwo_identifier_of_unit<R: Reader>(
     }
 }
 
-/// The same, where the section's table at hand is remembered: units that use one table, one after the other,
-/// read it once.
+/// The same, where the section's table at hand is remembered: units that use one table, one after
+/// the other, read it once.
+///
+/// # Errors
+/// Those of `dwo_identifier_of_unit`.
 #[tactic(auto, unfolding(crate::specs::Identity::identity))]
 pub fn dwo_identifier_remembering<R: Reader>(
     debug_abbrev: &mut AbbreviationCache<R>,
     header: &UnitHeader<R>,
 ) -> Result<Option<DwarfObject>, Error>
-    ensures meaning { Gives (λ name. name) result (identity (R.input debug_abbrev.old) (unit_of R.input header.now)) }
+    ensures meaning { Gives (λ name. name) result
+        (identity (R.input debug_abbrev.old) (unit_of R.input header.now)) }
     ensures memory { IfErr result (λ e. e ≢ Error.Memory) }
     ensures kept { debug_abbrev.new ≡ debug_abbrev.old }
 {
@@ -56,9 +64,10 @@ pub fn dwo_identifier_remembering<R: Reader>(
     }
 }
 
-// The identifier that a unit of this type has in its header.
+/// The identifier that a unit of this type has in its header.
 fn header_identifier(unit_type: UnitType) -> Option<DwarfObject>
-    ensures { unit_type ≢ UnitType.Compilation → (section : Input) → (unit : Unit) → identity_by section unit unit_type ≡ Ok result }
+    ensures { unit_type ≢ UnitType.Compilation → (section : Input) → (unit : Unit)
+        → identity_by section unit unit_type ≡ Ok result }
 {
     match unit_type {
         UnitType::Skeleton(id) | UnitType::SplitCompilation(id) => {
@@ -70,13 +79,14 @@ fn header_identifier(unit_type: UnitType) -> Option<DwarfObject>
     }
 }
 
-// The identifier in the root entry of a compile unit.
+/// The identifier in the root entry of a compile unit.
 #[tactic(auto, unfolding(crate::specs::Identity::root_identity))]
 fn root_identifier<R: Reader>(
     debug_abbrev: &R,
     header: &UnitHeader<R>,
 ) -> Result<Option<DwarfObject>, Error>
-    ensures meaning { Gives (λ name. name) result (root_identity (R.input debug_abbrev.now) (unit_of R.input header.now)) }
+    ensures meaning { Gives (λ name. name) result
+        (root_identity (R.input debug_abbrev.now) (unit_of R.input header.now)) }
     ensures memory { IfErr result (λ e. e ≢ Error.Memory) }
 {
     let table = Abbreviations::new(*debug_abbrev, header.abbrev_offset()).map_err(
@@ -90,13 +100,14 @@ fn root_identifier<R: Reader>(
     entry_identifier(abbreviation.entry(header.encoding(), values))
 }
 
-// The same by what is remembered.
+/// The same by what is remembered.
 #[tactic(auto, unfolding(crate::specs::Identity::root_identity))]
 fn root_identifier_remembering<R: Reader>(
     debug_abbrev: &mut AbbreviationCache<R>,
     header: &UnitHeader<R>,
 ) -> Result<Option<DwarfObject>, Error>
-    ensures meaning { Gives (λ name. name) result (root_identity (R.input debug_abbrev.old) (unit_of R.input header.now)) }
+    ensures meaning { Gives (λ name. name) result
+        (root_identity (R.input debug_abbrev.old) (unit_of R.input header.now)) }
     ensures memory { IfErr result (λ e. e ≢ Error.Memory) }
     ensures kept { debug_abbrev.new ≡ debug_abbrev.old }
 {
@@ -112,7 +123,7 @@ fn root_identifier_remembering<R: Reader>(
     entry_identifier(abbreviation.entry(header.encoding(), values))
 }
 
-// The identifier in an entry of a unit.
+/// The identifier in an entry of a unit.
 #[tactic(auto, unfolding(crate::specs::Identity::entry_identity))]
 fn entry_identifier<R: Reader>(entry: RootEntry<R>) -> Result<Option<DwarfObject>, Error>
     ensures meaning { Gives (λ name. name) result (entry_identity (entry_of R.input entry)) }

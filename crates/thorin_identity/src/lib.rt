@@ -1,4 +1,5 @@
-//! Which unit a unit of a split object or of an executable is (DWARF 5, 7.5.1; the GNU page DebugFission).
+//! Which unit a unit of a split object or of an executable is (DWARF 5, 7.5.1; the
+//! GNU page DebugFission).
 #![tactic(auto)]
 
 mod identity;

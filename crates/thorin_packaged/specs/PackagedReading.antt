@@ -12,22 +12,31 @@ use Rattle.thorin_strings.specs.Strings.{IsTable, data_of}
 abbrev pub range_bytes : List ℕ → Contribution → List ℕ
 range_bytes bytes range = slice_range bytes range.offset.0 (range.offset.0 + range.size)
 
--- a range is inside the section, and is read as before, of each number, in the section of any table that begins with the
--- strings after it
-pub record RangeReadsAlike (order : Endianness) (encoding : Encoding) (section bytes written : List ℕ) (after : List (List ℕ)) (range : Contribution) : Type 0 where
+-- a range is inside the section, and is read as before, of each number, in the section of any table
+-- that begins with the strings after it
+pub record RangeReadsAlike (order : Endianness) (encoding : Encoding)
+    (section bytes written : List ℕ) (after : List (List ℕ)) (range : Contribution) : Type 0 where
   pub inside : range.offset.0 + range.size ≤ length bytes
-  pub alike : (final : List (List ℕ)) → IsTable final → take (length after) final ≡ after → (k : ℕ) → ReadsAlike order encoding section (range_bytes bytes range) (data_of final) (range_bytes written range) k
+  pub alike : (final : List (List ℕ)) → IsTable final → take (length after) final ≡ after
+      → (k : ℕ) → ReadsAlike order encoding section (range_bytes bytes range) (data_of final)
+      (range_bytes written range) k
 
 -- so is the range of each row
-abbrev pub RowsReadAlike : Endianness → Encoding → (section bytes written : List ℕ) → List (List ℕ) → Index → Type 0
+abbrev pub RowsReadAlike : Endianness → Encoding → (section bytes written : List ℕ) → List (List ℕ)
+    → Index → Type 0
 RowsReadAlike order encoding section bytes written after index =
-    (number : ℕ) (row : Ranges) (range : Contribution) → row_in index number ≡ Ok row → range_in row StrOffsets ≡ Some range → RangeReadsAlike order encoding section bytes written after range
+    (number : ℕ) (row : Ranges) (range : Contribution) → row_in index number ≡ Ok row → range_in row
+    StrOffsets ≡ Some range → RangeReadsAlike order encoding section bytes written after range
 
--- a package's string offsets were rewritten: the strings before keep their offsets, the section its size, and the range of
--- each row of both indexes is read as before
-pub record PackageReadsAlike (order : Endianness) (encoding : Encoding) (compilations types : Option Index) (section bytes : List ℕ) (before : List (List ℕ)) (written : List ℕ) (after : List (List ℕ)) : Type 0 where
+-- a package's string offsets were rewritten: the strings before keep their offsets, the section its
+-- size, and the range of each row of both indexes is read as before
+pub record PackageReadsAlike (order : Endianness) (encoding : Encoding)
+    (compilations types : Option Index) (section bytes : List ℕ) (before : List (List ℕ))
+    (written : List ℕ) (after : List (List ℕ)) : Type 0 where
   pub table : IsTable after
   pub kept : take (length before) after ≡ before
   pub size : length written ≡ length bytes
-  pub compilation_rows : (index : Index) → compilations ≡ Some index → RowsReadAlike order encoding section bytes written after index
-  pub type_rows : (index : Index) → types ≡ Some index → RowsReadAlike order encoding section bytes written after index
+  pub compilation_rows : (index : Index) → compilations ≡ Some index
+      → RowsReadAlike order encoding section bytes written after index
+  pub type_rows : (index : Index) → types ≡ Some index
+      → RowsReadAlike order encoding section bytes written after index

@@ -17,4 +17,5 @@ pair_cmp x y = ordering_then (nat_cmp x.0 y.0) (nat_cmp x.1 y.1)
 
 -- the map has for each range the lowest row that has it
 pub record IsRowPlaces (p : Inside) : Type 0 where
-  pub each : (range : Contribution) → get pair_cmp p.rows (range.offset.0, range.size) ≡ row_by_place (option_copied p.index) p.section range
+  pub each : (range : Contribution) → get pair_cmp p.rows (range.offset.0, range.size)
+      ≡ row_by_place (option_copied p.index) p.section range

@@ -1,3 +1,5 @@
+//! What rows by place and rewritten offsets of packages are, as laws.
+
 ghost use Rattle.std.specs.Prelude.{◌≡◌, ◌≢◌, ℕ, List, Option, Some, None, Ok};
 ghost use Rattle.dwp_base.specs.declared.endian.Endianness.{Endianness};
 ghost use Rattle.dwp_base.specs.declared.section.SectionKind.{SectionKind};
@@ -9,8 +11,8 @@ ghost use Rattle.thorin_packaged.specs.PackagedOffsets.{packaged_offsets};
 ghost use Rattle.thorin_packaged.specs.PackagedReading.{PackageReadsAlike};
 ghost use Rattle.thorin_packaged.specs.RowPlaces.{IsFirstWith, row_by_place};
 
-use thorin_parts::rewritten_strings_are_read_alike;
-use thorin_strings::rewritten_offsets_name_the_same;
+use thorin_parts::laws::rewritten_strings_are_read_alike;
+use thorin_strings::laws::rewritten_offsets_name_the_same;
 
 /// A row that is found by its range in a section has that range, and no row before it has. It does
 /// nothing.
@@ -20,8 +22,8 @@ pub fn rows_are_found_by_place()
         → IsFirstWith index kind range number }
 {}
 
-/// The first row that has a range in a section is found by it, and where none is found no row has it. It
-/// does nothing.
+/// The first row that has a range in a section is found by it, and where none is found no row has
+/// it. It does nothing.
 pub fn every_row_is_found_by_place()
     ensures first { (index : Index) (kind : SectionKind) (range : Contribution) (number : ℕ)
         → IsFirstWith index kind range number
@@ -33,13 +35,15 @@ pub fn every_row_is_found_by_place()
         → range_in row kind ≢ Some range }
 {}
 
-/// A package's string offsets that were rewritten have as many bytes as before, and the range of each row
-/// is read as before, of each number, in the section of any table that begins with the strings after it.
-/// It does nothing.
+/// A package's string offsets that were rewritten have as many bytes as before, and the range of
+/// each row is read as before, of each number, in the section of any table that begins with the
+/// strings after it. It does nothing.
 pub fn packaged_rows_are_read_alike()
-    ensures { (order : Endianness) (encoding : Encoding) (compilations types : Option Index) (section bytes : List ℕ) (before : List (List ℕ)) (written : List ℕ) (after : List (List ℕ))
+    ensures { (order : Endianness) (encoding : Encoding) (compilations types : Option Index)
+        (section bytes : List ℕ) (before : List (List ℕ)) (written : List ℕ) (after : List (List ℕ))
         → IsTable before
-        → packaged_offsets order encoding compilations types section bytes before ≡ Ok (written, after)
+        → packaged_offsets order encoding compilations types section bytes before
+        ≡ Ok (written, after)
         → PackageReadsAlike order encoding compilations types section bytes before written after }
 {
     rewritten_offsets_name_the_same();

@@ -3,7 +3,8 @@
 ghost use Rattle.std.specs.Prelude.{◌≡◌, ◌≢◌, [], map, OnOk, IfOk, IfErr};
 ghost use Rattle.std.specs.Option.{option_copied};
 ghost use Rattle.thorin_faults.specs.Answers.{Gives, MemoryAside};
-ghost use Rattle.thorin_packaged.specs.PackagedOffsets.{is_whole_range, offset_ranges, ranges_test, with_rows};
+ghost use Rattle.thorin_packaged.specs.PackagedOffsets.{is_whole_range, offset_ranges, ranges_test};
+ghost use Rattle.thorin_packaged.specs.PackagedOffsets.{with_rows};
 ghost use Rattle.thorin_packaged.specs.RangeKeys.{range_at};
 
 use crate::row_places::range_of_row;
@@ -21,7 +22,8 @@ pub(crate) fn offset_ranges(
     cu_index: Option<&UnitIndex<'_>>,
     tu_index: Option<&UnitIndex<'_>>,
 ) -> Result<Vec<Contribution>, AllocError>
-    ensures { IfOk result (λ ranges. ranges.items ≡ offset_ranges (option_copied cu_index.entry) (option_copied tu_index.entry)) }
+    ensures { IfOk result (λ ranges. ranges.items
+        ≡ offset_ranges (option_copied cu_index.entry) (option_copied tu_index.entry)) }
 {
     let mut keys = BTreeSet::new(alloc);
     add_rows(&mut keys, cu_index)?;
@@ -41,7 +43,8 @@ fn add_rows(
     keys: &mut BTreeSet<(u64, u64)>,
     index: Option<&UnitIndex<'_>>,
 ) -> Result<(), AllocError>
-    ensures { OnOk result (map range_at keys.new.keys ≡ with_rows (option_copied index.entry) (map range_at keys.old.keys)) }
+    ensures { OnOk result (map range_at keys.new.keys
+        ≡ with_rows (option_copied index.entry) (map range_at keys.old.keys)) }
 {
     let Some(index) = index else {
         return Ok(());
@@ -54,8 +57,8 @@ fn add_rows(
     Ok(())
 }
 
-/// Whether a range lies inside a section of so many bytes, isn't shorter than its header, and has whole
-/// entries.
+/// Whether a range lies inside a section of so many bytes, isn't shorter than its header, and has
+/// whole entries.
 fn is_whole_range(range: Contribution, encoding: Encoding, size: u64) -> bool
     ensures { result ≡ is_whole_range encoding size range }
 {

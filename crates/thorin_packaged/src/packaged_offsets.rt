@@ -3,7 +3,8 @@
 ghost use Rattle.std.specs.Prelude.{◌≡◌, length, take};
 ghost use Rattle.std.specs.Option.{option_copied};
 ghost use Rattle.thorin_faults.specs.Answers.{Gives};
-ghost use Rattle.thorin_packaged.specs.PackagedOffsets.{packaged_offsets, ranges_test, rewritten_from};
+ghost use Rattle.thorin_packaged.specs.PackagedOffsets.{packaged_offsets, ranges_test};
+ghost use Rattle.thorin_packaged.specs.PackagedOffsets.{rewritten_from};
 
 use crate::offset_ranges::{offset_ranges, test_ranges};
 use dwp_base::{Contribution, Endianness};
@@ -13,13 +14,16 @@ use std::alloc::Global;
 use thorin_faults::Error;
 use thorin_strings::PackageStringTable;
 
-/// The string offsets of a package with these indexes, rewritten to the same strings in a table: each
-/// range of a row by itself, with its own header (DWARF 5, 7.3.5, 7.26), and the bytes between the ranges
-/// as they are. Strings that are new go last; a refusal leaves those that were added before it.
+/// The string offsets of a package with these indexes, rewritten to the same strings in a table:
+/// each range of a row by itself, with its own header (DWARF 5, 7.3.5, 7.26), and the bytes between
+/// the ranges as they are. Strings that are new go last; a refusal leaves those that were added
+/// before it.
 ///
-/// Refuses, before any range is rewritten and by their places, with `BadStringOffsets` (a range is outside
-/// the section, shorter than its header, or its entries aren't whole) and `OverlappingStringOffsets` (a
-/// range begins inside the one before it); then with what `remap_str_offsets_section` refuses a range for.
+/// # Errors
+/// Before any range is rewritten and by their places, `BadStringOffsets` (a range is outside the
+/// section, shorter than its header, or its entries aren't whole) and `OverlappingStringOffsets` (a
+/// range begins inside the one before it); then what `remap_str_offsets_section` refuses a range
+/// for.
 #[tactic(auto, unfolding(crate::specs::PackagedOffsets::packaged_offsets))]
 pub fn remap_packaged_offsets(
     alloc: Global,
@@ -32,7 +36,8 @@ pub fn remap_packaged_offsets(
     encoding: Encoding,
 ) -> Result<Vec<u8>, Error>
     ensures meaning { Gives (λ bytes. (bytes.items, strings.new)) result
-        (packaged_offsets endian encoding (option_copied cu_index.entry) (option_copied tu_index.entry) debug_str.now debug_str_offsets.now strings.old) }
+        (packaged_offsets endian encoding (option_copied cu_index.entry)
+        (option_copied tu_index.entry) debug_str.now debug_str_offsets.now strings.old) }
     ensures kept { take (length strings.old) strings.new ≡ strings.old }
 {
     let ranges = offset_ranges(alloc, cu_index, tu_index)?;
@@ -60,7 +65,8 @@ fn rewritten(
 ) -> Result<Vec<u8>, Error>
     requires { ranges_test encoding (length debug_str_offsets.now) 0 ranges.now ≡ Ok tt }
     ensures meaning { Gives (λ bytes. (bytes.items, strings.new)) result
-        (rewritten_from endian encoding debug_str.now debug_str_offsets.now 0 ranges.now strings.old) }
+        (rewritten_from endian encoding debug_str.now debug_str_offsets.now 0
+        ranges.now strings.old) }
     ensures kept { take (length strings.old) strings.new ≡ strings.old }
 {
     let mut out = Vec::with_capacity(alloc, debug_str_offsets.len())?;

@@ -11,8 +11,8 @@ use std::collections::BTreeMap;
 use std::marker::Model;
 use thorin_faults::Error;
 
-/// Finds rows of an index by the range that they have in one section, without a look at all rows for
-/// each.
+/// Finds rows of an index by the range that they have in one section, without a look at all rows
+/// for each.
 #[derive(Drop)]
 pub struct RowPlaces<'i, 'a> {
     index: Option<&'i UnitIndex<'a>>,
@@ -34,14 +34,17 @@ impl<'i, 'a> Model for RowPlaces<'i, 'a> {
 }
 
 impl<'i, 'a> RowPlaces<'i, 'a> {
-    /// Goes over the rows of an index once. Without an index there are none. It refuses for want of
-    /// memory alone.
+    /// Goes over the rows of an index once. Without an index there are none.
+    ///
+    /// # Errors
+    /// `Memory` alone.
     pub fn new(
         alloc: Global,
         index: Option<&'i UnitIndex<'a>>,
         section: SectionKind,
     ) -> Result<RowPlaces<'i, 'a>, Error>
-        ensures ok { IfOk result (λ p. p ≡ record { index = option_copied index.entry; section = section }) }
+        ensures ok { IfOk result (λ p.
+            p ≡ record { index = option_copied index.entry; section = section }) }
         ensures err { IfErr result (λ e. e ≡ Error.Memory) }
     {
         let mut rows = BTreeMap::new(alloc);
@@ -59,7 +62,8 @@ impl<'i, 'a> RowPlaces<'i, 'a> {
         })
     }
 
-    /// The number of the lowest row, counted from 1, whose range in the section is exactly that one.
+    /// The number of the lowest row, counted from 1, whose range in the section is exactly that
+    /// one.
     pub fn find(&self, range: Contribution) -> Option<u32>
         ensures { result ≡ row_by_place self.now.index self.now.section range }
     {

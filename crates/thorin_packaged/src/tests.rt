@@ -1,3 +1,8 @@
+//! Rows by place, and string offsets of packages that are rewritten.
+
+use super::laws::{
+    every_row_is_found_by_place, packaged_rows_are_read_alike, rows_are_found_by_place,
+};
 use super::*;
 use dwp_base::{Contribution, ContributionOffset, Endianness, SectionKind};
 use dwp_bytes::{Encoding, Format, ReadError};
@@ -63,8 +68,8 @@ fn index_of(
     write_index(alloc, Endianness::Little, &entries)
 }
 
-/// The string offsets of a package whose compilation units have these ranges, and whose one type unit
-/// has that one, rewritten into a table that has `b`; and the strings after it.
+/// The string offsets of a package whose compilation units have these ranges, and whose one type
+/// unit has that one, rewritten into a table that has `b`; and the strings after it.
 fn rewritten(
     alloc: Global,
     encoding: Encoding,

@@ -3,7 +3,7 @@ use Rattle.std.proofs.Common.{◌≡◌, ℕ, ◌+◌, ◌-◌, ◌<◌, ◌≤�
 use Rattle.std.specs.Option.{IsSomeAnd}
 use Rattle.std.proofs.lemmas.Bool.{cases_lt}
 use Rattle.std.proofs.lemmas.List.{get_or_append_left, get_or_push, take_more, map-append, length_push, length-map, length-take-le}
-use Rattle.dwp_table.specs.Table.{IsPlacedAfter, IsTable}
+use Rattle.dwp_table.specs.Table.{IsPlacedAfter, IsHashTable}
 use Rattle.thorin_parts.specs.Buckets.{LooksAt, IsLooked}
 
 -- what was placed stays at its place
@@ -51,16 +51,16 @@ ids_count : {B : Type 0} (id : B → ℕ) (units : List B) (i : ℕ) → i < len
 ids_count id units i within = length-map (take i units) id ∙ length-take-le i units (omega arith)
 
 pub table_next : {B : Type 0} (id : B → ℕ) (units : List B) (i x : ℕ) (unit : B) (old new : List ℕ) → i < length units → unit ≡ get_or units i unit → x ≡ id unit → length units < length old
-    → IsTable (map id (take i units)) old → ((ids : List ℕ) → IsTable ids old → i + 1 ≡ length ids + 1 → i + 1 < length old → IsTable (ids ++ x ∷ []) new) → IsTable (map id (take (i + 1) units)) new
+    → IsHashTable (map id (take i units)) old → ((ids : List ℕ) → IsHashTable ids old → i + 1 ≡ length ids + 1 → i + 1 < length old → IsHashTable (ids ++ x ∷ []) new) → IsHashTable (map id (take (i + 1) units)) new
 table_next id units i x unit old new within item same room table more =
-    subst (λ (ids : List ℕ). IsTable ids new) (ids_more id units i x unit within item same)
+    subst (λ (ids : List ℕ). IsHashTable ids new) (ids_more id units i x unit within item same)
     (more (map id (take i units)) table (omega (arith, ids_count id units i within)) (omega arith))
 
 pub looks_next : {B : Type 0} (id : B → ℕ) (units : List B) (i x : ℕ) (unit : B) (old new looked all : List ℕ) (l : ℕ) (answer : Option ℕ) → i < length units → unit ≡ get_or units i unit → x ≡ id unit
-    → IsTable (map id (take i units)) old → IsLooked (map id (take i units)) old looked → answer ≡ Some l → all ≡ looked ++ l ∷ []
+    → IsHashTable (map id (take i units)) old → IsLooked (map id (take i units)) old looked → answer ≡ Some l → all ≡ looked ++ l ∷ []
     → Stays old new
-    → ((ids : List ℕ) → IsTable ids old → i + 1 ≡ length ids + 1 → IsSomeAnd answer (λ n. (0 < n) × IsPlacedAfter new x (i + 1) (n - 1)))
-    → ((ids : List ℕ) → IsTable ids old → IsSomeAnd answer (λ n. n ≤ length ids + 1))
+    → ((ids : List ℕ) → IsHashTable ids old → i + 1 ≡ length ids + 1 → IsSomeAnd answer (λ n. (0 < n) × IsPlacedAfter new x (i + 1) (n - 1)))
+    → ((ids : List ℕ) → IsHashTable ids old → IsSomeAnd answer (λ n. n ≤ length ids + 1))
     → IsLooked (map id (take (i + 1) units)) new all
 looks_next id units i x unit old new looked all l answer within item same table looks is all-is stays last few =
     let ids = map id (take i units) in

@@ -10,7 +10,7 @@ use Rattle.dwp_base.specs.declared.section.SectionKind.{SectionKind}
 use Rattle.dwp_base.specs.declared.section.SectionKind.TheVariants.{Info, Types, Abbrev, Line, Loc, Loclists, Rnglists, StrOffsets, Macinfo, Macro, Str, CuIndex, TuIndex}
 use Rattle.dwp_base.specs.declared.section.Contribution.{Contribution}
 use Rattle.dwp_table.specs.Columns.{column_of, kind_of_column, contribution_kinds}
-use Rattle.dwp_table.specs.Table.{IsTable, AreDistinct, signature_of}
+use Rattle.dwp_table.specs.Table.{IsHashTable, AreDistinct, signature_of}
 use Rattle.dwp_index.specs.Index.{Index, Ranges, row_in, column_place, contribution, range_in}
 use Rattle.thorin_parts.specs.declared.entry.IndexEntry.{IndexEntry}
 use Rattle.thorin_parts.specs.Entries.{contribution_to, offset_or_0, size_or_0}
@@ -225,7 +225,7 @@ module _ (version : ℕ) (entries : List IndexEntry) (is : (version ≡ 5) ⊎ (
       get_or-map (row_numbers size_or_0 (used_sections entries)) entries r entry [] within ∙ ap (row_numbers size_or_0 (used_sections entries)) here in
       rw (counted, above, below, offsets, sizes) refl
 
-  pub entries_again : (rows : List ℕ) → IsTable (entry_ids entries) rows → AreDistinct (entry_ids entries) → HasEntries version entries (index_with version (used_sections entries) entries rows)
+  pub entries_again : (rows : List ℕ) → IsHashTable (entry_ids entries) rows → AreDistinct (entry_ids entries) → HasEntries version entries (index_with version (used_sections entries) entries rows)
   entries_again rows table distinct = record {
     version_is = refl;
     count = length-map entries (row_numbers offset_or_0 (used_sections entries));

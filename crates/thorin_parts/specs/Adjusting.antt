@@ -1,5 +1,7 @@
--- Where a unit's part of a section of an input package comes to lie in the output (DWARF 5, 7.3.5.3).
-use Rattle.std.specs.Prelude.{◌≡◌, ℕ, ◌+◌, Bool, false, ◌&&◌, Option, Some, None, is_some, is_none, Result, Ok, Err, nat_le, if◌then◌else◌}
+-- Where a unit's part of a section of an input package comes to lie in the output (DWARF 5,
+-- 7.3.5.3).
+use Rattle.std.specs.Prelude.{◌≡◌, ℕ, ◌+◌, Bool, false, ◌&&◌, Option, Some, None, is_some, is_none}
+use Rattle.std.specs.Prelude.{Result, Ok, Err, nat_le, if◌then◌else◌}
 use Rattle.dwp_base.specs.declared.section.SectionKind.{SectionKind}
 use Rattle.dwp_base.specs.declared.section.Contribution.{Contribution}
 use Rattle.dwp_base.specs.Reading.{◌>>=◌}
@@ -9,7 +11,8 @@ use Rattle.dwp_table.specs.declared.object.DwarfObject.TheVariants.{Compilation,
 use Rattle.dwp_table.specs.Objects.{identifier_of}
 use Rattle.dwp_table.specs.Probing.{found_row}
 use Rattle.dwp_index.specs.Index.{Index, Ranges, row_in, column_place, range_in}
-use Rattle.thorin_faults.specs.Fault.{Fault, fault_of, UnitNotInIndex, RowNotInIndex, SectionNotInRow, BadContribution}
+use Rattle.thorin_faults.specs.Fault.{Fault, fault_of, UnitNotInIndex, RowNotInIndex}
+use Rattle.thorin_faults.specs.Fault.{SectionNotInRow, BadContribution}
 use Rattle.thorin_faults.specs.Answers.{as_fault}
 use Rattle.thorin_faults.specs.declared.fault.Error.{Error}
 
@@ -44,15 +47,18 @@ has_column_for kind None = false
 has_column_for kind (Some index) = is_some (column_place index.version index.columns kind)
 
 -- a range inside a section, from the place on where the section now begins
-unfoldable pub moved : SectionKind → ℕ → Contribution → Option Contribution → Result (Option Contribution) Fault
+unfoldable pub moved : SectionKind → ℕ → Contribution → Option Contribution
+    → Result (Option Contribution) Fault
 moved kind id range None = Err (BadContribution (name_of kind) id)
 moved kind id range (Some whole) =
     if nat_le (range.offset.0 + range.size) whole.size
-    then Ok (Some (record { offset = record { 0 = whole.offset.0 + range.offset.0 }; size = range.size }))
+    then Ok
+    (Some (record { offset = record { 0 = whole.offset.0 + range.offset.0 }; size = range.size }))
     else Err (BadContribution (name_of kind) id)
 
 -- the same of a range that may be absent
-abbrev pub moved_range : SectionKind → ℕ → Option Contribution → Option Contribution → Result (Option Contribution) Fault
+abbrev pub moved_range : SectionKind → ℕ → Option Contribution → Option Contribution
+    → Result (Option Contribution) Fault
 moved_range kind id None whole = Ok None
 moved_range kind id (Some range) whole = moved kind id range whole
 
@@ -61,15 +67,19 @@ abbrev pub without_column : Option Contribution → Result (Option Contribution)
 without_column None = Ok None
 without_column (Some whole) = Err SectionNotInRow
 
--- the unit's part, by its row: its index has the section's column, or the other index has it, or neither
-abbrev pub part_by_row : Adjustor → DwarfObject → Option Contribution → Ranges → Result (Option Contribution) Fault
+-- the unit's part, by its row: its index has the section's column, or the other index has it, or
+-- neither
+abbrev pub part_by_row : Adjustor → DwarfObject → Option Contribution → Ranges
+    → Result (Option Contribution) Fault
 part_by_row a unit whole row =
-    if has_column_for a.section (own_index a unit) then moved_range a.section (identifier_of unit) (range_in row a.section) whole
+    if has_column_for a.section (own_index a unit)
+    then moved_range a.section (identifier_of unit) (range_in row a.section) whole
     else (if has_column_for a.section (other_index a unit) then Ok None
     else without_column whole)
 
 -- the unit's part of the section, which as a whole lies there in the output
-unfoldable pub adjusted : Adjustor → DwarfObject → Option Contribution → Result (Option Contribution) Fault
+unfoldable pub adjusted : Adjustor → DwarfObject → Option Contribution
+    → Result (Option Contribution) Fault
 adjusted a unit whole =
     if is_none a.compilation && is_none a.types then Ok whole
     else (row_of (own_index a unit) (identifier_of unit) >>= part_by_row a unit whole)

@@ -4,4 +4,8 @@ use Rattle.thorin_parts.specs.declared.adjustor.ContributionAdjustor.TheInside.{
 use Rattle.thorin_parts.specs.Adjusting.{Adjustor}
 
 abbrev pub indexes_in : Inside → Adjustor
-indexes_in a = record { compilation = option_copied a.cu_index; types = option_copied a.tu_index; section = a.section }
+indexes_in a = record {
+  compilation = option_copied a.cu_index;
+  types = option_copied a.tu_index;
+  section = a.section;
+}

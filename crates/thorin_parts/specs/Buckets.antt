@@ -2,8 +2,8 @@
 use Rattle.std.specs.Prelude.{◌≡◌, ℕ, ◌+◌, ◌<◌, ◌≤◌, List, length, slice_index}
 use Rattle.dwp_table.specs.Table.{IsPlacedAfter}
 
--- to place row r + 1, so many slots were looked at: the last of them has it, and those before it have smaller
--- rows; they are at most r + 1
+-- to place row r + 1, so many slots were looked at: the last of them has it, and those before it
+-- have smaller rows; they are at most r + 1
 pub record LooksAt (ids rows : List ℕ) (r looked : ℕ) : Type 0 where
   pub others : ℕ
   pub count : looked ≡ others + 1

@@ -1,7 +1,10 @@
 -- What a unit's entry has for each section (DWARF 5, 7.3.5.3; the GNU page DebugFissionDWP).
 use Rattle.std.specs.Prelude.{ℕ, Option, Some, None}
 use Rattle.dwp_base.specs.declared.section.SectionKind.{SectionKind}
-use Rattle.dwp_base.specs.declared.section.SectionKind.TheVariants.{Info, Types, Abbrev, Line, Loc, Loclists, Rnglists, StrOffsets, Macinfo, Macro, Str, CuIndex, TuIndex}
+use Rattle.dwp_base.specs.declared.section.SectionKind.TheVariants.{Info, Types, Abbrev, Line, Loc}
+use Rattle.dwp_base.specs.declared.section.SectionKind.TheVariants.{Loclists, Rnglists, StrOffsets}
+use Rattle.dwp_base.specs.declared.section.SectionKind.TheVariants.{Macinfo, Macro, Str, CuIndex}
+use Rattle.dwp_base.specs.declared.section.SectionKind.TheVariants.{TuIndex}
 use Rattle.dwp_base.specs.declared.section.Contribution.{Contribution}
 use Rattle.thorin_parts.specs.declared.entry.IndexEntry.{IndexEntry}
 

@@ -1,5 +1,6 @@
 -- The rows of an index that was written, as they are read again (DWARF 5, 7.3.5.3).
-use Rattle.std.specs.Prelude.{◌≡◌, ℕ, ◌+◌, List, length, Option, Some, None, Ok, ◌==◌, if◌then◌else◌, slice_get}
+use Rattle.std.specs.Prelude.{◌≡◌, ℕ, ◌+◌, List, length, Option, Some, None, Ok, ◌==◌}
+use Rattle.std.specs.Prelude.{if◌then◌else◌, slice_get}
 use Rattle.dwp_base.specs.declared.section.SectionKind.{SectionKind}
 use Rattle.dwp_base.specs.declared.section.Contribution.{Contribution}
 use Rattle.dwp_table.specs.Table.{IsIndex}
@@ -24,4 +25,5 @@ pub record HasEntries (version : ℕ) (entries : List IndexEntry) (index : Index
   pub version_is : index.version ≡ version
   pub count : length index.offsets ≡ length entries
   pub slots : IsIndex (entry_ids entries) index.signatures index.rows
-  pub each : (r : ℕ) (entry : IndexEntry) → slice_get entries r ≡ Some entry → HasParts index (r + 1) entry
+  pub each : (r : ℕ) (entry : IndexEntry) → slice_get entries r ≡ Some entry
+      → HasParts index (r + 1) entry

@@ -1,6 +1,7 @@
--- What the relocations of an executable's section make of the numbers in it (ELF gABI, "Relocation"; the types are those of
--- the processor supplements for x86-64, i386 and AArch64).
-use Rattle.std.specs.Prelude.{ℕ, ◌+◌, ◌%◌, ◌^◌, Bool, false, ◌==◌, ◌||◌, List, [], ◌∷◌, Option, Some, None, is_some, Result, Ok, Err, if◌then◌else◌}
+-- What the relocations of an executable's section make of the numbers in it (ELF gABI,
+-- "Relocation"; the types are those of the processor supplements for x86-64, i386 and AArch64).
+use Rattle.std.specs.Prelude.{ℕ, ◌+◌, ◌%◌, ◌^◌, Bool, false, ◌==◌, ◌||◌, List, [], ◌∷◌, Option}
+use Rattle.std.specs.Prelude.{Some, None, is_some, Result, Ok, Err, if◌then◌else◌}
 use Rattle.std.specs.Ordering.{nat_cmp}
 use Rattle.std.specs.Int.{w64, cast_unsigned}
 use Rattle.std.specs.BTreeMap.{insert_entry, is_at}
@@ -13,9 +14,11 @@ use Rattle.dwp_elf_read.specs.Elf.{Elf}
 use Rattle.dwp_elf_read.specs.Symbol.{symbol_value_of}
 use Rattle.dwp_bytes.specs.declared.relocation.Relocation.{Relocation}
 use Rattle.dwp_bytes.specs.declared.relocation.RelocationEntry.{RelocationEntry}
-use Rattle.thorin_faults.specs.Fault.{Fault, NamelessSection, UnsupportedRelocation, RelocationWithInvalidSymbol, MultipleRelocations, ObjectRead}
+use Rattle.thorin_faults.specs.Fault.{Fault, NamelessSection, UnsupportedRelocation}
+use Rattle.thorin_faults.specs.Fault.{RelocationWithInvalidSymbol, MultipleRelocations, ObjectRead}
 
--- machines, and their relocations that store a symbol's value plus an addend (the processor supplements of the ELF specification)
+-- machines, and their relocations that store a symbol's value plus an addend (the processor
+-- supplements of the ELF specification)
 abbrev pub EM_386 : ℕ
 EM_386 = 3
 
@@ -61,9 +64,11 @@ R_AARCH64_ABS16 = 259
 -- the type of a relocation that stores a symbol's value plus an addend, of 8, 4, 2 or 1 bytes
 abbrev pub is_absolute : ℕ → ℕ → Bool
 is_absolute machine kind =
-    if machine == EM_X86_64 then kind == R_X86_64_64 || kind == R_X86_64_32 || kind == R_X86_64_32S || kind == R_X86_64_16 || kind == R_X86_64_8
+    if machine == EM_X86_64 then kind == R_X86_64_64 || kind == R_X86_64_32 || kind == R_X86_64_32S
+    || kind == R_X86_64_16 || kind == R_X86_64_8
     else (if machine == EM_386 then kind == R_386_32 || kind == R_386_16 || kind == R_386_8
-    else (if machine == EM_AARCH64 then kind == R_AARCH64_ABS64 || kind == R_AARCH64_ABS32 || kind == R_AARCH64_ABS16
+    else (if machine == EM_AARCH64 then kind == R_AARCH64_ABS64 || kind == R_AARCH64_ABS32
+    || kind == R_AARCH64_ABS16
     else false))
 
 -- a fault of a relocation names its section and its place; without a name the fault is that
@@ -76,12 +81,17 @@ abbrev pub symbol_or : Fault → Result ℕ ReadError → Result ℕ Fault
 symbol_or fault (Ok value) = Ok value
 symbol_or fault (Err e) = Err fault
 
--- what a relocation makes of the number at its place: its type is absolute, and its symbol can be read
+-- what a relocation makes of the number at its place: its type is absolute, and its symbol can be
+-- read
 unfoldable pub relocation_of : Elf → Option (List ℕ) → RawRelocation → Result Relocation Fault
 relocation_of file name raw =
     if is_absolute file.machine raw.kind then (do
-      value ← symbol_or (at_place RelocationWithInvalidSymbol name raw.offset) (symbol_value_of file raw.table raw.symbol)
-      Ok (record { addend = (cast_unsigned w64 raw.addend + value) % 2 ^ 64; implicit_addend = raw.implicit_addend }))
+      value ← symbol_or (at_place RelocationWithInvalidSymbol name raw.offset)
+          (symbol_value_of file raw.table raw.symbol)
+      Ok (record {
+        addend = (cast_unsigned w64 raw.addend + value) % 2 ^ 64;
+        implicit_addend = raw.implicit_addend;
+      }))
     else Err (at_place UnsupportedRelocation name raw.offset)
 
 -- a relocation stands at the place already
@@ -89,16 +99,20 @@ abbrev pub is_taken : List (ℕ × Relocation) → ℕ → Bool
 is_taken found place = is_some (lookup (is_at (nat_cmp place)) found)
 
 -- the relocations by their places, in order, and one more; no second stands at a place
-unfoldable pub with_relocation : Elf → Option (List ℕ) → RawRelocation → List (ℕ × Relocation) → Result (List (ℕ × Relocation)) Fault
+unfoldable pub with_relocation : Elf → Option (List ℕ) → RawRelocation → List (ℕ × Relocation)
+    → Result (List (ℕ × Relocation)) Fault
 with_relocation file name raw found = do
   relocation ← relocation_of file name raw
-  if is_taken found raw.offset then Err (at_place MultipleRelocations name raw.offset) else Ok (insert_entry nat_cmp found raw.offset relocation)
+  if is_taken found raw.offset then Err (at_place MultipleRelocations name raw.offset)
+      else Ok (insert_entry nat_cmp found raw.offset relocation)
 
 -- the same for each relocation that a file has, in its order; a table that can't be read ends them
-unfoldable pub with_relocations : Elf → Option (List ℕ) → List (Result RawRelocation ReadError) → List (ℕ × Relocation) → Result (List (ℕ × Relocation)) Fault
+unfoldable pub with_relocations : Elf → Option (List ℕ) → List (Result RawRelocation ReadError)
+    → List (ℕ × Relocation) → Result (List (ℕ × Relocation)) Fault
 with_relocations file name [] found = Ok found
 with_relocations file name (Err e ∷ rest) found = Err (ObjectRead e)
-with_relocations file name (Ok raw ∷ rest) found = with_relocation file name raw found >>= with_relocations file name rest
+with_relocations file name (Ok raw ∷ rest) found =
+    with_relocation file name raw found >>= with_relocations file name rest
 
 -- an entry as a place and what becomes of the number there
 abbrev pub pair_of : RelocationEntry → ℕ × Relocation

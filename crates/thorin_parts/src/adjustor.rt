@@ -1,3 +1,5 @@
+//! Where the parts of an input's section come to lie (DWARF 5, 7.3.5.3).
+
 ghost use Rattle.std.specs.Prelude.{◌≡◌, ◌+◌, ◌<◌, ◌^◌, Ok, Result, is_some};
 ghost use Rattle.std.specs.Option.{ForSome, option_copied};
 ghost use Rattle.thorin_parts.specs.Adjusting.{
@@ -16,8 +18,9 @@ use dwp_index::{Bucketable, DwarfObject, Row, UnitIndex};
 use std::marker::Model;
 use thorin_faults::Error;
 
-/// Tells where the parts of one section of an input come to lie in the output. The parts of an input
-/// without an index are the whole section; else they are the ranges of the units' rows (DWARF 5, 7.3.5.3).
+/// Tells where the parts of one section of an input come to lie in the output. The parts of an
+/// input without an index are the whole section; else they are the ranges of the units' rows
+/// (DWARF 5, 7.3.5.3).
 #[derive(Drop)]
 pub struct ContributionAdjustor<'i, 'a> {
     cu_index: Option<&'i UnitIndex<'a>>,
@@ -42,7 +45,11 @@ impl<'i, 'a> ContributionAdjustor<'i, 'a> {
         tu_index: Option<&'i UnitIndex<'a>>,
         section: SectionKind,
     ) -> ContributionAdjustor<'i, 'a>
-        ensures { result ≡ record { compilation = option_copied cu_index.entry; types = option_copied tu_index.entry; section = section } }
+        ensures { result ≡ record {
+          compilation = option_copied cu_index.entry;
+          types = option_copied tu_index.entry;
+          section = section;
+        } }
     {
         ContributionAdjustor {
             cu_index,
@@ -51,15 +58,16 @@ impl<'i, 'a> ContributionAdjustor<'i, 'a> {
         }
     }
 
-    /// The unit's part of the section, which as a whole is `whole` in the output; None where the section
-    /// isn't there. An input without an index has `whole` itself. Else it is the range of the unit's row,
-    /// from the place on where `whole` begins; None where the range has no bytes, where only the other
-    /// index has the section's column, or where neither has it and the section isn't there.
+    /// The unit's part of the section, which as a whole is `whole` in the output; None where the
+    /// section isn't there. An input without an index has `whole` itself. Else it is the range of
+    /// the unit's row, from the place on where `whole` begins; None where the range has no bytes,
+    /// where only the other index has the section's column, or where neither has it and the section
+    /// isn't there.
     ///
     /// # Errors
-    /// `UnitNotInIndex` where the unit's index is missing, or the unit in it; `RowNotInIndex` a row number
-    /// past the rows; `BadContribution` a range outside the section, or of one that isn't there;
-    /// `SectionNotInRow` where the section is there and neither index has its column.
+    /// `UnitNotInIndex` where the unit's index is missing, or the unit in it; `RowNotInIndex` a row
+    /// number past the rows; `BadContribution` a range outside the section, or of one that isn't
+    /// there; `SectionNotInRow` where the section is there and neither index has its column.
     #[tactic(auto, unfolding(crate::specs::Adjusting::adjusted))]
     pub fn adjust(
         &self,

@@ -1,11 +1,14 @@
+//! Hash tables of units (DWARF 5, 7.3.5.3).
+
 ghost use Rattle.std.specs.Prelude.{◌≡◌, ◌<◌, [], length, map, IfOk, OnOk};
-ghost use Rattle.dwp_table.specs.Table.{HasSlots, IsTable};
+ghost use Rattle.dwp_table.specs.Table.{HasSlots, IsHashTable};
 ghost use Rattle.thorin_faults.specs.Answers.{Gives};
 ghost use Rattle.thorin_parts.specs.Buckets.{IsLooked};
 ghost use Rattle.thorin_parts.specs.EntryTests.{count_test};
 
 use crate::entry_tests::test_count;
-use dwp_table::{Bucketable, place_row, slot_count, unused_slots_are_a_table};
+use dwp_table::laws::unused_slots_are_a_table;
+use dwp_table::{Bucketable, place_row, slot_count};
 use std::alloc::{AllocError, Global};
 use thorin_faults::Error;
 
@@ -18,14 +21,17 @@ pub struct Buckets {
     pub looked: Vec<u32>,
 }
 
-/// Places units in a hash table in their order, each at the first of its places that is unused. A look-up
-/// finds each of them where no two have one identifier. Refuses more than 1,431,655,765 units with
-/// `NumberTooLarge`, and for memory alone.
+/// Places units in a hash table in their order, each at the first of its places that is unused. A
+/// look-up finds each of them where no two have one identifier.
+///
+/// # Errors
+/// `NumberTooLarge` of more than 1,431,655,765 units; else `Memory` alone.
 pub fn bucket<B: Bucketable>(alloc: Global, units: &[B]) -> Result<Buckets, Error>
     ensures refusal { Gives (λ _. tt) result (count_test (length units.now)) }
-    ensures table { IfOk result (λ b. IsTable (map B.identifier units.now) b.slots.items) }
+    ensures table { IfOk result (λ b. IsHashTable (map B.identifier units.now) b.slots.items) }
     ensures slots { IfOk result (λ b. HasSlots (length units.now) (length b.slots.items)) }
-    ensures looked { IfOk result (λ b. IsLooked (map B.identifier units.now) b.slots.items b.looked.items) }
+    ensures looked { IfOk result (λ b.
+        IsLooked (map B.identifier units.now) b.slots.items b.looked.items) }
 {
     test_count(units.len())?;
     let mut slots = vec![in alloc; 0u32; slot_count(units.len() as u32) as usize]?;
@@ -41,11 +47,12 @@ fn place_units<B: Bucketable>(
     slots: &mut [u32],
     looked: &mut Vec<u32>,
 ) -> Result<(), AllocError>
-    requires unused { IsTable [] slots.old }
+    requires unused { IsHashTable [] slots.old }
     requires room { length units.now < length slots.old }
     requires none_looked { looked.old.items ≡ [] }
-    ensures table { OnOk result (IsTable (map B.identifier units.now) slots.new) }
-    ensures looked { OnOk result (IsLooked (map B.identifier units.now) slots.new looked.new.items) }
+    ensures table { OnOk result (IsHashTable (map B.identifier units.now) slots.new) }
+    ensures looked { OnOk result
+        (IsLooked (map B.identifier units.now) slots.new looked.new.items) }
 {
     for (i, unit) in units.iter().enumerate() {
         looked.push(place_row(slots, unit.index(), i as u32 + 1).unwrap())?;

@@ -1,9 +1,11 @@
+//! The entries that an index is written of (DWARF 5, 7.3.5.3).
+
 use dwp_base::{Contribution, SectionKind};
 use dwp_bytes::Encoding;
 use dwp_table::{Bucketable, DwarfObject};
 
-/// A unit's row in an index: how the unit is encoded, which unit it is, and its contribution to each
-/// section, where it has one (DWARF 5, 7.3.5.3; the GNU page DebugFissionDWP).
+/// A unit's row in an index: how the unit is encoded, which unit it is, and its contribution to
+/// each section, where it has one (DWARF 5, 7.3.5.3; the GNU page DebugFissionDWP).
 #[derive(Clone, Copy, Debug, PartialEq, Eq, Hash)]
 pub struct IndexEntry {
     /// The unit's encoding.

@@ -1,8 +1,11 @@
+//! What is tested of entries before an index is written of them.
+
 ghost use Rattle.std.specs.Prelude.{◌≡◌, ◌≤◌, length, All, Ok, OnOk};
 ghost use Rattle.thorin_parts.specs.Entries.{offset_or_0, size_or_0};
 ghost use Rattle.thorin_parts.specs.IndexText.{FitsRow};
 ghost use Rattle.thorin_faults.specs.Answers.{Gives};
-ghost use Rattle.thorin_parts.specs.EntryTests.{count_test, each, each_part, encoding_test, number_test, parts_test, tests_under};
+ghost use Rattle.thorin_parts.specs.EntryTests.{count_test, each, each_part, encoding_test};
+ghost use Rattle.thorin_parts.specs.EntryTests.{number_test, parts_test, tests_under};
 ghost use Rattle.thorin_parts.specs.PartTests.{test_of};
 
 use crate::entry::IndexEntry;
@@ -27,6 +30,9 @@ pub enum PartTest {
 }
 
 /// That an index can name so many units.
+///
+/// # Errors
+/// `NumberTooLarge` of more units.
 pub fn test_count(units: usize) -> Result<(), Error>
     ensures exact { Gives (λ x. x) result (count_test units) }
     ensures few { OnOk result (units ≤ 1431655765) }
@@ -93,7 +99,8 @@ impl PartTest {
 
     fn test_entries(self, entries: &[IndexEntry]) -> Result<(), Error>
         ensures exact { Gives (λ x. x) result (each (parts_test (test_of self)) entries.now) }
-        ensures passed { OnOk result (All (λ entry. parts_test (test_of self) entry ≡ Ok tt) entries.now) }
+        ensures passed { OnOk result
+            (All (λ entry. parts_test (test_of self) entry ≡ Ok tt) entries.now) }
     {
         for entry in entries {
             self.test_parts(&CONTRIBUTION_KINDS, entry)?;
@@ -102,8 +109,11 @@ impl PartTest {
     }
 }
 
-/// Whether an index of this encoding can be written of the entries: the first fault, in the order of the
-/// tests.
+/// Whether an index of this encoding can be written of the entries.
+///
+/// # Errors
+/// The first fault, in the order of the tests: `NumberTooLarge`, `MixedInputEncodings`,
+/// `SectionOutsideFormat`, `NumberTooLarge`.
 #[tactic(auto, unfolding(crate::specs::EntryTests::tests_under))]
 pub fn test_entries(encoding: Encoding, entries: &[IndexEntry]) -> Result<(), Error>
     ensures exact { Gives (λ x. x) result (tests_under encoding entries.now) }

@@ -1,4 +1,7 @@
-ghost use Rattle.std.specs.Prelude.{◌≡◌, ◌<◌, ◌≤◌, ◌^◌, ◌++◌, [], ◌∷◌, length, map, filter, All, IfOk, OnOk, vec_len};
+//! Writing an index (DWARF 5, 7.3.5.3; the GNU page DebugFissionDWP).
+
+ghost use Rattle.std.specs.Prelude.{◌≡◌, ◌<◌, ◌≤◌, ◌^◌, ◌++◌, [], ◌∷◌, length, map, filter, All};
+ghost use Rattle.std.specs.Prelude.{IfOk, OnOk, vec_len};
 ghost use Rattle.std.specs.List.{flat_map};
 ghost use Rattle.dwp_base.specs.Numbers.{number_bytes};
 ghost use Rattle.dwp_table.specs.Table.{signature_of};
@@ -29,13 +32,15 @@ use dwp_table::{Bucketable, CONTRIBUTION_KINDS, column_of};
 use std::alloc::{AllocError, Global};
 use thorin_faults::Error;
 
-/// The bytes of the index of the entries, whose rows are in their order (DWARF 5, 7.3.5.3; the GNU page
-/// DebugFissionDWP); none where there are no entries. A look-up in it finds each entry where no two have
-/// one identifier.
+/// The bytes of the index of the entries, whose rows are in their order (DWARF 5, 7.3.5.3; the
+/// GNU page DebugFissionDWP); none where there are no entries. A look-up in it finds each entry
+/// where no two have one identifier.
 ///
-/// Refuses, in this order: `NumberTooLarge` more units than an index can name; `MixedInputEncodings`
-/// encodings that differ; `SectionOutsideFormat` a part of a section that packages of the version don't
-/// have; `NumberTooLarge` an offset past 32 bits, then a size. Beside these it refuses for memory alone.
+/// # Errors
+/// In this order: `NumberTooLarge` of more units than an index can name; `MixedInputEncodings` of
+/// encodings that differ; `SectionOutsideFormat` of a part of a section that packages of the
+/// version don't have; `NumberTooLarge` of an offset past 32 bits, then of a size. Beside these
+/// `Memory` alone.
 pub fn write_index(
     alloc: Global,
     endianness: Endianness,
@@ -69,7 +74,8 @@ fn index_text(
     requires rows { All (λ row. row ≤ length entries.now) slots.now }
     requires offsets { All (FitsRow offset_or_0) entries.now }
     requires sizes { All (FitsRow size_or_0) entries.now }
-    ensures { IfOk result (λ bytes. bytes.items ≡ index_bytes order version columns.now entries.now slots.now) }
+    ensures { IfOk result (λ bytes.
+        bytes.items ≡ index_bytes order version columns.now entries.now slots.now) }
 {
     let mut out = Vec::new(alloc);
     put_version(&mut out, order, version)?;
@@ -95,7 +101,8 @@ fn put_counts(
     units: u32,
     slots: u32,
 ) -> Result<(), AllocError>
-    ensures { OnOk result (out.new.items ≡ out.old.items ++ numbers_bytes order (columns ∷ units ∷ slots ∷ [])) }
+    ensures { OnOk result (out.new.items
+        ≡ out.old.items ++ numbers_bytes order (columns ∷ units ∷ slots ∷ [])) }
 {
     put_numbers(out, order, &[columns, units, slots])
 }
@@ -155,7 +162,8 @@ fn put_signatures(
     slots: &[u32],
 ) -> Result<(), AllocError>
     requires { All (λ row. row ≤ length entries.now) slots.now }
-    ensures { OnOk result (out.new.items ≡ out.old.items ++ signatures_bytes order (entry_ids entries.now) slots.now) }
+    ensures { OnOk result (out.new.items
+        ≡ out.old.items ++ signatures_bytes order (entry_ids entries.now) slots.now) }
 {
     for row in slots {
         let signature = signature(entries, *row);
@@ -181,7 +189,8 @@ fn put_columns(
     version: u16,
     columns: &[SectionKind],
 ) -> Result<(), AllocError>
-    ensures { OnOk result (out.new.items ≡ out.old.items ++ numbers_bytes order (column_numbers version columns.now)) }
+    ensures { OnOk result (out.new.items
+        ≡ out.old.items ++ numbers_bytes order (column_numbers version columns.now)) }
 {
     for kind in columns {
         let number = column_of(version, *kind).unwrap_or(0);
@@ -217,7 +226,8 @@ fn put_rows(
     entries: &[IndexEntry],
 ) -> Result<(), AllocError>
     requires { All (FitsRow (measure_of measure)) entries.now }
-    ensures { OnOk result (out.new.items ≡ out.old.items ++ rows_bytes order (measure_of measure) columns.now entries.now) }
+    ensures { OnOk result (out.new.items
+        ≡ out.old.items ++ rows_bytes order (measure_of measure) columns.now entries.now) }
 {
     for entry in entries {
         put_row(out, order, measure, columns, entry)?;
@@ -233,7 +243,8 @@ fn put_row(
     entry: &IndexEntry,
 ) -> Result<(), AllocError>
     requires { FitsRow (measure_of measure) entry.now }
-    ensures { OnOk result (out.new.items ≡ out.old.items ++ numbers_bytes order (row_numbers (measure_of measure) columns.now entry.now)) }
+    ensures { OnOk result (out.new.items ≡ out.old.items
+        ++ numbers_bytes order (row_numbers (measure_of measure) columns.now entry.now)) }
 {
     for kind in columns {
         let number = measure.of(entry.contribution(*kind)) as u32;

@@ -1,5 +1,5 @@
-//! The parts of a package builder: faults and sessions, strings, contributions, the table and the index,
-//! relocations of an executable.
+//! The parts of a package builder: faults and sessions, strings, contributions, the table and the
+//! index, relocations of an executable.
 #![tactic(auto)]
 
 mod adjustor;
@@ -7,17 +7,13 @@ mod buckets;
 mod entry;
 mod entry_tests;
 mod index_writer;
-mod laws;
+pub mod laws;
 mod relocations;
 
 pub use adjustor::ContributionAdjustor;
 pub use buckets::{Buckets, bucket};
 pub use entry::IndexEntry;
 pub use index_writer::write_index;
-pub use laws::{
-    joined_string_offsets_are_read_in_turn, rewritten_strings_are_read_alike,
-    written_index_has_the_entries, written_index_is_read,
-};
 pub use relocations::add_relocations;
 pub use thorin_faults::{
     ArenaSession, Error, InputError, MemorySession, MissingReferencedObjectBehaviour, Result,

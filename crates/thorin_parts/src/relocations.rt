@@ -1,10 +1,13 @@
+//! The relocations of an executable's section (ELF gABI, "Relocation").
+
 ghost use Rattle.std.specs.Prelude.{◌≡◌, [], map, IfOk, IsTrue};
 ghost use Rattle.dwp_elf_read.specs.Relocation.{relocations_of};
 ghost use Rattle.dwp_elf_read.specs.View.{elf, file, section};
 ghost use Rattle.dwp_bytes.specs.Relocation.{ascends};
 ghost use Rattle.thorin_faults.specs.Answers.{Gives, MemoryAside};
 ghost use Rattle.thorin_faults.specs.Fault.{fault_of};
-ghost use Rattle.thorin_parts.specs.Relocations.{at_place, is_absolute, pair_of, relocation_of, with_relocation, with_relocations};
+ghost use Rattle.thorin_parts.specs.Relocations.{at_place, is_absolute, pair_of, relocation_of};
+ghost use Rattle.thorin_parts.specs.Relocations.{with_relocation, with_relocations};
 ghost use Rattle.thorin_parts.specs.Flaws.{flaw_fault};
 
 use dwp_bytes::{Relocation, RelocationEntry};
@@ -51,21 +54,23 @@ enum Flaw {
     Repeated,
 }
 
-/// The relocations of a section of an executable, in order of place, no two at one place; the value of the
-/// symbol is added to each addend.
+/// The relocations of a section of an executable, in order of place, no two at one place; the value
+/// of the symbol is added to each addend.
 ///
-/// Refuses with the first fault in file order: `ObjectRead` where a table of relocations can't be read;
-/// `UnsupportedRelocation` a type that isn't an absolute one of x86-64, i386 or AArch64;
-/// `RelocationWithInvalidSymbol` a symbol that can't be read; `MultipleRelocations` a second one at a place;
-/// in place of the last three `NamelessSection` where the section's name can't be read. Beside these it
-/// refuses for memory alone.
+/// # Errors
+/// The first fault in file order: `ObjectRead` where a table of relocations can't be read;
+/// `UnsupportedRelocation` of a type that isn't an absolute one of x86-64, i386 or AArch64;
+/// `RelocationWithInvalidSymbol` of a symbol that can't be read; `MultipleRelocations` of a second
+/// one at a place; in place of the last three `NamelessSection` where the section's name can't be
+/// read. Beside these `Memory` alone.
 pub fn add_relocations(
     alloc: Global,
     executable: &ElfFile,
     target: &Section,
 ) -> Result<Vec<RelocationEntry>, Error>
     ensures exact { Gives (λ list. map pair_of list.items) result
-        (with_relocations (elf executable.now) (section target.now).name (relocations_of (file target.now) (section target.now).number) []) }
+        (with_relocations (elf executable.now) (section target.now).name
+        (relocations_of (file target.now) (section target.now).number) []) }
     ensures ascends { IfOk result (λ list. IsTrue (ascends list.items)) }
 {
     let found = found_relocations(alloc, executable, target)?;
@@ -80,7 +85,8 @@ fn found_relocations(
     target: &Section,
 ) -> Result<BTreeMap<usize, Relocation>, Error>
     ensures { Gives (λ found. found.entries) result
-        (with_relocations (elf executable.now) (section target.now).name (relocations_of (file target.now) (section target.now).number) []) }
+        (with_relocations (elf executable.now) (section target.now).name
+        (relocations_of (file target.now) (section target.now).number) []) }
 {
     let mut found = BTreeMap::new(alloc);
     for raw in target.relocations() {
@@ -117,7 +123,8 @@ fn relocation(
     target: &Section,
     raw: &RawRelocation,
 ) -> Result<Relocation, Error>
-    ensures { Gives (λ r. r) result (relocation_of (elf executable.now) (section target.now).name raw.now) }
+    ensures { Gives (λ r. r) result
+        (relocation_of (elf executable.now) (section target.now).name raw.now) }
 {
     let place = raw.offset as usize;
     if !is_absolute(executable.machine(), raw.kind) {
@@ -149,7 +156,8 @@ fn is_absolute(machine: u16, kind: u32) -> bool
 
 /// The fault of a relocation, with the section's name.
 fn flawed(alloc: Global, target: &Section, flaw: Flaw, place: usize) -> Error
-    ensures { MemoryAside result (fault_of result ≡ at_place (flaw_fault flaw) (section target.now).name place) }
+    ensures { MemoryAside result (fault_of result
+        ≡ at_place (flaw_fault flaw) (section target.now).name place) }
 {
     let name = match target.name() {
         Ok(name) => name,

@@ -1,3 +1,5 @@
+//! Hash tables, entries, written indexes and relocations.
+
 use super::*;
 use dwp_base::{Contribution, ContributionOffset, Endianness, SectionKind};
 use dwp_bytes::{Encoding, Format, RelocationEntry};

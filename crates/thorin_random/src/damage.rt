@@ -1,3 +1,5 @@
+//! Damage to bytes.
+
 ghost use Rattle.std.specs.Prelude.{◌<◌, IfSome};
 
 use crate::generator::Generator;

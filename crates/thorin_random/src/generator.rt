@@ -1,3 +1,5 @@
+//! Numbers that a seed determines.
+
 ghost use Rattle.std.specs.Prelude.{◌<◌};
 
 use rand_core::{Rng, SeedableRng};

@@ -1,3 +1,5 @@
+//! Reading bytes by each reader.
+
 ghost use Rattle.std.specs.Prelude.{◌≡◌};
 
 use crate::tally::Tally;

@@ -1,3 +1,5 @@
+//! What the calls answered, counted.
+
 use std::fmt::{Display, Formatter, Write};
 
 /// How often a call answered, and how often it named a fault.

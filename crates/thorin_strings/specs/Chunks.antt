@@ -1,5 +1,6 @@
 -- A list cut into pieces, with the place at which each begins.
-use Rattle.std.specs.Prelude.{◌≡◌, ℕ, suc, ◌+◌, ◌/◌, ◌<◌, ◌≤◌, List, [], ◌∷◌, map, length, take, drop, insert, slice_index, slice_index_or, slice_set, All, Vec}
+use Rattle.std.specs.Prelude.{◌≡◌, ℕ, suc, ◌+◌, ◌/◌, ◌<◌, ◌≤◌, List, [], ◌∷◌, map, length, take}
+use Rattle.std.specs.Prelude.{drop, insert, slice_index, slice_index_or, slice_set, All, Vec}
 use Rattle.std.specs.List.{concat}
 
 -- what the vectors of a list hold
@@ -29,4 +30,6 @@ pub record IsChunked (ps : List (List ℕ)) (starts : List ℕ) (count : ℕ) : 
 
 -- the piece of that number was cut in its middle
 abbrev pub IsHalved : (ps qs : List (List ℕ)) → ℕ → Type 0
-IsHalved ps qs at = qs ≡ insert (slice_set ps at (take (length (slice_index_or ps at []) / 2) (slice_index_or ps at []))) (suc at) (drop (length (slice_index_or ps at []) / 2) (slice_index_or ps at []))
+IsHalved ps qs at = qs ≡ insert
+    (slice_set ps at (take (length (slice_index_or ps at []) / 2) (slice_index_or ps at [])))
+    (suc at) (drop (length (slice_index_or ps at []) / 2) (slice_index_or ps at []))

@@ -1,5 +1,6 @@
 -- String offsets, rewritten to the same strings in a table of distinct ones (DWARF 5, 7.26).
-use Rattle.std.specs.Prelude.{ℕ, zero, suc, ◌+◌, ◌-◌, ◌*◌, ◌^◌, nat_lt, ◌==◌, if◌then◌else◌, List, [], ◌∷◌, ◌++◌, length, drop, codes, Result, Ok, Err}
+use Rattle.std.specs.Prelude.{ℕ, zero, suc, ◌+◌, ◌-◌, ◌*◌, ◌^◌, nat_lt, ◌==◌, if◌then◌else◌, List}
+use Rattle.std.specs.Prelude.{[], ◌∷◌, ◌++◌, length, drop, codes, Result, Ok, Err}
 use Rattle.std.specs.List.{flat_map}
 use Rattle.dwp_base.specs.declared.endian.Endianness.{Endianness}
 use Rattle.dwp_base.specs.Numbers.{number, number_bytes}
@@ -11,7 +12,8 @@ use Rattle.dwp_bytes.specs.declared.fault.ReadError.{ReadError}
 use Rattle.dwp_bytes.specs.declared.fault.ReadError.TheVariants.{UnexpectedEof}
 use Rattle.dwp_bytes.specs.Encoding.{offset_size}
 use Rattle.dwp_bytes.specs.StringOffsets.{header_size, entry_count, string_at}
-use Rattle.thorin_faults.specs.Fault.{Fault, OffsetAtIndex, StrAtOffset, NumberTooLarge, BadStringOffsets}
+use Rattle.thorin_faults.specs.Fault.{Fault, OffsetAtIndex, StrAtOffset, NumberTooLarge}
+use Rattle.thorin_faults.specs.Fault.{BadStringOffsets}
 use Rattle.thorin_faults.specs.Answers.{as_fault}
 use Rattle.thorin_strings.specs.Strings.{offset_of, with_string}
 
@@ -36,7 +38,8 @@ header_of order encoding size =
     then Ok []
     else (if nat_lt (length_limit encoding.format) (size + 4)
     then Err (NumberTooLarge (codes "string offsets length") (size + 4))
-    else Ok (initial_length order encoding.format (size + 4) ++ number_bytes order 2 5 ++ number_bytes order 2 0))
+    else Ok (initial_length order encoding.format (size + 4) ++ number_bytes order 2 5
+    ++ number_bytes order 2 0))
 
 -- the offset at a place
 unfoldable pub offset_at : Endianness → Format → List ℕ → ℕ → Result ℕ ReadError
@@ -46,24 +49,29 @@ offset_at order format bytes at =
     else Ok (number order (offset_size format) (drop at bytes))
 
 -- the string that the entry of a number names
-unfoldable pub named_at : Endianness → Encoding → (section bytes : List ℕ) → ℕ → Result (List ℕ) Fault
+unfoldable pub named_at : Endianness → Encoding → (section bytes : List ℕ) → ℕ
+    → Result (List ℕ) Fault
 named_at order encoding section bytes index = do
-  offset ← as_fault (λ e. OffsetAtIndex e index) (offset_at order encoding.format bytes (header_size encoding + index * offset_size encoding.format))
+  offset ← as_fault (λ e. OffsetAtIndex e index) (offset_at order encoding.format bytes
+      (header_size encoding + index * offset_size encoding.format))
   as_fault (λ e. StrAtOffset e offset) (string_at section offset)
 
 -- an offset, which is to fit the format
 unfoldable pub fitting_offset : Format → ℕ → Result ℕ Fault
-fitting_offset format offset = if nat_lt (offset_limit format) offset then Err (NumberTooLarge (codes "string offset") offset) else Ok offset
+fitting_offset format offset = if nat_lt (offset_limit format) offset
+    then Err (NumberTooLarge (codes "string offset") offset) else Ok offset
 
 -- the entry of a number once it names its string among the distinct ones, and these strings
-unfoldable pub remapped_entry : Endianness → Encoding → (section bytes : List ℕ) → ℕ → List (List ℕ) → Result (ℕ × List (List ℕ)) Fault
+unfoldable pub remapped_entry : Endianness → Encoding → (section bytes : List ℕ) → ℕ → List (List ℕ)
+    → Result (ℕ × List (List ℕ)) Fault
 remapped_entry order encoding section bytes index strings = do
   string ← named_at order encoding section bytes index
   offset ← fitting_offset encoding.format (offset_of strings string)
   Ok (offset, with_string strings string)
 
 -- the same of so many first entries
-unfoldable pub remapped_entries : Endianness → Encoding → (section bytes : List ℕ) → ℕ → List (List ℕ) → Result (List ℕ × List (List ℕ)) Fault
+unfoldable pub remapped_entries : Endianness → Encoding → (section bytes : List ℕ) → ℕ
+    → List (List ℕ) → Result (List ℕ × List (List ℕ)) Fault
 remapped_entries order encoding section bytes zero strings = Ok ([], strings)
 remapped_entries order encoding section bytes (suc n) strings = do
   before ← remapped_entries order encoding section bytes n strings
@@ -74,8 +82,10 @@ remapped_entries order encoding section bytes (suc n) strings = do
 abbrev pub entry_bytes : Endianness → Format → List ℕ → List ℕ
 entry_bytes order format offsets = flat_map (number_bytes order (offset_size format)) offsets
 
--- a range of so many bytes once its entries name their strings among the distinct ones, and these strings. A range of no bytes stays one
-unfoldable pub remapped : Endianness → Encoding → (section bytes : List ℕ) → ℕ → List (List ℕ) → Result (List ℕ × List (List ℕ)) Fault
+-- a range of so many bytes once its entries name their strings among the distinct ones, and these
+-- strings. A range of no bytes stays one
+unfoldable pub remapped : Endianness → Encoding → (section bytes : List ℕ) → ℕ → List (List ℕ)
+    → Result (List ℕ × List (List ℕ)) Fault
 remapped order encoding section bytes size strings =
     if size == 0
     then Ok ([], strings)

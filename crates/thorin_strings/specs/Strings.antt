@@ -1,5 +1,7 @@
--- The strings of a package, as `.debug_str.dwo` holds them: each is ended by a zero byte (DWARF 5, 7.26).
-use Rattle.std.specs.Prelude.{◌≡◌, ◌≢◌, ℕ, ◌+◌, ◌-◌, ◌^◌, ◌<◌, ◌≤◌, if◌then◌else◌, ◌==◌, List, [], ◌∷◌, ◌++◌, length, slice_index, All, AllPairs, IsPermutation}
+-- The strings of a package, as `.debug_str.dwo` holds them: each is ended by a zero byte (DWARF 5,
+-- 7.26).
+use Rattle.std.specs.Prelude.{◌≡◌, ◌≢◌, ℕ, ◌+◌, ◌-◌, ◌^◌, ◌<◌, ◌≤◌, if◌then◌else◌, ◌==◌, List, []}
+use Rattle.std.specs.Prelude.{◌∷◌, ◌++◌, length, slice_index, All, AllPairs, IsPermutation}
 use Rattle.std.specs.List.{flat_map, list_any, onto_first}
 use Rattle.std.specs.Str.{bytes_eq}
 use Rattle.std.specs.Ordering.{nat_cmp}
@@ -15,7 +17,8 @@ terminated s = s ++ 0 ∷ []
 abbrev pub data_of : List (List ℕ) → List ℕ
 data_of strings = flat_map terminated strings
 
--- the offset of a string in that section: length + 1 of each string before it, and of all where it isn't there
+-- the offset of a string in that section: length + 1 of each string before it, and of all where it
+-- isn't there
 abbrev pub offset_of : List (List ℕ) → List ℕ → ℕ
 offset_of [] s = 0
 offset_of (t ∷ ts) s = if bytes_eq t s then 0 else length t + 1 + offset_of ts s
@@ -37,7 +40,8 @@ pub record IsTable (strings : List (List ℕ)) : Type 0 where
 abbrev pub IsWithinDigits : ℕ → ℕ → Type 0
 IsWithinDigits count n = (k : ℕ) → n < 2 ^ k → count ≤ k
 
--- a string begins at a place of a section of ended strings: at its front, or behind the zero byte that ends another
+-- a string begins at a place of a section of ended strings: at its front, or behind the zero byte
+-- that ends another
 pub record BeginsAt (bytes : List ℕ) (at : ℕ) : Type 0 where
   pub within : at < length bytes
   pub behind : 0 < at → slice_index bytes (at - 1) ≡ 0
@@ -67,4 +71,5 @@ pub record IsIndexed (bytes positions : List ℕ) : Type 0 where
 pub record StandsAt (bytes positions string : List ℕ) (rank : ℕ) : Type 0 where
   pub within : rank ≤ length positions
   pub before : (k : ℕ) → k < rank → IsBefore (string_from bytes (slice_index positions k)) string
-  pub behind : (k : ℕ) → rank ≤ k → k < length positions → IsBefore string (string_from bytes (slice_index positions k))
+  pub behind : (k : ℕ) → rank ≤ k → k < length positions
+      → IsBefore string (string_from bytes (slice_index positions k))

@@ -1,7 +1,11 @@
-ghost use Rattle.std.specs.Prelude.{◌≡◌, ◌≤◌, ◌<◌, ◌+◌, ◌*◌, ◌^◌, ◌++◌, ℕ, List, [], length, take, Ok, IfSome};
+//! Strings whose positions wait while a range is rewritten.
+
+ghost use Rattle.std.specs.Prelude.{◌≡◌, ◌≤◌, ◌<◌, ◌+◌, ◌*◌, ◌^◌, ◌++◌, ℕ, List, [], length, take};
+ghost use Rattle.std.specs.Prelude.{Ok, IfSome};
 ghost use Rattle.dwp_bytes.specs.Encoding.{offset_size};
 ghost use Rattle.dwp_bytes.specs.StringOffsets.{header_size};
-ghost use Rattle.thorin_strings.specs.StringOffsets.{offset_limit, remapped_entry, remapped_entries, entry_bytes};
+ghost use Rattle.thorin_strings.specs.StringOffsets.{offset_limit, remapped_entry};
+ghost use Rattle.thorin_strings.specs.StringOffsets.{remapped_entries, entry_bytes};
 ghost use Rattle.thorin_strings.specs.Strings.{data_of, strings_in, IsZeroFree};
 ghost use Rattle.thorin_strings.specs.Grown.{IsGrown, IsUsed, AreDistinct};
 
@@ -11,8 +15,8 @@ use crate::search::stands_at;
 use dwp_base::Endianness;
 use dwp_bytes::Encoding;
 
-/// A table's strings while a range is rewritten: what no guess knows is taken for new, and stands in the
-/// data while its position waits. So a string may stand there twice.
+/// A table's strings while a range is rewritten: what no guess knows is taken for new, and stands
+/// in the data while its position waits. So a string may stand there twice.
 #[derive(Drop)]
 pub(crate) struct Batch {
     pub bytes: Vec<u8>,
@@ -27,9 +31,11 @@ impl Batch {
         requires zero_free { IsZeroFree string.now }
         requires ended { data_of (strings_in self.old.bytes.items) ≡ self.old.bytes.items }
         ensures used { IfSome result (IsUsed self.old.bytes.items self.new.bytes.items string.now) }
-        ensures kept { take (length (strings_in self.old.bytes.items)) (strings_in self.new.bytes.items)
+        ensures kept { take (length (strings_in self.old.bytes.items))
+            (strings_in self.new.bytes.items)
             ≡ strings_in self.old.bytes.items }
-        ensures grown { (before : List ℕ) → IsGrown before self.old.bytes.items self.old.places.items
+        ensures grown { (before : List ℕ)
+            → IsGrown before self.old.bytes.items self.old.places.items
             → IsGrown before self.new.bytes.items self.new.places.items }
     {
         if stands_at(&self.bytes, self.next, string) {
@@ -51,8 +57,8 @@ impl Batch {
         Some(place)
     }
 
-    /// The offset of the string that an entry names. None where it can't be read or the format can't
-    /// hold it, and for want of memory.
+    /// The offset of the string that an entry names. None where it can't be read or the format
+    /// can't hold it, and for want of memory.
     fn place_entry(
         &mut self,
         debug_str: &[u8],
@@ -64,12 +70,15 @@ impl Batch {
         requires small { header_size encoding + index * offset_size encoding.format < 2 ^ 64 }
         requires ended { data_of (strings_in self.old.bytes.items) ≡ self.old.bytes.items }
         ensures entry { IfSome result (λ offset. AreDistinct self.new.bytes.items
-            → remapped_entry endian encoding debug_str.now debug_str_offsets.now index (strings_in self.old.bytes.items)
+            → remapped_entry endian encoding debug_str.now debug_str_offsets.now index
+            (strings_in self.old.bytes.items)
             ≡ Ok (offset, strings_in self.new.bytes.items)) }
         ensures fits { IfSome result (λ offset. offset ≤ offset_limit encoding.format) }
-        ensures kept { take (length (strings_in self.old.bytes.items)) (strings_in self.new.bytes.items)
+        ensures kept { take (length (strings_in self.old.bytes.items))
+            (strings_in self.new.bytes.items)
             ≡ strings_in self.old.bytes.items }
-        ensures grown { (before : List ℕ) → IsGrown before self.old.bytes.items self.old.places.items
+        ensures grown { (before : List ℕ)
+            → IsGrown before self.old.bytes.items self.old.places.items
             → IsGrown before self.new.bytes.items self.new.places.items }
     {
         let string = named_at(debug_str, debug_str_offsets, endian, encoding, index).ok()?;
@@ -80,8 +89,8 @@ impl Batch {
         Some(offset)
     }
 
-    /// Appends the offsets of the strings that the first entries name to some bytes. None where one can't
-    /// be read or the format can't hold it, where a guess was lost, and for want of memory.
+    /// Appends the offsets of the strings that the first entries name to some bytes. None where one
+    /// can't be read or the format can't hold it, where a guess was lost, and for want of memory.
     pub fn place_entries(
         &mut self,
         debug_str: &[u8],
@@ -94,8 +103,10 @@ impl Batch {
         requires small { header_size encoding + count * offset_size encoding.format < 2 ^ 64 }
         requires ended { data_of (strings_in self.old.bytes.items) ≡ self.old.bytes.items }
         requires none { self.old.places.items ≡ [] }
-        ensures entries { IfSome result (λ bytes. AreDistinct self.new.bytes.items → (offsets : List ℕ)
-            × (remapped_entries endian encoding debug_str.now debug_str_offsets.now count (strings_in self.old.bytes.items)
+        ensures entries { IfSome result (λ bytes. AreDistinct self.new.bytes.items
+            → (offsets : List ℕ)
+            × (remapped_entries endian encoding debug_str.now debug_str_offsets.now count
+            (strings_in self.old.bytes.items)
             ≡ Ok (offsets, strings_in self.new.bytes.items))
             × (bytes.items ≡ first.items ++ entry_bytes endian encoding.format offsets)) }
         ensures grown { IsGrown self.old.bytes.items self.new.bytes.items self.new.places.items }

@@ -1,3 +1,5 @@
+//! Guesses where a string stands, by its hash.
+
 ghost use Rattle.std.specs.Prelude.{◌≡◌, IfSome};
 ghost use Rattle.dwp_bytes.specs.StringOffsets.{string_from};
 ghost use Rattle.thorin_strings.specs.Strings.{IsZeroFree, BeginsAt};
@@ -68,9 +70,9 @@ fn put(slots: &mut [Slot], mask: usize, slot: Slot) -> bool {
 
 /// Guesses of where strings begin, by their hashes.
 ///
-/// They save a search and decide nothing: a guess counts only once a string begins at its place and has
-/// the same bytes, and where there is none the string may be there all the same. So a guess may be lost,
-/// and a place may be stale.
+/// They save a search and decide nothing: a guess counts only once a string begins at its place and
+/// has the same bytes, and where there is none the string may be there all the same. So a guess may
+/// be lost, and a place may be stale.
 #[derive(Drop)]
 pub(crate) struct Guesses {
     alloc: Global,
@@ -101,7 +103,8 @@ impl Guesses {
     #[tactic(auto, using(std::proofs::lemmas::Nat::and_le_l))]
     pub fn find(&self, bytes: &[u8], string: &[u8], hash: u32) -> Option<usize>
         requires { IsZeroFree string.now }
-        ensures { IfSome result (λ at. BeginsAt bytes.now at × (string_from bytes.now at ≡ string.now)) }
+        ensures { IfSome result (λ at. BeginsAt bytes.now at
+            × (string_from bytes.now at ≡ string.now)) }
     {
         let home = hash as usize & self.mask;
         for slot in self.slots.get(home..home + PROBES)? {
@@ -141,9 +144,9 @@ impl Guesses {
         Ok(())
     }
 
-    /// Remembers where a string begins that goes behind all others. At most half of the slots are used,
-    /// and where none is free for a hash there are twice as many, if an eighth is used. For want of
-    /// memory the guess is left out.
+    /// Remembers where a string begins that goes behind all others. At most half of the slots are
+    /// used, and where none is free for a hash there are twice as many, if an eighth is used. For
+    /// want of memory the guess is left out.
     pub fn enter(&mut self, hash: u32, place: usize) {
         if place >= u32::MAX as usize {
             self.is_whole = false;

@@ -3,7 +3,7 @@
 
 mod batch;
 mod guess;
-mod laws;
+pub mod laws;
 mod merge;
 mod offsets;
 mod order;
@@ -13,5 +13,4 @@ mod table;
 #[cfg(test)]
 mod tests;
 
-pub use laws::rewritten_offsets_name_the_same;
 pub use table::{PackageStringOffset, PackageStringTable, TableMark};

@@ -1,4 +1,7 @@
-ghost use Rattle.std.specs.Prelude.{◌≡◌, ◌≤◌, ◌<◌, ◌+◌, ◌^◌, ◌++◌, ℕ, length, All, IsPermutation, filter, nat_lt, IfSome, IsTrue};
+//! Entering positions at their ranks.
+
+ghost use Rattle.std.specs.Prelude.{◌≡◌, ◌≤◌, ◌<◌, ◌+◌, ◌^◌, ◌++◌, ℕ, length, All, IsPermutation};
+ghost use Rattle.std.specs.Prelude.{filter, nat_lt, IfSome, IsTrue};
 ghost use Rattle.thorin_strings.specs.Strings.{IsZeroFree, StandsAt};
 ghost use Rattle.thorin_strings.specs.Grown.{AreSorted};
 
@@ -7,8 +10,8 @@ use crate::search::compare_at;
 use dwp_bytes::string_at;
 use std::cmp::Ordering;
 
-/// The rank at which a string would stand; none where it stands among those of the positions. The rank
-/// `near` is looked at first, and then ever farther behind it, from a step on.
+/// The rank at which a string would stand; none where it stands among those of the positions. The
+/// rank `near` is looked at first, and then ever farther behind it, from a step on.
 fn gap_of(
     bytes: &[u8],
     positions: &Positions,
@@ -53,8 +56,9 @@ fn gap_of(
     Some(low)
 }
 
-/// Enters positions of new strings at their ranks. False where a string stands there already, and for want
-/// of memory; some are entered then. It is fast where they are in the order of the strings.
+/// Enters positions of new strings at their ranks. False where a string stands there already, and
+/// for want of memory; some are entered then. It is fast where they are in the order of the
+/// strings.
 pub(crate) fn enter_all(bytes: &[u8], positions: &mut Positions, places: &[u64]) -> bool
     requires sorted { AreSorted bytes.now positions.old }
     requires within { All (λ p. p ≤ length bytes.now) positions.old }

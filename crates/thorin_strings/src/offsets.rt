@@ -1,10 +1,14 @@
-ghost use Rattle.std.specs.Prelude.{◌≡◌, ◌≤◌, ◌<◌, ◌+◌, ◌*◌, ◌^◌, ◌++◌, length, take, Ok, OnOk, OnErr, IfOk, IsNone, IfSome};
+//! String offsets, rewritten into a table of strings (DWARF 5, 7.26).
+
+ghost use Rattle.std.specs.Prelude.{◌≡◌, ◌≤◌, ◌<◌, ◌+◌, ◌*◌, ◌^◌, ◌++◌, length, take, Ok, OnOk};
+ghost use Rattle.std.specs.Prelude.{OnErr, IfOk, IsNone, IfSome};
 ghost use Rattle.dwp_base.specs.Numbers.{number_bytes};
 ghost use Rattle.dwp_base.specs.Reading.{Answers};
 ghost use Rattle.dwp_bytes.specs.Encoding.{offset_size};
 ghost use Rattle.thorin_faults.specs.Answers.{Gives};
 ghost use Rattle.dwp_bytes.specs.StringOffsets.{header_size};
-ghost use Rattle.thorin_strings.specs.StringOffsets.{length_limit, offset_limit, header_of, offset_at, named_at, remapped_entry, remapped};
+ghost use Rattle.thorin_strings.specs.StringOffsets.{length_limit, offset_limit, header_of};
+ghost use Rattle.thorin_strings.specs.StringOffsets.{offset_at, named_at, remapped_entry, remapped};
 ghost use Rattle.thorin_strings.specs.Strings.{IsZeroFree};
 
 use crate::table::PackageStringTable;
@@ -41,7 +45,8 @@ pub(crate) fn push_offset(
     value: u64,
 ) -> Result<(), AllocError>
     requires { value ≤ offset_limit format }
-    ensures { OnOk result (out.new.items ≡ out.old.items ++ number_bytes endian (offset_size format) value) }
+    ensures { OnOk result (out.new.items
+        ≡ out.old.items ++ number_bytes endian (offset_size format) value) }
 {
     match format {
         Format::Dwarf32 => out.extend_from_slice(&endian.bytes_of_u32(value as u32)),
@@ -125,10 +130,13 @@ impl PackageStringTable {
     /// encoding. Strings that are new go last. A refusal leaves the table as it was.
     ///
     /// `section_size` is how many bytes the range has; in a file that is whole it isn't past
-    /// `debug_str_offsets`. A range of no bytes gives none. Otherwise it refuses, in this order: a range
-    /// shorter than its header (`BadStringOffsets(0)`), a length past the format's limit
-    /// (`NumberTooLarge`), and entry by entry one that can't be read (`OffsetAtIndex`), a string that
-    /// can't be read (`StrAtOffset`), an offset past the format's limit (`NumberTooLarge`).
+    /// `debug_str_offsets`. A range of no bytes gives none.
+    ///
+    /// # Errors
+    /// In this order: a range shorter than its header (`BadStringOffsets(0)`), a length past the
+    /// format's limit (`NumberTooLarge`), and entry by entry one that can't be read
+    /// (`OffsetAtIndex`), a string that can't be read (`StrAtOffset`), an offset past the format's
+    /// limit (`NumberTooLarge`); `Memory`.
     pub fn remap_str_offsets_section(
         &mut self,
         debug_str: &[u8],
@@ -159,8 +167,8 @@ impl PackageStringTable {
         result
     }
 
-    /// The same of a range that is whole, with its new strings entered together. None where it refuses,
-    /// and where that can't be done; the table is then as it was.
+    /// The same of a range that is whole, with its new strings entered together. None where it
+    /// refuses, and where that can't be done; the table is then as it was.
     #[tactic(auto, unfolding(crate::specs::StringOffsets::remapped))]
     fn remapped_together(
         &mut self,
@@ -171,7 +179,8 @@ impl PackageStringTable {
         encoding: Encoding,
     ) -> Option<Vec<u8>>
         ensures meaning { IfSome result (λ bytes.
-            remapped endian encoding debug_str.now debug_str_offsets.now section_size self.old ≡ Ok (bytes.items, self.new)) }
+            remapped endian encoding debug_str.now debug_str_offsets.now section_size self.old
+            ≡ Ok (bytes.items, self.new)) }
         ensures kept { take (length self.old) self.new ≡ self.old }
         ensures none { IsNone result → self.new ≡ self.old }
     {

@@ -1,3 +1,5 @@
+//! Putting places in the order of their strings.
+
 ghost use Rattle.std.specs.Prelude.{◌<◌, ◌≤◌, length, IsPermutation};
 
 use dwp_base::Endianness;
@@ -38,8 +40,8 @@ fn rest_at(bytes: &[u8], place: u64, depth: usize) -> &[u8] {
     string_at(bytes, place.saturating_add(depth as u64)).unwrap_or(&[])
 }
 
-/// Puts places into the order of their strings from a depth on, by eight bytes so many times, and then by
-/// all that is left.
+/// Puts places into the order of their strings from a depth on, by eight bytes so many times, and
+/// then by all that is left.
 fn order_from(alloc: Global, bytes: &[u8], places: &mut [u64], depth: usize, levels: usize)
     ensures { IsPermutation places.old places.new }
 {
@@ -64,8 +66,8 @@ fn order_from(alloc: Global, bytes: &[u8], places: &mut [u64], depth: usize, lev
     }
 }
 
-/// Puts places into the order of the strings that begin there. It is a help alone: whoever needs the order
-/// tests it.
+/// Puts places into the order of the strings that begin there. It is a help alone: whoever needs
+/// the order tests it.
 pub(crate) fn order(alloc: Global, bytes: &[u8], places: &mut Vec<u64>)
     ensures { IsPermutation places.old.items places.new.items }
 {

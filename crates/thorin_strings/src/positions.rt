@@ -1,6 +1,11 @@
-ghost use Rattle.std.specs.Prelude.{◌≡◌, ◌≤◌, ◌<◌, ◌+◌, ◌^◌, List, [], ◌++◌, All, length, slice_index, slice_index_or, slice_set, vec_len, insert, map, filter, nat_lt, take, drop, OnOk, OnErr, IfOk};
+//! Lists of numbers, read and changed by rank.
+
+ghost use Rattle.std.specs.Prelude.{◌≡◌, ◌≤◌, ◌<◌, ◌+◌, ◌^◌, List, [], ◌++◌, All, length};
+ghost use Rattle.std.specs.Prelude.{slice_index, slice_index_or, slice_set, vec_len, insert, map};
+ghost use Rattle.std.specs.Prelude.{filter, nat_lt, take, drop, OnOk, OnErr, IfOk};
 ghost use Rattle.std.specs.List.{concat};
-ghost use Rattle.thorin_strings.specs.Chunks.{pieces, starts_from, AreShort, IsHalved, IsPieceOf, IsChunked};
+ghost use Rattle.thorin_strings.specs.Chunks.{pieces, starts_from, AreShort, IsHalved, IsPieceOf};
+ghost use Rattle.thorin_strings.specs.Chunks.{IsChunked};
 
 use std::alloc::{AllocError, Global};
 use std::marker::Model;
@@ -120,7 +125,8 @@ fn room_at(
     ensures same { concat (pieces chunks.new.items) ≡ concat (pieces chunks.old.items) }
     ensures short { AreShort (pieces chunks.new.items) }
     ensures at { IfOk result (IsPieceOf starts.new.items rank) }
-    ensures room { IfOk result (λ at. length (slice_index_or (pieces chunks.new.items) at []) < 1024) }
+    ensures room { IfOk result (λ at.
+        length (slice_index_or (pieces chunks.new.items) at []) < 1024) }
 {
     if chunks.is_empty() {
         chunks.reserve(1)?;
@@ -195,6 +201,9 @@ impl Positions {
     }
 
     /// Puts a number at a rank, and moves those from there on up by one.
+    ///
+    /// # Errors
+    /// Want of memory, and then the list is as it was.
     pub fn insert(&mut self, rank: usize, position: u64) -> Result<(), AllocError>
         requires within { rank ≤ length self.old }
         requires small { length self.old + 1 < 2 ^ 64 }

@@ -1,15 +1,18 @@
+//! Looking a string up among positions in the order of their strings.
+
 ghost use Rattle.std.specs.Prelude.{◌≡◌, ◌≤◌, ◌↔◌, length, Contains, IfOk, IfErr, IsTrue};
 ghost use Rattle.std.specs.Ordering.{nat_cmp};
 ghost use Rattle.std.specs.Cmp.Lexicographic.{slice_cmp};
 ghost use Rattle.dwp_bytes.specs.StringOffsets.{string_from};
-ghost use Rattle.thorin_strings.specs.Strings.{strings_in, offset_of, IsZeroFree, IsIndexed, BeginsAt, StandsAt, IsWithinDigits};
+ghost use Rattle.thorin_strings.specs.Strings.{strings_in, offset_of, IsZeroFree, IsIndexed};
+ghost use Rattle.thorin_strings.specs.Strings.{BeginsAt, StandsAt, IsWithinDigits};
 
 use crate::guess::{Guesses, hash_of};
 use crate::positions::Positions;
 use std::cmp::Ordering;
 
-/// How the string at a place stands to one without zero bytes. Its end isn't looked for: as many bytes as
-/// the other has decide, and where they are the same, whether a zero follows them.
+/// How the string at a place stands to one without zero bytes. Its end isn't looked for: as many
+/// bytes as the other has decide, and where they are the same, whether a zero follows them.
 pub(crate) fn compare_at(bytes: &[u8], at: usize, string: &[u8]) -> Ordering
     requires within { at ≤ length bytes.now }
     requires zero_free { IsZeroFree string.now }
@@ -84,8 +87,8 @@ pub(crate) fn search(bytes: &[u8], positions: &Positions, string: &[u8]) -> Foun
     }
 }
 
-/// Looks for a string of a table at a place, then where its hash guesses, and where it isn't there, among
-/// all.
+/// Looks for a string of a table at a place, then where its hash guesses, and where it isn't there,
+/// among all.
 pub(crate) fn find_near(
     bytes: &[u8],
     positions: &Positions,

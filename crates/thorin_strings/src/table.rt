@@ -1,8 +1,13 @@
-ghost use Rattle.std.specs.Prelude.{◌≡◌, ◌↔◌, ◌+◌, ◌*◌, ◌<◌, ◌^◌, ◌++◌, ℕ, List, [], length, take, filter, nat_lt, Ok, OnOk, IfOk, IfErr, IsSome, IfSome, IsNone, IsTrue, Contains};
+//! The table of distinct strings of a package (DWARF 5, 7.26).
+
+ghost use Rattle.std.specs.Prelude.{◌≡◌, ◌↔◌, ◌+◌, ◌*◌, ◌<◌, ◌^◌, ◌++◌, ℕ, List, [], length, take};
+ghost use Rattle.std.specs.Prelude.{filter, nat_lt, Ok, OnOk, IfOk, IfErr, IsSome, IfSome, IsNone};
+ghost use Rattle.std.specs.Prelude.{IsTrue, Contains};
 ghost use Rattle.dwp_bytes.specs.Encoding.{offset_size};
 ghost use Rattle.dwp_bytes.specs.StringOffsets.{header_size};
 ghost use Rattle.thorin_strings.specs.StringOffsets.{remapped_entries, entry_bytes};
-ghost use Rattle.thorin_strings.specs.Strings.{data_of, offset_of, with_string, IsZeroFree, IsTable, IsWithinDigits};
+ghost use Rattle.thorin_strings.specs.Strings.{data_of, offset_of, with_string, IsZeroFree};
+ghost use Rattle.thorin_strings.specs.Strings.{IsTable, IsWithinDigits};
 ghost use Rattle.thorin_strings.specs.Marks.{mark_of};
 
 use crate::batch::Batch;
@@ -36,8 +41,8 @@ pub struct TableMark {
 ///
 /// No string is copied but into the data; beside it the table keeps where each begins, in the order
 /// of the strings, guesses of that by hashes, and the place behind the string that was found last:
-/// inputs that share strings often use them in the same order, so a string is looked for there first,
-/// then where its hash guesses, and then by the order.
+/// inputs that share strings often use them in the same order, so a string is looked for there
+/// first, then where its hash guesses, and then by the order.
 #[derive(Drop)]
 pub struct PackageStringTable {
     alloc: Global,
@@ -108,7 +113,8 @@ impl PackageStringTable {
         self.alloc
     }
 
-    /// Whether each string has a guess of its place, so that new strings of a range can be told at once.
+    /// Whether each string has a guess of its place, so that new strings of a range can be told at
+    /// once.
     pub(crate) fn has_all_guesses(&self) -> bool {
         self.guesses.is_whole()
     }
@@ -131,8 +137,10 @@ impl PackageStringTable {
         (offset, found.compared)
     }
 
-    /// The offset of a string, which goes last where the table hasn't it. Refuses for want of memory
-    /// alone, and then leaves the table as it was.
+    /// The offset of a string, which goes last where the table hasn't it.
+    ///
+    /// # Errors
+    /// `Memory` alone, and then the table is as it was.
     pub fn get_or_insert(&mut self, string: &[u8]) -> Result<PackageStringOffset, Error>
         requires { IsZeroFree string.now }
         ensures offset { IfOk result (λ o. o.0 ≡ offset_of self.old string.now) }
@@ -158,11 +166,11 @@ impl PackageStringTable {
         }
     }
 
-    /// Appends the offsets of the strings that the first entries name to some bytes. New strings are
-    /// entered together: what no guess knows is taken for new, and once all are compared in their order,
-    /// no two are equal and none was there. None where two are, where an entry can't be read or the
-    /// format can't hold its offset, where a guess was lost, and for want of memory; the table is then as
-    /// it was.
+    /// Appends the offsets of the strings that the first entries name to some bytes. New strings
+    /// are entered together: what no guess knows is taken for new, and once all are compared in
+    /// their order, no two are equal and none was there. None where two are, where an entry can't
+    /// be read or the format can't hold its offset, where a guess was lost, and for want of memory;
+    /// the table is then as it was.
     pub(crate) fn place_entries(
         &mut self,
         debug_str: &[u8],
@@ -174,7 +182,8 @@ impl PackageStringTable {
     ) -> Option<Vec<u8>>
         requires { header_size encoding + count * offset_size encoding.format < 2 ^ 64 }
         ensures entries { IfSome result (λ bytes. (offsets : List ℕ)
-            × (remapped_entries endian encoding debug_str.now debug_str_offsets.now count self.old ≡ Ok (offsets, self.new))
+            × (remapped_entries endian encoding debug_str.now debug_str_offsets.now count self.old
+            ≡ Ok (offsets, self.new))
             × (bytes.items ≡ first.items ++ entry_bytes endian encoding.format offsets)) }
         ensures kept { take (length self.old) self.new ≡ self.old }
         ensures none { IsNone result → self.new ≡ self.old }

@@ -1,3 +1,5 @@
+//! Tables of strings, and string offsets that are rewritten.
+
 use crate::guess::hash_of;
 use crate::{PackageStringOffset, PackageStringTable};
 use dwp_base::Endianness;
@@ -198,8 +200,8 @@ fn alike(alloc: Global, count: usize) -> Result<Vec<u8>, AllocError> {
     Ok(section)
 }
 
-/// Of more than sixteen such strings some have no guess. Used twice in a range, and again in another, they
-/// are found all the same.
+/// Of more than sixteen such strings some have no guess. Used twice in a range, and again in
+/// another, they are found all the same.
 #[test]
 fn strings_without_a_guess_are_found(rt: HostRuntime) -> Result<(), Fail> {
     let little = Endianness::Little;

@@ -1,9 +1,11 @@
+//! Abbreviations that are remembered.
+
 use crate::*;
 use std::test::Fail;
 
-// Two tables. The first declares code 5 with tag 0x11, code 1 with tag 0x12, code 5 again and code
-// 2, and ends at 22. The second begins at 23 with code 3; the declaration of code 4 behind it has
-// tag 0.
+/// Two tables. The first declares code 5 with tag 0x11, code 1 with tag 0x12, code 5 again and code
+/// 2, and ends at 22. The second begins at 23 with code 3; the declaration of code 4 behind it has
+/// tag 0.
 const TABLES: [u8; 30] = [
     5, 0x11, 0, 0, 0, 1, 0x12, 1, 3, 8, 0, 0, 5, 0x13, 0, 0, 0, 2, 0x14, 0, 0, 0, 0, 3, 0x15, 0, 0,
     0, 4, 0,

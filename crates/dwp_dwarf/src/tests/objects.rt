@@ -1,3 +1,5 @@
+//! Objects of compilers, and what their root entries say.
+
 use crate::*;
 use Endianness::Little;
 use std::test::Fail;
@@ -74,7 +76,8 @@ static OBJECTS: [Object; 6] = [
                 0x25,
                 0x1a,
                 Some(
-                    b"GNU C17 12.2.0 -mtune=generic -march=x86-64 -g -gdwarf-5 -gsplit-dwarf -fasynchronous-unwind-tables",
+                    b"GNU C17 12.2.0 -mtune=generic -march=x86-64 -g -gdwarf-5 -gsplit-dwarf \
+                        -fasynchronous-unwind-tables",
                 ),
             ),
             (0x13, 0x0b, None),

@@ -1,3 +1,5 @@
+//! Sections of units, one a row, and what is read of each.
+
 use crate::*;
 use Endianness::{Big, Little};
 use UnitSection::{Info, Types};

@@ -7,7 +7,7 @@ use std::alloc::Global;
 use std::test::Fail;
 use thorin_faults::Error;
 
-// The fault of an executable with these sections, which names no unit.
+/// The fault of an executable with these sections, which names no unit.
 fn fault_in(alloc: Global, sections: &[FileSection<'_>]) -> Result<Error, Fail> {
     let list = named_in(alloc, sections)?;
     if !list.units.is_empty() {
@@ -16,7 +16,7 @@ fn fault_in(alloc: Global, sections: &[FileSection<'_>]) -> Result<Error, Fail> 
     Ok(list.fault.ok_or("no fault")?)
 }
 
-// The fault of an executable with these abbreviations and these units.
+/// The fault of an executable with these abbreviations and these units.
 fn fault(alloc: Global, abbreviations: &[u8], units: &[u8]) -> Result<Error, Fail> {
     fault_in(
         alloc,
@@ -70,7 +70,7 @@ fn sections_that_cannot_be_used(rt: HostRuntime) -> Result<(), Fail> {
     Ok(())
 }
 
-// The fault of an executable with one relocation, of this place, type and symbol, or with two.
+/// The fault of an executable with one relocation, of this place, type and symbol, or with two.
 fn fault_of_relocations(alloc: Global, table: &[u8]) -> Result<Error, Fail> {
     fault_in(
         alloc,
@@ -133,8 +133,8 @@ fn units_without_a_header_or_an_identity(rt: HostRuntime) -> Result<(), Fail> {
     Ok(())
 }
 
-// A skeleton unit of version 5, unit 7, with this abbreviation offset and these bytes behind its
-// header.
+/// A skeleton unit of version 5, unit 7, with this abbreviation offset and these bytes behind its
+/// header.
 fn skeleton(alloc: Global, offset: u8, entries: &[u8]) -> Result<Vec<u8>, Fail> {
     let mut unit = [0, 0, 0, 0, 5, 0, 4, 8, offset, 0, 0, 0].to_vec(alloc)?;
     unit.extend_from_slice(&[7, 0, 0, 0, 0, 0, 0, 0])?;

@@ -74,7 +74,7 @@ struct Layout {
 }
 
 impl Layout {
-    // Adds a section's content and its header.
+    /// Adds a section's content and its header.
     fn add(&mut self, part: FileSection<'_>) -> Result<(), Fail> {
         let words = [
             (part.kind << 32) | self.names.len() as u64,
@@ -92,7 +92,7 @@ impl Layout {
         Ok(self.names.push(0)?)
     }
 
-    // The file's header; section `last` has the names.
+    /// The file's header; section `last` has the names.
     fn header(&self, machine: u16, last: u64) -> [u64; 6] {
         [
             (1 << 32) | (u64::from(machine) << 16) | 2,

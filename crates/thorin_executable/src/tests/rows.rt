@@ -14,7 +14,7 @@ fn is(skeleton: &Skeleton, target: DwarfObject, path: &str) -> bool {
     skeleton.target == target && skeleton.path.as_str() == path
 }
 
-// Whether a list is this compilation unit alone, without a fault.
+/// Whether a list is this compilation unit alone, without a fault.
 fn is_one(list: &SkeletonList, id: u64, path: &str) -> bool {
     match list.units.as_slice() {
         [one] => list.fault.is_none() && is(one, DwarfObject::Compilation(DwoId(id)), path),
@@ -80,7 +80,7 @@ fn a_type_unit_without_a_name_is_passed_over(rt: HostRuntime) -> Result<(), Fail
     Ok(())
 }
 
-// The path of the unit with this name and this directory.
+/// The path of the unit with this name and this directory.
 fn has_path(alloc: Global, directory: &[u8], name: &[u8], path: &str) -> Result<bool, Fail> {
     let list = named(alloc, &ABBREVIATIONS, &unit(alloc, name, directory)?)?;
     Ok(is_one(&list, 5, path))
@@ -175,7 +175,7 @@ fn units_without_identity_are_passed_over(rt: HostRuntime) -> Result<(), Fail> {
     Ok(())
 }
 
-// Reads a file from a session and asks what it names, as a builder does.
+/// Reads a file from a session and asks what it names, as a builder does.
 fn named_at<Sess: Session<RelocationEntry>>(
     alloc: Global,
     session: &Sess,

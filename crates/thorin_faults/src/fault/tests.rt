@@ -1,3 +1,5 @@
+//! The texts of faults.
+
 use super::{Error, InputError, MissingReferencedObjectBehaviour};
 use dwp_bytes::{ReadError as DwarfReadError, WriteError as DwarfWriteError};
 use dwp_elf_read::{ReadError as ElfReadError, WriteError as ElfWriteError};

@@ -1,6 +1,6 @@
-ghost use Rattle.std.specs.Prelude.{◌≡◌, false, IsSome};
-ghost use Rattle.thorin_faults.specs.Fault.{Fault};
-ghost use Rattle.thorin_faults.specs.Text.{fault_text, is_passed_on};
+//! The texts of faults.
+
+ghost use Rattle.thorin_faults.specs.Text.{fault_text};
 
 use super::Error;
 use std::fmt;
@@ -47,7 +47,8 @@ impl Error {
 
     /// The texts of faults of units.
     fn write_unit_text<W: fmt::Write>(&self, f: &mut fmt::Formatter<W>) -> fmt::Result
-        ensures { DisplaysOnOk W.write_str_gives f.old result (unit_text (fault_of self.now)) f.new }
+        ensures { DisplaysOnOk W.write_str_gives f.old result
+            (unit_text (fault_of self.now)) f.new }
     {
         match self {
             Error::MissingDwoName(unit) => write!(
@@ -85,12 +86,14 @@ impl Error {
 
     /// The texts of faults of indexes and string offsets.
     fn write_index_text<W: fmt::Write>(&self, f: &mut fmt::Formatter<W>) -> fmt::Result
-        ensures { DisplaysOnOk W.write_str_gives f.old result (index_text (fault_of self.now)) f.new }
+        ensures { DisplaysOnOk W.write_str_gives f.old result
+            (index_text (fault_of self.now)) f.new }
     {
         match self {
             Error::IncompatibleIndexVersion(section, expected, found) => write!(
                 f,
-                "Incompatible `{section}` index version: found version {found}, expected version {expected}"
+                "Incompatible `{section}` index version: \
+                 found version {found}, expected version {expected}"
             ),
             Error::OffsetAtIndex(_, index) => write!(
                 f,
@@ -122,10 +125,11 @@ impl Error {
         }
     }
 
-    /// The texts of faults of sections and of what a package is made of, and of causes; the other kinds have
-    /// theirs above.
+    /// The texts of faults of sections and of what a package is made of, and of causes; the other
+    /// kinds have theirs above.
     fn write_section_text<W: fmt::Write>(&self, f: &mut fmt::Formatter<W>) -> fmt::Result
-        ensures { DisplaysOnOk W.write_str_gives f.old result (section_text (fault_of self.now)) f.new }
+        ensures { DisplaysOnOk W.write_str_gives f.old result
+            (section_text (fault_of self.now)) f.new }
     {
         match self {
             Error::MissingRequiredSection(section) => write!(
@@ -158,8 +162,3 @@ impl Error {
         }
     }
 }
-
-/// The law of texts: each fault has one, but those that only pass on a cause. It does nothing.
-pub fn every_fault_has_a_text()
-    ensures { (fault : Fault) → is_passed_on fault ≡ false → IsSome (fault_text fault) }
-{}

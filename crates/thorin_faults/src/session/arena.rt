@@ -1,3 +1,5 @@
+//! Sessions that read files of the system.
+
 ghost use Rattle.std.specs.Prelude.{◌≡◌, IfOk, IfErr, IfSome};
 ghost use Rattle.thorin_faults.specs.Sessions.{IsNoWantOfMemory};
 
@@ -46,7 +48,8 @@ impl<'a, R: Files, Relocations: Copy> Session<Relocations> for ArenaSession<'a, 
         Ok(placed)
     }
 
-    /// Reads the file into room of its length, where the system tells the length. Want of memory is `Memory` alone.
+    /// Reads the file into room of its length, where the system tells the length. Want of memory is
+    /// `Memory` alone.
     fn read_input<'s>(&'s self, path: Path<'_>) -> Result<&'s [u8], InputError> {
         let mut file = File::open(self.files, path)?;
         let len = file.metadata().map_or(0, |metadata| metadata.len());
@@ -54,8 +57,8 @@ impl<'a, R: Files, Relocations: Copy> Session<Relocations> for ArenaSession<'a, 
     }
 }
 
-/// Reads all that is left, which is about `len` bytes, into the arena. A file of that length makes one allocation:
-/// the byte more lets the read that finds the end have room.
+/// Reads all that is left, which is about `len` bytes, into the arena. A file of that length makes
+/// one allocation: the byte more lets the read that finds the end have room.
 pub(super) fn read_into<'a, F: Read>(
     bump: &'a Bump,
     file: &mut F,

@@ -1,4 +1,5 @@
 //! A session for inputs that are bytes.
+
 ghost use Rattle.std.specs.Prelude.{◌≡◌, ◌≢◌, IfErr, Err};
 ghost use Rattle.thorin_faults.specs.Sessions.{IsOffered, IsNoWantOfMemory, OffersNone};
 

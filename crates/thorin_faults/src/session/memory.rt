@@ -1,3 +1,5 @@
+//! Sessions whose files stand in memory.
+
 ghost use Rattle.std.specs.Prelude.{◌≡◌, ◌≢◌, IfErr, Err};
 ghost use Rattle.std.specs.Path.{path_bytes};
 ghost use Rattle.thorin_faults.specs.Sessions.{IsOffered, IsNoWantOfMemory, MapOffers};

@@ -1,3 +1,5 @@
+//! What sessions read and place, and what they answer where memory runs out.
+
 use super::arena::read_into;
 use super::{ArenaSession, BytesSession, MemorySession, Session};
 use crate::fault::InputError;
@@ -91,7 +93,8 @@ fn a_memory_session_gives_what_it_was_handed(rt: HostRuntime) -> Result<(), Fail
         Err(InputError::Io(cause)) => assert_eq!(&rt; cause.kind(), io::ErrorKind::NotFound),
         _ => panic!(&rt; "there is no such file"),
     }
-    // Before the last use of what was placed this doesn't compile: the arena is still borrowed (E0502).
+    // Before the last use of what was placed this doesn't compile: the arena is still borrowed
+    // (E0502).
     bump.reset()?;
     Ok(())
 }

@@ -1,6 +1,6 @@
 use Rattle.std.proofs.Common.{◌≡◌, ◌+◌, ◌-◌, [], ◌∷◌, ◌++◌, sym, ap, subst, ◌∙◌, arith}
 use Rattle.std.specs.Option.{option_map}
-use Rattle.dwp_table.specs.Table.{IsPlacedAfter, IsTable, rows_with}
+use Rattle.dwp_table.specs.Table.{IsPlacedAfter, IsHashTable, rows_with}
 use Rattle.dwp_table.proofs.Tables.{free_early}
 use Rattle.dwp_table.proofs.Placing.{AllUsed, free_here, all_used, first_unused-free, first_unused-none, rows_with-none, not_all_used, written-rows, written_table, stays_written, stands_written}
 use Rattle.dwp_table.proofs.row.place_row.Goals as goal
@@ -19,7 +19,7 @@ pub returns-then-slots-at-eq0-clause-table : goal.returns-then-slots-at-eq0-clau
 returns-then-slots-at-eq0-clause-table c =
     let free = free_here c.args.slots.now c.loop-i.slots c.args.x c.loop-i.i c.loop-i.at c.loop-i.invariant.same c.loop-i.invariant.at_place (omega arith) c.if-slots-at-eq0.true c.loop-i.invariant.earlier in
     λ ids table last room.
-    subst (λ l. IsTable (ids ++ c.args.x ∷ []) l) (sym (written-rows c.args.slots.now c.loop-i.slots c.args.x c.args.row c.loop-i.i c.loop-i.at c.loop-i.invariant.same c.loop-i.invariant.at_place free))
+    subst (λ l. IsHashTable (ids ++ c.args.x ∷ []) l) (sym (written-rows c.args.slots.now c.loop-i.slots c.args.x c.args.row c.loop-i.i c.loop-i.at c.loop-i.invariant.same c.loop-i.invariant.at_place free))
     (written_table ids c.args.slots.now c.args.x c.args.row c.loop-i.i free table last room)
 
 pub returns-then-slots-at-eq0-clause-count : goal.returns-then-slots-at-eq0-clause-count

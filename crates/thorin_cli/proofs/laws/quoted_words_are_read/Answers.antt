@@ -1,6 +1,6 @@
 use Rattle.thorin_cli.specs.Words.{words_of}
 use Rattle.thorin_cli.proofs.Splitting.{words_from-quoted}
-use Rattle.thorin_cli.proofs.words.quoted_words_are_read.Goals as goal
+use Rattle.thorin_cli.proofs.laws.quoted_words_are_read.Goals as goal
 
 pub returns : goal.returns
 unfolding words_of

@@ -1,5 +1,5 @@
 use Rattle.dwp_dwarf.proofs.UnitLists.{unit_taken, units_whole, units_fault, units_one}
-use Rattle.dwp_dwarf.proofs.unit.units_have_all_bytes.Goals as goal
+use Rattle.dwp_dwarf.proofs.laws.units_have_all_bytes.Goals as goal
 
 pub returns-clause-whole : goal.returns-clause-whole
 returns-clause-whole c = units_whole

@@ -1,5 +1,5 @@
 use Rattle.thorin.proofs.Running.{ran-next, run-joined}
-use Rattle.thorin.proofs.runs.runs_go_on.Goals as goal
+use Rattle.thorin.proofs.laws.runs_go_on.Goals as goal
 
 pub returns-clause-next : goal.returns-clause-next
 returns-clause-next g c = ran-next (g.R.InputReader.offer c.args.reader.now)
