@@ -1,8 +1,8 @@
 //! Packages of the objects that an executable refers to.
 
-use crate::objects::{cu, object, packed, plain, renamed};
+use crate::objects::{cu, object, packed, part, plain, renamed};
 use bumpalo::Bump;
-use dwp_elf::SectionKind;
+use dwp_elf::{SectionKind, WriteError};
 use dwp_table::DwarfObject;
 use std::alloc::Global;
 use std::collections::BTreeMap;
@@ -14,7 +14,7 @@ use thorin_faults::{Error, MemorySession, MissingReferencedObjectBehaviour};
 
 /// An abbreviation 1 of a compile unit: GNU_dwo_name and comp_dir, both strings, and a GNU_dwo_id of 8
 /// bytes; and an abbreviation 2 of a type unit.
-const NAMING: [u8; 19] = [
+pub const NAMING: [u8; 19] = [
     0x01, 0x11, 0x00, 0xb0, 0x42, 0x08, 0x1b, 0x08, 0xb1, 0x42, 0x07, 0, 0, 0x02, 0x41, 0, 0, 0, 0,
 ];
 
@@ -35,7 +35,7 @@ const UNIT_FIVE: [u8; 29] = [
 ];
 
 /// The same of an identifier and a place of abbreviations, which is this byte twice.
-fn naming_unit(id: u8, abbreviations: u8) -> [u8; 29] {
+pub fn naming_unit(id: u8, abbreviations: u8) -> [u8; 29] {
     let mut unit = UNIT_FIVE;
     unit[6] = abbreviations;
     unit[7] = abbreviations;
@@ -44,7 +44,7 @@ fn naming_unit(id: u8, abbreviations: u8) -> [u8; 29] {
 }
 
 /// The executable with these sections, whose names lose their end `.dwo`.
-fn executable(alloc: Global, sections: &[(SectionKind, &[u8])]) -> Result<Vec<u8>, Fail> {
+pub fn executable(alloc: Global, sections: &[(SectionKind, &[u8])]) -> Result<Vec<u8>, Fail> {
     let file = object(alloc, sections)?;
     let file = renamed(alloc, &file, b".debug_abbrev.dwo", b".debug_abbrev\0")?;
     renamed(alloc, &file, b".debug_info.dwo", b".debug_info\0")
@@ -64,8 +64,34 @@ fn naming(alloc: Global, id: u8) -> Result<Vec<u8>, Fail> {
     )
 }
 
+/// The same, so that only an allocation can be refused.
+pub fn naming_file(alloc: Global, id: u8) -> Result<Vec<u8>, WriteError> {
+    let mut file = object(
+        alloc,
+        &[
+            (SectionKind::Abbrev, NAMING.as_slice()),
+            (SectionKind::Info, naming_unit(id, 0).as_slice()),
+        ],
+    )?;
+    put_name(&mut file, b".debug_abbrev.dwo", b".debug_abbrev\0");
+    put_name(&mut file, b".debug_info.dwo", b".debug_info\0");
+    Ok(file)
+}
+
+// Writes a name over the first place where another one stands.
+fn put_name(file: &mut Vec<u8>, from: &[u8], to: &[u8]) {
+    for place in 0..file.len() {
+        if part(file.as_slice(), place, place.saturating_add(from.len())) == from {
+            for (byte, new) in file.iter_mut().skip(place).zip(to.iter()) {
+                *byte = *new;
+            }
+            return;
+        }
+    }
+}
+
 /// The executable whose unit 5 has its place of abbreviations by a relocation.
-fn relocated(alloc: Global) -> Result<Vec<u8>, Fail> {
+pub fn relocated(alloc: Global) -> Result<Vec<u8>, Fail> {
     let mut file = executable(
         alloc,
         &[
@@ -95,7 +121,7 @@ fn with_type_unit(alloc: Global) -> Result<Vec<u8>, Fail> {
 }
 
 /// The executable at `/e`, and an object at `/b/a.dwo` where there is one.
-fn files(
+pub fn files(
     alloc: Global,
     executable: Vec<u8>,
     object: Option<Vec<u8>>,

@@ -2,7 +2,15 @@
 #![tactic(auto)]
 
 #[cfg(test)]
+mod counted;
+#[cfg(test)]
+mod counting;
+#[cfg(test)]
+mod cut;
+#[cfg(test)]
 mod executables;
+#[cfg(test)]
+mod forms;
 #[cfg(test)]
 mod groups;
 #[cfg(test)]
@@ -19,3 +27,5 @@ mod own_packages;
 mod packages;
 #[cfg(test)]
 mod refused;
+#[cfg(test)]
+mod refused_inputs;

@@ -195,7 +195,7 @@ fn an_index_of_another_version_is_refused(rt: HostRuntime) -> Result<(), Fail> {
 }
 
 /// The package of the unit 5 alone.
-fn finished(alloc: Global) -> Result<Vec<u8>, Fail> {
+pub fn finished(alloc: Global) -> Result<Vec<u8>, Fail> {
     let x = plain(alloc, 5)?;
     Ok(packed(alloc, &[x.as_slice()])?.file?)
 }
@@ -223,7 +223,7 @@ fn a_package_is_packed_again(rt: HostRuntime) -> Result<(), Fail> {
 }
 
 /// What adding bytes to a new package answers.
-fn answer(alloc: Global, bytes: &[u8]) -> Result<String, Fail> {
+pub fn answer(alloc: Global, bytes: &[u8]) -> Result<String, Fail> {
     let bump = Bump::new(alloc);
     let files = BTreeMap::new(alloc);
     let session = MemorySession::new(&bump, &files);
@@ -235,7 +235,7 @@ fn answer(alloc: Global, bytes: &[u8]) -> Result<String, Fail> {
 }
 
 /// The file with another byte at a place.
-fn changed(alloc: Global, file: &[u8], place: usize, byte: u8) -> Result<Vec<u8>, Fail> {
+pub fn changed(alloc: Global, file: &[u8], place: usize, byte: u8) -> Result<Vec<u8>, Fail> {
     let mut bytes = file.to_vec(alloc)?;
     *bytes.get_mut(place).ok_or("the byte is there")? = byte;
     Ok(bytes)

@@ -15,7 +15,7 @@ use thorin::{DwarfPackage, Packed};
 use thorin_faults::{Error, MemorySession};
 
 // A file, by a second try where the first was refused.
-fn sure(alloc: Global, id: u8) -> Result<Vec<u8>, WriteError> {
+pub fn sure(alloc: Global, id: u8) -> Result<Vec<u8>, WriteError> {
     match plain(alloc, id) {
         Ok(file) => Ok(file),
         Err(_) => plain(alloc, id),
@@ -29,7 +29,7 @@ fn sure_with_strings(alloc: Global, id: u8) -> Result<Vec<u8>, WriteError> {
     }
 }
 
-fn sure_with_types(alloc: Global, id: u8) -> Result<Vec<u8>, WriteError> {
+pub fn sure_with_types(alloc: Global, id: u8) -> Result<Vec<u8>, WriteError> {
     match with_types(alloc, unit(id).as_slice(), TYPE_UNIT.as_slice()) {
         Ok(file) => Ok(file),
         Err(_) => with_types(alloc, unit(id).as_slice(), TYPE_UNIT.as_slice()),
@@ -45,7 +45,7 @@ fn whole(alloc: Global, objects: &[&[u8]]) -> Result<Vec<u8>, Error> {
     packed.file
 }
 
-fn sure_whole(alloc: Global, objects: &[&[u8]]) -> Result<Vec<u8>, Error> {
+pub fn sure_whole(alloc: Global, objects: &[&[u8]]) -> Result<Vec<u8>, Error> {
     match whole(alloc, objects) {
         Ok(file) => Ok(file),
         Err(_) => whole(alloc, objects),
@@ -85,7 +85,7 @@ fn added<'s, 'm>(
 }
 
 // As `added`, and all of it by a second try where `finish` was refused, which hands nothing back.
-fn adds<'s, 'm>(
+pub fn adds<'s, 'm>(
     rt: &impl Abort,
     alloc: Global,
     session: &'s MemorySession<'m>,

@@ -1,0 +1,104 @@
+//! Objects that say the same in rarer forms, the identifier 0, and what a builder prints.
+
+use crate::objects::{ABBREVIATIONS, cu, object, package, packed, plain, unit};
+use bumpalo::Bump;
+use dwp_elf::SectionKind;
+use std::alloc::Global;
+use std::collections::BTreeMap;
+use std::test::Fail;
+use thorin::DwarfPackage;
+use thorin_faults::MemorySession;
+
+#[test]
+fn an_indirect_form_carries_the_identifier(rt: HostRuntime) -> Result<(), Fail> {
+    let alloc = rt.alloc();
+    // GNU_dwo_id of the form indirect, and before the identifier the form data8 (DWARF 5, 7.5.3).
+    let abbreviations = [0x01, 0x11, 0x00, 0xb1, 0x42, 0x16, 0x00, 0x00, 0x00];
+    let info = [
+        0x11, 0, 0, 0, 4, 0, 0, 0, 0, 0, 8, 1, 7, 5, 0, 0, 0, 0, 0, 0, 0,
+    ];
+    let input = object(
+        alloc,
+        &[
+            (SectionKind::Info, info.as_slice()),
+            (SectionKind::Abbrev, abbreviations.as_slice()),
+        ],
+    )?;
+    let file = packed(alloc, &[input.as_slice()])?.file?;
+    let package = package(file.as_slice())?;
+    let five = package.find(cu(5))?.ok_or("unit 5 is there")?;
+    assert_eq!(rt; five.bytes(), info.as_slice());
+    assert_eq!(rt; five.bytes().len(), 21);
+    Ok(())
+}
+
+/// The object of the unit 5 whose section 0 has the number of sections, and that of the section of
+/// names (ELF gABI, `e_shnum` and `e_shstrndx`).
+fn with_counts_in_section_0(alloc: Global) -> Result<Vec<u8>, Fail> {
+    // The header has 64 bytes, the contents 20 and 9, the names 45: so the section headers stand at
+    // 144, and there are four.
+    let mut file = plain(alloc, 5)?;
+    for (place, byte) in [
+        (60, 0),
+        (62, 0xff),
+        (63, 0xff),
+        // Its size, and its link.
+        (176, 4),
+        (184, 3),
+    ] {
+        *file.get_mut(place).ok_or("the byte is there")? = byte;
+    }
+    Ok(file)
+}
+
+#[test]
+fn section_0_has_the_number_of_sections(rt: HostRuntime) -> Result<(), Fail> {
+    let alloc = rt.alloc();
+    let input = with_counts_in_section_0(alloc)?;
+    assert_eq!(rt; input.len(), 400);
+    let file = packed(alloc, &[input.as_slice()])?.file?;
+    assert_eq!(rt; file.len(), 544);
+    let five = plain(alloc, 5)?;
+    assert!(rt; file == packed(alloc, &[five.as_slice()])?.file?);
+    let package = package(file.as_slice())?;
+    let (found, slots) = package.find_counted(cu(5))?;
+    let found = found.ok_or("unit 5 is there")?;
+    assert_eq!(rt; slots, 1);
+    assert_eq!(rt; found.bytes(), unit(5).as_slice());
+    assert_eq!(rt;
+        found.section(SectionKind::Abbrev),
+        ABBREVIATIONS.as_slice()
+    );
+    Ok(())
+}
+
+#[test]
+fn the_identifier_0_is_found(rt: HostRuntime) -> Result<(), Fail> {
+    let alloc = rt.alloc();
+    let input = plain(alloc, 0)?;
+    let file = packed(alloc, &[input.as_slice()])?.file?;
+    let package = package(file.as_slice())?;
+    let (zero, slots) = package.find_counted(cu(0))?;
+    assert!(rt; zero.is_some());
+    assert_eq!(rt; slots, 1);
+    let (two, slots) = package.find_counted(cu(2))?;
+    assert!(rt; two.is_none());
+    assert_eq!(rt; slots, 2);
+    Ok(())
+}
+
+#[test]
+fn a_builder_prints_what_it_has(rt: HostRuntime) -> Result<(), Fail> {
+    let alloc = rt.alloc();
+    let five = plain(alloc, 5)?;
+    let bump = Bump::new(alloc);
+    let files = BTreeMap::new(alloc);
+    let session = MemorySession::new(&bump, &files);
+    let mut builder = DwarfPackage::new(alloc, &session);
+    let new = "DwarfPackage { in_progress: None, target_count: 0 }";
+    assert_eq!(rt; format!(in alloc; "{builder:?}")?.as_str(), new);
+    builder.add_object_bytes(&five)?;
+    let begun = "DwarfPackage { in_progress: Some(InProgressDwarfPackage), target_count: 0 }";
+    assert_eq!(rt; format!(in alloc; "{builder:?}")?.as_str(), begun);
+    Ok(())
+}
