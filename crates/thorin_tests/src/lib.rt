@@ -14,6 +14,8 @@ mod objects;
 #[cfg(test)]
 mod one_object;
 #[cfg(test)]
+mod other_shapes;
+#[cfg(test)]
 mod own_packages;
 #[cfg(test)]
 mod packages;
