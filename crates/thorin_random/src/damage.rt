@@ -23,12 +23,14 @@ pub fn damage(generator: &mut Generator, bytes: &mut Vec<u8>) -> Result<(), Allo
         if bytes.is_empty() {
             return Ok(());
         }
-        match generator.below(6) {
+        match generator.below(8) {
             0 => change(generator, bytes),
             1 => cut(generator, bytes),
             2 => raise(generator, bytes),
             3 => copy_over(generator, bytes),
             4 => repeat(generator, bytes)?,
+            5 => count_up(generator, bytes),
+            6 => swap_headers(generator, bytes),
             _ => flip(generator, bytes),
         }
     }
@@ -58,6 +60,42 @@ fn flip(generator: &mut Generator, bytes: &mut Vec<u8>) {
     let bit = generator.below(8) as u32;
     if let Some(at) = place(generator, bytes.len()) {
         bytes[at] ^= 1u8 << bit;
+    }
+}
+
+/// A byte is raised by one to four, as a count of entries.
+fn count_up(generator: &mut Generator, bytes: &mut Vec<u8>) {
+    let more = generator.below(4) as u8 + 1;
+    if let Some(at) = place(generator, bytes.len()) {
+        bytes[at] = bytes[at].wrapping_add(more);
+    }
+}
+
+/// Whether bytes begin as a 32-bit ELF file (ELF gABI, e_ident).
+fn is_narrow(bytes: &[u8]) -> bool {
+    bytes.get(4) == Some(&1)
+}
+
+/// The place of one of the last eight section headers, in a file that ends with them.
+fn header_place(generator: &mut Generator, bytes: &[u8]) -> usize {
+    let number = generator.below(8) + 1;
+    let size = if is_narrow(bytes) {
+        number * 40
+    } else {
+        number * 64
+    };
+    bytes.len().saturating_sub(size)
+}
+
+/// Two of the last section headers change places.
+fn swap_headers(generator: &mut Generator, bytes: &mut Vec<u8>) {
+    let one = header_place(generator, bytes);
+    let other = header_place(generator, bytes);
+    let size: usize = if is_narrow(bytes) { 40 } else { 64 };
+    for i in 0..size {
+        if one + i < bytes.len() && other + i < bytes.len() {
+            bytes.swap(one + i, other + i);
+        }
     }
 }
 

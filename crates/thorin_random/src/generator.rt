@@ -26,6 +26,14 @@ impl Generator {
         (self.stream.next_u64() % n as u64) as usize
     }
 
+    /// One of these; None where there are none.
+    pub fn one_of<'a, T>(&mut self, all: &'a [T]) -> Option<&'a T> {
+        if all.is_empty() {
+            return None;
+        }
+        all.get(self.below(all.len()))
+    }
+
     /// Any byte.
     pub fn byte(&mut self) -> u8 {
         (self.stream.next_u64() % 256) as u8

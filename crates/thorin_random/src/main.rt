@@ -1,11 +1,14 @@
-//! Reads damaged objects and packages. The damage comes of a seed, so that a run can be made again:
-//! the words are the seed and how many files are damaged and read, and if need be the folder of the
-//! samples. What is printed is whether each call both answered and named faults, and how often two
+//! Reads damaged objects and packages, and packs damaged inputs. The damage comes of a seed, so that
+//! a run can be made again: the words are the seed and how many files are damaged and read, and if
+//! need be the folder of the samples. A quarter as many packages are made of a few inputs each, and
+//! as many of an executable. What is printed is whether each call both answered and named faults, and how often two
 //! calls contradicted each other; with a folder also how many calls there were. For the gate, and
 //! by hand for longer runs.
 #![tactic(auto)]
 
+mod building;
 mod damage;
+mod executables;
 mod generator;
 mod reading;
 mod tally;
@@ -27,22 +30,22 @@ const SAMPLES: [&str; 9] = [
     "llvm5.dwp",
 ];
 
+/// What names objects, as executables do.
+const EXECUTABLES: [&str; 1] = ["hello.o"];
+
 fn main(rt: HostRuntime) -> io::Result<()> {
     let alloc = rt.alloc();
     let words: Vec<String> = env::args(&rt)?.collect(alloc)?;
     let seed = number(words.get(1));
     let rounds = number(words.get(2));
     println!(rt; "seed {seed}, {rounds} files")?;
-    let mut samples = Vec::new(alloc);
     let folder = words.get(3).map_or(".", |word| word.as_str());
-    for name in SAMPLES {
-        let path = format!(in alloc; "{folder}/{name}")?;
-        samples.push(fs::read(&rt, path.as_str())?)?;
-    }
+    let samples = read_files(&rt, folder, &SAMPLES)?;
+    let executables = read_files(&rt, folder, &EXECUTABLES)?;
     let mut generator = Generator::new(seed);
     let mut tally = Tally::default();
     for _ in 0..rounds {
-        let Some(sample) = samples.get(generator.below(SAMPLES.len())) else {
+        let Some(sample) = generator.one_of(&samples) else {
             continue
         };
         let mut bytes = sample.clone()?;
@@ -50,6 +53,10 @@ fn main(rt: HostRuntime) -> io::Result<()> {
         reading::read_all(alloc, &bytes, &mut tally);
     }
     let mut calls: u64 = 0;
+    for _ in 0..rounds / 4 {
+        building::build(alloc, &mut generator, &samples, &mut tally)?;
+        executables::refer(alloc, &mut generator, &executables, &samples, &mut tally)?;
+    }
     for (name, count) in tally.counts() {
         println!(rt; "{name}: {count}")?;
         calls = calls.saturating_add(count.calls());
@@ -59,6 +66,17 @@ fn main(rt: HostRuntime) -> io::Result<()> {
         println!(rt; "calls: {calls}")?;
     }
     Ok(())
+}
+
+/// The files of these names in a folder.
+fn read_files(rt: &HostRuntime, folder: &str, names: &[&str]) -> io::Result<Vec<Vec<u8>>> {
+    let alloc = rt.alloc();
+    let mut files = Vec::new(alloc);
+    for name in names {
+        let path = format!(in alloc; "{folder}/{name}")?;
+        files.push(fs::read(rt, path.as_str())?)?;
+    }
+    Ok(files)
 }
 
 /// The number of a word; 0 where it is none.

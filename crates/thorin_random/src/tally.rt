@@ -28,6 +28,12 @@ pub struct Tally {
     pub package: Count,
     pub found: Count,
     pub string: Count,
+    pub object: Count,
+    pub skeletons: Count,
+    pub executable: Count,
+    pub finish: Count,
+    pub packed: Count,
+    pub groups: Count,
     /// How often two calls that say the same said something else.
     pub contradictions: u64,
 }
@@ -49,8 +55,15 @@ impl Count {
 }
 
 impl Tally {
+    /// Counts a contradiction where something doesn't hold.
+    pub fn expect(&mut self, holds: bool) {
+        if !holds {
+            self.contradictions = self.contradictions.saturating_add(1);
+        }
+    }
+
     /// The counts and the names of their calls.
-    pub fn counts(&self) -> [(&'static str, Count); 16] {
+    pub fn counts(&self) -> [(&'static str, Count); 22] {
         [
             ("FileKind::parse", self.kind),
             ("ElfFile::parse", self.file),
@@ -68,6 +81,12 @@ impl Tally {
             ("PackageFile::parse", self.package),
             ("PackageFile::find_counted", self.found),
             ("PackagedUnit::string", self.string),
+            ("DwarfPackage::add_object_bytes", self.object),
+            ("skeletons", self.skeletons),
+            ("DwarfPackage::add_executable", self.executable),
+            ("DwarfPackage::finish", self.finish),
+            ("pack", self.packed),
+            ("pack_groups", self.groups),
         ]
     }
 }

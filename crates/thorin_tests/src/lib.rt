@@ -22,6 +22,8 @@ mod objects;
 #[cfg(test)]
 mod one_object;
 #[cfg(test)]
+mod other_shapes;
+#[cfg(test)]
 mod own_packages;
 #[cfg(test)]
 mod packages;
