@@ -68,7 +68,8 @@ class Error(Exception):
     def __init__(self, status, report=None):
         text = c.create_string_buffer(64)
         self.status, self.input, self.fault = status, None, None
-        message = text.raw[:_status_text(status, text, 64)].decode()
+        size = _status_text(status, text, 64)
+        message = text.raw[:size].decode()
         if report is not None and status in (REFUSED, UNFINISHED):
             self.fault, message = report.fault, report.text.decode()
             self.input = report.input if status == REFUSED else None
