@@ -192,13 +192,17 @@ enum {
 
 /* What packing tells beside its answer. A field that isn't named at the answer is as it was, or without meaning. */
 typedef struct {
-  uint64_t size;      /* THORIN_DONE, THORIN_TOO_SMALL: how many bytes the package has */
-  uint64_t input;     /* THORIN_REFUSED: the number of the input, from 0 on */
-  uint64_t differing; /* THORIN_DONE, THORIN_TOO_SMALL: how many type units were passed over whose bytes differ from those
-                         of the unit of their name that is kept */
-  uint32_t fault;     /* THORIN_REFUSED, THORIN_UNFINISHED: the number of the fault, one of THORIN_FAULT_... */
-  uint32_t text_size; /* and how many bytes its text has */
-  char text[256];     /* and its text, with a zero byte behind it */
+  uint64_t size;        /* THORIN_DONE, THORIN_TOO_SMALL: how many bytes the package has */
+  uint64_t input;       /* THORIN_REFUSED: the number of the input, from 0 on; THORIN_NO_MEMORY: that of the input at which
+                           memory ran out, or of all inputs where it was while the package was finished and written */
+  uint64_t differing;   /* THORIN_DONE, THORIN_TOO_SMALL: how many type units were passed over whose bytes differ from
+                           those of the unit of their name that is kept */
+  uint32_t packs_again; /* THORIN_DONE, THORIN_TOO_SMALL: 1 where the package may be an input again: each input is an
+                           object that added a unit, all their units have one encoding, and the sections that an input
+                           needs are there; else 0, and it may be refused */
+  uint32_t fault;       /* THORIN_REFUSED, THORIN_UNFINISHED: the number of the fault, one of THORIN_FAULT_... */
+  uint32_t text_size;   /* and how many bytes its text has */
+  char text[256];       /* and its text, with a zero byte behind it */
 } thorin_report;
 
 /* Packs objects (.dwo, or .o with .dwo sections) and packages (.dwp), in order, into one package.
@@ -258,13 +262,14 @@ THORIN_IS(lookup_id, offsetof(thorin_lookup, id) == 0);
 THORIN_IS(lookup_kind, offsetof(thorin_lookup, kind) == 8);
 THORIN_IS(lookup_status, offsetof(thorin_lookup, status) == 12);
 THORIN_IS(lookup_unit, offsetof(thorin_lookup, unit) == 16);
-THORIN_IS(report_size, sizeof(thorin_report) == 288);
+THORIN_IS(report_size, sizeof(thorin_report) == 296);
 THORIN_IS(report_length, offsetof(thorin_report, size) == 0);
 THORIN_IS(report_input, offsetof(thorin_report, input) == 8);
 THORIN_IS(report_differing, offsetof(thorin_report, differing) == 16);
-THORIN_IS(report_fault, offsetof(thorin_report, fault) == 24);
-THORIN_IS(report_text_size, offsetof(thorin_report, text_size) == 28);
-THORIN_IS(report_text, offsetof(thorin_report, text) == 32);
+THORIN_IS(report_packs_again, offsetof(thorin_report, packs_again) == 24);
+THORIN_IS(report_fault, offsetof(thorin_report, fault) == 28);
+THORIN_IS(report_text_size, offsetof(thorin_report, text_size) == 32);
+THORIN_IS(report_text, offsetof(thorin_report, text) == 36);
 
 #undef THORIN_IS
 

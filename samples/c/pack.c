@@ -9,6 +9,15 @@ static int write_file(const char *path, const uint8_t *bytes, size_t size) {
   return fclose(file) == 0 && is_whole;
 }
 
+/* Names the type units that were passed over and that differ from those kept. */
+static void print_differing(const thorin_bytes *inputs, size_t count, thorin_report *report) {
+  size_t room = (size_t)report->differing;
+  uint64_t *types = malloc(room * sizeof *types);
+  if (types && thorin_differing_types(inputs, count, types, room, report) == THORIN_DONE)
+    for (size_t i = 0; i < room; i++) fprintf(stderr, "warning: type unit 0x%016" PRIx64 " differs\n", types[i]);
+  free(types);
+}
+
 int main(int argc, char **argv) {
   if (argc < 3) {
     fprintf(stderr, "usage: pack OUT INPUT..\n");
@@ -35,8 +44,10 @@ int main(int argc, char **argv) {
   }
 
   int is_done = status == THORIN_DONE && write_file(argv[1], out, (size_t)report.size);
-  if (is_done && report.differing > 0)
-    fprintf(stderr, "warning: %" PRIu64 " type units differ\n", report.differing);
+  if (is_done) {
+    printf("%" PRIu64 " bytes%s\n", report.size, report.packs_again ? ", may be packed again" : "");
+    if (report.differing > 0) print_differing(inputs, count, &report);
+  }
   if (status == THORIN_REFUSED)
     fprintf(stderr, "error: %s: %s (%" PRIu32 ")\n", argv[report.input + 2], report.text, report.fault);
   else if (status == THORIN_UNFINISHED)

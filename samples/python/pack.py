@@ -12,14 +12,17 @@ def main(words):
         return 2
     out, *names = words
     try:
-        package, differing = thorin.pack([Path(name).read_bytes() for name in names])
+        inputs = [Path(name).read_bytes() for name in names]
+        package, differing, packs_again = thorin.pack(inputs)
     except thorin.Error as error:
         place = f"{names[error.input]}: " if error.input is not None else ""
         print(f"error: {place}{error} ({error.fault})", file=sys.stderr)
         return 1
-    if differing:
-        print(f"warning: {differing} type units differ", file=sys.stderr)
     Path(out).write_bytes(package)
+    print(f"{len(package)} bytes" + (", may be packed again" if packs_again else ""))
+    if differing:
+        for signature in thorin.differing_types(inputs):
+            print(f"warning: type unit {signature:#018x} differs", file=sys.stderr)
     return 0
 
 

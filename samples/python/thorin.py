@@ -35,10 +35,10 @@ class Lookup(c.Structure):
 
 class Report(c.Structure):
     _fields_ = [("size", c.c_uint64), ("input", c.c_uint64), ("differing", c.c_uint64),
-                ("fault", c.c_uint32), ("text_size", c.c_uint32), ("text", c.c_char * 256)]
+                ("packs_again", c.c_uint32), ("fault", c.c_uint32), ("text_size", c.c_uint32), ("text", c.c_char * 256)]
 
 
-assert [c.sizeof(s) for s in (Bytes, Range, Unit, Name, Lookup, Report)] == [16, 16, 176, 16, 192, 288]
+assert [c.sizeof(s) for s in (Bytes, Range, Unit, Name, Lookup, Report)] == [16, 16, 176, 16, 192, 296]
 
 _lib = c.CDLL(str(Path(os.environ.get("THORIN_LIB") or Path(__file__).resolve().parents[2] / "lib") / "libthorin.so"))
 
@@ -68,7 +68,8 @@ class Error(Exception):
     def __init__(self, status, report=None):
         text = c.create_string_buffer(64)
         self.status, self.input, self.fault = status, None, None
-        message = text.raw[:_status_text(status, text, 64)].decode()
+        size = _status_text(status, text, 64)
+        message = text.raw[:size].decode()
         if report is not None and status in (REFUSED, UNFINISHED):
             self.fault, message = report.fault, report.text.decode()
             self.input = report.input if status == REFUSED else None
@@ -147,7 +148,8 @@ def _inputs(inputs):
 
 
 def pack(inputs):
-    """The bytes of the package of objects and packages, and how many type units were passed over that differ."""
+    """The bytes of the package of objects and packages; how many type units were passed over that differ; and whether
+    the package may be an input again."""
     lent, _kept = _inputs(inputs)
     room, report, status = 4096 + sum(map(len, inputs)), Report(), TOO_SMALL
     while status == TOO_SMALL:
@@ -155,7 +157,7 @@ def pack(inputs):
         out = c.create_string_buffer(room)
         status = _pack(lent, len(inputs), out, room, report)
     _answer(status, report)
-    return out.raw[:report.size], report.differing
+    return out.raw[:report.size], report.differing, report.packs_again == 1
 
 
 def differing_types(inputs):

@@ -1,20 +1,22 @@
 -- Inputs taken one after the other.
-use Rattle.std.proofs.Common.{◌≡◌, ◌∙◌, ℕ, ◌+◌, List, [], ◌∷◌, ◌++◌, refl, sym, ap, subst, Result, Ok, Err, ◌<◌, length, take, get_or, map}
+use Rattle.std.proofs.Common.{◌≡◌, ◌∙◌, ℕ, ◌+◌, List, [], ◌∷◌, ◌++◌, refl, sym, ap, subst, Result, Ok, Err, ◌<◌, if◌then◌else◌, inl, length, take, get_or, map, arith}
 use Rattle.std.proofs.lemmas.List.{take_more, map-append, length-map}
 use Rattle.dwp_base.specs.Reading.{◌>>=◌}
-use Rattle.thorin_faults.specs.Fault.{Fault, fault_of}
+use Rattle.thorin_faults.specs.Fault.{Fault, fault_of, NoOutputObjectCreated}
 use Rattle.thorin_faults.specs.Answers.{MemoryAside}
 use Rattle.thorin_faults.specs.declared.fault.Error.{Error}
+use Rattle.thorin_faults.specs.declared.fault.Error.TheVariants as error
 use Rattle.thorin.specs.Run.{IsWritten, RefusesToWrite}
 use Rattle.dwp_table.specs.declared.object.DebugTypeSignature.{DebugTypeSignature}
 use Rattle.thorin_c.specs.Listing.{written_over}
 use Rattle.thorin_c.specs.declared.packing.RefusedInput.{RefusedInput}
 use Rattle.thorin_c.specs.declared.types.ThorinReport.{ThorinReport}
-use Rattle.thorin_builder.specs.Builder.{State, start, taken, differing_in}
+use Rattle.thorin_builder.specs.Builder.{State, start, taken, differing_in, finish_test, targets_test}
 use Rattle.thorin_builder.specs.Join.{Joins, JoinAll, IsPackageOf}
 use Rattle.thorin_builder.specs.Meaning.{Members}
 use Rattle.thorin_builder.specs.Represents.{units_in}
-use Rattle.thorin_c.specs.Packing.{bytes_of, all_taken, Accepts, RefusesAt, TellsRefused, TellsLeft, TellsUnfinished, Refuses, IsUnfinished, IsPackage, Differ}
+use Rattle.thorin_builder.specs.Own.{packs_again}
+use Rattle.thorin_c.specs.Packing.{bytes_of, all_taken, Accepts, RefusesAt, StopsAt, Leaves, TellsRefused, TellsLeft, TellsUnfinished, Refuses, RunsOutAt, RunsOutAfter, IsUnfinished, IsPackage, Differ}
 use Rattle.thorin_c.specs.declared.types.ThorinBytes.{ThorinBytes}
 
 abbrev value : Result State Fault → State → State
@@ -47,31 +49,72 @@ accepts-next inputs i d old middle new h before now joins =
 
 -- what is told of a refused input
 pub refuses : (inputs : List ThorinBytes) (old : State) (refusal : RefusedInput) (report : ThorinReport) → old ≡ start
-    → MemoryAside refusal.fault (RefusesAt inputs old refusal.number (fault_of refusal.fault)) → TellsRefused refusal.number refusal.fault report → Refuses inputs report
-refuses inputs old refusal report is at told = record {
-  fault = fault_of refusal.fault;
-  refused = subst (λ s. RefusesAt inputs s report.input (fault_of refusal.fault)) is (subst (λ n. RefusesAt inputs old n (fault_of refusal.fault)) (sym told.input) (at told.not_memory));
+    → StopsAt inputs old refusal.number refusal.fault → TellsRefused refusal.number refusal.fault report → Refuses inputs report
+refuses inputs old refusal report is at told =
+    let here : RefusesAt inputs old refusal.number (fault_of refusal.fault) = record { within = at.within; state = at.state; before = at.before; refused = at.refused told.not_memory } in
+    record {
+      fault = fault_of refusal.fault;
+      refused = subst (λ s. RefusesAt inputs s report.input (fault_of refusal.fault)) is (subst (λ n. RefusesAt inputs old n (fault_of refusal.fault)) (sym told.input) here);
+      told = told.told;
+    }
+
+-- and of one at which memory ran out
+pub runs_out_at : (inputs : List ThorinBytes) (old : State) (refusal : RefusedInput) (number : ℕ) → old ≡ start
+    → StopsAt inputs old refusal.number refusal.fault → number ≡ refusal.number → RunsOutAt inputs number
+runs_out_at inputs old refusal number is at here =
+    subst (λ n. RunsOutAt inputs n) (sym here) (record { within = at.within; state = at.state; before = subst (λ s. Accepts (take refusal.number inputs) s at.state) is at.before })
+
+-- and of a package that can't be finished
+pub unfinished : (inputs : List ThorinBytes) (fault : Error) (report : ThorinReport) → Leaves inputs fault → TellsLeft fault report → TellsUnfinished inputs report
+unfinished inputs fault report is told = record {
+  fault = fault_of fault;
+  is = record { state = is.state; accepted = is.accepted; refused = is.refused told.not_memory };
   told = told.told;
 }
 
--- and of a package that can't be finished
-pub unfinished : (inputs : List ThorinBytes) (fault : Error) (report : ThorinReport) → MemoryAside fault (IsUnfinished inputs (fault_of fault)) → TellsLeft fault report → TellsUnfinished inputs report
-unfinished inputs fault report is told = record { fault = fault_of fault; is = is told.not_memory; told = told.told }
+-- and of one for which memory ran out
+pub runs_out_after : (inputs : List ThorinBytes) (fault : Error) (number : ℕ) → Leaves inputs fault → (fault ≡ error.Memory) × (number ≡ length inputs) → RunsOutAfter inputs number
+runs_out_after inputs fault number is out = record {
+  some = subst (λ n. 0 < n) (sym out.1) (is.memory out.0);
+  all = out.1;
+  state = is.state;
+  accepted = is.accepted;
+}
 
 -- the package of inputs that are all accepted
 pub packs : (inputs : List ThorinBytes) (old state : State) (signatures : List DebugTypeSignature) (bytes : List ℕ) → old ≡ start → Accepts inputs old state → IsWritten state bytes → IsPackageOf (units_in state) bytes
-    → map (λ s. s.0) signatures ≡ differing_in state → IsPackage inputs (length signatures) bytes
+    → map (λ s. s.0) signatures ≡ differing_in state → IsPackage inputs (length signatures) (if packs_again state then 1 else 0) bytes
 packs inputs old state signatures bytes is accepted written joined differ = record {
   state = state;
   accepted = subst (λ s. Accepts inputs s state) is accepted;
   written = written;
   package_of = joined;
   differ = sym (length-map signatures (λ s. s.0)) ∙ ap length differ;
+  packs = refl;
 }
 
 -- and why it can't be finished
-pub fails : (inputs : List ThorinBytes) (old state : State) (fault : Error) → old ≡ start → Accepts inputs old state → MemoryAside fault (RefusesToWrite state (fault_of fault)) → MemoryAside fault (IsUnfinished inputs (fault_of fault))
-fails inputs old state fault is accepted refused = λ h. record { state = state; accepted = subst (λ s. Accepts inputs s state) is accepted; refused = refused h }
+pub fails : (inputs : List ThorinBytes) (old state : State) (fault : Error) → old ≡ start → 0 < length inputs → Accepts inputs old state → MemoryAside fault (RefusesToWrite state (fault_of fault)) → Leaves inputs fault
+fails inputs old state fault is some accepted refused = record {
+  state = state;
+  accepted = subst (λ s. Accepts inputs s state) is accepted;
+  refused = refused;
+  memory = λ e. some;
+}
+
+none_begun : finish_test start ≡ Err NoOutputObjectCreated
+unfolding finish_test targets_test
+none_begun = refl
+
+-- no input makes no package
+pub none_fails : (inputs : List ThorinBytes) → length inputs ≡ 0 → Leaves inputs error.NoOutputObjectCreated
+none_fails [] e = record {
+  state = start;
+  accepted = record { taken = refl; joined = refl };
+  refused = λ h. inl none_begun;
+  memory = λ e. absurd cc;
+}
+none_fails (x ∷ inputs) e = absurd (omega arith)
 
 -- the signatures of those that differ
 pub differs : (inputs : List ThorinBytes) (old state : State) (signatures : List DebugTypeSignature) (report : ThorinReport) (before now : List ℕ) → old ≡ start → Accepts inputs old state

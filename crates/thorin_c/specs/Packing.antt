@@ -1,5 +1,5 @@
 -- What the exports that pack answer.
-use Rattle.std.specs.Prelude.{◌≡◌, ◌≢◌, ℕ, ℤ, pos, ◌<◌, ◌≤◌, List, [], ◌∷◌, map, take, drop, length, Result, Ok, Err, ◌⊎◌}
+use Rattle.std.specs.Prelude.{◌≡◌, ◌≢◌, ℕ, ℤ, pos, ◌<◌, ◌≤◌, if◌then◌else◌, List, [], ◌∷◌, map, take, drop, length, Result, Ok, Err, ◌⊎◌}
 use Rattle.std.specs.List.{HoldsAt}
 use Rattle.dwp_base.specs.Reading.{◌>>=◌}
 use Rattle.thorin_faults.specs.Answers.{MemoryAside}
@@ -8,6 +8,7 @@ use Rattle.thorin_faults.specs.declared.fault.Error.{Error}
 use Rattle.thorin_faults.specs.declared.fault.Error.TheVariants as error
 use Rattle.thorin_builder.specs.Builder.{State, start, taken, differing_in}
 use Rattle.thorin_builder.specs.Join.{JoinAll, IsPackageOf}
+use Rattle.thorin_builder.specs.Own.{packs_again}
 use Rattle.thorin_builder.specs.Represents.{units_in}
 use Rattle.thorin.specs.Run.{IsWritten, RefusesToWrite}
 use Rattle.thorin_c.specs.Faults.{Tells}
@@ -39,18 +40,27 @@ pub record Accepts (inputs : List ThorinBytes) (old new : State) : Type 0 where
 
 -- the input of this number is refused for this fault, and those before it are accepted
 pub record RefusesAt (inputs : List ThorinBytes) (old : State) (number : ℕ) (fault : Fault) : Type 0 where
+  pub within : number < length inputs
   pub state : State
   pub before : Accepts (take number inputs) old state
   pub refused : HoldsAt (λ input. taken input.bytes.now state ≡ Err fault) inputs number
 
--- all inputs are accepted; the bytes are the file of the finished package, a package of their joined units; and so many type units
--- were passed over that differ from those kept
-pub record IsPackage (inputs : List ThorinBytes) (differing : ℕ) (bytes : List ℕ) : Type 0 where
+-- the input of this number isn't taken, and those before it are accepted: it is refused for this fault, want of memory aside
+pub record StopsAt (inputs : List ThorinBytes) (old : State) (number : ℕ) (fault : Error) : Type 0 where
+  pub within : number < length inputs
+  pub state : State
+  pub before : Accepts (take number inputs) old state
+  pub refused : MemoryAside fault (HoldsAt (λ input. taken input.bytes.now state ≡ Err (fault_of fault)) inputs number)
+
+-- all inputs are accepted; the bytes are the file of the finished package, a package of their joined units; so many type units
+-- were passed over that differ from those kept; and 1 where it is taken as an input again
+pub record IsPackage (inputs : List ThorinBytes) (differing again : ℕ) (bytes : List ℕ) : Type 0 where
   pub state : State
   pub accepted : Accepts inputs start state
   pub written : IsWritten state bytes
   pub package_of : IsPackageOf (units_in state) bytes
   pub differ : differing ≡ length (differing_in state)
+  pub packs : again ≡ (if packs_again state then 1 else 0)
 
 -- all inputs are accepted, and the package can't be finished or written for this fault
 pub record IsUnfinished (inputs : List ThorinBytes) (fault : Fault) : Type 0 where
@@ -58,10 +68,17 @@ pub record IsUnfinished (inputs : List ThorinBytes) (fault : Fault) : Type 0 whe
   pub accepted : Accepts inputs start state
   pub refused : RefusesToWrite state fault
 
--- what stands in a refusal, want of memory aside
+-- the same, want of memory aside, which there is with no input none of
+pub record Leaves (inputs : List ThorinBytes) (fault : Error) : Type 0 where
+  pub state : State
+  pub accepted : Accepts inputs start state
+  pub refused : MemoryAside fault (RefusesToWrite state (fault_of fault))
+  pub memory : fault ≡ error.Memory → 0 < length inputs
+
+-- what stands in a refusal
 abbrev pub IsRefusal : List ThorinBytes → Refusal → Type 0
-IsRefusal inputs (refusals.Input input) = MemoryAside input.fault (RefusesAt inputs start input.number (fault_of input.fault))
-IsRefusal inputs (refusals.Package fault) = MemoryAside fault (IsUnfinished inputs (fault_of fault))
+IsRefusal inputs (refusals.Input input) = StopsAt inputs start input.number input.fault
+IsRefusal inputs (refusals.Package fault) = Leaves inputs fault
 
 -- what is told of a refused input, and of a package that can't be finished or written; never of want of memory
 pub record TellsRefused (number : ℕ) (fault : Error) (report : ThorinReport) : Type 0 where
@@ -76,13 +93,13 @@ pub record TellsLeft (fault : Error) (report : ThorinReport) : Type 0 where
 -- the package stands at the beginning of the room, the rest of which is as it was
 pub record Packs (inputs : List ThorinBytes) (report : ThorinReport) (old new : List ℕ) : Type 0 where
   pub fits : report.size ≤ length new
-  pub is : IsPackage inputs report.differing (take report.size new)
+  pub is : IsPackage inputs report.differing report.packs_again (take report.size new)
   pub rest : drop report.size new ≡ drop report.size old
 
 -- the package has a size past the room
 pub record Needs (inputs : List ThorinBytes) (report : ThorinReport) (room : ℕ) : Type 0 where
   pub bytes : List ℕ
-  pub is : IsPackage inputs report.differing bytes
+  pub is : IsPackage inputs report.differing report.packs_again bytes
   pub size : report.size ≡ length bytes
   pub past : room < report.size
 
@@ -97,6 +114,19 @@ pub record TellsUnfinished (inputs : List ThorinBytes) (report : ThorinReport) :
   pub fault : Fault
   pub is : IsUnfinished inputs fault
   pub told : Tells fault report
+
+-- memory ran out while the input of this number was taken, those before it being accepted
+pub record RunsOutAt (inputs : List ThorinBytes) (number : ℕ) : Type 0 where
+  pub within : number < length inputs
+  pub state : State
+  pub before : Accepts (take number inputs) start state
+
+-- memory ran out while the package of all inputs was finished and written; their number stands in the place of an input's
+pub record RunsOutAfter (inputs : List ThorinBytes) (number : ℕ) : Type 0 where
+  pub some : 0 < number
+  pub all : number ≡ length inputs
+  pub state : State
+  pub accepted : Accepts inputs start state
 
 -- the signatures of the type units that were passed over and differ, as far as there is room, and how many there are
 pub record Differ (inputs : List ThorinBytes) (report : ThorinReport) (old new : List ℕ) : Type 0 where

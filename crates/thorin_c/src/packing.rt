@@ -1,14 +1,12 @@
 //! Packing objects and packages.
 
-ghost use Rattle.std.specs.Prelude.{◌≡◌, ◌≢◌, map, length, IfOk, IfErr, OnOk, pos, ◌⊎◌};
+ghost use Rattle.std.specs.Prelude.{◌≡◌, ◌≢◌, map, length, IfOk, IfErr, OnOk, pos, ◌⊎◌, if◌then◌else◌};
 ghost use Rattle.thorin_builder.specs.Represents.{units_in};
 ghost use Rattle.thorin_builder.specs.Builder.{start};
 ghost use Rattle.thorin_builder.specs.Join.{IsPackageOf};
-ghost use Rattle.thorin_faults.specs.Answers.{MemoryAside};
-ghost use Rattle.thorin_faults.specs.Fault.{fault_of};
 ghost use Rattle.thorin.specs.Run.{Writes};
 ghost use Rattle.thorin_c.specs.Listing.{written_over};
-ghost use Rattle.thorin_c.specs.Packing.{Accepts, RefusesAt, IsPackage, IsRefusal, TellsRefused, TellsLeft, Packs, Needs, Refuses, TellsUnfinished, Differ, IsPackingStatus, IsDifferingStatus};
+ghost use Rattle.thorin_c.specs.Packing.{Accepts, StopsAt, IsPackage, IsRefusal, TellsRefused, TellsLeft, Packs, Needs, Refuses, TellsUnfinished, RunsOutAt, RunsOutAfter, Differ, IsPackingStatus, IsDifferingStatus};
 
 use crate::faults::tell;
 use crate::session::NoFiles;
@@ -19,14 +17,16 @@ use std::alloc::Global;
 use thorin::DwarfPackage;
 use thorin_faults::Error;
 
-/// A package's bytes, and how many type units were passed over that differ from those kept.
+/// A package's bytes, how many type units were passed over that differ from those kept, and whether it
+/// is taken as an input again.
 #[derive(Drop)]
 struct Packed {
     file: Vec<u8>,
     differing: u64,
+    packs_again: bool,
 }
 
-/// An input that was refused: its number, and its fault.
+/// An input that was refused, or at which memory ran out: its number, and the fault.
 #[derive(Drop)]
 struct RefusedInput {
     number: usize,
@@ -43,11 +43,13 @@ enum Refusal {
 }
 
 /// Packs objects and packages in order, and answers 0: the package stands at the beginning of `out`, its length in
-/// `report.size`, and `report.differing` says how many type units were passed over whose bytes differ from those kept.
+/// `report.size`, `report.differing` says how many type units were passed over whose bytes differ from those kept, and
+/// `report.packs_again` is 1 where the package is one that is taken as an input again.
 /// Else `out` is left as it is: 10 where it is too small, and `report.size` is the length that is needed; 11 where an
 /// input is refused, the first of them `report.input`; 12 where the package can't be finished or written; 13 where memory
-/// ran out. Under 11 and 12 the fault's number and text stand in `report`.
-#[tactic(auto, using(crate::proofs::Taking::refuses, crate::proofs::Taking::unfinished))]
+/// ran out at the input `report.input`, or, at their number, while the package was finished and written. Under 11 and 12
+/// the fault's number and text stand in `report`.
+#[tactic(auto, using(crate::proofs::Taking::refuses, crate::proofs::Taking::unfinished, crate::proofs::Taking::runs_out_at, crate::proofs::Taking::runs_out_after))]
 #[unsafe(no_mangle)]
 pub extern "C" fn thorin_pack(
     alloc: Global,
@@ -59,6 +61,7 @@ pub extern "C" fn thorin_pack(
     ensures small { result ≡ pos 10 → Needs inputs.now report.new (length out.old) }
     ensures refused { result ≡ pos 11 → Refuses inputs.now report.new }
     ensures unfinished { result ≡ pos 12 → TellsUnfinished inputs.now report.new }
+    ensures memory { result ≡ pos 13 → RunsOutAt inputs.now report.new.input ⊎ RunsOutAfter inputs.now report.new.input }
     ensures status { IsPackingStatus result }
     ensures unchanged { result ≢ pos 0 → out.new ≡ out.old }
 {
@@ -67,6 +70,7 @@ pub extern "C" fn thorin_pack(
             let len = packed.file.len();
             report.size = len as u64;
             report.differing = packed.differing;
+            report.packs_again = if packed.packs_again { 1 } else { 0 };
             if len > out.len() {
                 return TOO_SMALL;
             }
@@ -75,7 +79,7 @@ pub extern "C" fn thorin_pack(
         }
         Err(refusal) => match refusal {
             Refusal::Input(input) => refused(input, report),
-            Refusal::Package(fault) => unfinished(fault, report),
+            Refusal::Package(fault) => unfinished(fault, inputs.len(), report),
         },
     }
 }
@@ -83,7 +87,7 @@ pub extern "C" fn thorin_pack(
 /// The signatures of the type units of inputs that are passed over and whose bytes differ from those of the unit that is
 /// kept: 0, as many as there is room for in `types`, in the order of passing over, and how many there are in
 /// `report.differing`. 11 and 13 as `thorin_pack`, and then `types` is left as it is.
-#[tactic(auto, using(crate::proofs::Taking::refuses, crate::proofs::Taking::differs))]
+#[tactic(auto, using(crate::proofs::Taking::refuses, crate::proofs::Taking::differs, crate::proofs::Taking::runs_out_at))]
 #[unsafe(no_mangle)]
 pub extern "C" fn thorin_differing_types(
     alloc: Global,
@@ -93,6 +97,7 @@ pub extern "C" fn thorin_differing_types(
 ) -> i32
     ensures done { result ≡ pos 0 → Differ inputs.now report.new types.old types.new }
     ensures refused { result ≡ pos 11 → Refuses inputs.now report.new }
+    ensures memory { result ≡ pos 13 → RunsOutAt inputs.now report.new.input }
     ensures status { IsDifferingStatus result }
     ensures unchanged { result ≢ pos 0 → types.new ≡ types.old }
 {
@@ -109,13 +114,15 @@ pub extern "C" fn thorin_differing_types(
     }
 }
 
-// Tells of a refused input.
+// Tells of an input that was refused, or at which memory ran out.
 fn refused(refusal: RefusedInput, report: &mut ThorinReport) -> i32
     ensures told { result ≡ pos 11 → TellsRefused refusal.number refusal.fault report.new }
+    ensures memory { result ≡ pos 13 → report.new.input ≡ refusal.number }
     ensures status { (result ≡ pos 11) ⊎ (result ≡ pos 13) }
 {
     let RefusedInput { number, fault } = refusal;
     if matches!(fault, Error::Memory) {
+        report.input = number as u64;
         return NO_MEMORY;
     }
     tell(fault, report);
@@ -123,12 +130,14 @@ fn refused(refusal: RefusedInput, report: &mut ThorinReport) -> i32
     REFUSED
 }
 
-// Tells of a package that can't be finished or written.
-fn unfinished(fault: Error, report: &mut ThorinReport) -> i32
+// Tells of a package that can't be finished or written, of so many inputs.
+fn unfinished(fault: Error, count: usize, report: &mut ThorinReport) -> i32
     ensures told { result ≡ pos 12 → TellsLeft fault report.new }
+    ensures memory { result ≡ pos 13 → (fault ≡ Error.Memory) × (report.new.input ≡ count) }
     ensures status { (result ≡ pos 12) ⊎ (result ≡ pos 13) }
 {
     if matches!(fault, Error::Memory) {
+        report.input = count as u64;
         return NO_MEMORY;
     }
     tell(fault, report);
@@ -136,30 +145,38 @@ fn unfinished(fault: Error, report: &mut ThorinReport) -> i32
 }
 
 // The package of inputs.
-#[tactic(auto, using(crate::proofs::Taking::packs, crate::proofs::Taking::fails))]
+#[tactic(auto, using(crate::proofs::Taking::packs, crate::proofs::Taking::fails, crate::proofs::Taking::none_fails))]
 fn package_of(alloc: Global, inputs: &[ThorinBytes<'_>]) -> Result<Packed, Refusal>
-    ensures packed { IfOk result (λ packed. IsPackage inputs.now packed.differing packed.file.items) }
+    ensures packed { IfOk result (λ packed. IsPackage inputs.now packed.differing (if packed.packs_again then 1 else 0) packed.file.items) }
     ensures refused { IfErr result (IsRefusal inputs.now) }
 {
+    if inputs.is_empty() {
+        return Err(Refusal::Package(Error::NoOutputObjectCreated));
+    }
     let session = NoFiles {};
     let mut builder = DwarfPackage::new(alloc, &session);
     if let Err(refusal) = add_all(&mut builder, inputs) {
         return Err(Refusal::Input(refusal));
     }
     let differing = builder.differing_types().len() as u64;
+    let packs_again = builder.packs_again();
     match written(builder) {
-        Ok(file) => Ok(Packed { file, differing }),
+        Ok(file) => Ok(Packed {
+            file,
+            differing,
+            packs_again,
+        }),
         Err(fault) => Err(Refusal::Package(fault)),
     }
 }
 
-// Adds inputs in order, up to the first that is refused: its number and its fault.
+// Adds inputs in order, up to the first that isn't taken: its number and its fault.
 fn add_all<'o, 's: 'o>(
     builder: &mut DwarfPackage<'o, 's, NoFiles>,
     inputs: &[ThorinBytes<'_>],
 ) -> Result<(), RefusedInput>
     ensures accepted { OnOk result (Accepts inputs.now builder.old.state builder.new.state) }
-    ensures refused { IfErr result (λ refusal. MemoryAside refusal.fault (RefusesAt inputs.now builder.old.state refusal.number (fault_of refusal.fault))) }
+    ensures refused { IfErr result (λ refusal. StopsAt inputs.now builder.old.state refusal.number refusal.fault) }
 {
     for (number, input) in inputs.iter().enumerate() {
         if let Err(fault) = builder.add_object_bytes(input.bytes) {

@@ -39,6 +39,7 @@ const NO_REPORT: ThorinReport = ThorinReport {
     size: 0,
     input: 0,
     differing: 0,
+    packs_again: 0,
     fault: 0,
     text_size: 0,
     text: [0; 256],
@@ -69,6 +70,7 @@ fn an_object_is_packed_and_found(rt: HostRuntime) -> Result<(), Fail> {
     let room = out.as_mut_slice();
     assert_eq!(&rt; thorin_pack(alloc, &inputs, room, &mut report), 0);
     assert_eq!(&rt; report.size, 728);
+    assert_eq!(&rt; report.packs_again, 1);
     let package = &out.as_slice()[..728];
     let mut count = 0;
     assert_eq!(&rt; thorin_unit_count(package, &mut count), 0);

@@ -86,10 +86,12 @@ pub struct ThorinLookup {
 pub struct ThorinReport {
     /// How many bytes the package has.
     pub size: u64,
-    /// The number of the input that was refused, from 0 on.
+    /// The number of the input that was refused, or at which memory ran out, from 0 on.
     pub input: u64,
     /// How many type units were passed over whose bytes differ from those of the unit that is kept.
     pub differing: u64,
+    /// 1 where the package is one that is taken as an input again, else 0.
+    pub packs_again: u32,
     /// The number of the fault, from 1 on.
     pub fault: u32,
     /// How many bytes the fault's text has.

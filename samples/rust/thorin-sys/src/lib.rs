@@ -66,6 +66,7 @@ pub struct thorin_report {
     pub size: u64,
     pub input: u64,
     pub differing: u64,
+    pub packs_again: u32,
     pub fault: u32,
     pub text_size: u32,
     pub text: [u8; 256],
@@ -91,6 +92,6 @@ const _: () = {
     assert!(size_of::<thorin_name>() == 16);
     assert!(size_of::<thorin_lookup>() == 192);
     assert!(offset_of!(thorin_lookup, unit) == 16);
-    assert!(size_of::<thorin_report>() == 288);
-    assert!(offset_of!(thorin_report, text) == 32);
+    assert!(size_of::<thorin_report>() == 296);
+    assert!(offset_of!(thorin_report, text) == 36);
 };

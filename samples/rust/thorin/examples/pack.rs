@@ -24,8 +24,12 @@ fn packed(out: &str, names: &[String]) -> Result<(), String> {
         PackError::Input(input, fault, text) => format!("{}: {text} ({fault})", names[input]),
         other => other.to_string(),
     })?;
+    fs::write(out, &package.bytes).map_err(|e| format!("{out}: {e}"))?;
+    println!("{} bytes{}", package.bytes.len(), if package.packs_again { ", may be packed again" } else { "" });
     if package.differing > 0 {
-        eprintln!("warning: {} type units differ", package.differing);
+        for signature in thorin::differing_types(&inputs).map_err(|e| e.to_string())? {
+            eprintln!("warning: type unit {signature:#018x} differs");
+        }
     }
-    fs::write(out, package.bytes).map_err(|e| format!("{out}: {e}"))
+    Ok(())
 }

@@ -157,10 +157,12 @@ pub struct Packed {
     pub bytes: Vec<u8>,
     /// How many type units were passed over whose bytes differ from those of the unit that is kept.
     pub differing: u64,
+    /// Whether the package may be an input again.
+    pub packs_again: bool,
 }
 
 const NO_REPORT: sys::thorin_report =
-    sys::thorin_report { size: 0, input: 0, differing: 0, fault: 0, text_size: 0, text: [0; 256] };
+    sys::thorin_report { size: 0, input: 0, differing: 0, packs_again: 0, fault: 0, text_size: 0, text: [0; 256] };
 
 fn refusal(status: i32, report: &sys::thorin_report) -> PackError {
     let text = String::from_utf8_lossy(&report.text[..report.text_size as usize]).into_owned();
@@ -192,7 +194,7 @@ pub fn pack(inputs: &[impl AsRef<[u8]>]) -> Result<Packed, PackError> {
         return Err(refusal(status, &report));
     }
     bytes.truncate(report.size as usize);
-    Ok(Packed { bytes, differing: report.differing })
+    Ok(Packed { bytes, differing: report.differing, packs_again: report.packs_again == 1 })
 }
 
 /// The signatures of the type units that packing passes over and that differ from those kept.

@@ -1,0 +1,104 @@
+#!/usr/bin/env python3
+"""c_library.py [OBJECTS [FILES]]: tries lib/libthorin.a (what build-library leaves) beside bin/thorin (what build leaves).
+
+It compiles OBJECTS small sources (60) by gcc, clang, g++ and clang++ with split debug information, versions 4 and 5, packs
+them by samples/c/pack.c and by the program, and compares the packages; packs the packages again; looks all their units up
+by samples/c/lookup.c. All of it once plain and once with AddressSanitizer and LeakSanitizer, as the compiler CC has them
+(gcc). Then damaged_calls.c calls each export over FILES damaged files (5000), plain and with the sanitizers."""
+import os
+import subprocess
+import sys
+import tempfile
+from pathlib import Path
+
+ROOT = Path(__file__).resolve().parent.parent
+DATA = ROOT / "crates/thorin_cli_tests/data"
+CC = os.environ.get("CC", "gcc")
+PLAIN = ["-O2"]
+SANITIZED = ["-g", "-O1", "-fno-omit-frame-pointer", "-fsanitize=address,undefined", "-fno-sanitize-recover=all"]
+DAMAGED = ["hello.dwo", "five.dwo", "loclists.dwo", "strings.dwo", "tx.dwo", "ty.dwo", "tv.dwo", "v.dwo", "big32.dwo",
+           "llvm4.dwp", "llvm5.dwp", "x.dwp", "shared.dwp"]
+
+SOURCE = """
+struct node_{n} {{ int value; struct node_{n} *next; char name[{n} + 8]; }};
+static struct node_{n} first_{n} = {{ {n}, 0, "node {n}" }};
+int sum_{n}(const struct node_{n} *at, int limit) {{
+  int total = 0;
+  for (int i = 0; i < limit && at; i++) {{ total += at->value * {n}; at = at->next; }}
+  return total;
+}}
+int of_first_{n}(int limit) {{ int seen_{n} = sum_{n}(&first_{n}, limit); return seen_{n} + {n}; }}
+"""
+TEMPLATE = """
+template <typename T> struct pair_{n} {{ T one; T other; T both() const {{ return one + other; }} }};
+int both_{n}(int a) {{ pair_{n}<int> p{{a, {n}}}; pair_{n}<long> q{{a, {n}}}; return p.both() + (int)q.both(); }}
+"""
+
+
+def run(*words, **how):
+    return subprocess.run([str(word) for word in words], check=True, **how)
+
+
+def objects(folder, version, count):
+    """Split objects of sources that differ, by four compilers in turn."""
+    folder.mkdir()
+    made = []
+    for n in range(count):
+        compiler = ("gcc", "clang", "g++", "clang++")[n % 4]
+        source = folder / f"s{n}.{'cc' if compiler.endswith('++') else 'c'}"
+        source.write_text(SOURCE.format(n=n) + (TEMPLATE.format(n=n) if compiler.endswith("++") else ""))
+        types = ["-fdebug-types-section"] if n % 3 == 0 else []
+        run(compiler, "-c", "-g", f"-gdwarf-{version}", "-gsplit-dwarf", *types, f"-O{n % 3}", source.name, cwd=folder)
+        made.append(folder / f"s{n}.dwo")
+    return made
+
+
+def built(folder, name, source, flags):
+    run(CC, "-std=c11", "-Wall", "-Wextra", *flags, f"-I{ROOT}/include", "-o", folder / name, source,
+        ROOT / "lib/libthorin.a")
+    return folder / name
+
+
+def same(what, one, other):
+    if one.read_bytes() != other.read_bytes():
+        sys.exit(f"{what}: the files differ")
+
+
+def try_objects(folder, pack, look_up, version, inputs):
+    program, ours, again = folder / "program.dwp", folder / "c.dwp", folder / "again.dwp"
+    run(ROOT / "bin/thorin", "pack", "-o", program, *inputs)
+    run(pack, ours, *inputs, stdout=subprocess.DEVNULL)
+    same(f"DWARF {version}", program, ours)
+    run(pack, again, ours, stdout=subprocess.DEVNULL)
+    same(f"DWARF {version}, packed again", ours, again)
+    listed = run(look_up, ours, stdout=subprocess.PIPE).stdout.decode().splitlines()
+    units = [line for line in listed if line.startswith(("cu ", "tu "))]
+    expected = run(ROOT / "bin/thorin", "list", ours, stdout=subprocess.PIPE).stdout.decode().splitlines()
+    if sorted(line.split(":")[0] for line in units) != sorted(" ".join(line.split()[:2]) for line in expected):
+        sys.exit(f"DWARF {version}: other units")
+    twice = subprocess.run([pack, folder / "none", *inputs, inputs[0]], stderr=subprocess.PIPE)
+    if twice.returncode != 1 or b"(29)" not in twice.stderr or (folder / "none").exists():
+        sys.exit(f"DWARF {version}: a unit of a name that is there was taken")
+    return f"DWARF {version}: {len(inputs)} objects, {ours.stat().st_size} bytes, {len(units)} units, " \
+           f"{sum(line.startswith('  string') for line in listed)} strings"
+
+
+def main():
+    count = int(sys.argv[1]) if len(sys.argv) > 1 else 60
+    files = sys.argv[2] if len(sys.argv) > 2 else "5000"
+    with tempfile.TemporaryDirectory() as name:
+        folder = Path(name)
+        inputs = {version: objects(folder / f"v{version}", version, count) for version in (4, 5)}
+        for words, flags in (("plain", PLAIN), ("sanitized", SANITIZED)):
+            pack = built(folder, f"pack-{words}", ROOT / "samples/c/pack.c", flags)
+            look_up = built(folder, f"lookup-{words}", ROOT / "samples/c/lookup.c", flags)
+            calls = built(folder, f"calls-{words}", ROOT / "bench/damaged_calls.c", flags)
+            for version, of in inputs.items():
+                print(f"{words}: {try_objects(folder, pack, look_up, version, of)}")
+            small = [inputs[4][0], inputs[5][2]]
+            said = run(calls, "1", files, *(DATA / file for file in DAMAGED), *small, stdout=subprocess.PIPE).stdout
+            print(f"{words}: {said.decode().strip()}")
+
+
+if __name__ == "__main__":
+    main()
