@@ -1,6 +1,7 @@
 #!/usr/bin/env bash
 # Times the program over the inputs that make_inputs.py made: time_inputs.sh PROGRAM FOLDER. A line for each: its
-# status, its seconds, the most memory that it held, and what it said first.
+# size, what the program said, its status, its seconds, in brackets those of the processor, and the most memory
+# that it held.
 set -u
 program=$1
 for input in "$2"/*; do
@@ -9,6 +10,6 @@ for input in "$2"/*; do
         *.exe) words=(-e "$input" --skip-missing) ;;
         *) words=("$input") ;;
     esac
-    said=$(/usr/bin/time -f '%x %e s %M KiB' timeout 600 "$program" pack -o "$2/out.dwp" "${words[@]}" 2>&1 | tr '\n' ' ')
-    echo "$(basename "$input"): $said"
+    said=$(/usr/bin/time -f '%x %e s (%U s) %M KiB' timeout 600 "$program" pack -o "$2/out.dwp" "${words[@]}" 2>&1 | tr '\n' ' ')
+    echo "$(basename "$input"): $(stat -c %s "$input") bytes $said"
 done

@@ -20,7 +20,7 @@ pub struct Shown {
 }
 
 /// What a builder shows of itself.
-pub fn shown<'o, 's: 'o, Sess: Session<RelocationEntry>>(
+pub fn showing<'o, 's: 'o, Sess: Session<RelocationEntry>>(
     alloc: Global,
     builder: &DwarfPackage<'o, 's, Sess>,
 ) -> Result<Shown, AllocError> {
@@ -92,7 +92,7 @@ fn build_of<'s>(
     }
     let mut builder = DwarfPackage::new(alloc, session);
     let accepted = add_each(alloc, &mut builder, &all, tally)?;
-    let end = shown(alloc, &builder)?;
+    let end = showing(alloc, &builder)?;
     let file = file_of(builder);
     tally.finish.note(file.is_ok());
     pack_all(alloc, session, &all, accepted.len(), &file, tally)?;
@@ -117,9 +117,9 @@ fn add_each<'o, 's: 'o, 'i, Sess: Session<RelocationEntry>>(
 ) -> Result<Vec<&'i [u8]>, AllocError> {
     let mut accepted = Vec::new(alloc);
     for input in inputs {
-        let before = shown(alloc, builder)?;
+        let before = showing(alloc, builder)?;
         let outcome = builder.add_object_bytes(input);
-        let after = shown(alloc, builder)?;
+        let after = showing(alloc, builder)?;
         tally.object.note(outcome.is_ok());
         match outcome {
             Ok(()) => {
@@ -215,7 +215,7 @@ fn pack_again<'s>(
     let outcome = builder.add_object_bytes(file);
     tally.object.note(outcome.is_ok());
     tally.expect(matches!(outcome, Ok(()) | Err(Error::SectionNotInRow)));
-    let end = shown(alloc, &builder)?;
+    let end = showing(alloc, &builder)?;
     if outcome.is_ok() {
         tally.expect(end.units.len() == units.len());
         let again = file_of(builder);

@@ -1,6 +1,6 @@
 //! Damaged inputs for the builder: executables, and the objects that they name.
 
-use crate::building::{Shown, file_of, maybe_damaged, read_back, shown};
+use crate::building::{Shown, file_of, maybe_damaged, read_back, showing};
 use crate::generator::Generator;
 use crate::tally::Tally;
 use std::alloc::{AllocError, Global};
@@ -68,11 +68,11 @@ fn build_of<'s>(
     if let Some(object) = first {
         tally.object.note(builder.add_object_bytes(&object).is_ok());
     }
-    let before = shown(alloc, &builder)?;
+    let before = showing(alloc, &builder)?;
     let outcome = builder.add_executable(Path::new(EXECUTABLE), missing);
     tally.executable.note(outcome.is_ok());
     tally.expect(!matches!(outcome, Err(Error::Memory)));
-    let after = shown(alloc, &builder)?;
+    let after = showing(alloc, &builder)?;
     tally.expect(after.units.starts_with(&before.units));
     end(&file_of(builder), &after, tally);
     Ok(())
