@@ -1,5 +1,6 @@
-// Refuses one allocation of a program: that whose number, from 1 on, is in the environment variable REFUSED.
-// It then writes a line to standard error. Built as a library that is loaded first, for glibc.
+// Refuses one allocation of a program: that whose number, from 1 on, is in the environment variable
+// REFUSED. It then writes a line to standard error. Built as a library that is loaded first, for
+// glibc.
 #include <stddef.h>
 #include <stdlib.h>
 #include <unistd.h>

@@ -4,7 +4,7 @@ use crate::counting::{CountingSession, Refusal, four_objects};
 use crate::executables::{files, relocated};
 use crate::objects::{packed, plain};
 use bumpalo::Bump;
-use dwp_table::Bucketable;
+use dwp_table::{Bucketable, DwarfObject};
 use std::alloc::Global;
 use std::collections::BTreeMap;
 use std::io;
@@ -30,27 +30,46 @@ fn name_of(answer: &Result<(), Error>) -> &'static str {
     }
 }
 
-/// Adds the executable to a new package, and tells what it answered, after how many reads, which
-/// units there are then, and which are missing.
+/// What came of adding an executable: the answer, the units that the package has then, and those that
+/// are missing.
+#[derive(Drop)]
+struct Outcome {
+    answer: Result<(), Error>,
+    has: Vec<DwarfObject>,
+    lacks: Vec<DwarfObject>,
+}
+
+/// Adds the executable to a new package.
 fn added<'s>(
     alloc: Global,
     session: &'s CountingSession<'s>,
     missing: MissingReferencedObjectBehaviour,
-) -> Result<String, Fail> {
+) -> Result<Outcome, Fail> {
     let mut builder = DwarfPackage::new(alloc, session);
     let answer = builder.add_executable(Path::new("/e"), missing);
-    let mut text = format!(in alloc; "{} {}, has", name_of(&answer), session.reads())?;
-    for unit in builder.contained_units().iter() {
+    let has = builder.contained_units().iter().copied().collect(alloc)?;
+    let lacks = builder.missing_targets().collect(alloc)?;
+    Ok(Outcome { answer, has, lacks })
+}
+
+/// Writes the numbers of units behind a text.
+fn push_units(alloc: Global, text: &mut String, units: &[DwarfObject]) -> Result<(), Fail> {
+    for unit in units {
         text.push_str(format!(in alloc; " {}", unit.index())?.as_str())?;
     }
+    Ok(())
+}
+
+/// The answer, after how many reads it came, the units that there are, and those that are missing.
+fn text_of(alloc: Global, outcome: &Outcome, reads: u32) -> Result<String, Fail> {
+    let mut text = format!(in alloc; "{} {reads}, has", name_of(&outcome.answer))?;
+    push_units(alloc, &mut text, &outcome.has)?;
     text.push_str(", lacks")?;
-    for unit in builder.missing_targets() {
-        text.push_str(format!(in alloc; " {}", unit.index())?.as_str())?;
-    }
+    push_units(alloc, &mut text, &outcome.lacks)?;
     Ok(text)
 }
 
-/// The same with a session that refuses a call.
+/// That text of adding the executable where the session refuses a call.
 fn told(
     alloc: Global,
     refusal: Refusal,
@@ -59,75 +78,50 @@ fn told(
     let files = four_objects(alloc)?;
     let bump = Bump::new(alloc);
     let session = CountingSession::new(&bump, &files, refusal);
-    added(alloc, &session, missing)
+    let outcome = added(alloc, &session, missing)?;
+    text_of(alloc, &outcome, session.reads())
 }
 
-#[test]
-fn a_read_of_the_executable_fails(rt: HostRuntime) -> Result<(), Fail> {
-    let alloc = rt.alloc();
-    let read = "ReadInput 1, has, lacks";
-    assert_eq!(rt; told(alloc, Refusal::Read(0), SKIP)?.as_str(), read);
-    assert_eq!(rt; told(alloc, Refusal::Read(0), STOP)?.as_str(), read);
-    let memory = "Memory 1, has, lacks";
-    assert_eq!(rt;
-        told(alloc, Refusal::ReadForMemory(0), SKIP)?.as_str(),
-        memory
-    );
-    assert_eq!(rt;
-        told(alloc, Refusal::ReadForMemory(0), STOP)?.as_str(),
-        memory
-    );
-    Ok(())
-}
+/// Which call is refused, by what number; what is done where an object can't be read; and what adding
+/// the executable, which is read first, and its objects 1 to 3 tells then.
+const READS: [(Refusal, MissingReferencedObjectBehaviour, &str); 10] = [
+    (Refusal::Read(0), SKIP, "ReadInput 1, has, lacks"),
+    (Refusal::Read(1), SKIP, "Ok 4, has 2 3, lacks 1"),
+    (Refusal::Read(2), SKIP, "Ok 4, has 1 3, lacks 2"),
+    (Refusal::Read(3), SKIP, "Ok 4, has 1 2, lacks 3"),
+    (Refusal::Read(4), SKIP, "Ok 4, has 1 2 3, lacks"),
+    (Refusal::Read(0), STOP, "ReadInput 1, has, lacks"),
+    (Refusal::Read(1), STOP, "ReadInput 2, has, lacks 1"),
+    (Refusal::Read(2), STOP, "ReadInput 3, has 1, lacks 2"),
+    (Refusal::Read(3), STOP, "ReadInput 4, has 1 2, lacks 3"),
+    (Refusal::Read(4), STOP, "Ok 4, has 1 2 3, lacks"),
+];
 
 #[test]
-fn a_read_of_an_object_fails(rt: HostRuntime) -> Result<(), Fail> {
-    let alloc = rt.alloc();
-    let first = "ReadInput 2, has, lacks 1";
-    assert_eq!(rt; told(alloc, Refusal::Read(1), STOP)?.as_str(), first);
-    let second = "ReadInput 3, has 1, lacks 2";
-    assert_eq!(rt; told(alloc, Refusal::Read(2), STOP)?.as_str(), second);
-    let third = "ReadInput 4, has 1 2, lacks 3";
-    assert_eq!(rt; told(alloc, Refusal::Read(3), STOP)?.as_str(), third);
-    Ok(())
-}
-
-#[test]
-fn a_read_that_fails_is_passed_over(rt: HostRuntime) -> Result<(), Fail> {
-    let alloc = rt.alloc();
-    let first = "Ok 4, has 2 3, lacks 1";
-    assert_eq!(rt; told(alloc, Refusal::Read(1), SKIP)?.as_str(), first);
-    let second = "Ok 4, has 1 3, lacks 2";
-    assert_eq!(rt; told(alloc, Refusal::Read(2), SKIP)?.as_str(), second);
-    let third = "Ok 4, has 1 2, lacks 3";
-    assert_eq!(rt; told(alloc, Refusal::Read(3), SKIP)?.as_str(), third);
-    Ok(())
-}
-
-#[test]
-fn want_of_memory_is_never_passed_over(rt: HostRuntime) -> Result<(), Fail> {
-    let alloc = rt.alloc();
-    for missing in [SKIP, STOP] {
-        let first = told(alloc, Refusal::ReadForMemory(1), missing)?;
-        assert_eq!(rt; first.as_str(), "Memory 2, has, lacks 1");
-        let second = told(alloc, Refusal::ReadForMemory(2), missing)?;
-        assert_eq!(rt; second.as_str(), "Memory 3, has 1, lacks 2");
-        let third = told(alloc, Refusal::ReadForMemory(3), missing)?;
-        assert_eq!(rt; third.as_str(), "Memory 4, has 1 2, lacks 3");
+fn each_read_fails_in_turn(rt: HostRuntime) -> Result<(), Fail> {
+    for (refusal, missing, want) in READS {
+        let told = told(rt.alloc(), refusal, missing)?;
+        assert_eq!(rt; told.as_str(), want);
     }
     Ok(())
 }
 
+/// The same where the session wants memory for a read, whatever is done where one can't be read.
+const WANTS: [(Refusal, &str); 5] = [
+    (Refusal::ReadForMemory(0), "Memory 1, has, lacks"),
+    (Refusal::ReadForMemory(1), "Memory 2, has, lacks 1"),
+    (Refusal::ReadForMemory(2), "Memory 3, has 1, lacks 2"),
+    (Refusal::ReadForMemory(3), "Memory 4, has 1 2, lacks 3"),
+    (Refusal::ReadForMemory(4), "Ok 4, has 1 2 3, lacks"),
+];
+
 #[test]
-fn a_read_past_the_last_refuses_nothing(rt: HostRuntime) -> Result<(), Fail> {
-    let alloc = rt.alloc();
-    let all = "Ok 4, has 1 2 3, lacks";
+fn want_of_memory_is_never_passed_over(rt: HostRuntime) -> Result<(), Fail> {
     for missing in [SKIP, STOP] {
-        assert_eq!(rt; told(alloc, Refusal::Read(4), missing)?.as_str(), all);
-        assert_eq!(rt;
-            told(alloc, Refusal::ReadForMemory(4), missing)?.as_str(),
-            all
-        );
+        for (refusal, want) in WANTS {
+            let told = told(rt.alloc(), refusal, missing)?;
+            assert_eq!(rt; told.as_str(), want);
+        }
     }
     Ok(())
 }
@@ -154,15 +148,15 @@ fn outcomes(alloc: Global, refusal: Refusal) -> Result<String, Fail> {
 
 #[test]
 fn a_failed_read_is_told_of_its_input(rt: HostRuntime) -> Result<(), Fail> {
-    let alloc = rt.alloc();
-    let first = outcomes(alloc, Refusal::Read(0))?;
-    assert_eq!(rt; first.as_str(), "ReadInput Ok ");
-    let passed_over = outcomes(alloc, Refusal::Read(2))?;
-    assert_eq!(rt; passed_over.as_str(), "Ok Ok ");
-    let last = outcomes(alloc, Refusal::Read(4))?;
-    assert_eq!(rt; last.as_str(), "Ok ReadInput ");
-    let memory = outcomes(alloc, Refusal::ReadForMemory(4))?;
-    assert_eq!(rt; memory.as_str(), "Ok Memory ");
+    for (refusal, want) in [
+        (Refusal::Read(0), "ReadInput Ok "),
+        (Refusal::Read(2), "Ok Ok "),
+        (Refusal::Read(4), "Ok ReadInput "),
+        (Refusal::ReadForMemory(4), "Ok Memory "),
+    ] {
+        let outcomes = outcomes(rt.alloc(), refusal)?;
+        assert_eq!(rt; outcomes.as_str(), want);
+    }
     Ok(())
 }
 
@@ -200,11 +194,14 @@ fn is_made_of(
 
 #[test]
 fn what_a_read_kept_away_is_added_by_a_second_try(rt: HostRuntime) -> Result<(), Fail> {
-    let alloc = rt.alloc();
-    assert!(rt; is_made_of(alloc, Refusal::Read(1), SKIP, [2, 3, 1])?);
-    assert!(rt; is_made_of(alloc, Refusal::Read(2), SKIP, [1, 3, 2])?);
-    assert!(rt; is_made_of(alloc, Refusal::Read(2), STOP, [1, 2, 3])?);
-    assert!(rt; is_made_of(alloc, Refusal::ReadForMemory(3), SKIP, [1, 2, 3])?);
+    for (refusal, missing, units) in [
+        (Refusal::Read(1), SKIP, [2, 3, 1]),
+        (Refusal::Read(2), SKIP, [1, 3, 2]),
+        (Refusal::Read(2), STOP, [1, 2, 3]),
+        (Refusal::ReadForMemory(3), SKIP, [1, 2, 3]),
+    ] {
+        assert!(rt; is_made_of(rt.alloc(), refusal, missing, units)?);
+    }
     Ok(())
 }
 
@@ -245,11 +242,10 @@ fn tries_where_refused(alloc: Global, placing: u32) -> Result<u32, Fail> {
 
 #[test]
 fn relocations_that_cannot_be_placed(rt: HostRuntime) -> Result<(), Fail> {
-    let alloc = rt.alloc();
     // Those of the abbreviations, which are none, and those of the units.
-    assert_eq!(rt; tries_where_refused(alloc, 0)?, 2);
-    assert_eq!(rt; tries_where_refused(alloc, 1)?, 2);
-    assert_eq!(rt; tries_where_refused(alloc, 2)?, 1);
+    for (placing, tries) in [(0, 2), (1, 2), (2, 1)] {
+        assert_eq!(rt; tries_where_refused(rt.alloc(), placing)?, tries);
+    }
     Ok(())
 }
 
@@ -279,9 +275,8 @@ fn groups_accepted(alloc: Global, placing: u32) -> Result<Option<bool>, Fail> {
 
 #[test]
 fn packages_of_groups_that_cannot_be_placed(rt: HostRuntime) -> Result<(), Fail> {
-    let alloc = rt.alloc();
-    assert_eq!(rt; groups_accepted(alloc, 0)?, Some(false));
-    assert_eq!(rt; groups_accepted(alloc, 1)?, Some(false));
-    assert_eq!(rt; groups_accepted(alloc, 2)?, Some(true));
+    for (placing, is_accepted) in [(0, false), (1, false), (2, true)] {
+        assert_eq!(rt; groups_accepted(rt.alloc(), placing)?, Some(is_accepted));
+    }
     Ok(())
 }

@@ -23,7 +23,8 @@ fn refusal(length: usize, header: usize) -> &'static str {
     }
 }
 
-/// Whether a new package refuses each shorter beginning of a file with its fault, and takes it whole.
+/// Whether a new package refuses each shorter beginning of a file with its fault, and takes it
+/// whole.
 fn is_added_whole_alone(alloc: Global, file: &[u8], header: usize) -> Result<bool, Fail> {
     for length in 0..file.len() {
         let answer = answer(alloc, part(file, 0, length))?;
@@ -162,28 +163,16 @@ const OF_THE_INDEX: [(usize, u8, &str); 9] = [
 ];
 
 #[test]
-fn a_lying_file_is_read(rt: HostRuntime) -> Result<(), Fail> {
-    for (place, byte, want) in OF_THE_FILE {
-        let answer = finds_with(rt.alloc(), place, byte)?;
-        assert_eq!(rt; answer.as_str(), want, "{byte:x} at {place}");
-    }
-    Ok(())
-}
-
-#[test]
-fn a_lying_unit_is_read(rt: HostRuntime) -> Result<(), Fail> {
-    for (place, byte, want) in OF_THE_UNIT {
-        let answer = finds_with(rt.alloc(), place, byte)?;
-        assert_eq!(rt; answer.as_str(), want, "{byte:x} at {place}");
-    }
-    Ok(())
-}
-
-#[test]
-fn each_lie_of_an_index_is_read(rt: HostRuntime) -> Result<(), Fail> {
-    for (place, byte, want) in OF_THE_INDEX {
-        let answer = finds_with(rt.alloc(), place, byte)?;
-        assert_eq!(rt; answer.as_str(), want, "{byte:x} at {place}");
+fn a_lying_package_is_read(rt: HostRuntime) -> Result<(), Fail> {
+    for table in [
+        OF_THE_FILE.as_slice(),
+        OF_THE_UNIT.as_slice(),
+        OF_THE_INDEX.as_slice(),
+    ] {
+        for (place, byte, want) in table {
+            let answer = finds_with(rt.alloc(), *place, *byte)?;
+            assert_eq!(rt; answer.as_str(), *want, "{byte:x} at {place}");
+        }
     }
     Ok(())
 }

@@ -1,6 +1,6 @@
 //! Objects that say the same in rarer forms, the identifier 0, and what a builder prints.
 
-use crate::objects::{ABBREVIATIONS, cu, object, package, packed, plain, unit};
+use crate::objects::{cu, object, package, packed, plain};
 use bumpalo::Bump;
 use dwp_elf::SectionKind;
 use std::alloc::Global;
@@ -28,7 +28,6 @@ fn an_indirect_form_carries_the_identifier(rt: HostRuntime) -> Result<(), Fail> 
     let package = package(file.as_slice())?;
     let five = package.find(cu(5))?.ok_or("unit 5 is there")?;
     assert_eq!(rt; five.bytes(), info.as_slice());
-    assert_eq!(rt; five.bytes().len(), 21);
     Ok(())
 }
 
@@ -56,19 +55,9 @@ fn section_0_has_the_number_of_sections(rt: HostRuntime) -> Result<(), Fail> {
     let alloc = rt.alloc();
     let input = with_counts_in_section_0(alloc)?;
     assert_eq!(rt; input.len(), 400);
-    let file = packed(alloc, &[input.as_slice()])?.file?;
-    assert_eq!(rt; file.len(), 544);
     let five = plain(alloc, 5)?;
-    assert!(rt; file == packed(alloc, &[five.as_slice()])?.file?);
-    let package = package(file.as_slice())?;
-    let (found, slots) = package.find_counted(cu(5))?;
-    let found = found.ok_or("unit 5 is there")?;
-    assert_eq!(rt; slots, 1);
-    assert_eq!(rt; found.bytes(), unit(5).as_slice());
-    assert_eq!(rt;
-        found.section(SectionKind::Abbrev),
-        ABBREVIATIONS.as_slice()
-    );
+    let expected = packed(alloc, &[five.as_slice()])?.file?;
+    assert!(rt; packed(alloc, &[input.as_slice()])?.file? == expected);
     Ok(())
 }
 
@@ -79,11 +68,9 @@ fn the_identifier_0_is_found(rt: HostRuntime) -> Result<(), Fail> {
     let file = packed(alloc, &[input.as_slice()])?.file?;
     let package = package(file.as_slice())?;
     let (zero, slots) = package.find_counted(cu(0))?;
-    assert!(rt; zero.is_some());
-    assert_eq!(rt; slots, 1);
+    assert_eq!(rt; (zero.is_some(), slots), (true, 1));
     let (two, slots) = package.find_counted(cu(2))?;
-    assert!(rt; two.is_none());
-    assert_eq!(rt; slots, 2);
+    assert_eq!(rt; (two.is_some(), slots), (false, 2));
     Ok(())
 }
 

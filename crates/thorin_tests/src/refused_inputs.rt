@@ -1,5 +1,5 @@
-//! What is left where memory is refused, of packages and executables as inputs and of type units that
-//! differ: run with one allocation that fails, for each in turn.
+//! What is left where memory is refused, of packages and executables as inputs and of type units
+//! that differ: run with one allocation that fails, for each in turn.
 
 use crate::executables::naming_file;
 use crate::many_objects::longer_type_unit;
@@ -54,8 +54,8 @@ fn written(rt: &impl Abort, object: &WritableObject) -> Result<Vec<u8>, Error> {
     }
 }
 
-// The file of a package of the objects that an executable names. An executable that was refused is added by a
-// second try: want of memory is never passed over.
+// The file of a package of the objects that an executable names. An executable that was refused is
+// added by a second try: want of memory is never passed over.
 fn added<'s, 'm>(
     rt: &impl Abort,
     alloc: Global,
@@ -99,8 +99,8 @@ fn sure_longer(alloc: Global) -> Result<Vec<u8>, WriteError> {
     }
 }
 
-// How many type units differ, once both objects are added. One that was refused has added none, and is added by
-// a second try.
+// How many type units differ, once both objects are added. One that was refused has added none, and
+// is added by a second try.
 fn differing<'s, 'm>(
     rt: &impl Abort,
     alloc: Global,
