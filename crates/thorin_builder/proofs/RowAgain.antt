@@ -218,31 +218,31 @@ module _ (first_law : FirstLaw) (find_law : FindLaw) (source : Source) (contents
     (below : Below (kind_at place) offset before) (here : is_at place row ≡ true)
     (range_is : contribution_to (kind_at place) row ≡ Some (record { offset = record { 0 = offset }; size = length own }))
     (part : part_of (content_of (kind_at place) contents) (Some (record { offset = record { 0 = offset }; size = length own })) ≡ own) where
-  abbrev kind : SectionKind
+  abbrev pub kind : SectionKind
   kind = kind_at place
 
-  abbrev sort : Bool
+  abbrev pub sort : Bool
   sort = is_compilation row.id
 
-  abbrev range : Contribution
+  abbrev pub range : Contribution
   range = record { offset = record { 0 = offset }; size = length own }
 
-  abbrev number : ℕ
+  abbrev pub number : ℕ
   number = length (rows_of sort before)
 
   rows-are : rows_of sort rows ≡ rows_of sort before ++ row ∷ rows_of sort later
   rows-are = ap (rows_of sort) split ∙ filter-append (is_chosen sort) before (row ∷ later) ∙ ap (λ b. rows_of sort before ++ cond b (row ∷ rows_of sort later) (rows_of sort later)) (chosen-self row)
 
-  at : slice_get (rows_of sort rows) number ≡ Some row
+  pub at : slice_get (rows_of sort rows) number ≡ Some row
   at = ap (λ l. slice_get l number) rows-are ∙ get-seam (rows_of sort before) (rows_of sort later) row
 
-  there : (i : Index) × (index_for source.indexes row.id ≡ Some i) × ((version : ℕ) × HasEntries version (rows_of sort rows) i)
+  pub there : (i : Index) × (index_for source.indexes row.id ≡ Some i) × ((version : ℕ) × HasEntries version (rows_of sort rows) i)
   there = some-index (index_for source.indexes row.id) (rows_of sort rows) row number (sort-rows source contents strings rows row.id again) at
 
-  abbrev index : Index
+  abbrev pub index : Index
   index = there.0
 
-  abbrev has : HasEntries there.2.0 (rows_of sort rows) index
+  abbrev pub has : HasEntries there.2.0 (rows_of sort rows) index
   has = there.2.1
 
   pub parts : HasParts index (number + 1) row
