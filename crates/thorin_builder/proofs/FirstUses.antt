@@ -156,7 +156,7 @@ both : (a b : Bool) → (a && b) ≡ true → (a ≡ true) × (b ≡ true)
 both true b e = (refl, e)
 both false b e = absurd cc
 
-slice-long : (bytes : List ℕ) (at size : ℕ) → at + size ≤ length bytes → size ≡ length (slice_range bytes at (at + size))
+pub slice-long : (bytes : List ℕ) (at size : ℕ) → at + size ≤ length bytes → size ≡ length (slice_range bytes at (at + size))
 slice-long bytes at size h =
     let dropped = length-drop at bytes in
     let taken = length-take (at + size - at) (drop at bytes) in

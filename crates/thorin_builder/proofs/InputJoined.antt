@@ -48,7 +48,7 @@ object-order file object h =
     let s = bind-inv (used_from [] file.sections) _ object h in
     sym (ap (λ (o : Object). o.order) (ok-eq _ object s.2))
 
-made-order : (file : Elf) (object : Object) (begun : Option InProgress) → object_of file ≡ Ok object → order_test object.order begun ≡ Ok tt → object.order ≡ (package_or_new file begun).file.order
+pub made-order : (file : Elf) (object : Object) (begun : Option InProgress) → object_of file ≡ Ok object → order_test object.order begun ≡ Ok tt → object.order ≡ (package_or_new file begun).file.order
 made-order file object None h t = object-order file object h
 made-order file object (Some made) h t = sym (tested-order object.order (Some made) t)
 
@@ -57,14 +57,14 @@ no_strings : IsTable []
 no_strings = record { distinct = λ i j d before within. absurd (omega arith); zero_free = λ k d within. absurd (omega arith) }
 
 -- a package that nothing was added to
-empty-sound : (class : Class) (machine : ℕ) (order : Endianness) → IsSound (empty class machine order)
+pub empty-sound : (class : Class) (machine : ℕ) (order : Endianness) → IsSound (empty class machine order)
 empty-sound class machine order = record {
   units = record { table = no_strings; no_strings = refl; no_compilations = refl; no_types = refl; rows = tt };
   apart = apart-none;
   laid = record { info = refl; types = refl; once = tt };
 }
 
-new-sound : (file : Elf) (begun : Option InProgress) → IsSoundBegun begun → IsSound (package_or_new file begun)
+pub new-sound : (file : Elf) (begun : Option InProgress) → IsSoundBegun begun → IsSound (package_or_new file begun)
 new-sound file None h = empty-sound file.class file.machine file.order
 new-sound file (Some made) h = h
 

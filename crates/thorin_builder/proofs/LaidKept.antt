@@ -149,7 +149,7 @@ units-lie p (u ∷ us) new can lie =
 
 -- ---- those of an input
 
-types-only : (name : DwarfObject) (kind : SectionKind) → place_for name kind ≡ places.Types → (signature : ℕ) × (name ≡ TypeUnit (record { 0 = signature }))
+pub types-only : (name : DwarfObject) (kind : SectionKind) → place_for name kind ≡ places.Types → (signature : ℕ) × (name ≡ TypeUnit (record { 0 = signature }))
 types-only (Compilation id) kind h = absurd cc
 types-only (TypeUnit signature) kind h = (signature.0, refl)
 

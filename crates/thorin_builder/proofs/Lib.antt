@@ -35,6 +35,7 @@ pub mod PackageFound
 pub mod Written
 pub mod Running
 pub mod MissingLemmas
+pub mod Shifted
 pub mod UnitMoved
 pub mod IdentitySort
 pub mod WrittenSections
@@ -50,3 +51,17 @@ pub mod OwnParts
 pub mod OwnIndexes
 pub mod OwnEncodings
 pub mod LongerTables
+pub mod PlainSteps
+pub mod RowsNamed
+pub mod Filled
+pub mod OffsetsTiled
+pub mod NamesKept
+pub mod PlainKept
+pub mod OwnRanges
+pub mod OwnAgain
+pub mod OwnUnitRows
+pub mod OwnUnitsTaken
+pub mod OwnUnitsGiven
+pub mod OwnFormat
+pub mod OwnFirst
+pub mod OwnAccepted

@@ -35,7 +35,7 @@ number-front Big Dwarf64 xs ys within =
     let at = λ (k : ℕ) (h : k < 8). get_or_append_left xs ys 0 k (omega arith) in
     rw (at 0 (omega arith), at 1 (omega arith), at 2 (omega arith), at 3 (omega arith), at 4 (omega arith), at 5 (omega arith), at 6 (omega arith), at 7 (omega arith)) refl
 
-count-again : (format : Format) (l h n : ℕ) → l ≡ h + n * offset_size format → (l - h) / offset_size format ≡ n
+pub count-again : (format : Format) (l h n : ℕ) → l ≡ h + n * offset_size format → (l - h) / offset_size format ≡ n
 count-again Dwarf32 l h n e = omega arith
 count-again Dwarf64 l h n e = omega arith
 

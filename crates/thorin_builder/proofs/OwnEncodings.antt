@@ -155,14 +155,14 @@ both-true : (a b : Bool) → (a && b) ≡ true → (a ≡ true) × (b ≡ true)
 both-true true b h = (refl, h)
 both-true false b h = absurd cc
 
-encoding-eq : (a b : Encoding) → same_encoding a b ≡ true → a ≡ b
+pub encoding-eq : (a b : Encoding) → same_encoding a b ≡ true → a ≡ b
 encoding-eq a b h =
     let x = both-true (eqb a.version b.version) (same_format a.format b.format && eqb a.address_size b.address_size) h in
     let y = both-true (same_format a.format b.format) (eqb a.address_size b.address_size) x.1 in
     same-parts a b (eqb-true a.version b.version x.0) (format-eq a.format b.format y.0) (eqb-true a.address_size b.address_size y.1)
 
 -- the one encoding of two groups is that of either
-common-are : (a b : Option Encoding) (own : Encoding) → common a b ≡ Some own → (a ≡ Some own) × (b ≡ Some own)
+pub common-are : (a b : Option Encoding) (own : Encoding) → common a b ≡ Some own → (a ≡ Some own) × (b ≡ Some own)
 common-are (Some a) (Some b) own h = alike (same_encoding a b) refl h
   where
     alike : (e : Bool) → same_encoding a b ≡ e → cond {A = Option Encoding} e (Some a) None ≡ Some own → (◌≡◌ {A = Option Encoding} (Some a) (Some own)) × (◌≡◌ {A = Option Encoding} (Some b) (Some own))
@@ -178,7 +178,7 @@ holds-with (Some made) own found now added before here h =
     let c = common-are own found now h in
     All-append (λ (m : DwarfObject × Meaning). m.1.encoding ≡ now) (units_begun (Some made)) added (before now c.0) (here now c.1)
 
-own-or-none : (own : Option Encoding) (now : Encoding) (more : Bool) → cond {A = Option Encoding} more own None ≡ Some now → (more ≡ true) × (own ≡ Some now)
+pub own-or-none : (own : Option Encoding) (now : Encoding) (more : Bool) → cond {A = Option Encoding} more own None ≡ Some now → (more ≡ true) × (own ≡ Some now)
 own-or-none own now true h = (refl, h)
 own-or-none own now false h = absurd cc
 

@@ -42,7 +42,7 @@ use Rattle.thorin_builder.proofs.Steps.{bind-ok, err-ok}
 use Rattle.thorin_builder.proofs.Written.{Tested, tested-state, finished-order, finished-compilations, finished-types}
 
 -- rows come from inputs of this version
-abbrev HaveVersion : ℕ → List IndexEntry → Type 0
+abbrev pub HaveVersion : ℕ → List IndexEntry → Type 0
 HaveVersion version [] = Unit {0}
 HaveVersion version (row ∷ rows) = (row.encoding.version ≡ version) × HaveVersion version rows
 
@@ -67,7 +67,7 @@ no-bytes : (order : Endianness) → index_of order [] ≡ Err UnexpectedEof
 unfolding index_of version_of
 no-bytes order = refl
 
-none-taken : (order : Endianness) (kind : SectionKind) (bytes : List ℕ) → bytes ≡ [] → index_in order kind bytes ≡ Ok None
+pub none-taken : (order : Endianness) (kind : SectionKind) (bytes : List ℕ) → bytes ≡ [] → index_in order kind bytes ≡ Ok None
 unfolding index_in
 none-taken order kind bytes none = ap (λ l. cond {A = Result (Option Index) Fault} (eqb (length l) 0) (Ok None) (as_fault (λ e. ParseIndex e (name_of kind)) (index_of order l) >>= λ index. Ok (Some index))) none
 
@@ -103,7 +103,7 @@ version-cond : (version : ℕ) (row : IndexEntry) (rows : List IndexEntry) (b : 
 version-cond version row rows true h k = (h, k)
 version-cond version row rows false h k = k
 
-version-chosen : (b : Bool) (version : ℕ) (rows : List IndexEntry) → HaveVersion version rows → HaveVersion version (rows_of b rows)
+pub version-chosen : (b : Bool) (version : ℕ) (rows : List IndexEntry) → HaveVersion version rows → HaveVersion version (rows_of b rows)
 version-chosen b version [] h = tt
 version-chosen b version (row ∷ rows) h = version-cond version row (rows_of b rows) (is_chosen b row) h.0 (version-chosen b version rows h.1)
 
@@ -134,7 +134,7 @@ taken-both file encoding compilations types c t cv tv =
     bind-ok _ compilations _ c ∙ bind-ok _ types _ t ∙ bind-ok _ tt _ cv ∙ bind-ok _ tt _ tv
 
 -- a row has the encoding of its unit
-rows-version : (order : Endianness) (c : Contents) (strings : List (List ℕ)) (rows : List IndexEntry) (units : Members) (encoding : Encoding)
+pub rows-version : (order : Endianness) (c : Contents) (strings : List (List ℕ)) (rows : List IndexEntry) (units : Members) (encoding : Encoding)
     → AreRowsOf order c strings rows units → AllOf encoding units → HaveVersion encoding.version rows
 rows-version order c strings [] units encoding are all = tt
 rows-version order c strings (row ∷ rows) [] encoding are all = absurd are

@@ -19,7 +19,7 @@ use Rattle.thorin_builder.proofs.Steps.{bind-ok}
 
 -- ---- no kind of the parts so far comes again
 
-abbrev Fresh : Contents → Contents → Type 0
+abbrev pub Fresh : Contents → Contents → Type 0
 Fresh parts cs = (kind : SectionKind) → has_part kind parts ≡ true → count_of kind cs ≡ 0
 
 any-last : {A : Type 0} (test : A → Bool) (xs : List A) (x : A) → list_any test (xs ++ x ∷ []) ≡ true → (list_any test xs ≡ true) ⊎ (test x ≡ true)
@@ -34,10 +34,10 @@ any-last test (y ∷ ys) x h = first-or (test y) h (any-last test ys x)
     first-or true h later = inl refl
     first-or false h later = later h
 
-fresh-rest : (c : SectionKind × List ℕ) (cs parts : Contents) → Fresh parts (c ∷ cs) → Fresh parts cs
+pub fresh-rest : (c : SectionKind × List ℕ) (cs parts : Contents) → Fresh parts (c ∷ cs) → Fresh parts cs
 fresh-rest c cs parts fresh kind there = fewer (same_kind c.0 kind) (count_of kind cs) (fresh kind there)
 
-fresh-more : (c : SectionKind × List ℕ) (bytes : List ℕ) (cs parts : Contents) → KindsDiffer (c ∷ cs) → Fresh parts (c ∷ cs) → Fresh (parts ++ (c.0, bytes) ∷ []) cs
+pub fresh-more : (c : SectionKind × List ℕ) (bytes : List ℕ) (cs parts : Contents) → KindsDiffer (c ∷ cs) → Fresh parts (c ∷ cs) → Fresh (parts ++ (c.0, bytes) ∷ []) cs
 fresh-more c bytes cs parts differ fresh kind there = ⊎_elim
     (λ e. fresh-rest c cs parts fresh kind e)
     (λ e. last-counts (same_kind c.0 kind) (count_of kind cs) e (differ kind))
@@ -61,14 +61,14 @@ nothing-of kind (c ∷ cs) h = step (same_kind c.0 kind) h (nothing-of kind cs)
     step false h later = later (omega (arith, h))
 
 -- a content behind the first is that of its kind in the whole
-behind : (kind : SectionKind) (c : SectionKind × List ℕ) (cs : Contents) → KindsDiffer (c ∷ cs) → 0 < length (content_of kind cs) → content_of kind (c ∷ cs) ≡ content_of kind cs
+pub behind : (kind : SectionKind) (c : SectionKind × List ℕ) (cs : Contents) → KindsDiffer (c ∷ cs) → 0 < length (content_of kind cs) → content_of kind (c ∷ cs) ≡ content_of kind cs
 behind kind c cs differ some = step (same_kind c.0 kind) (differ kind) (nothing-of kind cs)
   where
     step : (b : Bool) → cond b 1 0 + count_of kind cs ≤ 1 → (count_of kind cs ≡ 0 → content_of kind cs ≡ []) → cond b c.1 (content_of kind cs) ≡ content_of kind cs
     step true h none = let e : content_of kind cs ≡ [] = none (omega (arith, h)) in absurd (omega (arith, some, ap length e))
     step false h none = refl
 
-front : (c : SectionKind × List ℕ) (cs : Contents) → content_of c.0 (c ∷ cs) ≡ c.1
+pub front : (c : SectionKind × List ℕ) (cs : Contents) → content_of c.0 (c ∷ cs) ≡ c.1
 front c cs = ap (λ b. cond b c.1 (content_of c.0 cs)) (same-itself c.0)
 
 -- ---- what taking the sections asks
@@ -101,7 +101,7 @@ abbrev section_of : SectionKind × List ℕ → Used
 section_of c = record { kind = c.0; bytes = c.1; address = 0 }
 
 -- the tests that come first
-past-tests : (source : Source) (before : Parts) (c : SectionKind × List ℕ) (cs : Contents) → Fresh before.0 (c ∷ cs) → is_in_format source.encoding c.0 ≡ true
+pub past-tests : (source : Source) (before : Parts) (c : SectionKind × List ℕ) (cs : Contents) → Fresh before.0 (c ∷ cs) → is_in_format source.encoding c.0 ≡ true
     → with_part source before (section_of c) ≡ cond (same_kind c.0 StrOffsets) (with_offsets source before c.1) (cond (is_copied c.0) (Ok (before.0 ++ (c.0, c.1) ∷ [], before.1)) (Ok before))
 unfolding with_part
 past-tests source before c cs fresh format =

@@ -110,7 +110,7 @@ one-of indexes (TypeUnit signature) index h = inr h
 abbrev adjustor : Indexes → SectionKind → Adjustor
 adjustor indexes kind = record { compilation = indexes.compilations; types = indexes.types; section = kind }
 
-own-index : (indexes : Indexes) (kind : SectionKind) (name : DwarfObject) → own_index (adjustor indexes kind) name ≡ index_for indexes name
+pub own-index : (indexes : Indexes) (kind : SectionKind) (name : DwarfObject) → own_index (adjustor indexes kind) name ≡ index_for indexes name
 own-index indexes kind (Compilation id) = refl
 own-index indexes kind (TypeUnit signature) = refl
 
@@ -119,7 +119,7 @@ no-index None None h = refl
 no-index (Some c) t h = absurd (true≢false h)
 no-index None (Some t) h = absurd (true≢false h)
 
-some-index : (c t : Option Index) → (is_some c || is_some t) ≡ true → (is_none c && is_none t) ≡ false
+pub some-index : (c t : Option Index) → (is_some c || is_some t) ≡ true → (is_none c && is_none t) ≡ false
 some-index None None h = absurd (true≢false (sym h))
 some-index (Some c) t h = refl
 some-index None (Some t) h = refl

@@ -56,7 +56,7 @@ use Rattle.thorin_builder.proofs.WrittenSections.{useds, written-object, first-c
 
 -- ---- an index that an input has is the one that a reader of packages has
 
-index-same : (order : Endianness) (kind : SectionKind) (bytes : List ℕ) (a b : Option Index) → index_in order kind bytes ≡ Ok a → index_in_section order bytes ≡ Ok b → a ≡ b
+pub index-same : (order : Endianness) (kind : SectionKind) (bytes : List ℕ) (a b : Option Index) → index_in order kind bytes ≡ Ok a → index_in_section order bytes ≡ Ok b → a ≡ b
 unfolding index_in index_in_section
 index-same order kind bytes a b h k = by (nat_eq (length bytes) 0) (index_of order bytes) h k
   where
@@ -72,7 +72,7 @@ pub record AreIndexes (object : Object) (indexes : Indexes) : Type 0 where
   pub compilations : index_in object.order kinds.CuIndex (first kinds.CuIndex object.sections) ≡ Ok indexes.compilations
   pub types : index_in object.order kinds.TuIndex (first kinds.TuIndex object.sections) ≡ Ok indexes.types
 
-are-indexes : (object : Object) (encoding : Encoding) (indexes : Indexes) → indexes_of object encoding ≡ Ok indexes → AreIndexes object indexes
+pub are-indexes : (object : Object) (encoding : Encoding) (indexes : Indexes) → indexes_of object encoding ≡ Ok indexes → AreIndexes object indexes
 unfolding indexes_of
 are-indexes object encoding indexes h =
     let s1 = bind-inv (index_in object.order kinds.CuIndex (first kinds.CuIndex object.sections)) _ indexes h in
@@ -90,7 +90,7 @@ no-rows (r ∷ rs) h k = by (Rattle.thorin_builder.specs.Names.is_compilation r.
     by false x y = absurd cc
 
 -- one of the indexes is there
-one-there : (source : Source) (rows : List IndexEntry) → HasRows source.indexes.compilations (rows_of true rows) → HasRows source.indexes.types (rows_of false rows) → (rows ≡ [] → ⊥) → is_package source.indexes ≡ true
+pub one-there : (source : Source) (rows : List IndexEntry) → HasRows source.indexes.compilations (rows_of true rows) → HasRows source.indexes.types (rows_of false rows) → (rows ≡ [] → ⊥) → is_package source.indexes ≡ true
 one-there source rows c t some = by source.indexes.compilations source.indexes.types c t
   where
     by : (a b : Option Index) → HasRows a (rows_of true rows) → HasRows b (rows_of false rows) → is_package (record { compilations = a; types = b }) ≡ true

@@ -27,16 +27,16 @@ has-by : (a b : Bool) → b ≡ true → (a || b) ≡ true
 has-by true b h = refl
 has-by false b h = h
 
-has-more : (a : Contents) (bytes : List ℕ) → has_part StrOffsets (a ++ (StrOffsets, bytes) ∷ []) ≡ true
+pub has-more : (a : Contents) (bytes : List ℕ) → has_part StrOffsets (a ++ (StrOffsets, bytes) ∷ []) ≡ true
 has-more [] bytes = refl
 has-more (p ∷ ps) bytes = has-by (same_kind p.0 StrOffsets) (has_part StrOffsets (ps ++ (StrOffsets, bytes) ∷ [])) (has-more ps bytes)
 
-has-other : (a : Contents) (k : SectionKind) (bytes : List ℕ) → same_kind k StrOffsets ≡ false → has_part StrOffsets (a ++ (k, bytes) ∷ []) ≡ has_part StrOffsets a
+pub has-other : (a : Contents) (k : SectionKind) (bytes : List ℕ) → same_kind k StrOffsets ≡ false → has_part StrOffsets (a ++ (k, bytes) ∷ []) ≡ has_part StrOffsets a
 has-other [] k bytes other = rw other refl
 has-other (p ∷ ps) k bytes other = ap (λ b. same_kind p.0 StrOffsets || b) (has-other ps k bytes other)
 
 -- of a kind that may stand once alone, nothing is there yet
-not-there : (packed standard has : Bool) → standard ≡ true → ((packed || (standard && true)) && has) ≡ false → has ≡ false
+pub not-there : (packed standard has : Bool) → standard ≡ true → ((packed || (standard && true)) && has) ≡ false → has ≡ false
 not-there true standard has h once = once
 not-there false true has h once = once
 not-there false false has h once = absurd (true≢false (sym h))

@@ -1,7 +1,7 @@
 -- What a unit of a written package means as an input: just what was joined.
-use Rattle.std.proofs.Common.{◌≡◌, ◌∙◌, ◌⊎◌, inl, inr, ℕ, zero, suc, ◌+◌, ◌<◌, ◌≤◌, ◌≢◌, Bool, true, false, true≢false, cond, not, nat_eq, List, [], ◌∷◌, ◌++◌, length, ap, ap₂, sym, refl, subst, Result, Ok, Err, Option, Some, None, is_none, arith, length-append}
+use Rattle.std.proofs.Common.{◌≡◌, ◌∙◌, ◌⊎◌, inl, inr, ℕ, zero, suc, ◌+◌, ◌<◌, ◌≤◌, ◌≢◌, Bool, true, false, true≢false, cond, not, nat_eq, List, [], ◌∷◌, ◌++◌, length, ap, ap₂, sym, refl, subst, Result, Ok, Err, Option, Some, None, is_none, arith, length-append, ◌&&◌}
 use Rattle.std.specs.Prelude.{slice_get, slice_index, find}
-use Rattle.std.specs.Option.{option_and_then}
+use Rattle.std.specs.Option.{option_and_then, ok_or}
 use Rattle.std.proofs.lemmas.Bool.{eqb-true, eq-eqb, le-leb}
 use Rattle.std.proofs.lemmas.List.Elements.{filter-append}
 use Rattle.std.proofs.lemmas.Option.{none-some, same_Some}
@@ -9,9 +9,14 @@ use Rattle.std.proofs.Math.Seq.{take-length}
 use Rattle.dwp_base.specs.declared.section.Contribution.{Contribution}
 use Rattle.dwp_base.specs.declared.section.SectionKind.{SectionKind}
 use Rattle.dwp_base.specs.declared.section.SectionKind.TheVariants as kinds
+use Rattle.dwp_base.specs.Reading.{◌>>=◌}
+use Rattle.dwp_base.specs.Sections.{name_of}
+use Rattle.dwp_bytes.specs.Input.{Input, section}
 use Rattle.dwp_dwarf.specs.Units.{Unit as Header}
 use Rattle.dwp_dwarf.specs.declared.unit.UnitSection.{UnitSection}
 use Rattle.dwp_dwarf.specs.declared.unit.UnitSection.TheVariants as places
+use Rattle.dwp_dwarf.specs.declared.unit.UnitType.{UnitType}
+use Rattle.dwp_dwarf.specs.declared.unit.UnitType.TheVariants as unit_types
 use Rattle.dwp_elf.specs.Contents.{content_of}
 use Rattle.dwp_index.specs.Index.{Index, Ranges, row_in, range_in}
 use Rattle.dwp_index.specs.Package.{part_of, is_outside, place_of}
@@ -20,8 +25,11 @@ use Rattle.dwp_table.specs.Probing.{found_row, look_count}
 use Rattle.dwp_table.specs.Table.{IsIndex, FindsExactly}
 use Rattle.dwp_table.specs.declared.object.DwarfObject.{DwarfObject}
 use Rattle.dwp_table.specs.declared.object.DwarfObject.TheVariants.{Compilation, TypeUnit}
-use Rattle.thorin_faults.specs.Fault.{Fault, UnitNotInIndex}
+use Rattle.thorin_faults.specs.Fault.{Fault, UnitNotInIndex, RowNotInIndex, BadContribution, NotSplitUnit}
+use Rattle.thorin_faults.specs.Answers.{as_fault}
+use Rattle.thorin_identity.specs.Identity.{identity_by, identity}
 use Rattle.thorin_packaged.specs.RowPlaces.{row_by_place, IsFirstWith}
+use Rattle.thorin_parts.specs.Adjusting.{row_found, row_of}
 use Rattle.thorin_parts.specs.Entries.{contribution_to}
 use Rattle.thorin_parts.specs.IndexText.{entry_ids}
 use Rattle.thorin_parts.specs.ReadRows.{HasEntries, HasParts, non_empty}
@@ -35,7 +43,7 @@ use Rattle.thorin_builder.specs.Meaning.{Meaning, pieces_by, part_by, lie_inside
 use Rattle.thorin_builder.specs.Names.{is_compilation}
 use Rattle.thorin_builder.specs.NewUnits.{name_for}
 use Rattle.thorin_builder.specs.Represents.{IsRowOf}
-use Rattle.thorin_builder.specs.Rows.{own_range, number_by_place, is_same_row, row_test}
+use Rattle.thorin_builder.specs.Rows.{own_range, number_by_place, is_same_row, row_test, is_compile, row_abbreviations, numbered_abbreviations, abbreviations_for}
 use Rattle.thorin_builder.specs.State.{kind_at}
 use Rattle.thorin_builder.specs.Strings.{strings_of}
 use Rattle.thorin_builder.specs.Used.{first}
@@ -94,7 +102,7 @@ get-left [] ys l h = absurd (omega arith)
 get-left (x ∷ xs) ys zero h = refl
 get-left (x ∷ xs) ys (suc l) h = get-left xs ys l (omega arith)
 
-get-there : {X : Type 0} (xs : List X) (l : ℕ) → l < length xs → (y : X) × (slice_get xs l ≡ Some y)
+pub get-there : {X : Type 0} (xs : List X) (l : ℕ) → l < length xs → (y : X) × (slice_get xs l ≡ Some y)
 get-there [] l h = absurd (omega arith)
 get-there (x ∷ xs) zero h = (x, refl)
 get-there (x ∷ xs) (suc l) h = get-there xs l (omega arith)
@@ -114,7 +122,7 @@ among (i ∷ ids) x = by (nat_eq i x) refl (among ids x)
         none zero within same = true≢false (sym (eq-eqb i x same) ∙ e)
         none (suc r) within same = rest r (omega arith) same
 
-non_empty-some : (part : Option Contribution) (range : Contribution) → non_empty part ≡ Some range → part ≡ Some range
+pub non_empty-some : (part : Option Contribution) (range : Contribution) → non_empty part ≡ Some range → part ≡ Some range
 non_empty-some None range h = h
 non_empty-some (Some c) range h = by (nat_eq c.size 0) h
   where
@@ -122,7 +130,7 @@ non_empty-some (Some c) range h = by (nat_eq c.size 0) h
     by true k = absurd (none-some range k)
     by false k = k
 
-first-row : (index : Index) (other : Ranges) → row_in index 0 ≡ Ok other → ⊥
+pub first-row : (index : Index) (other : Ranges) → row_in index 0 ≡ Ok other → ⊥
 unfolding row_in
 first-row index other h = cc
 
@@ -133,7 +141,7 @@ chosen-self row = by (is_compilation row.id) refl
     by true h = h
     by false h = ap not h
 
-place-eq : (a b : UnitSection) → same_place a b ≡ true → a ≡ b
+pub place-eq : (a b : UnitSection) → same_place a b ≡ true → a ≡ b
 place-eq places.Info places.Info h = refl
 place-eq places.Types places.Types h = refl
 place-eq places.Info places.Types h = absurd (true≢false (sym h))
@@ -156,6 +164,34 @@ test-inv : (packed same : Bool) (fault : Fault) → packed ≡ true → ◌≡�
 test-inv true true fault p h = refl
 test-inv true false fault p h = absurd cc
 test-inv false same fault p h = absurd (true≢false (sym p))
+
+test-ok : (packed same : Bool) (fault : Fault) → packed ≡ true → same ≡ true → ◌≡◌ {A = Result (Unit {0}) Fault} (cond (not packed) (Ok tt) (cond same (Ok tt) (Err fault))) (Ok tt)
+test-ok true true fault p h = refl
+test-ok true false fault p h = absurd (true≢false (sym h))
+test-ok false same fault p h = absurd (true≢false (sym p))
+
+-- a compile unit's name is looked for among compilations
+compile-sort : (source : Source) (type : UnitType) (name : DwarfObject) → is_compile type ≡ true → type_signature type ≡ name_signature name → source.indexes.compilations ≡ index_for source.indexes name
+compile-sort source unit_types.Compilation (Compilation id) c h = refl
+compile-sort source unit_types.Compilation (TypeUnit signature) c h = absurd (none-some signature.0 h)
+compile-sort source unit_types.Partial name c h = absurd (true≢false (sym c))
+compile-sort source (unit_types.Skeleton id) name c h = absurd (true≢false (sym c))
+compile-sort source (unit_types.SplitCompilation id) name c h = absurd (true≢false (sym c))
+compile-sort source (unit_types.TypeUnit signature offset) name c h = absurd (true≢false (sym c))
+compile-sort source (unit_types.SplitType signature offset) name c h = absurd (true≢false (sym c))
+
+-- every other unit is named by its header
+identity-by : (a b : Input) (h : Header) (type : UnitType) → is_compile type ≡ false → identity_by a h type ≡ identity_by b h type
+identity-by a b h unit_types.Compilation c = absurd (true≢false c)
+identity-by a b h unit_types.Partial c = refl
+identity-by a b h (unit_types.Skeleton id) c = refl
+identity-by a b h (unit_types.SplitCompilation id) c = refl
+identity-by a b h (unit_types.TypeUnit signature offset) c = refl
+identity-by a b h (unit_types.SplitType signature offset) c = refl
+
+identity-any : (a b : Input) (h : Header) → is_compile h.unit_type ≡ false → identity a h ≡ identity b h
+unfolding identity
+identity-any a b h c = identity-by a b h h.unit_type c
 
 find-none : (p : SectionKind → Bool) → ((kind : SectionKind) → p kind ≡ false) → (ks : List SectionKind) → find p ks ≡ None
 find-none p h [] = refl
@@ -182,34 +218,34 @@ module _ (first_law : FirstLaw) (find_law : FindLaw) (source : Source) (contents
     (below : Below (kind_at place) offset before) (here : is_at place row ≡ true)
     (range_is : contribution_to (kind_at place) row ≡ Some (record { offset = record { 0 = offset }; size = length own }))
     (part : part_of (content_of (kind_at place) contents) (Some (record { offset = record { 0 = offset }; size = length own })) ≡ own) where
-  abbrev kind : SectionKind
+  abbrev pub kind : SectionKind
   kind = kind_at place
 
-  abbrev sort : Bool
+  abbrev pub sort : Bool
   sort = is_compilation row.id
 
-  abbrev range : Contribution
+  abbrev pub range : Contribution
   range = record { offset = record { 0 = offset }; size = length own }
 
-  abbrev number : ℕ
+  abbrev pub number : ℕ
   number = length (rows_of sort before)
 
   rows-are : rows_of sort rows ≡ rows_of sort before ++ row ∷ rows_of sort later
   rows-are = ap (rows_of sort) split ∙ filter-append (is_chosen sort) before (row ∷ later) ∙ ap (λ b. rows_of sort before ++ cond b (row ∷ rows_of sort later) (rows_of sort later)) (chosen-self row)
 
-  at : slice_get (rows_of sort rows) number ≡ Some row
+  pub at : slice_get (rows_of sort rows) number ≡ Some row
   at = ap (λ l. slice_get l number) rows-are ∙ get-seam (rows_of sort before) (rows_of sort later) row
 
-  there : (i : Index) × (index_for source.indexes row.id ≡ Some i) × ((version : ℕ) × HasEntries version (rows_of sort rows) i)
+  pub there : (i : Index) × (index_for source.indexes row.id ≡ Some i) × ((version : ℕ) × HasEntries version (rows_of sort rows) i)
   there = some-index (index_for source.indexes row.id) (rows_of sort rows) row number (sort-rows source contents strings rows row.id again) at
 
-  abbrev index : Index
+  abbrev pub index : Index
   index = there.0
 
-  abbrev has : HasEntries there.2.0 (rows_of sort rows) index
+  abbrev pub has : HasEntries there.2.0 (rows_of sort rows) index
   has = there.2.1
 
-  parts : HasParts index (number + 1) row
+  pub parts : HasParts index (number + 1) row
   parts = has.each number row at
 
   range-of : (k : SectionKind) → range_in parts.row k ≡ contribution_to k row
@@ -284,6 +320,21 @@ module _ (first_law : FirstLaw) (find_law : FindLaw) (source : Source) (contents
         ∙ ap (meaning_with source own (Some parts.row)) strings-there
         ∙ (λ i. Some (record { bytes = own-is i; pieces = pieces-are i; strings = unit.strings; encoding = same_encoding i }))
 
+  -- looking its identifier up gives its row
+  row_is : found_row index.signatures index.rows (identifier_of row.id) ≡ Some (number + 1)
+  row_is =
+      let finds = find_law (entry_ids (rows_of sort rows)) index.signatures index.rows (identifier_of row.id) has.slots in
+      let id = id-at (rows_of sort rows) number row at in
+      finds.present_row number id.0 id.1
+
+  pub found-row : row_of (index_for source.indexes row.id) (identifier_of row.id) ≡ Ok parts.row
+  unfolding row_of
+  found-row = ap (λ i. row_of i (identifier_of row.id)) there.1 ∙ ap (row_found index (identifier_of row.id)) row_is ∙ ap (as_fault (λ fault. RowNotInIndex fault (number + 1))) parts.there
+
+  -- the row's part of a section
+  pub found-range : (k : SectionKind) → range_in parts.row k ≡ contribution_to k row
+  found-range = range-of
+
   module _ (h : Header) (whole : h.whole ≡ plain source.object.order offset own) where
     own-range : own_range h ≡ range
     own-range = λ i. record { offset = record { 0 = (whole i).place }; size = length ((whole i).bytes) }
@@ -328,3 +379,48 @@ module _ (first_law : FirstLaw) (find_law : FindLaw) (source : Source) (contents
               ∙ ap (option_and_then (λ r. meaning_by source own (Some r))) placed
               ∙ means same_encoding,
         )
+
+    -- it passes the test of its row
+    pub row-tested : row_test source.indexes kind row.id h ≡ Ok tt
+    unfolding row_test
+    row-tested =
+        let number_is : number_by_place source.indexes kind row.id h ≡ Some (number + 1) = ap (row_by_place (index_for source.indexes row.id) kind) own-range ∙ by-place in
+        let looked : looked_up (index_for source.indexes row.id) (identifier_of row.id) ≡ Some (number + 1) = ap (λ i. looked_up i (identifier_of row.id)) there.1 ∙ row_is in
+        test-ok (is_package source.indexes) (is_same_row (number_by_place source.indexes kind row.id h) (looked_up (index_for source.indexes row.id) (identifier_of row.id))) (UnitNotInIndex (identifier_of row.id)) again.packed
+        ((λ i. is_same_row (number_is i) (looked i)) ∙ eq-eqb (number + 1) (number + 1) refl)
+
+    abbrev abbreviations : List ℕ
+    abbreviations = part_of (content_of kinds.Abbrev contents) row.debug_abbrev
+
+    by-number : source.indexes.compilations ≡ index_for source.indexes row.id
+        → numbered_abbreviations (first kinds.Abbrev source.object.sections) source.indexes.compilations (row_by_place source.indexes.compilations kind (own_range h)) ≡ Ok abbreviations
+    unfolding row_abbreviations numbered_abbreviations
+    by-number same =
+        let bytes = first kinds.Abbrev source.object.sections in
+        let index_is : source.indexes.compilations ≡ Some index = same ∙ there.1 in
+        let number_is : row_by_place source.indexes.compilations kind (own_range h) ≡ Some (number + 1) = (λ i. row_by_place (same i) kind (own-range i)) ∙ by-place in
+        let outside : is_outside bytes (range_in parts.row kinds.Abbrev) ≡ false =
+        ap₂ is_outside (again.held kinds.Abbrev) (range-of kinds.Abbrev) ∙ inside-by (content_of kinds.Abbrev contents) (contribution_to kinds.Abbrev row) (is.lie.inside kinds.Abbrev) in
+        (λ i. numbered_abbreviations bytes (index_is i) (number_is i))
+        ∙ ap (λ r. as_fault (λ e. RowNotInIndex e (number + 1)) r >>= row_abbreviations bytes) parts.there
+        ∙ ap (λ b. cond {A = Result (List ℕ) Fault} b (Err (BadContribution (name_of kinds.Abbrev) 0)) (Ok (part_of bytes (range_in parts.row kinds.Abbrev)))) outside
+        ∙ ap Ok (bytes-are kinds.Abbrev)
+
+    -- it has the name of its row
+    pub named-again : type_signature h.unit_type ≡ name_signature row.id → identity (section source.object.order abbreviations) h ≡ Ok (Some row.id) → name_for source kind h ≡ Ok row.id
+    unfolding name_for abbreviations_for
+    named-again agrees named = by (is_compile h.unit_type) refl
+      where
+        by : (b : Bool) → is_compile h.unit_type ≡ b
+            → (cond (is_package source.indexes && b) (numbered_abbreviations (first kinds.Abbrev source.object.sections) source.indexes.compilations (row_by_place source.indexes.compilations kind (own_range h)))
+            (Ok (first kinds.Abbrev source.object.sections)) >>= λ table. identity (section source.object.order table) h >>= λ found. ok_or found NotSplitUnit) ≡ Ok row.id
+        by true e =
+            ap (λ p. cond (p && true) (numbered_abbreviations (first kinds.Abbrev source.object.sections) source.indexes.compilations (row_by_place source.indexes.compilations kind (own_range h)))
+            (Ok (first kinds.Abbrev source.object.sections)) >>= λ table. identity (section source.object.order table) h >>= λ found. ok_or found NotSplitUnit) again.packed
+            ∙ ap (λ r. r >>= λ table. identity (section source.object.order table) h >>= λ found. ok_or found NotSplitUnit) (by-number (compile-sort source h.unit_type row.id e agrees))
+            ∙ ap (λ r. r >>= λ found. ok_or found NotSplitUnit) named
+        by false e =
+            ap (λ p. cond (p && false) (numbered_abbreviations (first kinds.Abbrev source.object.sections) source.indexes.compilations (row_by_place source.indexes.compilations kind (own_range h)))
+            (Ok (first kinds.Abbrev source.object.sections)) >>= λ table. identity (section source.object.order table) h >>= λ found. ok_or found NotSplitUnit) again.packed
+            ∙ ap (λ r. r >>= λ found. ok_or found NotSplitUnit)
+            (identity-any (section source.object.order (first kinds.Abbrev source.object.sections)) (section source.object.order abbreviations) h e ∙ named)

@@ -41,12 +41,12 @@ meant_rows mean rows = map {B = DwarfObject × Option Meaning} (λ r. (r.id, Som
 abbrev pub with_names : (IndexEntry → Meaning) → List IndexEntry → List (DwarfObject × Meaning)
 with_names mean rows = map {B = DwarfObject × Meaning} (λ r. (r.id, mean r)) rows
 
-below-more : (kind : SectionKind) (n m : ℕ) (rs : List IndexEntry) (r : IndexEntry) → n ≤ m → Below kind n rs → ((c : Contribution) → contribution_to kind r ≡ Some c → c.offset.0 < m) → Below kind m (rs ++ r ∷ [])
+pub below-more : (kind : SectionKind) (n m : ℕ) (rs : List IndexEntry) (r : IndexEntry) → n ≤ m → Below kind n rs → ((c : Contribution) → contribution_to kind r ≡ Some c → c.offset.0 < m) → Below kind m (rs ++ r ∷ [])
 below-more kind n m [] r h below own = (own, tt)
 below-more kind n m (x ∷ rs) r h below own = (λ c e. let less = below.0 c e in omega arith, below-more kind n m rs r h below.1 own)
 
 -- the part in the middle
-part-middle : (pre own rest whole : List ℕ) (offset : ℕ) → whole ≡ pre ++ (own ++ rest) → length pre ≡ offset → part_of whole (Some (record { offset = record { 0 = offset }; size = length own })) ≡ own
+pub part-middle : (pre own rest whole : List ℕ) (offset : ℕ) → whole ≡ pre ++ (own ++ rest) → length pre ≡ offset → part_of whole (Some (record { offset = record { 0 = offset }; size = length own })) ≡ own
 part-middle pre own rest whole offset is at =
     let range : Contribution = record { offset = record { 0 = offset }; size = length own } in
     let inside : offset + length own ≤ length whole =
@@ -61,12 +61,12 @@ part-middle pre own rest whole offset is at =
     ∙ ap (take (length own)) (drop-append_seam pre (own ++ rest))
     ∙ take-append_seam own rest
 
-no-reads : (n : ℕ) (place : UnitSection) (i : Input) → i.bytes ≡ [] → units_within n place i ≡ []
+pub no-reads : (n : ℕ) (place : UnitSection) (i : Input) → i.bytes ≡ [] → units_within n place i ≡ []
 unfolding units_within
 no-reads zero place i h = refl
 no-reads (suc n) place i h = ap (λ l. cond (nat_eq (length l) 0) [] (listed (unit_at place i) (units_within n place))) h
 
-one-read : (n : ℕ) (place : UnitSection) (i : Input) (u : Header) (rest : Input) → 0 < length i.bytes → unit_at place i ≡ Ok (u, rest) → units_within (suc n) place i ≡ Ok u ∷ units_within n place rest
+pub one-read : (n : ℕ) (place : UnitSection) (i : Input) (u : Header) (rest : Input) → 0 < length i.bytes → unit_at place i ≡ Ok (u, rest) → units_within (suc n) place i ≡ Ok u ∷ units_within n place rest
 unfolding units_within
 one-read n place i u rest some h =
     ap (λ b. cond b [] (listed (unit_at place i) (units_within n place))) (not-zero (length i.bytes) some) ∙ ap (λ r. listed r (units_within n place)) h

@@ -109,14 +109,14 @@ none-added : (kind : SectionKind) (parts c : Contents) → joined_parts kind par
 none-added kind parts c h k = content-with_parts kind parts c ∙ ap (λ l. content_of kind c ++ l) h ∙ append-nil (content_of kind c) ∙ k
 
 -- the package with the parts, before its units
-abbrev with_all_parts : InProgress → Contents → List (List ℕ) → List ℕ → InProgress
+abbrev pub with_all_parts : InProgress → Contents → List (List ℕ) → List ℕ → InProgress
 with_all_parts p parts after differing = record p {
   file = record p.file { contents = with_parts parts p.file.contents };
   strings = after;
   differing = differing;
 }
 
-all-is : (p : InProgress) (parts : Contents) (after : List (List ℕ)) (new : New) → with_all p (parts, after) new ≡ with_new_units (with_all_parts p parts after (p.differing ++ new.differing)) new.units
+pub all-is : (p : InProgress) (parts : Contents) (after : List (List ℕ)) (new : New) → with_all p (parts, after) new ≡ with_new_units (with_all_parts p parts after (p.differing ++ new.differing)) new.units
 unfolding with_all
 all-is p parts after new = refl
 

@@ -194,7 +194,7 @@ each-inside order c strings [] ms are = tt
 each-inside order c strings (r ∷ rs) [] are = absurd are
 each-inside order c strings (r ∷ rs) (m ∷ ms) are = (are.0.lie, each-inside order c strings rs ms are.1)
 
-sound-inside : (made : InProgress) → IsSound made → EachRow (LieInside made.file.contents) made.rows
+pub sound-inside : (made : InProgress) → IsSound made → EachRow (LieInside made.file.contents) made.rows
 sound-inside made sound = each-inside made.file.order made.file.contents made.strings made.rows _ sound.units.rows
 
 first-inside : (begun : Option InProgress) → IsSoundBegun begun → EachRow (LieInside (contents_begun begun)) (rows_begun begun)

@@ -169,7 +169,7 @@ own-inside k x c range some is =
     let size : length x ≡ range.size = ap (λ r. r.size) same in
     (omega arith, omega arith)
 
-lie-by : (shared : IndexEntry) (c : Contents) (k : SectionKind) (x : List ℕ) (kind : SectionKind) (part : Option Contribution) (range : Contribution)
+pub lie-by : (shared : IndexEntry) (c : Contents) (k : SectionKind) (x : List ℕ) (kind : SectionKind) (part : Option Contribution) (range : Contribution)
     → 0 < length x → LieInside c shared → part ≡ Some range
     → (part ≡ contribution_to kind shared) ⊎ ((kind ≡ k) × (part ≡ range_put k x c))
     → (range.offset.0 + range.size ≤ length (content_of kind (with_bytes k x c))) × (0 < range.size)

@@ -15,6 +15,7 @@ use Rattle.dwp_bytes.specs.declared.fault.ReadError.TheVariants.{UnexpectedEof, 
 use Rattle.dwp_dwarf.specs.Units.{Unit as Header, UnitsAreTaken, initial_length_at, address_size_at, type_at, older_type_at, unit_code_at, unit_type_at, older_at, newer_at, header_at, unit_at}
 use Rattle.dwp_dwarf.specs.declared.unit.UnitSection.{UnitSection}
 use Rattle.dwp_dwarf.specs.declared.unit.UnitSection.TheVariants.{Info, Types}
+use Rattle.thorin_builder.proofs.Shifted.{shifted}
 
 -- bytes that nothing relocates, from a place on
 abbrev pub plain : Endianness → ℕ → List ℕ → Input
@@ -168,39 +169,40 @@ module _ (order : Endianness) (d : ℕ) (more : List ℕ) where
       (bind order d more (Agree order d more) _ _ _ _ (no_fault order d more) (type_agrees format bytes p) (λ t bs p'. agreed order d more _ bs p'))))))
 
 -- two headers say the same, each with its own bytes
-abbrev SameHeader : (whole whole' : Input) → Result Header ReadError → Result Header ReadError → Type 0
-SameHeader whole whole' (Ok u) (Ok v) = (u.encoding ≡ v.encoding) × (u.unit_type ≡ v.unit_type) × (u.whole ≡ whole) × (v.whole ≡ whole')
-SameHeader whole whole' (Ok u) (Err f) = ⊥
-SameHeader whole whole' (Err e) r = Unit {0}
+abbrev SameHeader : Endianness → ℕ → List ℕ → (whole whole' : Input) → Result Header ReadError → Result Header ReadError → Type 0
+SameHeader order d more whole whole' (Ok u) (Ok v) =
+    (u.encoding ≡ v.encoding) × (u.unit_type ≡ v.unit_type) × (u.whole ≡ whole) × (v.whole ≡ whole') × (v.abbrev_offset ≡ u.abbrev_offset) × Alike order d more u.entries v.entries
+SameHeader order d more whole whole' (Ok u) (Err f) = ⊥
+SameHeader order d more whole whole' (Err e) r = Unit {0}
 
-no_header : (whole whole' : Input) (e : ReadError) (z : Result Header ReadError) → SameHeader whole whole' (Err e) z
-no_header whole whole' e z = tt
+no_header : (order : Endianness) (d : ℕ) (more : List ℕ) (whole whole' : Input) (e : ReadError) (z : Result Header ReadError) → SameHeader order d more whole whole' (Err e) z
+no_header order d more whole whole' e z = tt
 
 module _ (order : Endianness) (d : ℕ) (more : List ℕ) (whole whole' : Input) where
   older_agrees : (place : UnitSection) (format : Format) (version : ℕ) (bytes : List ℕ) (p : ℕ)
-      → SameHeader whole whole' (older_at place format version whole (plain order p bytes)) (older_at place format version whole' (plain order (d + p) (bytes ++ more)))
+      → SameHeader order d more whole whole' (older_at place format version whole (plain order p bytes)) (older_at place format version whole' (plain order (d + p) (bytes ++ more)))
   unfolding older_at
   older_agrees place format version bytes p =
-      bind order d more (SameHeader whole whole') _ _ _ _ (no_header whole whole') (offset_agrees order d more format bytes p) (λ offset bs p'.
-      bind order d more (SameHeader whole whole') _ _ _ _ (no_header whole whole') (address_size_agrees order d more bs p') (λ size cs p''.
-      bind order d more (SameHeader whole whole') _ _ _ _ (no_header whole whole') (older_type_agrees order d more place format cs p'') (λ t ds p'''. (refl, refl, refl, refl))))
+      bind order d more (SameHeader order d more whole whole') _ _ _ _ (no_header order d more whole whole') (offset_agrees order d more format bytes p) (λ offset bs p'.
+      bind order d more (SameHeader order d more whole whole') _ _ _ _ (no_header order d more whole whole') (address_size_agrees order d more bs p') (λ size cs p''.
+      bind order d more (SameHeader order d more whole whole') _ _ _ _ (no_header order d more whole whole') (older_type_agrees order d more place format cs p'') (λ t ds p'''. (refl, refl, refl, refl, refl, record { bytes = ds; p = p'''; left = refl; right = refl }))))
 
   newer_agrees : (format : Format) (bytes : List ℕ) (p : ℕ)
-      → SameHeader whole whole' (newer_at format whole (plain order p bytes)) (newer_at format whole' (plain order (d + p) (bytes ++ more)))
+      → SameHeader order d more whole whole' (newer_at format whole (plain order p bytes)) (newer_at format whole' (plain order (d + p) (bytes ++ more)))
   unfolding newer_at
   newer_agrees format bytes p =
-      bind order d more (SameHeader whole whole') _ _ _ _ (no_header whole whole') (unit_code_agrees order d more bytes p) (λ code bs p'.
-      bind order d more (SameHeader whole whole') _ _ _ _ (no_header whole whole') (address_size_agrees order d more bs p') (λ size cs p''.
-      bind order d more (SameHeader whole whole') _ _ _ _ (no_header whole whole') (offset_agrees order d more format cs p'') (λ offset ds p'''.
-      bind order d more (SameHeader whole whole') _ _ _ _ (no_header whole whole') (unit_type_agrees order d more code format ds p''') (λ t es r. (refl, refl, refl, refl)))))
+      bind order d more (SameHeader order d more whole whole') _ _ _ _ (no_header order d more whole whole') (unit_code_agrees order d more bytes p) (λ code bs p'.
+      bind order d more (SameHeader order d more whole whole') _ _ _ _ (no_header order d more whole whole') (address_size_agrees order d more bs p') (λ size cs p''.
+      bind order d more (SameHeader order d more whole whole') _ _ _ _ (no_header order d more whole whole') (offset_agrees order d more format cs p'') (λ offset ds p'''.
+      bind order d more (SameHeader order d more whole whole') _ _ _ _ (no_header order d more whole whole') (unit_type_agrees order d more code format ds p''') (λ t es r. (refl, refl, refl, refl, refl, record { bytes = es; p = r; left = refl; right = refl })))))
 
   header_agrees : (place : UnitSection) (format : Format) (bytes : List ℕ) (p : ℕ)
-      → SameHeader whole whole' (header_at place format whole (plain order p bytes)) (header_at place format whole' (plain order (d + p) (bytes ++ more)))
+      → SameHeader order d more whole whole' (header_at place format whole (plain order p bytes)) (header_at place format whole' (plain order (d + p) (bytes ++ more)))
   unfolding header_at
   header_agrees place format bytes p =
-      bind order d more (SameHeader whole whole') _ _ _ _ (no_header whole whole') (number_agrees order d more 2 number-2 bytes p) (λ version bs p'.
-      choice (SameHeader whole whole') (eqb version 5) _ _ _ _ (newer_agrees format bs p')
-      (choice (SameHeader whole whole') (leb 2 version && leb version 4) _ _ _ _ (older_agrees place format version bs p') tt))
+      bind order d more (SameHeader order d more whole whole') _ _ _ _ (no_header order d more whole whole') (number_agrees order d more 2 number-2 bytes p) (λ version bs p'.
+      choice (SameHeader order d more whole whole') (eqb version 5) _ _ _ _ (newer_agrees format bs p')
+      (choice (SameHeader order d more whole whole') (leb 2 version && leb version 4) _ _ _ _ (older_agrees place format version bs p') tt))
 
 length_agrees : (order : Endianness) (d : ℕ) (more : List ℕ) (bytes : List ℕ) (p : ℕ) → Agree order d more (initial_length_at (plain order p bytes)) (initial_length_at (plain order (d + p) (bytes ++ more)))
 unfolding initial_length_at
@@ -255,14 +257,28 @@ pub record Moved (order : Endianness) (place : UnitSection) (own more : List ℕ
   pub whole : unit.whole ≡ plain order d u.whole.bytes
   pub fits : length u.whole.bytes ≤ length own
   pub front : take (length u.whole.bytes) own ≡ u.whole.bytes
+  pub offset : unit.abbrev_offset ≡ u.abbrev_offset
+  pub entries : unit.entries ≡ shifted d u.entries
 
-header-there : (whole whole' : Input) (r s : Result Header ReadError) (u : Header) → SameHeader whole whole' r s → r ≡ Ok u
-    → (v : Header) × (s ≡ Ok v) × (u.encoding ≡ v.encoding) × (u.unit_type ≡ v.unit_type) × (u.whole ≡ whole) × (v.whole ≡ whole')
-header-there whole whole' (Ok x) (Ok y) u h e =
-    let same : x ≡ u = cc in
-    (y, refl, ap (λ (z : Header). z.encoding) (sym same) ∙ h.0, ap (λ (z : Header). z.unit_type) (sym same) ∙ h.1, ap (λ (z : Header). z.whole) (sym same) ∙ h.2, h.3)
-header-there whole whole' (Ok x) (Err f) u h e = absurd h
-header-there whole whole' (Err f) s u h e = absurd cc
+header-there : (order : Endianness) (d : ℕ) (more : List ℕ) (whole whole' : Input) (r s : Result Header ReadError) (u : Header) → SameHeader order d more whole whole' r s → r ≡ Ok u
+    → (v : Header) × (s ≡ Ok v) × (u.encoding ≡ v.encoding) × (u.unit_type ≡ v.unit_type) × (u.whole ≡ whole) × (v.whole ≡ whole') × (v.abbrev_offset ≡ u.abbrev_offset) × Alike order d more u.entries v.entries
+header-there order d more whole whole' (Ok x) (Ok y) u h e =
+    let same : x ≡ u = cc in (
+      y,
+      refl,
+      ap (λ (z : Header). z.encoding) (sym same) ∙ h.0,
+      ap (λ (z : Header). z.unit_type) (sym same) ∙ h.1,
+      ap (λ (z : Header). z.whole) (sym same) ∙ h.2,
+      h.3,
+      h.4 ∙ ap (λ (z : Header). z.abbrev_offset) same,
+      subst (λ (z : Header). Alike order d more z.entries y.entries) same h.5,
+    )
+header-there order d more whole whole' (Ok x) (Err f) u h e = absurd h
+header-there order d more whole whole' (Err f) s u h e = absurd cc
+
+-- the same entries at the other place
+entries-shifted : (order : Endianness) (d : ℕ) (i j : Input) → Alike order d [] i j → j ≡ shifted d i
+entries-shifted order d i j a = a.right ∙ ap (plain order (d + a.p)) (append-nil a.bytes) ∙ ap (shifted d) (sym a.left)
 
 agree-there : {A : Type 0} (order : Endianness) (d : ℕ) (more : List ℕ) (r s : Result (A × Input) ReadError) (x : A × Input) → Agree order d more r s → r ≡ Ok x
     → (y : A × Input) × (s ≡ Ok y) × (x.0 ≡ y.0) × Alike order d more x.1 y.1
@@ -277,6 +293,7 @@ module _ (taken : UnitsAreTaken) (order : Endianness) (place : UnitSection) (own
   unit-goes : (format : Format) (n p : ℕ) (bs : List ℕ) → from_length place (plain order 0 own) ((format, n), plain order p bs) ≡ Ok (u, r)
       → (v : Header) × (rest : Input) × (m : ℕ) × (m ≤ length own) × (from_length place (plain order d (own ++ more)) ((format, n), plain order (d + p) (bs ++ more)) ≡ Ok (v, rest))
       × (u.encoding ≡ v.encoding) × (u.unit_type ≡ v.unit_type) × (u.whole ≡ plain order 0 (take m own)) × (v.whole ≡ plain order d (take m own))
+      × (v.abbrev_offset ≡ u.abbrev_offset) × (v.entries ≡ shifted d u.entries)
   unit-goes format n p bs h =
       let i = plain order 0 own in
       let j = plain order d (own ++ more) in
@@ -292,10 +309,10 @@ module _ (taken : UnitsAreTaken) (order : Endianness) (place : UnitSection) (own
       let whole_is : s2.0.0 ≡ plain order 0 (take m own) = ap (λ (x : Input × Input). x.0) (sym c2.1) ∙ ap (λ k. plain order 0 (take k own)) same_m in
       let unit_is : s3.0 ≡ u = ap (λ (x : Header × Input). x.0) (same-ok _ _ s3.2) in
       let whole' = plain order d (take m own) in
-      let agree : SameHeader s2.0.0 whole' (header_at place format s2.0.0 (plain order p (take n bs))) (header_at place format whole' (plain order (d + p) (take n bs))) =
-      subst (λ l. SameHeader s2.0.0 whole' (header_at place format s2.0.0 (plain order p (take n bs))) (header_at place format whole' (plain order (d + p) l))) (append-nil (take n bs))
+      let agree : SameHeader order d [] s2.0.0 whole' (header_at place format s2.0.0 (plain order p (take n bs))) (header_at place format whole' (plain order (d + p) (take n bs))) =
+      subst (λ l. SameHeader order d [] s2.0.0 whole' (header_at place format s2.0.0 (plain order p (take n bs))) (header_at place format whole' (plain order (d + p) l))) (append-nil (take n bs))
       (header_agrees order d [] s2.0.0 whole' place format (take n bs) p) in
-      let there = header-there s2.0.0 whole' _ _ s3.0 agree s3.1 in
+      let there = header-there order d [] s2.0.0 whole' _ _ s3.0 agree s3.1 in
       let v = there.0 in
       let long : n ≤ length (bs ++ more) = omega (arith, length-append bs more, c1.0) in
       let wide : m ≤ length (own ++ more) = omega (arith, length-append own more, fits) in
@@ -316,6 +333,8 @@ module _ (taken : UnitsAreTaken) (order : Endianness) (place : UnitSection) (own
         ap (λ (z : Header). z.unit_type) (sym unit_is) ∙ there.3,
         ap (λ (z : Header). z.whole) (sym unit_is) ∙ there.4 ∙ whole_is,
         there.5,
+        there.6 ∙ ap (λ (z : Header). z.abbrev_offset) unit_is,
+        entries-shifted order d s3.0.entries v.entries there.7 ∙ ap (λ (z : Header). shifted d z.entries) unit_is,
       )
 
   -- a unit of some bytes alone is read alike at another place, with more behind them
@@ -349,6 +368,8 @@ module _ (taken : UnitsAreTaken) (order : Endianness) (place : UnitSection) (own
         whole = g.8 ∙ ap (plain order d) (sym whole);
         fits = subst (λ k. k ≤ length own) (sym size) g.3;
         front = ap (λ k. take k own) size ∙ sym whole;
+        offset = g.9;
+        entries = g.10;
       }
 
 -- ---- the same of both sections: units of version 5

@@ -27,6 +27,7 @@ use Rattle.thorin_builder.specs.State.{kind_at}
 use Rattle.thorin_builder.specs.Used.{Used}
 use Rattle.thorin_builder.proofs.HeadersRead.{ReadAlone, FiveOrType, types_or_five, name-identity}
 use Rattle.thorin_builder.proofs.IdentitySort.{identity-sort}
+use Rattle.thorin_builder.proofs.Shifted.{IsShifted}
 use Rattle.thorin_builder.proofs.Steps.{ok-eq, bind-inv}
 use Rattle.thorin_builder.proofs.UnitMoved.{plain, unit-moves, unit-anywhere}
 
@@ -38,6 +39,8 @@ pub record ReadsAlone (order : Endianness) (place : UnitSection) (unit : Header)
   pub whole : alone.whole.bytes ≡ unit.whole.bytes
   pub type : alone.unit_type ≡ unit.unit_type
   pub encoding : alone.encoding ≡ unit.encoding
+  pub behind : ℕ
+  pub shifted : IsShifted behind alone unit
 
 -- where a unit was read
 record ReadAt (order : Endianness) (place : UnitSection) (unit : Header) : Type 0 where
@@ -83,19 +86,21 @@ alone-of taken order place unit at enc =
       whole = sym (ap (λ (i : Input). i.bytes) moved.whole) ∙ ap (λ (v : Header). v.whole.bytes) same;
       type = moved.type ∙ ap (λ (v : Header). v.unit_type) same;
       encoding = ok-eq _ _ s.2;
+      behind = at.d;
+      shifted = subst (IsShifted at.d s.0.0) same (record { type = sym moved.type; encoding = sym moved.encoding; offset = moved.offset; entries = moved.entries });
     }
 
 -- what is known of a unit that was read in a section of that place
-abbrev IsKnown : Endianness → UnitSection → Header → Type 0
+abbrev pub IsKnown : Endianness → UnitSection → Header → Type 0
 IsKnown order place unit = ReadsAlone order place unit × (place ≡ places.Types → FiveOrType unit)
 
-abbrev Listed : Type 0
+abbrev pub Listed : Type 0
 Listed = List (Result Header ReadError)
 
-abbrev AreKnown : Endianness → UnitSection → Listed → Type 0
+abbrev pub AreKnown : Endianness → UnitSection → Listed → Type 0
 AreKnown order place reads = (k : ℕ) (unit : Header) → slice_get reads k ≡ Some (Ok unit) → IsKnown order place unit
 
-known-in : UnitsAreTaken → ReadAlone → (order : Endianness) (place : UnitSection) (bytes : List ℕ) → AreKnown order place (units place (section order bytes))
+pub known-in : UnitsAreTaken → ReadAlone → (order : Endianness) (place : UnitSection) (bytes : List ℕ) → AreKnown order place (units place (section order bytes))
 unfolding units
 known-in taken alone order places.Info bytes k unit h =
     (alone-of taken order places.Info unit (within-at taken (length bytes) order places.Info 0 bytes k unit h) (alone order places.Info bytes k unit h), λ is. absurd cc)
@@ -103,7 +108,7 @@ known-in taken alone order places.Types bytes k unit h =
     (alone-of taken order places.Types unit (within-at taken (length bytes) order places.Types 0 bytes k unit h) (alone order places.Types bytes k unit h), λ is. types_or_five order bytes k unit h)
 
 -- the place of a kind of section
-kind-place : (kind : SectionKind) (place : UnitSection) → unit_section kind ≡ Some place → kind ≡ kind_at place
+pub kind-place : (kind : SectionKind) (place : UnitSection) → unit_section kind ≡ Some place → kind ≡ kind_at place
 kind-place kinds.Info places.Info h = refl
 kind-place kinds.Types places.Types h = refl
 kind-place kinds.Info places.Types h = absurd cc
@@ -134,7 +139,7 @@ whole-by taken order place name unit a sort =
     }
 
 -- in the other section
-other-alone : (order : Endianness) (place other : UnitSection) (unit : Header) → unit.encoding.version ≡ 5 → ReadsAlone order place unit → ReadsAlone order other unit
+pub other-alone : (order : Endianness) (place other : UnitSection) (unit : Header) → unit.encoding.version ≡ 5 → ReadsAlone order place unit → ReadsAlone order other unit
 other-alone order place other unit five a = record {
   alone = a.alone;
   rest = a.rest;
@@ -142,13 +147,15 @@ other-alone order place other unit five a = record {
   whole = a.whole;
   type = a.type;
   encoding = a.encoding;
+  behind = a.behind;
+  shifted = a.shifted;
 }
 
 -- a unit is a whole one of its name where it goes to
 abbrev pub Goes : Endianness → DwarfObject × UnitRead → Type 0
 Goes order read = IsWhole order (place_for read.0 read.1.from) read.0 read.1.unit.whole.bytes
 
-five-named : (unit : Header) (sort : type_signature unit.unit_type ≡ None) → FiveOrType unit → unit.encoding.version ≡ 5
+pub five-named : (unit : Header) (sort : type_signature unit.unit_type ≡ None) → FiveOrType unit → unit.encoding.version ≡ 5
 five-named unit sort (inl five) = five
 five-named unit sort (inr t) = absurd (none-some t.0 (sym sort ∙ ap type_signature t.2))
 
@@ -178,7 +185,7 @@ go-append : (order : Endianness) (us vs : List (DwarfObject × UnitRead)) → Al
 go-append order [] vs h k = k
 go-append order (u ∷ us) vs h k = (h.0, go-append order us vs h.1 k)
 
-fault-ok : (f : ReadError → Fault) (r : Result Header ReadError) (x : Header) → as_fault f r ≡ Ok x → r ≡ Ok x
+pub fault-ok : (f : ReadError → Fault) (r : Result Header ReadError) (x : Header) → as_fault f r ≡ Ok x → r ≡ Ok x
 fault-ok f (Ok y) x h = cc
 fault-ok f (Err e) x h = absurd cc
 

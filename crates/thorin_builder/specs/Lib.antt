@@ -27,3 +27,5 @@ pub mod Own
 pub mod OwnUnits
 pub mod OwnInput
 pub mod Taking
+pub mod Plain
+pub mod OwnRefusals

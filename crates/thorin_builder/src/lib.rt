@@ -15,6 +15,7 @@ mod object;
 mod own;
 mod package;
 mod parts;
+mod plain;
 mod reader;
 mod rows;
 mod source;
@@ -33,6 +34,10 @@ pub use own::{
     own_packages_are_taken_up_to_their_parts,
 };
 pub use package::DwarfPackage;
+pub use plain::{
+    own_packages_are_accepted, own_string_offsets_are_rewritten, own_units_are_taken,
+    plain_packages_are_kept,
+};
 pub use reader::InputReader;
 pub use thorin_executable::{Skeleton, SkeletonList, skeletons};
 pub use thorin_identity::dwo_identifier_of_unit;
