@@ -6,7 +6,7 @@ use crate::tally::Tally;
 use dwp_index::PackageFile;
 use std::alloc::{AllocError, Global};
 use thorin::{
-    Bump, BytesSession, DebugTypeSignature, DwarfObject, DwarfPackage, Error, Input,
+    Bump, BytesSession, DebugTypeSignature, DwarfObject, DwarfPackage, Error, Input, Packed,
     RelocationEntry, Session, pack, pack_groups,
 };
 
@@ -100,7 +100,7 @@ fn build_of<'s>(
     if let Ok(file) = &file {
         read_back(file, &end.units, tally);
         if end.again {
-            pack_again(alloc, session, file, &end.units, tally)?;
+            pack_again(alloc, session, file, &end.units, tally);
         }
     }
     group(alloc, session, &accepted, &end.units, tally);
@@ -163,13 +163,24 @@ fn pack_all<'s>(
 ) -> Result<(), AllocError> {
     let mut list = Vec::new(alloc);
     for input in inputs {
-        list.push(Input::Bytes(input))?;
+        list.push(Input::Bytes(*input))?;
     }
     let packed = pack(alloc, session, &list);
-    tally.expect(packed.is_ok());
-    let Ok(packed) = packed else {
-        return Ok(());
-    };
+    match &packed {
+        Ok(packed) => compare(packed, inputs.len(), accepted, file, tally),
+        Err(_) => tally.expect(false),
+    }
+    Ok(())
+}
+
+/// So many outcomes, so many inputs accepted, and this file.
+fn compare(
+    packed: &Packed,
+    inputs: usize,
+    accepted: usize,
+    file: &Result<Vec<u8>, Error>,
+    tally: &mut Tally,
+) {
     let mut taken: usize = 0;
     for outcome in &packed.outcomes {
         tally.packed.note(outcome.is_ok());
@@ -177,10 +188,9 @@ fn pack_all<'s>(
             taken = taken.saturating_add(1);
         }
     }
-    tally.expect(packed.outcomes.len() == inputs.len());
+    tally.expect(packed.outcomes.len() == inputs);
     tally.expect(taken == accepted);
     tally.expect(are_alike(file, &packed.file));
-    Ok(())
 }
 
 /// Reads a written package: it has these units and no others.
@@ -202,6 +212,17 @@ pub fn read_back(file: &[u8], units: &[DwarfObject], tally: &mut Tally) {
     }
 }
 
+/// The file of a package of one input.
+fn packed_alone<'s>(
+    alloc: Global,
+    session: &'s BytesSession<'s>,
+    input: &[u8],
+) -> Result<Vec<u8>, Error> {
+    let mut builder = DwarfPackage::new(alloc, session);
+    builder.add_object_bytes(input)?;
+    file_of(builder)
+}
+
 /// Packs a package of the builder's own alone: it is taken, and has the same units, unless a section
 /// is in no row of it.
 fn pack_again<'s>(
@@ -210,21 +231,13 @@ fn pack_again<'s>(
     file: &[u8],
     units: &[DwarfObject],
     tally: &mut Tally,
-) -> Result<(), AllocError> {
-    let mut builder = DwarfPackage::new(alloc, session);
-    let outcome = builder.add_object_bytes(file);
-    tally.object.note(outcome.is_ok());
-    tally.expect(matches!(outcome, Ok(()) | Err(Error::SectionNotInRow)));
-    let end = showing(alloc, &builder)?;
-    if outcome.is_ok() {
-        tally.expect(end.units.len() == units.len());
-        let again = file_of(builder);
-        tally.expect(again.is_ok());
-        if let Ok(again) = again {
-            read_back(&again, units, tally);
-        }
+) {
+    let again = packed_alone(alloc, session, file);
+    tally.object.note(again.is_ok());
+    match &again {
+        Ok(again) => read_back(again, units, tally),
+        Err(fault) => tally.expect(matches!(fault, Error::SectionNotInRow)),
     }
-    Ok(())
 }
 
 /// Packs inputs in two groups: where there is a file, it has these units.
@@ -238,8 +251,8 @@ fn group<'s>(
     let (first, second) = inputs.split_at(inputs.len() / 2);
     let file = pack_groups(alloc, session, &[first, second]);
     tally.groups.note(file.is_ok());
-    match file {
-        Ok(file) => read_back(&file, units, tally),
+    match &file {
+        Ok(file) => read_back(file, units, tally),
         Err(fault) => tally.expect(!matches!(fault, Error::Memory)),
     }
 }

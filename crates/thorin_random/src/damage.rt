@@ -1,6 +1,6 @@
 //! Damage to bytes.
 
-ghost use Rattle.std.specs.Prelude.{◌<◌, IfSome};
+ghost use Rattle.std.specs.Prelude.{◌<◌, ◌≤◌, IfSome, length};
 
 use crate::generator::Generator;
 use std::alloc::AllocError;
@@ -77,7 +77,9 @@ fn is_narrow(bytes: &[u8]) -> bool {
 }
 
 /// The place of one of the last eight section headers, in a file that ends with them.
-fn header_place(generator: &mut Generator, bytes: &[u8]) -> usize {
+fn header_place(generator: &mut Generator, bytes: &[u8]) -> usize
+    ensures { result ≤ length bytes.now }
+{
     let number = generator.below(8) + 1;
     let size = if is_narrow(bytes) {
         number * 40
