@@ -190,7 +190,8 @@ enum {
   THORIN_FAULT_OVERLAPPING_STRING_OFFSETS = 44 /* A range of the string offsets begins inside the one before it; its place. */
 };
 
-/* What packing tells beside its answer. A field that isn't named at the answer is as it was, or without meaning. */
+/* What packing tells beside its answer; thorin_differing_types tells input, differing and the fault alone. A field that
+ * isn't named at the answer is as it was, or without meaning. */
 typedef struct {
   uint64_t size;        /* THORIN_DONE, THORIN_TOO_SMALL: how many bytes the package has */
   uint64_t input;       /* THORIN_REFUSED: the number of the input, from 0 on; THORIN_NO_MEMORY: that of the input at which

@@ -1,5 +1,5 @@
 -- A list whose elements are replaced one after the other.
-use Rattle.std.proofs.Common.{◌≡◌, ◌∙◌, ℕ, ◌+◌, List, [], ◌∷◌, ◌++◌, sym, ap, subst, ◌<◌, length, take, drop, set, get_or, map, arith}
+use Rattle.std.proofs.Common.{◌≡◌, ◌∙◌, ℕ, ◌+◌, List, [], ◌∷◌, ◌++◌, sym, ap, ◌<◌, length, take, drop, set, get_or, map, arith}
 use Rattle.std.proofs.lemmas.List.{take_more, take_more_set, map-append, drop_more, drop-set-lt}
 use Rattle.std.proofs.lemmas.Grind.{drop_more_same}
 

@@ -16,7 +16,7 @@ use Rattle.thorin_builder.specs.Join.{Joins, JoinAll, IsPackageOf}
 use Rattle.thorin_builder.specs.Meaning.{Members}
 use Rattle.thorin_builder.specs.Represents.{units_in}
 use Rattle.thorin_builder.specs.Own.{packs_again}
-use Rattle.thorin_c.specs.Packing.{bytes_of, all_taken, Accepts, RefusesAt, StopsAt, Leaves, TellsRefused, TellsLeft, TellsUnfinished, Refuses, RunsOutAt, RunsOutAfter, IsUnfinished, IsPackage, Differ}
+use Rattle.thorin_c.specs.Packing.{bytes_of, all_taken, Accepts, RefusesAt, StopsAt, Leaves, TellsRefused, TellsLeft, TellsUnfinished, Refuses, RunsOutAt, RunsOutAfter, IsPackage, Differ}
 use Rattle.thorin_c.specs.declared.types.ThorinBytes.{ThorinBytes}
 
 abbrev value : Result State Fault → State → State

@@ -1,4 +1,4 @@
-use Rattle.std.proofs.Common.{◌≡◌, ◌<◌, length, arith}
+use Rattle.std.proofs.Common.{◌<◌, length, arith}
 use Rattle.thorin_c.specs.Finding.{looked}
 use Rattle.thorin_c.proofs.Looking.{mapped-next, rest-next}
 use Rattle.thorin_c.proofs.finding.look_each_up.Goals as goal

@@ -1,6 +1,6 @@
-use Rattle.std.proofs.Common.{rules, ◌≡◌, ◌∙◌, ◌<◌, ◌≤◌, length, ℕ, map, arith}
+use Rattle.std.proofs.Common.{◌≡◌, ◌∙◌, ◌<◌, ◌≤◌, length, map, arith}
 use Rattle.dwp_index.specs.Entries.{units_left}
-use Rattle.thorin_c.specs.Listing.{name_of, counted, written_over}
+use Rattle.thorin_c.specs.Listing.{name_of}
 use Rattle.thorin_c.proofs.Writing.{put-next, pass-next, count-next, yields-next}
 use Rattle.thorin_c.proofs.listing.list.Goals as goal
 use Rattle.thorin_c.proofs.listing.list.Goals.{then-place-names, else-place-names}

@@ -1,4 +1,4 @@
-use Rattle.std.proofs.Common.{rules, ◌≡◌, ◌∙◌, ◌<◌, ◌≤◌, length, refl, arith}
+use Rattle.std.proofs.Common.{◌∙◌, ◌<◌, ◌≤◌, length, refl, arith}
 use Rattle.thorin_c.proofs.Writing.{put-at, pass-at}
 use Rattle.thorin_c.proofs.packing.write_signatures.Goals as goal
 use Rattle.thorin_c.proofs.packing.write_signatures.Goals.{then-i-types, else-i-types}
