@@ -21,12 +21,12 @@ ghost use Rattle.thorin_builder.specs.Plain.{HoldsPlain, IsPlain};
 ghost use Rattle.thorin_builder.specs.Represents.{IsSoundBegun};
 ghost use Rattle.thorin_builder.specs.State.{InProgress, adding};
 
-use dwp_dwarf::units_have_all_bytes;
-use dwp_index::{contents_are_read, units_are_read_alone};
-use dwp_table::look_up_finds_exactly;
-use thorin_packaged::{every_row_is_found_by_place, packaged_rows_are_read_alike};
-use thorin_parts::{written_index_has_the_entries, written_index_is_read};
-use thorin_strings::rewritten_offsets_name_the_same;
+use dwp_dwarf::laws::units_have_all_bytes;
+use dwp_index::laws::{contents_are_read, units_are_read_alone};
+use dwp_table::laws::look_up_finds_exactly;
+use thorin_packaged::laws::{every_row_is_found_by_place, packaged_rows_are_read_alike};
+use thorin_parts::laws::{written_index_has_the_entries, written_index_is_read};
+use thorin_strings::laws::rewritten_offsets_name_the_same;
 
 /// The law of plain packages: where the inputs of a builder have one encoding, each section that units
 /// share and that has bytes has a part that a row names; the ranges of string offsets that rows have fill
