@@ -94,8 +94,8 @@ fn swap_headers(generator: &mut Generator, bytes: &mut Vec<u8>) {
     let one = header_place(generator, bytes);
     let other = header_place(generator, bytes);
     let size: usize = if is_narrow(bytes) { 40 } else { 64 };
-    for i in 0..size {
-        if one + i < bytes.len() && other + i < bytes.len() {
+    for i in 0..64 {
+        if i < size && one + i < bytes.len() && other + i < bytes.len() {
             bytes.swap(one + i, other + i);
         }
     }

@@ -28,10 +28,11 @@ impl Generator {
 
     /// One of these; None where there are none.
     pub fn one_of<'a, T>(&mut self, all: &'a [T]) -> Option<&'a T> {
-        if all.is_empty() {
+        let count = all.len();
+        if count == 0 {
             return None;
         }
-        all.get(self.below(all.len()))
+        all.get(self.below(count))
     }
 
     /// Any byte.
