@@ -214,37 +214,28 @@ fn is_told(answer: &Result<(), Error>, session: &CountingSession<'_>) -> bool {
     }
 }
 
-/// Adds the executable whose relocations are placed in the session, again where that was refused,
-/// and answers how many tries there were; 0 where an answer or the units aren't as they have to be.
-fn tries_of<'s>(alloc: Global, session: &'s CountingSession<'s>) -> Result<u32, Error> {
-    let mut builder = DwarfPackage::new(alloc, session);
-    let answer = builder.add_executable(Path::new("/e"), SKIP);
-    if !is_told(&answer, session) {
-        return Ok(0);
-    }
-    if answer.is_ok() {
-        return Ok(1);
-    }
-    if !builder.contained_units().is_empty() {
-        return Ok(0);
-    }
-    builder.add_executable(Path::new("/e"), SKIP)?;
-    Ok(2)
-}
-
-/// The same where the session refuses a placing.
-fn tries_where_refused(alloc: Global, placing: u32) -> Result<u32, Fail> {
+/// Whether adding an executable with relocations is accepted, where the session refuses a placing; none
+/// where the answer or the units aren't as they have to be.
+fn executable_accepted(alloc: Global, placing: u32) -> Result<Option<bool>, Fail> {
     let files = files(alloc, relocated(alloc)?, Some(plain(alloc, 5)?))?;
     let bump = Bump::new(alloc);
     let session = CountingSession::new(&bump, &files, Refusal::Placing(placing));
-    Ok(tries_of(alloc, &session)?)
+    let outcome = added(alloc, &session, SKIP)?;
+    let is_accepted = outcome.answer.is_ok();
+    if !is_told(&outcome.answer, &session) || is_accepted == outcome.has.is_empty() {
+        return Ok(None);
+    }
+    Ok(Some(is_accepted))
 }
 
 #[test]
 fn relocations_that_cannot_be_placed(rt: HostRuntime) -> Result<(), Fail> {
     // Those of the abbreviations, which are none, and those of the units.
-    for (placing, tries) in [(0, 2), (1, 2), (2, 1)] {
-        assert_eq!(rt; tries_where_refused(rt.alloc(), placing)?, tries);
+    for (placing, is_accepted) in [(0, false), (1, false), (2, true)] {
+        assert_eq!(rt;
+            executable_accepted(rt.alloc(), placing)?,
+            Some(is_accepted)
+        );
     }
     Ok(())
 }
