@@ -30,8 +30,8 @@ fn name_of(answer: &Result<(), Error>) -> &'static str {
     }
 }
 
-/// What came of adding an executable: the answer, the units that the package has then, and those that
-/// are missing.
+/// What came of adding an executable: the answer, the units that the package has then, and those
+/// that are missing.
 #[derive(Drop)]
 struct Outcome {
     answer: Result<(), Error>,
@@ -82,8 +82,8 @@ fn told(
     text_of(alloc, &outcome, session.reads())
 }
 
-/// Which call is refused, by what number; what is done where an object can't be read; and what adding
-/// the executable, which is read first, and its objects 1 to 3 tells then.
+/// Which call is refused, by what number; what is done where an object can't be read; and what
+/// adding the executable, which is read first, and its objects 1 to 3 tells then.
 const READS: [(Refusal, MissingReferencedObjectBehaviour, &str); 10] = [
     (Refusal::Read(0), SKIP, "ReadInput 1, has, lacks"),
     (Refusal::Read(1), SKIP, "Ok 4, has 2 3, lacks 1"),
@@ -214,8 +214,8 @@ fn is_told(answer: &Result<(), Error>, session: &CountingSession<'_>) -> bool {
     }
 }
 
-/// Whether adding an executable with relocations is accepted, where the session refuses a placing; none
-/// where the answer or the units aren't as they have to be.
+/// Whether adding an executable with relocations is accepted, where the session refuses a placing;
+/// none where the answer or the units aren't as they have to be.
 fn executable_accepted(alloc: Global, placing: u32) -> Result<Option<bool>, Fail> {
     let files = files(alloc, relocated(alloc)?, Some(plain(alloc, 5)?))?;
     let bump = Bump::new(alloc);
