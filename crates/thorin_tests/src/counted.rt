@@ -30,8 +30,8 @@ fn name_of(answer: &Result<(), Error>) -> &'static str {
     }
 }
 
-/// What came of adding an executable: the answer, the units that the package has then, and those that
-/// are missing.
+/// What came of adding an executable: the answer, the units that the package has then, and those
+/// that are missing.
 #[derive(Drop)]
 struct Outcome {
     answer: Result<(), Error>,
@@ -82,8 +82,8 @@ fn told(
     text_of(alloc, &outcome, session.reads())
 }
 
-/// Which call is refused, by what number; what is done where an object can't be read; and what adding
-/// the executable, which is read first, and its objects 1 to 3 tells then.
+/// Which call is refused, by what number; what is done where an object can't be read; and what
+/// adding the executable, which is read first, and its objects 1 to 3 tells then.
 const READS: [(Refusal, MissingReferencedObjectBehaviour, &str); 10] = [
     (Refusal::Read(0), SKIP, "ReadInput 1, has, lacks"),
     (Refusal::Read(1), SKIP, "Ok 4, has 2 3, lacks 1"),
@@ -214,37 +214,28 @@ fn is_told(answer: &Result<(), Error>, session: &CountingSession<'_>) -> bool {
     }
 }
 
-/// Adds the executable whose relocations are placed in the session, again where that was refused,
-/// and answers how many tries there were; 0 where an answer or the units aren't as they have to be.
-fn tries_of<'s>(alloc: Global, session: &'s CountingSession<'s>) -> Result<u32, Error> {
-    let mut builder = DwarfPackage::new(alloc, session);
-    let answer = builder.add_executable(Path::new("/e"), SKIP);
-    if !is_told(&answer, session) {
-        return Ok(0);
-    }
-    if answer.is_ok() {
-        return Ok(1);
-    }
-    if !builder.contained_units().is_empty() {
-        return Ok(0);
-    }
-    builder.add_executable(Path::new("/e"), SKIP)?;
-    Ok(2)
-}
-
-/// The same where the session refuses a placing.
-fn tries_where_refused(alloc: Global, placing: u32) -> Result<u32, Fail> {
+/// Whether adding an executable with relocations is accepted, where the session refuses a placing;
+/// none where the answer or the units aren't as they have to be.
+fn executable_accepted(alloc: Global, placing: u32) -> Result<Option<bool>, Fail> {
     let files = files(alloc, relocated(alloc)?, Some(plain(alloc, 5)?))?;
     let bump = Bump::new(alloc);
     let session = CountingSession::new(&bump, &files, Refusal::Placing(placing));
-    Ok(tries_of(alloc, &session)?)
+    let outcome = added(alloc, &session, SKIP)?;
+    let is_accepted = outcome.answer.is_ok();
+    if !is_told(&outcome.answer, &session) || is_accepted == outcome.has.is_empty() {
+        return Ok(None);
+    }
+    Ok(Some(is_accepted))
 }
 
 #[test]
 fn relocations_that_cannot_be_placed(rt: HostRuntime) -> Result<(), Fail> {
     // Those of the abbreviations, which are none, and those of the units.
-    for (placing, tries) in [(0, 2), (1, 2), (2, 1)] {
-        assert_eq!(rt; tries_where_refused(rt.alloc(), placing)?, tries);
+    for (placing, is_accepted) in [(0, false), (1, false), (2, true)] {
+        assert_eq!(rt;
+            executable_accepted(rt.alloc(), placing)?,
+            Some(is_accepted)
+        );
     }
     Ok(())
 }
