@@ -1,0 +1,89 @@
+#!/usr/bin/env python3
+"""Makes split objects of DWARF 4 of one unit each whose strings tell how a packer's table of strings grows.
+
+string_inputs.py FOLDER [NAME=COUNT..]: each object is FOLDER/NAME-COUNT.dwo. A NAME is one of
+
+    random    distinct strings of 22 bytes, the first 14 of which are the same, in an order that is far from theirs
+    equal     distinct strings of 16 bytes that have one hash in thorin's table
+    long      distinct strings of 1,008 bytes, the first 1,000 of which are the same
+    suffixes  all ends of one string of COUNT letters; a package of them has COUNT * (COUNT + 3) / 2 bytes of strings
+
+time_packers.py measures packers over them.
+"""
+import pathlib
+import struct
+import sys
+
+# Abbreviation 1: a compile unit with a GNU_dwo_id of 8 bytes.
+ABBREVIATIONS = bytes.fromhex("011100b142070000" + "00")
+UNIT = struct.pack("<IHIBBQ", 16, 4, 0, 8, 1, 5)
+
+
+def elf(sections):
+    """An ELF file of 64 bits, little endian, of these names and contents."""
+    names, out, headers = bytearray(b"\0"), bytearray(64), [bytes(64)]
+    for name, data in [*sections, (".shstrtab", None)]:
+        at = len(names)
+        names.extend(name.encode() + b"\0")
+        kind, data = (3, bytes(names)) if data is None else (1, data)
+        headers.append(struct.pack("<IIQQQQIIQQ", at, kind, 0, 0, len(out), len(data), 0, 0, 1, 0))
+        out.extend(data)
+    head = struct.pack("<HHIQQQIHHHHHH", 1, 62, 1, 0, 0, len(out), 0, 64, 0, 0, 64, len(headers), len(headers) - 1)
+    out[:64] = b"\x7fELF\2\1\1" + bytes(9) + head
+    return bytes(out) + b"".join(headers)
+
+
+def random(count):
+    letters = [b"%c%c" % (97 + byte % 16, 97 + byte // 16) for byte in range(256)]
+    for i in range(count):
+        number = i * 2_654_435_761 % 2 ** 32
+        yield b"thorin::name::" + b"".join(letters[byte] for byte in number.to_bytes(4, "little"))
+
+
+def turned(state):
+    return (state << 23 | state >> 41) % 2 ** 64
+
+
+def equal(count):
+    seed = 7
+    while count:
+        seed = (seed * 6_364_136_223_846_793_005 + 1_442_695_040_888_963_407) % 2 ** 64
+        first = seed | 0x0101_0101_0101_0101
+        second = turned((turned(16) ^ first) * 0x9e37_79b9_7f4a_7c15 % 2 ** 64) ^ 0x1234_5678_9abc_def1
+        string = struct.pack("<QQ", first, second)
+        if 0 not in string:
+            count -= 1
+            yield string
+
+
+def long(count):
+    return (b"x" * 1000 + b"%08d" % number for number in range(count))
+
+
+def of_strings(strings):
+    data, offsets, at = [], [], 0
+    for string in strings:
+        data.append(string)
+        offsets.append(at)
+        at += len(string) + 1
+    return b"\0".join(data) + b"\0", offsets
+
+
+def of_suffixes(count):
+    return bytes(97 + i * i % 23 for i in range(count)) + b"\0", range(count)
+
+
+def main():
+    folder = pathlib.Path(sys.argv[1])
+    folder.mkdir(parents=True, exist_ok=True)
+    for word in sys.argv[2:] or ["random=10000", "random=100000", "random=1000000", "equal=100000", "long=20000", "suffixes=10000"]:
+        name, count = word.split("=")
+        made = of_suffixes(int(count)) if name == "suffixes" else of_strings({"random": random, "equal": equal, "long": long}[name](int(count)))
+        offsets = struct.pack(f"<{len(made[1])}I", *made[1])
+        sections = [(".debug_info.dwo", UNIT), (".debug_abbrev.dwo", ABBREVIATIONS), (".debug_str.dwo", made[0]), (".debug_str_offsets.dwo", offsets)]
+        (folder / f"{name}-{count}.dwo").write_bytes(elf(sections))
+
+
+if len(sys.argv) < 2:
+    sys.exit(__doc__)
+main()
