@@ -1,4 +1,5 @@
 pub mod ColumnSteps
+pub mod EachPlace
 pub mod LookUp
 pub mod NumberLists
 pub mod Views
