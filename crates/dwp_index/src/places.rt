@@ -6,8 +6,8 @@ ghost use Rattle.dwp_index.specs.Places.{place_of, ArePlaces};
 use crate::parsing::column_place;
 use dwp_base::{Endianness, SectionKind};
 
-/// The places of the sections' columns among the columns of an index: read once, so that a row's ranges are found
-/// without going over the columns.
+/// The places of the sections' columns among the columns of an index: read once, so that a row's
+/// ranges are found without going over the columns.
 #[derive(Clone, Copy)]
 pub(crate) struct Places {
     info: Option<u32>,

@@ -13,9 +13,10 @@ use dwp_base::{Contribution, SectionKind};
 use dwp_index::{PackageFile, PackagedUnit};
 use dwp_table::{CONTRIBUTION_KINDS, DebugTypeSignature, DwarfObject, DwoId};
 
-/// Looks a unit up: `kind` is 1 for a compilation unit and 2 for a type unit. Answers 0 and fills `found`; or leaves it
-/// as it is: 1 where the package has no such unit, 2 for another kind, 3 where the file, 4 where an index, 5 where a
-/// range of the unit and 6 where its header is malformed.
+/// Looks a unit up: `kind` is 1 for a compilation unit and 2 for a type unit. Answers 0 and fills
+/// `found`; or leaves it as it is: 1 where the package has no such unit, 2 for another kind, 3
+/// where the file, 4 where an index, 5 where a range of the unit and 6 where its header is
+/// malformed.
 #[unsafe(no_mangle)]
 pub extern "C" fn thorin_find(bytes: &[u8], kind: u8, id: u64, found: &mut ThorinUnit) -> i32
     ensures { Fills (λ unit. unit) (unit_found (as_status (package_of bytes.now)) kind id) found.old found.new result }
@@ -26,8 +27,8 @@ pub extern "C" fn thorin_find(bytes: &[u8], kind: u8, id: u64, found: &mut Thori
     }
 }
 
-/// Looks many units up, the package being read once: fills each status, and each unit whose status is 0. Answers 0; or 3
-/// or 4 where the package can't be read, and then leaves all as it is.
+/// Looks many units up, the package being read once: fills each status, and each unit whose status
+/// is 0. Answers 0; or 3 or 4 where the package can't be read, and then leaves all as it is.
 #[unsafe(no_mangle)]
 pub extern "C" fn thorin_find_each(bytes: &[u8], lookups: &mut [ThorinLookup]) -> i32
     ensures { FillsEach (as_status (package_of bytes.now)) lookups.old lookups.new result }
@@ -41,8 +42,8 @@ pub extern "C" fn thorin_find_each(bytes: &[u8], lookups: &mut [ThorinLookup]) -
     }
 }
 
-/// Lends a unit's bytes in a section: `section` is 0 for `.debug_info.dwo` and so on in the order of `ThorinUnit`.
-/// Answers as `thorin_find`; or 7 for another section.
+/// Lends a unit's bytes in a section: `section` is 0 for `.debug_info.dwo` and so on in the order
+/// of `ThorinUnit`. Answers as `thorin_find`; or 7 for another section.
 #[unsafe(no_mangle)]
 pub extern "C" fn thorin_content<'a>(
     bytes: &'a [u8],
@@ -62,8 +63,8 @@ pub extern "C" fn thorin_content<'a>(
     }
 }
 
-/// Lends the string of a number of a unit, by the unit's own encoding. Answers as `thorin_find`; or 8 past the last
-/// string, 9 where the string is malformed.
+/// Lends the string of a number of a unit, by the unit's own encoding. Answers as `thorin_find`; or
+/// 8 past the last string, 9 where the string is malformed.
 #[unsafe(no_mangle)]
 pub extern "C" fn thorin_string<'a>(
     bytes: &'a [u8],

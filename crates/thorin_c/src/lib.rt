@@ -1,5 +1,5 @@
-//! Packages of split DWARF for C, and for languages that call it: each export is a call of the library, and states its
-//! clauses again. `include/thorin.h` declares them.
+//! Packages of split DWARF for C, and for languages that call it: each export is a call of the
+//! library, and states its clauses again. `include/thorin.h` declares them.
 #![tactic(auto)]
 
 mod faults;

@@ -11,7 +11,8 @@ use crate::types::ThorinName;
 use dwp_index::{PackageFile, UnitEntry};
 use dwp_table::DwarfObject;
 
-/// How many units the indexes of a package name, written to `count`: 0; or 3 or 4 where the package can't be read.
+/// How many units the indexes of a package name, written to `count`: 0; or 3 or 4 where the package
+/// can't be read.
 #[unsafe(no_mangle)]
 pub extern "C" fn thorin_unit_count(bytes: &[u8], count: &mut u64) -> i32
     ensures { Fills (λ count. count) (count_in bytes.now) count.old count.new result }
@@ -25,9 +26,9 @@ pub extern "C" fn thorin_unit_count(bytes: &[u8], count: &mut u64) -> i32
     }
 }
 
-/// Lists the units that the indexes of a package name, those of the index of compilation units first, in order of slot:
-/// 0, as many as there is room for from the first on in `names`, and how many there are in `count`; or 3 or 4 where the
-/// package can't be read, and nothing is written.
+/// Lists the units that the indexes of a package name, those of the index of compilation units
+/// first, in order of slot: 0, as many as there is room for from the first on in `names`, and how
+/// many there are in `count`; or 3 or 4 where the package can't be read, and nothing is written.
 #[unsafe(no_mangle)]
 pub extern "C" fn thorin_list(bytes: &[u8], names: &mut [ThorinName], count: &mut u64) -> i32
     ensures count { Fills (λ count. count) (count_in bytes.now) count.old count.new result }

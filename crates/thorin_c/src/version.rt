@@ -17,7 +17,8 @@ pub extern "C" fn thorin_version() -> u32
     10 << 8
 }
 
-/// What a status means: its text, as far as there is room in `text`. Answers how many bytes the text has.
+/// What a status means: its text, as far as there is room in `text`. Answers how many bytes the
+/// text has.
 #[unsafe(no_mangle)]
 pub extern "C" fn thorin_status_text(status: i32, text: &mut [u8]) -> usize
     ensures text { text.new ≡ written_over text.old (status_text status) }
