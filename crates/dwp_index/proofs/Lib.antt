@@ -1,5 +1,4 @@
 pub mod ColumnSteps
-pub mod EachPlace
 pub mod LookUp
 pub mod NumberLists
 pub mod Views

@@ -1,6 +1,5 @@
 pub mod Index
 pub mod IndexBytes
-pub mod Places
 pub mod Fields
 pub mod RowFields
 pub mod Used

@@ -6,9 +6,9 @@ ghost use Rattle.dwp_index.specs.Index.{row_in, column_place, contribution, rang
 ghost use Rattle.dwp_index.specs.IndexBytes.{index_of};
 
 use crate::parsing::{
-    after, after_columns, after_rows, counts_of, read_u32_at, read_u64_at, tail, version_of,
+    after, after_columns, after_rows, column_place, counts_of, read_u32_at, read_u64_at, tail,
+    version_of,
 };
-use crate::places::Places;
 use dwp_base::{Contribution, ContributionOffset, Endianness, SectionKind};
 use dwp_bytes::ReadError;
 use dwp_table::{column_of, first_place, look_up_finds_exactly, place_after};
@@ -23,7 +23,6 @@ pub struct UnitIndex<'a> {
     column_count: u32,
     unit_count: u32,
     slot_count: u32,
-    places: Places,
     // Each of these begins at its table, and goes on to the end of the index.
     signatures: &'a [u8],
     rows: &'a [u8],
@@ -50,7 +49,6 @@ pub struct Row<'a> {
     order: Endianness,
     version: u16,
     column_count: u32,
-    places: Places,
     // The first begins at the columns, the others at the row's numbers.
     columns: &'a [u8],
     offsets: &'a [u8],
@@ -82,7 +80,6 @@ impl<'a> UnitIndex<'a> {
         let rows = after(signatures, 8 * counts.slots as u64)?;
         let columns = after(rows, 4 * counts.slots as u64)?;
         let offsets = after_columns(columns, order, version, counts.columns)?;
-        let places = Places::read(columns, order, version, counts.columns);
         let sizes = after_rows(offsets, counts.columns, counts.units)?;
         after_rows(sizes, counts.columns, counts.units)?;
         Ok(UnitIndex {
@@ -91,7 +88,6 @@ impl<'a> UnitIndex<'a> {
             column_count: counts.columns,
             unit_count: counts.units,
             slot_count: counts.slots,
-            places,
             signatures,
             rows,
             columns,
@@ -177,7 +173,6 @@ impl<'a> UnitIndex<'a> {
             order: self.order,
             version: self.version,
             column_count: self.column_count,
-            places: self.places,
             columns: self.columns,
             offsets: tail(self.offsets, start),
             sizes: tail(self.sizes, start),
@@ -188,7 +183,14 @@ impl<'a> UnitIndex<'a> {
     pub fn has_column(&self, kind: SectionKind) -> bool
         ensures { result ≡ is_some (column_place self.now.version self.now.columns kind) }
     {
-        self.places.of(kind).is_some()
+        column_place(
+            self.columns,
+            self.order,
+            self.version,
+            self.column_count,
+            kind,
+        )
+        .is_some()
     }
 
     /// The signature and the row number of a slot.
@@ -210,11 +212,17 @@ impl<'a> Row<'a> {
     pub fn range(&self, kind: SectionKind) -> Option<Contribution>
         ensures { result ≡ range_in self.now kind }
     {
-        match self.places.of(kind) {
+        match column_place(
+            self.columns,
+            self.order,
+            self.version,
+            self.column_count,
+            kind,
+        ) {
             None => None,
             Some(place) => contribution(
-                read_u32_at(self.offsets, self.order, 4 * place as usize),
-                read_u32_at(self.sizes, self.order, 4 * place as usize),
+                read_u32_at(self.offsets, self.order, 4 * place),
+                read_u32_at(self.sizes, self.order, 4 * place),
             ),
         }
     }
