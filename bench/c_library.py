@@ -2,8 +2,8 @@
 """c_library.py [OBJECTS [FILES]]: tries lib/libthorin.a (what build-library leaves) beside bin/thorin (what build leaves).
 
 It compiles OBJECTS small sources (60) by gcc, clang, g++ and clang++ with split debug information, versions 4 and 5, packs
-them by samples/c/pack.c and by the program, and compares the packages; packs the packages again; looks all their units up
-by samples/c/lookup.c. All of it once plain and once with AddressSanitizer and LeakSanitizer, as the compiler CC has them
+them by samples/c/pack.c and by the program, and compares the packages; packs the packages again by both; looks all their
+units up by samples/c/lookup.c. All of it once plain and once with AddressSanitizer and LeakSanitizer, as the compiler CC has them
 (gcc). Then damaged_calls.c calls each export over FILES damaged files (5000), plain and with the sanitizers."""
 import os
 import subprocess
@@ -70,7 +70,8 @@ def try_objects(folder, pack, look_up, version, inputs):
     run(pack, ours, *inputs, stdout=subprocess.DEVNULL)
     same(f"DWARF {version}", program, ours)
     run(pack, again, ours, stdout=subprocess.DEVNULL)
-    same(f"DWARF {version}, packed again", ours, again)
+    run(ROOT / "bin/thorin", "pack", "-o", program, ours)
+    same(f"DWARF {version}, packed again", program, again)
     listed = run(look_up, ours, stdout=subprocess.PIPE).stdout.decode().splitlines()
     units = [line for line in listed if line.startswith(("cu ", "tu "))]
     expected = run(ROOT / "bin/thorin", "list", ours, stdout=subprocess.PIPE).stdout.decode().splitlines()

@@ -17,8 +17,8 @@ use std::alloc::Global;
 use thorin::DwarfPackage;
 use thorin_faults::Error;
 
-/// A package's bytes, how many type units were passed over that differ from those kept, and whether it
-/// is taken as an input again.
+/// A package's bytes, how many type units were passed over that differ from those kept, and whether
+/// it is taken as an input again.
 #[derive(Drop)]
 struct Packed {
     file: Vec<u8>,
@@ -42,13 +42,14 @@ enum Refusal {
     Package(Error),
 }
 
-/// Packs objects and packages in order, and answers 0: the package stands at the beginning of `out`, its length in
-/// `report.size`, `report.differing` says how many type units were passed over whose bytes differ from those kept, and
-/// `report.packs_again` is 1 where the package is one that is taken as an input again.
-/// Else `out` is left as it is: 10 where it is too small, and `report.size` is the length that is needed; 11 where an
-/// input is refused, the first of them `report.input`; 12 where the package can't be finished or written; 13 where memory
-/// ran out at the input `report.input`, or, at their number, while the package was finished and written. Under 11 and 12
-/// the fault's number and text stand in `report`.
+/// Packs objects and packages in order, and answers 0: the package stands at the beginning of
+/// `out`, its length in `report.size`, `report.differing` says how many type units were passed over
+/// whose bytes differ from those kept, and `report.packs_again` is 1 where the package is one that
+/// is taken as an input again. Else `out` is left as it is: 10 where it is too small, and
+/// `report.size` is the length that is needed; 11 where an input is refused, the first of them
+/// `report.input`; 12 where the package can't be finished or written; 13 where memory ran out at
+/// the input `report.input`, or, at their number, while the package was finished and written. Under
+/// 11 and 12 the fault's number and text stand in `report`.
 #[tactic(auto, using(crate::proofs::Taking::refuses, crate::proofs::Taking::unfinished, crate::proofs::Taking::runs_out_at, crate::proofs::Taking::runs_out_after))]
 #[unsafe(no_mangle)]
 pub extern "C" fn thorin_pack(
@@ -84,9 +85,10 @@ pub extern "C" fn thorin_pack(
     }
 }
 
-/// The signatures of the type units of inputs that are passed over and whose bytes differ from those of the unit that is
-/// kept: 0, as many as there is room for in `types`, in the order of passing over, and how many there are in
-/// `report.differing`. 11 and 13 as `thorin_pack`, and then `types` is left as it is.
+/// The signatures of the type units of inputs that are passed over and whose bytes differ from
+/// those of the unit that is kept: 0, as many as there is room for in `types`, in the order of
+/// passing over, and how many there are in `report.differing`. 11 and 13 as `thorin_pack`, and then
+/// `types` is left as it is.
 #[tactic(auto, using(crate::proofs::Taking::refuses, crate::proofs::Taking::differs, crate::proofs::Taking::runs_out_at))]
 #[unsafe(no_mangle)]
 pub extern "C" fn thorin_differing_types(
