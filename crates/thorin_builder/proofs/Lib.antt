@@ -1,4 +1,5 @@
 pub mod Sections
+pub mod Walking
 pub mod Growth
 pub mod PartLemmas
 pub mod Names

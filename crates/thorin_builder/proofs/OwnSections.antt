@@ -1,5 +1,5 @@
 -- A written file is opened as an input, and its sections are taken.
-use Rattle.std.proofs.Common.{◌≡◌, ◌∙◌, ℕ, ◌+◌, ◌≤◌, Bool, true, false, cond, eqb, ◌&&◌, ◌||◌, ◌⊎◌, inl, inr, ⊎_elim, List, [], ◌∷◌, ◌++◌, length, Result, Ok, Err, Some, None, refl, sym, ap, arith, true≢false}
+use Rattle.std.proofs.Common.{◌≡◌, ◌∙◌, ℕ, ◌+◌, ◌≤◌, Bool, true, false, cond, not, eqb, ◌&&◌, ◌||◌, ◌⊎◌, inl, inr, ⊎_elim, List, [], ◌∷◌, ◌++◌, length, Result, Ok, Err, Some, None, refl, sym, ap, arith, true≢false}
 use Rattle.std.specs.Prelude.{find, is_some, codes}
 use Rattle.std.specs.Str.{bytes_eq}
 use Rattle.std.proofs.lemmas.Bool.{eqb-true}
@@ -8,7 +8,7 @@ use Rattle.dwp_base.specs.declared.class.Class.{Class}
 use Rattle.dwp_base.specs.declared.section.SectionKind.{SectionKind}
 use Rattle.dwp_base.specs.declared.section.SectionKind.TheVariants.{Info, Types, Abbrev, Line, Loc, Loclists, Rnglists, StrOffsets, Macinfo, Macro, Str, CuIndex, TuIndex}
 use Rattle.dwp_base.specs.Reading.{◌>>=◌}
-use Rattle.dwp_base.specs.Sections.{name_of, compressed_name_of, kind_named, same_kind}
+use Rattle.dwp_base.specs.Sections.{name_of, compressed_name_of, is_named, kind_named, all_kinds, same_kind}
 use Rattle.dwp_elf.specs.Contents.{count_of, KindsDiffer, content_of}
 use Rattle.dwp_elf.specs.FileText.{Object as File, name_table}
 use Rattle.dwp_elf.specs.Written.{plain_section, written_sections, written_elf}
@@ -18,11 +18,13 @@ use Rattle.dwp_elf_read.specs.declared.fault.ReadError.{ReadError}
 use Rattle.dwp_elf_read.specs.declared.fault.ReadError.TheVariants.{NotElf, Compressed}
 use Rattle.dwp_elf_read.specs.declared.kind.FileKind.{FileKind}
 use Rattle.dwp_elf_read.specs.declared.kind.FileKind.TheVariants.{Archive, Elf32, Elf64}
-use Rattle.thorin_faults.specs.Fault.{Fault, ParseFileKind, ParseObjectFile, DecompressData}
+use Rattle.dwp_index.specs.Contents as contents
+use Rattle.dwp_index.specs.Contents.{is_of_kind}
+use Rattle.thorin_faults.specs.Fault.{Fault, ParseFileKind, ParseObjectFile}
 use Rattle.thorin_faults.specs.Answers.{as_fault}
 use Rattle.thorin_builder.specs.Growing.{Contents}
 use Rattle.thorin_builder.specs.OwnInput.{written_used, written_object}
-use Rattle.thorin_builder.specs.Used.{Used, elf_in, opened, used_kind, with_kind, counts_once, used_bytes, has_kind, with_used, used_from, object_of, bytes_of, first}
+use Rattle.thorin_builder.specs.Used.{Used, elf_in, opened, used_kind, counts_once, unusable, used_bytes, has_kind, with_used, used_from, object_of, bytes_of, first}
 use Rattle.thorin_builder.proofs.PartGrowth.{either}
 use Rattle.thorin_builder.proofs.Steps.{err-ok, bind-ok, bind-inv}
 
@@ -77,31 +79,30 @@ not_compressed Str = refl
 not_compressed CuIndex = refl
 not_compressed TuIndex = refl
 
-kind-some : (n : ℕ) (kind : SectionKind) (bytes : List ℕ) → eqb (length bytes) 0 ≡ false → used_kind (plain_section n 1 (name_of kind) bytes) ≡ Some (kind, name_of kind)
-unfolding used_kind
-kind-some n kind bytes some =
-    ap (λ b. cond (b || eqb 1 8) None (with_kind (name_of kind) (kind_named (name_of kind)))) some ∙ ap (with_kind (name_of kind)) (kind_name kind)
+kind-some : (n : ℕ) (kind : SectionKind) (bytes : List ℕ) → eqb (length bytes) 0 ≡ false → used_kind (plain_section n 1 (name_of kind) bytes) ≡ Some kind
+unfolding used_kind is_of_kind
+kind-some n kind bytes some = ap (λ b. find (λ k. not (b || eqb 1 8) && is_named (name_of kind) k) all_kinds) some ∙ kind_name kind
 
 kind-none : (n kind : ℕ) (name bytes : List ℕ) → eqb (length bytes) 0 ≡ true → used_kind (plain_section n kind name bytes) ≡ None
-unfolding used_kind
-kind-none n kind name bytes none = ap (λ b. cond (b || eqb kind 8) None (with_kind name (kind_named name))) none
+unfolding used_kind is_of_kind
+kind-none n kind name bytes none = ap (λ b. find (λ k. not (b || eqb kind 8) && is_named name k) all_kinds) none
 
 names-none : (n : ℕ) (bytes : List ℕ) → used_kind (plain_section n 3 (codes ".shstrtab") bytes) ≡ None
-unfolding used_kind
+unfolding used_kind is_of_kind
 names-none n bytes = ⊎_elim
-    (λ e. ap (λ b. cond (b || eqb 3 8) None (with_kind (codes ".shstrtab") (kind_named (codes ".shstrtab")))) e)
-    (λ e. ap (λ b. cond (b || eqb 3 8) None (with_kind (codes ".shstrtab") (kind_named (codes ".shstrtab")))) e)
+    (λ e. ap (λ b. find (λ k. not (b || eqb 3 8) && is_named (codes ".shstrtab") k) all_kinds) e)
+    (λ e. ap (λ b. find (λ k. not (b || eqb 3 8) && is_named (codes ".shstrtab") k) all_kinds) e)
     (either (eqb (length bytes) 0))
 
-bytes-are : (n : ℕ) (kind : SectionKind) (bytes : List ℕ) → used_bytes (plain_section n 1 (name_of kind) bytes) kind (name_of kind) ≡ Ok bytes
-unfolding used_bytes
-bytes-are n kind bytes = ap (λ b. cond {A = Result (List ℕ) Fault} b (Err (DecompressData Compressed)) (Ok bytes)) (not_compressed kind)
+bytes-are : (n : ℕ) (kind : SectionKind) (bytes : List ℕ) → used_bytes kind (plain_section n 1 (name_of kind) bytes) ≡ Ok bytes
+unfolding used_bytes contents.used_bytes
+bytes-are n kind bytes = ap (λ b. as_fault unusable (cond {A = Result (List ℕ) ReadError} b (Err Compressed) (Ok bytes))) (not_compressed kind)
 
 taken-section : (n : ℕ) (kind : SectionKind) (bytes : List ℕ) (used : List Used) → (counts_once kind && is_some (find (has_kind kind) used)) ≡ false
-    → with_used used (plain_section n 1 (name_of kind) bytes) (Some (kind, name_of kind)) ≡ Ok (used ++ record { kind = kind; bytes = bytes; address = 0 } ∷ [])
+    → with_used used (plain_section n 1 (name_of kind) bytes) (Some kind) ≡ Ok (used ++ record { kind = kind; bytes = bytes; address = 0 } ∷ [])
 taken-section n kind bytes used once =
-    ap (λ b. cond {A = Result (List Used) Fault} b (Ok used) (used_bytes (plain_section n 1 (name_of kind) bytes) kind (name_of kind) >>= λ x. Ok (used ++ record { kind = kind; bytes = x; address = 0 } ∷ []))) once
-    ∙ bind-ok (used_bytes (plain_section n 1 (name_of kind) bytes) kind (name_of kind)) bytes _ (bytes-are n kind bytes)
+    ap (λ b. cond {A = Result (List Used) Fault} b (Ok used) (used_bytes kind (plain_section n 1 (name_of kind) bytes) >>= λ x. Ok (used ++ record { kind = kind; bytes = x; address = 0 } ∷ []))) once
+    ∙ bind-ok (used_bytes kind (plain_section n 1 (name_of kind) bytes)) bytes _ (bytes-are n kind bytes)
 
 -- ---- no kind of the sections so far comes again
 

@@ -1,15 +1,9 @@
--- The sections of a file, with the file beside each or without.
-use Rattle.std.proofs.Common.{◌≡◌, Bool, List, [], ◌∷◌, map, refl, ap, Ok, Err}
-use Rattle.std.specs.List.{list_any}
+-- The sections of a file that are used.
+use Rattle.std.proofs.Common.{◌≡◌, List, [], ◌∷◌, map, refl, ap, Ok, Err}
 use Rattle.dwp_elf_read.specs.Elf.{Elf, SectionMeaning}
 use Rattle.dwp_elf_read.specs.View.{Placed, placed_sections}
 use Rattle.thorin_faults.specs.Fault.{Fault}
 use Rattle.thorin_builder.specs.Used.{Used, with_used, used_kind, used_from}
-
--- a test of each, beside its file
-pub list_any-placed : (f : SectionMeaning → Bool) (e : Elf) (ss : List SectionMeaning) → list_any (λ (p : Placed). f p.section) (placed_sections e ss) ≡ list_any f ss
-list_any-placed f e [] = refl
-list_any-placed f e (s ∷ ss) = rw (list_any-placed f e ss)
 
 -- the sections alone
 pub map-placed : (e : Elf) (ss : List SectionMeaning) → map (λ (p : Placed). p.section) (placed_sections e ss) ≡ ss

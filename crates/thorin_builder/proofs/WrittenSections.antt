@@ -1,19 +1,20 @@
 -- The sections of a written file, as an input has them.
-use Rattle.std.proofs.Common.{◌≡◌, ◌∙◌, ◌⊎◌, inl, inr, ℕ, ◌+◌, ◌≤◌, Bool, true, false, true≢false, cond, ◌&&◌, ◌||◌, List, [], ◌∷◌, ◌++◌, length, ap, sym, refl, Ok, Option, Some, None, is_some, arith, append_assoc, append-nil}
+use Rattle.std.proofs.Common.{◌≡◌, ◌∙◌, ◌⊎◌, inl, inr, ℕ, ◌+◌, ◌≤◌, Bool, true, false, true≢false, cond, not, ◌&&◌, ◌||◌, List, [], ◌∷◌, ◌++◌, length, ap, sym, refl, Ok, Some, None, is_some, arith, append_assoc, append-nil}
 use Rattle.std.specs.Prelude.{find, codes}
 use Rattle.std.specs.List.{list_any}
-use Rattle.std.specs.Option.{option_and_then}
 use Rattle.std.proofs.Math.Dec.{eqb-suc-zero}
 use Rattle.std.specs.Str.{bytes_eq}
 use Rattle.dwp_base.specs.Reading.{◌>>=◌}
-use Rattle.dwp_base.specs.Sections.{name_of, compressed_name_of, kind_named, is_named, same_kind}
+use Rattle.dwp_base.specs.Sections.{name_of, compressed_name_of, kind_named, is_named, all_kinds, same_kind}
 use Rattle.dwp_base.specs.declared.section.SectionKind.{SectionKind}
 use Rattle.dwp_base.specs.declared.section.SectionKind.TheVariants as kinds
 use Rattle.dwp_elf.specs.Contents.{count_of, KindsDiffer, content_of}
 use Rattle.dwp_elf.specs.FileText.{Object as File, name_table}
 use Rattle.dwp_elf.specs.Written.{plain_section, written_sections, written_elf}
+use Rattle.dwp_index.specs.Contents as contents
+use Rattle.dwp_index.specs.Contents.{is_of_kind}
 use Rattle.thorin_builder.specs.Growing.{Contents}
-use Rattle.thorin_builder.specs.Used.{Used, Object, is_of, has_info, with_kind, used_kind, with_used, used_from, used_bytes, counts_once, has_kind, first, object_of}
+use Rattle.thorin_builder.specs.Used.{Used, Object, is_of, has_info, used_kind, with_used, used_from, used_bytes, counts_once, has_kind, first, object_of}
 use Rattle.thorin_builder.proofs.ReadingFile.{is_same}
 use Rattle.thorin_builder.proofs.Steps.{ok-eq, bind-ok, bind-inv}
 
@@ -77,22 +78,20 @@ kind-self kinds.TuIndex = refl
 
 -- a section without bytes isn't used
 empty-kind : (number kind : ℕ) (name : List ℕ) → used_kind (plain_section number kind name []) ≡ None
-unfolding used_kind
+unfolding used_kind is_of_kind
 empty-kind number kind name = refl
 
-full-kind : (number : ℕ) (kind : SectionKind) (b : ℕ) (bs : List ℕ) → used_kind (plain_section number 1 (name_of kind) (b ∷ bs)) ≡ Some (kind, name_of kind)
-unfolding used_kind
-full-kind number kind b bs =
-    ap (λ e. cond (e || false) None (option_and_then (λ name. with_kind name (kind_named name)) (Some (name_of kind)))) (eqb-suc-zero (length bs))
-    ∙ ap (with_kind (name_of kind)) (named-itself kind)
+full-kind : (number : ℕ) (kind : SectionKind) (b : ℕ) (bs : List ℕ) → used_kind (plain_section number 1 (name_of kind) (b ∷ bs)) ≡ Some kind
+unfolding used_kind is_of_kind
+full-kind number kind b bs = ap (λ e. find (λ k. not (e || false) && is_named (name_of kind) k) all_kinds) (eqb-suc-zero (length bs)) ∙ named-itself kind
 
 foreign-kind : (number : ℕ) (names : List ℕ) → used_kind (plain_section number 3 (codes ".shstrtab") names) ≡ None
-unfolding used_kind
+unfolding used_kind is_of_kind
 foreign-kind number [] = refl
-foreign-kind number (b ∷ bs) = let none : Option (SectionKind × List ℕ) = None in ap (λ e. cond (e || false) none none) (eqb-suc-zero (length bs))
+foreign-kind number (b ∷ bs) = ap (λ e. find (λ k. not (e || false) && is_named (codes ".shstrtab") k) all_kinds) (eqb-suc-zero (length bs))
 
-full-bytes : (number : ℕ) (kind : SectionKind) (bytes : List ℕ) → used_bytes (plain_section number 1 (name_of kind) bytes) kind (name_of kind) ≡ Ok bytes
-unfolding used_bytes
+full-bytes : (number : ℕ) (kind : SectionKind) (bytes : List ℕ) → used_bytes kind (plain_section number 1 (name_of kind) bytes) ≡ Ok bytes
+unfolding used_bytes contents.used_bytes
 full-bytes number kind bytes = rw (not-compressed kind) refl
 
 -- one that has bytes is added
@@ -104,10 +103,10 @@ once-none used kind h = ap (λ o. counts_once kind && is_some o) h ∙ and-false
     and-false false = refl
 
 full-used : (used : List Used) (number : ℕ) (kind : SectionKind) (b : ℕ) (bs : List ℕ) → find (has_kind kind) used ≡ None
-    → with_used used (plain_section number 1 (name_of kind) (b ∷ bs)) (Some (kind, name_of kind)) ≡ Ok (used ++ used_of (kind, b ∷ bs) ∷ [])
+    → with_used used (plain_section number 1 (name_of kind) (b ∷ bs)) (Some kind) ≡ Ok (used ++ used_of (kind, b ∷ bs) ∷ [])
 full-used used number kind b bs h =
-    ap (λ t. cond t (Ok used) (used_bytes (plain_section number 1 (name_of kind) (b ∷ bs)) kind (name_of kind) >>= λ bytes. Ok (used ++ (record { kind = kind; bytes = bytes; address = 0 }) ∷ []))) (once-none used kind h)
-    ∙ bind-ok (used_bytes (plain_section number 1 (name_of kind) (b ∷ bs)) kind (name_of kind)) (b ∷ bs) _ (full-bytes number kind (b ∷ bs))
+    ap (λ t. cond t (Ok used) (used_bytes kind (plain_section number 1 (name_of kind) (b ∷ bs)) >>= λ bytes. Ok (used ++ (record { kind = kind; bytes = bytes; address = 0 }) ∷ []))) (once-none used kind h)
+    ∙ bind-ok (used_bytes kind (plain_section number 1 (name_of kind) (b ∷ bs))) (b ∷ bs) _ (full-bytes number kind (b ∷ bs))
 
 -- what is known of the kinds of further contents
 fresh-skip : (used : List Used) (c : SectionKind × List ℕ) (cs : Contents) → Fresh used (c ∷ cs) → Fresh used cs

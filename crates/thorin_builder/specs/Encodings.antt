@@ -15,6 +15,7 @@ use Rattle.dwp_dwarf.specs.declared.unit.UnitSection.{UnitSection}
 use Rattle.dwp_dwarf.specs.declared.unit.UnitSection.TheVariants as places
 use Rattle.thorin_parts.specs.EntryTests.{same_encoding}
 use Rattle.thorin_faults.specs.Fault.{Fault, ParseUnitHeader, NoCompilationUnits}
+use Rattle.thorin_builder.specs.Indexes.{Source}
 use Rattle.thorin_builder.specs.NewUnits.{unit_section}
 use Rattle.thorin_builder.specs.Used.{Used, Object, opened, has_info, object_of, first}
 
@@ -39,6 +40,10 @@ all_have encoding order bytes (Some place) = list_all (has_encoding encoding) (u
 
 abbrev pub section_has : Encoding → Endianness → Used → Bool
 section_has encoding order from = all_have encoding order from.bytes (unit_section from.kind)
+
+-- so has each unit of an input the input's
+abbrev pub are_alike : Source → Bool
+are_alike source = list_all (section_has source.encoding source.object.order) source.object.sections
 
 -- no section is an index
 abbrev pub is_index : Used → Bool

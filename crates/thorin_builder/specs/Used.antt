@@ -1,20 +1,21 @@
 -- Which sections of an input a package is made of, and what they hold (DWARF 5, 7.3.5; the
 -- GNU page DebugFissionDWP).
-use Rattle.std.specs.Prelude.{ℕ, List, [], ◌∷◌, ◌++◌, Bool, false, ◌&&◌, ◌||◌, ◌==◌, if◌then◌else◌, Option, Some, None, Result, Ok, Err, find, is_some}
-use Rattle.std.specs.Option.{option_and_then, ok_or, option_map_or}
+use Rattle.std.specs.Prelude.{ℕ, List, [], ◌∷◌, ◌++◌, Bool, ◌&&◌, ◌||◌, if◌then◌else◌, Option, Some, None, Result, Ok, Err, find, is_some}
 use Rattle.std.specs.List.{list_any}
-use Rattle.std.specs.Str.{bytes_eq}
 use Rattle.dwp_base.specs.declared.endian.Endianness.{Endianness}
 use Rattle.dwp_base.specs.declared.section.SectionKind.{SectionKind}
 use Rattle.dwp_base.specs.declared.section.SectionKind.TheVariants.{Info, Abbrev, Str, CuIndex, TuIndex}
 use Rattle.dwp_base.specs.Reading.{◌>>=◌}
-use Rattle.dwp_base.specs.Sections.{name_of, compressed_name_of, kind_named, is_named, same_kind}
-use Rattle.dwp_elf_read.specs.declared.fault.ReadError.TheVariants.{Compressed, SectionRange}
+use Rattle.dwp_base.specs.Sections.{name_of, all_kinds, same_kind}
+use Rattle.dwp_elf_read.specs.declared.fault.ReadError.{ReadError}
+use Rattle.dwp_elf_read.specs.declared.fault.ReadError.TheVariants.{Compressed}
 use Rattle.dwp_elf_read.specs.declared.kind.FileKind.{FileKind}
 use Rattle.dwp_elf_read.specs.declared.kind.FileKind.TheVariants.{Archive, Elf32, Elf64}
 use Rattle.dwp_elf_read.specs.Elf as elf
-use Rattle.dwp_elf_read.specs.Elf.{Elf, SectionMeaning, elf_of, SHT_NOBITS, has_compressed_flag}
+use Rattle.dwp_elf_read.specs.Elf.{Elf, SectionMeaning, elf_of}
 use Rattle.dwp_elf_read.specs.Identification as identification
+use Rattle.dwp_index.specs.Contents as contents
+use Rattle.dwp_index.specs.Contents.{has_name, is_of_kind}
 use Rattle.thorin_faults.specs.Fault.{Fault, ParseFileKind, InvalidInputKind, ParseObjectFile, DecompressData, ObjectRead}
 use Rattle.thorin_faults.specs.Answers.{as_fault}
 
@@ -38,7 +39,7 @@ opened bytes = do
 
 -- a section has one of the names of a kind
 abbrev pub is_of : SectionKind → SectionMeaning → Bool
-is_of kind section = option_map_or (λ name. is_named name kind) section.name false
+is_of kind section = has_name kind section.name
 
 -- a section of units of split objects is there, an empty one too
 abbrev pub has_info : Elf → Bool
@@ -48,40 +49,34 @@ has_info file = list_any (is_of Info) file.sections
 abbrev pub is_present : SectionKind → Elf → Bool
 is_present kind file = is_some (find (elf.is_named (name_of kind)) file.sections)
 
--- a section has no bytes
-abbrev pub is_empty : SectionMeaning → Bool
-is_empty section = section.size == 0 || section.kind == SHT_NOBITS
-
--- the name and the kind of a section that has bytes
-abbrev pub with_kind : List ℕ → Option SectionKind → Option (SectionKind × List ℕ)
-with_kind name None = None
-with_kind name (Some kind) = Some (kind, name)
-
-unfoldable pub used_kind : SectionMeaning → Option (SectionKind × List ℕ)
-used_kind section = if is_empty section then None else option_and_then (λ name. with_kind name (kind_named name)) section.name
+-- the kind of a section that has bytes
+unfoldable pub used_kind : SectionMeaning → Option SectionKind
+used_kind section = find (λ kind. is_of_kind kind section) all_kinds
 
 -- of these kinds only the first section counts
 abbrev pub counts_once : SectionKind → Bool
 counts_once kind = same_kind kind Str || same_kind kind CuIndex || same_kind kind TuIndex
 
--- the content of a section that is used; it may not be compressed
-unfoldable pub used_bytes : SectionMeaning → SectionKind → List ℕ → Result (List ℕ) Fault
-used_bytes section kind name =
-    if has_compressed_flag section || bytes_eq name (compressed_name_of kind)
-    then Err (DecompressData Compressed)
-    else as_fault ObjectRead (ok_or section.content SectionRange)
+-- a section that can't be used is compressed, or lies outside the file
+abbrev pub unusable : ReadError → Fault
+unusable Compressed = DecompressData Compressed
+unusable fault = ObjectRead fault
+
+-- the content of a section that is used
+unfoldable pub used_bytes : SectionKind → SectionMeaning → Result (List ℕ) Fault
+used_bytes kind section = as_fault unusable (contents.used_bytes kind section)
 
 -- a kind is that of a section
 abbrev pub has_kind : SectionKind → Used → Bool
 has_kind kind used = same_kind used.kind kind
 
 -- the used sections with one more, where it is used
-abbrev pub with_used : List Used → SectionMeaning → Option (SectionKind × List ℕ) → Result (List Used) Fault
+abbrev pub with_used : List Used → SectionMeaning → Option SectionKind → Result (List Used) Fault
 with_used used section None = Ok used
-with_used used section (Some k) =
-    if counts_once k.0 && is_some (find (has_kind k.0) used) then Ok used else (do
-      bytes ← used_bytes section k.0 k.1
-      Ok (used ++ (record { kind = k.0; bytes = bytes; address = section.address }) ∷ []))
+with_used used section (Some kind) =
+    if counts_once kind && is_some (find (has_kind kind) used) then Ok used else (do
+      bytes ← used_bytes kind section
+      Ok (used ++ (record { kind = kind; bytes = bytes; address = section.address }) ∷ []))
 
 -- the used sections of a file, in order, after those before
 unfoldable pub used_from : List Used → List SectionMeaning → Result (List Used) Fault

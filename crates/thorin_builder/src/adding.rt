@@ -4,13 +4,15 @@ ghost use Rattle.std.specs.Prelude.{◌≡◌, Ok, OnErr, IfOk};
 ghost use Rattle.dwp_elf_read.specs.View.{elf};
 ghost use Rattle.thorin_faults.specs.Answers.{Gives};
 ghost use Rattle.thorin_builder.specs.Builder as spec;
-ghost use Rattle.thorin_builder.specs.Encodings.{file_encoding, own_encoding};
+ghost use Rattle.thorin_builder.specs.Encodings.{file_encoding, own_encoding, are_alike};
 ghost use Rattle.thorin_builder.specs.StateView.{in_progress_of, begun_of};
+ghost use Rattle.thorin_builder.specs.Used.{object_of};
 ghost use Rattle.thorin_builder.specs.View as view;
 
 use crate::in_progress::InProgressDwarfPackage;
-use crate::object::{InputObject, has_info, opened};
+use crate::object::{InputObject, opened};
 use crate::source::{Indexes, Source};
+use crate::walk::Walked;
 use dwp_base::Endianness;
 use dwp_dwarf::Encoding;
 use dwp_elf_read::ElfFile;
@@ -51,14 +53,15 @@ fn test_order(in_progress: &Option<InProgressDwarfPackage>, order: Endianness) -
     }
 }
 
-/// Adds the units of an input to the package, which it may begin.
+/// Adds the units of an input to the package, which it may begin. Gives whether each has its encoding.
 #[tactic(auto, unfolding(crate::specs::Builder::with_source_or_new))]
 fn add_source(
     alloc: Global,
     in_progress: &mut Option<InProgressDwarfPackage>,
     file: &ElfFile<'_>,
     source: &Source<'_>,
-) -> Result<(), Error>
+) -> Result<bool, Error>
+    ensures alike { IfOk result (λ alike. alike ≡ are_alike (view.source source.now)) }
     ensures meaning { Gives (λ _. begun_of in_progress.new) result (spec.with_source_or_new (elf file.now) (view.source source.now) (begun_of in_progress.old)) }
     ensures err { OnErr result (begun_of in_progress.new ≡ begun_of in_progress.old) }
 {
@@ -66,9 +69,9 @@ fn add_source(
         Some(package) => package.add(source),
         None => {
             let mut package = begun_by(alloc, file);
-            package.add(source)?;
+            let alike = package.add(source)?;
             *in_progress = Some(package);
-            Ok(())
+            Ok(alike)
         }
     }
 }
@@ -79,12 +82,13 @@ fn add_units(
     alloc: Global,
     in_progress: &mut Option<InProgressDwarfPackage>,
     file: &ElfFile<'_>,
+    object: InputObject<'_>,
 ) -> Result<Option<Encoding>, Error>
+    requires { object_of (elf file.now) ≡ Ok (view.object object) }
     ensures own { IfOk result (λ own. file_encoding (elf file.now) ≡ Ok own) }
     ensures meaning { Gives (λ _. begun_of in_progress.new) result (spec.with_units (elf file.now) (begun_of in_progress.old)) }
     ensures err { OnErr result (begun_of in_progress.new ≡ begun_of in_progress.old) }
 {
-    let object = InputObject::read(alloc, file)?;
     let encoding = object.encoding()?;
     test_order(in_progress, object.order)?;
     let indexes = Indexes::read(&object, encoding)?;
@@ -93,16 +97,16 @@ fn add_units(
         encoding,
         indexes,
     };
-    add_source(alloc, in_progress, file, &source)?;
-    Ok(source.object.one_encoding(encoding))
+    let alike = add_source(alloc, in_progress, file, &source)?;
+    Ok(source.object.one_encoding(encoding, alike))
 }
 
-/// Adds an input: its units that aren't there, with all that belongs to them; without an info
-/// section it only begins the package. Gives the one encoding of all its units, where it is a plain
-/// object and there is one. The first fault from left to right: of the file's kind, the ELF file,
-/// the used sections, the first unit, the byte order, the indexes, the kinds of sections and the
-/// string offsets, the abbreviations, the units. An `Err` leaves the package as it was.
-#[tactic(auto, unfolding(crate::specs::Builder::with_input, crate::specs::Encodings::own_encoding))]
+/// Adds an input: its units that aren't there, with all that belongs to them; without an info section
+/// it only begins the package. Gives the one encoding of all its units, where it is a plain object and
+/// there is one. The first fault from left to right: of the file's kind, the ELF file, the used sections,
+/// the first unit, the byte order, the indexes, the kinds of sections and the string offsets, the
+/// abbreviations, the units. An `Err` leaves the package as it was.
+#[tactic(auto, unfolding(crate::specs::Builder::with_input, crate::specs::Builder::with_units, crate::specs::Encodings::own_encoding))]
 pub(crate) fn add_input(
     alloc: Global,
     in_progress: &mut Option<InProgressDwarfPackage>,
@@ -113,8 +117,10 @@ pub(crate) fn add_input(
     ensures err { OnErr result (begun_of in_progress.new ≡ begun_of in_progress.old) }
 {
     let file = opened(bytes)?;
-    if has_info(&file) {
-        return add_units(alloc, in_progress, &file);
+    let walked = Walked::over(alloc, &file);
+    if walked.with_units {
+        let object = walked.input?;
+        return add_units(alloc, in_progress, &file, object);
     }
     if in_progress.is_none() {
         *in_progress = Some(begun_by(alloc, &file));

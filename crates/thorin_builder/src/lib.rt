@@ -22,6 +22,7 @@ mod source;
 mod state;
 mod tables;
 mod units;
+mod walk;
 
 pub use again::written_packages_mean_their_units;
 pub use beside::{inputs_stand_apart, strings_stand_in_order_of_first_use};

@@ -1,14 +1,15 @@
 //! Which sections of an input are used, and what they hold.
 
-ghost use Rattle.std.specs.Prelude.{◌≡◌, [], map, find, option_map};
-ghost use Rattle.dwp_elf_read.specs.View.{elf, section as meaning};
+ghost use Rattle.std.specs.Prelude.{◌≡◌, ◌||◌, not, map, find, option_map};
+ghost use Rattle.std.specs.List.{list_any};
+ghost use Rattle.dwp_base.specs.Sections.{same_kind};
+ghost use Rattle.dwp_base.specs.declared.section.SectionKind.TheVariants as kinds;
+ghost use Rattle.dwp_elf_read.specs.View.{elf};
 ghost use Rattle.thorin_faults.specs.Answers.{Gives};
 ghost use Rattle.thorin_builder.specs.Used as spec;
-ghost use Rattle.thorin_builder.specs.View.{used, object};
 
 use dwp_base::{Endianness, SectionKind};
-use dwp_elf_read::{ElfFile, FileKind, ReadError, Section};
-use std::alloc::Global;
+use dwp_elf_read::{ElfFile, FileKind};
 use thorin_faults::Error;
 
 /// A section of an input that is used: its kind, its content, and the address in its header.
@@ -29,6 +30,9 @@ pub(crate) struct InputObject<'a> {
     pub has_strings: bool,
     /// Whether a section of abbreviations is there under its own name, an empty one too.
     pub has_abbreviations: bool,
+    /// Whether no section is an index.
+    pub plain: bool,
+    ghost no_index: { plain ≡ not (list_any (λ s. same_kind s.kind kinds.CuIndex || same_kind s.kind kinds.TuIndex) sections.items) },
 }
 
 /// The ELF file that an input is: `ParseFileKind`, `InvalidInputKind` for an archive,
@@ -43,130 +47,19 @@ pub(crate) fn opened(bytes: &[u8]) -> Result<ElfFile<'_>, Error>
     }
 }
 
-/// Whether an info section of split units is there, in either spelling, an empty one too.
-pub(crate) fn has_info(file: &ElfFile<'_>) -> bool
-    ensures { result ≡ spec.has_info (elf file.now) }
-{
-    for section in file.sections() {
-        if let Ok(name) = section.name() {
-            if SectionKind::Info.is_named(name) {
-                return true;
-            }
-        }
-    }
-    false
-}
-
-/// Whether a section of this kind is there under its own name, an empty one too.
-fn is_present(file: &ElfFile<'_>, kind: SectionKind) -> bool
-    ensures { result ≡ spec.is_present kind (elf file.now) }
-{
-    file.section_by_name(kind.name()).is_some()
-}
-
-/// The kind of a section that isn't empty, and its name.
-#[tactic(auto, unfolding(crate::specs::Used::used_kind))]
-fn used_kind<'a>(section: &Section<'a>) -> Option<(SectionKind, &'a str)>
-    ensures { option_map (λ k. (k.0, k.1.now)) result ≡ spec.used_kind (meaning section.now) }
-{
-    if section.is_empty() {
-        return None;
-    }
-    let Ok(name) = section.name() else {
-        return None;
-    };
-    match SectionKind::of_name(name) {
-        Some(kind) => Some((kind, name)),
-        None => None,
-    }
-}
-
-/// The content of a section that is used: `DecompressData` where it is compressed, `ObjectRead`
-/// where it is outside the file.
-#[tactic(auto, unfolding(crate::specs::Used::used_bytes))]
-fn used_bytes<'a>(section: &Section<'a>, kind: SectionKind, name: &str) -> Result<&'a [u8], Error>
-    ensures { Gives (λ bytes. bytes.now) result (spec.used_bytes (meaning section.now) kind name.now) }
-{
-    if section.is_compressed() || name == kind.compressed_name() {
-        return Err(Error::DecompressData(ReadError::Compressed));
-    }
-    section.data().map_err(Error::ObjectRead)
-}
-
-/// Whether only the first section of this kind counts.
-fn counts_once(kind: SectionKind) -> bool
-    ensures { result ≡ spec.counts_once kind }
-{
-    kind.is(SectionKind::Str) || kind.is(SectionKind::CuIndex) || kind.is(SectionKind::TuIndex)
-}
-
-/// The first section of a kind.
-pub(crate) fn find_in<'a>(
-    sections: &[UsedSection<'a>],
-    kind: SectionKind,
-) -> Option<UsedSection<'a>>
-    ensures { option_map used result ≡ find (spec.has_kind kind) (map used sections.now) }
-{
-    for section in sections {
-        if section.kind.is(kind) {
-            return Some(*section);
-        }
-    }
-    None
-}
-
-/// Takes a section in if it is used.
-fn take<'a>(sections: &mut Vec<UsedSection<'a>>, section: &Section<'a>) -> Result<(), Error>
-    ensures { Gives (λ _. map used sections.new.items) result (spec.with_used (map used sections.old.items) (meaning section.now) (spec.used_kind (meaning section.now))) }
-{
-    let Some((kind, name)) = used_kind(section) else {
-        return Ok(());
-    };
-    if counts_once(kind) && find_in(sections, kind).is_some() {
-        return Ok(());
-    }
-    let bytes = used_bytes(section, kind, name)?;
-    let address = section.address();
-    sections.push(UsedSection {
-        kind,
-        bytes,
-        address,
-    })?;
-    Ok(())
-}
-
-/// The used sections of a file; `DecompressData` and `ObjectRead` for the first that can't be used.
-fn used_sections<'a>(alloc: Global, file: &ElfFile<'a>) -> Result<Vec<UsedSection<'a>>, Error>
-    ensures { Gives (λ sections. map used sections.items) result (spec.used_from [] (elf file.now).sections) }
-{
-    let mut used = Vec::new(alloc);
-    for section in file.sections() {
-        take(&mut used, &section)?;
-    }
-    Ok(used)
-}
-
 impl<'a> InputObject<'a> {
-    /// The used sections of a file; `DecompressData` and `ObjectRead` for the first that can't be
-    /// used.
-    #[tactic(auto, unfolding(crate::specs::Used::object_of))]
-    pub fn read(alloc: Global, file: &ElfFile<'a>) -> Result<InputObject<'a>, Error>
-        ensures { Gives object result (spec.object_of (elf file.now)) }
-    {
-        let sections = used_sections(alloc, file)?;
-        Ok(InputObject {
-            order: file.endianness(),
-            sections,
-            has_strings: is_present(file, SectionKind::Str),
-            has_abbreviations: is_present(file, SectionKind::Abbrev),
-        })
-    }
+    ghost use Rattle.thorin_builder.specs.View.{used, object};
 
     /// The first section of a kind.
     pub fn find(&self, kind: SectionKind) -> Option<UsedSection<'a>>
         ensures { option_map used result ≡ find (spec.has_kind kind) (object self.now).sections }
     {
-        find_in(&self.sections, kind)
+        for section in &self.sections {
+            if section.kind.is(kind) {
+                return Some(*section);
+            }
+        }
+        None
     }
 
     /// The content of the first section of a kind; no bytes where there is none.

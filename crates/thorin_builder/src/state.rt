@@ -6,6 +6,7 @@ ghost use Rattle.dwp_index.specs.Package.{part_of};
 ghost use Rattle.thorin_faults.specs.Answers.{Gives};
 ghost use Rattle.thorin_strings.specs.Marks.{mark_of};
 ghost use Rattle.thorin_builder.specs.Builder.{IsFinished, indexes_test, IdentifiersFit, rows_of};
+ghost use Rattle.thorin_builder.specs.Encodings.{are_alike};
 ghost use Rattle.thorin_builder.specs.Names.{same_name, is_compilation};
 ghost use Rattle.thorin_builder.specs.Own.{has_sections};
 ghost use Rattle.thorin_builder.specs.State as spec;
@@ -147,9 +148,10 @@ impl InProgressDwarfPackage {
         }
     }
 
-    /// Adds the units of an input with all that belongs to them. An `Err` leaves the package as it
-    /// was.
-    pub(crate) fn add(&mut self, source: &Source<'_>) -> Result<(), Error>
+    /// Adds the units of an input with all that belongs to them. Gives whether each of its units, one that
+    /// was passed over too, has the input's encoding. An `Err` leaves the package as it was.
+    pub(crate) fn add(&mut self, source: &Source<'_>) -> Result<bool, Error>
+        ensures alike { IfOk result (λ alike. alike ≡ are_alike (view.source source.now)) }
         ensures meaning { Gives (λ _. in_progress_of self.new) result (spec.with_source (view.source source.now) (in_progress_of self.old)) }
         ensures err { OnErr result (in_progress_of self.new ≡ in_progress_of self.old) }
     {
@@ -163,7 +165,8 @@ impl InProgressDwarfPackage {
 
     /// The same, but an `Err` may leave more than there was.
     #[tactic(auto, unfolding(crate::specs::State::with_source, crate::specs::State::abbreviations_test))]
-    fn try_add(&mut self, source: &Source<'_>) -> Result<(), Error>
+    fn try_add(&mut self, source: &Source<'_>) -> Result<bool, Error>
+        ensures alike { IfOk result (λ alike. alike ≡ are_alike (view.source source.now)) }
         ensures meaning { Gives (λ _. in_progress_of self.new) result (spec.with_source (view.source source.now) (in_progress_of self.old)) }
         ensures extends { spec.Extends (in_progress_of self.old) (in_progress_of self.new) }
     {
@@ -182,7 +185,7 @@ impl InProgressDwarfPackage {
         put_parts(&mut self.object, &parts)?;
         self.differing.extend_from_slice(&new.differing)?;
         self.add_units(&new)?;
-        Ok(())
+        Ok(new.alike)
     }
 
     /// Adds units. It refuses for memory alone.

@@ -1,8 +1,9 @@
 //! The units that an input adds to a package, each with its row.
 
-ghost use Rattle.std.specs.Prelude.{◌≡◌, [], option_map, IfOk, IfErr};
+ghost use Rattle.std.specs.Prelude.{◌≡◌, ◌&&◌, [], option_map, Ok, Some, IfOk, IfErr, OnOk};
 ghost use Rattle.dwp_dwarf.specs.Units.{unit_of, unit_seen};
 ghost use Rattle.thorin_faults.specs.Answers.{Gives};
+ghost use Rattle.thorin_builder.specs.Encodings.{has_encoding, all_have, section_has, are_alike};
 ghost use Rattle.thorin_builder.specs.NewUnits as spec;
 ghost use Rattle.thorin_builder.specs.State.{held_units};
 ghost use Rattle.thorin_builder.specs.StateView.{in_progress_of};
@@ -15,7 +16,7 @@ use crate::rows::{Places, Whole, abbreviations_for, test_row, unit_row};
 use crate::source::Source;
 use crate::tables::Tables;
 use dwp_base::SectionKind;
-use dwp_dwarf::{ReadError, Reader, SliceReader, UnitHeader, UnitHeaders, UnitSection};
+use dwp_dwarf::{Encoding, ReadError, Reader, SliceReader, UnitHeader, UnitHeaders, UnitSection};
 use dwp_table::{Bucketable, DebugTypeSignature, DwarfObject};
 use indexmap::IndexMap;
 use std::alloc::Global;
@@ -36,6 +37,8 @@ pub(crate) struct NewUnits<'a> {
     pub units: IndexMap<DwarfObject, NewUnit<'a>>,
     /// The signatures of type units that were passed over and differ from those that are kept.
     pub differing: Vec<DebugTypeSignature>,
+    /// Whether each unit of the input, one that was passed over too, has the input's encoding.
+    pub alike: bool,
 }
 
 /// What units are added to: an input, where the whole of its sections comes to lie, and the
@@ -66,7 +69,7 @@ fn place_for(name: DwarfObject, kind: SectionKind) -> UnitSection
 }
 
 /// The kinds of section that units stand in.
-pub(crate) fn unit_section(kind: SectionKind) -> Option<UnitSection>
+fn unit_section(kind: SectionKind) -> Option<UnitSection>
     ensures { result ≡ spec.unit_section kind }
 {
     match kind {
@@ -89,6 +92,13 @@ fn test_once(adding: &Adding<'_, '_>, place: UnitSection, met: &Met<'_>) -> Resu
         UnitSection::Types if met.types => Err(Error::MultipleDebugTypesSection),
         _ => Ok(()),
     }
+}
+
+/// Whether the units so far have an encoding, and this one has it too.
+fn stay_alike<'a>(alike: bool, encoding: Encoding, header: &UnitHeader<SliceReader<'a>>) -> bool
+    ensures { result ≡ (alike && has_encoding encoding (Ok (unit_of ⟦<SliceReader<'a> as Reader>⟧.input header.now))) }
+{
+    alike && header.encoding() == encoding
 }
 
 /// The name of a unit that was read in a section.
@@ -117,11 +127,13 @@ impl<'a> NewUnits<'a> {
     /// `UnitNotInIndex`, and what the adjustor of contributions answers.
     #[tactic(auto, unfolding(crate::specs::NewUnits::new_units, crate::specs::NewUnits::with_each_section))]
     pub fn read(alloc: Global, adding: &Adding<'_, 'a>) -> Result<NewUnits<'a>, Error>
-        ensures { Gives new_of result (spec.new_units (adding_of adding.now)) }
+        ensures meaning { Gives new_of result (spec.new_units (adding_of adding.now)) }
+        ensures alike { IfOk result (λ new. new.alike ≡ are_alike (view.source adding.now.source.now)) }
     {
         let mut new = NewUnits {
             units: IndexMap::new(alloc),
             differing: Vec::new(alloc),
+            alike: true,
         };
         let mut met = Met {
             info: false,
@@ -146,6 +158,7 @@ impl<'a> NewUnits<'a> {
         requires tables { met.old.tables ≡ tables_in (view.source adding.now.source.now).object }
         ensures meaning { Gives (λ _. (met_of met.new, new_of self.new)) result (spec.with_section (adding_of adding.now) (met_of met.old, new_of self.old) (view.used section.entry)) }
         ensures tables { met.new.tables ≡ met.old.tables }
+        ensures alike { OnOk result (self.new.alike ≡ (self.old.alike && section_has adding.now.source.now.encoding adding.now.source.now.object.order (view.used section.entry))) }
     {
         match unit_section(section.kind) {
             Some(place) => self.add_section_at(alloc, adding, met, section, place),
@@ -166,6 +179,7 @@ impl<'a> NewUnits<'a> {
         requires tables { met.old.tables ≡ tables_in (view.source adding.now.source.now).object }
         ensures meaning { Gives (λ _. (met_of met.new, new_of self.new)) result (spec.with_section_at (adding_of adding.now) (view.used section.entry) place (met_of met.old, new_of self.old)) }
         ensures tables { met.new.tables ≡ met.old.tables }
+        ensures alike { OnOk result (self.new.alike ≡ (self.old.alike && all_have adding.now.source.now.encoding adding.now.source.now.object.order section.entry.bytes.now (Some place))) }
     {
         test_once(adding, place, met)?;
         match place {
@@ -195,10 +209,14 @@ impl<'a> NewUnits<'a> {
         requires tables { tables.old ≡ tables_in (view.source adding.now.source.now).object }
         ensures meaning { Gives (λ _. new_of self.new) result (spec.with_read (adding_of adding.now) (view.used section.entry) (new_of self.old) (unit_seen ⟦<SliceReader<'a> as Reader>⟧.input read.entry)) }
         ensures tables { tables.new ≡ tables.old }
+        ensures alike { OnOk result (self.new.alike ≡ (self.old.alike && has_encoding adding.now.source.now.encoding (unit_seen ⟦<SliceReader<'a> as Reader>⟧.input read.entry))) }
     {
         let header = read.map_err(Error::ParseUnitHeader)?;
+        let alike = stay_alike(self.alike, adding.source.encoding, &header);
         let name = name_for(adding.source, places, tables, section.kind, &header)?;
-        self.add_unit(adding, places, section, name, &header)
+        self.add_unit(adding, places, section, name, &header)?;
+        self.alike = alike;
+        Ok(())
     }
 
     /// The bytes that are kept for a name: those of a unit that is added, else those that the
