@@ -23,6 +23,7 @@ use Rattle.thorin_builder.specs.Growing.{Contents}
 use Rattle.thorin_builder.specs.Indexes.{Indexes, Source, is_package, indexes_of}
 use Rattle.thorin_builder.specs.NewUnits.{New, new_units}
 use Rattle.thorin_builder.specs.Own.{has_content, has_sections, packs_again}
+use Rattle.thorin_builder.specs.OwnAccepted.{IsAcceptedOnceWritten}
 use Rattle.thorin_builder.specs.OwnInput.{written_used, written_object, IsOwn, TakesUpToParts}
 use Rattle.thorin_builder.specs.OwnRefusals.{IsStringOffset, UnlessStringOffset, IsForeseen, UnlessForeseen}
 use Rattle.thorin_builder.specs.OwnUnits.{AllOf, HoldsOwn}
@@ -249,13 +250,12 @@ own-there None b h = absurd (true≢false (sym h))
 own-there (Some encoding) b h = (encoding, refl, h)
 
 pub own-all : NamesTheSameLaw → PackagedLaw → UnitsAreTaken → FirstLaw → FindLaw → IndexIsRead → IndexHasEntries → SomeIndex → NoIndex → (state : State) (file : File)
-    → IsSoundBegun state.begun → HoldsOwn state → HoldsPlain state → packs_again state ≡ true → finish_test state ≡ Ok tt → IsFinishedState state file → KindsDiffer file.contents → elf_of (file_text file) ≡ Ok (written_elf file)
-    → (before : State) → IsSoundBegun before.begun → order_of before.begun file.order ≡ file.order → UnlessForeseen (taken (file_text file) before)
-own-all names law reads first_law find_law is_read has_entries some_index none_index state file sound holds holds_plain packs tested f differ back before fine same =
+    → IsSoundBegun state.begun → HoldsOwn state → HoldsPlain state → finish_test state ≡ Ok tt → IsFinishedState state file → IsAcceptedOnceWritten state file
+own-all names law reads first_law find_law is_read has_entries some_index none_index state file sound holds holds_plain tested f packs differ back before fine same =
     let there = own-there state.own (has_sections state.begun) packs in
     let encoding = there.0 in
     let made = f.made in
-    let plain = holds_plain encoding made there.1 f.begun in
+    let plain = holds_plain.made encoding made there.1 f.begun in
     let is_sound : IsSound made = subst IsSoundBegun f.begun sound in
     let sections : has_sections (Some made) ≡ true = ap has_sections (sym f.begun) ∙ there.2 in
     ⊎_elim

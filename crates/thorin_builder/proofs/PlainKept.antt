@@ -40,8 +40,10 @@ step-plain names reads alone old new encoding s sound before = record {
 }
 
 pub taken-plain : NamesTheSameLaw → UnitsAreTaken → ReadAlone → (bytes : List ℕ) (old new : State) → IsSoundBegun old.begun → HoldsPlain old → taken bytes old ≡ Ok new → HoldsPlain new
-taken-plain names reads alone bytes old new sound holds h encoding made own begun =
-    let s = plain-step bytes old new encoding h own in
-    let before_sound = kept-so IsSound old new encoding s empty-sound (λ m o b. subst IsSoundBegun b sound) in
-    let before = kept-so (IsPlain encoding) old new encoding s (new-plain encoding) (holds encoding) in
-    subst (IsPlain encoding) (same_Some s.now made (sym s.begun ∙ begun)) (step-plain names reads alone old new encoding s before_sound before)
+taken-plain names reads alone bytes old new sound holds h = record {
+  made = λ encoding made own begun.
+      let s = plain-step bytes old new encoding h own in
+      let before_sound = kept-so IsSound old new encoding s empty-sound (λ m o b. subst IsSoundBegun b sound) in
+      let before = kept-so (IsPlain encoding) old new encoding s (new-plain encoding) (holds.made encoding) in
+      subst (IsPlain encoding) (same_Some s.now made (sym s.begun ∙ begun)) (step-plain names reads alone old new encoding s before_sound before);
+}

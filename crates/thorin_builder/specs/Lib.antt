@@ -29,3 +29,4 @@ pub mod OwnInput
 pub mod Taking
 pub mod Plain
 pub mod OwnRefusals
+pub mod OwnAccepted

@@ -79,5 +79,5 @@ pub record IsPlain (encoding : Encoding) (made : InProgress) : Type 0 where
   pub filled : AllFilled made.file.contents
 
 -- so is a builder's package, where its inputs have one encoding
-abbrev pub HoldsPlain : State → Type 0
-HoldsPlain state = (encoding : Encoding) (made : InProgress) → state.own ≡ Some encoding → state.begun ≡ Some made → IsPlain encoding made
+pub record HoldsPlain (state : State) : Type 0 where
+  pub made : (encoding : Encoding) (made : InProgress) → state.own ≡ Some encoding → state.begun ≡ Some made → IsPlain encoding made

@@ -23,6 +23,7 @@ use crate::joins::inputs_are_joined;
 use crate::laws::finished_packages_are_read;
 use crate::missing::MissingTargets;
 use crate::own::one_encoding_is_kept;
+use crate::plain::plain_packages_are_kept;
 use crate::reader::InputReader;
 use dwp_bytes::RelocationEntry;
 use dwp_dwarf::Encoding;
@@ -60,12 +61,13 @@ impl<'output, 'session: 'output, Sess: Session<RelocationEntry>> Model
     ghost use Rattle.thorin_builder.specs.BuilderView.{building};
     ghost use Rattle.std.specs.Prelude.{◌≡◌, []};
     ghost use Rattle.thorin_builder.specs.OwnUnits.{HoldsOwn};
+    ghost use Rattle.thorin_builder.specs.Plain.{HoldsPlain};
     ghost use Rattle.thorin_builder.specs.Represents.{IsSoundBegun};
     ghost use Rattle.thorin_builder.specs.StateView.{begun_of};
 
     ghost view = { building };
 
-    ghost invariant = { λ p. (p.no_units.keys ≡ []) × IsSoundBegun (begun_of p.in_progress) × HoldsOwn (building p).state };
+    ghost invariant = { λ p. (p.no_units.keys ≡ []) × IsSoundBegun (begun_of p.in_progress) × HoldsOwn (building p).state × HoldsPlain (building p).state };
 }
 
 impl<'output, 'session: 'output, Sess: Session<RelocationEntry>> fmt::Debug
@@ -162,6 +164,7 @@ impl<'output, 'session: 'output, Sess: Session<RelocationEntry>> DwarfPackage<
         let units = unit_count(&self.in_progress);
         inputs_are_joined();
         one_encoding_is_kept();
+        plain_packages_are_kept();
         let encoding = add_input(self.alloc, &mut self.in_progress, bytes)?;
         self.own = if unit_count(&self.in_progress) <= units {
             None

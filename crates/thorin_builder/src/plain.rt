@@ -1,17 +1,15 @@
 //! Packages of plain objects of one encoding, as laws.
 
-ghost use Rattle.std.specs.Prelude.{◌≡◌, ℕ, List, Some, Ok, true};
+ghost use Rattle.std.specs.Prelude.{◌≡◌, ℕ, List, Some, Ok};
 ghost use Rattle.dwp_base.specs.declared.section.SectionKind.TheVariants.{StrOffsets};
 ghost use Rattle.dwp_bytes.specs.declared.encoding.Encoding.{Encoding};
-ghost use Rattle.dwp_elf.specs.Contents.{KindsDiffer, content_of};
-ghost use Rattle.dwp_elf.specs.FileText.{Object, file_text};
-ghost use Rattle.dwp_elf.specs.Written.{written_elf};
-ghost use Rattle.dwp_elf_read.specs.Elf.{elf_of};
+ghost use Rattle.dwp_elf.specs.Contents.{content_of};
+ghost use Rattle.dwp_elf.specs.FileText.{Object};
 ghost use Rattle.thorin_strings.specs.Strings.{IsTable};
-ghost use Rattle.thorin_builder.specs.Builder.{State, IsFinishedState, finish_test, order_of, taken};
+ghost use Rattle.thorin_builder.specs.Builder.{State, IsFinishedState, finish_test, taken};
 ghost use Rattle.thorin_builder.specs.Growing.{Contents};
 ghost use Rattle.thorin_builder.specs.Indexes.{Indexes, indexes_of};
-ghost use Rattle.thorin_builder.specs.Own.{packs_again};
+ghost use Rattle.thorin_builder.specs.OwnAccepted.{IsAcceptedOnceWritten};
 ghost use Rattle.thorin_builder.specs.OwnInput.{written_object, IsOwn};
 ghost use Rattle.thorin_builder.specs.NewUnits.{new_units};
 ghost use Rattle.thorin_builder.specs.OwnRefusals.{UnlessForeseen, UnlessStringOffset};
@@ -83,11 +81,12 @@ pub fn own_units_are_taken()
 /// does nothing.
 pub fn own_packages_are_accepted()
     ensures { (state : State) (file : Object)
-        → IsSoundBegun state.begun → HoldsOwn state → HoldsPlain state → packs_again state ≡ true
-        → finish_test state ≡ Ok tt → IsFinishedState state file
-        → KindsDiffer file.contents → elf_of (file_text file) ≡ Ok (written_elf file)
-        → (before : State) → IsSoundBegun before.begun → order_of before.begun file.order ≡ file.order
-        → UnlessForeseen (taken (file_text file) before) }
+        → IsSoundBegun state.begun
+        → HoldsOwn state
+        → HoldsPlain state
+        → finish_test state ≡ Ok tt
+        → IsFinishedState state file
+        → IsAcceptedOnceWritten state file }
 {
     rewritten_offsets_name_the_same();
     packaged_rows_are_read_alike();

@@ -1,8 +1,12 @@
-use Rattle.std.proofs.Common.{◌≡◌, ◌∙◌, Bool, true, false, not, ap, sym, refl, rules, Ok, Option, Some, None}
+use Rattle.std.proofs.Common.{◌≡◌, ◌∙◌, List, [], Bool, true, false, not, ap, sym, subst, refl, rules, Ok, Option, Some, None}
 use Rattle.std.specs.Prelude.{is_none, is_some}
 use Rattle.thorin_builder.specs.declared.in_progress.InProgressDwarfPackage.{InProgressDwarfPackage}
 use Rattle.thorin_builder.specs.Builder.{State, with_input, own_after}
 use Rattle.thorin_builder.specs.Encodings.{own_encoding}
+use Rattle.thorin_builder.specs.OwnUnits.{HoldsOwn}
+use Rattle.thorin_builder.specs.Plain.{HoldsPlain}
+use Rattle.thorin_builder.specs.Represents.{IsSoundBegun}
+use Rattle.thorin_builder.specs.State.{InProgress}
 use Rattle.thorin_builder.specs.StateView.{begun_of}
 use Rattle.thorin_builder.proofs.OwnEncodings.{taken-as, after-none, after-first, after-more}
 use Rattle.thorin_builder.proofs.package.DwarfPackage.add_object_bytes.Goals.{then-unit_count-units, else-unit_count-units+then-is_first, else-unit_count-units+else-is_first}
@@ -18,6 +22,15 @@ twice-not false = refl
 
 none-is : (p : Option InProgressDwarfPackage) (b : Bool) → is_some p ≡ not b → is_none (begun_of p) ≡ b
 none-is p b h = none-begun p ∙ ap not h ∙ twice-not b
+
+-- a refused object leaves it so
+pub invariant_of-self : goal.invariant_of-self
+invariant_of-self g c =
+    let same : begun_of c.add_input.new.in_progress ≡ begun_of c.self.inside.in_progress = search (rules, c.in_err-encoding.ensures.err) in
+    let kept : Option InProgress → Type 0 = λ begun.
+    (c.self.inside.no_units.keys ≡ []) × IsSoundBegun begun × HoldsOwn (record { begun = begun; targets = c.self.inside.targets.keys; own = c.self.inside.own })
+    × HoldsPlain (record { begun = begun; targets = c.self.inside.targets.keys; own = c.self.inside.own }) in
+    subst kept (sym same) c.self.invariant
 
 pub invariant_of-self-2 : goal.invariant_of-self-2
 invariant_of-self-2 g c =
@@ -41,5 +54,7 @@ invariant_of-self-2 g c =
       c.self.invariant.0,
       c.inputs_are_joined.ensures.sound c.args.bytes.now old.begun now c.self.invariant.1 made,
       c.one_encoding_is_kept.ensures c.args.bytes.now old (record old { begun = now; own = c.if-unit_count-units.self }) c.self.invariant.1 c.self.invariant.2
+          (taken-as c.args.bytes.now old now found c.if-unit_count-units.self made encoding own),
+      c.plain_packages_are_kept.ensures c.args.bytes.now old (record old { begun = now; own = c.if-unit_count-units.self }) c.self.invariant.1 c.self.invariant.3
           (taken-as c.args.bytes.now old now found c.if-unit_count-units.self made encoding own),
     )
