@@ -32,9 +32,12 @@ all_meant units = map {B = DwarfObject × Option Meaning} (λ unit. (unit.0, Som
 -- bytes that a builder takes mean just these units, each once, in some order
 abbrev pub MeansWhereTaken : Members → List ℕ → Type 0
 MeansWhereTaken units bytes = (before after : State) → taken bytes before ≡ Ok after
-    → (meant : List (DwarfObject × Option Meaning)) → input_meaning bytes ≡ Ok meant → IsPermutation (all_meant units) meant
+    → (meant : List (DwarfObject × Option Meaning)) → input_meaning bytes ≡ Ok meant
+    → IsPermutation (all_meant units) meant
 
 -- so does the file of these contents, once it is written and read back as an ELF file, as `write`
 -- says, if each unit has the encoding of its first
 abbrev pub MeansOnceWritten : Members → File → Type 0
-MeansOnceWritten units file = KindsDiffer file.contents → elf_of (file_text file) ≡ Ok (written_elf file) → HaveEncodingOf (file_text file) units → MeansWhereTaken units (file_text file)
+MeansOnceWritten units file =
+    KindsDiffer file.contents → elf_of (file_text file) ≡ Ok (written_elf file)
+    → HaveEncodingOf (file_text file) units → MeansWhereTaken units (file_text file)

@@ -1,6 +1,8 @@
 -- What each input does to a package that is made, and what is written of it (DWARF 5, 7.3.5; the
 -- GNU page DebugFissionDWP).
-use Rattle.std.specs.Prelude.{◌≡◌, ℕ, ◌<◌, ◌^◌, Bool, true, false, not, List, [], ◌∷◌, Option, Some, None, Result, Ok, Err, unwrap_or, filter, find, length, nat_lt, if◌then◌else◌}
+use Rattle.std.specs.Prelude.{◌≡◌, ℕ, ◌<◌, ◌^◌, Bool, true, false, not, List, [], ◌∷◌, Option, Some}
+use Rattle.std.specs.Prelude.{None, Result, Ok, Err, unwrap_or, filter, find, length, nat_lt}
+use Rattle.std.specs.Prelude.{if◌then◌else◌}
 use Rattle.std.specs.List.{list_any}
 use Rattle.std.specs.Option.{ok_or}
 use Rattle.dwp_base.specs.declared.endian.Endianness.{Endianness}
@@ -16,7 +18,8 @@ use Rattle.thorin_strings.specs.Strings.{data_of}
 use Rattle.thorin_parts.specs.declared.entry.IndexEntry.{IndexEntry}
 use Rattle.thorin_parts.specs.EntryTests.{index_tests}
 use Rattle.thorin_parts.specs.IndexText.{IsIndexOf}
-use Rattle.thorin_faults.specs.Fault.{Fault, MixedInputEncodings, MissingReferencedUnit, NoOutputObjectCreated}
+use Rattle.thorin_faults.specs.Fault.{Fault, MixedInputEncodings, MissingReferencedUnit}
+use Rattle.thorin_faults.specs.Fault.{NoOutputObjectCreated}
 use Rattle.thorin_builder.specs.Encodings.{encoding_of, own_encoding, common}
 use Rattle.thorin_builder.specs.Growing.{with_bytes}
 use Rattle.thorin_builder.specs.Indexes.{Source, indexes_of}
@@ -54,10 +57,12 @@ order_of None order = order
 order_of (Some made) order = made.file.order
 
 unfoldable pub order_test : Endianness → Option InProgress → Result (Unit {0}) Fault
-order_test order begun = if same_order (order_of begun order) order then Ok tt else Err MixedInputEncodings
+order_test order begun =
+    if same_order (order_of begun order) order then Ok tt else Err MixedInputEncodings
 
 -- the package with the units of an input, which it may begin
-unfoldable pub with_source_or_new : Elf → Source → Option InProgress → Result (Option InProgress) Fault
+unfoldable pub with_source_or_new : Elf → Source → Option InProgress
+    → Result (Option InProgress) Fault
 with_source_or_new file source begun = do
   made ← with_source source (package_or_new file begun)
   Ok (Some made)
@@ -99,7 +104,8 @@ with_own (Some made) own encoding = common own encoding
 -- an object that added no unit leaves none
 abbrev pub own_after : State → Option InProgress → Option Encoding → Option Encoding
 own_after state begun encoding =
-    if nat_lt (length (names_in state.begun)) (length (names_in begun)) then with_own state.begun state.own encoding else None
+    if nat_lt (length (names_in state.begun)) (length (names_in begun))
+    then with_own state.begun state.own encoding else None
 
 -- the state once an object was taken
 unfoldable pub taken : List ℕ → State → Result State Fault
@@ -158,7 +164,8 @@ pub record IsFinished (made : InProgress) (file : File) : Type 0 where
   pub compilations : IsIndexOf made.file.order (compilations made.rows) compilation_index
   pub types : IsIndexOf made.file.order (type_units made.rows) type_index
   pub contents : file ≡ record made.file {
-    contents = with_bytes TuIndex type_index (with_bytes CuIndex compilation_index (with_bytes Str (data_of made.strings) made.file.contents));
+    contents = with_bytes TuIndex type_index (with_bytes CuIndex compilation_index
+        (with_bytes Str (data_of made.strings) made.file.contents));
   }
 
 -- the package of a state, finished

@@ -4,4 +4,7 @@ use Rattle.thorin_builder.specs.Building.{Building}
 use Rattle.thorin_builder.specs.StateView.{begun_of}
 
 abbrev pub building : {Sess : Type 0} → Inside Sess → Building Sess
-building p = record { session = p.session.now; state = record { begun = begun_of p.in_progress; targets = p.targets.keys; own = p.own } }
+building p = record {
+  session = p.session.now;
+  state = record { begun = begun_of p.in_progress; targets = p.targets.keys; own = p.own };
+}

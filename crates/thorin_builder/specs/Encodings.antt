@@ -1,6 +1,7 @@
 -- The encoding of an input: that of its first unit; and the one encoding of all units, where there
 -- is one (DWARF 5, 7.5.1).
-use Rattle.std.specs.Prelude.{ℕ, Bool, true, false, not, ◌&&◌, ◌||◌, List, [], ◌∷◌, Option, Some, None, Result, Ok, Err, if◌then◌else◌}
+use Rattle.std.specs.Prelude.{ℕ, Bool, true, false, not, ◌&&◌, ◌||◌, List, [], ◌∷◌, Option, Some}
+use Rattle.std.specs.Prelude.{None, Result, Ok, Err, if◌then◌else◌}
 use Rattle.std.specs.List.{list_all, list_any}
 use Rattle.dwp_base.specs.declared.endian.Endianness.{Endianness}
 use Rattle.dwp_base.specs.declared.section.SectionKind.TheVariants.{Info, CuIndex, TuIndex}
@@ -26,7 +27,8 @@ first_encoding (Ok unit ∷ others) = Ok unit.encoding
 first_encoding (Err e ∷ others) = Err (ParseUnitHeader e)
 
 unfoldable pub encoding_of : Object → Result Encoding Fault
-encoding_of object = first_encoding (units places.Info (section object.order (first Info object.sections)))
+encoding_of object =
+    first_encoding (units places.Info (section object.order (first Info object.sections)))
 
 -- a unit that was read has this encoding
 abbrev pub has_encoding : Encoding → Result Unit ReadError → Bool
@@ -36,7 +38,8 @@ has_encoding encoding (Err e) = false
 -- so has each unit of a section, where units stand in it
 abbrev pub all_have : Encoding → Endianness → List ℕ → Option UnitSection → Bool
 all_have encoding order bytes None = true
-all_have encoding order bytes (Some place) = list_all (has_encoding encoding) (units place (section order bytes))
+all_have encoding order bytes (Some place) =
+    list_all (has_encoding encoding) (units place (section order bytes))
 
 abbrev pub section_has : Encoding → Endianness → Used → Bool
 section_has encoding order from = all_have encoding order from.bytes (unit_section from.kind)
@@ -56,7 +59,8 @@ is_plain sections = not (list_any is_index sections)
 -- is one
 abbrev pub one_encoding : Object → Encoding → Option Encoding
 one_encoding object encoding =
-    if is_plain object.sections && list_all (section_has encoding object.order) object.sections then Some encoding else None
+    if is_plain object.sections && list_all (section_has encoding object.order) object.sections
+    then Some encoding else None
 
 unfoldable pub file_encoding : Elf → Result (Option Encoding) Fault
 file_encoding file = do

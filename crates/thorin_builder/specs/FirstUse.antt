@@ -1,6 +1,7 @@
 -- The strings of a package: those that the string offsets of its inputs name, each once, in order
 -- of first use (DWARF 5, 7.26).
-use Rattle.std.specs.Prelude.{◌≡◌, ◌≢◌, AllPairs, ℕ, List, [], ◌∷◌, ◌++◌, Option, Some, None, Result, Ok, if◌then◌else◌}
+use Rattle.std.specs.Prelude.{◌≡◌, ◌≢◌, AllPairs, ℕ, List, [], ◌∷◌, ◌++◌, Option, Some, None}
+use Rattle.std.specs.Prelude.{Result, Ok, if◌then◌else◌}
 use Rattle.std.specs.Result.{result_unwrap_or}
 use Rattle.dwp_base.specs.declared.endian.Endianness.{Endianness}
 use Rattle.dwp_base.specs.declared.section.Contribution.{Contribution}
@@ -26,25 +27,29 @@ with_strings strings (string ∷ used) = with_strings (with_string strings strin
 
 -- the strings that a range of string offsets names, in order
 abbrev pub named_by : Source → List ℕ → List (List ℕ)
-named_by source range = result_unwrap_or (strings_of source.object.order source.encoding (first Str source.object.sections) range) []
+named_by source range = result_unwrap_or
+    (strings_of source.object.order source.encoding (first Str source.object.sections) range) []
 
 -- the same for each of these ranges of a section
 abbrev pub named_by_ranges : Source → List ℕ → List Contribution → List (List ℕ)
 named_by_ranges source bytes [] = []
-named_by_ranges source bytes (range ∷ ranges) = named_by source (range_bytes bytes range) ++ named_by_ranges source bytes ranges
+named_by_ranges source bytes (range ∷ ranges) =
+    named_by source (range_bytes bytes range) ++ named_by_ranges source bytes ranges
 
 -- the strings that a section of string offsets names: of a package range by range
 abbrev pub named_by_section : Source → List ℕ → List (List ℕ)
 named_by_section source bytes =
     if is_package source.indexes
-    then named_by_ranges source bytes (offset_ranges source.indexes.compilations source.indexes.types)
+    then named_by_ranges source bytes
+    (offset_ranges source.indexes.compilations source.indexes.types)
     else named_by source bytes
 
 -- those that an input names, section by section in file order
 abbrev pub named_in : Source → List Used → List (List ℕ)
 named_in source [] = []
 named_in source (section ∷ sections) =
-    (if same_kind section.kind StrOffsets then named_by_section source section.bytes else []) ++ named_in source sections
+    (if same_kind section.kind StrOffsets then named_by_section source section.bytes else [])
+    ++ named_in source sections
 
 -- the strings of a package, where an input has begun one
 abbrev pub strings_begun : Option InProgress → List (List ℕ)
@@ -66,7 +71,8 @@ used_by bytes = do
 
 -- the strings before come first, and those that an input names follow, each once, in order of first
 -- use
-pub record UsesStrings (bytes : List ℕ) (before : Option InProgress) (now : InProgress) : Type 0 where
+pub record UsesStrings (bytes : List ℕ) (before : Option InProgress)
+    (now : InProgress) : Type 0 where
   pub used : List (List ℕ)
   pub named : used_by bytes ≡ Ok used
   pub strings : now.strings ≡ with_strings (strings_begun before) used

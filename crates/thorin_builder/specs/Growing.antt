@@ -1,5 +1,6 @@
 -- The contents of a package while it is made, and how they grow.
-use Rattle.std.specs.Prelude.{◌≡◌, ℕ, List, [], ◌∷◌, ◌++◌, map, length, Option, Some, None, ◌==◌, if◌then◌else◌}
+use Rattle.std.specs.Prelude.{◌≡◌, ℕ, List, [], ◌∷◌, ◌++◌, map, length, Option, Some, None, ◌==◌}
+use Rattle.std.specs.Prelude.{if◌then◌else◌}
 use Rattle.dwp_base.specs.declared.section.SectionKind.{SectionKind}
 use Rattle.dwp_base.specs.declared.section.Contribution.{Contribution}
 use Rattle.dwp_base.specs.Sections.{same_kind}
@@ -12,7 +13,8 @@ Contents = List (SectionKind × List ℕ)
 
 -- the contents once bytes were added to a section's; no bytes make no section
 abbrev pub with_bytes : SectionKind → List ℕ → Contents → Contents
-with_bytes kind bytes contents = if length bytes == 0 then contents else appended kind bytes contents
+with_bytes kind bytes contents =
+    if length bytes == 0 then contents else appended kind bytes contents
 
 -- the range of so many bytes behind a section's content; none of no bytes
 abbrev pub range_behind : SectionKind → ℕ → Contents → Option Contribution
@@ -32,7 +34,8 @@ with_parts (part ∷ parts) contents = with_parts parts (with_bytes part.0 part.
 -- what parts add to the section of a kind, joined in their order
 abbrev pub joined_parts : SectionKind → Contents → List ℕ
 joined_parts kind [] = []
-joined_parts kind (part ∷ parts) = if same_kind part.0 kind then part.1 ++ joined_parts kind parts else joined_parts kind parts
+joined_parts kind (part ∷ parts) =
+    if same_kind part.0 kind then part.1 ++ joined_parts kind parts else joined_parts kind parts
 
 -- a list has another at its front
 pub record HasFront (front whole : List ℕ) : Type 0 where

@@ -1,6 +1,7 @@
 -- The indexes of an input: a finished package has at least one, a plain object none (DWARF 5,
 -- 7.3.5.3; the GNU page DebugFissionDWP).
-use Rattle.std.specs.Prelude.{ℕ, Bool, ◌||◌, ◌==◌, List, length, Option, Some, None, Result, Ok, Err, is_some, if◌then◌else◌}
+use Rattle.std.specs.Prelude.{ℕ, Bool, ◌||◌, ◌==◌, List, length, Option, Some, None, Result, Ok}
+use Rattle.std.specs.Prelude.{Err, is_some, if◌then◌else◌}
 use Rattle.dwp_base.specs.declared.endian.Endianness.{Endianness}
 use Rattle.dwp_base.specs.declared.section.SectionKind.{SectionKind}
 use Rattle.dwp_base.specs.declared.section.SectionKind.TheVariants.{CuIndex, TuIndex}
@@ -36,14 +37,16 @@ is_package indexes = is_some indexes.compilations || is_some indexes.types
 unfoldable pub index_in : Endianness → SectionKind → List ℕ → Result (Option Index) Fault
 index_in order kind bytes =
     if length bytes == 0 then Ok None
-    else (as_fault (λ e. ParseIndex e (name_of kind)) (index_of order bytes) >>= λ index. Ok (Some index))
+    else (as_fault (λ e. ParseIndex e (name_of kind)) (index_of order bytes) >>=
+    λ index. Ok (Some index))
 
 -- an index has a version that goes with the input's encoding
 abbrev pub version_test : Encoding → SectionKind → Option Index → Result (Unit {0}) Fault
 version_test encoding kind None = Ok tt
 version_test encoding kind (Some index) =
     if is_compatible encoding.version index.version then Ok tt
-    else Err (IncompatibleIndexVersion (name_of kind) (index_version_of encoding.version) index.version)
+    else Err
+    (IncompatibleIndexVersion (name_of kind) (index_version_of encoding.version) index.version)
 
 -- the indexes of an input; both are read before either's version is tested
 unfoldable pub indexes_of : Object → Encoding → Result Indexes Fault

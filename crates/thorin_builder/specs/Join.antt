@@ -1,6 +1,8 @@
 -- A list of inputs as the join of what they mean: the first accepted unit of a name stays. And a
 -- package that means it.
-use Rattle.std.specs.Prelude.{◌≡◌, ℕ, zero, suc, ◌+◌, ◌≤◌, Bool, true, false, List, [], ◌∷◌, ◌++◌, not, map, length, filter, slice_get, Option, Some, None, Ok, IsPermutation, MatchOption}
+use Rattle.std.specs.Prelude.{◌≡◌, ℕ, zero, suc, ◌+◌, ◌≤◌, Bool, true, false, List, [], ◌∷◌, ◌++◌}
+use Rattle.std.specs.Prelude.{not, map, length, filter, slice_get, Option, Some, None, Ok}
+use Rattle.std.specs.Prelude.{IsPermutation, MatchOption}
 use Rattle.std.specs.Map.{lookup}
 use Rattle.dwp_base.specs.declared.section.SectionKind.{SectionKind}
 use Rattle.dwp_base.specs.declared.section.SectionKind.TheVariants.{StrOffsets}
@@ -16,7 +18,8 @@ use Rattle.dwp_index.specs.Naming.{entries_of}
 use Rattle.dwp_table.specs.Objects.{identifier_of}
 use Rattle.dwp_table.specs.declared.object.DwarfObject.{DwarfObject}
 use Rattle.dwp_table.specs.declared.object.DwarfObject.TheVariants.{Compilation, TypeUnit}
-use Rattle.thorin_builder.specs.Meaning.{Meaning, Members, piece, keys, input_meaning, joining, can_join}
+use Rattle.thorin_builder.specs.Meaning.{Meaning, Members, piece, keys, input_meaning, joining}
+use Rattle.thorin_builder.specs.Meaning.{can_join}
 use Rattle.thorin_builder.specs.Names.{same_name, is_compilation}
 use Rattle.thorin_builder.specs.Parts.{is_copied}
 
@@ -27,24 +30,29 @@ pub record Joins (bytes : List ℕ) (before now : Members) : Type 0 where
   pub meaning : input_meaning bytes ≡ Ok units
   pub defined : can_join (keys before) units ≡ true
   pub added : Members
-  pub joined : joining (keys before) units ≡ map {B = DwarfObject × Option Meaning} (λ u. (u.0, Some u.1)) added
+  pub joined : joining (keys before) units
+      ≡ map {B = DwarfObject × Option Meaning} (λ u. (u.0, Some u.1)) added
   pub is : now ≡ before ++ added
 
 -- each of some inputs, in order
 abbrev pub JoinAll : List (List ℕ) → (before now : Members) → Type 0
 JoinAll [] before now = now ≡ before
-JoinAll (bytes ∷ rest) before now = (middle : Members) × Joins bytes before middle × JoinAll rest middle now
+JoinAll (bytes ∷ rest) before now =
+    (middle : Members) × Joins bytes before middle × JoinAll rest middle now
 
 -- a unit of a package file is a unit with all that belongs to it; its strings too, where it has its
 -- input's encoding
 pub record IsUnit (found : index.FoundUnit) (unit : Meaning) : Type 0 where
   pub bytes : found.bytes ≡ unit.bytes
-  pub content : (kind : SectionKind) → is_copied kind ≡ true → row_bytes found.contents found.row kind ≡ piece unit.pieces kind
+  pub content : (kind : SectionKind) → is_copied kind ≡ true
+      → row_bytes found.contents found.row kind ≡ piece unit.pieces kind
   pub string : found.encoding ≡ unit.encoding → (i : ℕ)
-      → string_in found.order found.encoding found.contents.strings (row_bytes found.contents found.row StrOffsets) i ≡ Ok (slice_get unit.strings i)
+      → string_in found.order found.encoding found.contents.strings
+      (row_bytes found.contents found.row StrOffsets) i ≡ Ok (slice_get unit.strings i)
 
 -- a look-up gave that unit
-pub record GivesUnit (pack : Package) (name : DwarfObject) (most : ℕ) (unit : Meaning) : Type 0 where
+pub record GivesUnit (pack : Package) (name : DwarfObject) (most : ℕ)
+    (unit : Meaning) : Type 0 where
   pub found : index.FoundUnit
   pub count : ℕ
   pub few : count ≤ most
@@ -85,10 +93,13 @@ signatures units = map (λ u. identifier_of u.0) (filter (λ u. not (is_compilat
 pub record IsPackageOf (units : Members) (bytes : List ℕ) : Type 0 where
   pub pack : Package
   pub parsed : package_of bytes ≡ Ok pack
-  pub named : IsPermutation (entries_of (identifiers units) (signatures units)) (entries_from pack.compilations pack.types 0 0)
-  pub finds : (name : DwarfObject) → MatchOption (lookup (same_name name) units) (GivesNone pack name (look_limit units name)) (GivesUnit pack name (look_limit units name))
+  pub named : IsPermutation (entries_of (identifiers units) (signatures units))
+      (entries_from pack.compilations pack.types 0 0)
+  pub finds : (name : DwarfObject) → MatchOption (lookup (same_name name) units)
+      (GivesNone pack name (look_limit units name)) (GivesUnit pack name (look_limit units name))
 
 -- the file of these contents is a package of these units, once it is written and read back as an
 -- ELF file, as `write` says
 abbrev pub IsPackageOnceWritten : Members → File → Type 0
-IsPackageOnceWritten units file = KindsDiffer file.contents → elf_of (file_text file) ≡ Ok (written_elf file) → IsPackageOf units (file_text file)
+IsPackageOnceWritten units file = KindsDiffer file.contents
+    → elf_of (file_text file) ≡ Ok (written_elf file) → IsPackageOf units (file_text file)

@@ -1,10 +1,14 @@
 -- What an input means: its units by name, in file order, with all that belongs to each; and how
 -- such lists are joined (DWARF 5, 7.3.5; the GNU page DebugFissionDWP).
-use Rattle.std.specs.Prelude.{ℕ, Bool, true, not, ◌&&◌, ◌+◌, ◌*◌, List, [], ◌∷◌, ◌++◌, map, take, length, find, is_none, Option, Some, None, Result, Ok, Err, if◌then◌else◌}
+use Rattle.std.specs.Prelude.{ℕ, Bool, true, not, ◌&&◌, ◌+◌, ◌*◌, List, [], ◌∷◌, ◌++◌, map, take}
+use Rattle.std.specs.Prelude.{length, find, is_none, Option, Some, None, Result, Ok, Err}
+use Rattle.std.specs.Prelude.{if◌then◌else◌}
 use Rattle.std.specs.List.{list_any}
 use Rattle.std.specs.Option.{option_and_then}
 use Rattle.dwp_base.specs.declared.section.SectionKind.{SectionKind}
-use Rattle.dwp_base.specs.declared.section.SectionKind.TheVariants.{Abbrev, Line, Loc, Loclists, Rnglists, StrOffsets, Macinfo, Macro, Str}
+use Rattle.dwp_base.specs.declared.section.SectionKind.TheVariants.{Abbrev, Line, Loc, Loclists}
+use Rattle.dwp_base.specs.declared.section.SectionKind.TheVariants.{Rnglists, StrOffsets, Macinfo}
+use Rattle.dwp_base.specs.declared.section.SectionKind.TheVariants.{Macro, Str}
 use Rattle.dwp_base.specs.declared.section.Contribution.{Contribution}
 use Rattle.dwp_base.specs.Reading.{◌>>=◌}
 use Rattle.dwp_base.specs.Sections.{same_kind}
@@ -77,17 +81,20 @@ Members = List (DwarfObject × Meaning)
 -- the contents of all sections of a kind, joined in file order
 abbrev pub joined_content : SectionKind → List Used → List ℕ
 joined_content kind [] = []
-joined_content kind (s ∷ ss) = if same_kind s.kind kind then s.bytes ++ joined_content kind ss else joined_content kind ss
+joined_content kind (s ∷ ss) =
+    if same_kind s.kind kind then s.bytes ++ joined_content kind ss else joined_content kind ss
 
 -- a section of string offsets without the bytes past its last whole entry
 abbrev pub whole_entries : Encoding → List ℕ → List ℕ
-whole_entries encoding bytes = take (header_size encoding + entry_count encoding (length bytes) * offset_size encoding.format) bytes
+whole_entries encoding bytes = take
+    (header_size encoding + entry_count encoding (length bytes) * offset_size encoding.format) bytes
 
 -- those of an object, joined
 abbrev pub joined_offsets : Encoding → List Used → List ℕ
 joined_offsets encoding [] = []
 joined_offsets encoding (s ∷ ss) =
-    if same_kind s.kind StrOffsets then whole_entries encoding s.bytes ++ joined_offsets encoding ss else joined_offsets encoding ss
+    if same_kind s.kind StrOffsets then whole_entries encoding s.bytes ++ joined_offsets encoding ss
+    else joined_offsets encoding ss
 
 -- a unit's part of the sections of a kind: by its row, where its input is a package, else all of
 -- them
@@ -98,7 +105,8 @@ part_by source (Some row) kind = part_of (first kind source.object.sections) (ra
 -- its string offsets
 abbrev pub offsets_by : Source → Option Ranges → List ℕ
 offsets_by source None = joined_offsets source.encoding source.object.sections
-offsets_by source (Some row) = part_of (first StrOffsets source.object.sections) (range_in row StrOffsets)
+offsets_by source (Some row) =
+    part_of (first StrOffsets source.object.sections) (range_in row StrOffsets)
 
 -- the kinds of section that units share
 abbrev pub shared_kinds : List SectionKind
@@ -107,18 +115,26 @@ shared_kinds = Abbrev ∷ Line ∷ Loc ∷ Loclists ∷ Rnglists ∷ StrOffsets 
 -- the ranges of a row lie inside their sections
 abbrev pub lie_inside : Source → Option Ranges → Bool
 lie_inside source None = true
-lie_inside source (Some row) = is_none (find (λ kind. is_outside (first kind source.object.sections) (range_in row kind)) shared_kinds)
+lie_inside source (Some row) = is_none
+    (find (λ kind. is_outside (first kind source.object.sections) (range_in row kind)) shared_kinds)
 
 -- a unit of these bytes, by its row, whose strings are these, where they can be read
-abbrev pub meaning_with : Source → List ℕ → Option Ranges → Result (List (List ℕ)) ReadError → Option Meaning
-meaning_with source bytes row (Ok strings) = Some (record { bytes = bytes; pieces = pieces_by (part_by source row); strings = strings; encoding = source.encoding })
+abbrev pub meaning_with : Source → List ℕ → Option Ranges → Result (List (List ℕ)) ReadError
+    → Option Meaning
+meaning_with source bytes row (Ok strings) = Some (record {
+  bytes = bytes;
+  pieces = pieces_by (part_by source row);
+  strings = strings;
+  encoding = source.encoding;
+})
 meaning_with source bytes row (Err e) = None
 
 -- all that belongs to it: nothing where a range lies outside its section, or a string can't be read
 unfoldable pub meaning_by : Source → List ℕ → Option Ranges → Option Meaning
 meaning_by source bytes row =
     if lie_inside source row
-    then meaning_with source bytes row (strings_of source.object.order source.encoding (first Str source.object.sections) (offsets_by source row))
+    then meaning_with source bytes row (strings_of source.object.order source.encoding
+    (first Str source.object.sections) (offsets_by source row))
     else None
 
 -- what was read, where it was
@@ -129,7 +145,8 @@ read_of (Err e) = None
 -- the row of an index by place
 abbrev pub placed_row : Option Index → SectionKind → Contribution → Option Ranges
 placed_row None kind range = None
-placed_row (Some index) kind range = option_and_then (λ number. read_of (row_in index number)) (row_by_place (Some index) kind range)
+placed_row (Some index) kind range =
+    option_and_then (λ number. read_of (row_in index number)) (row_by_place (Some index) kind range)
 
 -- a unit that was read, and the kind of section that it stands in
 pub record UnitRead : Type 0 where
@@ -141,27 +158,32 @@ pub record UnitRead : Type 0 where
 unfoldable pub unit_meaning : Source → DwarfObject × UnitRead → Option Meaning
 unit_meaning source read =
     if is_package source.indexes
-    then option_and_then (λ row. meaning_by source read.1.unit.whole.bytes (Some row)) (placed_row (index_for source.indexes read.0) read.1.from (own_range read.1.unit))
+    then option_and_then (λ row. meaning_by source read.1.unit.whole.bytes (Some row))
+    (placed_row (index_for source.indexes read.0) read.1.from (own_range read.1.unit))
     else meaning_by source read.1.unit.whole.bytes None
 
 -- a unit that was read, by its name
-unfoldable pub named_unit : Source → SectionKind → Result Header ReadError → Result (DwarfObject × UnitRead) Fault
+unfoldable pub named_unit : Source → SectionKind → Result Header ReadError
+    → Result (DwarfObject × UnitRead) Fault
 named_unit source kind read = do
   unit ← as_fault ParseUnitHeader read
   name ← name_for source kind unit
   Ok (name, record { from = kind; unit = unit })
 
 -- all that were read of a section
-unfoldable pub named_each : Source → SectionKind → List (Result Header ReadError) → Result (List (DwarfObject × UnitRead)) Fault
+unfoldable pub named_each : Source → SectionKind → List (Result Header ReadError)
+    → Result (List (DwarfObject × UnitRead)) Fault
 named_each source kind [] = Ok []
 named_each source kind (read ∷ rest) = do
   unit ← named_unit source kind read
   others ← named_each source kind rest
   Ok (unit ∷ others)
 
-abbrev pub named_at : Source → Used → Option UnitSection → Result (List (DwarfObject × UnitRead)) Fault
+abbrev pub named_at : Source → Used → Option UnitSection
+    → Result (List (DwarfObject × UnitRead)) Fault
 named_at source from None = Ok []
-named_at source from (Some place) = named_each source from.kind (units place (section source.object.order from.bytes))
+named_at source from (Some place) =
+    named_each source from.kind (units place (section source.object.order from.bytes))
 
 -- those of each of these sections, in file order
 unfoldable pub named_sections : Source → List Used → Result (List (DwarfObject × UnitRead)) Fault
@@ -203,7 +225,8 @@ keys units = map (λ u. u.0) units
 
 -- what a list adds to names that are there: a unit whose name is there, or came before, is passed
 -- over
-abbrev pub joining : {X : Type 0} → List DwarfObject → List (DwarfObject × X) → List (DwarfObject × X)
+abbrev pub joining : {X : Type 0} → List DwarfObject → List (DwarfObject × X)
+    → List (DwarfObject × X)
 joining names [] = []
 joining names (unit ∷ rest) =
     if list_any (same_name unit.0) names then joining names rest

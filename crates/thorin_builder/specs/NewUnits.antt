@@ -1,5 +1,6 @@
 -- The units that an input adds to a package, each with its row (DWARF 5, 7.3.5 and 7.5.1).
-use Rattle.std.specs.Prelude.{ℕ, Bool, true, false, ◌==◌, ◌&&◌, List, [], ◌∷◌, ◌++◌, Option, Some, None, Result, Ok, Err, option_map, find, if◌then◌else◌}
+use Rattle.std.specs.Prelude.{ℕ, Bool, true, false, ◌==◌, ◌&&◌, List, [], ◌∷◌, ◌++◌, Option, Some}
+use Rattle.std.specs.Prelude.{None, Result, Ok, Err, option_map, find, if◌then◌else◌}
 use Rattle.std.specs.Map.{lookup}
 use Rattle.std.specs.Option.{ok_or}
 use Rattle.std.specs.Str.{bytes_eq}
@@ -15,7 +16,9 @@ use Rattle.dwp_table.specs.Objects.{identifier_of}
 use Rattle.dwp_table.specs.declared.object.DwarfObject.{DwarfObject}
 use Rattle.dwp_table.specs.declared.object.DwarfObject.TheVariants.{Compilation, TypeUnit}
 use Rattle.thorin_parts.specs.declared.entry.IndexEntry.{IndexEntry}
-use Rattle.thorin_faults.specs.Fault.{Fault, ParseUnitHeader, NotSplitUnit, DuplicateUnit, EmptyUnit, MultipleDebugInfoSection, MultipleDebugTypesSection}
+use Rattle.thorin_faults.specs.Fault.{Fault, ParseUnitHeader, NotSplitUnit, DuplicateUnit}
+use Rattle.thorin_faults.specs.Fault.{EmptyUnit, MultipleDebugInfoSection}
+use Rattle.thorin_faults.specs.Fault.{MultipleDebugTypesSection}
 use Rattle.thorin_faults.specs.Answers.{as_fault}
 use Rattle.thorin_identity.specs.Identity.{identity}
 use Rattle.thorin_builder.specs.Indexes.{Source, is_package}
@@ -48,7 +51,8 @@ or_held (Some unit) held = Some unit.bytes
 or_held None held = held
 
 -- the bytes that are kept for a name
-abbrev pub kept_bytes : List (DwarfObject × List ℕ) → List (DwarfObject × NewUnit) → DwarfObject → Option (List ℕ)
+abbrev pub kept_bytes : List (DwarfObject × List ℕ) → List (DwarfObject × NewUnit) → DwarfObject
+    → Option (List ℕ)
 kept_bytes held units name = or_held (lookup (same_name name) units) (lookup (same_name name) held)
 
 -- type units go where they stand, every other unit to info
@@ -62,14 +66,21 @@ with_first adding from name unit new =
     if from.address == 0
     then (row_test adding.source.indexes from.kind name unit >>= λ _.
     unit_row adding.source.indexes adding.whole name >>= λ row.
-    Ok (record new { units = new.units ++ (name, record { place = place_for name from.kind; bytes = unit.whole.bytes; row = row }) ∷ [] }))
+    Ok (record new {
+      units = new.units ++ (
+        name,
+        record { place = place_for name from.kind; bytes = unit.whole.bytes; row = row },
+      ) ∷ [];
+    }))
     else Err (EmptyUnit (identifier_of name))
 
 -- one more unit. A second compilation unit of a name is refused, a second type unit passed over
-unfoldable pub with_unit : Option (List ℕ) → Adding → Used → DwarfObject → Header → New → Result New Fault
+unfoldable pub with_unit : Option (List ℕ) → Adding → Used → DwarfObject → Header → New
+    → Result New Fault
 with_unit (Some kept) adding from (Compilation id) unit new = Err (DuplicateUnit id.0)
 with_unit (Some kept) adding from (TypeUnit signature) unit new =
-    Ok (if bytes_eq kept unit.whole.bytes then new else record new { differing = new.differing ++ signature.0 ∷ [] })
+    Ok (if bytes_eq kept unit.whole.bytes then new
+    else record new { differing = new.differing ++ signature.0 ∷ [] })
 with_unit None adding from name unit new = with_first adding from name unit new
 
 -- the name of a unit that was read in a section
@@ -87,7 +98,8 @@ with_read adding from new read = do
   with_unit (kept_bytes adding.held new.units name) adding from name unit new
 
 -- all that is read of them
-unfoldable pub with_each_read : Adding → Used → New → List (Result Header ReadError) → Result New Fault
+unfoldable pub with_each_read : Adding → Used → New → List (Result Header ReadError)
+    → Result New Fault
 with_each_read adding from new [] = Ok new
 with_each_read adding from new (read ∷ rest) = do
   next ← with_read adding from new read
@@ -121,17 +133,20 @@ second_section places.Info = MultipleDebugInfoSection
 second_section places.Types = MultipleDebugTypesSection
 
 unfoldable pub once_test : Adding → UnitSection → Met → Result (Unit {0}) Fault
-once_test adding place met = if is_package adding.source.indexes && is_met place met then Err (second_section place) else Ok tt
+once_test adding place met = if is_package adding.source.indexes && is_met place met
+    then Err (second_section place) else Ok tt
 
 -- the units of a section of units
 unfoldable pub with_section_at : Adding → Used → UnitSection → Met × New → Result (Met × New) Fault
 with_section_at adding from place before = do
   _ ← once_test adding place before.0
-  new ← with_each_read adding from before.1 (units place (section adding.source.object.order from.bytes))
+  new ← with_each_read adding from before.1
+      (units place (section adding.source.object.order from.bytes))
   Ok (with_met place before.0, new)
 
 -- the units of a section; those of other kinds have none
-abbrev pub with_section_in : Adding → Used → Option UnitSection → Met × New → Result (Met × New) Fault
+abbrev pub with_section_in : Adding → Used → Option UnitSection → Met × New
+    → Result (Met × New) Fault
 with_section_in adding from None before = Ok before
 with_section_in adding from (Some place) before = with_section_at adding from place before
 
@@ -148,5 +163,8 @@ with_each_section adding before (from ∷ others) = do
 -- the units that an input adds to what is there, or its first fault
 unfoldable pub new_units : Adding → Result New Fault
 new_units adding = do
-  all ← with_each_section adding (none_met, record { units = []; differing = [] }) adding.source.object.sections
+  all ← with_each_section adding (
+    none_met,
+    record { units = []; differing = [] },
+  ) adding.source.object.sections
   Ok all.1

@@ -1,5 +1,6 @@
 -- The packages that a builder takes as inputs again (DWARF 5, 7.3.5).
-use Rattle.std.specs.Prelude.{Bool, false, not, ◌&&◌, ◌||◌, nat_lt, length, Option, Some, None, is_some}
+use Rattle.std.specs.Prelude.{Bool, false, not, ◌&&◌, ◌||◌, nat_lt, length, Option, Some, None}
+use Rattle.std.specs.Prelude.{is_some}
 use Rattle.dwp_base.specs.declared.section.SectionKind.{SectionKind}
 use Rattle.dwp_base.specs.declared.section.SectionKind.TheVariants.{Abbrev, StrOffsets}
 use Rattle.dwp_elf.specs.Contents.{content_of}
@@ -14,7 +15,8 @@ has_content kind made = nat_lt 0 (length (content_of kind made.file.contents))
 -- string offsets
 abbrev pub has_sections : Option InProgress → Bool
 has_sections None = false
-has_sections (Some made) = has_content Abbrev made && (not (has_content StrOffsets made) || nat_lt 0 (length made.strings))
+has_sections (Some made) =
+    has_content Abbrev made && (not (has_content StrOffsets made) || nat_lt 0 (length made.strings))
 
 -- each accepted input was a plain object that added a unit, all their units have one encoding, and
 -- these sections are there

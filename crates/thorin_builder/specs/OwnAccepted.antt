@@ -9,11 +9,14 @@ use Rattle.thorin_builder.specs.Own.{packs_again}
 use Rattle.thorin_builder.specs.OwnRefusals.{UnlessForeseen}
 use Rattle.thorin_builder.specs.Represents.{IsSoundBegun}
 
--- the file's bytes are taken by any package of their byte order and by a new one, unless a compilation unit is there already or the
--- offset of a string doesn't fit
+-- the file's bytes are taken by any package of their byte order and by a new one, unless a
+-- compilation unit is there already or the offset of a string doesn't fit
 abbrev pub IsAccepted : File → Type 0
-IsAccepted file = (before : State) → IsSoundBegun before.begun → order_of before.begun file.order ≡ file.order → UnlessForeseen (taken (file_text file) before)
+IsAccepted file = (before : State) → IsSoundBegun before.begun
+    → order_of before.begun file.order ≡ file.order → UnlessForeseen (taken (file_text file) before)
 
--- so is the file of a state that packs again, once it is written and read back as an ELF file, as `write` says
+-- so is the file of a state that packs again, once it is written and read back as an ELF file, as
+-- `write` says
 abbrev pub IsAcceptedOnceWritten : State → File → Type 0
-IsAcceptedOnceWritten state file = packs_again state ≡ true → KindsDiffer file.contents → elf_of (file_text file) ≡ Ok (written_elf file) → IsAccepted file
+IsAcceptedOnceWritten state file = packs_again state ≡ true → KindsDiffer file.contents
+    → elf_of (file_text file) ≡ Ok (written_elf file) → IsAccepted file

@@ -1,5 +1,6 @@
 -- A written package as an input (DWARF 5, 7.3.5).
-use Rattle.std.specs.Prelude.{◌≡◌, ℕ, ◌<◌, true, ◌==◌, List, [], ◌∷◌, length, Option, Ok, if◌then◌else◌}
+use Rattle.std.specs.Prelude.{◌≡◌, ℕ, ◌<◌, true, ◌==◌, List, [], ◌∷◌, length, Option, Ok}
+use Rattle.std.specs.Prelude.{if◌then◌else◌}
 use Rattle.dwp_base.specs.declared.section.SectionKind.{SectionKind}
 use Rattle.dwp_base.specs.declared.section.SectionKind.TheVariants.{Info, Abbrev, StrOffsets, Str}
 use Rattle.dwp_bytes.specs.declared.encoding.Encoding.{Encoding}
@@ -7,7 +8,8 @@ use Rattle.dwp_elf.specs.Contents.{KindsDiffer, content_of}
 use Rattle.dwp_elf.specs.FileText.{Object as File, file_text}
 use Rattle.dwp_elf.specs.Written.{written_elf}
 use Rattle.dwp_elf_read.specs.Elf.{elf_of}
-use Rattle.thorin_builder.specs.Builder.{State, finish_test, IsFinishedState, with_source_or_new, with_input}
+use Rattle.thorin_builder.specs.Builder.{State, finish_test, IsFinishedState, with_source_or_new}
+use Rattle.thorin_builder.specs.Builder.{with_input}
 use Rattle.thorin_builder.specs.Encodings.{encoding_of}
 use Rattle.thorin_builder.specs.Growing.{Contents}
 use Rattle.thorin_builder.specs.Indexes.{Indexes, Source, is_package, indexes_of}
@@ -20,7 +22,8 @@ use Rattle.thorin_builder.specs.Used.{Used, Object, is_present}
 -- the sections of a written file that an input is made of: those that have bytes, in order
 abbrev pub written_used : Contents → List Used
 written_used [] = []
-written_used (c ∷ cs) = if length c.1 == 0 then written_used cs else record { kind = c.0; bytes = c.1; address = 0 } ∷ written_used cs
+written_used (c ∷ cs) = if length c.1 == 0 then written_used cs
+    else record { kind = c.0; bytes = c.1; address = 0 } ∷ written_used cs
 
 -- a written file as an input
 abbrev pub written_object : File → Object
@@ -46,19 +49,23 @@ pub record IsOwn (state : State) (encoding : Encoding) (file : File) : Type 0 wh
 
 -- a package of that byte order, or none, takes its bytes up to its parts, with the indexes that
 -- were written
-pub record TakesUpToParts (file : File) (encoding : Encoding) (before : Option InProgress) : Type 0 where
+pub record TakesUpToParts (file : File) (encoding : Encoding)
+    (before : Option InProgress) : Type 0 where
   pub indexes : Indexes
   pub read : indexes_of (written_object file) encoding ≡ Ok indexes
   pub finished : is_package indexes ≡ true
-  pub is : with_input (file_text file) before ≡ with_source_or_new (written_elf file) (record { object = written_object file; encoding = encoding; indexes = indexes }) before
+  pub is : with_input (file_text file) before ≡ with_source_or_new (written_elf file)
+      (record { object = written_object file; encoding = encoding; indexes = indexes }) before
 
 -- contents are in the format of an encoding, and where there are string offsets there are strings,
 -- among which they can be rewritten
 pub record CanTake (source : Source) (contents : Contents) (strings : List (List ℕ)) : Type 0 where
   pub finished : is_package source.indexes ≡ true
-  pub format : (kind : SectionKind) → 0 < length (content_of kind contents) → is_in_format source.encoding kind ≡ true
+  pub format : (kind : SectionKind) → 0 < length (content_of kind contents)
+      → is_in_format source.encoding kind ≡ true
   pub has : 0 < length (content_of StrOffsets contents) → source.object.has_strings ≡ true
-  pub written : 0 < length (content_of StrOffsets contents) → (w : List ℕ × List (List ℕ)) × (rewritten source (content_of StrOffsets contents) strings ≡ Ok w)
+  pub written : 0 < length (content_of StrOffsets contents) → (w : List ℕ × List (List ℕ))
+      × (rewritten source (content_of StrOffsets contents) strings ≡ Ok w)
 
 -- the parts of an input are taken
 abbrev pub TakesParts : Source → List (List ℕ) → Type 0

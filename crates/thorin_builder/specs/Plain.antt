@@ -1,5 +1,7 @@
--- A package that is made of plain objects of one encoding, each of which added a unit (DWARF 5, 7.3.5).
-use Rattle.std.specs.Prelude.{◌≡◌, ℕ, ◌+◌, ◌*◌, ◌<◌, Bool, true, ◌||◌, ◌⊎◌, List, [], ◌∷◌, length, Some, Ok}
+-- A package that is made of plain objects of one encoding, each of which added a unit (DWARF 5,
+-- 7.3.5).
+use Rattle.std.specs.Prelude.{◌≡◌, ℕ, ◌+◌, ◌*◌, ◌<◌, Bool, true, ◌||◌, ◌⊎◌, List, [], ◌∷◌, length}
+use Rattle.std.specs.Prelude.{Some, Ok}
 use Rattle.dwp_base.specs.declared.endian.Endianness.{Endianness}
 use Rattle.dwp_base.specs.declared.section.Contribution.{Contribution}
 use Rattle.dwp_base.specs.declared.section.SectionKind.{SectionKind}
@@ -28,9 +30,11 @@ is_shared kind = is_copied kind || same_kind kind StrOffsets
 
 -- each shared section that has bytes has a part that some row names
 abbrev pub HasNamedParts : InProgress → Type 0
-HasNamedParts made = (kind : SectionKind) → is_shared kind ≡ true → 0 < length (content_of kind made.file.contents) → is_used made.rows kind ≡ true
+HasNamedParts made = (kind : SectionKind) → is_shared kind ≡ true
+    → 0 < length (content_of kind made.file.contents) → is_used made.rows kind ≡ true
 
--- a range of string offsets of so many bytes: some, which are whole entries behind a header that can be written of them
+-- a range of string offsets of so many bytes: some, which are whole entries behind a header that
+-- can be written of them
 pub record IsWholeRange (order : Endianness) (encoding : Encoding) (size : ℕ) : Type 0 where
   pub some : 0 < size
   pub count : ℕ
@@ -41,7 +45,8 @@ pub record IsWholeRange (order : Endianness) (encoding : Encoding) (size : ℕ) 
 -- ranges that lie one directly behind the other, from one place to another
 abbrev pub Tile : Endianness → Encoding → ℕ → List Contribution → ℕ → Type 0
 Tile order encoding at [] end = at ≡ end
-Tile order encoding at (r ∷ rs) end = (r.offset.0 ≡ at) × IsWholeRange order encoding r.size × Tile order encoding (at + r.size) rs end
+Tile order encoding at (r ∷ rs) end = (r.offset.0 ≡ at) × IsWholeRange order encoding r.size
+    × Tile order encoding (at + r.size) rs end
 
 abbrev pub IsAmong : Contribution → List Contribution → Type 0
 IsAmong range [] = ⊥
@@ -49,22 +54,28 @@ IsAmong range (r ∷ rs) = (range ≡ r) ⊎ IsAmong range rs
 
 -- a row has one of these ranges of string offsets, or none
 abbrev pub HasOneOf : List Contribution → IndexEntry → Type 0
-HasOneOf ranges row = (range : Contribution) → row.debug_str_offsets ≡ Some range → IsAmong range ranges
+HasOneOf ranges row =
+    (range : Contribution) → row.debug_str_offsets ≡ Some range → IsAmong range ranges
 
 -- the ranges of string offsets that rows have fill their section, and none lies over another
 pub record HasTiledOffsets (encoding : Encoding) (made : InProgress) : Type 0 where
   pub ranges : List Contribution
-  pub tile : Tile made.file.order encoding 0 ranges (length (content_of StrOffsets made.file.contents))
+  pub tile : Tile made.file.order encoding 0 ranges
+      (length (content_of StrOffsets made.file.contents))
   pub rows : EachRow (HasOneOf ranges) made.rows
 
--- a row's unit, read of its own bytes alone, has the encoding, and by the row's abbreviations the row's name
+-- a row's unit, read of its own bytes alone, has the encoding, and by the row's abbreviations the
+-- row's name
 abbrev pub NamesItself : Endianness → Encoding → Contents → IndexEntry → Type 0
-NamesItself order encoding contents row = (unit : Header) (rest : Input) → unit_at (place_of row.id row.debug_types) (section order (unit_bytes contents row)) ≡ Ok (unit, rest)
-    → (unit.encoding ≡ encoding) × (identity (section order (part_of (content_of Abbrev contents) row.debug_abbrev)) unit ≡ Ok (Some row.id))
+NamesItself order encoding contents row = (unit : Header) (rest : Input) → unit_at
+    (place_of row.id row.debug_types) (section order (unit_bytes contents row)) ≡ Ok (unit, rest)
+    → (unit.encoding ≡ encoding) × (identity
+    (section order (part_of (content_of Abbrev contents) row.debug_abbrev)) unit ≡ Ok (Some row.id))
 
 -- so does each unit of a package
 abbrev pub HasNamedUnits : Encoding → InProgress → Type 0
-HasNamedUnits encoding made = EachRow (NamesItself made.file.order encoding made.file.contents) made.rows
+HasNamedUnits encoding made =
+    EachRow (NamesItself made.file.order encoding made.file.contents) made.rows
 
 -- each of the contents has bytes
 abbrev pub AllFilled : Contents → Type 0
@@ -80,4 +91,5 @@ pub record IsPlain (encoding : Encoding) (made : InProgress) : Type 0 where
 
 -- so is a builder's package, where its inputs have one encoding
 pub record HoldsPlain (state : State) : Type 0 where
-  pub made : (encoding : Encoding) (made : InProgress) → state.own ≡ Some encoding → state.begun ≡ Some made → IsPlain encoding made
+  pub made : (encoding : Encoding) (made : InProgress) → state.own ≡ Some encoding
+      → state.begun ≡ Some made → IsPlain encoding made

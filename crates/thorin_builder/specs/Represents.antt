@@ -1,9 +1,11 @@
 -- The units of a package that is made: what a reader would find under each name, and that it can be
 -- read (DWARF 5, 7.3.5.3; the GNU page DebugFissionDWP).
-use Rattle.std.specs.Prelude.{◌≡◌, ℕ, ◌+◌, ◌<◌, ◌≤◌, true, false, List, [], ◌∷◌, map, take, length, slice_get, Option, Some, None, Ok, AllPairs}
+use Rattle.std.specs.Prelude.{◌≡◌, ℕ, ◌+◌, ◌<◌, ◌≤◌, true, false, List, [], ◌∷◌, map, take, length}
+use Rattle.std.specs.Prelude.{slice_get, Option, Some, None, Ok, AllPairs}
 use Rattle.std.specs.Result.{result_unwrap_or}
 use Rattle.dwp_base.specs.declared.section.SectionKind.{SectionKind}
-use Rattle.dwp_base.specs.declared.section.SectionKind.TheVariants.{Types, StrOffsets, Str, CuIndex, TuIndex}
+use Rattle.dwp_base.specs.declared.section.SectionKind.TheVariants.{Types, StrOffsets, Str, CuIndex}
+use Rattle.dwp_base.specs.declared.section.SectionKind.TheVariants.{TuIndex}
 use Rattle.dwp_base.specs.declared.section.Contribution.{Contribution}
 use Rattle.dwp_base.specs.declared.endian.Endianness.{Endianness}
 use Rattle.dwp_elf.specs.Contents.{content_of}
@@ -30,13 +32,15 @@ abbrev pub meaning_at : Endianness → Contents → List (List ℕ) → IndexEnt
 meaning_at order contents strings row = record {
   bytes = unit_bytes contents row;
   pieces = pieces_by (λ kind. part_of (content_of kind contents) (contribution_to kind row));
-  strings = result_unwrap_or (strings_of order row.encoding (data_of strings) (part_of (content_of StrOffsets contents) (contribution_to StrOffsets row))) [];
+  strings = result_unwrap_or (strings_of order row.encoding (data_of strings)
+      (part_of (content_of StrOffsets contents) (contribution_to StrOffsets row))) [];
   encoding = row.encoding;
 }
 
 -- the units of a package, in order of acceptance
 abbrev pub units_of : InProgress → Members
-units_of made = map {B = DwarfObject × Meaning} (λ row. (row.id, meaning_at made.file.order made.file.contents made.strings row)) made.rows
+units_of made = map {B = DwarfObject × Meaning} (λ row.
+    (row.id, meaning_at made.file.order made.file.contents made.strings row)) made.rows
 
 -- those of a builder
 abbrev pub units_begun : Option InProgress → Members
@@ -48,25 +52,34 @@ units_in state = units_begun state.begun
 
 -- the ranges of a row have bytes and lie inside the contents
 pub record LieInside (contents : Contents) (row : IndexEntry) : Type 0 where
-  pub inside : (kind : SectionKind) (range : Contribution) → contribution_to kind row ≡ Some range → range.offset.0 + range.size ≤ length (content_of kind contents)
-  pub some : (kind : SectionKind) (range : Contribution) → contribution_to kind row ≡ Some range → 0 < range.size
+  pub inside : (kind : SectionKind) (range : Contribution) → contribution_to kind row ≡ Some range
+      → range.offset.0 + range.size ≤ length (content_of kind contents)
+  pub some : (kind : SectionKind) (range : Contribution) → contribution_to kind row ≡ Some range
+      → 0 < range.size
 
 -- what a unit shares with others stands in the ranges of its row, whatever strings are added
-pub record Shares (order : Endianness) (contents : Contents) (strings : List (List ℕ)) (row : IndexEntry) (unit : Meaning) : Type 0 where
-  pub content : (kind : SectionKind) → is_copied kind ≡ true → part_of (content_of kind contents) (contribution_to kind row) ≡ piece unit.pieces kind
-  pub string : (final : List (List ℕ)) → IsTable final → take (length strings) final ≡ strings → (i : ℕ)
-      → string_in order unit.encoding (data_of final) (part_of (content_of StrOffsets contents) (contribution_to StrOffsets row)) i ≡ Ok (slice_get unit.strings i)
+pub record Shares (order : Endianness) (contents : Contents) (strings : List (List ℕ))
+    (row : IndexEntry) (unit : Meaning) : Type 0 where
+  pub content : (kind : SectionKind) → is_copied kind ≡ true
+      → part_of (content_of kind contents) (contribution_to kind row) ≡ piece unit.pieces kind
+  pub string : (final : List (List ℕ)) → IsTable final
+      → take (length strings) final ≡ strings → (i : ℕ)
+      → string_in order unit.encoding (data_of final) (part_of (content_of StrOffsets contents)
+      (contribution_to StrOffsets row)) i ≡ Ok (slice_get unit.strings i)
 
 -- a unit's own bytes stand in a row's range of info or of types, and their header can be read
-pub record Owns (order : Endianness) (contents : Contents) (name : DwarfObject) (row : IndexEntry) (unit : Meaning) : Type 0 where
+pub record Owns (order : Endianness) (contents : Contents) (name : DwarfObject) (row : IndexEntry)
+    (unit : Meaning) : Type 0 where
   pub place : UnitSection
   pub place_is : place ≡ place_of name (contribution_to Types row)
-  pub bytes : part_of (content_of (kind_at place) contents) (contribution_to (kind_at place) row) ≡ unit.bytes
+  pub bytes : part_of (content_of (kind_at place) contents) (contribution_to (kind_at place) row)
+      ≡ unit.bytes
   pub encoding : Encoding
   pub header : encoding_in order place unit.bytes ≡ Ok encoding
 
 -- a row is that of a unit
-pub record IsRowOf (order : Endianness) (contents : Contents) (strings : List (List ℕ)) (row : IndexEntry) (member : DwarfObject × Meaning) : Type 0 where
+pub record IsRowOf (order : Endianness) (contents : Contents) (strings : List (List ℕ))
+    (row : IndexEntry) (member : DwarfObject × Meaning) : Type 0 where
   pub name : row.id ≡ member.0
   pub encoding : row.encoding ≡ member.1.encoding
   pub lie : LieInside contents row
@@ -78,7 +91,8 @@ abbrev pub AreRowsOf : Endianness → Contents → List (List ℕ) → List Inde
 AreRowsOf order contents strings [] [] = Unit {0}
 AreRowsOf order contents strings [] (m ∷ ms) = ⊥
 AreRowsOf order contents strings (r ∷ rs) [] = ⊥
-AreRowsOf order contents strings (r ∷ rs) (m ∷ ms) = IsRowOf order contents strings r m × AreRowsOf order contents strings rs ms
+AreRowsOf order contents strings (r ∷ rs) (m ∷ ms) =
+    IsRowOf order contents strings r m × AreRowsOf order contents strings rs ms
 
 -- a package has these units
 pub record Represents (made : InProgress) (members : Members) : Type 0 where

@@ -1,8 +1,11 @@
 -- The rows that units get: each unit's part of each section of its input, where it comes to lie in
 -- the package (DWARF 5, 7.3.5.3).
-use Rattle.std.specs.Prelude.{ℕ, Bool, true, false, ◌==◌, ◌&&◌, not, List, length, Option, Some, None, Result, Ok, Err, if◌then◌else◌}
+use Rattle.std.specs.Prelude.{ℕ, Bool, true, false, ◌==◌, ◌&&◌, not, List, length, Option, Some}
+use Rattle.std.specs.Prelude.{None, Result, Ok, Err, if◌then◌else◌}
 use Rattle.dwp_base.specs.declared.section.SectionKind.{SectionKind}
-use Rattle.dwp_base.specs.declared.section.SectionKind.TheVariants.{Abbrev, Line, Loc, Loclists, Rnglists, StrOffsets, Macinfo, Macro}
+use Rattle.dwp_base.specs.declared.section.SectionKind.TheVariants.{Abbrev, Line, Loc, Loclists}
+use Rattle.dwp_base.specs.declared.section.SectionKind.TheVariants.{Rnglists, StrOffsets, Macinfo}
+use Rattle.dwp_base.specs.declared.section.SectionKind.TheVariants.{Macro}
 use Rattle.dwp_base.specs.declared.section.Contribution.{Contribution}
 use Rattle.dwp_base.specs.Reading.{◌>>=◌}
 use Rattle.dwp_base.specs.Sections.{name_of}
@@ -43,8 +46,13 @@ whole_row encoding before parts = record {
 }
 
 -- a unit's part of a section which as a whole lies there in the package
-abbrev pub adjusted_part : Indexes → DwarfObject → SectionKind → Option Contribution → Result (Option Contribution) Fault
-adjusted_part indexes name kind whole = adjusted (record { compilation = indexes.compilations; types = indexes.types; section = kind }) name whole
+abbrev pub adjusted_part : Indexes → DwarfObject → SectionKind → Option Contribution
+    → Result (Option Contribution) Fault
+adjusted_part indexes name kind whole = adjusted (record {
+  compilation = indexes.compilations;
+  types = indexes.types;
+  section = kind;
+}) name whole
 
 -- the row of a unit but for its own bytes: its part of each section that units share
 unfoldable pub unit_row : Indexes → IndexEntry → DwarfObject → Result IndexEntry Fault
@@ -87,7 +95,8 @@ is_same_row _ _ = false
 unfoldable pub row_test : Indexes → SectionKind → DwarfObject → Header → Result (Unit {0}) Fault
 row_test indexes kind name unit =
     if not (is_package indexes) then Ok tt
-    else (if is_same_row (number_by_place indexes kind name unit) (looked_up (index_for indexes name) (identifier_of name)) then Ok tt
+    else (if is_same_row (number_by_place indexes kind name unit)
+    (looked_up (index_for indexes name) (identifier_of name)) then Ok tt
     else Err (UnitNotInIndex (identifier_of name)))
 
 -- the abbreviations of a row; none where it has none. Before its unit's identity is known, faults
@@ -114,5 +123,6 @@ is_compile _ = false
 unfoldable pub abbreviations_for : Source → SectionKind → Header → Result (List ℕ) Fault
 abbreviations_for source kind unit =
     if is_package source.indexes && is_compile unit.unit_type
-    then numbered_abbreviations (first Abbrev source.object.sections) source.indexes.compilations (row_by_place source.indexes.compilations kind (own_range unit))
+    then numbered_abbreviations (first Abbrev source.object.sections) source.indexes.compilations
+    (row_by_place source.indexes.compilations kind (own_range unit))
     else Ok (first Abbrev source.object.sections)

@@ -20,7 +20,8 @@ contents_begun (Some made) = made.file.contents
 
 -- the ranges of a row begin where the contents end, or behind
 abbrev pub LieBehind : Contents → IndexEntry → Type 0
-LieBehind contents row = (kind : SectionKind) (range : Contribution) → contribution_to kind row ≡ Some range → length (content_of kind contents) ≤ range.offset.0
+LieBehind contents row = (kind : SectionKind) (range : Contribution)
+    → contribution_to kind row ≡ Some range → length (content_of kind contents) ≤ range.offset.0
 
 -- it holds of each row
 abbrev pub EachRow : (IndexEntry → Type 0) → List IndexEntry → Type 0

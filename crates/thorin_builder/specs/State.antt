@@ -1,6 +1,7 @@
 -- A package while it is made: what each input adds to it (DWARF 5, 7.3.5; the
 -- GNU page DebugFissionDWP).
-use Rattle.std.specs.Prelude.{◌≡◌, ℕ, List, [], ◌∷◌, ◌++◌, map, take, length, Option, Some, None, Result, Ok, Err, if◌then◌else◌}
+use Rattle.std.specs.Prelude.{◌≡◌, ℕ, List, [], ◌∷◌, ◌++◌, map, take, length, Option, Some, None}
+use Rattle.std.specs.Prelude.{Result, Ok, Err, if◌then◌else◌}
 use Rattle.std.specs.List.{list_any}
 use Rattle.dwp_base.specs.declared.class.Class.{Class}
 use Rattle.dwp_base.specs.declared.endian.Endianness.{Endianness}
@@ -18,7 +19,8 @@ use Rattle.dwp_table.specs.declared.object.DwarfObject.{DwarfObject}
 use Rattle.thorin_parts.specs.Entries.{contribution_to}
 use Rattle.thorin_parts.specs.declared.entry.IndexEntry.{IndexEntry}
 use Rattle.thorin_faults.specs.Fault.{Fault, MissingRequiredSection}
-use Rattle.thorin_builder.specs.Growing.{Contents, IsGrown, lengths, with_bytes, range_put, with_parts}
+use Rattle.thorin_builder.specs.Growing.{Contents, IsGrown, lengths, with_bytes, range_put}
+use Rattle.thorin_builder.specs.Growing.{with_parts}
 use Rattle.thorin_builder.specs.Indexes.{Source}
 use Rattle.thorin_builder.specs.Names.{same_name}
 use Rattle.thorin_builder.specs.NewUnits.{New, NewUnit, Adding, new_units}
@@ -56,19 +58,23 @@ held_units made = map (λ row. (row.id, unit_bytes made.file.contents row)) made
 
 -- the row of a unit whose own bytes are put behind those of a place
 abbrev pub row_at : IndexEntry → Contents → DwarfObject → List ℕ → UnitSection → IndexEntry
-row_at row contents name bytes places.Info = record row { id = name; debug_info = range_put kinds.Info bytes contents }
-row_at row contents name bytes places.Types = record row { id = name; debug_types = range_put kinds.Types bytes contents }
+row_at row contents name bytes places.Info =
+    record row { id = name; debug_info = range_put kinds.Info bytes contents }
+row_at row contents name bytes places.Types =
+    record row { id = name; debug_types = range_put kinds.Types bytes contents }
 
 -- the package with a unit more
 abbrev pub with_unit_added : InProgress → DwarfObject × NewUnit → InProgress
 with_unit_added made unit = record made {
-  file = record made.file { contents = with_bytes (kind_at unit.1.place) unit.1.bytes made.file.contents };
+  file = record made.file
+      { contents = with_bytes (kind_at unit.1.place) unit.1.bytes made.file.contents };
   rows = made.rows ++ row_at unit.1.row made.file.contents unit.0 unit.1.bytes unit.1.place ∷ [];
 }
 
 -- the same where its name isn't there
 unfoldable pub with_new_unit : InProgress → DwarfObject × NewUnit → InProgress
-with_new_unit made unit = if list_any (same_name unit.0) (names_of made) then made else with_unit_added made unit
+with_new_unit made unit =
+    if list_any (same_name unit.0) (names_of made) then made else with_unit_added made unit
 
 -- and with each of these
 unfoldable pub with_new_units : InProgress → List (DwarfObject × NewUnit) → InProgress
@@ -77,11 +83,16 @@ with_new_units made (unit ∷ units) = with_new_units (with_new_unit made unit) 
 
 -- a section of abbreviations is there
 unfoldable pub abbreviations_test : Object → Result (Unit {0}) Fault
-abbreviations_test object = if object.has_abbreviations then Ok tt else Err (MissingRequiredSection (name_of kinds.Abbrev))
+abbreviations_test object =
+    if object.has_abbreviations then Ok tt else Err (MissingRequiredSection (name_of kinds.Abbrev))
 
 -- what the units of an input are added to, whose parts will be these
 abbrev pub adding : Source → InProgress → Contents → Adding
-adding source made parts = record { source = source; whole = whole_row source.encoding made.file.contents parts; held = held_units made }
+adding source made parts = record {
+  source = source;
+  whole = whole_row source.encoding made.file.contents parts;
+  held = held_units made;
+}
 
 -- the package with these parts, these strings and these units of an input
 unfoldable pub with_all : InProgress → Contents × List (List ℕ) → New → InProgress

@@ -13,7 +13,12 @@ in_progress_of p = record {
 }
 
 abbrev pub mark_in : Mark → Amount
-mark_in m = record { lengths = m.lengths.items; strings = m.strings.strings; rows = m.rows; differing = m.differing }
+mark_in m = record {
+  lengths = m.lengths.items;
+  strings = m.strings.strings;
+  rows = m.rows;
+  differing = m.differing;
+}
 
 -- the package, where an input has begun one
 abbrev pub begun_of : Option InProgressDwarfPackage → Option InProgress

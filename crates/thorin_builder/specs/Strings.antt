@@ -15,11 +15,13 @@ each_from f i (suc n) = f i ∷ each_from f (i + 1) n
 
 -- the offset that is the entry of a number
 abbrev pub offset_of_entry : Endianness → Encoding → List ℕ → ℕ → ℕ
-offset_of_entry order encoding range i = number order (offset_size encoding.format) (drop (header_size encoding + i * offset_size encoding.format) range)
+offset_of_entry order encoding range i = number order (offset_size encoding.format)
+    (drop (header_size encoding + i * offset_size encoding.format) range)
 
 -- the offsets of a range, in order
 abbrev pub offsets_in : Endianness → Encoding → List ℕ → List ℕ
-offsets_in order encoding range = each_from (offset_of_entry order encoding range) 0 (entry_count encoding (length range))
+offsets_in order encoding range =
+    each_from (offset_of_entry order encoding range) 0 (entry_count encoding (length range))
 
 -- the strings at these offsets of a section, or the first fault
 unfoldable pub strings_at : List ℕ → List ℕ → Result (List (List ℕ)) ReadError
@@ -30,5 +32,6 @@ strings_at section (offset ∷ offsets) = do
   Ok (string ∷ others)
 
 -- the strings that a range names in a section, or the first fault
-abbrev pub strings_of : Endianness → Encoding → (section range : List ℕ) → Result (List (List ℕ)) ReadError
+abbrev pub strings_of : Endianness → Encoding → (section range : List ℕ)
+    → Result (List (List ℕ)) ReadError
 strings_of order encoding section range = strings_at section (offsets_in order encoding range)

@@ -1,5 +1,6 @@
 -- What comes of an input: its bytes taken, those at a path, those that an executable names.
-use Rattle.std.specs.Prelude.{◌≡◌, ◌≢◌, ℕ, Bool, true, false, List, [], ◌∷◌, ◌++◌, take, length, Option, Some, None, Result, Ok, Err, OnOk, OnErr, ◌⊎◌}
+use Rattle.std.specs.Prelude.{◌≡◌, ◌≢◌, ℕ, Bool, true, false, List, [], ◌∷◌, ◌++◌, take, length}
+use Rattle.std.specs.Prelude.{Option, Some, None, Result, Ok, Err, OnOk, OnErr, ◌⊎◌}
 use Rattle.std.specs.List.{list_any}
 use Rattle.std.specs.Path.{path_bytes}
 use Rattle.std.specs.declared.io.Error.{Error as IoError}
@@ -50,11 +51,14 @@ MayRead offered (Err input_error.Memory) = Unit {0}
 
 -- what a read gave was taken; where it failed, that is the outcome, and nothing changed
 abbrev pub TakesRead : Result (List ℕ) InputError → State → Outcome → State → List (List ℕ) → Type 0
-TakesRead (Ok bytes) old outcome new accepted = Takes bytes old outcome new × (accepted ≡ accepted_of outcome bytes)
-TakesRead (Err e) old outcome new accepted = (outcome ≡ Err (input_fault e)) × (new ≡ old) × (accepted ≡ [])
+TakesRead (Ok bytes) old outcome new accepted =
+    Takes bytes old outcome new × (accepted ≡ accepted_of outcome bytes)
+TakesRead (Err e) old outcome new accepted =
+    (outcome ≡ Err (input_fault e)) × (new ≡ old) × (accepted ≡ [])
 
 -- the same for the object at a path, of which that may be read
-pub record TakesFile (offered : Result (List ℕ) IoError → Type 0) (old : State) (outcome : Outcome) (new : State) : Type 0 where
+pub record TakesFile (offered : Result (List ℕ) IoError
+    → Type 0) (old : State) (outcome : Outcome) (new : State) : Type 0 where
   pub read : Result (List ℕ) InputError
   pub within : MayRead offered read
   pub accepted : List (List ℕ)
@@ -65,7 +69,8 @@ pub record TakesFile (offered : Result (List ℕ) IoError → Type 0) (old : Sta
 -- the units that executables refer to, with one more; a type unit isn't looked for when a package
 -- is finished
 abbrev pub with_target : DwarfObject → State → State
-with_target (Compilation id) state = record state { targets = with_name state.targets (Compilation id) }
+with_target (Compilation id) state =
+    record state { targets = with_name state.targets (Compilation id) }
 with_target (TypeUnit signature) state = state
 
 -- a compilation unit that the package has needs no object
@@ -79,27 +84,36 @@ PassesOver behaviour.Skip cause outcome = outcome ≡ Ok tt
 PassesOver behaviour.Error cause outcome = outcome ≡ Err (error.ReadInput cause)
 
 -- what a read of such an object gave was taken; a failed read alone may be passed over
-abbrev pub TakesReferred : MissingReferencedObjectBehaviour → Result (List ℕ) InputError → State → Outcome → State → List (List ℕ) → Type 0
-TakesReferred missing (Ok bytes) old outcome new accepted = Takes bytes old outcome new × (accepted ≡ accepted_of outcome bytes)
-TakesReferred missing (Err (input_error.Io cause)) old outcome new accepted = PassesOver missing cause outcome × (new ≡ old) × (accepted ≡ [])
-TakesReferred missing (Err input_error.Memory) old outcome new accepted = (outcome ≡ Err error.Memory) × (new ≡ old) × (accepted ≡ [])
+abbrev pub TakesReferred : MissingReferencedObjectBehaviour → Result (List ℕ) InputError → State
+    → Outcome → State → List (List ℕ) → Type 0
+TakesReferred missing (Ok bytes) old outcome new accepted =
+    Takes bytes old outcome new × (accepted ≡ accepted_of outcome bytes)
+TakesReferred missing (Err (input_error.Io cause)) old outcome new accepted =
+    PassesOver missing cause outcome × (new ≡ old) × (accepted ≡ [])
+TakesReferred missing (Err input_error.Memory) old outcome new accepted =
+    (outcome ≡ Err error.Memory) × (new ≡ old) × (accepted ≡ [])
 
 -- the same for the object at a path, of which that may be read
-pub record TakesReferredFile (offered : Result (List ℕ) IoError → Type 0) (missing : MissingReferencedObjectBehaviour) (old : State) (outcome : Outcome) (new : State) : Type 0 where
+pub record TakesReferredFile (offered : Result (List ℕ) IoError → Type 0) (missing :
+    MissingReferencedObjectBehaviour) (old : State) (outcome : Outcome) (new : State) : Type 0 where
   pub read : Result (List ℕ) InputError
   pub within : MayRead offered read
   pub accepted : List (List ℕ)
   pub taken : TakesReferred missing read old outcome new accepted
 
 -- a unit that isn't there was among the targets, and then its object was taken
-pub record TakesAbsent (offer : List ℕ → Result (List ℕ) IoError → Type 0) (missing : MissingReferencedObjectBehaviour) (named : DwarfObject × List ℕ) (old : State) (outcome : Outcome) (new : State) (accepted : List (List ℕ)) : Type 0 where
+pub record TakesAbsent (offer : List ℕ → Result (List ℕ) IoError
+    → Type 0) (missing : MissingReferencedObjectBehaviour) (named : DwarfObject × List ℕ)
+    (old : State) (outcome : Outcome) (new : State) (accepted : List (List ℕ)) : Type 0 where
   pub absent : is_there named.0 old ≡ false
   pub file : TakesReferredFile (offer named.1) missing (with_target named.0 old) outcome new
   pub accepted_is : accepted ≡ file.accepted
 
 -- a unit that an executable refers to, with the path of its object: it is there; or its object was
 -- taken; or memory ran out before
-abbrev pub TakesSkeleton : (List ℕ → Result (List ℕ) IoError → Type 0) → MissingReferencedObjectBehaviour → DwarfObject × List ℕ → State → Outcome → State → List (List ℕ) → Type 0
+abbrev pub TakesSkeleton : (List ℕ → Result (List ℕ) IoError → Type 0)
+    → MissingReferencedObjectBehaviour → DwarfObject × List ℕ → State → Outcome → State
+    → List (List ℕ) → Type 0
 TakesSkeleton offer missing named old outcome new accepted =
     ((is_there named.0 old ≡ true) × (outcome ≡ Ok tt) × (new ≡ old) × (accepted ≡ []))
     ⊎ (TakesAbsent offer missing named old outcome new accepted
@@ -120,29 +134,41 @@ pub record Step : Type 0 where
 -- after the first of a list: a refusal ends it there, with all that came before
 abbrev pub GoesOn : Outcome → Step → Outcome → State → List (List ℕ) → Type 0 → Type 0
 GoesOn (Ok x) s outcome new accepted rest = rest × (accepted ≡ s.here ++ s.later)
-GoesOn (Err e) s outcome new accepted rest = (outcome ≡ Err e) × (new ≡ s.middle) × (accepted ≡ s.here)
+GoesOn (Err e) s outcome new accepted rest =
+    (outcome ≡ Err e) × (new ≡ s.middle) × (accepted ≡ s.here)
 
 -- the units that an executable refers to, in order, up to the first refusal
-abbrev pub TakesSkeletons : (List ℕ → Result (List ℕ) IoError → Type 0) → MissingReferencedObjectBehaviour → List (DwarfObject × List ℕ) → Option Fault → State → Outcome → State → List (List ℕ) → Type 0
-TakesSkeletons offer missing [] fault old outcome new accepted = EndsWith fault outcome × (new ≡ old) × (accepted ≡ [])
+abbrev pub TakesSkeletons : (List ℕ → Result (List ℕ) IoError → Type 0)
+    → MissingReferencedObjectBehaviour → List (DwarfObject × List ℕ) → Option Fault → State
+    → Outcome → State → List (List ℕ) → Type 0
+TakesSkeletons offer missing [] fault old outcome new accepted =
+    EndsWith fault outcome × (new ≡ old) × (accepted ≡ [])
 TakesSkeletons offer missing (named ∷ rest) fault old outcome new accepted =
     (s : Step) × (first : Outcome) × TakesSkeleton offer missing named old first s.middle s.here
-    × GoesOn first s outcome new accepted (TakesSkeletons offer missing rest fault s.middle outcome new s.later)
+    × GoesOn first s outcome new accepted
+    (TakesSkeletons offer missing rest fault s.middle outcome new s.later)
 
 -- each of these was taken
-abbrev pub AllTaken : (List ℕ → Result (List ℕ) IoError → Type 0) → MissingReferencedObjectBehaviour → List (DwarfObject × List ℕ) → State → State → List (List ℕ) → Type 0
+abbrev pub AllTaken : (List ℕ → Result (List ℕ) IoError → Type 0) → MissingReferencedObjectBehaviour
+    → List (DwarfObject × List ℕ) → State → State → List (List ℕ) → Type 0
 AllTaken offer missing [] old new accepted = (new ≡ old) × (accepted ≡ [])
 AllTaken offer missing (named ∷ rest) old new accepted =
-    (s : Step) × TakesSkeleton offer missing named old (Ok tt) s.middle s.here × AllTaken offer missing rest s.middle new s.later × (accepted ≡ s.here ++ s.later)
+    (s : Step) × TakesSkeleton offer missing named old (Ok tt) s.middle s.here
+    × AllTaken offer missing rest s.middle new s.later × (accepted ≡ s.here ++ s.later)
 
 -- each was taken, or those up to the first refusal, whatever ends the list
-abbrev pub TakesEach : (List ℕ → Result (List ℕ) IoError → Type 0) → MissingReferencedObjectBehaviour → List (DwarfObject × List ℕ) → State → Outcome → State → List (List ℕ) → Type 0
+abbrev pub TakesEach : (List ℕ → Result (List ℕ) IoError → Type 0)
+    → MissingReferencedObjectBehaviour → List (DwarfObject × List ℕ) → State → Outcome → State
+    → List (List ℕ) → Type 0
 TakesEach offer missing list old (Ok x) new accepted = AllTaken offer missing list old new accepted
-TakesEach offer missing list old (Err e) new accepted = (fault : Option Fault) → TakesSkeletons offer missing list fault old (Err e) new accepted
+TakesEach offer missing list old (Err e) new accepted =
+    (fault : Option Fault) → TakesSkeletons offer missing list fault old (Err e) new accepted
 
 -- the units that an executable's bytes refer to and the fault that ends their list; where memory
 -- ran out, the first of them
-pub record TakesNamed (offer : List ℕ → Result (List ℕ) IoError → Type 0) (missing : MissingReferencedObjectBehaviour) (bytes : List ℕ) (old : State) (outcome : Outcome) (new : State) (accepted : List (List ℕ)) : Type 0 where
+pub record TakesNamed (offer : List ℕ → Result (List ℕ) IoError
+    → Type 0) (missing : MissingReferencedObjectBehaviour) (bytes : List ℕ) (old : State)
+    (outcome : Outcome) (new : State) (accepted : List (List ℕ)) : Type 0 where
   pub named : List (DwarfObject × List ℕ)
   pub fault : Option Fault
   pub are : fault ≢ Some Memory → skeletons_of bytes ≡ (named, fault)
@@ -150,12 +176,18 @@ pub record TakesNamed (offer : List ℕ → Result (List ℕ) IoError → Type 0
   pub taken : TakesSkeletons offer missing named fault old outcome new accepted
 
 -- what a read of an executable gave was taken
-abbrev pub TakesExecutableRead : (List ℕ → Result (List ℕ) IoError → Type 0) → MissingReferencedObjectBehaviour → Result (List ℕ) InputError → State → Outcome → State → List (List ℕ) → Type 0
-TakesExecutableRead offer missing (Ok bytes) old outcome new accepted = TakesNamed offer missing bytes old outcome new accepted
-TakesExecutableRead offer missing (Err e) old outcome new accepted = (outcome ≡ Err (input_fault e)) × (new ≡ old) × (accepted ≡ [])
+abbrev pub TakesExecutableRead : (List ℕ → Result (List ℕ) IoError → Type 0)
+    → MissingReferencedObjectBehaviour → Result (List ℕ) InputError → State → Outcome → State
+    → List (List ℕ) → Type 0
+TakesExecutableRead offer missing (Ok bytes) old outcome new accepted =
+    TakesNamed offer missing bytes old outcome new accepted
+TakesExecutableRead offer missing (Err e) old outcome new accepted =
+    (outcome ≡ Err (input_fault e)) × (new ≡ old) × (accepted ≡ [])
 
 -- the same for the executable at a path, of which that may be read
-pub record TakesExecutable (offer : List ℕ → Result (List ℕ) IoError → Type 0) (path : List ℕ) (missing : MissingReferencedObjectBehaviour) (old : State) (outcome : Outcome) (new : State) : Type 0 where
+pub record TakesExecutable (offer : List ℕ → Result (List ℕ) IoError
+    → Type 0) (path : List ℕ) (missing : MissingReferencedObjectBehaviour) (old : State)
+    (outcome : Outcome) (new : State) : Type 0 where
   pub read : Result (List ℕ) InputError
   pub within : MayRead (offer path) read
   pub accepted : List (List ℕ)

@@ -18,17 +18,29 @@ abbrev pub new_unit : NewUnit → spec.NewUnit
 new_unit u = record { place = u.place; bytes = u.bytes.now; row = u.row }
 
 abbrev pub new_of : NewUnits → spec.New
-new_of n = record { units = map (λ e. (e.0, new_unit e.1)) n.units.entries; differing = map (λ s. s.0) n.differing.items }
+new_of n = record {
+  units = map (λ e. (e.0, new_unit e.1)) n.units.entries;
+  differing = map (λ s. s.0) n.differing.items;
+}
 
 abbrev pub adding_of : Adding → spec.Adding
-adding_of a = record { source = source a.source.now; whole = a.whole.row; held = held_units (in_progress_of a.package.now) }
+adding_of a = record {
+  source = source a.source.now;
+  whole = a.whole.row;
+  held = held_units (in_progress_of a.package.now);
+}
 
 abbrev pub met_of : Met → spec.Met
 met_of m = record { info = m.info; types = m.types }
 
 -- what a reader of a section has left
 abbrev pub left_in : SliceReader → Input
-left_in r = record { order = r.order; relocated = λ place stored. stored; place = r.place; bytes = r.bytes.now }
+left_in r = record {
+  order = r.order;
+  relocated = λ place stored. stored;
+  place = r.place;
+  bytes = r.bytes.now;
+}
 
 -- the byte order and the abbreviations that an input's units are named with
 abbrev pub tables_in : Object → Endianness × List ℕ

@@ -1,10 +1,12 @@
 -- Which sections of an input a package is made of, and what they hold (DWARF 5, 7.3.5; the
 -- GNU page DebugFissionDWP).
-use Rattle.std.specs.Prelude.{ℕ, List, [], ◌∷◌, ◌++◌, Bool, ◌&&◌, ◌||◌, if◌then◌else◌, Option, Some, None, Result, Ok, Err, find, is_some}
+use Rattle.std.specs.Prelude.{ℕ, List, [], ◌∷◌, ◌++◌, Bool, ◌&&◌, ◌||◌, if◌then◌else◌, Option, Some}
+use Rattle.std.specs.Prelude.{None, Result, Ok, Err, find, is_some}
 use Rattle.std.specs.List.{list_any}
 use Rattle.dwp_base.specs.declared.endian.Endianness.{Endianness}
 use Rattle.dwp_base.specs.declared.section.SectionKind.{SectionKind}
-use Rattle.dwp_base.specs.declared.section.SectionKind.TheVariants.{Info, Abbrev, Str, CuIndex, TuIndex}
+use Rattle.dwp_base.specs.declared.section.SectionKind.TheVariants.{Info, Abbrev, Str, CuIndex}
+use Rattle.dwp_base.specs.declared.section.SectionKind.TheVariants.{TuIndex}
 use Rattle.dwp_base.specs.Reading.{◌>>=◌}
 use Rattle.dwp_base.specs.Sections.{name_of, all_kinds, same_kind}
 use Rattle.dwp_elf_read.specs.declared.fault.ReadError.{ReadError}
@@ -16,7 +18,8 @@ use Rattle.dwp_elf_read.specs.Elf.{Elf, SectionMeaning, elf_of}
 use Rattle.dwp_elf_read.specs.Identification as identification
 use Rattle.dwp_index.specs.Contents as contents
 use Rattle.dwp_index.specs.Contents.{has_name, is_of_kind}
-use Rattle.thorin_faults.specs.Fault.{Fault, ParseFileKind, InvalidInputKind, ParseObjectFile, DecompressData, ObjectRead}
+use Rattle.thorin_faults.specs.Fault.{Fault, ParseFileKind, InvalidInputKind, ParseObjectFile}
+use Rattle.thorin_faults.specs.Fault.{DecompressData, ObjectRead}
 use Rattle.thorin_faults.specs.Answers.{as_fault}
 
 -- a section that is used: its kind, its content and its address
@@ -96,7 +99,12 @@ pub record Object : Type 0 where
 unfoldable pub object_of : Elf → Result Object Fault
 object_of file = do
   sections ← used_from [] file.sections
-  Ok (record { order = file.order; sections = sections; has_strings = is_present Str file; has_abbreviations = is_present Abbrev file })
+  Ok (record {
+    order = file.order;
+    sections = sections;
+    has_strings = is_present Str file;
+    has_abbreviations = is_present Abbrev file;
+  })
 
 -- the content of a section that may be there
 abbrev pub bytes_of : Option Used → List ℕ

@@ -17,7 +17,12 @@ used s = record { kind = s.kind; bytes = s.bytes.now; address = s.address }
 
 -- an input whose sections are known
 abbrev pub object : InputObject → Object
-object o = record { order = o.order; sections = map used o.sections.items; has_strings = o.has_strings; has_abbreviations = o.has_abbreviations }
+object o = record {
+  order = o.order;
+  sections = map used o.sections.items;
+  has_strings = o.has_strings;
+  has_abbreviations = o.has_abbreviations;
+}
 
 -- its indexes
 abbrev pub indexes : Indexes → spec.Indexes

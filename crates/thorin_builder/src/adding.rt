@@ -53,7 +53,8 @@ fn test_order(in_progress: &Option<InProgressDwarfPackage>, order: Endianness) -
     }
 }
 
-/// Adds the units of an input to the package, which it may begin. Gives whether each has its encoding.
+/// Adds the units of an input to the package, which it may begin. Gives whether each has its
+/// encoding.
 #[tactic(auto, unfolding(crate::specs::Builder::with_source_or_new))]
 fn add_source(
     alloc: Global,
@@ -62,7 +63,8 @@ fn add_source(
     source: &Source<'_>,
 ) -> Result<bool, Error>
     ensures alike { IfOk result (λ alike. alike ≡ are_alike (view.source source.now)) }
-    ensures meaning { Gives (λ _. begun_of in_progress.new) result (spec.with_source_or_new (elf file.now) (view.source source.now) (begun_of in_progress.old)) }
+    ensures meaning { Gives (λ _. begun_of in_progress.new) result (spec.with_source_or_new
+        (elf file.now) (view.source source.now) (begun_of in_progress.old)) }
     ensures err { OnErr result (begun_of in_progress.new ≡ begun_of in_progress.old) }
 {
     match in_progress {
@@ -86,7 +88,8 @@ fn add_units(
 ) -> Result<Option<Encoding>, Error>
     requires { object_of (elf file.now) ≡ Ok (view.object object) }
     ensures own { IfOk result (λ own. file_encoding (elf file.now) ≡ Ok own) }
-    ensures meaning { Gives (λ _. begun_of in_progress.new) result (spec.with_units (elf file.now) (begun_of in_progress.old)) }
+    ensures meaning { Gives (λ _. begun_of in_progress.new) result
+        (spec.with_units (elf file.now) (begun_of in_progress.old)) }
     ensures err { OnErr result (begun_of in_progress.new ≡ begun_of in_progress.old) }
 {
     let encoding = object.encoding()?;
@@ -101,11 +104,11 @@ fn add_units(
     Ok(source.object.one_encoding(encoding, alike))
 }
 
-/// Adds an input: its units that aren't there, with all that belongs to them; without an info section
-/// it only begins the package. Gives the one encoding of all its units, where it is a plain object and
-/// there is one. The first fault from left to right: of the file's kind, the ELF file, the used sections,
-/// the first unit, the byte order, the indexes, the kinds of sections and the string offsets, the
-/// abbreviations, the units. An `Err` leaves the package as it was.
+/// Adds an input: its units that aren't there, with all that belongs to them; without an info
+/// section it only begins the package. Gives the one encoding of all its units, where it is a plain
+/// object and there is one. The first fault from left to right: of the file's kind, the ELF file,
+/// the used sections, the first unit, the byte order, the indexes, the kinds of sections and the
+/// string offsets, the abbreviations, the units. An `Err` leaves the package as it was.
 #[tactic(auto, unfolding(crate::specs::Builder::with_input, crate::specs::Builder::with_units, crate::specs::Encodings::own_encoding))]
 pub(crate) fn add_input(
     alloc: Global,
@@ -113,7 +116,8 @@ pub(crate) fn add_input(
     bytes: &[u8],
 ) -> Result<Option<Encoding>, Error>
     ensures own { IfOk result (λ own. own_encoding bytes.now ≡ Ok own) }
-    ensures meaning { Gives (λ _. begun_of in_progress.new) result (spec.with_input bytes.now (begun_of in_progress.old)) }
+    ensures meaning { Gives (λ _.
+        begun_of in_progress.new) result (spec.with_input bytes.now (begun_of in_progress.old)) }
     ensures err { OnErr result (begun_of in_progress.new ≡ begun_of in_progress.old) }
 {
     let file = opened(bytes)?;

@@ -13,7 +13,8 @@ use crate::joins::inputs_are_joined;
 /// different inputs in one section don't overlap, and each lies inside its section and has bytes.
 /// It does nothing.
 pub fn inputs_stand_apart()
-    ensures { (bytes : List ℕ) (begun : Option InProgress) (now : InProgress) → IsSoundBegun begun → with_input bytes begun ≡ Ok (Some now) → StandApart begun now }
+    ensures { (bytes : List ℕ) (begun : Option InProgress) (now : InProgress) → IsSoundBegun begun
+        → with_input bytes begun ≡ Ok (Some now) → StandApart begun now }
 {
     inputs_are_joined();
 }
@@ -21,7 +22,8 @@ pub fn inputs_stand_apart()
 /// The law of strings: after an input the package's strings are those before and then those that
 /// the input's string offsets name, in order of first use, none twice. It does nothing.
 pub fn strings_stand_in_order_of_first_use()
-    ensures { (bytes : List ℕ) (begun : Option InProgress) (now : InProgress) → IsSoundBegun begun → with_input bytes begun ≡ Ok (Some now) → UsesStrings bytes begun now }
+    ensures { (bytes : List ℕ) (begun : Option InProgress) (now : InProgress) → IsSoundBegun begun
+        → with_input bytes begun ≡ Ok (Some now) → UsesStrings bytes begun now }
 {
     inputs_are_joined();
 }

@@ -26,10 +26,11 @@ impl<'a> InputObject<'a> {
         }
     }
 
-    /// The one encoding of all units of a plain object, whose first unit has this one, where all are
-    /// alike; none of a finished package.
+    /// The one encoding of all units of a plain object, whose first unit has this one, where all
+    /// are alike; none of a finished package.
     pub fn one_encoding(&self, encoding: Encoding, alike: bool) -> Option<Encoding>
-        ensures { result ≡ (if spec.is_plain (object self.now).sections && alike then Some encoding else None) }
+        ensures { result ≡ (if spec.is_plain (object self.now).sections && alike
+            then Some encoding else None) }
     {
         if self.plain && alike {
             Some(encoding)

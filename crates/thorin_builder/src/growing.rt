@@ -31,7 +31,8 @@ pub(crate) fn put(
     bytes: &[u8],
 ) -> Result<Option<Contribution>, Error>
     ensures place { IfOk result (λ place. place ≡ spec.range_put kind bytes.now file.old.contents) }
-    ensures contents { OnOk result (file.new ≡ record file.old { contents = spec.with_bytes kind bytes.now file.old.contents }) }
+    ensures contents { OnOk result (file.new
+        ≡ record file.old { contents = spec.with_bytes kind bytes.now file.old.contents }) }
     ensures refused { IfErr result (λ e. (e ≡ Error.Memory) × (file.new ≡ file.old)) }
 {
     Ok(file.append(kind, bytes)?)
@@ -43,8 +44,10 @@ pub(crate) fn put_moved(
     kind: SectionKind,
     bytes: Vec<u8>,
 ) -> Result<Option<Contribution>, Error>
-    ensures place { IfOk result (λ place. place ≡ spec.range_put kind bytes.items file.old.contents) }
-    ensures contents { OnOk result (file.new ≡ record file.old { contents = spec.with_bytes kind bytes.items file.old.contents }) }
+    ensures place { IfOk result (λ place.
+        place ≡ spec.range_put kind bytes.items file.old.contents) }
+    ensures contents { OnOk result (file.new
+        ≡ record file.old { contents = spec.with_bytes kind bytes.items file.old.contents }) }
     ensures refused { IfErr result (λ e. (e ≡ Error.Memory) × (file.new ≡ file.old)) }
 {
     Ok(file.append_moved(kind, bytes)?)
@@ -63,7 +66,8 @@ pub(crate) fn lengths(alloc: Global, file: &WritableObject) -> Result<Vec<usize>
 
 /// Takes back what was added to contents of these lengths.
 pub(crate) fn restore(file: &mut WritableObject, lengths: &[usize])
-    ensures { (before : Object) → IsGrown before file.old → lengths.now ≡ spec.lengths before.contents → file.new ≡ before }
+    ensures { (before : Object) → IsGrown before file.old
+        → lengths.now ≡ spec.lengths before.contents → file.new ≡ before }
 {
     file.truncate(lengths);
 }

@@ -18,8 +18,10 @@ use thorin_strings::laws::rewritten_offsets_name_the_same;
 /// taken, the units that it had and those that the input joins to them, and all of them can be
 /// found and read. It does nothing.
 pub fn inputs_are_joined()
-    ensures sound { (bytes : List ℕ) (begun now : Option InProgress) → IsSoundBegun begun → with_input bytes begun ≡ Ok now → IsSoundBegun now }
-    ensures joins { (bytes : List ℕ) (begun now : Option InProgress) → IsSoundBegun begun → with_input bytes begun ≡ Ok now → Joins bytes (units_begun begun) (units_begun now) }
+    ensures sound { (bytes : List ℕ) (begun now : Option InProgress) → IsSoundBegun begun
+        → with_input bytes begun ≡ Ok now → IsSoundBegun now }
+    ensures joins { (bytes : List ℕ) (begun now : Option InProgress) → IsSoundBegun begun
+        → with_input bytes begun ≡ Ok now → Joins bytes (units_begun begun) (units_begun now) }
 {
     rewritten_offsets_name_the_same();
     rewritten_strings_are_read_alike();

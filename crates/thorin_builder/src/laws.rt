@@ -24,7 +24,13 @@ pub fn written_packages_are_read()
         → (compilations types : Option Index)
         → index_in_section o.order (content_of CuIndex o.contents) ≡ Ok compilations
         → index_in_section o.order (content_of TuIndex o.contents) ≡ Ok types
-        → package_of (file_text o) ≡ Ok (record { order = o.order; contents = sections_of (λ kind. content_of kind o.contents); compilations = compilations; types = types }) }
+        → package_of (file_text o) ≡ Ok (record {
+          order = o.order;
+          contents = sections_of (λ kind.
+              content_of kind o.contents);
+          compilations = compilations;
+          types = types;
+        }) }
 {
     written_contents_are_read_back();
     contents_are_read();

@@ -1,5 +1,5 @@
-//! The builder: split DWARF objects and finished packages joined into one package (DWARF 5, 7.3.5; the GNU page
-//! DebugFissionDWP).
+//! The builder: split DWARF objects and finished packages joined into one package (DWARF 5, 7.3.5;
+//! the GNU page DebugFissionDWP).
 #![tactic(auto)]
 
 mod adding;

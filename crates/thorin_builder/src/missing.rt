@@ -61,7 +61,10 @@ fn first_missing(
     targets: &IndexSet<DwarfObject>,
     start: usize,
 ) -> Option<(DwarfObject, usize)>
-    ensures { MatchOption result (filter (is_missing contained.now.keys) (drop start targets.now.keys) ≡ []) (λ s. filter (is_missing contained.now.keys) (drop start targets.now.keys) ≡ s.0 ∷ filter (is_missing contained.now.keys) (drop s.1 targets.now.keys)) }
+    ensures { MatchOption result
+        (filter (is_missing contained.now.keys) (drop start targets.now.keys) ≡ []) (λ s.
+        filter (is_missing contained.now.keys) (drop start targets.now.keys)
+        ≡ s.0 ∷ filter (is_missing contained.now.keys) (drop s.1 targets.now.keys)) }
 {
     for place in start..targets.len() {
         if let Some(target) = targets.get_index(place) {

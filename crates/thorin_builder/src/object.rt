@@ -32,7 +32,8 @@ pub(crate) struct InputObject<'a> {
     pub has_abbreviations: bool,
     /// Whether no section is an index.
     pub plain: bool,
-    ghost no_index: { plain ≡ not (list_any (λ s. same_kind s.kind kinds.CuIndex || same_kind s.kind kinds.TuIndex) sections.items) },
+    ghost no_index: { plain ≡ not (list_any (λ s. same_kind s.kind kinds.CuIndex
+        || same_kind s.kind kinds.TuIndex) sections.items) },
 }
 
 /// The ELF file that an input is: `ParseFileKind`, `InvalidInputKind` for an archive,

@@ -12,7 +12,8 @@ ghost use Rattle.thorin_identity.specs.Identity.{identity};
 ghost use Rattle.thorin_builder.specs.Builder.{State, order_of, taken};
 ghost use Rattle.thorin_builder.specs.Growing.{Contents};
 ghost use Rattle.thorin_builder.specs.Indexes.{Source};
-ghost use Rattle.thorin_builder.specs.OwnInput.{written_used, IsOwn, TakesUpToParts, CanTake, TakesParts};
+ghost use Rattle.thorin_builder.specs.OwnInput.{written_used, IsOwn, TakesUpToParts, CanTake};
+ghost use Rattle.thorin_builder.specs.OwnInput.{TakesParts};
 ghost use Rattle.thorin_builder.specs.OwnUnits.{HoldsOwn};
 ghost use Rattle.thorin_builder.specs.Represents.{IsSoundBegun};
 ghost use Rattle.thorin_builder.specs.State.{InProgress};
@@ -23,7 +24,8 @@ use thorin_parts::laws::written_index_is_read;
 /// The law of the one encoding: where the inputs of a builder have one, there are units, and all of
 /// them come from inputs of it; an input that is taken keeps that so. It does nothing.
 pub fn one_encoding_is_kept()
-    ensures { (bytes : List ℕ) (old new : State) → IsSoundBegun old.begun → HoldsOwn old → taken bytes old ≡ Ok new → HoldsOwn new }
+    ensures { (bytes : List ℕ) (old new : State) → IsSoundBegun old.begun → HoldsOwn old
+        → taken bytes old ≡ Ok new → HoldsOwn new }
 {
     inputs_are_joined();
 }
@@ -33,9 +35,12 @@ pub fn one_encoding_is_kept()
 /// and both indexes, in a package of their byte order or a new one; and its sections are taken as
 /// parts where they are in the format and its string offsets can be rewritten. It does nothing.
 pub fn own_packages_are_taken_up_to_their_parts()
-    ensures tests { (state : State) (encoding : Encoding) (file : Object) → IsOwn state encoding file
-        → (before : Option InProgress) → order_of before file.order ≡ file.order → TakesUpToParts file encoding before }
-    ensures parts { (source : Source) (contents : Contents) (strings : List (List ℕ)) → source.object.sections ≡ written_used contents → KindsDiffer contents
+    ensures tests { (state : State) (encoding : Encoding) (file : Object)
+        → IsOwn state encoding file
+        → (before : Option InProgress) → order_of before file.order ≡ file.order
+        → TakesUpToParts file encoding before }
+    ensures parts { (source : Source) (contents : Contents) (strings : List (List ℕ))
+        → source.object.sections ≡ written_used contents → KindsDiffer contents
         → CanTake source contents strings → TakesParts source strings }
 {
     written_index_is_read();
@@ -45,5 +50,6 @@ pub fn own_packages_are_taken_up_to_their_parts()
 /// too where more bytes follow the table (DWARF 5, 7.5.3). It does nothing.
 pub fn identities_stay_in_longer_abbreviations()
     ensures { (order : Endianness) (table rest : List ℕ) (unit : Unit) (name : Option DwarfObject)
-        → identity (section order table) unit ≡ Ok name → identity (section order (table ++ rest)) unit ≡ Ok name }
+        → identity (section order table) unit ≡ Ok name
+        → identity (section order (table ++ rest)) unit ≡ Ok name }
 {}

@@ -1,6 +1,7 @@
 //! The package builder.
 
-ghost use Rattle.std.specs.Prelude.{◌≡◌, ℕ, List, map, filter, length, IsTrue, IfOk, IfErr, OnOk, OnErr};
+ghost use Rattle.std.specs.Prelude.{◌≡◌, ℕ, List, map, filter, length, IsTrue, IfOk, IfErr, OnOk};
+ghost use Rattle.std.specs.Prelude.{OnErr};
 ghost use Rattle.thorin_faults.specs.Answers.{Gives};
 ghost use Rattle.std.specs.Path.{path_bytes};
 ghost use Rattle.thorin_builder.specs.Builder as spec;
@@ -12,7 +13,9 @@ ghost use Rattle.thorin_builder.specs.Missing.{missing_left};
 ghost use Rattle.thorin_builder.specs.Own.{packs_again};
 ghost use Rattle.thorin_builder.specs.OwnUnits.{HasOneEncoding};
 ghost use Rattle.thorin_builder.specs.StateView.{begun_of};
-ghost use Rattle.thorin_builder.specs.Taking.{TakesFile, TakesExecutable, TakesNamed, TakesEach, TakesSkeleton, TakesReferredFile, with_target, is_there};
+ghost use Rattle.thorin_builder.specs.Taking.{TakesFile, TakesExecutable, TakesNamed, TakesEach};
+ghost use Rattle.thorin_builder.specs.Taking.{TakesSkeleton, TakesReferredFile, with_target};
+ghost use Rattle.thorin_builder.specs.Taking.{is_there};
 ghost use Rattle.thorin_executable.specs.Skeletons.{skeletons_of};
 ghost use Rattle.thorin_executable.specs.View.{named, listed, IsFront, UnlessMemory};
 
@@ -67,7 +70,8 @@ impl<'output, 'session: 'output, Sess: Session<RelocationEntry>> Model
 
     ghost view = { building };
 
-    ghost invariant = { λ p. (p.no_units.keys ≡ []) × IsSoundBegun (begun_of p.in_progress) × HoldsOwn (building p).state × HoldsPlain (building p).state };
+    ghost invariant = { λ p. (p.no_units.keys ≡ []) × IsSoundBegun (begun_of p.in_progress)
+        × HoldsOwn (building p).state × HoldsPlain (building p).state };
 }
 
 impl<'output, 'session: 'output, Sess: Session<RelocationEntry>> fmt::Debug
@@ -107,7 +111,8 @@ impl<'output, 'session: 'output, Sess: Session<RelocationEntry>> DwarfPackage<
     /// `ReadInput` where the session can't read it, `Memory` where it has none, else those of
     /// `add_object_bytes`. An `Err` leaves the package as it was.
     pub fn add_input_object(&mut self, path: Path<'_>) -> Result<(), Error>
-        ensures taken { TakesFile (Sess.offer self.old.session (path_bytes path.entry)) self.old.state result self.new.state }
+        ensures taken { TakesFile (Sess.offer self.old.session (path_bytes path.entry))
+            self.old.state result self.new.state }
         ensures session { self.new.session ≡ self.old.session }
     {
         let session = self.session;
@@ -126,7 +131,8 @@ impl<'output, 'session: 'output, Sess: Session<RelocationEntry>> DwarfPackage<
         room: &mut Vec<u8>,
         path: Path<'_>,
     ) -> Result<(), Error>
-        ensures taken { TakesFile (R.offer reader.now (path_bytes path.entry)) self.old.state result self.new.state }
+        ensures taken { TakesFile (R.offer reader.now (path_bytes path.entry)) self.old.state result
+            self.new.state }
         ensures session { self.new.session ≡ self.old.session }
     {
         match reader.read_into(path, room) {
@@ -156,7 +162,8 @@ impl<'output, 'session: 'output, Sess: Session<RelocationEntry>> DwarfPackage<
     #[tactic(auto, unfolding(crate::specs::Builder::taken))]
     pub fn add_object_bytes(&mut self, bytes: &[u8]) -> Result<(), Error>
         ensures meaning { Gives (λ _. self.new.state) result (spec.taken bytes.now self.old.state) }
-        ensures joins { OnOk result (Joins bytes.now (units_in self.old.state) (units_in self.new.state)) }
+        ensures joins { OnOk result
+            (Joins bytes.now (units_in self.old.state) (units_in self.new.state)) }
         ensures err { OnErr result (self.new.state ≡ self.old.state) }
         ensures session { self.new.session ≡ self.old.session }
     {
@@ -192,7 +199,8 @@ impl<'output, 'session: 'output, Sess: Session<RelocationEntry>> DwarfPackage<
         path: Path<'_>,
         missing: MissingReferencedObjectBehaviour,
     ) -> Result<(), Error>
-        ensures taken { TakesExecutable (Sess.offer self.old.session) (path_bytes path.entry) missing self.old.state result self.new.state }
+        ensures taken { TakesExecutable (Sess.offer self.old.session) (path_bytes path.entry)
+            missing self.old.state result self.new.state }
         ensures session { self.new.session ≡ self.old.session }
     {
         let session = self.session;
@@ -212,7 +220,8 @@ impl<'output, 'session: 'output, Sess: Session<RelocationEntry>> DwarfPackage<
         path: Path<'_>,
         missing: MissingReferencedObjectBehaviour,
     ) -> Result<(), Error>
-        ensures taken { TakesExecutable (R.offer reader.now) (path_bytes path.entry) missing self.old.state result self.new.state }
+        ensures taken { TakesExecutable (R.offer reader.now) (path_bytes path.entry) missing
+            self.old.state result self.new.state }
         ensures session { self.new.session ≡ self.old.session }
     {
         match reader.read_into(path, room) {
@@ -233,8 +242,10 @@ impl<'output, 'session: 'output, Sess: Session<RelocationEntry>> DwarfPackage<
         list: SkeletonList,
         missing: MissingReferencedObjectBehaviour,
     ) -> Result<(), Error>
-        ensures taken { (bytes : List ℕ) → IsFront list (skeletons_of bytes) → UnlessMemory list.fault (skeletons_of bytes ≡ listed list)
-            → (accepted : List (List ℕ)) × TakesNamed (R.offer reader.now) missing bytes self.old.state result self.new.state accepted }
+        ensures taken { (bytes : List ℕ) → IsFront list (skeletons_of bytes)
+            → UnlessMemory list.fault (skeletons_of bytes ≡ listed list)
+            → (accepted : List (List ℕ)) × TakesNamed (R.offer reader.now) missing bytes
+            self.old.state result self.new.state accepted }
         ensures session { self.new.session ≡ self.old.session }
     {
         let SkeletonList { units, fault } = list;
@@ -256,7 +267,8 @@ impl<'output, 'session: 'output, Sess: Session<RelocationEntry>> DwarfPackage<
         units: &[Skeleton],
         missing: MissingReferencedObjectBehaviour,
     ) -> Result<(), Error>
-        ensures taken { (accepted : List (List ℕ)) × TakesEach (R.offer reader.now) missing (map named units.now) self.old.state result self.new.state accepted }
+        ensures taken { (accepted : List (List ℕ)) × TakesEach (R.offer reader.now) missing
+            (map named units.now) self.old.state result self.new.state accepted }
         ensures session { self.new.session ≡ self.old.session }
     {
         for skeleton in units {
@@ -276,7 +288,8 @@ impl<'output, 'session: 'output, Sess: Session<RelocationEntry>> DwarfPackage<
         skeleton: &Skeleton,
         missing: MissingReferencedObjectBehaviour,
     ) -> Result<(), Error>
-        ensures taken { (accepted : List (List ℕ)) × TakesSkeleton (R.offer reader.now) missing (named skeleton.now) self.old.state result self.new.state accepted }
+        ensures taken { (accepted : List (List ℕ)) × TakesSkeleton (R.offer reader.now) missing
+            (named skeleton.now) self.old.state result self.new.state accepted }
         ensures session { self.new.session ≡ self.old.session }
     {
         if self.is_there(skeleton.target) {
@@ -300,7 +313,8 @@ impl<'output, 'session: 'output, Sess: Session<RelocationEntry>> DwarfPackage<
     /// nothing.
     fn add_target(&mut self, target: DwarfObject) -> Result<(), Error>
         ensures target { OnOk result (self.new.state ≡ with_target target self.old.state) }
-        ensures refused { IfErr result (λ e. (e ≡ Error.Memory) × (self.new.state ≡ self.old.state)) }
+        ensures refused { IfErr result (λ e. (e ≡ Error.Memory)
+            × (self.new.state ≡ self.old.state)) }
         ensures session { self.new.session ≡ self.old.session }
     {
         match target {
@@ -321,7 +335,8 @@ impl<'output, 'session: 'output, Sess: Session<RelocationEntry>> DwarfPackage<
         path: Path<'_>,
         missing: MissingReferencedObjectBehaviour,
     ) -> Result<(), Error>
-        ensures taken { TakesReferredFile (R.offer reader.now (path_bytes path.entry)) missing self.old.state result self.new.state }
+        ensures taken { TakesReferredFile (R.offer reader.now (path_bytes path.entry)) missing
+            self.old.state result self.new.state }
         ensures session { self.new.session ≡ self.old.session }
     {
         match reader.read_into(path, room) {
@@ -421,7 +436,8 @@ impl<'output, 'session: 'output, Sess: Session<RelocationEntry>> DwarfPackage<
     /// The units that executables refer to and that aren't contained, in order of insertion. It
     /// takes no memory.
     pub fn missing_targets(&self) -> MissingTargets<'_>
-        ensures { missing_left result ≡ filter (spec.is_missing (spec.names_in self.now.state.begun)) self.now.state.targets }
+        ensures { missing_left result
+            ≡ filter (spec.is_missing (spec.names_in self.now.state.begun)) self.now.state.targets }
     {
         MissingTargets::new(self.contained_units(), &self.targets)
     }

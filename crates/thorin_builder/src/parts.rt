@@ -106,7 +106,8 @@ fn rewritten(
     strings: &mut PackageStringTable,
 ) -> Result<Vec<u8>, Error>
     requires { named.now ≡ first Str (view.source source.now).object.sections }
-    ensures meaning { Gives (λ written. (written.items, strings.new)) result (spec.rewritten (view.source source.now) bytes.now strings.old) }
+    ensures meaning { Gives (λ written. (written.items, strings.new)) result
+        (spec.rewritten (view.source source.now) bytes.now strings.old) }
     ensures kept { take (length strings.old) strings.new ≡ strings.old }
 {
     let object = &source.object;
@@ -138,7 +139,11 @@ fn add_offsets<'a>(
     strings: &mut PackageStringTable,
 ) -> Result<(), Error>
     requires { named.now ≡ first Str (view.source source.now).object.sections }
-    ensures meaning { Gives (λ _. (map view.part parts.new.items, strings.new)) result (spec.with_offsets (view.source source.now) (map view.part parts.old.items, strings.old) bytes.now) }
+    ensures meaning { Gives (λ _. (map view.part parts.new.items, strings.new)) result
+        (spec.with_offsets (view.source source.now) (
+          map view.part parts.old.items,
+          strings.old,
+        ) bytes.now) }
     ensures kept { take (length strings.old) strings.new ≡ strings.old }
 {
     if !source.object.has_strings {
@@ -164,7 +169,11 @@ fn add_part<'a>(
     strings: &mut PackageStringTable,
 ) -> Result<(), Error>
     requires { named.now ≡ first Str (view.source source.now).object.sections }
-    ensures meaning { Gives (λ _. (map view.part parts.new.items, strings.new)) result (spec.with_part (view.source source.now) (map view.part parts.old.items, strings.old) (view.used section.entry)) }
+    ensures meaning { Gives (λ _. (map view.part parts.new.items, strings.new)) result
+        (spec.with_part (view.source source.now) (
+          map view.part parts.old.items,
+          strings.old,
+        ) (view.used section.entry)) }
     ensures kept { take (length strings.old) strings.new ≡ strings.old }
 {
     if stands_once(source, section.kind) && has_part(parts, section.kind) {
@@ -194,7 +203,8 @@ pub(crate) fn parts_of<'a>(
     source: &Source<'a>,
     strings: &mut PackageStringTable,
 ) -> Result<Vec<Part<'a>>, Error>
-    ensures meaning { Gives (λ parts. (map view.part parts.items, strings.new)) result (spec.parts_of (view.source source.now) strings.old) }
+    ensures meaning { Gives (λ parts. (map view.part parts.items, strings.new)) result
+        (spec.parts_of (view.source source.now) strings.old) }
     ensures kept { take (length strings.old) strings.new ≡ strings.old }
 {
     let mut parts = Vec::new(alloc);
@@ -210,7 +220,8 @@ pub(crate) fn parts_of<'a>(
 /// leave bytes behind those before.
 #[tactic(auto, unfolding(crate::specs::Growing::with_parts))]
 pub(crate) fn put_parts(file: &mut WritableObject, parts: &[Part<'_>]) -> Result<(), Error>
-    ensures contents { OnOk result (file.new ≡ record file.old { contents = with_parts (map view.part parts.now) file.old.contents }) }
+    ensures contents { OnOk result (file.new
+        ≡ record file.old { contents = with_parts (map view.part parts.now) file.old.contents }) }
     ensures refused { IfErr result (λ e. e ≡ Error.Memory) }
     ensures grown { (before : Object) → IsGrown before file.old → IsGrown before file.new }
 {

@@ -26,13 +26,15 @@ use thorin_packaged::laws::{every_row_is_found_by_place, packaged_rows_are_read_
 use thorin_parts::laws::{written_index_has_the_entries, written_index_is_read};
 use thorin_strings::laws::rewritten_offsets_name_the_same;
 
-/// The law of plain packages: where the inputs of a builder have one encoding, each section that units
-/// share and that has bytes has a part that a row names; the ranges of string offsets that rows have fill
-/// their section, one directly behind the other, each with whole entries under a header of its own
-/// (DWARF 5, 7.26); and each unit, read of its own bytes alone, has the encoding, and by its row's
-/// abbreviations its row's name. An input that is taken keeps that so. It does nothing.
+/// The law of plain packages: where the inputs of a builder have one encoding, each section that
+/// units share and that has bytes has a part that a row names; the ranges of string offsets that
+/// rows have fill their section, one directly behind the other, each with whole entries under a
+/// header of its own (DWARF 5, 7.26); and each unit, read of its own bytes alone, has the encoding,
+/// and by its row's abbreviations its row's name. An input that is taken keeps that so. It does
+/// nothing.
 pub fn plain_packages_are_kept()
-    ensures { (bytes : List ℕ) (old new : State) → IsSoundBegun old.begun → HoldsPlain old → taken bytes old ≡ Ok new → HoldsPlain new }
+    ensures { (bytes : List ℕ) (old new : State) → IsSoundBegun old.begun → HoldsPlain old
+        → taken bytes old ≡ Ok new → HoldsPlain new }
 {
     rewritten_offsets_name_the_same();
     units_have_all_bytes();
@@ -40,30 +42,39 @@ pub fn plain_packages_are_kept()
 }
 
 /// The law of own string offsets: those of a written package of plain objects of one encoding are
-/// rewritten among whatever strings there are, unless the offset of a string doesn't fit the format. It
-/// does nothing.
+/// rewritten among whatever strings there are, unless the offset of a string doesn't fit the
+/// format. It does nothing.
 pub fn own_string_offsets_are_rewritten()
     ensures { (state : State) (encoding : Encoding) (file : Object) → IsOwn state encoding file
         → (made : InProgress) → state.begun ≡ Some made → IsPlain encoding made
         → (indexes : Indexes) → indexes_of (written_object file) encoding ≡ Ok indexes
         → (strings : List (List ℕ))
-        → UnlessStringOffset (rewritten (record { object = written_object file; encoding = encoding; indexes = indexes }) (content_of StrOffsets file.contents) strings) }
+        → UnlessStringOffset (rewritten (record {
+          object = written_object file;
+          encoding = encoding;
+          indexes = indexes;
+        }) (content_of StrOffsets file.contents) strings) }
 {
     written_index_is_read();
     written_index_has_the_entries();
     contents_are_read();
 }
 
-/// The law of own units: those of a written package of plain objects of one encoding are taken by any
-/// package, each with the name and by the row that it has, unless a compilation unit is there already. It
-/// does nothing.
+/// The law of own units: those of a written package of plain objects of one encoding are taken by
+/// any package, each with the name and by the row that it has, unless a compilation unit is there
+/// already. It does nothing.
 pub fn own_units_are_taken()
     ensures { (state : State) (encoding : Encoding) (file : Object) → IsOwn state encoding file
         → (made : InProgress) → state.begun ≡ Some made → IsPlain encoding made
         → (indexes : Indexes) → indexes_of (written_object file) encoding ≡ Ok indexes
         → (before : InProgress) (parts : Contents) (after : List (List ℕ)) → IsTable before.strings
-        → parts_of (record { object = written_object file; encoding = encoding; indexes = indexes }) before.strings ≡ Ok (parts, after)
-        → UnlessForeseen (new_units (adding (record { object = written_object file; encoding = encoding; indexes = indexes }) before parts)) }
+        → parts_of (record { object = written_object file; encoding = encoding; indexes = indexes })
+        before.strings ≡ Ok (parts, after)
+        → UnlessForeseen (new_units (adding (record {
+          object = written_object file;
+          encoding = encoding;
+          indexes = indexes;
+        }) before parts)) }
 {
     rewritten_offsets_name_the_same();
     packaged_rows_are_read_alike();
@@ -75,10 +86,10 @@ pub fn own_units_are_taken()
     contents_are_read();
 }
 
-/// The law of own packages: where `packs_again` is true of a builder, and its package is finished and
-/// written, the written bytes are taken by any package of their byte order and by a new one, whatever it
-/// holds, unless a compilation unit is there already or the offset of a string doesn't fit the format. It
-/// does nothing.
+/// The law of own packages: where `packs_again` is true of a builder, and its package is finished
+/// and written, the written bytes are taken by any package of their byte order and by a new one,
+/// whatever it holds, unless a compilation unit is there already or the offset of a string doesn't
+/// fit the format. It does nothing.
 pub fn own_packages_are_accepted()
     ensures { (state : State) (file : Object)
         → IsSoundBegun state.begun

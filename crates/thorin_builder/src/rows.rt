@@ -38,7 +38,8 @@ pub(crate) struct Whole {
 
 /// How many bytes parts add to the section of a kind. `Memory` where no memory could hold them.
 fn added(parts: &[Part<'_>], kind: SectionKind) -> Result<usize, Error>
-    ensures size { IfOk result (λ size. size ≡ length (joined_parts kind (map view.part parts.now))) }
+    ensures size { IfOk result (λ size.
+        size ≡ length (joined_parts kind (map view.part parts.now))) }
     ensures refused { IfErr result (λ e. e ≡ Error.Memory) }
 {
     let mut size = 0_usize;
@@ -57,7 +58,8 @@ fn whole_range(
     parts: &[Part<'_>],
     kind: SectionKind,
 ) -> Result<Option<Contribution>, Error>
-    ensures range { IfOk result (λ range. range ≡ range_put kind (joined_parts kind (map view.part parts.now)) file.now.contents) }
+    ensures range { IfOk result (λ range.
+        range ≡ range_put kind (joined_parts kind (map view.part parts.now)) file.now.contents) }
     ensures fits { IfOk result EndFits }
     ensures refused { IfErr result (λ e. e ≡ Error.Memory) }
 {
@@ -80,7 +82,8 @@ impl Whole {
     /// file. It refuses for memory alone.
     #[tactic(auto, unfolding(crate::specs::Rows::whole_row))]
     pub fn of(encoding: Encoding, file: &WritableObject, parts: &[Part<'_>]) -> Result<Whole, Error>
-        ensures row { IfOk result (λ whole. whole.row ≡ spec.whole_row encoding file.now.contents (map view.part parts.now)) }
+        ensures row { IfOk result (λ whole.
+            whole.row ≡ spec.whole_row encoding file.now.contents (map view.part parts.now)) }
         ensures refused { IfErr result (λ e. e ≡ Error.Memory) }
     {
         let debug_abbrev = whole_range(file, parts, SectionKind::Abbrev)?;
@@ -132,7 +135,8 @@ pub(crate) fn unit_row(
     whole: &Whole,
     name: DwarfObject,
 ) -> Result<IndexEntry, Error>
-    ensures { Gives (λ row. row) result (spec.unit_row (view.indexes indexes.now) whole.now.row name) }
+    ensures { Gives (λ row. row) result
+        (spec.unit_row (view.indexes indexes.now) whole.now.row name) }
 {
     let row = whole.row;
     let debug_abbrev = adjusted_part(indexes, name, SectionKind::Abbrev, row.debug_abbrev)?;
@@ -190,8 +194,10 @@ impl<'i, 'a> Places<'i, 'a> {
         indexes: &'i Indexes<'a>,
         kind: SectionKind,
     ) -> Result<Places<'i, 'a>, Error>
-        ensures compilations { IfOk result (λ places. places.compilations ≡ record { index = (view.indexes indexes.now).compilations; section = kind }) }
-        ensures types { IfOk result (λ places. places.types ≡ record { index = (view.indexes indexes.now).types; section = kind }) }
+        ensures compilations { IfOk result (λ places. places.compilations
+            ≡ record { index = (view.indexes indexes.now).compilations; section = kind }) }
+        ensures types { IfOk result (λ places.
+            places.types ≡ record { index = (view.indexes indexes.now).types; section = kind }) }
         ensures refused { IfErr result (λ e. e ≡ Error.Memory) }
     {
         let compilations = RowPlaces::new(alloc, indexes.compilations.as_ref(), kind)?;
@@ -213,9 +219,14 @@ pub(crate) fn test_row<'a>(
     name: DwarfObject,
     header: &UnitHeader<SliceReader<'a>>,
 ) -> Result<(), Error>
-    requires compilations { places.now.compilations ≡ record { index = (view.indexes indexes.now).compilations; section = kind } }
-    requires types { places.now.types ≡ record { index = (view.indexes indexes.now).types; section = kind } }
-    ensures { Gives (λ _. tt) result (spec.row_test (view.indexes indexes.now) kind name (unit_of ⟦<SliceReader<'a> as Reader>⟧.input header.now)) }
+    requires compilations { places.now.compilations
+        ≡ record { index = (view.indexes indexes.now).compilations; section = kind } }
+    requires types { places.now.types ≡ record {
+      index = (view.indexes indexes.now).types;
+      section = kind;
+    } }
+    ensures { Gives (λ _. tt) result (spec.row_test (view.indexes indexes.now) kind name
+        (unit_of ⟦<SliceReader<'a> as Reader>⟧.input header.now)) }
 {
     if !indexes.is_package() {
         return Ok(());
@@ -255,7 +266,8 @@ fn numbered_abbreviations(
     index: &Option<UnitIndex<'_>>,
     number: Option<u32>,
 ) -> Result<Option<Contribution>, Error>
-    ensures part { Gives (part_of bytes.now) result (spec.numbered_abbreviations bytes.now index.now number) }
+    ensures part { Gives (part_of bytes.now) result
+        (spec.numbered_abbreviations bytes.now index.now number) }
     ensures inside { IfOk result (λ range. is_outside bytes.now range ≡ false) }
 {
     match (index, number) {
@@ -289,9 +301,11 @@ pub(crate) fn abbreviations_for<'a>(
     kind: SectionKind,
     header: &UnitHeader<SliceReader<'a>>,
 ) -> Result<Option<Contribution>, Error>
-    requires places { places.now.compilations ≡ record { index = (view.source source.now).indexes.compilations; section = kind } }
+    requires places { places.now.compilations
+        ≡ record { index = (view.source source.now).indexes.compilations; section = kind } }
     requires bytes { bytes.now ≡ first Abbrev (view.source source.now).object.sections }
-    ensures part { Gives (part_of bytes.now) result (spec.abbreviations_for (view.source source.now) kind (unit_of ⟦<SliceReader<'a> as Reader>⟧.input header.now)) }
+    ensures part { Gives (part_of bytes.now) result (spec.abbreviations_for (view.source source.now)
+        kind (unit_of ⟦<SliceReader<'a> as Reader>⟧.input header.now)) }
     ensures inside { IfOk result (λ range. is_outside bytes.now range ≡ false) }
 {
     if source.indexes.is_package() && matches!(header.unit_type(), UnitType::Compilation) {

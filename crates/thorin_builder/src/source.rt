@@ -32,7 +32,8 @@ pub(crate) struct Source<'a> {
 /// The index that the first section of a kind is; none where there is no such section.
 #[tactic(auto, unfolding(crate::specs::Indexes::index_in))]
 fn index_in<'a>(object: &InputObject<'a>, kind: SectionKind) -> Result<Option<UnitIndex<'a>>, Error>
-    ensures { Gives (λ index. index) result (spec.index_in (view.object object.now).order kind (first kind (view.object object.now).sections)) }
+    ensures { Gives (λ index. index) result (spec.index_in (view.object object.now).order kind
+        (first kind (view.object object.now).sections)) }
 {
     let bytes = object.first(kind);
     if bytes.is_empty() {
@@ -90,7 +91,8 @@ impl<'a> Indexes<'a> {
 
     /// The row number that looking a unit up in the index of its kind gives.
     pub fn looked_up(&self, name: DwarfObject) -> Option<u32>
-        ensures { result ≡ spec.looked_up (spec.index_for (view.indexes self.now) name) (identifier_of name) }
+        ensures { result
+            ≡ spec.looked_up (spec.index_for (view.indexes self.now) name) (identifier_of name) }
     {
         let index = match name {
             DwarfObject::Compilation(_) => &self.compilations,

@@ -1,6 +1,7 @@
 //! A package while it is made.
 
-ghost use Rattle.std.specs.Prelude.{◌≡◌, ℕ, List, [], map, length, take, option_map, Some, IfOk, IfErr, OnOk, OnErr};
+ghost use Rattle.std.specs.Prelude.{◌≡◌, ℕ, List, [], map, length, take, option_map, Some, IfOk};
+ghost use Rattle.std.specs.Prelude.{IfErr, OnOk, OnErr};
 ghost use Rattle.std.specs.Map.{lookup};
 ghost use Rattle.dwp_index.specs.Package.{part_of};
 ghost use Rattle.thorin_faults.specs.Answers.{Gives};
@@ -137,7 +138,8 @@ impl InProgressDwarfPackage {
 
     /// The bytes of the unit of a name.
     pub(crate) fn bytes_of(&self, name: DwarfObject) -> Option<&[u8]>
-        ensures { option_map (λ bytes. bytes.now) result ≡ lookup (same_name name) (spec.held_units (in_progress_of self.now)) }
+        ensures { option_map (λ bytes. bytes.now) result
+            ≡ lookup (same_name name) (spec.held_units (in_progress_of self.now)) }
     {
         let Some(place) = self.names.get_index_of(&name) else {
             return None;
@@ -148,11 +150,13 @@ impl InProgressDwarfPackage {
         }
     }
 
-    /// Adds the units of an input with all that belongs to them. Gives whether each of its units, one that
-    /// was passed over too, has the input's encoding. An `Err` leaves the package as it was.
+    /// Adds the units of an input with all that belongs to them. Gives whether each of its units,
+    /// one that was passed over too, has the input's encoding. An `Err` leaves the package as it
+    /// was.
     pub(crate) fn add(&mut self, source: &Source<'_>) -> Result<bool, Error>
         ensures alike { IfOk result (λ alike. alike ≡ are_alike (view.source source.now)) }
-        ensures meaning { Gives (λ _. in_progress_of self.new) result (spec.with_source (view.source source.now) (in_progress_of self.old)) }
+        ensures meaning { Gives (λ _. in_progress_of self.new) result
+            (spec.with_source (view.source source.now) (in_progress_of self.old)) }
         ensures err { OnErr result (in_progress_of self.new ≡ in_progress_of self.old) }
     {
         let mark = self.mark()?;
@@ -167,7 +171,8 @@ impl InProgressDwarfPackage {
     #[tactic(auto, unfolding(crate::specs::State::with_source, crate::specs::State::abbreviations_test))]
     fn try_add(&mut self, source: &Source<'_>) -> Result<bool, Error>
         ensures alike { IfOk result (λ alike. alike ≡ are_alike (view.source source.now)) }
-        ensures meaning { Gives (λ _. in_progress_of self.new) result (spec.with_source (view.source source.now) (in_progress_of self.old)) }
+        ensures meaning { Gives (λ _. in_progress_of self.new) result
+            (spec.with_source (view.source source.now) (in_progress_of self.old)) }
         ensures extends { spec.Extends (in_progress_of self.old) (in_progress_of self.new) }
     {
         let alloc = self.alloc;
@@ -191,9 +196,11 @@ impl InProgressDwarfPackage {
     /// Adds units. It refuses for memory alone.
     #[tactic(auto, unfolding(crate::specs::State::with_new_units))]
     fn add_units(&mut self, new: &NewUnits<'_>) -> Result<(), Error>
-        ensures meaning { OnOk result (in_progress_of self.new ≡ spec.with_new_units (in_progress_of self.old) (new_of new.now).units) }
+        ensures meaning { OnOk result (in_progress_of self.new
+            ≡ spec.with_new_units (in_progress_of self.old) (new_of new.now).units) }
         ensures refused { IfErr result (λ e. e ≡ Error.Memory) }
-        ensures extends { (before : spec.InProgress) → spec.Extends before (in_progress_of self.old) → spec.Extends before (in_progress_of self.new) }
+        ensures extends { (before : spec.InProgress) → spec.Extends before (in_progress_of self.old)
+            → spec.Extends before (in_progress_of self.new) }
     {
         for (name, unit) in new.units.iter() {
             self.add_unit(*name, *unit)?;
@@ -204,9 +211,11 @@ impl InProgressDwarfPackage {
     /// Adds a unit whose name isn't there. It refuses for memory alone.
     #[tactic(auto, unfolding(crate::specs::State::with_new_unit))]
     fn add_unit(&mut self, name: DwarfObject, unit: NewUnit<'_>) -> Result<(), Error>
-        ensures meaning { OnOk result (in_progress_of self.new ≡ spec.with_new_unit (in_progress_of self.old) (name, new_unit unit.entry)) }
+        ensures meaning { OnOk result (in_progress_of self.new
+            ≡ spec.with_new_unit (in_progress_of self.old) (name, new_unit unit.entry)) }
         ensures refused { IfErr result (λ e. e ≡ Error.Memory) }
-        ensures extends { (before : spec.InProgress) → spec.Extends before (in_progress_of self.old) → spec.Extends before (in_progress_of self.new) }
+        ensures extends { (before : spec.InProgress) → spec.Extends before (in_progress_of self.old)
+            → spec.Extends before (in_progress_of self.new) }
     {
         if self.names.contains(&name) {
             return Ok(());
@@ -241,7 +250,8 @@ impl InProgressDwarfPackage {
     /// Takes back what was added since.
     fn restore(&mut self, mark: &Mark)
         requires { mark.now.strings ≡ mark_of (take mark.now.strings.strings self.old.strings) }
-        ensures { (before : spec.InProgress) → spec.Extends before (in_progress_of self.old) → mark_in mark.now ≡ spec.mark_of before → in_progress_of self.new ≡ before }
+        ensures { (before : spec.InProgress) → spec.Extends before (in_progress_of self.old)
+            → mark_in mark.now ≡ spec.mark_of before → in_progress_of self.new ≡ before }
     {
         restore(&mut self.object, &mark.lengths);
         self.strings.truncate(mark.strings);
@@ -280,8 +290,14 @@ fn finished(
     strings: PackageStringTable,
     rows: &[IndexEntry],
 ) -> Result<WritableObject, Error>
-    ensures refusal { (differing : List ℕ) → Gives (λ _. tt) result (indexes_test (record { file = object; strings = strings; rows = rows.now; differing = differing })) }
-    ensures finished { (differing : List ℕ) → IfOk result (IsFinished (record { file = object; strings = strings; rows = rows.now; differing = differing })) }
+    ensures refusal { (differing : List ℕ) → Gives (λ _. tt) result (indexes_test
+        (record { file = object; strings = strings; rows = rows.now; differing = differing })) }
+    ensures finished { (differing : List ℕ) → IfOk result (IsFinished (record {
+      file = object;
+      strings = strings;
+      rows = rows.now;
+      differing = differing;
+    })) }
 {
     let mut object = object;
     let order = object.endianness();

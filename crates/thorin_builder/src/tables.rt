@@ -40,7 +40,8 @@ impl<'a> Model for Tables<'a> {
 
     ghost view = { λ t. (t.order, t.bytes.now) };
 
-    ghost invariant = { λ t. ⟦<SliceReader<'static> as Reader>⟧.input t.cache ≡ section t.order (part_of t.bytes.now t.range) };
+    ghost invariant = { λ t. ⟦<SliceReader<'static> as Reader>⟧.input t.cache
+        ≡ section t.order (part_of t.bytes.now t.range) };
 }
 
 /// The bytes of a part of a section.
@@ -86,7 +87,8 @@ impl<'a> Tables<'a> {
         header: &UnitHeader<SliceReader<'a>>,
     ) -> Result<Option<DwarfObject>, Error>
         requires { is_outside self.old.1 range ≡ false }
-        ensures meaning { Gives (λ name. name) result (identity (section self.old.0 (part_of self.old.1 range)) (unit_of ⟦<SliceReader<'a> as Reader>⟧.input header.now)) }
+        ensures meaning { Gives (λ name. name) result (identity (section self.old.0
+            (part_of self.old.1 range)) (unit_of ⟦<SliceReader<'a> as Reader>⟧.input header.now)) }
         ensures kept { self.new ≡ self.old }
     {
         if range != self.range {

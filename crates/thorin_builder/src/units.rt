@@ -82,7 +82,8 @@ fn unit_section(kind: SectionKind) -> Option<UnitSection>
 /// `MultipleDebugInfoSection` or `MultipleDebugTypesSection` where a package has a second one.
 #[tactic(auto, unfolding(crate::specs::NewUnits::once_test))]
 fn test_once(adding: &Adding<'_, '_>, place: UnitSection, met: &Met<'_>) -> Result<(), Error>
-    ensures { Gives (λ _. tt) result (spec.once_test (adding_of adding.now) place (met_of met.now)) }
+    ensures { Gives (λ _. tt) result
+        (spec.once_test (adding_of adding.now) place (met_of met.now)) }
 {
     if !adding.source.indexes.is_package() {
         return Ok(());
@@ -96,7 +97,8 @@ fn test_once(adding: &Adding<'_, '_>, place: UnitSection, met: &Met<'_>) -> Resu
 
 /// Whether the units so far have an encoding, and this one has it too.
 fn stay_alike<'a>(alike: bool, encoding: Encoding, header: &UnitHeader<SliceReader<'a>>) -> bool
-    ensures { result ≡ (alike && has_encoding encoding (Ok (unit_of ⟦<SliceReader<'a> as Reader>⟧.input header.now))) }
+    ensures { result ≡ (alike
+        && has_encoding encoding (Ok (unit_of ⟦<SliceReader<'a> as Reader>⟧.input header.now))) }
 {
     alike && header.encoding() == encoding
 }
@@ -110,9 +112,11 @@ fn name_for<'a>(
     kind: SectionKind,
     header: &UnitHeader<SliceReader<'a>>,
 ) -> Result<DwarfObject, Error>
-    requires places { places.now.compilations ≡ record { index = (view.source source.now).indexes.compilations; section = kind } }
+    requires places { places.now.compilations
+        ≡ record { index = (view.source source.now).indexes.compilations; section = kind } }
     requires tables { tables.old ≡ tables_in (view.source source.now).object }
-    ensures meaning { Gives (λ name. name) result (spec.name_for (view.source source.now) kind (unit_of ⟦<SliceReader<'a> as Reader>⟧.input header.now)) }
+    ensures meaning { Gives (λ name. name) result (spec.name_for (view.source source.now) kind
+        (unit_of ⟦<SliceReader<'a> as Reader>⟧.input header.now)) }
     ensures tables { tables.new ≡ tables.old }
 {
     let range = abbreviations_for(source, tables.bytes(), places, kind, header)?;
@@ -128,7 +132,8 @@ impl<'a> NewUnits<'a> {
     #[tactic(auto, unfolding(crate::specs::NewUnits::new_units, crate::specs::NewUnits::with_each_section))]
     pub fn read(alloc: Global, adding: &Adding<'_, 'a>) -> Result<NewUnits<'a>, Error>
         ensures meaning { Gives new_of result (spec.new_units (adding_of adding.now)) }
-        ensures alike { IfOk result (λ new. new.alike ≡ are_alike (view.source adding.now.source.now)) }
+        ensures alike { IfOk result (λ new.
+            new.alike ≡ are_alike (view.source adding.now.source.now)) }
     {
         let mut new = NewUnits {
             units: IndexMap::new(alloc),
@@ -156,9 +161,12 @@ impl<'a> NewUnits<'a> {
         section: UsedSection<'a>,
     ) -> Result<(), Error>
         requires tables { met.old.tables ≡ tables_in (view.source adding.now.source.now).object }
-        ensures meaning { Gives (λ _. (met_of met.new, new_of self.new)) result (spec.with_section (adding_of adding.now) (met_of met.old, new_of self.old) (view.used section.entry)) }
+        ensures meaning { Gives (λ _. (met_of met.new, new_of self.new)) result (spec.with_section
+            (adding_of adding.now) (met_of met.old, new_of self.old) (view.used section.entry)) }
         ensures tables { met.new.tables ≡ met.old.tables }
-        ensures alike { OnOk result (self.new.alike ≡ (self.old.alike && section_has adding.now.source.now.encoding adding.now.source.now.object.order (view.used section.entry))) }
+        ensures alike { OnOk result (self.new.alike
+            ≡ (self.old.alike && section_has adding.now.source.now.encoding
+            adding.now.source.now.object.order (view.used section.entry))) }
     {
         match unit_section(section.kind) {
             Some(place) => self.add_section_at(alloc, adding, met, section, place),
@@ -177,9 +185,13 @@ impl<'a> NewUnits<'a> {
         place: UnitSection,
     ) -> Result<(), Error>
         requires tables { met.old.tables ≡ tables_in (view.source adding.now.source.now).object }
-        ensures meaning { Gives (λ _. (met_of met.new, new_of self.new)) result (spec.with_section_at (adding_of adding.now) (view.used section.entry) place (met_of met.old, new_of self.old)) }
+        ensures meaning { Gives (λ _.
+            (met_of met.new, new_of self.new)) result (spec.with_section_at (adding_of adding.now)
+            (view.used section.entry) place (met_of met.old, new_of self.old)) }
         ensures tables { met.new.tables ≡ met.old.tables }
-        ensures alike { OnOk result (self.new.alike ≡ (self.old.alike && all_have adding.now.source.now.encoding adding.now.source.now.object.order section.entry.bytes.now (Some place))) }
+        ensures alike { OnOk result (self.new.alike
+            ≡ (self.old.alike && all_have adding.now.source.now.encoding
+            adding.now.source.now.object.order section.entry.bytes.now (Some place))) }
     {
         test_once(adding, place, met)?;
         match place {
@@ -204,12 +216,24 @@ impl<'a> NewUnits<'a> {
         section: UsedSection<'a>,
         read: Result<UnitHeader<SliceReader<'a>>, ReadError>,
     ) -> Result<(), Error>
-        requires compilations { places.now.compilations ≡ record { index = (view.source adding.now.source.now).indexes.compilations; section = section.kind } }
-        requires types { places.now.types ≡ record { index = (view.source adding.now.source.now).indexes.types; section = section.kind } }
+        requires compilations { places.now.compilations
+            ≡ record {
+              index = (view.source adding.now.source.now).indexes.compilations;
+              section = section.kind;
+            } }
+        requires types { places.now.types
+            ≡ record {
+              index = (view.source adding.now.source.now).indexes.types;
+              section = section.kind;
+            } }
         requires tables { tables.old ≡ tables_in (view.source adding.now.source.now).object }
-        ensures meaning { Gives (λ _. new_of self.new) result (spec.with_read (adding_of adding.now) (view.used section.entry) (new_of self.old) (unit_seen ⟦<SliceReader<'a> as Reader>⟧.input read.entry)) }
+        ensures meaning { Gives (λ _. new_of self.new) result
+            (spec.with_read (adding_of adding.now) (view.used section.entry) (new_of self.old)
+            (unit_seen ⟦<SliceReader<'a> as Reader>⟧.input read.entry)) }
         ensures tables { tables.new ≡ tables.old }
-        ensures alike { OnOk result (self.new.alike ≡ (self.old.alike && has_encoding adding.now.source.now.encoding (unit_seen ⟦<SliceReader<'a> as Reader>⟧.input read.entry))) }
+        ensures alike { OnOk result (self.new.alike
+            ≡ (self.old.alike && has_encoding adding.now.source.now.encoding
+            (unit_seen ⟦<SliceReader<'a> as Reader>⟧.input read.entry))) }
     {
         let header = read.map_err(Error::ParseUnitHeader)?;
         let alike = stay_alike(self.alike, adding.source.encoding, &header);
@@ -226,7 +250,8 @@ impl<'a> NewUnits<'a> {
         made: &'x InProgressDwarfPackage,
         name: DwarfObject,
     ) -> Option<&'x [u8]>
-        ensures { option_map (λ bytes. bytes.now) result ≡ spec.kept_bytes (held_units (in_progress_of made.now)) (new_of self.now).units name }
+        ensures { option_map (λ bytes. bytes.now) result
+            ≡ spec.kept_bytes (held_units (in_progress_of made.now)) (new_of self.now).units name }
     {
         match self.units.get(&name) {
             Some(unit) => Some(unit.bytes),
@@ -244,9 +269,20 @@ impl<'a> NewUnits<'a> {
         name: DwarfObject,
         header: &UnitHeader<SliceReader<'a>>,
     ) -> Result<(), Error>
-        requires compilations { places.now.compilations ≡ record { index = (view.source adding.now.source.now).indexes.compilations; section = section.kind } }
-        requires types { places.now.types ≡ record { index = (view.source adding.now.source.now).indexes.types; section = section.kind } }
-        ensures { Gives (λ _. new_of self.new) result (spec.with_unit (spec.kept_bytes (adding_of adding.now).held (new_of self.old).units name) (adding_of adding.now) (view.used section.entry) name (unit_of ⟦<SliceReader<'a> as Reader>⟧.input header.now) (new_of self.old)) }
+        requires compilations { places.now.compilations
+            ≡ record {
+              index = (view.source adding.now.source.now).indexes.compilations;
+              section = section.kind;
+            } }
+        requires types { places.now.types
+            ≡ record {
+              index = (view.source adding.now.source.now).indexes.types;
+              section = section.kind;
+            } }
+        ensures { Gives (λ _. new_of self.new) result (spec.with_unit
+            (spec.kept_bytes (adding_of adding.now).held (new_of self.old).units name)
+            (adding_of adding.now) (view.used section.entry) name
+            (unit_of ⟦<SliceReader<'a> as Reader>⟧.input header.now) (new_of self.old)) }
     {
         let kept = self.kept_bytes(adding.package, name);
         match (kept, name) {
@@ -271,10 +307,21 @@ impl<'a> NewUnits<'a> {
         name: DwarfObject,
         header: &UnitHeader<SliceReader<'a>>,
     ) -> Result<(), Error>
-        requires compilations { places.now.compilations ≡ record { index = (view.source adding.now.source.now).indexes.compilations; section = section.kind } }
-        requires types { places.now.types ≡ record { index = (view.source adding.now.source.now).indexes.types; section = section.kind } }
-        requires absent { spec.kept_bytes (adding_of adding.now).held (new_of self.old).units name ≡ None }
-        ensures { Gives (λ _. new_of self.new) result (spec.with_first (adding_of adding.now) (view.used section.entry) name (unit_of ⟦<SliceReader<'a> as Reader>⟧.input header.now) (new_of self.old)) }
+        requires compilations { places.now.compilations
+            ≡ record {
+              index = (view.source adding.now.source.now).indexes.compilations;
+              section = section.kind;
+            } }
+        requires types { places.now.types
+            ≡ record {
+              index = (view.source adding.now.source.now).indexes.types;
+              section = section.kind;
+            } }
+        requires absent { spec.kept_bytes (adding_of adding.now).held (new_of self.old).units name
+            ≡ None }
+        ensures { Gives (λ _. new_of self.new) result
+            (spec.with_first (adding_of adding.now) (view.used section.entry) name
+            (unit_of ⟦<SliceReader<'a> as Reader>⟧.input header.now) (new_of self.old)) }
     {
         if section.address != 0 {
             return Err(Error::EmptyUnit(name.index()));

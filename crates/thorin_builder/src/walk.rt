@@ -43,9 +43,12 @@ struct Taken<'a> {
     strings: bool,
     compilations: bool,
     types: bool,
-    ghost strings_so_far: { strings ≡ list_any (spec.has_kind kinds.Str) (map view.used sections.items) },
-    ghost compilations_so_far: { compilations ≡ list_any (spec.has_kind kinds.CuIndex) (map view.used sections.items) },
-    ghost types_so_far: { types ≡ list_any (spec.has_kind kinds.TuIndex) (map view.used sections.items) },
+    ghost strings_so_far: { strings
+        ≡ list_any (spec.has_kind kinds.Str) (map view.used sections.items) },
+    ghost compilations_so_far: { compilations
+        ≡ list_any (spec.has_kind kinds.CuIndex) (map view.used sections.items) },
+    ghost types_so_far: { types
+        ≡ list_any (spec.has_kind kinds.TuIndex) (map view.used sections.items) },
 }
 
 /// Whether a section has one of the names of a kind.
@@ -68,13 +71,14 @@ fn used_kind(section: &Section<'_>) -> Option<SectionKind>
 
 /// Whether a section's content is compressed, by its flag or by its name.
 fn is_compressed(section: &Section<'_>, kind: SectionKind) -> bool
-    ensures { result ≡ (has_compressed_flag (meaning section.now) || is_named (compressed_name_of kind) (meaning section.now)) }
+    ensures { result ≡ (has_compressed_flag (meaning section.now)
+        || is_named (compressed_name_of kind) (meaning section.now)) }
 {
     section.is_compressed() || section.is_called(kind.compressed_name())
 }
 
-/// The content of a section that is used: `DecompressData` where it is compressed, `ObjectRead` where it
-/// is outside the file.
+/// The content of a section that is used: `DecompressData` where it is compressed, `ObjectRead`
+/// where it is outside the file.
 fn used_bytes<'a>(section: &Section<'a>, kind: SectionKind) -> Result<&'a [u8], Error>
     ensures { Gives (λ bytes. bytes.now) result (spec.used_bytes kind (meaning section.now)) }
 {
@@ -87,9 +91,12 @@ fn used_bytes<'a>(section: &Section<'a>, kind: SectionKind) -> Result<&'a [u8], 
 impl Present {
     /// With one more section.
     fn with(self, section: &Section<'_>) -> Present
-        ensures info { result.info ≡ (self.info || spec.is_of SectionKind.Info (meaning section.now)) }
-        ensures strings { result.strings ≡ (self.strings || is_named (name_of SectionKind.Str) (meaning section.now)) }
-        ensures abbreviations { result.abbreviations ≡ (self.abbreviations || is_named (name_of SectionKind.Abbrev) (meaning section.now)) }
+        ensures info { result.info
+            ≡ (self.info || spec.is_of SectionKind.Info (meaning section.now)) }
+        ensures strings { result.strings
+            ≡ (self.strings || is_named (name_of SectionKind.Str) (meaning section.now)) }
+        ensures abbreviations { result.abbreviations
+            ≡ (self.abbreviations || is_named (name_of SectionKind.Abbrev) (meaning section.now)) }
     {
         let info = is_of(section, SectionKind::Info);
         let strings = section.is_called(SectionKind::Str.name());
@@ -124,7 +131,8 @@ impl<'a> Taken<'a> {
 
     /// Whether only the first section of a kind counts, and there was one.
     fn is_repeated(&self, kind: SectionKind) -> bool
-        ensures { result ≡ (spec.counts_once kind && is_some (find (spec.has_kind kind) (map view.used self.now.sections.items))) }
+        ensures { result ≡ (spec.counts_once kind
+            && is_some (find (spec.has_kind kind) (map view.used self.now.sections.items))) }
     {
         match kind {
             SectionKind::Str => self.strings,
@@ -136,7 +144,9 @@ impl<'a> Taken<'a> {
 
     /// With one more section, where it is used.
     fn with(self, section: &Section<'a>) -> Result<Taken<'a>, Error>
-        ensures { Gives (λ taken. map view.used taken.sections.items) result (spec.with_used (map view.used self.entry.sections.items) (meaning section.now) (spec.used_kind (meaning section.now))) }
+        ensures { Gives (λ taken. map view.used taken.sections.items) result
+            (spec.with_used (map view.used self.entry.sections.items) (meaning section.now)
+            (spec.used_kind (meaning section.now))) }
     {
         let Some(kind) = used_kind(section) else {
             return Ok(self);
@@ -168,7 +178,13 @@ impl<'a> Taken<'a> {
 
     /// The input whose used sections these are.
     fn input(self, order: Endianness, present: Present) -> InputObject<'a>
-        ensures { view.object result ≡ record { order = order; sections = map view.used self.entry.sections.items; has_strings = present.strings; has_abbreviations = present.abbreviations } }
+        ensures { view.object result
+            ≡ record {
+              order = order;
+              sections = map view.used self.entry.sections.items;
+              has_strings = present.strings;
+              has_abbreviations = present.abbreviations;
+            } }
     {
         let Taken {
             sections,
@@ -191,7 +207,9 @@ fn with_next<'a>(
     so_far: Result<Taken<'a>, Error>,
     section: &Section<'a>,
 ) -> Result<Taken<'a>, Error>
-    ensures { MatchResult so_far.entry (λ before. Gives (λ taken. map view.used taken.sections.items) result (spec.with_used (map view.used before.sections.items) (meaning section.now) (spec.used_kind (meaning section.now)))) (λ e. result ≡ Err e) }
+    ensures { MatchResult so_far.entry (λ before. Gives (λ taken. map view.used
+        taken.sections.items) result (spec.with_used (map view.used before.sections.items)
+        (meaning section.now) (spec.used_kind (meaning section.now)))) (λ e. result ≡ Err e) }
 {
     match so_far {
         Ok(before) => before.with(section),
@@ -205,7 +223,12 @@ fn input_of<'a>(
     order: Endianness,
     present: Present,
 ) -> Result<InputObject<'a>, Error>
-    ensures { MatchResult all.entry (λ taken. Gives view.object result (Ok (record { order = order; sections = map view.used taken.sections.items; has_strings = present.strings; has_abbreviations = present.abbreviations }))) (λ e. result ≡ Err e) }
+    ensures { MatchResult all.entry (λ taken. Gives view.object result (Ok (record {
+      order = order;
+      sections = map view.used taken.sections.items;
+      has_strings = present.strings;
+      has_abbreviations = present.abbreviations;
+    }))) (λ e. result ≡ Err e) }
 {
     match all {
         Ok(taken) => Ok(taken.input(order, present)),
@@ -214,8 +237,8 @@ fn input_of<'a>(
 }
 
 impl<'a> Walked<'a> {
-    /// What the sections of a file give. Without an info section no fault of another section counts, so it
-    /// is kept aside.
+    /// What the sections of a file give. Without an info section no fault of another section
+    /// counts, so it is kept aside.
     pub fn over(alloc: Global, file: &ElfFile<'a>) -> Walked<'a>
         ensures units { result.with_units ≡ spec.has_info (elf file.now) }
         ensures input { Gives view.object result.input (spec.object_of (elf file.now)) }

@@ -1,7 +1,21 @@
 -- How the exports name a fault of packing.
 use Rattle.std.specs.Prelude.{◌≡◌, ℕ, take, slice_index, IfSome}
 use Rattle.std.specs.Fmt.Cut.{IsTextOrCut}
-use Rattle.thorin_faults.specs.Fault.{Fault, ReadInput, ParseFileKind, ParseObjectFile, InvalidInputKind, DecompressData, NamelessSection, RelocationWithInvalidSymbol, MultipleRelocations, UnsupportedRelocation, MissingDwoName, NoCompilationUnits, NoDie, TopLevelDieNotUnit, MissingRequiredSection, ParseUnitAbbreviations, ParseUnitHeader, ParseUnit, IncompatibleIndexVersion, OffsetAtIndex, StrAtOffset, ParseIndex, UnitNotInIndex, RowNotInIndex, SectionNotInRow, EmptyUnit, MultipleDebugInfoSection, MultipleDebugTypesSection, NotSplitUnit, DuplicateUnit, MissingReferencedUnit, NoOutputObjectCreated, MixedInputEncodings, Io, ObjectRead, ObjectWrite, GimliRead, GimliWrite, Memory, NumberTooLarge, BadContribution, SectionOutsideFormat, RepeatedSection, BadStringOffsets, OverlappingStringOffsets}
+use Rattle.thorin_faults.specs.Fault.{Fault, ReadInput, ParseFileKind, ParseObjectFile}
+use Rattle.thorin_faults.specs.Fault.{InvalidInputKind, DecompressData, NamelessSection}
+use Rattle.thorin_faults.specs.Fault.{RelocationWithInvalidSymbol, MultipleRelocations}
+use Rattle.thorin_faults.specs.Fault.{UnsupportedRelocation, MissingDwoName, NoCompilationUnits}
+use Rattle.thorin_faults.specs.Fault.{NoDie, TopLevelDieNotUnit, MissingRequiredSection}
+use Rattle.thorin_faults.specs.Fault.{ParseUnitAbbreviations, ParseUnitHeader, ParseUnit}
+use Rattle.thorin_faults.specs.Fault.{IncompatibleIndexVersion, OffsetAtIndex, StrAtOffset}
+use Rattle.thorin_faults.specs.Fault.{ParseIndex, UnitNotInIndex, RowNotInIndex, SectionNotInRow}
+use Rattle.thorin_faults.specs.Fault.{EmptyUnit, MultipleDebugInfoSection}
+use Rattle.thorin_faults.specs.Fault.{MultipleDebugTypesSection, NotSplitUnit, DuplicateUnit}
+use Rattle.thorin_faults.specs.Fault.{MissingReferencedUnit, NoOutputObjectCreated}
+use Rattle.thorin_faults.specs.Fault.{MixedInputEncodings, Io, ObjectRead, ObjectWrite, GimliRead}
+use Rattle.thorin_faults.specs.Fault.{GimliWrite, Memory, NumberTooLarge, BadContribution}
+use Rattle.thorin_faults.specs.Fault.{SectionOutsideFormat, RepeatedSection, BadStringOffsets}
+use Rattle.thorin_faults.specs.Fault.{OverlappingStringOffsets}
 use Rattle.thorin_faults.specs.Text.{fault_text}
 use Rattle.thorin_c.specs.declared.types.ThorinReport.{ThorinReport}
 
@@ -55,5 +69,6 @@ number_of (OverlappingStringOffsets _) = 44
 -- a report has the fault's number, and its text, cut to 255 bytes, with a zero byte behind it
 pub record Tells (fault : Fault) (report : ThorinReport) : Type 0 where
   pub number : report.fault ≡ number_of fault
-  pub text : IfSome (fault_text fault) (λ text. IsTextOrCut 255 text (take report.text_size report.text))
+  pub text : IfSome (fault_text fault) (λ text.
+      IsTextOrCut 255 text (take report.text_size report.text))
   pub ends : slice_index report.text report.text_size ≡ 0

@@ -1,5 +1,6 @@
 -- What the exports that look units up answer.
-use Rattle.std.specs.Prelude.{◌≡◌, ℕ, ℤ, pos, List, map, slice_get, Option, Some, None, Result, Ok, Err, ◌==◌, if◌then◌else◌}
+use Rattle.std.specs.Prelude.{◌≡◌, ℕ, ℤ, pos, List, map, slice_get, Option, Some, None, Result, Ok}
+use Rattle.std.specs.Prelude.{Err, ◌==◌, if◌then◌else◌}
 use Rattle.dwp_base.specs.Reading.{◌>>=◌}
 use Rattle.dwp_base.specs.declared.section.SectionKind.{SectionKind}
 use Rattle.dwp_base.specs.declared.section.SectionKind.TheVariants as kinds
@@ -81,7 +82,8 @@ unit_of unit slots = record {
 
 -- what a call that looks a unit up gives
 abbrev pub unit_found : Result Package ℤ → ℕ → ℕ → Result ThorinUnit ℤ
-unit_found pack kind id = pack >>= λ p. (unit_in p kind id >>= λ found. Ok (unit_of found.0 found.1))
+unit_found pack kind id =
+    pack >>= λ p. (unit_in p kind id >>= λ found. Ok (unit_of found.0 found.1))
 
 -- the section of a number, in the order of columns; status 7 where there is none
 abbrev pub section_of_place : Option SectionKind → Result SectionKind ℤ
@@ -108,7 +110,8 @@ string_or_status (Err fault) = Err (pos 9)
 unfoldable pub string_found : List ℕ → ℕ → ℕ → ℕ → Result (List ℕ) ℤ
 string_found bytes kind id i = do
   found ← looked_up bytes kind id
-  string_or_status (string_in found.0.order found.0.encoding found.0.contents.strings (row_bytes found.0.contents found.0.row kinds.StrOffsets) i)
+  string_or_status (string_in found.0.order found.0.encoding found.0.contents.strings
+      (row_bytes found.0.contents found.0.row kinds.StrOffsets) i)
 
 -- a call answers 0 and writes what is asked for; or it answers the status, and writes nothing
 abbrev pub Fills : {X Y : Type 0} → (Y → X) → Result X ℤ → (old new : Y) → ℤ → Type 0

@@ -1,5 +1,6 @@
 -- What the exports that pack answer.
-use Rattle.std.specs.Prelude.{◌≡◌, ◌≢◌, ℕ, ℤ, pos, ◌<◌, ◌≤◌, if◌then◌else◌, List, [], ◌∷◌, map, take, drop, length, Result, Ok, Err, ◌⊎◌}
+use Rattle.std.specs.Prelude.{◌≡◌, ◌≢◌, ℕ, ℤ, pos, ◌<◌, ◌≤◌, if◌then◌else◌, List, [], ◌∷◌, map}
+use Rattle.std.specs.Prelude.{take, drop, length, Result, Ok, Err, ◌⊎◌}
 use Rattle.std.specs.List.{HoldsAt}
 use Rattle.dwp_base.specs.Reading.{◌>>=◌}
 use Rattle.thorin_faults.specs.Answers.{MemoryAside}
@@ -39,22 +40,28 @@ pub record Accepts (inputs : List ThorinBytes) (old new : State) : Type 0 where
   pub joined : JoinAll (bytes_of inputs) (units_in old) (units_in new)
 
 -- the input of this number is refused for this fault, and those before it are accepted
-pub record RefusesAt (inputs : List ThorinBytes) (old : State) (number : ℕ) (fault : Fault) : Type 0 where
+pub record RefusesAt (inputs : List ThorinBytes) (old : State) (number : ℕ)
+    (fault : Fault) : Type 0 where
   pub within : number < length inputs
   pub state : State
   pub before : Accepts (take number inputs) old state
   pub refused : HoldsAt (λ input. taken input.bytes.now state ≡ Err fault) inputs number
 
--- the input of this number isn't taken, and those before it are accepted: it is refused for this fault, want of memory aside
-pub record StopsAt (inputs : List ThorinBytes) (old : State) (number : ℕ) (fault : Error) : Type 0 where
+-- the input of this number isn't taken, and those before it are accepted: it is refused for this
+-- fault, want of memory aside
+pub record StopsAt (inputs : List ThorinBytes) (old : State) (number : ℕ)
+    (fault : Error) : Type 0 where
   pub within : number < length inputs
   pub state : State
   pub before : Accepts (take number inputs) old state
-  pub refused : MemoryAside fault (HoldsAt (λ input. taken input.bytes.now state ≡ Err (fault_of fault)) inputs number)
+  pub refused : MemoryAside fault
+      (HoldsAt (λ input. taken input.bytes.now state ≡ Err (fault_of fault)) inputs number)
 
--- all inputs are accepted; the bytes are the file of the finished package, a package of their joined units; so many type units
--- were passed over that differ from those kept; and 1 where it is taken as an input again
-pub record IsPackage (inputs : List ThorinBytes) (differing again : ℕ) (bytes : List ℕ) : Type 0 where
+-- all inputs are accepted; the bytes are the file of the finished package, a package of their
+-- joined units; so many type units were passed over that differ from those kept; and 1 where it is
+-- taken as an input again
+pub record IsPackage (inputs : List ThorinBytes) (differing again : ℕ)
+    (bytes : List ℕ) : Type 0 where
   pub state : State
   pub accepted : Accepts inputs start state
   pub written : IsWritten state bytes
@@ -80,7 +87,8 @@ abbrev pub IsRefusal : List ThorinBytes → Refusal → Type 0
 IsRefusal inputs (refusals.Input input) = StopsAt inputs start input.number input.fault
 IsRefusal inputs (refusals.Package fault) = Leaves inputs fault
 
--- what is told of a refused input, and of a package that can't be finished or written; never of want of memory
+-- what is told of a refused input, and of a package that can't be finished or written; never of
+-- want of memory
 pub record TellsRefused (number : ℕ) (fault : Error) (report : ThorinReport) : Type 0 where
   pub input : report.input ≡ number
   pub told : Tells (fault_of fault) report
@@ -91,7 +99,8 @@ pub record TellsLeft (fault : Error) (report : ThorinReport) : Type 0 where
   pub not_memory : fault ≢ error.Memory
 
 -- the package stands at the beginning of the room, the rest of which is as it was
-pub record Packs (inputs : List ThorinBytes) (report : ThorinReport) (old new : List ℕ) : Type 0 where
+pub record Packs (inputs : List ThorinBytes) (report : ThorinReport)
+    (old new : List ℕ) : Type 0 where
   pub fits : report.size ≤ length new
   pub is : IsPackage inputs report.differing report.packs_again (take report.size new)
   pub rest : drop report.size new ≡ drop report.size old
@@ -121,15 +130,18 @@ pub record RunsOutAt (inputs : List ThorinBytes) (number : ℕ) : Type 0 where
   pub state : State
   pub before : Accepts (take number inputs) start state
 
--- memory ran out while the package of all inputs was finished and written; their number stands in the place of an input's
+-- memory ran out while the package of all inputs was finished and written; their number stands in
+-- the place of an input's
 pub record RunsOutAfter (inputs : List ThorinBytes) (number : ℕ) : Type 0 where
   pub some : 0 < number
   pub all : number ≡ length inputs
   pub state : State
   pub accepted : Accepts inputs start state
 
--- the signatures of the type units that were passed over and differ, as far as there is room, and how many there are
-pub record Differ (inputs : List ThorinBytes) (report : ThorinReport) (old new : List ℕ) : Type 0 where
+-- the signatures of the type units that were passed over and differ, as far as there is room, and
+-- how many there are
+pub record Differ (inputs : List ThorinBytes) (report : ThorinReport)
+    (old new : List ℕ) : Type 0 where
   pub state : State
   pub accepted : Accepts inputs start state
   pub count : report.differing ≡ length (differing_in state)
@@ -137,7 +149,8 @@ pub record Differ (inputs : List ThorinBytes) (report : ThorinReport) (old new :
 
 -- what may be answered
 abbrev pub IsPackingStatus : ℤ → Type 0
-IsPackingStatus status = (status ≡ pos 0) ⊎ ((status ≡ pos 10) ⊎ ((status ≡ pos 11) ⊎ ((status ≡ pos 12) ⊎ (status ≡ pos 13))))
+IsPackingStatus status = (status ≡ pos 0)
+    ⊎ ((status ≡ pos 10) ⊎ ((status ≡ pos 11) ⊎ ((status ≡ pos 12) ⊎ (status ≡ pos 13))))
 
 abbrev pub IsDifferingStatus : ℤ → Type 0
 IsDifferingStatus status = (status ≡ pos 0) ⊎ ((status ≡ pos 11) ⊎ (status ≡ pos 13))

@@ -3,7 +3,9 @@
 ghost use Rattle.std.specs.Prelude.{◌≡◌, pos, Ok};
 ghost use Rattle.dwp_base.specs.Reading.{Answers};
 ghost use Rattle.dwp_index.specs.Package.{package_of, found_counted};
-ghost use Rattle.thorin_c.specs.Finding.{object_of, section_of, as_status, present, range_of, unit_of, unit_in, looked_up, unit_found, content_found, string_found, looked, Fills, FillsEach};
+ghost use Rattle.thorin_c.specs.Finding.{object_of, section_of, as_status, present, range_of};
+ghost use Rattle.thorin_c.specs.Finding.{unit_of, unit_in, looked_up, unit_found, content_found};
+ghost use Rattle.thorin_c.specs.Finding.{string_found, looked, Fills, FillsEach};
 
 use crate::status::{
     ABSENT, DONE, MALFORMED_STRING, NO_SUCH_KIND, NO_SUCH_SECTION, NO_SUCH_STRING, status_of,
@@ -19,7 +21,8 @@ use dwp_table::{CONTRIBUTION_KINDS, DebugTypeSignature, DwarfObject, DwoId};
 /// malformed.
 #[unsafe(no_mangle)]
 pub extern "C" fn thorin_find(bytes: &[u8], kind: u8, id: u64, found: &mut ThorinUnit) -> i32
-    ensures { Fills (λ unit. unit) (unit_found (as_status (package_of bytes.now)) kind id) found.old found.new result }
+    ensures { Fills (λ unit. unit) (unit_found (as_status (package_of bytes.now)) kind id) found.old
+        found.new result }
 {
     match open(bytes) {
         Ok(file) => fill(&file, kind, id, found),
@@ -52,7 +55,8 @@ pub extern "C" fn thorin_content<'a>(
     section: u8,
     found: &mut ThorinBytes<'a>,
 ) -> i32
-    ensures { Fills (λ lent. lent.bytes.now) (content_found bytes.now kind id section) found.old found.new result }
+    ensures { Fills (λ lent. lent.bytes.now) (content_found bytes.now kind id section) found.old
+        found.new result }
 {
     match content(bytes, kind, id, section) {
         Ok(content) => {
@@ -73,7 +77,8 @@ pub extern "C" fn thorin_string<'a>(
     index: u64,
     found: &mut ThorinBytes<'a>,
 ) -> i32
-    ensures { Fills (λ lent. lent.bytes.now) (string_found bytes.now kind id index) found.old found.new result }
+    ensures { Fills (λ lent. lent.bytes.now) (string_found bytes.now kind id index) found.old
+        found.new result }
 {
     match string(bytes, kind, id, index) {
         Ok(string) => {

@@ -1,12 +1,16 @@
 //! Packing objects and packages.
 
-ghost use Rattle.std.specs.Prelude.{◌≡◌, ◌≢◌, map, length, IfOk, IfErr, OnOk, pos, ◌⊎◌, if◌then◌else◌};
+ghost use Rattle.std.specs.Prelude.{◌≡◌, ◌≢◌, map, length, IfOk, IfErr, OnOk, pos, ◌⊎◌};
+ghost use Rattle.std.specs.Prelude.{if◌then◌else◌};
 ghost use Rattle.thorin_builder.specs.Represents.{units_in};
 ghost use Rattle.thorin_builder.specs.Builder.{start};
 ghost use Rattle.thorin_builder.specs.Join.{IsPackageOf};
 ghost use Rattle.thorin.specs.Run.{Writes};
 ghost use Rattle.thorin_c.specs.Listing.{written_over};
-ghost use Rattle.thorin_c.specs.Packing.{Accepts, StopsAt, IsPackage, IsRefusal, TellsRefused, TellsLeft, Packs, Needs, Refuses, TellsUnfinished, RunsOutAt, RunsOutAfter, Differ, IsPackingStatus, IsDifferingStatus};
+ghost use Rattle.thorin_c.specs.Packing.{Accepts, StopsAt, IsPackage, IsRefusal, TellsRefused};
+ghost use Rattle.thorin_c.specs.Packing.{TellsLeft, Packs, Needs, Refuses, TellsUnfinished};
+ghost use Rattle.thorin_c.specs.Packing.{RunsOutAt, RunsOutAfter, Differ, IsPackingStatus};
+ghost use Rattle.thorin_c.specs.Packing.{IsDifferingStatus};
 
 use crate::faults::tell;
 use crate::session::NoFiles;
@@ -62,7 +66,8 @@ pub extern "C" fn thorin_pack(
     ensures small { result ≡ pos 10 → Needs inputs.now report.new (length out.old) }
     ensures refused { result ≡ pos 11 → Refuses inputs.now report.new }
     ensures unfinished { result ≡ pos 12 → TellsUnfinished inputs.now report.new }
-    ensures memory { result ≡ pos 13 → RunsOutAt inputs.now report.new.input ⊎ RunsOutAfter inputs.now report.new.input }
+    ensures memory { result ≡ pos 13 → RunsOutAt inputs.now report.new.input
+        ⊎ RunsOutAfter inputs.now report.new.input }
     ensures status { IsPackingStatus result }
     ensures unchanged { result ≢ pos 0 → out.new ≡ out.old }
 {
@@ -149,7 +154,8 @@ fn unfinished(fault: Error, count: usize, report: &mut ThorinReport) -> i32
 // The package of inputs.
 #[tactic(auto, using(crate::proofs::Taking::packs, crate::proofs::Taking::fails, crate::proofs::Taking::none_fails))]
 fn package_of(alloc: Global, inputs: &[ThorinBytes<'_>]) -> Result<Packed, Refusal>
-    ensures packed { IfOk result (λ packed. IsPackage inputs.now packed.differing (if packed.packs_again then 1 else 0) packed.file.items) }
+    ensures packed { IfOk result (λ packed. IsPackage inputs.now packed.differing
+        (if packed.packs_again then 1 else 0) packed.file.items) }
     ensures refused { IfErr result (IsRefusal inputs.now) }
 {
     if inputs.is_empty() {
@@ -178,7 +184,8 @@ fn add_all<'o, 's: 'o>(
     inputs: &[ThorinBytes<'_>],
 ) -> Result<(), RefusedInput>
     ensures accepted { OnOk result (Accepts inputs.now builder.old.state builder.new.state) }
-    ensures refused { IfErr result (λ refusal. StopsAt inputs.now builder.old.state refusal.number refusal.fault) }
+    ensures refused { IfErr result (λ refusal.
+        StopsAt inputs.now builder.old.state refusal.number refusal.fault) }
 {
     for (number, input) in inputs.iter().enumerate() {
         if let Err(fault) = builder.add_object_bytes(input.bytes) {
@@ -191,7 +198,8 @@ fn add_all<'o, 's: 'o>(
 // The file of the finished package.
 fn written<'o, 's: 'o>(builder: DwarfPackage<'o, 's, NoFiles>) -> Result<Vec<u8>, Error>
     ensures writes { Writes (λ bytes. bytes.items) builder.entry.state result }
-    ensures packaged { IfOk result (λ bytes. IsPackageOf (units_in builder.entry.state) bytes.items) }
+    ensures packaged { IfOk result (λ bytes.
+        IsPackageOf (units_in builder.entry.state) bytes.items) }
 {
     let file = builder.finish()?;
     Ok(file.write()?)

@@ -107,8 +107,8 @@ fn build_of<'s>(
     Ok(())
 }
 
-/// Adds inputs in order, and gives those that were accepted. A refusal leaves what the builder shows
-/// as it was, and an answer keeps the units that were there.
+/// Adds inputs in order, and gives those that were accepted. A refusal leaves what the builder
+/// shows as it was, and an answer keeps the units that were there.
 fn add_each<'o, 's: 'o, 'i, Sess: Session<RelocationEntry>>(
     alloc: Global,
     builder: &mut DwarfPackage<'o, 's, Sess>,
@@ -223,8 +223,8 @@ fn packed_alone<'s>(
     file_of(builder)
 }
 
-/// Packs a package of the builder's own alone: it is taken, and has the same units, unless a section
-/// is in no row of it.
+/// Packs a package of the builder's own alone: it is taken, and has the same units, unless a
+/// section is in no row of it.
 fn pack_again<'s>(
     alloc: Global,
     session: &'s BytesSession<'s>,

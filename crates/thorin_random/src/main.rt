@@ -1,9 +1,9 @@
-//! Reads damaged objects and packages, and packs damaged inputs. The damage comes of a seed, so that
-//! a run can be made again: the words are the seed and how many files are damaged and read, and if
-//! need be the folder of the samples. A quarter as many packages are made of a few inputs each, and
-//! as many of an executable. What is printed is whether each call both answered and named faults, and how often two
-//! calls contradicted each other; with a folder also how many calls there were. For the gate, and
-//! by hand for longer runs.
+//! Reads damaged objects and packages, and packs damaged inputs. The damage comes of a seed, so
+//! that a run can be made again: the words are the seed and how many files are damaged and read,
+//! and if need be the folder of the samples. A quarter as many packages are made of a few inputs
+//! each, and as many of an executable. What is printed is whether each call both answered and named
+//! faults, and how often two calls contradicted each other; with a folder also how many calls there
+//! were. For the gate, and by hand for longer runs.
 #![tactic(auto)]
 
 mod building;

@@ -12,8 +12,8 @@ use std::test::Fail;
 use thorin::{DwarfPackage, Input, pack};
 use thorin_faults::{Error, MemorySession, MissingReferencedObjectBehaviour};
 
-/// An abbreviation 1 of a compile unit: GNU_dwo_name and comp_dir, both strings, and a GNU_dwo_id of 8
-/// bytes; and an abbreviation 2 of a type unit.
+/// An abbreviation 1 of a compile unit: GNU_dwo_name and comp_dir, both strings, and a GNU_dwo_id
+/// of 8 bytes; and an abbreviation 2 of a type unit.
 pub const NAMING: [u8; 19] = [
     0x01, 0x11, 0x00, 0xb0, 0x42, 0x08, 0x1b, 0x08, 0xb1, 0x42, 0x07, 0, 0, 0x02, 0x41, 0, 0, 0, 0,
 ];
@@ -100,8 +100,8 @@ pub fn relocated(alloc: Global) -> Result<Vec<u8>, Fail> {
             (SectionKind::Line, RELOCATION.as_slice()),
         ],
     )?;
-    // Contents and names end at 197, so the section headers stand at 200. The third one becomes a RELA
-    // section (ELF gABI, sh_type 4) of the second one (sh_info).
+    // Contents and names end at 197, so the section headers stand at 200. The third one becomes a
+    // RELA section (ELF gABI, sh_type 4) of the second one (sh_info).
     *file.get_mut(396).ok_or("the type is there")? = 4;
     *file.get_mut(436).ok_or("the number is there")? = 2;
     Ok(file)

@@ -27,8 +27,8 @@ fn put(out: &mut Vec<u8>, number: u32) -> Result<(), Fail> {
     Ok(out.extend_from_slice(&Endianness::Little.bytes_of_u32(number))?)
 }
 
-/// An index of info and abbreviations: for each slot the identifier and the row number, and for each
-/// row the offset and the size in both sections.
+/// An index of info and abbreviations: for each slot the identifier and the row number, and for
+/// each row the offset and the size in both sections.
 pub fn index(
     alloc: Global,
     version: u32,
@@ -63,8 +63,9 @@ pub fn index(
     Ok(out)
 }
 
-/// The package of version 5 whose unit 0xb stands before 0xa, and whose abbreviations stand the other
-/// way; where it has the type unit 0x11, that one stands between and has the abbreviations of 0xa.
+/// The package of version 5 whose unit 0xb stands before 0xa, and whose abbreviations stand the
+/// other way; where it has the type unit 0x11, that one stands between and has the abbreviations of
+/// 0xa.
 fn turned(alloc: Global, has_types: bool) -> Result<Vec<u8>, Fail> {
     let mut info = split_unit(0xb).to_vec(alloc)?;
     let mut a_place = 20;

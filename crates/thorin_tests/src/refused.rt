@@ -1,5 +1,5 @@
-//! What is left where memory is refused: run with one allocation that fails, for each in turn. The next try
-//! has memory then, and gives the file of a run that met no refusal.
+//! What is left where memory is refused: run with one allocation that fails, for each in turn. The
+//! next try has memory then, and gives the file of a run that met no refusal.
 
 use crate::objects::{
     TYPE_UNIT, cu, package, packed, part, plain, tu, unit, with_strings, with_types,
@@ -52,8 +52,8 @@ pub fn sure_whole(alloc: Global, objects: &[&[u8]]) -> Result<Vec<u8>, Error> {
     }
 }
 
-// The file of a package of objects, by `add_object_bytes`, `finish` and `write`. An object that was refused has
-// added no unit, and is added by a second try; so is a file written that was refused.
+// The file of a package of objects, by `add_object_bytes`, `finish` and `write`. An object that was
+// refused has added no unit, and is added by a second try; so is a file written that was refused.
 fn added<'s, 'm>(
     rt: &impl Abort,
     alloc: Global,
@@ -174,7 +174,8 @@ fn a_refused_allocation_leaves_the_type_units(rt: HostRuntime) -> Result<(), Fai
     Ok(())
 }
 
-// The file of a package of an object and, where it isn't refused, a second one; and whether it was refused.
+// The file of a package of an object and, where it isn't refused, a second one; and whether it was
+// refused.
 fn added_once<'s, 'm>(
     rt: &impl Abort,
     alloc: Global,
