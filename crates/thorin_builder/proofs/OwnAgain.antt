@@ -122,9 +122,14 @@ row-can order encoding c strings ranges row member tile table is same has range 
     let reads : (k : ℕ) → string_in order encoding (data_of strings) (range_bytes bytes range) k ≡ Ok (slice_get member.1.strings k) =
     λ k. ap (λ en. string_in order en (data_of strings) (range_bytes bytes range) k) (sym same)
     ∙ ap (λ l. string_in order member.1.encoding (data_of strings) l k) (sym (ap (part_of bytes) e ∙ part-inside bytes range inside))
-    ∙ is.shares.string strings table (take-length strings) k in
-    (among, (whole, subst (λ n. AreNamed order encoding (data_of strings) (range_bytes bytes range) (entry_count encoding n)) (sym long)
-    (are-named order encoding (data_of strings) (range_bytes bytes range) (slice_get member.1.strings) (subst (IsWholeRange order encoding) long whole) reads)))
+    ∙ is.shares.string strings table (take-length strings) k in (
+      among,
+      (
+        whole,
+        subst (λ n. AreNamed order encoding (data_of strings) (range_bytes bytes range) (entry_count encoding n)) (sym long)
+            (are-named order encoding (data_of strings) (range_bytes bytes range) (slice_get member.1.strings) (subst (IsWholeRange order encoding) long whole) reads),
+      ),
+    )
 
 rows-can : (order : Endianness) (encoding : Encoding) (c : Contents) (strings : List (List ℕ)) (ranges : List Contribution) (rows : List IndexEntry) (ms : Members)
     → Tile order encoding 0 ranges (length (content_of kinds.StrOffsets c)) → IsTable strings → AreRowsOf order c strings rows ms → AllOf encoding ms → EachRow (HasOneOf ranges) rows

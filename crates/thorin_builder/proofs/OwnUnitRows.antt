@@ -120,10 +120,11 @@ moved-there kind id None x before h = (None, refl)
 moved-there kind id (Some r) x before h =
     let i = h r refl in
     let some : 0 < length x = let a = i.0 in let b = i.1 in omega (arith, a, b) in
-    let whole = range_for kind x before in
-    (Some (record { offset = record { 0 = whole.offset.0 + r.offset.0 }; size = r.size }),
-    ap (moved kind id r) (place-put kind x before some)
-    ∙ ap (λ b. cond {A = Result (Option Contribution) Fault} b (Ok (Some (record { offset = record { 0 = whole.offset.0 + r.offset.0 }; size = r.size }))) (Err (BadContribution (name_of kind) id))) (le-leb _ _ i.0))
+    let whole = range_for kind x before in (
+      Some (record { offset = record { 0 = whole.offset.0 + r.offset.0 }; size = r.size }),
+      ap (moved kind id r) (place-put kind x before some)
+          ∙ ap (λ b. cond {A = Result (Option Contribution) Fault} b (Ok (Some (record { offset = record { 0 = whole.offset.0 + r.offset.0 }; size = r.size }))) (Err (BadContribution (name_of kind) id))) (le-leb _ _ i.0),
+    )
 
 none-there : (kind : SectionKind) (x : List ℕ) (before : Contents) → (0 < length x → ⊥) → Gives (without_column (range_put kind x before))
 none-there kind [] before h = (None, refl)
@@ -158,11 +159,12 @@ module _ (indexes : Indexes) (packed : is_package indexes ≡ true) (contents : 
       let own_row : row_of (own_index a row.id) (identifier_of row.id) ≡ Ok found = ap (λ i. row_of i (identifier_of row.id)) (own-index indexes kind row.id) ∙ found_is in
       let given = by-columns kind (identifier_of row.id) (range_in found kind) x before (has_column_for kind (own_index a row.id)) (has_column_for kind (other_index a row.id))
       (λ r e. let there = sym (ranges kind) ∙ e in let i = inside.inside kind r there in (omega (arith, i, long), inside.some kind r there))
-      (λ some. sorted-columns kind a row.id (either-column kind contents indexes.compilations indexes.types rows compilations types lie (named kind shared (omega (arith, some, long))))) in
-      (given.0,
-      ap (λ b. cond b (Ok whole) (row_of (own_index a row.id) (identifier_of row.id) >>= part_by_row a row.id whole)) (some-index indexes.compilations indexes.types packed)
-      ∙ bind-ok (row_of (own_index a row.id) (identifier_of row.id)) found (part_by_row a row.id whole) own_row
-      ∙ given.1)
+      (λ some. sorted-columns kind a row.id (either-column kind contents indexes.compilations indexes.types rows compilations types lie (named kind shared (omega (arith, some, long))))) in (
+        given.0,
+        ap (λ b. cond b (Ok whole) (row_of (own_index a row.id) (identifier_of row.id) >>= part_by_row a row.id whole)) (some-index indexes.compilations indexes.types packed)
+            ∙ bind-ok (row_of (own_index a row.id) (identifier_of row.id)) found (part_by_row a row.id whole) own_row
+            ∙ given.1,
+      )
 
   -- where the wholes lie
   pub row-given : (whole : IndexEntry) (x : SectionKind → List ℕ) (before : Contents) → ((kind : SectionKind) → is_shared kind ≡ true → length (x kind) ≡ length (content_of kind contents))
@@ -170,23 +172,24 @@ module _ (indexes : Indexes) (packed : is_package indexes ≡ true) (contents : 
   unfolding unit_row
   row-given whole x before long put =
       let one = λ (kind : SectionKind) (shared : is_shared kind ≡ true). part-given kind shared (x kind) before (long kind shared) in
-      let at = λ (kind : SectionKind) (shared : is_shared kind ≡ true). ap (adjusted_part indexes row.id kind) (put kind shared) ∙ (one kind shared).1 in
-      (record whole {
-        id = row.id;
-        debug_abbrev = (one kinds.Abbrev refl).0;
-        debug_line = (one kinds.Line refl).0;
-        debug_loc = (one kinds.Loc refl).0;
-        debug_loclists = (one kinds.Loclists refl).0;
-        debug_rnglists = (one kinds.Rnglists refl).0;
-        debug_str_offsets = (one kinds.StrOffsets refl).0;
-        debug_macinfo = (one kinds.Macinfo refl).0;
-        debug_macro = (one kinds.Macro refl).0;
-      },
-      bind-ok (adjusted_part indexes row.id kinds.Abbrev whole.debug_abbrev) (one kinds.Abbrev refl).0 _ (at kinds.Abbrev refl)
-      ∙ bind-ok (adjusted_part indexes row.id kinds.Line whole.debug_line) (one kinds.Line refl).0 _ (at kinds.Line refl)
-      ∙ bind-ok (adjusted_part indexes row.id kinds.Loc whole.debug_loc) (one kinds.Loc refl).0 _ (at kinds.Loc refl)
-      ∙ bind-ok (adjusted_part indexes row.id kinds.Loclists whole.debug_loclists) (one kinds.Loclists refl).0 _ (at kinds.Loclists refl)
-      ∙ bind-ok (adjusted_part indexes row.id kinds.Rnglists whole.debug_rnglists) (one kinds.Rnglists refl).0 _ (at kinds.Rnglists refl)
-      ∙ bind-ok (adjusted_part indexes row.id kinds.StrOffsets whole.debug_str_offsets) (one kinds.StrOffsets refl).0 _ (at kinds.StrOffsets refl)
-      ∙ bind-ok (adjusted_part indexes row.id kinds.Macinfo whole.debug_macinfo) (one kinds.Macinfo refl).0 _ (at kinds.Macinfo refl)
-      ∙ bind-ok (adjusted_part indexes row.id kinds.Macro whole.debug_macro) (one kinds.Macro refl).0 _ (at kinds.Macro refl))
+      let at = λ (kind : SectionKind) (shared : is_shared kind ≡ true). ap (adjusted_part indexes row.id kind) (put kind shared) ∙ (one kind shared).1 in (
+        record whole {
+          id = row.id;
+          debug_abbrev = (one kinds.Abbrev refl).0;
+          debug_line = (one kinds.Line refl).0;
+          debug_loc = (one kinds.Loc refl).0;
+          debug_loclists = (one kinds.Loclists refl).0;
+          debug_rnglists = (one kinds.Rnglists refl).0;
+          debug_str_offsets = (one kinds.StrOffsets refl).0;
+          debug_macinfo = (one kinds.Macinfo refl).0;
+          debug_macro = (one kinds.Macro refl).0;
+        },
+        bind-ok (adjusted_part indexes row.id kinds.Abbrev whole.debug_abbrev) (one kinds.Abbrev refl).0 _ (at kinds.Abbrev refl)
+            ∙ bind-ok (adjusted_part indexes row.id kinds.Line whole.debug_line) (one kinds.Line refl).0 _ (at kinds.Line refl)
+            ∙ bind-ok (adjusted_part indexes row.id kinds.Loc whole.debug_loc) (one kinds.Loc refl).0 _ (at kinds.Loc refl)
+            ∙ bind-ok (adjusted_part indexes row.id kinds.Loclists whole.debug_loclists) (one kinds.Loclists refl).0 _ (at kinds.Loclists refl)
+            ∙ bind-ok (adjusted_part indexes row.id kinds.Rnglists whole.debug_rnglists) (one kinds.Rnglists refl).0 _ (at kinds.Rnglists refl)
+            ∙ bind-ok (adjusted_part indexes row.id kinds.StrOffsets whole.debug_str_offsets) (one kinds.StrOffsets refl).0 _ (at kinds.StrOffsets refl)
+            ∙ bind-ok (adjusted_part indexes row.id kinds.Macinfo whole.debug_macinfo) (one kinds.Macinfo refl).0 _ (at kinds.Macinfo refl)
+            ∙ bind-ok (adjusted_part indexes row.id kinds.Macro whole.debug_macro) (one kinds.Macro refl).0 _ (at kinds.Macro refl),
+      )
