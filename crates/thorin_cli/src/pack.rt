@@ -8,7 +8,7 @@ ghost use Rattle.thorin.specs.Run.{Took};
 ghost use Rattle.thorin_cli.specs.Packing.{anything, asked, object_asked, executable_asked};
 ghost use Rattle.thorin_cli.specs.Packing.{AreAllAccepted, IsPackedOf};
 
-use crate::output::Failure;
+use crate::output::{Failure, buffer_failure};
 use crate::reader::FileReader;
 use crate::telling::{tell, warn_differing};
 use crate::write::write_package;
@@ -18,7 +18,7 @@ use dwp_bytes::RelocationEntry;
 use dwp_elf::WritableObject;
 use dwp_table::DebugTypeSignature;
 use std::alloc::{AllocError, Global};
-use std::io::Write;
+use std::io::{BufWriter, Write};
 use std::path::Path;
 use thorin::laws::runs_go_on;
 use thorin::{DwarfPackage, Input, take_input};
@@ -82,8 +82,10 @@ pub(crate) fn pack<E: Write>(
     let executables = packing.executables.unwrap_or(&[]);
     let inputs = inputs_of(rt.alloc(), objects, executables, packing.missing)?;
     let (object, differing) = packed(rt, inputs.as_slice(), packing.verbose, err)?;
+    let mut lines = BufWriter::new(rt.alloc(), err).map_err(|e| buffer_failure(&e))?;
     write_package(rt, &object, output.as_str())?;
-    warn_differing(err, differing.as_slice())?;
+    warn_differing(&mut lines, differing.as_slice())?;
+    lines.flush().map_err(|e| buffer_failure(&e))?;
     Ok(0)
 }
 

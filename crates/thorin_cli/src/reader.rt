@@ -1,6 +1,7 @@
 //! Reading inputs, one after the other into the same room.
 
-ghost use Rattle.std.specs.Prelude.{◌≡◌, OnOk, IfSome};
+ghost use Rattle.std.specs.Prelude.{◌≡◌, ◌≤◌, length, take, IfOk, OnOk, IfSome};
+ghost use Rattle.std.specs.Io.KnownBytes.{Consumes};
 ghost use Rattle.thorin_cli.specs.Packing.{anything};
 
 use crate::input::is_device;
@@ -42,16 +43,35 @@ impl InputReader for FileReader<'_> {
 }
 
 /// Reads all that is left, which is about `len` bytes, into room that is made anew where it is too
-/// small: a byte more than `len` lets the read that finds the end have room.
+/// small: a byte more than `len` lets the read that finds the end have room. Bytes that the room
+/// holds are read over, so that they aren't set to zero before.
 fn read_whole<F: Read>(file: &mut F, len: u64, room: &mut Vec<u8>) -> Result<(), InputError>
     ensures { OnOk result (IfSome (F.remaining file.old) (λ all. room.new.items ≡ all)) }
 {
     let needed = (len as usize).saturating_add(1);
-    room.clear();
     if room.capacity() < needed {
         *room = Vec::new(*room.allocator());
         room.reserve_exact(needed)?;
     }
+    room.truncate(needed);
+    let front = read_once(file, room)?;
+    room.truncate(front);
     file.read_to_end(room)?;
     Ok(())
+}
+
+/// One read over what a buffer holds; how many bytes it read, none where it was interrupted.
+fn read_once<F: Read>(file: &mut F, buffer: &mut [u8]) -> Result<usize, InputError>
+    ensures within { IfOk result (λ n. n ≤ length buffer.new) }
+    ensures bytes { IfOk result (λ n. Consumes (F.remaining file.old) (F.remaining file.new) (take n buffer.new)) }
+{
+    match file.read(buffer) {
+        Ok(count) => Ok(count),
+        Err(e) => {
+            if e.kind() == ErrorKind::Interrupted {
+                return Ok(0);
+            }
+            Err(InputError::Io(e))
+        }
+    }
 }

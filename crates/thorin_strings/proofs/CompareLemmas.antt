@@ -59,7 +59,7 @@ follows t x xs test =
         let some : x ≢ 0 = eqb-false x 0 other in
         nat_cmp_is x 0 Greater (omega arith)
 
-compared_long : (xs s : List ℕ) → IsZeroFree s → length s < length xs → slice_cmp nat_cmp (front_string xs) s ≡ ordering_then (slice_cmp nat_cmp (take (length s) xs) s) (nat_cmp (get_or xs (length s) 0) 0)
+pub compared_long : (xs s : List ℕ) → IsZeroFree s → length s < length xs → slice_cmp nat_cmp (front_string xs) s ≡ ordering_then (slice_cmp nat_cmp (take (length s) xs) s) (nat_cmp (get_or xs (length s) 0) 0)
 compared_long xs s free long =
     compared_front xs s free
     ∙ ap (ordering_then (slice_cmp nat_cmp (take (length s) xs) s))

@@ -6,6 +6,7 @@ pub mod OffsetLemmas
 pub mod TableLemmas
 pub mod PlaceLemmas
 pub mod SearchLemmas
+pub mod AlikeLemmas
 pub mod RemapLemmas
 pub mod ChunkLemmas
 pub mod PieceLemmas

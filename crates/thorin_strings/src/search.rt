@@ -9,6 +9,7 @@ ghost use Rattle.thorin_strings.specs.Strings.{BeginsAt, StandsAt, IsWithinDigit
 
 use crate::guess::{Guesses, hash_of};
 use crate::positions::Positions;
+use memchr::arch::all::is_equal;
 use std::cmp::Ordering;
 
 /// How the string at a place stands to one without zero bytes. Its end isn't looked for: as many
@@ -35,12 +36,25 @@ fn begins_at(bytes: &[u8], at: usize) -> bool
     at < bytes.len() && (at == 0 || bytes[at - 1] == 0)
 }
 
+/// Whether the string at a place is one without zero bytes, which is told faster than their order.
+fn is_at(bytes: &[u8], at: usize, string: &[u8]) -> bool
+    requires within { at ≤ length bytes.now }
+    requires zero_free { IsZeroFree string.now }
+    ensures { IsTrue result ↔ (string_from bytes.now at ≡ string.now) }
+{
+    let rest = &bytes[at..];
+    if rest.len() <= string.len() {
+        return compare_at(bytes, at, string).is_eq();
+    }
+    rest[string.len()] == 0 && is_equal(&rest[..string.len()], string)
+}
+
 /// Whether a string begins at a place of a section of ended strings and is this one.
 pub(crate) fn stands_at(bytes: &[u8], at: usize, string: &[u8]) -> bool
     requires { IsZeroFree string.now }
     ensures { IsTrue result ↔ (BeginsAt bytes.now at × (string_from bytes.now at ≡ string.now)) }
 {
-    begins_at(bytes, at) && compare_at(bytes, at, string).is_eq()
+    begins_at(bytes, at) && is_at(bytes, at, string)
 }
 
 /// What a search found: where the string begins, or the rank at which it would stand, and how many
