@@ -4,10 +4,9 @@ use crate::objects::{cu, object, package, packed, plain};
 use bumpalo::Bump;
 use dwp_elf::SectionKind;
 use std::alloc::Global;
-use std::collections::BTreeMap;
 use std::test::Fail;
 use thorin::DwarfPackage;
-use thorin_faults::MemorySession;
+use thorin_faults::BytesSession;
 
 #[test]
 fn an_indirect_form_carries_the_identifier(rt: HostRuntime) -> Result<(), Fail> {
@@ -74,18 +73,29 @@ fn the_identifier_0_is_found(rt: HostRuntime) -> Result<(), Fail> {
     Ok(())
 }
 
+/// What a builder prints of itself, before any input and with an object.
+fn printed<'s>(alloc: Global, session: &'s BytesSession<'s>) -> Result<(String, String), Fail> {
+    let input = plain(alloc, 5)?;
+    let mut builder = DwarfPackage::new(alloc, session);
+    let before = format!(in alloc; "{builder:?}")?;
+    builder.add_object_bytes(&input)?;
+    let after = format!(in alloc; "{builder:?}")?;
+    Ok((before, after))
+}
+
 #[test]
-fn a_builder_prints_what_it_has(rt: HostRuntime) -> Result<(), Fail> {
+fn a_builder_prints_itself(rt: HostRuntime) -> Result<(), Fail> {
     let alloc = rt.alloc();
-    let five = plain(alloc, 5)?;
-    let bump = Bump::new(alloc);
-    let files = BTreeMap::new(alloc);
-    let session = MemorySession::new(&bump, &files);
-    let mut builder = DwarfPackage::new(alloc, &session);
-    let new = "DwarfPackage { in_progress: None, target_count: 0 }";
-    assert_eq!(rt; format!(in alloc; "{builder:?}")?.as_str(), new);
-    builder.add_object_bytes(&five)?;
-    let begun = "DwarfPackage { in_progress: Some(InProgressDwarfPackage), target_count: 0 }";
-    assert_eq!(rt; format!(in alloc; "{builder:?}")?.as_str(), begun);
+    let arena = Bump::new(alloc);
+    let session = BytesSession::new(&arena);
+    let (before, after) = printed(alloc, &session)?;
+    assert_eq!(rt;
+        before.as_str(),
+        "DwarfPackage { in_progress: None, target_count: 0 }"
+    );
+    assert_eq!(rt;
+        after.as_str(),
+        "DwarfPackage { in_progress: Some(InProgressDwarfPackage), target_count: 0 }"
+    );
     Ok(())
 }

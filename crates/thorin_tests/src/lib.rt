@@ -22,8 +22,6 @@ mod objects;
 #[cfg(test)]
 mod one_object;
 #[cfg(test)]
-mod other_shapes;
-#[cfg(test)]
 mod own_packages;
 #[cfg(test)]
 mod packages;
