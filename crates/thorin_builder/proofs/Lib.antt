@@ -63,6 +63,10 @@ pub mod OwnAgain
 pub mod OwnUnitRows
 pub mod OwnUnitsTaken
 pub mod OwnUnitsGiven
+pub mod OwnUnitsAlone
+pub mod OwnUnitsNew
+pub mod OwnNewPackage
+pub mod UnitsFree
 pub mod OwnFormat
 pub mod OwnFirst
 pub mod OwnAccepted

@@ -157,7 +157,7 @@ module _ (names : NamesTheSameLaw) (law : PackagedLaw) (reads : UnitsAreTaken) (
   abbreviations : 0 < length (content_of kinds.Abbrev file.contents)
   abbreviations = subst (λ l. 0 < length l) (sym (finished-shared made file fin kinds.Abbrev refl)) (ltb-true 0 (length (content_of kinds.Abbrev made.file.contents)) (both (has_content kinds.Abbrev made) _ sections).0)
 
-  abbreviations-tested : abbreviations_test (written_object file) ≡ Ok tt
+  pub abbreviations-tested : abbreviations_test (written_object file) ≡ Ok tt
   unfolding abbreviations_test
   abbreviations-tested = ap (λ b. cond {A = Result (Unit {0}) Fault} b (Ok tt) (Err (MissingRequiredSection (name_of kinds.Abbrev)))) (present-written kinds.Abbrev file abbreviations)
 
@@ -196,7 +196,7 @@ module _ (names : NamesTheSameLaw) (law : PackagedLaw) (reads : UnitsAreTaken) (
       written = λ strings some. own-offsets is_read has_entries some_index none_index state encoding file own made begun plain indexes read strings;
     }
 
-    parts : (strings : List (List ℕ)) → UnlessStringOffset (parts_of source strings)
+    pub parts : (strings : List (List ℕ)) → UnlessStringOffset (parts_of source strings)
     parts strings = parts-tried source file.contents ([], strings) own.kinds (λ kind there. absurd (true≢false (sym there))) can
 
     source-taken : (before : InProgress) → IsTable before.strings → UnlessForeseen (with_source source before)
@@ -215,7 +215,7 @@ module _ (names : NamesTheSameLaw) (law : PackagedLaw) (reads : UnitsAreTaken) (
         (source-taken (package_or_new (written_elf file) begun_before) (new-sound (written_elf file) begun_before fine).units.table)
         (λ m e. tt)
 
-  own-read : own_encoding (file_text file) ≡ Ok (one_encoding (written_object file) encoding)
+  pub own-read : own_encoding (file_text file) ≡ Ok (one_encoding (written_object file) encoding)
   unfolding own_encoding file_encoding
   own-read =
       bind-ok (opened (file_text file)) (written_elf file) _ (opened-elf (file_text file) (written_elf file) own.read_back)
@@ -245,7 +245,7 @@ none-taken file back none before =
     then-foreseen (with_input (file_text file) before.begun) _ (subst UnlessForeseen (sym first) tt) (λ now e.
     subst UnlessForeseen (sym (bind-ok (own_encoding (file_text file)) None _ second)) tt)
 
-own-there : (own : Option Encoding) (b : Bool) → (is_some own && b) ≡ true → (encoding : Encoding) × (own ≡ Some encoding) × (b ≡ true)
+pub own-there : (own : Option Encoding) (b : Bool) → (is_some own && b) ≡ true → (encoding : Encoding) × (own ≡ Some encoding) × (b ≡ true)
 own-there None b h = absurd (true≢false (sym h))
 own-there (Some encoding) b h = (encoding, refl, h)
 

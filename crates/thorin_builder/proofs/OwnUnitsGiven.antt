@@ -45,7 +45,7 @@ use Rattle.thorin_builder.proofs.StandingApart.{sound-inside}
 use Rattle.thorin_builder.proofs.Written.{tested-state, finished-order, finished-grows, finished-own}
 
 -- the part of a shared section is as long as the section
-part-long : NamesTheSameLaw → PackagedLaw → (source : Source) (contents : Contents) (strings : List (List ℕ)) (rows : List IndexEntry) → IsAgain source contents strings rows
+pub part-long : NamesTheSameLaw → PackagedLaw → (source : Source) (contents : Contents) (strings : List (List ℕ)) (rows : List IndexEntry) → IsAgain source contents strings rows
     → (before : List (List ℕ)) (parts : Contents) (after : List (List ℕ)) → IsTable before → parts_of source before ≡ Ok (parts, after)
     → (kind : SectionKind) → is_shared kind ≡ true → length (joined_parts kind parts) ≡ length (content_of kind contents)
 part-long names law source contents strings rows again before parts after table h kind shared =

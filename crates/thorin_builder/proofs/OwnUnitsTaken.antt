@@ -206,10 +206,10 @@ EachTaken add contents = (place : UnitSection) (from : Used) → from.kind ≡ k
     → UnlessForeseen (with_each_read add from new (units place (section add.source.object.order from.bytes)))
 
 -- no section of units that was met comes again
-abbrev NotAgain : Met → Contents → Type 0
+abbrev pub NotAgain : Met → Contents → Type 0
 NotAgain met cs = (place : UnitSection) → is_met place met ≡ true → count_of (kind_at place) cs ≡ 0
 
-once-passed : (add : Adding) (place : UnitSection) (met : Met) → is_met place met ≡ false → once_test add place met ≡ Ok tt
+pub once-passed : (add : Adding) (place : UnitSection) (met : Met) → is_met place met ≡ false → once_test add place met ≡ Ok tt
 unfolding once_test
 once-passed add place met h = by (is_package add.source.indexes) (is_met place met) h
   where
@@ -225,10 +225,10 @@ at-taken add contents each from place before kind address bytes met =
     subst UnlessForeseen (sym (bind-ok (once_test add place before.0) tt _ (once-passed add place before.0 met)))
     (then-foreseen (with_each_read add from before.1 (units place (section add.source.object.order from.bytes))) _ (each place from kind address bytes before.1) (λ new e. tt))
 
-abbrev section_of : SectionKind × List ℕ → Used
+abbrev pub section_of : SectionKind × List ℕ → Used
 section_of c = record { kind = c.0; bytes = c.1; address = 0 }
 
-not-met : (met : Met) (place : UnitSection) (c : SectionKind × List ℕ) (cs : Contents) → NotAgain met (c ∷ cs) → c.0 ≡ kind_at place → is_met place met ≡ false
+pub not-met : (met : Met) (place : UnitSection) (c : SectionKind × List ℕ) (cs : Contents) → NotAgain met (c ∷ cs) → c.0 ≡ kind_at place → is_met place met ≡ false
 not-met met place c cs free kind = by (is_met place met) (free place)
   where
     by : (b : Bool) → (b ≡ true → count_of (kind_at place) (c ∷ cs) ≡ 0) → b ≡ false
@@ -242,7 +242,7 @@ met-after met places.Info places.Types h e = h
 met-after met places.Types places.Info h e = h
 met-after met places.Types places.Types h e = absurd (true≢false e)
 
-free-after : (met : Met) (place : UnitSection) (c : SectionKind × List ℕ) (cs : Contents) → KindsDiffer (c ∷ cs) → c.0 ≡ kind_at place → NotAgain met (c ∷ cs) → NotAgain (with_met place met) cs
+pub free-after : (met : Met) (place : UnitSection) (c : SectionKind × List ℕ) (cs : Contents) → KindsDiffer (c ∷ cs) → c.0 ≡ kind_at place → NotAgain met (c ∷ cs) → NotAgain (with_met place met) cs
 free-after met place c cs differ kind free other h = by (same_place other place) refl
   where
     by : (b : Bool) → same_place other place ≡ b → count_of (kind_at other) cs ≡ 0
@@ -258,7 +258,7 @@ met-is add from place before next h =
     let s2 = bind-inv (with_each_read add from before.1 (units place (section add.source.object.order from.bytes))) _ next s1.2 in
     ap (λ (m : Met × New). m.0) (ok-eq {E = Fault} _ next s2.2)
 
-section-is : (add : Adding) (c : SectionKind × List ℕ) (before : Met × New) → with_section add before (section_of c) ≡ with_section_in add (section_of c) (unit_section c.0) before
+pub section-is : (add : Adding) (c : SectionKind × List ℕ) (before : Met × New) → with_section add before (section_of c) ≡ with_section_in add (section_of c) (unit_section c.0) before
 unfolding with_section
 section-is add c before = refl
 

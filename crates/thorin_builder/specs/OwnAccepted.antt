@@ -4,9 +4,9 @@ use Rattle.dwp_elf.specs.Contents.{KindsDiffer}
 use Rattle.dwp_elf.specs.FileText.{Object as File, file_text}
 use Rattle.dwp_elf.specs.Written.{written_elf}
 use Rattle.dwp_elf_read.specs.Elf.{elf_of}
-use Rattle.thorin_builder.specs.Builder.{State, order_of, taken}
+use Rattle.thorin_builder.specs.Builder.{State, order_of, start, taken}
 use Rattle.thorin_builder.specs.Own.{packs_again}
-use Rattle.thorin_builder.specs.OwnRefusals.{UnlessForeseen}
+use Rattle.thorin_builder.specs.OwnRefusals.{UnlessForeseen, UnlessStringOffset}
 use Rattle.thorin_builder.specs.Represents.{IsSoundBegun}
 
 -- the file's bytes are taken by any package of their byte order and by a new one, unless a
@@ -20,3 +20,12 @@ IsAccepted file = (before : State) → IsSoundBegun before.begun
 abbrev pub IsAcceptedOnceWritten : State → File → Type 0
 IsAcceptedOnceWritten state file = packs_again state ≡ true → KindsDiffer file.contents
     → elf_of (file_text file) ≡ Ok (written_elf file) → IsAccepted file
+
+-- the file's bytes are taken by a new package, unless the offset of a string doesn't fit
+abbrev pub IsAcceptedByNew : File → Type 0
+IsAcceptedByNew file = UnlessStringOffset (taken (file_text file) start)
+
+-- so is the file of a state that packs again, once it is written and read back as an ELF file
+abbrev pub IsAcceptedByNewOnceWritten : State → File → Type 0
+IsAcceptedByNewOnceWritten state file = packs_again state ≡ true → KindsDiffer file.contents
+    → elf_of (file_text file) ≡ Ok (written_elf file) → IsAcceptedByNew file

@@ -9,6 +9,7 @@ ghost use Rattle.thorin_strings.specs.Strings.{IsTable};
 ghost use Rattle.thorin_builder.specs.Builder.{State, IsFinishedState, finish_test, taken};
 ghost use Rattle.thorin_builder.specs.Growing.{Contents};
 ghost use Rattle.thorin_builder.specs.Indexes.{Indexes, indexes_of};
+ghost use Rattle.thorin_builder.specs.OwnAccepted.{IsAcceptedByNewOnceWritten};
 ghost use Rattle.thorin_builder.specs.OwnAccepted.{IsAcceptedOnceWritten};
 ghost use Rattle.thorin_builder.specs.OwnInput.{written_object, IsOwn};
 ghost use Rattle.thorin_builder.specs.NewUnits.{new_units};
@@ -98,6 +99,28 @@ pub fn own_packages_are_accepted()
         → finish_test state ≡ Ok tt
         → IsFinishedState state file
         → IsAcceptedOnceWritten state file }
+{
+    rewritten_offsets_name_the_same();
+    packaged_rows_are_read_alike();
+    units_have_all_bytes();
+    every_row_is_found_by_place();
+    look_up_finds_exactly();
+    written_index_is_read();
+    written_index_has_the_entries();
+    contents_are_read();
+}
+
+/// The law of own packages in a new one: where `packs_again` is true of a builder, and its package
+/// is finished and written, the written bytes are taken by a new package, unless the offset of a
+/// string doesn't fit the format: no compilation unit stands in them twice. It does nothing.
+pub fn own_packages_are_accepted_by_a_new_one()
+    ensures { (state : State) (file : Object)
+        → IsSoundBegun state.begun
+        → HoldsOwn state
+        → HoldsPlain state
+        → finish_test state ≡ Ok tt
+        → IsFinishedState state file
+        → IsAcceptedByNewOnceWritten state file }
 {
     rewritten_offsets_name_the_same();
     packaged_rows_are_read_alike();
