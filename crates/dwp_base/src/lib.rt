@@ -9,6 +9,3 @@ mod section;
 pub use class::Class;
 pub use endian::Endianness;
 pub use section::{Contribution, ContributionOffset, SectionKind};
-
-#[cfg(test)]
-mod tests;

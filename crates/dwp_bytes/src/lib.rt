@@ -17,6 +17,3 @@ pub use relocate::Relocate;
 pub use relocation::{Relocation, RelocationEntry};
 pub use slice::SliceReader;
 pub use string_offsets::string_at;
-
-#[cfg(test)]
-mod tests;

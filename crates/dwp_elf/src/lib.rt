@@ -16,6 +16,3 @@ pub use dwp_elf_read::{
 };
 pub use object::WritableObject;
 pub use writer::{Output, Watched};
-
-#[cfg(test)]
-mod tests;

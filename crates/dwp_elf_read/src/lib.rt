@@ -16,8 +16,6 @@ mod section;
 mod sections;
 mod symbol;
 mod table;
-#[cfg(test)]
-mod tests;
 
 pub use fault::{ReadError, WriteError};
 pub use file::ElfFile;

@@ -11,6 +11,3 @@ pub use column::{CONTRIBUTION_KINDS, column_of, kind_of_column};
 pub use object::{Bucketable, DebugTypeSignature, DwarfObject, DwoId};
 pub use row::{first_place, place_after, place_row};
 pub use slots::slot_count;
-
-#[cfg(test)]
-mod tests;

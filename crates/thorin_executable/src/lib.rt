@@ -9,6 +9,3 @@ mod reader;
 mod roots;
 
 pub use listing::{Skeleton, SkeletonList, skeletons};
-
-#[cfg(test)]
-mod tests;

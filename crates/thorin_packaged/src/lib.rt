@@ -8,6 +8,3 @@ mod row_places;
 
 pub use packaged_offsets::remap_packaged_offsets;
 pub use row_places::RowPlaces;
-
-#[cfg(test)]
-mod tests;

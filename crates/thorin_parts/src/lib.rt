@@ -20,6 +20,3 @@ pub use thorin_faults::{
     Session,
 };
 pub use thorin_strings::{PackageStringOffset, PackageStringTable};
-
-#[cfg(test)]
-mod tests;

@@ -1,12 +1,13 @@
 //! Objects that say the same in rarer forms, the identifier 0, and what a builder prints.
 
-use crate::objects::{cu, object, package, packed, plain};
+use crate::packing::packed;
 use bumpalo::Bump;
 use dwp_elf::SectionKind;
 use std::alloc::Global;
 use std::test::Fail;
 use thorin::DwarfPackage;
 use thorin_faults::BytesSession;
+use thorin_objects::{cu, has_unit, object, plain, slots_read, unit_bytes};
 
 #[test]
 fn an_indirect_form_carries_the_identifier(rt: HostRuntime) -> Result<(), Fail> {
@@ -24,9 +25,7 @@ fn an_indirect_form_carries_the_identifier(rt: HostRuntime) -> Result<(), Fail> 
         ],
     )?;
     let file = packed(alloc, &[input.as_slice()])?.file?;
-    let package = package(file.as_slice())?;
-    let five = package.find(cu(5))?.ok_or("unit 5 is there")?;
-    assert_eq!(rt; five.bytes(), info.as_slice());
+    assert_eq!(rt; unit_bytes(&file, cu(5))?, info.as_slice());
     Ok(())
 }
 
@@ -65,21 +64,28 @@ fn the_identifier_0_is_found(rt: HostRuntime) -> Result<(), Fail> {
     let alloc = rt.alloc();
     let input = plain(alloc, 0)?;
     let file = packed(alloc, &[input.as_slice()])?.file?;
-    let package = package(file.as_slice())?;
-    let (zero, slots) = package.find_counted(cu(0))?;
-    assert_eq!(rt; (zero.is_some(), slots), (true, 1));
-    let (two, slots) = package.find_counted(cu(2))?;
-    assert_eq!(rt; (two.is_some(), slots), (false, 2));
+    for (id, is_there, slots) in [(0, true, 1), (2, false, 2)] {
+        assert_eq!(rt; has_unit(&file, cu(id))?, is_there, "unit {id}");
+        assert_eq!(rt; slots_read(&file, cu(id))?, slots, "unit {id}");
+    }
     Ok(())
 }
 
-/// What a builder prints of itself, before any input and with an object.
+/// What a builder prints of itself.
+fn text_of<'o, 's: 'o>(
+    alloc: Global,
+    builder: &DwarfPackage<'o, 's, BytesSession<'s>>,
+) -> Result<String, Fail> {
+    Ok(format!(in alloc; "{builder:?}")?)
+}
+
+/// The same before any input and with an object.
 fn printed<'s>(alloc: Global, session: &'s BytesSession<'s>) -> Result<(String, String), Fail> {
     let input = plain(alloc, 5)?;
     let mut builder = DwarfPackage::new(alloc, session);
-    let before = format!(in alloc; "{builder:?}")?;
+    let before = text_of(alloc, &builder)?;
     builder.add_object_bytes(&input)?;
-    let after = format!(in alloc; "{builder:?}")?;
+    let after = text_of(alloc, &builder)?;
     Ok((before, after))
 }
 

@@ -1,14 +1,16 @@
 //! Packing in groups.
 
-use crate::objects::{ABBREVIATIONS, cu, object, package, packed, plain, split_unit, tu, unit};
-use crate::own_packages::split;
-use crate::packages::SPLIT_TYPE;
+use crate::packing::packed;
 use bumpalo::Bump;
-use dwp_elf::{Endianness, SectionKind};
+use dwp_elf::SectionKind;
 use std::alloc::Global;
+use std::process::Abort;
 use std::test::Fail;
 use thorin::pack_groups;
 use thorin_faults::{BytesSession, Error};
+use thorin_objects::{
+    SPLIT_TYPE, cu, has_unit, numbered, plain, split, split_unit, tu, unit_bytes, unit_content,
+};
 
 /// What packing these groups gives.
 fn grouped<'s>(
@@ -46,14 +48,23 @@ fn two_groups_make_the_package_of_their_objects(rt: HostRuntime) -> Result<(), F
     Ok(())
 }
 
+/// The object of a unit of an identifier and a type unit, with these sections besides.
+fn with_split_type(
+    alloc: Global,
+    id: u8,
+    others: &[(SectionKind, &[u8])],
+) -> Result<Vec<u8>, Fail> {
+    split(
+        alloc,
+        &[split_unit(id).as_slice(), SPLIT_TYPE.as_slice()],
+        others,
+    )
+}
+
 #[test]
 fn a_group_whose_package_cannot_be_packed_is_refused(rt: HostRuntime) -> Result<(), Fail> {
     let alloc = rt.alloc();
-    let a = split(
-        alloc,
-        &[split_unit(7).as_slice(), SPLIT_TYPE.as_slice()],
-        &[],
-    )?;
+    let a = with_split_type(alloc, 7, &[])?;
     let b = split(
         alloc,
         &[SPLIT_TYPE.as_slice()],
@@ -64,37 +75,34 @@ fn a_group_whose_package_cannot_be_packed_is_refused(rt: HostRuntime) -> Result<
     let refused = grouped(alloc, &session, &[&[a.as_slice(), b.as_slice()]]);
     assert!(rt; matches!(refused, Err(Error::SectionNotInRow)));
     let file = packed(alloc, &[a.as_slice(), b.as_slice()])?.file?;
-    let package = package(file.as_slice())?;
-    assert!(rt; package.find(cu(7))?.is_some());
-    assert!(rt; package.find(tu(0x11))?.is_some());
+    assert!(rt; has_unit(&file, cu(7))?);
+    assert!(rt; has_unit(&file, tu(0x11))?);
+    Ok(())
+}
+
+/// Asserts that the unit 8 alone has lines, and that the type unit is there.
+fn the_first_has_no_lines(rt: &impl Abort, file: &[u8]) -> Result<(), Fail> {
+    for (name, lines) in [
+        (cu(7), [].as_slice()),
+        (cu(8), [0xaa].as_slice()),
+        (tu(0x11), [].as_slice()),
+    ] {
+        let content = unit_content(file, name, SectionKind::Line)?;
+        assert_eq!(rt; content, lines, "{name:?}");
+    }
+    assert_eq!(rt; unit_bytes(file, tu(0x11))?, SPLIT_TYPE.as_slice());
     Ok(())
 }
 
 #[test]
 fn the_first_group_with_a_type_unit_keeps_it(rt: HostRuntime) -> Result<(), Fail> {
     let alloc = rt.alloc();
-    let a = split(
-        alloc,
-        &[split_unit(7).as_slice(), SPLIT_TYPE.as_slice()],
-        &[],
-    )?;
-    let c = split(
-        alloc,
-        &[split_unit(8).as_slice(), SPLIT_TYPE.as_slice()],
-        &[(SectionKind::Line, [0xaa].as_slice())],
-    )?;
+    let a = with_split_type(alloc, 7, &[])?;
+    let c = with_split_type(alloc, 8, &[(SectionKind::Line, [0xaa].as_slice())])?;
     let arena = Bump::new(alloc);
     let session = BytesSession::new(&arena);
     let file = grouped(alloc, &session, &[&[a.as_slice()], &[c.as_slice()]])?;
-    let package = package(file.as_slice())?;
-    let seven = package.find(cu(7))?.ok_or("unit 7 is there")?;
-    assert!(rt; seven.section(SectionKind::Line).is_empty());
-    let eight = package.find(cu(8))?.ok_or("unit 8 is there")?;
-    assert_eq!(rt; eight.section(SectionKind::Line), [0xaa].as_slice());
-    let shared = package.find(tu(0x11))?.ok_or("the type unit is there")?;
-    assert_eq!(rt; shared.bytes(), SPLIT_TYPE.as_slice());
-    assert!(rt; shared.section(SectionKind::Line).is_empty());
-    Ok(())
+    the_first_has_no_lines(&rt, &file)
 }
 
 #[test]
@@ -115,18 +123,4 @@ fn a_thousand_groups_make_70048_bytes(rt: HostRuntime) -> Result<(), Fail> {
     assert_eq!(rt; file.len(), 70_048);
     assert!(rt; file == packed(alloc, objects.as_slice())?.file?);
     Ok(())
-}
-
-/// The object with the compilation unit of an identifier of 8 bytes.
-fn numbered(alloc: Global, id: u64) -> Result<Vec<u8>, Fail> {
-    let mut info = unit(0).to_vec(alloc)?;
-    info.truncate(12);
-    info.extend_from_slice(&Endianness::Little.bytes_of_u64(id))?;
-    Ok(object(
-        alloc,
-        &[
-            (SectionKind::Info, info.as_slice()),
-            (SectionKind::Abbrev, ABBREVIATIONS.as_slice()),
-        ],
-    )?)
 }

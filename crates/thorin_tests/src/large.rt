@@ -1,24 +1,33 @@
 //! Packages of many units and of many strings.
 
-use crate::objects::{ABBREVIATIONS, cu, object, package, packed, unit};
+use crate::packing::packed;
 use dwp_elf::{Endianness, SectionKind};
+use std::alloc::Global;
+use std::process::Abort;
 use std::test::Fail;
+use thorin_objects::{
+    ABBREVIATIONS, cu, numbered, object, slots_read, unit, unit_bytes, unit_string,
+};
+
+/// Asserts that the package has the units 1 to 1000, each in the slot that is looked at first.
+fn has_a_thousand(rt: &impl Abort, file: &[u8]) -> Result<(), Fail> {
+    for id in 1..1001u64 {
+        assert_eq!(rt; slots_read(file, cu(id))?, 1);
+        let identifier = Endianness::Little.bytes_of_u64(id);
+        assert_eq!(rt;
+            unit_bytes(file, cu(id))?.get(12..),
+            Some(identifier.as_slice())
+        );
+    }
+    Ok(())
+}
 
 #[test]
 fn a_thousand_objects_make_70048_bytes(rt: HostRuntime) -> Result<(), Fail> {
     let alloc = rt.alloc();
     let mut inputs: Vec<Vec<u8>> = Vec::new(alloc);
     for id in 1..1001u64 {
-        let mut info = unit(0).to_vec(alloc)?;
-        info.truncate(12);
-        info.extend_from_slice(&Endianness::Little.bytes_of_u64(id))?;
-        inputs.push(object(
-            alloc,
-            &[
-                (SectionKind::Info, info.as_slice()),
-                (SectionKind::Abbrev, ABBREVIATIONS.as_slice()),
-            ],
-        )?)?;
+        inputs.push(numbered(alloc, id)?)?;
     }
     let objects: Vec<&[u8]> = inputs.iter().map(|input| input.as_slice()).collect(alloc)?;
     let packed = packed(alloc, &objects)?;
@@ -27,22 +36,11 @@ fn a_thousand_objects_make_70048_bytes(rt: HostRuntime) -> Result<(), Fail> {
     }
     let file = packed.file?;
     assert_eq!(rt; file.len(), 70_048);
-    let package = package(file.as_slice())?;
-    for id in 1..1001u64 {
-        let (found, slots) = package.find_counted(cu(id))?;
-        let found = found.ok_or("each unit is there")?;
-        assert_eq!(rt; slots, 1);
-        assert_eq!(rt;
-            found.bytes().get(12..),
-            Some(Endianness::Little.bytes_of_u64(id).as_slice())
-        );
-    }
-    Ok(())
+    has_a_thousand(&rt, &file)
 }
 
-#[test]
-fn five_thousand_strings_make_44608_bytes(rt: HostRuntime) -> Result<(), Fail> {
-    let alloc = rt.alloc();
+/// The object of the unit 5 with the strings `0` to `4999`.
+fn with_numbers(alloc: Global) -> Result<Vec<u8>, Fail> {
     let mut strings = Vec::new(alloc);
     let mut offsets = Vec::new(alloc);
     for number in 0..5000u32 {
@@ -52,8 +50,10 @@ fn five_thousand_strings_make_44608_bytes(rt: HostRuntime) -> Result<(), Fail> {
         strings.extend_from_slice(text.as_bytes())?;
         strings.push(0)?;
     }
-    assert_eq!(rt; strings.len(), 23_890);
-    let input = object(
+    if strings.len() != 23_890 {
+        return Err("the strings have 23890 bytes".into());
+    }
+    Ok(object(
         alloc,
         &[
             (SectionKind::Info, unit(5).as_slice()),
@@ -61,12 +61,17 @@ fn five_thousand_strings_make_44608_bytes(rt: HostRuntime) -> Result<(), Fail> {
             (SectionKind::Str, strings.as_slice()),
             (SectionKind::StrOffsets, offsets.as_slice()),
         ],
-    )?;
+    )?)
+}
+
+#[test]
+fn five_thousand_strings_make_44608_bytes(rt: HostRuntime) -> Result<(), Fail> {
+    let alloc = rt.alloc();
+    let input = with_numbers(alloc)?;
     let file = packed(alloc, &[input.as_slice()])?.file?;
     assert_eq!(rt; file.len(), 44_608);
-    let package = package(file.as_slice())?;
-    let found = package.find(cu(5))?.ok_or("unit 5 is there")?;
-    assert_eq!(rt; found.string(4999)?, Some(b"4999".as_slice()));
-    assert_eq!(rt; found.string(5000)?, None);
+    let last = unit_string(&file, cu(5), 4999)?;
+    assert_eq!(rt; last, Some(b"4999".as_slice()));
+    assert_eq!(rt; unit_string(&file, cu(5), 5000)?, None);
     Ok(())
 }

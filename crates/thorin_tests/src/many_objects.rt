@@ -1,15 +1,30 @@
 //! Packages of several objects.
 
-use crate::objects::{
-    ABBREVIATIONS, TYPE_UNIT, cu, made, object, package, packed, part, plain, renamed, split_unit,
-    tu, unit, with_strings, with_types,
-};
+use crate::packing::packed;
 use dwp_bytes::ReadError;
 use dwp_elf::{Class, Endianness, SectionKind};
-use dwp_table::DwarfObject;
 use std::alloc::Global;
+use std::process::Abort;
 use std::test::Fail;
+use thorin::Packed;
 use thorin_faults::Error;
+use thorin_objects::{
+    ABBREVIATIONS, TYPE_UNIT, cu, has_unit, longer_type_unit, made, object, part, plain, renamed,
+    slots_read, split_unit, tu, type_unit_count, unit, unit_bytes, unit_range, unit_string,
+    with_strings, with_types,
+};
+
+/// Asserts that one outcome is the refusal of a unit that comes again.
+fn refuses_once(rt: &impl Abort, packed: &Packed, unit: u64) {
+    let mut refused = 0u32;
+    for outcome in &packed.outcomes {
+        if let Err(fault) = outcome {
+            assert!(rt; matches!(fault, Error::DuplicateUnit(id) if *id == unit));
+            refused = refused.saturating_add(1);
+        }
+    }
+    assert_eq!(rt; refused, 1);
+}
 
 #[test]
 fn a_unit_that_comes_again_is_refused(rt: HostRuntime) -> Result<(), Fail> {
@@ -17,79 +32,50 @@ fn a_unit_that_comes_again_is_refused(rt: HostRuntime) -> Result<(), Fail> {
     let x = plain(alloc, 5)?;
     let y = plain(alloc, 6)?;
     let packed = packed(alloc, &[x.as_slice(), y.as_slice(), x.as_slice()])?;
-    let mut refused = 0u32;
-    for outcome in &packed.outcomes {
-        if let Err(fault) = outcome {
-            assert!(rt; matches!(fault, Error::DuplicateUnit(5)));
-            refused = refused.saturating_add(1);
-        }
-    }
-    assert_eq!(rt; refused, 1);
+    refuses_once(&rt, &packed, 5);
     let file = packed.file?;
-    let bytes = file.as_slice();
-    assert_eq!(rt; bytes.len(), 608);
-    let package = package(bytes)?;
-    let six = package.find(cu(6))?.ok_or("unit 6 is there")?;
-    assert_eq!(rt; six.bytes(), unit(6).as_slice());
-    let info = six.range(SectionKind::Info).ok_or("it has info")?;
-    assert_eq!(rt; (info.offset.0, info.size), (0x14, 0x14));
-    let abbrev = six
-        .range(SectionKind::Abbrev)
-        .ok_or("it has abbreviations")?;
-    assert_eq!(rt; (abbrev.offset.0, abbrev.size), (9, 9));
+    assert_eq!(rt; file.len(), 608);
+    let six = unit(6);
+    assert_eq!(rt; unit_bytes(&file, cu(6))?, six.as_slice());
+    for (kind, place, size) in [(SectionKind::Info, 0x14, 0x14), (SectionKind::Abbrev, 9, 9)] {
+        assert_eq!(rt; unit_range(&file, cu(6), kind)?, (place, size), "{kind:?}");
+    }
     // Four slots, of which the second and the third are used.
     assert_eq!(rt;
-        part(bytes, 170, 186),
+        part(&file, 170, 186),
         [0u8, 0, 0, 0, 1, 0, 0, 0, 2, 0, 0, 0, 0, 0, 0, 0].as_slice()
     );
     Ok(())
 }
 
-/// A type unit of the same signature with one byte more.
-pub fn longer_type_unit() -> [u8; 24] {
-    let mut unit = [0u8; 24];
-    for (to, from) in unit.iter_mut().zip(TYPE_UNIT) {
-        *to = from;
+/// Asserts what the package says of the type unit 0x11, which is there once, with the abbreviations
+/// of the unit 7.
+fn has_the_first_type_unit(rt: &impl Abort, file: &[u8]) -> Result<(), Fail> {
+    assert_eq!(rt; slots_read(file, tu(0x11))?, 1);
+    assert_eq!(rt; unit_bytes(file, tu(0x11))?, TYPE_UNIT.as_slice());
+    for (kind, place, size) in [(SectionKind::Types, 0, 0x17), (SectionKind::Abbrev, 0, 9)] {
+        assert_eq!(rt;
+            unit_range(file, tu(0x11), kind)?,
+            (place, size),
+            "{kind:?}"
+        );
     }
-    unit[0] = 0x14;
-    unit
+    assert_eq!(rt; type_unit_count(file)?, 1);
+    Ok(())
 }
 
 #[test]
 fn a_type_unit_that_comes_again_is_passed_over(rt: HostRuntime) -> Result<(), Fail> {
     let alloc = rt.alloc();
-    let z = with_types(alloc, unit(7).as_slice(), TYPE_UNIT.as_slice())?;
-    let w = with_types(alloc, unit(8).as_slice(), longer_type_unit().as_slice())?;
+    let (seven, eight, longer) = (unit(7), unit(8), longer_type_unit());
+    let z = with_types(alloc, seven.as_slice(), TYPE_UNIT.as_slice())?;
+    let w = with_types(alloc, eight.as_slice(), longer.as_slice())?;
     let packed = packed(alloc, &[z.as_slice(), z.as_slice(), w.as_slice()])?;
-    let mut refused = 0u32;
-    for outcome in &packed.outcomes {
-        if let Err(fault) = outcome {
-            assert!(rt; matches!(fault, Error::DuplicateUnit(7)));
-            refused = refused.saturating_add(1);
-        }
-    }
-    assert_eq!(rt; (packed.outcomes.len(), refused), (3, 1));
+    assert_eq!(rt; packed.outcomes.len(), 3);
+    refuses_once(&rt, &packed, 7);
     let file = packed.file?;
-    let package = package(file.as_slice())?;
-    let (found, slots) = package.find_counted(tu(0x11))?;
-    let found = found.ok_or("the type unit is there")?;
-    assert_eq!(rt; slots, 1);
-    assert_eq!(rt; found.bytes(), TYPE_UNIT.as_slice());
-    let types = found.range(SectionKind::Types).ok_or("it has types")?;
-    assert_eq!(rt; (types.offset.0, types.size), (0, 0x17));
-    let abbrev = found
-        .range(SectionKind::Abbrev)
-        .ok_or("it has abbreviations")?;
-    assert_eq!(rt; (abbrev.offset.0, abbrev.size), (0, 9));
-    let eight = package.find(cu(8))?.ok_or("unit 8 is there")?;
-    assert_eq!(rt; eight.bytes(), unit(8).as_slice());
-    let mut listed = 0u32;
-    for entry in package.units() {
-        if let DwarfObject::TypeUnit(_) = entry.object {
-            listed = listed.saturating_add(1);
-        }
-    }
-    assert_eq!(rt; listed, 1);
+    has_the_first_type_unit(&rt, &file)?;
+    assert_eq!(rt; unit_bytes(&file, cu(8))?, eight.as_slice());
     Ok(())
 }
 
@@ -169,12 +155,10 @@ fn strings_of_two_objects_are_kept_once(rt: HostRuntime) -> Result<(), Fail> {
         [0u8, 0, 0, 0, 2, 0, 0, 0, 0, 0, 0, 0].as_slice()
     );
     assert_eq!(rt; part(bytes, 134, 138), b"b\0a\0".as_slice());
-    let package = package(bytes)?;
-    let six = package.find(cu(6))?.ok_or("unit 6 is there")?;
-    let offsets = six.range(SectionKind::StrOffsets).ok_or("it has strings")?;
-    assert_eq!(rt; (offsets.offset.0, offsets.size), (8, 4));
-    assert_eq!(rt; six.string(0)?, Some(b"b".as_slice()));
-    assert_eq!(rt; six.string(1)?, None);
+    let offsets = unit_range(bytes, cu(6), SectionKind::StrOffsets)?;
+    assert_eq!(rt; offsets, (8, 4));
+    assert_eq!(rt; unit_string(bytes, cu(6), 0)?, Some(b"b".as_slice()));
+    assert_eq!(rt; unit_string(bytes, cu(6), 1)?, None);
     Ok(())
 }
 
@@ -203,12 +187,8 @@ fn repeated_sections_make_one_range(rt: HostRuntime) -> Result<(), Fail> {
         b".debug_abbrev.dwo\0",
     )?;
     let file = packed(alloc, &[first.as_slice(), second.as_slice()])?.file?;
-    let package = package(file.as_slice())?;
-    let seven = package.find(cu(7))?.ok_or("unit 7 is there")?;
-    let abbrev = seven
-        .range(SectionKind::Abbrev)
-        .ok_or("it has abbreviations")?;
-    assert_eq!(rt; (abbrev.offset.0, abbrev.size), (0x10, 9));
+    let abbreviations = unit_range(&file, cu(7), SectionKind::Abbrev)?;
+    assert_eq!(rt; abbreviations, (0x10, 9));
     Ok(())
 }
 
@@ -251,11 +231,7 @@ fn each_class_order_and_format_is_packed(rt: HostRuntime) -> Result<(), Fail> {
             for is_wide in [false, true] {
                 let input = combination(alloc, class, order, is_wide)?;
                 let file = packed(alloc, &[input.as_slice()])?.file?;
-                let package = package(file.as_slice())?;
-                assert!(rt;
-                    package.find(cu(5))?.is_some(),
-                    "{class:?} {order:?} {is_wide}"
-                );
+                assert!(rt; has_unit(&file, cu(5))?, "{class:?} {order:?} {is_wide}");
             }
         }
     }

@@ -1,13 +1,15 @@
 //! Packages of one object.
 
-use crate::objects::{
-    ABBREVIATIONS, cu, made, object, package, packed, part, plain, renamed, split_unit, unit,
-    with_strings,
-};
+use crate::packing::packed;
 use dwp_elf::{Class, Endianness, SectionKind};
 use std::alloc::Global;
+use std::process::Abort;
 use std::test::Fail;
 use thorin_faults::Error;
+use thorin_objects::{
+    ABBREVIATIONS, cu, made, object, part, plain, renamed, slots_read, split_unit, unit,
+    unit_bytes, unit_content, unit_row, unit_string, with_strings,
+};
 
 // The index of one compilation unit 5 with 20 bytes of info and 9 of abbreviations.
 const INDEX: [u8; 64] = [
@@ -25,27 +27,31 @@ fn one_unit_makes_544_bytes(rt: HostRuntime) -> Result<(), Fail> {
     let file = packed.file?;
     let bytes = file.as_slice();
     assert_eq!(rt; bytes.len(), 544);
-    assert_eq!(rt; part(bytes, 64, 73), ABBREVIATIONS.as_slice());
-    assert_eq!(rt; part(bytes, 73, 93), unit(5).as_slice());
-    assert_eq!(rt; part(bytes, 93, 157), INDEX.as_slice());
-    assert_eq!(rt; part(bytes, 157, 158), [0u8].as_slice());
-    // The section headers stand at 224, and there are five.
-    assert_eq!(rt;
-        part(bytes, 40, 48),
-        [224u8, 0, 0, 0, 0, 0, 0, 0].as_slice()
-    );
-    assert_eq!(rt; part(bytes, 60, 62), [5u8, 0].as_slice());
-    let package = package(bytes)?;
-    let (unit5, slots) = package.find_counted(cu(5))?;
-    assert_eq!(rt; slots, 1);
-    let unit5 = unit5.ok_or("unit 5 is there")?;
-    assert_eq!(rt; unit5.bytes(), unit(5).as_slice());
-    assert_eq!(rt;
-        unit5.section(SectionKind::Abbrev),
-        ABBREVIATIONS.as_slice()
-    );
-    assert_eq!(rt; unit5.row(), 1);
-    assert_eq!(rt; unit5.string(0)?, None);
+    let five = unit(5);
+    for (from, to, want) in [
+        (64, 73, ABBREVIATIONS.as_slice()),
+        (73, 93, five.as_slice()),
+        (93, 157, INDEX.as_slice()),
+        (157, 158, [0].as_slice()),
+        // The section headers stand at 224, and there are five.
+        (40, 48, [224, 0, 0, 0, 0, 0, 0, 0].as_slice()),
+        (60, 62, [5, 0].as_slice()),
+    ] {
+        assert_eq!(rt; part(bytes, from, to), want, "from {from} to {to}");
+    }
+    finds_five(&rt, bytes)?;
+    Ok(())
+}
+
+/// Asserts what the package says of its unit 5, which has abbreviations and no strings.
+fn finds_five(rt: &impl Abort, file: &[u8]) -> Result<(), Fail> {
+    let five = unit(5);
+    assert_eq!(rt; slots_read(file, cu(5))?, 1);
+    assert_eq!(rt; unit_bytes(file, cu(5))?, five.as_slice());
+    let abbreviations = unit_content(file, cu(5), SectionKind::Abbrev)?;
+    assert_eq!(rt; abbreviations, ABBREVIATIONS.as_slice());
+    assert_eq!(rt; unit_row(file, cu(5))?, 1);
+    assert_eq!(rt; unit_string(file, cu(5), 0)?, None);
     Ok(())
 }
 
@@ -57,15 +63,22 @@ fn two_strings_make_728_bytes(rt: HostRuntime) -> Result<(), Fail> {
     let file = packed.file?;
     let bytes = file.as_slice();
     assert_eq!(rt; bytes.len(), 728);
-    assert_eq!(rt; part(bytes, 64, 73), ABBREVIATIONS.as_slice());
-    assert_eq!(rt; part(bytes, 73, 81), [0u8, 0, 0, 0, 2, 0, 0, 0].as_slice());
-    assert_eq!(rt; part(bytes, 81, 101), unit(5).as_slice());
-    assert_eq!(rt; part(bytes, 101, 105), b"b\0a\0".as_slice());
-    let package = package(bytes)?;
-    let unit5 = package.find(cu(5))?.ok_or("unit 5 is there")?;
-    assert_eq!(rt; unit5.string(0)?, Some(b"b".as_slice()));
-    assert_eq!(rt; unit5.string(1)?, Some(b"a".as_slice()));
-    assert_eq!(rt; unit5.string(2)?, None);
+    let five = unit(5);
+    for (from, to, want) in [
+        (64, 73, ABBREVIATIONS.as_slice()),
+        (73, 81, [0, 0, 0, 0, 2, 0, 0, 0].as_slice()),
+        (81, 101, five.as_slice()),
+        (101, 105, b"b\0a\0".as_slice()),
+    ] {
+        assert_eq!(rt; part(bytes, from, to), want, "from {from} to {to}");
+    }
+    for (number, want) in [
+        (0, Some(b"b".as_slice())),
+        (1, Some(b"a".as_slice())),
+        (2, None),
+    ] {
+        assert_eq!(rt; unit_string(bytes, cu(5), number)?, want, "string {number}");
+    }
     Ok(())
 }
 
@@ -172,13 +185,15 @@ fn big_endian_of_32_bits_makes_408_bytes(rt: HostRuntime) -> Result<(), Fail> {
     let file = packed(alloc, &[input.as_slice()])?.file?;
     let bytes = file.as_slice();
     assert_eq!(rt; bytes.len(), 408);
-    assert_eq!(rt; part(bytes, 52, 61), ABBREVIATIONS.as_slice());
-    assert_eq!(rt; part(bytes, 61, 81), info.as_slice());
-    // The section headers stand at 208.
-    assert_eq!(rt; part(bytes, 32, 36), [0u8, 0, 0, 208].as_slice());
-    let package = package(bytes)?;
-    let unit5 = package.find(cu(5))?.ok_or("unit 5 is there")?;
-    assert_eq!(rt; unit5.bytes(), info.as_slice());
+    for (from, to, want) in [
+        (52, 61, ABBREVIATIONS.as_slice()),
+        (61, 81, info.as_slice()),
+        // The section headers stand at 208.
+        (32, 36, [0, 0, 0, 208].as_slice()),
+    ] {
+        assert_eq!(rt; part(bytes, from, to), want, "from {from} to {to}");
+    }
+    assert_eq!(rt; unit_bytes(bytes, cu(5))?, info.as_slice());
     Ok(())
 }
 

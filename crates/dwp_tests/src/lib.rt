@@ -1,0 +1,15 @@
+//! Tests of the crates of the formats, `dwp_base` to `dwp_table`, by their public calls.
+#![tactic(auto)]
+
+#[cfg(test)]
+mod base;
+#[cfg(test)]
+mod bytes;
+#[cfg(test)]
+mod dwarf;
+#[cfg(test)]
+mod elf;
+#[cfg(test)]
+mod elf_read;
+#[cfg(test)]
+mod table;

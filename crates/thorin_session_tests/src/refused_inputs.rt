@@ -1,0 +1,131 @@
+//! What is left where memory is refused, of packages and executables as inputs and of type units
+//! that differ: run with one allocation that fails, for each in turn.
+
+use crate::building::{add, add_named, finished, unit_count, written};
+use crate::executables::naming_file;
+use crate::refused::{adds, sure, sure_whole, sure_with_types};
+use bumpalo::Bump;
+use dwp_elf::WriteError;
+use std::alloc::Global;
+use std::collections::BTreeMap;
+use std::process::Abort;
+use std::test::Fail;
+use thorin::DwarfPackage;
+use thorin_faults::{Error, MemorySession, MissingReferencedObjectBehaviour};
+use thorin_objects::{cu, longer_type_unit, plain, unit, with_types};
+
+#[test]
+fn a_refused_allocation_leaves_a_package_as_input(rt: HostRuntime) -> Result<(), Fail> {
+    let alloc = rt.alloc();
+    let five = sure(alloc, 5)?;
+    let finished = sure_whole(alloc, &[five.as_slice()])?;
+    let bump = Bump::new(alloc);
+    let files = BTreeMap::new(alloc);
+    let session = MemorySession::new(&bump, &files);
+    let file = adds(&rt, alloc, &session, &[finished.as_slice()], &[cu(5)])?;
+    assert_eq!(rt; file.len(), 544);
+    Ok(())
+}
+
+// The executable that names the object of the unit 5, and that object.
+fn named_files(alloc: Global) -> Result<BTreeMap<String, Vec<u8>>, Error> {
+    let mut files = BTreeMap::new(alloc);
+    files.insert(String::from_str(alloc, "/e")?, naming_file(alloc, 5)?)?;
+    files.insert(String::from_str(alloc, "/b/a.dwo")?, plain(alloc, 5)?)?;
+    Ok(files)
+}
+
+fn sure_files(alloc: Global) -> Result<BTreeMap<String, Vec<u8>>, Error> {
+    match named_files(alloc) {
+        Ok(files) => Ok(files),
+        Err(_) => named_files(alloc),
+    }
+}
+
+// The file of a package of the objects that an executable names. An executable that was refused is
+// added by a second try: want of memory is never passed over.
+fn added<'s, 'm>(
+    rt: &impl Abort,
+    alloc: Global,
+    session: &'s MemorySession<'m>,
+) -> Result<Vec<u8>, Error> {
+    let skip = MissingReferencedObjectBehaviour::Skip;
+    let mut builder = DwarfPackage::new(alloc, session);
+    if let Err(fault) = add_named(&mut builder, skip) {
+        assert!(rt; matches!(fault, Error::Memory));
+        assert_eq!(rt; unit_count(&builder), 0);
+        add_named(&mut builder, skip)?;
+    }
+    assert_eq!(rt; unit_count(&builder), 1);
+    written(rt, &finished(builder)?)
+}
+
+#[test]
+fn a_refused_allocation_leaves_an_executable(rt: HostRuntime) -> Result<(), Fail> {
+    let alloc = rt.alloc();
+    let five = sure(alloc, 5)?;
+    let expected = sure_whole(alloc, &[five.as_slice()])?;
+    let files = sure_files(alloc)?;
+    let bump = Bump::new(alloc);
+    let session = MemorySession::new(&bump, &files);
+    let file = match added(&rt, alloc, &session) {
+        Ok(file) => file,
+        Err(fault) => {
+            assert!(rt; matches!(fault, Error::Memory));
+            added(&rt, alloc, &session)?
+        }
+    };
+    assert!(rt; file == expected);
+    Ok(())
+}
+
+// The object of the unit 6 with the longer type unit.
+fn sure_longer(alloc: Global) -> Result<Vec<u8>, WriteError> {
+    match with_types(alloc, unit(6).as_slice(), longer_type_unit().as_slice()) {
+        Ok(file) => Ok(file),
+        Err(_) => with_types(alloc, unit(6).as_slice(), longer_type_unit().as_slice()),
+    }
+}
+
+// How many type units differ, each of the signature 0x11.
+fn differing_count<'o, 's: 'o, 'm>(
+    rt: &impl Abort,
+    builder: &DwarfPackage<'o, 's, MemorySession<'m>>,
+) -> usize {
+    for signature in builder.differing_types() {
+        assert_eq!(rt; signature.0, 0x11);
+    }
+    builder.differing_types().len()
+}
+
+// How many type units differ, once both objects are added. One that was refused has added none, and
+// is added by a second try.
+fn differing<'s, 'm>(
+    rt: &impl Abort,
+    alloc: Global,
+    session: &'s MemorySession<'m>,
+    objects: &[&'s [u8]],
+) -> Result<usize, Error> {
+    let mut builder = DwarfPackage::new(alloc, session);
+    for bytes in objects {
+        if let Err(fault) = add(&mut builder, bytes) {
+            assert!(rt; matches!(fault, Error::Memory));
+            assert_eq!(rt; differing_count(rt, &builder), 0);
+            add(&mut builder, bytes)?;
+        }
+    }
+    Ok(differing_count(rt, &builder))
+}
+
+#[test]
+fn a_refused_allocation_leaves_the_differing_types(rt: HostRuntime) -> Result<(), Fail> {
+    let alloc = rt.alloc();
+    let kept = sure_with_types(alloc, 5)?;
+    let longer = sure_longer(alloc)?;
+    let bump = Bump::new(alloc);
+    let files = BTreeMap::new(alloc);
+    let session = MemorySession::new(&bump, &files);
+    let objects = [kept.as_slice(), longer.as_slice()];
+    assert_eq!(rt; differing(&rt, alloc, &session, &objects)?, 1);
+    Ok(())
+}
