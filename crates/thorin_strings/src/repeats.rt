@@ -121,7 +121,7 @@ impl Repeats {
     }
 
     /// Forgets all.
-    pub(crate) fn clear(&mut self)
+    pub fn clear(&mut self)
         ensures { self.new ≡ [] }
     {
         self.pairs.clear();
