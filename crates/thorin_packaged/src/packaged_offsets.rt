@@ -12,7 +12,7 @@ use dwp_bytes::Encoding;
 use dwp_index::UnitIndex;
 use std::alloc::Global;
 use thorin_faults::Error;
-use thorin_strings::PackageStringTable;
+use thorin_strings::{PackageStringTable, Repeats};
 
 /// The string offsets of a package with these indexes, rewritten to the same strings in a table:
 /// each range of a row by itself, with its own header (DWARF 5, 7.3.5, 7.26), and the bytes between
@@ -71,11 +71,13 @@ fn rewritten(
 {
     let mut out = Vec::with_capacity(alloc, debug_str_offsets.len())?;
     let mut at = 0;
+    let mut repeats = Repeats::new(alloc);
     for range in ranges {
         let begin = range.offset.0 as usize;
         let end = begin + range.size as usize;
         out.extend_from_slice(&debug_str_offsets[at..begin])?;
-        let bytes = strings.remap_str_offsets_section(
+        let bytes = strings.remap_repeating(
+            &mut repeats,
             debug_str,
             &debug_str_offsets[begin..end],
             range.size,

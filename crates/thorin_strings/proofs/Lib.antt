@@ -16,3 +16,4 @@ pub mod NamedBytes
 pub mod ShortLemmas
 pub mod GrownLemmas
 pub mod MergeLemmas
+pub mod KnownLemmas

@@ -53,6 +53,27 @@ offset_last (t ∷ ss) s none =
     let other : bytes_eq t s ≡ false = parts.0 in
     rw other (ap (λ m. length t + 1 + m) (offset_last ss s parts.1))
 
+-- a string is there once it was used, and has the offset that it was given
+there_by : (b : Bool) (ss : List (List ℕ)) (s : List ℕ) → has ss s ≡ b → (has (with_string ss s) s ≡ true) × (offset_of (with_string ss s) s ≡ offset_of ss s)
+there_by true ss s h =
+    let same : with_string ss s ≡ ss = cond-true _ _ _ h in (ap (λ l. has l s) same ∙ h, ap (λ l. offset_of l s) same)
+there_by false ss s h =
+    let more : with_string ss s ≡ ss ++ s ∷ [] = cond-false _ _ _ h in (ap (λ l. has l s) more ∙ has_last ss s, ap (λ l. offset_of l s) more ∙ offset_last ss s h)
+
+pub there_once_used : (ss : List (List ℕ)) (s : List ℕ) → (has (with_string ss s) s ≡ true) × (offset_of (with_string ss s) s ≡ offset_of ss s)
+there_once_used ss s = there_by (has ss s) ss s refl
+
+-- where nothing is added it was there
+same_by : (b : Bool) (ss : List (List ℕ)) (s : List ℕ) → has ss s ≡ b → with_string ss s ≡ ss → has ss s ≡ true
+same_by true ss s h same = h
+same_by false ss s h same =
+    let more : with_string ss s ≡ ss ++ s ∷ [] = cond-false _ _ _ h in
+    let longer : length (ss ++ s ∷ []) ≡ length ss = ap length (sym more ∙ same) in
+    absurd (omega (arith, longer, length-append ss (s ∷ [])))
+
+pub there_if_same : (ss : List (List ℕ)) (s : List ℕ) → with_string ss s ≡ ss → has ss s ≡ true
+there_if_same ss s same = same_by (has ss s) ss s refl same
+
 -- a table once one more string is used
 pub record IsUsed (ss new : List (List ℕ)) (s : List ℕ) : Type 0 where
   pub table : IsTable new

@@ -4,3 +4,4 @@ pub mod Marks
 pub mod Chunks
 pub mod Rewritten
 pub mod Grown
+pub mod Known

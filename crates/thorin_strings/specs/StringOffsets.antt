@@ -48,13 +48,22 @@ offset_at order format bytes at =
     then Err UnexpectedEof
     else Ok (number order (offset_size format) (drop at bytes))
 
+-- the offset that the entry of a number has
+abbrev pub entry_at : Endianness → Encoding → List ℕ → ℕ → Result ℕ Fault
+entry_at order encoding bytes index =
+    as_fault (λ e. OffsetAtIndex e index) (offset_at order encoding.format bytes
+    (header_size encoding + index * offset_size encoding.format))
+
+-- the string at an offset
+abbrev pub string_read : List ℕ → ℕ → Result (List ℕ) Fault
+string_read section offset = as_fault (λ e. StrAtOffset e offset) (string_at section offset)
+
 -- the string that the entry of a number names
 unfoldable pub named_at : Endianness → Encoding → (section bytes : List ℕ) → ℕ
     → Result (List ℕ) Fault
 named_at order encoding section bytes index = do
-  offset ← as_fault (λ e. OffsetAtIndex e index) (offset_at order encoding.format bytes
-      (header_size encoding + index * offset_size encoding.format))
-  as_fault (λ e. StrAtOffset e offset) (string_at section offset)
+  offset ← entry_at order encoding bytes index
+  string_read section offset
 
 -- an offset, which is to fit the format
 unfoldable pub fitting_offset : Format → ℕ → Result ℕ Fault

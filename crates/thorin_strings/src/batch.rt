@@ -8,9 +8,11 @@ ghost use Rattle.thorin_strings.specs.StringOffsets.{offset_limit, remapped_entr
 ghost use Rattle.thorin_strings.specs.StringOffsets.{remapped_entries, entry_bytes};
 ghost use Rattle.thorin_strings.specs.Strings.{data_of, strings_in, IsZeroFree};
 ghost use Rattle.thorin_strings.specs.Grown.{IsGrown, IsUsed, AreDistinct};
+ghost use Rattle.thorin_strings.specs.Known.{offset_read, AreKnown};
 
 use crate::guess::{Guesses, hash_of};
-use crate::offsets::{named_at, offset_limit, push_offset};
+use crate::offsets::{entry_at, offset_limit, push_offset, string_read};
+use crate::repeats::Repeats;
 use crate::search::stands_at;
 use dwp_base::Endianness;
 use dwp_bytes::Encoding;
@@ -57,10 +59,38 @@ impl Batch {
         Some(place)
     }
 
+    /// The offset of the string at an offset of its section, which is read where it isn't
+    /// remembered. None where it can't be read, and for want of memory.
+    fn place_read(&mut self, repeats: &mut Repeats, debug_str: &[u8], named: u64) -> Option<u64>
+        requires ended { data_of (strings_in self.old.bytes.items) ≡ self.old.bytes.items }
+        requires known { AreDistinct self.old.bytes.items
+            → AreKnown debug_str.now (strings_in self.old.bytes.items) repeats.old }
+        ensures read { IfSome result (λ offset. AreDistinct self.new.bytes.items
+            → offset_read debug_str.now named (strings_in self.old.bytes.items)
+            ≡ Ok (offset, strings_in self.new.bytes.items)) }
+        ensures kept { take (length (strings_in self.old.bytes.items))
+            (strings_in self.new.bytes.items)
+            ≡ strings_in self.old.bytes.items }
+        ensures grown { (before : List ℕ)
+            → IsGrown before self.old.bytes.items self.old.places.items
+            → IsGrown before self.new.bytes.items self.new.places.items }
+        ensures known { AreDistinct self.new.bytes.items
+            → AreKnown debug_str.now (strings_in self.new.bytes.items) repeats.new }
+    {
+        if let Some(known) = repeats.find(named) {
+            return Some(known);
+        }
+        let string = string_read(debug_str, named).ok()?;
+        let offset = self.place(string)? as u64;
+        let _remembered = repeats.enter(string, named, offset);
+        Some(offset)
+    }
+
     /// The offset of the string that an entry names. None where it can't be read or the format
     /// can't hold it, and for want of memory.
     fn place_entry(
         &mut self,
+        repeats: &mut Repeats,
         debug_str: &[u8],
         debug_str_offsets: &[u8],
         endian: Endianness,
@@ -69,6 +99,8 @@ impl Batch {
     ) -> Option<u64>
         requires small { header_size encoding + index * offset_size encoding.format < 2 ^ 64 }
         requires ended { data_of (strings_in self.old.bytes.items) ≡ self.old.bytes.items }
+        requires known { AreDistinct self.old.bytes.items
+            → AreKnown debug_str.now (strings_in self.old.bytes.items) repeats.old }
         ensures entry { IfSome result (λ offset. AreDistinct self.new.bytes.items
             → remapped_entry endian encoding debug_str.now debug_str_offsets.now index
             (strings_in self.old.bytes.items)
@@ -80,9 +112,11 @@ impl Batch {
         ensures grown { (before : List ℕ)
             → IsGrown before self.old.bytes.items self.old.places.items
             → IsGrown before self.new.bytes.items self.new.places.items }
+        ensures known { AreDistinct self.new.bytes.items
+            → AreKnown debug_str.now (strings_in self.new.bytes.items) repeats.new }
     {
-        let string = named_at(debug_str, debug_str_offsets, endian, encoding, index).ok()?;
-        let offset = self.place(string)? as u64;
+        let named = entry_at(debug_str_offsets, endian, encoding, index).ok()?;
+        let offset = self.place_read(repeats, debug_str, named)?;
         if offset_limit(encoding.format) < offset {
             return None;
         }
@@ -93,6 +127,7 @@ impl Batch {
     /// can't be read or the format can't hold it, where a guess was lost, and for want of memory.
     pub fn place_entries(
         &mut self,
+        repeats: &mut Repeats,
         debug_str: &[u8],
         debug_str_offsets: &[u8],
         endian: Endianness,
@@ -103,6 +138,8 @@ impl Batch {
         requires small { header_size encoding + count * offset_size encoding.format < 2 ^ 64 }
         requires ended { data_of (strings_in self.old.bytes.items) ≡ self.old.bytes.items }
         requires none { self.old.places.items ≡ [] }
+        requires known { AreDistinct self.old.bytes.items
+            → AreKnown debug_str.now (strings_in self.old.bytes.items) repeats.old }
         ensures entries { IfSome result (λ bytes. AreDistinct self.new.bytes.items
             → (offsets : List ℕ)
             × (remapped_entries endian encoding debug_str.now debug_str_offsets.now count
@@ -110,10 +147,19 @@ impl Batch {
             ≡ Ok (offsets, strings_in self.new.bytes.items))
             × (bytes.items ≡ first.items ++ entry_bytes endian encoding.format offsets)) }
         ensures grown { IsGrown self.old.bytes.items self.new.bytes.items self.new.places.items }
+        ensures known { AreDistinct self.new.bytes.items
+            → AreKnown debug_str.now (strings_in self.new.bytes.items) repeats.new }
     {
         let mut out = first;
         for index in 0..count {
-            let offset = self.place_entry(debug_str, debug_str_offsets, endian, encoding, index)?;
+            let offset = self.place_entry(
+                repeats,
+                debug_str,
+                debug_str_offsets,
+                endian,
+                encoding,
+                index,
+            )?;
             push_offset(&mut out, endian, encoding.format, offset).ok()?;
         }
         if !self.guesses.is_whole() {

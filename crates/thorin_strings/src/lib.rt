@@ -8,9 +8,11 @@ mod merge;
 mod offsets;
 mod order;
 mod positions;
+mod repeats;
 mod search;
 mod table;
 #[cfg(test)]
 mod tests;
 
+pub use repeats::Repeats;
 pub use table::{PackageStringOffset, PackageStringTable, TableMark};

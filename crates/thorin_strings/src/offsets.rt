@@ -1,16 +1,19 @@
 //! String offsets, rewritten into a table of strings (DWARF 5, 7.26).
 
-ghost use Rattle.std.specs.Prelude.{◌≡◌, ◌≤◌, ◌<◌, ◌+◌, ◌*◌, ◌^◌, ◌++◌, length, take, Ok, OnOk};
-ghost use Rattle.std.specs.Prelude.{OnErr, IfOk, IsNone, IfSome};
+ghost use Rattle.std.specs.Prelude.{◌≡◌, ◌≤◌, ◌<◌, ◌+◌, ◌*◌, ◌^◌, ◌++◌, [], length, take, Ok};
+ghost use Rattle.std.specs.Prelude.{OnOk, OnErr, IfOk, IsNone, IfSome};
 ghost use Rattle.dwp_base.specs.Numbers.{number_bytes};
 ghost use Rattle.dwp_base.specs.Reading.{Answers};
 ghost use Rattle.dwp_bytes.specs.Encoding.{offset_size};
 ghost use Rattle.thorin_faults.specs.Answers.{Gives};
 ghost use Rattle.dwp_bytes.specs.StringOffsets.{header_size};
 ghost use Rattle.thorin_strings.specs.StringOffsets.{length_limit, offset_limit, header_of};
-ghost use Rattle.thorin_strings.specs.StringOffsets.{offset_at, named_at, remapped_entry, remapped};
+ghost use Rattle.thorin_strings.specs.StringOffsets.{offset_at, entry_at, string_read};
+ghost use Rattle.thorin_strings.specs.StringOffsets.{remapped_entry, remapped};
 ghost use Rattle.thorin_strings.specs.Strings.{IsZeroFree};
+ghost use Rattle.thorin_strings.specs.Known.{offset_read, AreKnown};
 
+use crate::repeats::Repeats;
 use crate::table::PackageStringTable;
 use dwp_base::Endianness;
 use dwp_bytes::{Encoding, Format, ReadError, string_at};
@@ -99,26 +102,30 @@ fn offset_at(bytes: &[u8], endian: Endianness, format: Format, at: u64) -> Resul
     })
 }
 
-/// The string that the entry of a number names.
-#[tactic(auto, unfolding(crate::specs::StringOffsets::named_at))]
-pub(crate) fn named_at<'a>(
-    debug_str: &'a [u8],
+/// The offset that the entry of a number has.
+pub(crate) fn entry_at(
     debug_str_offsets: &[u8],
     endian: Endianness,
     encoding: Encoding,
     index: u64,
-) -> Result<&'a [u8], Error>
+) -> Result<u64, Error>
     requires { header_size encoding + index * offset_size encoding.format < 2 ^ 64 }
-    ensures meaning { Gives (λ string. string.now) result
-        (named_at endian encoding debug_str.now debug_str_offsets.now index) }
-    ensures zero_free { IfOk result (λ string. IsZeroFree string.now) }
+    ensures { Gives (λ offset. offset) result
+        (entry_at endian encoding debug_str_offsets.now index) }
 {
     let header = encoding.string_offsets_header_size() as u64;
     let at = header + index * encoding.format.offset_size() as u64;
-    let offset = match offset_at(debug_str_offsets, endian, encoding.format, at) {
-        Ok(offset) => offset,
-        Err(e) => return Err(Error::OffsetAtIndex(e, index)),
-    };
+    match offset_at(debug_str_offsets, endian, encoding.format, at) {
+        Ok(offset) => Ok(offset),
+        Err(e) => Err(Error::OffsetAtIndex(e, index)),
+    }
+}
+
+/// The string at an offset.
+pub(crate) fn string_read(debug_str: &[u8], offset: u64) -> Result<&[u8], Error>
+    ensures meaning { Gives (λ string. string.now) result (string_read debug_str.now offset) }
+    ensures zero_free { IfOk result (λ string. IsZeroFree string.now) }
+{
     match string_at(debug_str, offset) {
         Ok(string) => Ok(string),
         Err(e) => Err(Error::StrAtOffset(e, offset as usize)),
@@ -150,7 +157,40 @@ impl PackageStringTable {
         ensures kept { take (length self.old) self.new ≡ self.old }
         ensures err { OnErr result (self.new ≡ self.old) }
     {
+        let mut repeats = Repeats::new(self.allocator());
+        self.remap_repeating(
+            &mut repeats,
+            debug_str,
+            debug_str_offsets,
+            section_size,
+            endian,
+            encoding,
+        )
+    }
+
+    /// `remap_str_offsets_section` of one of the ranges whose strings stand in one section. What is
+    /// remembered of that section's long strings is read once for all of them.
+    ///
+    /// # Errors
+    /// Those of `remap_str_offsets_section`; then nothing is remembered.
+    pub fn remap_repeating(
+        &mut self,
+        repeats: &mut Repeats,
+        debug_str: &[u8],
+        debug_str_offsets: &[u8],
+        section_size: u64,
+        endian: Endianness,
+        encoding: Encoding,
+    ) -> Result<Vec<u8>, Error>
+        requires { AreKnown debug_str.now self.old repeats.old }
+        ensures meaning { Gives (λ bytes. (bytes.items, self.new)) result
+            (remapped endian encoding debug_str.now debug_str_offsets.now section_size self.old) }
+        ensures kept { take (length self.old) self.new ≡ self.old }
+        ensures err { OnErr result ((self.new ≡ self.old) × (repeats.new ≡ [])) }
+        ensures known { AreKnown debug_str.now self.new repeats.new }
+    {
         if let Some(range) = self.remapped_together(
+            repeats,
             debug_str,
             debug_str_offsets,
             section_size,
@@ -160,9 +200,17 @@ impl PackageStringTable {
             return Ok(range);
         }
         let mark = self.mark();
-        let result = self.remapped(debug_str, debug_str_offsets, section_size, endian, encoding);
+        let result = self.remapped(
+            repeats,
+            debug_str,
+            debug_str_offsets,
+            section_size,
+            endian,
+            encoding,
+        );
         if result.is_err() {
             self.truncate(mark);
+            repeats.clear();
         }
         result
     }
@@ -172,17 +220,20 @@ impl PackageStringTable {
     #[tactic(auto, unfolding(crate::specs::StringOffsets::remapped))]
     fn remapped_together(
         &mut self,
+        repeats: &mut Repeats,
         debug_str: &[u8],
         debug_str_offsets: &[u8],
         section_size: u64,
         endian: Endianness,
         encoding: Encoding,
     ) -> Option<Vec<u8>>
+        requires known { AreKnown debug_str.now self.old repeats.old }
         ensures meaning { IfSome result (λ bytes.
             remapped endian encoding debug_str.now debug_str_offsets.now section_size self.old
             ≡ Ok (bytes.items, self.new)) }
         ensures kept { take (length self.old) self.new ≡ self.old }
         ensures none { IsNone result → self.new ≡ self.old }
+        ensures known { AreKnown debug_str.now self.new repeats.new }
     {
         let header_size = encoding.string_offsets_header_size() as u64;
         let is_whole = section_size <= debug_str_offsets.len() as u64;
@@ -196,22 +247,38 @@ impl PackageStringTable {
         let count = encoding.string_offsets_count(section_size);
         let mut first = header(self.allocator(), endian, encoding, count * entry_size).ok()?;
         first.reserve((count * entry_size) as usize).ok()?;
-        self.place_entries(debug_str, debug_str_offsets, endian, encoding, count, first)
+        let placed = self.place_entries(
+            repeats,
+            debug_str,
+            debug_str_offsets,
+            endian,
+            encoding,
+            count,
+            first,
+        );
+        let Some(range) = placed else {
+            repeats.clear();
+            return None;
+        };
+        Some(range)
     }
 
     /// The same, but that a refusal leaves what was added before it.
     #[tactic(auto, unfolding(crate::specs::StringOffsets::remapped))]
     fn remapped(
         &mut self,
+        repeats: &mut Repeats,
         debug_str: &[u8],
         debug_str_offsets: &[u8],
         section_size: u64,
         endian: Endianness,
         encoding: Encoding,
     ) -> Result<Vec<u8>, Error>
+        requires known { AreKnown debug_str.now self.old repeats.old }
         ensures meaning { Gives (λ bytes. (bytes.items, self.new)) result
             (remapped endian encoding debug_str.now debug_str_offsets.now section_size self.old) }
         ensures kept { take (length self.old) self.new ≡ self.old }
+        ensures known { AreKnown debug_str.now self.new repeats.new }
     {
         let alloc = self.allocator();
         if section_size == 0 {
@@ -225,6 +292,7 @@ impl PackageStringTable {
         let mut out = header(alloc, endian, encoding, count * entry_size)?;
         for index in 0..count {
             let offset = self.remapped_entry(
+                repeats,
                 debug_str,
                 debug_str_offsets,
                 endian,
@@ -237,26 +305,53 @@ impl PackageStringTable {
     }
 
     /// The offset of the string that an entry names, which is added where it is new.
-    #[tactic(auto, unfolding(crate::specs::StringOffsets::remapped_entry, crate::specs::StringOffsets::fitting_offset))]
+    #[tactic(auto, using(crate::proofs::KnownLemmas::entry_read, crate::proofs::KnownLemmas::entry_large, crate::proofs::KnownLemmas::entry_unread))]
     fn remapped_entry(
         &mut self,
+        repeats: &mut Repeats,
         debug_str: &[u8],
         debug_str_offsets: &[u8],
         endian: Endianness,
         encoding: Encoding,
         index: u64,
     ) -> Result<u64, Error>
-        requires { header_size encoding + index * offset_size encoding.format < 2 ^ 64 }
+        requires small { header_size encoding + index * offset_size encoding.format < 2 ^ 64 }
+        requires known { AreKnown debug_str.now self.old repeats.old }
         ensures meaning { Gives (λ offset. (offset, self.new)) result
             (remapped_entry endian encoding debug_str.now debug_str_offsets.now index self.old) }
         ensures fits { IfOk result (λ offset. offset ≤ offset_limit encoding.format) }
         ensures kept { take (length self.old) self.new ≡ self.old }
+        ensures known { AreKnown debug_str.now self.new repeats.new }
     {
-        let string = named_at(debug_str, debug_str_offsets, endian, encoding, index)?;
-        let offset = self.get_or_insert(string)?.0 as u64;
+        let named = entry_at(debug_str_offsets, endian, encoding, index)?;
+        let offset = self.offset_read(repeats, debug_str, named)?;
         if offset_limit(encoding.format) < offset {
             return Err(Error::NumberTooLarge("string offset", offset));
         }
+        Ok(offset)
+    }
+
+    /// The offset of the string at an offset of its section, which is read where it isn't
+    /// remembered, and added where it is new.
+    #[tactic(auto, unfolding(crate::specs::Known::offset_read))]
+    fn offset_read(
+        &mut self,
+        repeats: &mut Repeats,
+        debug_str: &[u8],
+        named: u64,
+    ) -> Result<u64, Error>
+        requires known { AreKnown debug_str.now self.old repeats.old }
+        ensures meaning { Gives (λ offset. (offset, self.new)) result
+            (offset_read debug_str.now named self.old) }
+        ensures kept { take (length self.old) self.new ≡ self.old }
+        ensures known { AreKnown debug_str.now self.new repeats.new }
+    {
+        if let Some(known) = repeats.find(named) {
+            return Ok(known);
+        }
+        let string = string_read(debug_str, named)?;
+        let offset = self.get_or_insert(string)?.0 as u64;
+        let _remembered = repeats.enter(string, named, offset);
         Ok(offset)
     }
 }

@@ -9,12 +9,14 @@ ghost use Rattle.thorin_strings.specs.StringOffsets.{remapped_entries, entry_byt
 ghost use Rattle.thorin_strings.specs.Strings.{data_of, offset_of, with_string, IsZeroFree};
 ghost use Rattle.thorin_strings.specs.Strings.{IsTable, IsWithinDigits};
 ghost use Rattle.thorin_strings.specs.Marks.{mark_of};
+ghost use Rattle.thorin_strings.specs.Known.{AreKnown};
 
 use crate::batch::Batch;
 use crate::guess::{Guesses, hash_of};
 use crate::merge::enter_all;
 use crate::order::order;
 use crate::positions::Positions;
+use crate::repeats::Repeats;
 use crate::search::{find_near, search};
 use dwp_base::Endianness;
 use dwp_bytes::Encoding;
@@ -173,6 +175,7 @@ impl PackageStringTable {
     /// the table is then as it was.
     pub(crate) fn place_entries(
         &mut self,
+        repeats: &mut Repeats,
         debug_str: &[u8],
         debug_str_offsets: &[u8],
         endian: Endianness,
@@ -180,13 +183,15 @@ impl PackageStringTable {
         count: u64,
         first: Vec<u8>,
     ) -> Option<Vec<u8>>
-        requires { header_size encoding + count * offset_size encoding.format < 2 ^ 64 }
+        requires small { header_size encoding + count * offset_size encoding.format < 2 ^ 64 }
+        requires known { AreKnown debug_str.now self.old repeats.old }
         ensures entries { IfSome result (λ bytes. (offsets : List ℕ)
             × (remapped_entries endian encoding debug_str.now debug_str_offsets.now count self.old
             ≡ Ok (offsets, self.new))
             × (bytes.items ≡ first.items ++ entry_bytes endian encoding.format offsets)) }
         ensures kept { take (length self.old) self.new ≡ self.old }
         ensures none { IsNone result → self.new ≡ self.old }
+        ensures known { IfSome result (λ _. AreKnown debug_str.now self.new repeats.new) }
     {
         let mark = self.bytes.len();
         let mut batch = Batch {
@@ -196,6 +201,7 @@ impl PackageStringTable {
             places: Vec::new(self.alloc),
         };
         let range = batch.place_entries(
+            repeats,
             debug_str,
             debug_str_offsets,
             endian,

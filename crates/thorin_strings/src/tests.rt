@@ -1,7 +1,7 @@
 //! Tables of strings, and string offsets that are rewritten.
 
 use crate::guess::hash_of;
-use crate::{PackageStringOffset, PackageStringTable};
+use crate::{PackageStringOffset, PackageStringTable, Repeats};
 use dwp_base::Endianness;
 use dwp_bytes::{Encoding, Format, ReadError};
 use std::alloc::{AllocError, Global};
@@ -178,6 +178,46 @@ fn many_strings_are_found_as_from_the_front(rt: HostRuntime) -> Result<(), Fail>
     assert!(rt; rewritten.as_slice() == range.as_slice());
     assert!(rt; table.data() == data.as_slice());
     assert!(rt; table.len() > 1024);
+    Ok(())
+}
+
+/// All ends of one string, most of them long, each named twice in a range, which comes twice.
+#[test]
+fn long_strings_named_often_are_found_as_from_the_front(rt: HostRuntime) -> Result<(), Fail> {
+    let little = Endianness::Little;
+    let mut section = Vec::from_elem(rt.alloc(), b'x', 1000)?;
+    section.push(0)?;
+    let mut offsets = Vec::new(rt.alloc());
+    for i in 0..2002u32 {
+        offsets.extend_from_slice(&(i * 37 % 1001).to_le_bytes())?;
+    }
+    let (range, data) = plain_form(rt.alloc(), &section, &offsets)?;
+    let mut repeats = Repeats::new(rt.alloc());
+    let mut table = PackageStringTable::new(rt.alloc());
+    let first = table.remap_repeating(&mut repeats, &section, &offsets, 8008, little, GNU)?;
+    assert!(rt; first.as_slice() == range.as_slice());
+    let again = table.remap_repeating(&mut repeats, &section, &offsets, 8008, little, GNU)?;
+    assert!(rt; again.as_slice() == range.as_slice());
+    assert!(rt; table.data() == data.as_slice());
+    Ok(())
+}
+
+/// A long string of a refused range isn't there, and gets another offset later.
+#[test]
+fn a_refused_range_is_not_remembered(rt: HostRuntime) -> Result<(), Fail> {
+    let little = Endianness::Little;
+    let mut section = Vec::from_elem(rt.alloc(), b'x', 600)?;
+    section.push(0)?;
+    let mut repeats = Repeats::new(rt.alloc());
+    let mut table = PackageStringTable::new(rt.alloc());
+    let offsets = [0, 0, 0, 0, 255, 0, 0, 1];
+    let refused = table.remap_repeating(&mut repeats, &section, &offsets, 8, little, GNU);
+    assert!(rt; matches!(refused, Err(Error::StrAtOffset(_, _))));
+    assert!(rt; table.is_empty());
+    assert_eq!(rt; table.get_or_insert(b"kept")?.0, 0);
+    let range = table.remap_repeating(&mut repeats, &section, &[0; 8], 8, little, GNU)?;
+    assert_eq!(rt; range.as_slice(), [5, 0, 0, 0, 5, 0, 0, 0].as_slice());
+    assert_eq!(rt; table.len(), 2);
     Ok(())
 }
 

@@ -8,6 +8,7 @@ pub loop-index-init : goal.loop-index-init
 loop-index-init c = record {
   grown = grown_none _ _ c.requires.ended c.requires.none;
   so_far = λ distinct. ([], entries_none _ _ _ _ _, sym (append-nil c.args.first.items));
+  known = c.requires.known;
 }
 
 pub loop-index-preserved : goal.loop-index-preserved
@@ -19,4 +20,5 @@ loop-index-preserved c = record {
         entries_more c.args.endian c.args.encoding c.args.debug_str.now c.args.debug_str_offsets.now c.loop-index.index _ _ _ _ _ before.1 (c.in_ok-offset.ensures.entry distinct),
         bytes_more c.args.endian c.args.encoding.format _ c.loop-index.out.items _ _ _ before.2 (rw (ok_from_some _ _ (sym c.ok.ensures.value ∙ c.in_ok-ok.was)) at c.push_offset.ensures),
       );
+  known = c.place_entry.ensures.known;
 }

@@ -45,3 +45,9 @@ returns-clause-entries c =
     let g : IsGrown c.self.inside.bytes.items c.place_entries-range.new.self.bytes.items c.place_entries-range.new.self.places.items = rw c.replace.ensures.value at c.place_entries-range.ensures.grown in
     let table = table_merged _ _ _ _ _ _ c.self.invariant g c.order.ensures (rw c.deref.ensures.value at (c.enter_all.ensures.entered c.if-not-enter_all.false)) (rw c.as_slice-2.ensures.value at c.enter_all.ensures.sorted) in
     rw (← c.self.view_is) (rw c.replace.ensures.value at (c.in-Some.ensures.entries table.distinct))
+
+pub returns-clause-known : goal.returns-clause-known
+returns-clause-known c =
+    let g : IsGrown c.self.inside.bytes.items c.place_entries-range.new.self.bytes.items c.place_entries-range.new.self.places.items = rw c.replace.ensures.value at c.place_entries-range.ensures.grown in
+    let table = table_merged _ _ _ _ _ _ c.self.invariant g c.order.ensures (rw c.deref.ensures.value at (c.enter_all.ensures.entered c.if-not-enter_all.false)) (rw c.as_slice-2.ensures.value at c.enter_all.ensures.sorted) in
+    c.place_entries-range.ensures.known table.distinct

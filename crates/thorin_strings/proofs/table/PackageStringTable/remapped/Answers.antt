@@ -8,6 +8,7 @@ pub loop-index-init : goal.loop-index-init
 loop-index-init c = record {
   kept = take_all _ c.args.self.now (omega arith);
   so_far = ([], entries_none _ _ _ _ _, sym (append-nil c.in_ok-out.out.items));
+  known = c.requires.known;
 }
 
 pub returns-in_err-offset-clause-meaning : goal.returns-in_err-offset-clause-meaning
@@ -23,4 +24,5 @@ loop-index-preserved c = record {
     entries_more c.args.endian c.args.encoding c.args.debug_str.now c.args.debug_str_offsets.now c.loop-index.index _ c.loop-index.self _ _ _ c.loop-index.invariant.so_far.1 c.in_ok-offset.ensures.meaning,
     bytes_more c.args.endian c.args.encoding.format _ c.loop-index.out.items _ _ _ c.loop-index.invariant.so_far.2 c.in_ok-push_offset.ensures,
   );
+  known = c.remapped_entry.ensures.known;
 }

@@ -1,5 +1,6 @@
 use Rattle.std.proofs.Common.{◌≡◌, ℕ, List, ◌++◌, length, take, Ok}
 use Rattle.thorin_strings.specs.StringOffsets.{remapped_entries, entry_bytes}
+use Rattle.thorin_strings.specs.Known.{AreKnown}
 use Rattle.thorin_strings.proofs.table.PackageStringTable.remapped.Given as goal
 
 abbrev pub invariant-loop-index : goal.invariant-loop-index
@@ -8,4 +9,5 @@ invariant-loop-index l = record {
   so_far : (offsets : List ℕ)
       × (remapped_entries l.endian l.encoding l.debug_str l.debug_str_offsets l.index l.initial.self ≡ Ok (offsets, l.self))
       × (l.out.items ≡ l.initial.out.items ++ entry_bytes l.endian l.encoding.format offsets);
+  known : AreKnown l.debug_str l.self l.repeats;
 }

@@ -1,0 +1,21 @@
+-- What is remembered of strings that were read: where each begins in its section, and its offset.
+use Rattle.std.specs.Prelude.{◌≡◌, ℕ, List, All, Result, Ok}
+use Rattle.dwp_base.specs.Reading.{◌>>=◌}
+use Rattle.thorin_faults.specs.Fault.{Fault}
+use Rattle.thorin_strings.specs.Strings.{offset_of, with_string}
+use Rattle.thorin_strings.specs.StringOffsets.{string_read}
+
+-- the offset of the string at an offset of a section once it is among the distinct ones, and these
+-- strings
+unfoldable pub offset_read : List ℕ → ℕ → List (List ℕ) → Result (ℕ × List (List ℕ)) Fault
+offset_read section at strings = do
+  string ← string_read section at
+  Ok (offset_of strings string, with_string strings string)
+
+-- the string at the first offset is among these, and has the second for its offset
+abbrev pub IsKnown : List ℕ → List (List ℕ) → ℕ × ℕ → Type 0
+IsKnown section strings pair = offset_read section pair.0 strings ≡ Ok (pair.1, strings)
+
+-- the same of each pair
+abbrev pub AreKnown : List ℕ → List (List ℕ) → List (ℕ × ℕ) → Type 0
+AreKnown section strings pairs = All (IsKnown section strings) pairs

@@ -1,0 +1,130 @@
+//! The offsets of long strings that were read before.
+
+ghost use Rattle.std.specs.Prelude.{◌≡◌, ℕ, List, [], Contains, IfOk, IfSome};
+ghost use Rattle.thorin_strings.specs.Known.{IsKnown, AreKnown};
+
+use std::alloc::{AllocError, Global};
+use std::marker::Model;
+
+/// How many bytes a string has at least that is remembered. To read a shorter one costs little.
+const LONG: usize = 512;
+
+/// How many trees there are: an offset is in the tree of its lowest bits.
+const TREES: usize = 1024;
+
+/// What a link is that leads nowhere.
+const FREE: usize = 0;
+
+/// The offsets that long strings have in a section, and those that they have in a table.
+///
+/// A section names a long string as often as it likes by a few bytes; by this it is read once. The
+/// pairs stand in trees, each under a pair before it, to the left or the right by a bit of its
+/// offset in the section: the pair of an offset is found, or its place, in as many steps as an
+/// offset has bits at most. The trees save time and decide nothing: a pair counts for its own
+/// offset alone.
+#[derive(Drop)]
+pub struct Repeats {
+    alloc: Global,
+    pairs: Vec<(u64, u64)>,
+    links: Vec<usize>,
+}
+
+impl Model for Repeats {
+    ghost use Rattle.std.specs.Prelude.{List, ℕ};
+
+    ghost Value = { List (ℕ × ℕ) };
+
+    ghost view = { λ r. r.pairs.items };
+}
+
+/// The offset in the table of the string at an offset, where a pair has it, or else the link by
+/// which it would be found.
+fn walk(links: &[usize], pairs: &[(u64, u64)], offset: u64) -> Result<u64, usize>
+    ensures { IfOk result (λ known. Contains pairs.now (offset, known)) }
+{
+    let mut at = offset as usize % TREES;
+    let mut rest = offset / TREES as u64;
+    for _ in 0..u64::BITS {
+        let number = match links.get(at) {
+            Some(number) => *number,
+            None => FREE,
+        };
+        let Some(pair) = pairs.get(number.wrapping_sub(1)) else {
+            break;
+        };
+        if pair.0 == offset {
+            return Ok(pair.1);
+        }
+        let side = (rest % 2) as usize;
+        at = number
+            .wrapping_mul(2)
+            .wrapping_add(side)
+            .wrapping_add(TREES - 2);
+        rest /= 2;
+    }
+    Err(at)
+}
+
+/// Makes the first links of the trees, where there are none.
+fn plant(alloc: Global, links: &mut Vec<usize>) -> Result<(), AllocError> {
+    if links.is_empty() {
+        *links = Vec::from_elem(alloc, FREE, TREES)?;
+    }
+    Ok(())
+}
+
+/// Leads a link to a pair, and adds the two links of that pair.
+fn lead(links: &mut Vec<usize>, at: usize, number: usize) {
+    if let Some(link) = links.get_mut(at) {
+        *link = number;
+    }
+    let _added = links.extend_from_slice(&[FREE, FREE]);
+}
+
+impl Repeats {
+    /// Nothing remembered, which takes no memory.
+    pub fn new(alloc: Global) -> Self
+        ensures { result ≡ [] }
+    {
+        Repeats {
+            alloc,
+            pairs: Vec::new(alloc),
+            links: Vec::new(alloc),
+        }
+    }
+
+    /// The offset in the table of the string at an offset, where that is remembered.
+    pub(crate) fn find(&self, offset: u64) -> Option<u64>
+        ensures { (section : List ℕ) (strings : List (List ℕ)) → AreKnown section strings self.now
+            → IfSome result (λ known. IsKnown section strings (offset, known)) }
+    {
+        walk(&self.links, &self.pairs, offset).ok()
+    }
+
+    /// Remembers the offset in the table of the string at an offset, where that string is long.
+    pub(crate) fn enter(&mut self, string: &[u8], offset: u64, known: u64) -> Result<(), AllocError>
+        ensures { (section : List ℕ) (strings : List (List ℕ)) → AreKnown section strings self.old
+            → IsKnown section strings (offset, known)
+            → AreKnown section strings self.new }
+    {
+        if string.len() < LONG {
+            return Ok(());
+        }
+        plant(self.alloc, &mut self.links)?;
+        let Err(at) = walk(&self.links, &self.pairs, offset) else {
+            return Ok(());
+        };
+        self.links.reserve(2)?;
+        self.pairs.push((offset, known))?;
+        lead(&mut self.links, at, self.pairs.len());
+        Ok(())
+    }
+
+    /// Forgets all.
+    pub fn clear(&mut self)
+        ensures { self.new ≡ [] }
+    {
+        self.pairs.clear();
+        self.links.clear();
+    }
+}
