@@ -12,3 +12,4 @@ pub mod UnitAlone
 pub mod UsedOnce
 pub mod HeldContents
 mod Called
+mod PlacesHeld

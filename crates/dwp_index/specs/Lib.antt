@@ -1,5 +1,6 @@
 pub mod Index
 pub mod IndexBytes
+pub mod Places
 pub mod Fields
 pub mod RowFields
 pub mod Used

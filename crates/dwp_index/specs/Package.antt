@@ -1,7 +1,7 @@
 -- What a package file means: the units that its indexes name (DWARF 5, 7.3.5; the
 -- GNU page DebugFissionDWP).
 use Rattle.std.specs.Prelude.{ℕ, ◌+◌, Bool, false, not, List, [], length, slice_range, Option, Some}
-use Rattle.std.specs.Prelude.{None, Result, Ok, Err, ◌==◌, nat_le, if◌then◌else◌}
+use Rattle.std.specs.Prelude.{slice_get, None, Result, Ok, Err, ◌==◌, nat_le, if◌then◌else◌}
 use Rattle.std.specs.List.{find}
 use Rattle.dwp_base.specs.Reading.{◌>>=◌}
 use Rattle.dwp_base.specs.declared.endian.Endianness.{Endianness}
@@ -156,3 +156,26 @@ found_counted pack object = found_by pack object (index_for pack object)
 -- the map that a package is
 unfoldable pub found : Package → DwarfObject → Result (Option FoundUnit) PackageError
 found pack object = found_counted pack object >>= λ x. Ok x.0
+
+-- the first byte of a unit's own bytes: it stands where its range begins
+abbrev pub first_byte_from : Sections → SectionKind → Option Contribution → Option ℕ
+first_byte_from contents kind None = None
+first_byte_from contents kind (Some range) = slice_get (content contents kind) range.offset.0
+
+abbrev pub first_byte_of : Package → DwarfObject → Result Ranges ReadError → Option ℕ
+first_byte_of pack object (Err cause) = None
+first_byte_of pack object (Ok row) = first_byte_from pack.contents
+    (kind_of (place_of object (range_in row kinds.Types)))
+    (range_in row (kind_of (place_of object (range_in row kinds.Types))))
+
+abbrev pub first_byte_at : Package → DwarfObject → Index → Option ℕ → Option ℕ
+first_byte_at pack object index None = None
+first_byte_at pack object index (Some number) = first_byte_of pack object (row_in index number)
+
+abbrev pub first_byte_by : Package → DwarfObject → Option Index → Option ℕ
+first_byte_by pack object None = None
+first_byte_by pack object (Some index) = first_byte_at pack object index
+    (found_row index.signatures index.rows (identifier_of object))
+
+unfoldable pub first_byte : Package → DwarfObject → Option ℕ
+first_byte pack object = first_byte_by pack object (index_for pack object)

@@ -1,6 +1,6 @@
 //! Packages: the units that their indexes name, with all that belongs to each.
 
-ghost use Rattle.std.specs.Prelude.{◌≡◌, ◌≤◌, ◌+◌, ℕ, List, length, IfOk};
+ghost use Rattle.std.specs.Prelude.{◌≡◌, ◌≤◌, ◌+◌, ℕ, List, length, IfOk, Ok};
 ghost use Rattle.std.specs.Option.{option_copied};
 ghost use Rattle.dwp_base.specs.Reading.{Answers};
 ghost use Rattle.dwp_elf_read.specs.Elf.{elf_of};
@@ -15,7 +15,8 @@ ghost use Rattle.dwp_index.specs.Index.{Index, row_in, range_in};
 ghost use Rattle.dwp_index.specs.IndexBytes.{index_of};
 ghost use Rattle.dwp_index.specs.Package.{as_fault, is_outside, package_of, index_in_section};
 ghost use Rattle.dwp_index.specs.Package.{index_for, first_outside, encoding_in, unit_in};
-ghost use Rattle.dwp_index.specs.Package.{unit_at_row, found_counted, found};
+ghost use Rattle.dwp_index.specs.Package.{unit_at_row, found_counted, found, first_byte};
+ghost use Rattle.dwp_index.specs.Package.{first_byte_of};
 ghost use Rattle.dwp_index.specs.declared.fault.PackageError.TheVariants as faults;
 
 use crate::contents::Contents;
@@ -27,7 +28,7 @@ use dwp_base::{Endianness, SectionKind};
 use dwp_bytes::Encoding;
 use dwp_dwarf::UnitSection;
 use dwp_elf_read::ElfFile;
-use dwp_table::{Bucketable, CONTRIBUTION_KINDS, DebugTypeSignature, DwarfObject, DwoId};
+use dwp_table::{Bucketable, DebugTypeSignature, DwarfObject, DwoId};
 use std::marker::Model;
 
 /// A package file: its sections, and the indexes that say which parts of them belong to which unit
@@ -149,6 +150,21 @@ impl<'a> PackageFile<'a> {
         }
     }
 
+    /// The first byte of an identifier's unit, none of whose ranges but this one is looked at; None
+    /// where the index hasn't the unit, or the byte isn't there. Whoever looks many identifiers up
+    /// can ask it of some, and then look these up: the waits for memory go on at once.
+    #[tactic(auto, unfolding(crate::specs::Package::first_byte))]
+    pub fn first_byte(&self, object: DwarfObject) -> Option<u8>
+        ensures { result ≡ first_byte self.now object }
+    {
+        let index = self.index_for(object)?;
+        let number = index.find(object.index())?;
+        match index.row(number) {
+            Ok(row) => self.first_byte_of(object, &row),
+            Err(_) => None,
+        }
+    }
+
     /// The units that the slots of both indexes name, in order of slot, those of the compilation
     /// index first.
     pub fn units(&self) -> Units<'_>
@@ -175,6 +191,15 @@ impl<'a> PackageFile<'a> {
             DwarfObject::Compilation(_) => self.compilations.as_ref(),
             DwarfObject::TypeUnit(_) => self.types.as_ref(),
         }
+    }
+
+    /// The first byte of the unit of a row.
+    fn first_byte_of(&self, object: DwarfObject, row: &Row<'a>) -> Option<u8>
+        ensures { result ≡ first_byte_of self.now object (Ok row.now) }
+    {
+        let kind = kind_of(place_of(object, row.range(SectionKind::Types)));
+        let range = row.range(kind)?;
+        self.contents.of(kind).get(range.offset.0 as usize).copied()
     }
 
     /// The unit of a row number.
@@ -280,10 +305,37 @@ fn read_encoding(
 fn first_outside(contents: &Contents<'_>, row: &Row<'_>) -> Option<SectionKind>
     ensures { result ≡ first_outside (contents_in contents.now) row.now }
 {
-    CONTRIBUTION_KINDS
-        .iter()
-        .copied()
-        .find(|kind| is_outside(contents, row, *kind))
+    if is_outside(contents, row, SectionKind::Info) {
+        return Some(SectionKind::Info);
+    }
+    if is_outside(contents, row, SectionKind::Types) {
+        return Some(SectionKind::Types);
+    }
+    if is_outside(contents, row, SectionKind::Abbrev) {
+        return Some(SectionKind::Abbrev);
+    }
+    if is_outside(contents, row, SectionKind::Line) {
+        return Some(SectionKind::Line);
+    }
+    if is_outside(contents, row, SectionKind::Loc) {
+        return Some(SectionKind::Loc);
+    }
+    if is_outside(contents, row, SectionKind::Loclists) {
+        return Some(SectionKind::Loclists);
+    }
+    if is_outside(contents, row, SectionKind::Rnglists) {
+        return Some(SectionKind::Rnglists);
+    }
+    if is_outside(contents, row, SectionKind::StrOffsets) {
+        return Some(SectionKind::StrOffsets);
+    }
+    if is_outside(contents, row, SectionKind::Macinfo) {
+        return Some(SectionKind::Macinfo);
+    }
+    if is_outside(contents, row, SectionKind::Macro) {
+        return Some(SectionKind::Macro);
+    }
+    None
 }
 
 fn is_outside(contents: &Contents<'_>, row: &Row<'_>, kind: SectionKind) -> bool

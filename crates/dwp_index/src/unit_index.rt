@@ -11,6 +11,7 @@ use crate::parsing::{
     after, after_columns, after_rows, column_place, counts_of, read_u32_at, read_u64_at, tail,
     version_of,
 };
+use crate::places::{Columns, NO_COLUMN, Places};
 use dwp_base::{Contribution, ContributionOffset, Endianness, SectionKind};
 use dwp_bytes::ReadError;
 use dwp_table::laws::look_up_finds_exactly;
@@ -32,6 +33,8 @@ pub struct UnitIndex<'a> {
     columns: &'a [u8],
     offsets: &'a [u8],
     sizes: &'a [u8],
+    // Where each section's column stands.
+    places: Places,
 }
 
 impl<'a> Model for UnitIndex<'a> {
@@ -56,6 +59,8 @@ pub struct Row<'a> {
     columns: &'a [u8],
     offsets: &'a [u8],
     sizes: &'a [u8],
+    // Where each section's column stands.
+    places: Places,
 }
 
 impl<'a> Model for Row<'a> {
@@ -88,6 +93,13 @@ impl<'a> UnitIndex<'a> {
         let offsets = after_columns(columns, order, version, counts.columns)?;
         let sizes = after_rows(offsets, counts.columns, counts.units)?;
         after_rows(sizes, counts.columns, counts.units)?;
+        let places = Columns {
+            bytes: columns,
+            order,
+            version,
+            count: counts.columns,
+        }
+        .places();
         Ok(UnitIndex {
             order,
             version,
@@ -99,6 +111,7 @@ impl<'a> UnitIndex<'a> {
             columns,
             offsets,
             sizes,
+            places,
         })
     }
 
@@ -187,6 +200,7 @@ impl<'a> UnitIndex<'a> {
             columns: self.columns,
             offsets: tail(self.offsets, start),
             sizes: tail(self.sizes, start),
+            places: self.places,
         })
     }
 
@@ -223,19 +237,15 @@ impl<'a> Row<'a> {
     pub fn range(&self, kind: SectionKind) -> Option<Contribution>
         ensures { result ≡ range_in self.now kind }
     {
-        match column_place(
-            self.columns,
-            self.order,
-            self.version,
-            self.column_count,
-            kind,
-        ) {
-            None => None,
-            Some(place) => contribution(
-                read_u32_at(self.offsets, self.order, 4 * place),
-                read_u32_at(self.sizes, self.order, 4 * place),
-            ),
+        let place = self.places.of(kind);
+        if place == NO_COLUMN {
+            return None;
         }
+        let at = 4 * place as usize;
+        contribution(
+            read_u32_at(self.offsets, self.order, at),
+            read_u32_at(self.sizes, self.order, at),
+        )
     }
 }
 

@@ -1,6 +1,6 @@
 //! Looking up the units of a package.
 
-ghost use Rattle.std.specs.Prelude.{◌≡◌, pos, Ok};
+ghost use Rattle.std.specs.Prelude.{◌≡◌, pos, Ok, map, take};
 ghost use Rattle.dwp_base.specs.Reading.{Answers};
 ghost use Rattle.dwp_index.specs.Package.{package_of, found_counted};
 ghost use Rattle.thorin_c.specs.Finding.{object_of, section_of, as_status, present, range_of};
@@ -132,11 +132,37 @@ fn find_in<'a>(
     }
 }
 
+/// How many look-ups are read ahead of: so many waits for memory go on at once.
+const AHEAD: usize = 32;
+
 fn look_each_up(file: &PackageFile<'_>, lookups: &mut [ThorinLookup])
     ensures { FillsEach (Ok file.now) lookups.old lookups.new (pos 0) }
 {
-    for lookup in lookups.iter_mut() {
-        complete(file, lookup);
+    for i in 0..lookups.len() {
+        if i % AHEAD == 0 {
+            read_ahead(file, lookups, i);
+        }
+        complete(file, &mut lookups[i]);
+    }
+}
+
+/// Reads the first byte of the units that are looked up next, and leaves it in their statuses,
+/// which are told once they are looked up.
+fn read_ahead(file: &PackageFile<'_>, lookups: &mut [ThorinLookup], start: usize)
+    ensures front { take start lookups.new ≡ take start lookups.old }
+    ensures same { map (looked file.now) lookups.new ≡ map (looked file.now) lookups.old }
+{
+    let end = lookups.len().min(start.saturating_add(AHEAD));
+    for i in start..end {
+        lookups[i].status = ahead(file, lookups[i].kind, lookups[i].id);
+    }
+}
+
+/// The first byte of a unit, where there is one.
+fn ahead(file: &PackageFile<'_>, kind: u8, id: u64) -> i32 {
+    match object_of(kind, id) {
+        Ok(object) => i32::from(file.first_byte(object).unwrap_or(0)),
+        Err(status) => status,
     }
 }
 
