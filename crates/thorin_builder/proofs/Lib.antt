@@ -55,10 +55,12 @@ pub mod LongerTables
 pub mod PlainSteps
 pub mod RowsNamed
 pub mod Filled
+pub mod OffsetsAgain
 pub mod OffsetsTiled
 pub mod NamesKept
 pub mod PlainKept
 pub mod OwnRanges
+pub mod OwnRangesAll
 pub mod OwnAgain
 pub mod OwnUnitRows
 pub mod OwnUnitsTaken

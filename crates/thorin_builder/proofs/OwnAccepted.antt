@@ -24,7 +24,7 @@ use Rattle.thorin_builder.specs.Indexes.{Indexes, Source, is_package, indexes_of
 use Rattle.thorin_builder.specs.NewUnits.{New, new_units}
 use Rattle.thorin_builder.specs.Own.{has_content, has_sections, packs_again}
 use Rattle.thorin_builder.specs.OwnAccepted.{IsAcceptedOnceWritten}
-use Rattle.thorin_builder.specs.OwnInput.{written_used, written_object, IsOwn, TakesUpToParts}
+use Rattle.thorin_builder.specs.OwnInput.{written_used, written_object, IsOwn, TakesUpToParts, TakesParts}
 use Rattle.thorin_builder.specs.OwnRefusals.{IsStringOffset, UnlessStringOffset, IsForeseen, UnlessForeseen}
 use Rattle.thorin_builder.specs.OwnUnits.{AllOf, HoldsOwn}
 use Rattle.thorin_builder.specs.Parts.{Parts, is_in_format, is_copied, rewritten, with_offsets, with_part, with_each_part, parts_of}
@@ -36,11 +36,11 @@ use Rattle.thorin_builder.proofs.IndexesRead.{IndexIsRead, IndexHasEntries, Some
 use Rattle.thorin_builder.proofs.InputJoined.{new-sound}
 use Rattle.thorin_builder.proofs.Filled.{filled-finished, no-units-written}
 use Rattle.thorin_builder.proofs.OwnFirst.{own-first}
-use Rattle.thorin_builder.proofs.OwnAgain.{finished-shared, own-offsets}
+use Rattle.thorin_builder.proofs.OwnAgain.{finished-shared, own-offsets, own-offsets-alone}
 use Rattle.thorin_builder.proofs.OwnFormat.{in-format, lie-used}
 use Rattle.thorin_builder.proofs.OwnIndexes.{rows-version, up-to-parts}
 use Rattle.thorin_builder.proofs.OwnNames.{present-written, info-written}
-use Rattle.thorin_builder.proofs.OwnParts.{Fresh, fresh-rest, fresh-more, behind, front, past-tests}
+use Rattle.thorin_builder.proofs.OwnParts.{Fresh, fresh-rest, fresh-more, behind, front, past-tests, own-parts}
 use Rattle.thorin_builder.proofs.OwnSections.{rest-differ, object-written, opened-elf}
 use Rattle.thorin_builder.proofs.OwnRanges.{then-unless}
 use Rattle.thorin_builder.proofs.OwnUnitsGiven.{own-units}
@@ -195,6 +195,15 @@ module _ (names : NamesTheSameLaw) (law : PackagedLaw) (reads : UnitsAreTaken) (
       has = strings-there;
       written = λ strings some. own-offsets is_read has_entries some_index none_index state encoding file own made begun plain indexes read strings;
     }
+
+    -- where there are no strings they are there
+    pub parts-alone : is_package indexes ≡ true → TakesParts source []
+    parts-alone packed = own-parts source file.contents [] refl own.kinds (record {
+      finished = packed;
+      format = formatted;
+      has = strings-there;
+      written = λ some. own-offsets-alone is_read has_entries some_index none_index state encoding file own made begun plain indexes read;
+    })
 
     pub parts : (strings : List (List ℕ)) → UnlessStringOffset (parts_of source strings)
     parts strings = parts-tried source file.contents ([], strings) own.kinds (λ kind there. absurd (true≢false (sym there))) can

@@ -6,6 +6,7 @@ use Rattle.dwp_base.specs.declared.class.Class.{Class}
 use Rattle.dwp_base.specs.declared.endian.Endianness.{Endianness}
 use Rattle.dwp_bytes.specs.declared.encoding.Encoding.{Encoding}
 use Rattle.dwp_dwarf.specs.Units.{UnitsAreTaken}
+use Rattle.thorin_strings.specs.Strings.{data_of}
 use Rattle.thorin_builder.specs.Builder.{State, taken}
 use Rattle.thorin_builder.specs.Encodings.{section_has}
 use Rattle.thorin_builder.specs.Plain.{HasTiledOffsets, HasNamedUnits, IsPlain, HoldsPlain}
@@ -15,6 +16,7 @@ use Rattle.thorin_builder.proofs.Filled.{filled-kept}
 use Rattle.thorin_builder.proofs.HeadersRead.{ReadAlone}
 use Rattle.thorin_builder.proofs.InputJoined.{empty-sound}
 use Rattle.thorin_builder.proofs.NamesKept.{names-kept}
+use Rattle.thorin_builder.proofs.OffsetsAgain.{no-turn}
 use Rattle.thorin_builder.proofs.OffsetsTiled.{tiled-kept}
 use Rattle.thorin_builder.proofs.PartLaws.{NamesTheSameLaw}
 use Rattle.thorin_builder.proofs.PlainSteps.{PlainStep, plain-step, kept-so}
@@ -23,7 +25,7 @@ use Rattle.thorin_builder.proofs.RowsNamed.{named-kept}
 new-plain : (encoding : Encoding) (class : Class) (machine : ℕ) (order : Endianness) → IsPlain encoding (empty class machine order)
 new-plain encoding class machine order = record {
   named = λ kind shared some. absurd (omega (arith, some));
-  offsets = record { ranges = []; tile = refl; rows = tt };
+  offsets = record { ranges = []; tile = refl; rows = tt; named = λ range there. absurd there; strings = λ final table front. no-turn order encoding (data_of final) [] 0 [] };
   units = tt;
   filled = tt;
 }
@@ -32,7 +34,7 @@ step-plain : NamesTheSameLaw → UnitsAreTaken → ReadAlone → (old new : Stat
 step-plain names reads alone old new encoding s sound before = record {
   named = named-kept s.source s.before s.now s.plain s.is s.more before.named;
   offsets = subst (λ e. HasTiledOffsets e s.now) s.encoding_is
-      (tiled-kept names s.source s.before s.now s.plain sound.units.table s.order s.is (subst (λ e. HasTiledOffsets e s.before) (sym s.encoding_is) before.offsets));
+      (tiled-kept names s.source s.before s.now s.plain sound.units.table s.order s.is s.more (subst (λ e. HasTiledOffsets e s.before) (sym s.encoding_is) before.offsets));
   units = subst (λ e. HasNamedUnits e s.now) s.encoding_is
       (names-kept reads alone s.source s.before s.now s.plain (subst (λ e. list_all (section_has e s.source.object.order) s.source.object.sections ≡ true) (sym s.encoding_is) s.all) sound s.order s.is
       (subst (λ e. HasNamedUnits e s.before) (sym s.encoding_is) before.units));

@@ -6,7 +6,7 @@ use Rattle.dwp_elf.specs.Written.{written_elf}
 use Rattle.dwp_elf_read.specs.Elf.{elf_of}
 use Rattle.thorin_builder.specs.Builder.{State, order_of, start, taken}
 use Rattle.thorin_builder.specs.Own.{packs_again}
-use Rattle.thorin_builder.specs.OwnRefusals.{UnlessForeseen, UnlessStringOffset}
+use Rattle.thorin_builder.specs.OwnRefusals.{UnlessForeseen}
 use Rattle.thorin_builder.specs.Represents.{IsSoundBegun}
 
 -- the file's bytes are taken by any package of their byte order and by a new one, unless a
@@ -21,11 +21,12 @@ abbrev pub IsAcceptedOnceWritten : State → File → Type 0
 IsAcceptedOnceWritten state file = packs_again state ≡ true → KindsDiffer file.contents
     → elf_of (file_text file) ≡ Ok (written_elf file) → IsAccepted file
 
--- the file's bytes are taken by a new package, unless the offset of a string doesn't fit
+-- a new package takes the file's bytes
 abbrev pub IsAcceptedByNew : File → Type 0
-IsAcceptedByNew file = UnlessStringOffset (taken (file_text file) start)
+IsAcceptedByNew file = (after : State) × (taken (file_text file) start ≡ Ok after)
 
--- so is the file of a state that packs again, once it is written and read back as an ELF file
+-- so does it those of the file of a state that packs again, once it is written and read back as an
+-- ELF file
 abbrev pub IsAcceptedByNewOnceWritten : State → File → Type 0
 IsAcceptedByNewOnceWritten state file = packs_again state ≡ true → KindsDiffer file.contents
     → elf_of (file_text file) ≡ Ok (written_elf file) → IsAcceptedByNew file
