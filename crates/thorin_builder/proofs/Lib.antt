@@ -58,6 +58,7 @@ pub mod Filled
 pub mod OffsetsAgain
 pub mod OffsetsTiled
 pub mod NamesKept
+pub mod InfoThere
 pub mod PlainKept
 pub mod OwnRanges
 pub mod OwnRangesAll

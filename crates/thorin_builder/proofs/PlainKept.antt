@@ -14,6 +14,7 @@ use Rattle.thorin_builder.specs.Represents.{IsSound, IsSoundBegun}
 use Rattle.thorin_builder.specs.State.{InProgress, empty}
 use Rattle.thorin_builder.proofs.Filled.{filled-kept}
 use Rattle.thorin_builder.proofs.HeadersRead.{ReadAlone}
+use Rattle.thorin_builder.proofs.InfoThere.{info-there}
 use Rattle.thorin_builder.proofs.InputJoined.{empty-sound}
 use Rattle.thorin_builder.proofs.NamesKept.{names-kept}
 use Rattle.thorin_builder.proofs.OffsetsAgain.{no-turn}
@@ -28,6 +29,7 @@ new-plain encoding class machine order = record {
   offsets = record { ranges = []; tile = refl; rows = tt; named = λ range there. absurd there; strings = λ final table front. no-turn order encoding (data_of final) [] 0 [] };
   units = tt;
   filled = tt;
+  info = λ some. absurd (omega (arith, some));
 }
 
 step-plain : NamesTheSameLaw → UnitsAreTaken → ReadAlone → (old new : State) (encoding : Encoding) (s : PlainStep old new encoding) → IsSound s.before → IsPlain encoding s.before → IsPlain encoding s.now
@@ -39,6 +41,7 @@ step-plain names reads alone old new encoding s sound before = record {
       (names-kept reads alone s.source s.before s.now s.plain (subst (λ e. list_all (section_has e s.source.object.order) s.source.object.sections ≡ true) (sym s.encoding_is) s.all) sound s.order s.is
       (subst (λ e. HasNamedUnits e s.before) (sym s.encoding_is) before.units));
   filled = filled-kept s.source s.before s.now s.is before.filled;
+  info = λ some. info-there reads alone s.source s.before s.now (s.first ∙ ap Ok (sym s.encoding_is)) s.is before.info;
 }
 
 pub taken-plain : NamesTheSameLaw → UnitsAreTaken → ReadAlone → (bytes : List ℕ) (old new : State) → IsSoundBegun old.begun → HoldsPlain old → taken bytes old ≡ Ok new → HoldsPlain new

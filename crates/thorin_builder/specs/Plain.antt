@@ -5,7 +5,7 @@ use Rattle.std.specs.Prelude.{take, Some, Ok}
 use Rattle.dwp_base.specs.declared.endian.Endianness.{Endianness}
 use Rattle.dwp_base.specs.declared.section.Contribution.{Contribution}
 use Rattle.dwp_base.specs.declared.section.SectionKind.{SectionKind}
-use Rattle.dwp_base.specs.declared.section.SectionKind.TheVariants.{Abbrev, StrOffsets}
+use Rattle.dwp_base.specs.declared.section.SectionKind.TheVariants.{Info, Abbrev, StrOffsets}
 use Rattle.dwp_base.specs.Sections.{same_kind}
 use Rattle.dwp_bytes.specs.Encoding.{offset_size}
 use Rattle.dwp_bytes.specs.Input.{Input, section}
@@ -107,6 +107,7 @@ pub record IsPlain (encoding : Encoding) (made : InProgress) : Type 0 where
   pub offsets : HasTiledOffsets encoding made
   pub units : HasNamedUnits encoding made
   pub filled : AllFilled made.file.contents
+  pub info : 0 < length made.rows → 0 < length (content_of Info made.file.contents)
 
 -- so is a builder's package, where its inputs have one encoding
 pub record HoldsPlain (state : State) : Type 0 where
