@@ -54,7 +54,6 @@ pub mod OwnEncodings
 pub mod LongerTables
 pub mod PlainSteps
 pub mod RowsNamed
-pub mod Filled
 pub mod OffsetsAgain
 pub mod OffsetsTiled
 pub mod NamesKept
@@ -68,6 +67,7 @@ pub mod OwnUnitsTaken
 pub mod OwnUnitsGiven
 pub mod OwnUnitsAlone
 pub mod OwnUnitsNew
+pub mod OwnAlone
 pub mod OwnNewPackage
 pub mod UnitsFree
 pub mod OwnFormat

@@ -193,7 +193,7 @@ own-offsets-alone is_read has_entries some_index none_index state encoding file 
     let old = content_of kinds.StrOffsets made.file.contents in
     let tiled = is_plain.offsets in
     let here = offsets-alone made.file.order encoding indexes.compilations indexes.types (data_of made.strings) old made.rows tiled.ranges made.strings tiled.tile again.compilations again.types tiled.rows tiled.named
-        (tiled.strings made.strings sound.units.table (take-length made.strings)) in
+    (tiled.strings made.strings sound.units.table (take-length made.strings)) in
     let strings_are : first kinds.Str (written_object file).sections ≡ data_of made.strings = again.held kinds.Str ∙ again.strings_are in (
       here.0,
       rewritten-package source (content_of kinds.StrOffsets file.contents) [] again.packed

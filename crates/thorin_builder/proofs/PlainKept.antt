@@ -12,7 +12,6 @@ use Rattle.thorin_builder.specs.Encodings.{section_has}
 use Rattle.thorin_builder.specs.Plain.{HasTiledOffsets, HasNamedUnits, IsPlain, HoldsPlain}
 use Rattle.thorin_builder.specs.Represents.{IsSound, IsSoundBegun}
 use Rattle.thorin_builder.specs.State.{InProgress, empty}
-use Rattle.thorin_builder.proofs.Filled.{filled-kept}
 use Rattle.thorin_builder.proofs.HeadersRead.{ReadAlone}
 use Rattle.thorin_builder.proofs.InfoThere.{info-there}
 use Rattle.thorin_builder.proofs.InputJoined.{empty-sound}
@@ -28,7 +27,6 @@ new-plain encoding class machine order = record {
   named = λ kind shared some. absurd (omega (arith, some));
   offsets = record { ranges = []; tile = refl; rows = tt; named = λ range there. absurd there; strings = λ final table front. no-turn order encoding (data_of final) [] 0 [] };
   units = tt;
-  filled = tt;
   info = λ some. absurd (omega (arith, some));
 }
 
@@ -40,7 +38,6 @@ step-plain names reads alone old new encoding s sound before = record {
   units = subst (λ e. HasNamedUnits e s.now) s.encoding_is
       (names-kept reads alone s.source s.before s.now s.plain (subst (λ e. list_all (section_has e s.source.object.order) s.source.object.sections ≡ true) (sym s.encoding_is) s.all) sound s.order s.is
       (subst (λ e. HasNamedUnits e s.before) (sym s.encoding_is) before.units));
-  filled = filled-kept s.source s.before s.now s.is before.filled;
   info = λ some. info-there reads alone s.source s.before s.now (s.first ∙ ap Ok (sym s.encoding_is)) s.is before.info;
 }
 

@@ -96,17 +96,11 @@ abbrev pub HasNamedUnits : Encoding → InProgress → Type 0
 HasNamedUnits encoding made =
     EachRow (NamesItself made.file.order encoding made.file.contents) made.rows
 
--- each of the contents has bytes
-abbrev pub AllFilled : Contents → Type 0
-AllFilled [] = Unit {0}
-AllFilled (c ∷ cs) = (0 < length c.1) × AllFilled cs
-
--- what is so of a package of plain objects of this encoding
+-- what is so of a package of plain objects of this encoding; of its units some stand in info
 pub record IsPlain (encoding : Encoding) (made : InProgress) : Type 0 where
   pub named : HasNamedParts made
   pub offsets : HasTiledOffsets encoding made
   pub units : HasNamedUnits encoding made
-  pub filled : AllFilled made.file.contents
   pub info : 0 < length made.rows → 0 < length (content_of Info made.file.contents)
 
 -- so is a builder's package, where its inputs have one encoding

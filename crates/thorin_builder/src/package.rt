@@ -354,8 +354,9 @@ impl<'output, 'session: 'output, Sess: Session<RelocationEntry>> DwarfPackage<
     }
 
     /// The object to be written. Where `packs_again` was true, the written bytes are an input of a
-    /// new package, and of any package of their byte order, unless a compilation unit is there
-    /// already (`DuplicateUnit`) or the offset of a string doesn't fit (`NumberTooLarge`).
+    /// new package, which has the same units then, and of any package of their byte order, unless a
+    /// compilation unit is there already (`DuplicateUnit`) or the offset of a string doesn't fit
+    /// (`NumberTooLarge`).
     ///
     /// # Errors
     /// `MissingReferencedUnit` for the first unit that an executable refers to and that isn't

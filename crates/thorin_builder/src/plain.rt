@@ -20,6 +20,9 @@ ghost use Rattle.thorin_builder.specs.Plain.{HoldsPlain, IsPlain};
 ghost use Rattle.thorin_builder.specs.Represents.{IsSoundBegun};
 ghost use Rattle.thorin_builder.specs.State.{InProgress, adding};
 
+use crate::again::written_packages_mean_their_units;
+use crate::joins::inputs_are_joined;
+use crate::laws::finished_packages_are_read;
 use dwp_dwarf::laws::units_have_all_bytes;
 use dwp_index::laws::{contents_are_read, units_are_read_alone};
 use dwp_table::laws::look_up_finds_exactly;
@@ -112,8 +115,8 @@ pub fn own_packages_are_accepted()
 
 /// The law of own packages in a new one: where `packs_again` is true of a builder, and its package
 /// is finished and written, the written bytes are taken by a new package: no compilation unit
-/// stands in them twice, and its strings get just the offsets that they have there. It does
-/// nothing.
+/// stands in them twice, and its strings get just the offsets that they have there. It has the same
+/// units then, in some order, and what is packed of it alone answers as they do. It does nothing.
 pub fn own_packages_are_accepted_by_a_new_one()
     ensures { (state : State) (file : Object)
         → IsSoundBegun state.begun
@@ -131,4 +134,7 @@ pub fn own_packages_are_accepted_by_a_new_one()
     written_index_is_read();
     written_index_has_the_entries();
     contents_are_read();
+    inputs_are_joined();
+    written_packages_mean_their_units();
+    finished_packages_are_read();
 }
