@@ -27,7 +27,7 @@ same_name-true (TypeUnit a) (TypeUnit b) h = ap (λ n. TypeUnit (record { 0 = n 
 same_name-true (Compilation a) (TypeUnit b) h = cc
 same_name-true (TypeUnit a) (Compilation b) h = cc
 
-same_name-self : (a : DwarfObject) → same_name a a ≡ true
+pub same_name-self : (a : DwarfObject) → same_name a a ≡ true
 same_name-self (Compilation a) = eq-eqb a.0 a.0 refl
 same_name-self (TypeUnit a) = eq-eqb a.0 a.0 refl
 

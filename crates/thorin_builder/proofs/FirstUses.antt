@@ -63,11 +63,11 @@ at-more section (o ∷ os) l offset string h k =
     ∙ ap (λ r. r >>= λ others. Ok (s1.0 ∷ others)) rest
     ∙ ap (λ m. Ok (m ++ string ∷ [])) (ok-eq {E = ReadError} (s1.0 ∷ s2.0) l s2.2)
 
-fault-inv : {X : Type 0} (f : ReadError → Fault) (r : Result X ReadError) (x : X) → as_fault f r ≡ Ok x → r ≡ Ok x
+pub fault-inv : {X : Type 0} (f : ReadError → Fault) (r : Result X ReadError) (x : X) → as_fault f r ≡ Ok x → r ≡ Ok x
 fault-inv f (Ok y) x h = ap (λ v. Ok v) (ok-eq {E = Fault} y x h)
 fault-inv f (Err e) x h = absurd cc
 
-no-entries : (encoding : Encoding) → entry_count encoding 0 ≡ 0
+pub no-entries : (encoding : Encoding) → entry_count encoding 0 ≡ 0
 no-entries encoding =
     let none : 0 - header_size encoding ≡ 0 = omega arith in
     ap (λ n. n / offset_size encoding.format) none ∙ by encoding.format

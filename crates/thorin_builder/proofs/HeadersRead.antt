@@ -76,7 +76,7 @@ older-five format version whole i u h =
     let t = older-type format b.0.1 c.0 c.1 in
     inr (t.0, t.1, sym (ap (λ (x : Header). x.unit_type) (same-ok _ u c.2)) ∙ t.2)
 
-newer-five : (format : Format) (whole i : Input) (u : Header) → newer_at format whole i ≡ Ok u → u.encoding.version ≡ 5
+pub newer-five : (format : Format) (whole i : Input) (u : Header) → newer_at format whole i ≡ Ok u → u.encoding.version ≡ 5
 unfolding newer_at
 newer-five format whole i u h =
     let a = bind-inv (unit_code_at i) _ u h in
@@ -85,7 +85,7 @@ newer-five format whole i u h =
     let d = bind-inv (unit_type_at a.0.0 format c.0.1) _ u c.2 in
     sym (ap (λ (x : Header). x.encoding.version) (same-ok _ u d.2))
 
-no_header : (P : Type 0) (u : Header) → ◌≡◌ {A = Result Header ReadError} (Err UnknownVersion) (Ok u) → P
+pub no_header : (P : Type 0) (u : Header) → ◌≡◌ {A = Result Header ReadError} (Err UnknownVersion) (Ok u) → P
 no_header P u h = absurd cc
 
 header-five : (format : Format) (whole i : Input) (u : Header) → header_at places.Types format whole i ≡ Ok u → FiveOrType u

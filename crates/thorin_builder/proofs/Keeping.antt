@@ -65,7 +65,7 @@ grows-with_bytes k x c kind = front-cond kind k x c (nat_eq (length x) 0)
 pub front-length : (a b : List ℕ) → HasFront a b → length a ≤ length b
 front-length a b h = let e : length b ≡ length a + length h.rest = ap length h.is ∙ length-append a h.rest in omega arith
 
-range-front : (a x : List ℕ) (i n : ℕ) → i + n ≤ length a → slice_range (a ++ x) i (i + n) ≡ slice_range a i (i + n)
+pub range-front : (a x : List ℕ) (i n : ℕ) → i + n ≤ length a → slice_range (a ++ x) i (i + n) ≡ slice_range a i (i + n)
 range-front a x i n h =
     let short : i + n - i ≤ length (drop i a) = let e = length-drop i a in omega arith in
     ap (take (i + n - i)) (drop-append-le i a x (omega arith)) ∙ take-append-le (i + n - i) (drop i a) x short

@@ -21,7 +21,7 @@ use Rattle.thorin_builder.proofs.PartGrowth.{either}
 use Rattle.thorin_builder.proofs.PartLaws.{NamesTheSameLaw}
 
 -- ---- a range without the bytes past its last whole entry
-number-front : (order : Endianness) (format : Format) (xs ys : List ℕ) → offset_size format ≤ length xs → number order (offset_size format) (xs ++ ys) ≡ number order (offset_size format) xs
+pub number-front : (order : Endianness) (format : Format) (xs ys : List ℕ) → offset_size format ≤ length xs → number order (offset_size format) (xs ++ ys) ≡ number order (offset_size format) xs
 number-front Little Dwarf32 xs ys within =
     let at = λ (k : ℕ) (h : k < 4). get_or_append_left xs ys 0 k (omega arith) in
     rw (at 0 (omega arith), at 1 (omega arith), at 2 (omega arith), at 3 (omega arith)) refl

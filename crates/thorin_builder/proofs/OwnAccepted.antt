@@ -2,6 +2,7 @@
 use Rattle.std.proofs.Common.{◌≡◌, ◌∙◌, ℕ, ◌+◌, ◌<◌, Bool, true, false, cond, eqb, not, ◌&&◌, List, [], ◌∷◌, ◌++◌, length, refl, sym, ap, subst, Result, Ok, Err, Option, Some, None, arith, true≢false, ◌||◌, inl, ⊎_elim, length-append}
 use Rattle.std.specs.Prelude.{nat_lt, is_some}
 use Rattle.std.proofs.lemmas.Bool.{eqb-true, eqb-false, ltb-true, lt-ltb}
+use Rattle.std.proofs.lemmas.List.{length-map}
 use Rattle.std.proofs.lemmas.Option.{same_Some}
 use Rattle.dwp_base.specs.Reading.{◌>>=◌}
 use Rattle.dwp_base.specs.Sections.{name_of, same_kind}
@@ -24,7 +25,7 @@ use Rattle.thorin_builder.specs.Indexes.{Indexes, Source, is_package, indexes_of
 use Rattle.thorin_builder.specs.NewUnits.{New, new_units}
 use Rattle.thorin_builder.specs.Own.{has_content, has_sections, packs_again}
 use Rattle.thorin_builder.specs.OwnAccepted.{IsAcceptedOnceWritten}
-use Rattle.thorin_builder.specs.OwnInput.{written_used, written_object, IsOwn, TakesUpToParts}
+use Rattle.thorin_builder.specs.OwnInput.{written_used, written_object, IsOwn, TakesUpToParts, TakesParts}
 use Rattle.thorin_builder.specs.OwnRefusals.{IsStringOffset, UnlessStringOffset, IsForeseen, UnlessForeseen}
 use Rattle.thorin_builder.specs.OwnUnits.{AllOf, HoldsOwn}
 use Rattle.thorin_builder.specs.Parts.{Parts, is_in_format, is_copied, rewritten, with_offsets, with_part, with_each_part, parts_of}
@@ -34,13 +35,12 @@ use Rattle.thorin_builder.specs.State.{InProgress, adding, abbreviations_test, w
 use Rattle.thorin_builder.specs.Used.{Used, opened, has_info, object_of}
 use Rattle.thorin_builder.proofs.IndexesRead.{IndexIsRead, IndexHasEntries, SomeIndex, NoIndex}
 use Rattle.thorin_builder.proofs.InputJoined.{new-sound}
-use Rattle.thorin_builder.proofs.Filled.{filled-finished, no-units-written}
 use Rattle.thorin_builder.proofs.OwnFirst.{own-first}
-use Rattle.thorin_builder.proofs.OwnAgain.{finished-shared, own-offsets}
+use Rattle.thorin_builder.proofs.OwnAgain.{finished-shared, own-offsets, own-offsets-alone}
 use Rattle.thorin_builder.proofs.OwnFormat.{in-format, lie-used}
 use Rattle.thorin_builder.proofs.OwnIndexes.{rows-version, up-to-parts}
 use Rattle.thorin_builder.proofs.OwnNames.{present-written, info-written}
-use Rattle.thorin_builder.proofs.OwnParts.{Fresh, fresh-rest, fresh-more, behind, front, past-tests}
+use Rattle.thorin_builder.proofs.OwnParts.{Fresh, fresh-rest, fresh-more, behind, front, past-tests, own-parts}
 use Rattle.thorin_builder.proofs.OwnSections.{rest-differ, object-written, opened-elf}
 use Rattle.thorin_builder.proofs.OwnRanges.{then-unless}
 use Rattle.thorin_builder.proofs.OwnUnitsGiven.{own-units}
@@ -196,6 +196,15 @@ module _ (names : NamesTheSameLaw) (law : PackagedLaw) (reads : UnitsAreTaken) (
       written = λ strings some. own-offsets is_read has_entries some_index none_index state encoding file own made begun plain indexes read strings;
     }
 
+    -- where there are no strings they are there
+    pub parts-alone : is_package indexes ≡ true → TakesParts source []
+    parts-alone packed = own-parts source file.contents [] refl own.kinds (record {
+      finished = packed;
+      format = formatted;
+      has = strings-there;
+      written = λ some. own-offsets-alone is_read has_entries some_index none_index state encoding file own made begun plain indexes read;
+    })
+
     pub parts : (strings : List (List ℕ)) → UnlessStringOffset (parts_of source strings)
     parts strings = parts-tried source file.contents ([], strings) own.kinds (λ kind there. absurd (true≢false (sym there))) can
 
@@ -232,47 +241,51 @@ module _ (names : NamesTheSameLaw) (law : PackagedLaw) (reads : UnitsAreTaken) (
 
 -- ---- by what a builder's package is
 
--- a file without units by name begins a package
-none-taken : (file : File) → elf_of (file_text file) ≡ Ok (written_elf file) → has_info (written_elf file) ≡ false → (before : State) → UnlessForeseen (taken (file_text file) before)
-unfolding taken with_input own_encoding
-none-taken file back none before =
-    let opens = opened-elf (file_text file) (written_elf file) back in
-    let first : with_input (file_text file) before.begun ≡ Ok (Some (package_or_new (written_elf file) before.begun)) =
-    bind-ok (opened (file_text file)) (written_elf file) _ opens
-    ∙ ap (λ b. cond {A = Result (Option InProgress) Fault} b (with_units (written_elf file) before.begun) (Ok (Some (package_or_new (written_elf file) before.begun)))) none in
-    let second : own_encoding (file_text file) ≡ Ok None =
-    bind-ok (opened (file_text file)) (written_elf file) _ opens ∙ ap (λ b. cond {A = Result (Option Encoding) Fault} b (file_encoding (written_elf file)) (Ok None)) none in
-    then-foreseen (with_input (file_text file) before.begun) _ (subst UnlessForeseen (sym first) tt) (λ now e.
-    subst UnlessForeseen (sym (bind-ok (own_encoding (file_text file)) None _ second)) tt)
-
-pub own-there : (own : Option Encoding) (b : Bool) → (is_some own && b) ≡ true → (encoding : Encoding) × (own ≡ Some encoding) × (b ≡ true)
+own-there : (own : Option Encoding) (b : Bool) → (is_some own && b) ≡ true → (encoding : Encoding) × (own ≡ Some encoding) × (b ≡ true)
 own-there None b h = absurd (true≢false (sym h))
 own-there (Some encoding) b h = (encoding, refl, h)
 
-pub own-all : NamesTheSameLaw → PackagedLaw → UnitsAreTaken → FirstLaw → FindLaw → IndexIsRead → IndexHasEntries → SomeIndex → NoIndex → (state : State) (file : File)
-    → IsSoundBegun state.begun → HoldsOwn state → HoldsPlain state → finish_test state ≡ Ok tt → IsFinishedState state file → IsAcceptedOnceWritten state file
-own-all names law reads first_law find_law is_read has_entries some_index none_index state file sound holds holds_plain tested f packs differ back before fine same =
+-- what a state that packs again has, and its written file
+pub record OwnWritten (state : State) (file : File) : Type 0 where
+  pub encoding : Encoding
+  pub made : InProgress
+  pub begun : state.begun ≡ Some made
+  pub plain : IsPlain encoding made
+  pub sections : has_sections (Some made) ≡ true
+  pub own : IsOwn state encoding file
+
+pub own-written : UnitsAreTaken → (state : State) (file : File) → IsSoundBegun state.begun → HoldsOwn state → HoldsPlain state → finish_test state ≡ Ok tt → IsFinishedState state file → packs_again state ≡ true
+    → KindsDiffer file.contents → elf_of (file_text file) ≡ Ok (written_elf file) → OwnWritten state file
+own-written reads state file sound holds holds_plain tested f packs differ back =
     let there = own-there state.own (has_sections state.begun) packs in
     let encoding = there.0 in
     let made = f.made in
     let plain = holds_plain.made encoding made there.1 f.begun in
     let is_sound : IsSound made = subst IsSoundBegun f.begun sound in
-    let sections : has_sections (Some made) ≡ true = ap has_sections (sym f.begun) ∙ there.2 in
-    ⊎_elim
-    (λ none. none-taken file back (no-units-written file (filled-finished made file f.finished plain.filled) (no-bytes (content_of kinds.Info file.contents) (eqb-true (length (content_of kinds.Info file.contents)) 0 none))) before)
-    (λ some.
-    let there_info = eqb-false (length (content_of kinds.Info file.contents)) 0 some in
-    let info : 0 < length (content_of kinds.Info file.contents) = omega (arith, there_info) in
-    let own : IsOwn state encoding file = record {
-      sound = sound;
-      tested = tested;
-      finished = f;
-      kinds = differ;
-      read_back = back;
-      some = holds.some encoding there.1;
-      all = holds.all encoding there.1;
-      info = info;
-      first = own-first reads made file encoding is_sound f.finished differ plain info;
-    } in
-    own-accepted names law reads first_law find_law is_read has_entries some_index none_index state encoding file own made f.begun plain sections before fine same)
-    (either (eqb (length (content_of kinds.Info file.contents)) 0))
+    let count : 0 < length (units_of made) = subst (λ b. 0 < length (units_begun b)) f.begun (holds.some encoding there.1) in
+    let long : length (units_of made) ≡ length made.rows = length-map made.rows _ in
+    let info : 0 < length (content_of kinds.Info file.contents) = subst (λ l. 0 < length l) (sym (finished-own made file f.finished places.Info)) (plain.info (omega (arith, count, long))) in
+    record {
+      encoding = encoding;
+      made = made;
+      begun = f.begun;
+      plain = plain;
+      sections = ap has_sections (sym f.begun) ∙ there.2;
+      own = record {
+        sound = sound;
+        tested = tested;
+        finished = f;
+        kinds = differ;
+        read_back = back;
+        some = holds.some encoding there.1;
+        all = holds.all encoding there.1;
+        info = info;
+        first = own-first reads made file encoding is_sound f.finished differ plain info;
+      };
+    }
+
+pub own-all : NamesTheSameLaw → PackagedLaw → UnitsAreTaken → FirstLaw → FindLaw → IndexIsRead → IndexHasEntries → SomeIndex → NoIndex → (state : State) (file : File)
+    → IsSoundBegun state.begun → HoldsOwn state → HoldsPlain state → finish_test state ≡ Ok tt → IsFinishedState state file → IsAcceptedOnceWritten state file
+own-all names law reads first_law find_law is_read has_entries some_index none_index state file sound holds holds_plain tested f packs differ back before fine same =
+    let w = own-written reads state file sound holds holds_plain tested f packs differ back in
+    own-accepted names law reads first_law find_law is_read has_entries some_index none_index state w.encoding file w.own w.made w.begun w.plain w.sections before fine same

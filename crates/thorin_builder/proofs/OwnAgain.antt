@@ -40,6 +40,7 @@ use Rattle.thorin_builder.proofs.FirstUses.{slice-long}
 use Rattle.thorin_builder.proofs.IndexesRead.{HasRows, IndexIsRead, IndexHasEntries, SomeIndex, NoIndex, index-read, chosen-fit}
 use Rattle.thorin_builder.proofs.Keeping.{part-inside}
 use Rattle.thorin_builder.proofs.OwnRanges.{AreNamed, CanRewrite, offsets-rewritten, are-named}
+use Rattle.thorin_builder.proofs.OwnRangesAll.{offsets-alone}
 use Rattle.thorin_builder.proofs.OwnRows.{each-shared}
 use Rattle.thorin_builder.proofs.OwnSections.{first-written}
 use Rattle.thorin_builder.proofs.PackedAgain.{index-same, are-indexes, one-there}
@@ -169,3 +170,33 @@ own-offsets is_read has_entries some_index none_index state encoding file own ot
     (subst (λ b. UnlessStringOffset (packaged_offsets file.order encoding indexes.compilations indexes.types (first kinds.Str (written_object file).sections) b strings)) (sym content)
     (subst (λ s. UnlessStringOffset (packaged_offsets file.order encoding indexes.compilations indexes.types s old strings)) (sym strings_are)
     (subst (λ o. UnlessStringOffset (packaged_offsets o encoding indexes.compilations indexes.types (data_of made.strings) old strings)) (sym order) here)))
+
+-- where there are no strings they are, with the package's strings
+pub own-offsets-alone : IndexIsRead → IndexHasEntries → SomeIndex → NoIndex → (state : State) (encoding : Encoding) (file : File) → IsOwn state encoding file
+    → (made : InProgress) → state.begun ≡ Some made → IsPlain encoding made → (indexes : Indexes) → indexes_of (written_object file) encoding ≡ Ok indexes
+    → (w : List ℕ × List (List ℕ)) × (rewritten (record { object = written_object file; encoding = encoding; indexes = indexes }) (content_of kinds.StrOffsets file.contents) [] ≡ Ok w)
+own-offsets-alone is_read has_entries some_index none_index state encoding file own other begun plain indexes read =
+    let fin = own.finished in
+    let made = fin.made in
+    let f = fin.finished in
+    let same : other ≡ made = same_Some other made (sym begun ∙ fin.begun) in
+    let sound : IsSound made = subst IsSoundBegun fin.begun own.sound in
+    let is_plain : IsPlain encoding made = subst (IsPlain encoding) same plain in
+    let tests = tested-state state made fin.begun own.tested in
+    let count : 0 < length (units_of made) = subst (λ b. 0 < length (units_begun b)) fin.begun own.some in
+    let long : length (units_of made) ≡ length made.rows = length-map made.rows _ in
+    let some : made.rows ≡ [] → ⊥ = λ none. let e : length made.rows ≡ 0 = ap length none in omega (arith, e, count, long) in
+    let again = own-again is_read has_entries some_index none_index made file sound tests fin.identifiers f own.kinds encoding indexes read some in
+    let source : Source = record { object = written_object file; encoding = encoding; indexes = indexes } in
+    let order : file.order ≡ made.file.order = finished-order made file f in
+    let content = finished-shared made file f kinds.StrOffsets refl in
+    let old = content_of kinds.StrOffsets made.file.contents in
+    let tiled = is_plain.offsets in
+    let here = offsets-alone made.file.order encoding indexes.compilations indexes.types (data_of made.strings) old made.rows tiled.ranges made.strings tiled.tile again.compilations again.types tiled.rows tiled.named
+    (tiled.strings made.strings sound.units.table (take-length made.strings)) in
+    let strings_are : first kinds.Str (written_object file).sections ≡ data_of made.strings = again.held kinds.Str ∙ again.strings_are in (
+      here.0,
+      rewritten-package source (content_of kinds.StrOffsets file.contents) [] again.packed
+          ∙ (λ i. packaged_offsets (order i) encoding indexes.compilations indexes.types (strings_are i) (content i) [])
+          ∙ here.1,
+    )

@@ -48,12 +48,12 @@ use Rattle.thorin_builder.proofs.Steps.{ok-eq, bind-ok, bind-inv}
 
 -- ---- ranges in the order of others, of which some may be left out
 
-abbrev IsPartOf : List Contribution → List Contribution → Type 0
+abbrev pub IsPartOf : List Contribution → List Contribution → Type 0
 IsPartOf [] ys = Unit {0}
 IsPartOf (x ∷ xs) [] = ⊥
 IsPartOf (x ∷ xs) (y ∷ ys) = ((x ≡ y) × IsPartOf xs ys) ⊎ IsPartOf (x ∷ xs) ys
 
-part-later : (xs ys : List Contribution) (y : Contribution) → IsPartOf xs ys → IsPartOf xs (y ∷ ys)
+pub part-later : (xs ys : List Contribution) (y : Contribution) → IsPartOf xs ys → IsPartOf xs (y ∷ ys)
 part-later [] ys y h = tt
 part-later (x ∷ xs) ys y h = inr h
 
@@ -62,7 +62,7 @@ among-part r [] h = absurd h
 among-part r (y ∷ ys) (inl e) = inl (e, tt)
 among-part r (y ∷ ys) (inr h) = inr (among-part r ys h)
 
-first-among : (x : Contribution) (xs ys : List Contribution) → IsPartOf (x ∷ xs) ys → IsAmong x ys
+pub first-among : (x : Contribution) (xs ys : List Contribution) → IsPartOf (x ∷ xs) ys → IsAmong x ys
 first-among x xs [] h = absurd h
 first-among x xs (y ∷ ys) (inl h) = inl h.0
 first-among x xs (y ∷ ys) (inr h) = inr (first-among x xs ys h)
@@ -73,32 +73,32 @@ module _ (order : Endianness) (encoding : Encoding) where
   tile-behind at end (y ∷ ys) r tile (inl e) = let o : r.offset.0 ≡ y.offset.0 = ap (λ (c : Contribution). c.offset.0) e in let from = tile.0 in omega (arith, o, from)
   tile-behind at end (y ∷ ys) r tile (inr h) = let later = tile-behind (at + y.size) end ys r tile.2 h in omega (arith, later)
 
-  tile-apart : (at end : ℕ) (y : Contribution) (ys : List Contribution) (r : Contribution) → Tile order encoding at (y ∷ ys) end → IsAmong r ys → y.offset.0 < r.offset.0
+  pub tile-apart : (at end : ℕ) (y : Contribution) (ys : List Contribution) (r : Contribution) → Tile order encoding at (y ∷ ys) end → IsAmong r ys → y.offset.0 < r.offset.0
   tile-apart at end y ys r tile h =
       let later = tile-behind (at + y.size) end ys r tile.2 h in
       let from = tile.0 in
       let some = tile.1.some in
       omega (arith, later, from, some)
 
-  tile-end : (at end : ℕ) (ys : List Contribution) → Tile order encoding at ys end → at ≤ end
+  pub tile-end : (at end : ℕ) (ys : List Contribution) → Tile order encoding at ys end → at ≤ end
   tile-end at end [] tile = omega (arith, tile)
   tile-end at end (y ∷ ys) tile = let later = tile-end (at + y.size) end ys tile.2 in omega (arith, later)
 
-  cmp-less : (r x : Contribution) → r.offset.0 < x.offset.0 → Less ≡ place_cmp r x
+  pub cmp-less : (r x : Contribution) → r.offset.0 < x.offset.0 → Less ≡ place_cmp r x
   cmp-less r x h = ap (λ o. ordering_then o (nat_cmp r.size x.size)) (nat_cmp_is r.offset.0 x.offset.0 Less h)
 
-  cmp-greater : (r x : Contribution) → x.offset.0 < r.offset.0 → Greater ≡ place_cmp r x
+  pub cmp-greater : (r x : Contribution) → x.offset.0 < r.offset.0 → Greater ≡ place_cmp r x
   cmp-greater r x h = ap (λ o. ordering_then o (nat_cmp r.size x.size)) (nat_cmp_is r.offset.0 x.offset.0 Greater h)
 
-  cmp-equal : (r x : Contribution) → r ≡ x → Equal ≡ place_cmp r x
+  pub cmp-equal : (r x : Contribution) → r ≡ x → Equal ≡ place_cmp r x
   cmp-equal r x e =
       nat_cmp_is r.size x.size Equal (ap (λ (c : Contribution). c.size) e)
       ∙ ap (λ o. ordering_then o (nat_cmp r.size x.size)) (nat_cmp_is r.offset.0 x.offset.0 Equal (ap (λ (c : Contribution). c.offset.0) e))
 
-  abbrev Put : Ordering → Contribution → Contribution → List Contribution → List Contribution
+  abbrev pub Put : Ordering → Contribution → Contribution → List Contribution → List Contribution
   Put o r x xs = match_ordering o (r ∷ x ∷ xs) (x ∷ xs) (x ∷ insert_key place_cmp xs r)
 
-  inserted : (at end : ℕ) (ys xs : List Contribution) (r : Contribution) → Tile order encoding at ys end → IsPartOf xs ys → IsAmong r ys → IsPartOf (insert_key place_cmp xs r) ys
+  pub inserted : (at end : ℕ) (ys xs : List Contribution) (r : Contribution) → Tile order encoding at ys end → IsPartOf xs ys → IsAmong r ys → IsPartOf (insert_key place_cmp xs r) ys
   inserted at end [] xs r tile part h = absurd h
   inserted at end (y ∷ ys) [] r tile part h = among-part r (y ∷ ys) h
   inserted at end (y ∷ ys) (x ∷ xs) r tile (inl p) (inl e) = subst (λ o. IsPartOf (Put o r x xs) (y ∷ ys)) (cmp-equal r x (e ∙ sym p.0)) (inl p)
@@ -120,13 +120,13 @@ each-put P Less r x xs more p q h m = (p, (q, h))
 each-put P Equal r x xs more p q h m = (q, h)
 each-put P Greater r x xs more p q h m = (q, m)
 
-each-inserted : (P : Contribution → Type 0) (xs : List Contribution) (r : Contribution) → P r → EachRange P xs → EachRange P (insert_key place_cmp xs r)
+pub each-inserted : (P : Contribution → Type 0) (xs : List Contribution) (r : Contribution) → P r → EachRange P xs → EachRange P (insert_key place_cmp xs r)
 each-inserted P [] r p h = (p, tt)
 each-inserted P (x ∷ xs) r p h = each-put P (place_cmp r x) r x xs (insert_key place_cmp xs r) p h.0 h.1 (each-inserted P xs r p h.1)
 
 -- ---- the ranges of rows
 
-abbrev EachSome : (Contribution → Type 0) → List (Option Contribution) → Type 0
+abbrev pub EachSome : (Contribution → Type 0) → List (Option Contribution) → Type 0
 EachSome P [] = Unit {0}
 EachSome P (None ∷ rows) = EachSome P rows
 EachSome P (Some r ∷ rows) = P r × EachSome P rows
@@ -157,7 +157,7 @@ module _ (order : Endianness) (encoding : Encoding) (end : ℕ) (ys : List Contr
   each-cond row rows true h k = (h, k)
   each-cond row rows false h k = k
 
-  each-chosen : (b : Bool) (rows : List IndexEntry) → EachRow HasRange rows → EachRow HasRange (rows_of b rows)
+  pub each-chosen : (b : Bool) (rows : List IndexEntry) → EachRow HasRange rows → EachRow HasRange (rows_of b rows)
   each-chosen b [] h = tt
   each-chosen b (r ∷ rs) h = each-cond r (rows_of b rs) (is_chosen b r) h.0 (each-chosen b rs h.1)
 
@@ -197,11 +197,11 @@ module _ (order : Endianness) (encoding : Encoding) (end : ℕ) (ys : List Contr
   numbers-hold version rows index has h (n ∷ ns) =
       some-by index n (map (range_of_row index StrOffsets) ns) (row_in index n) refl (λ row range read e. row-holds version rows index n row range has h read e) (numbers-hold version rows index has h ns)
 
-  index-holds : (version : ℕ) (rows : List IndexEntry) (index : Index) → HasEntries version rows index → EachRow HasRange rows → EachSome Holds (ranges_of index StrOffsets)
+  pub index-holds : (version : ℕ) (rows : List IndexEntry) (index : Index) → HasEntries version rows index → EachRow HasRange rows → EachSome Holds (ranges_of index StrOffsets)
   unfolding ranges_of
   index-holds version rows index has h = numbers-hold version rows index has h (range_with_len 1 (length index.offsets))
 
-  rows-some : (index : Option Index) (rows : List IndexEntry) (xs : List Contribution) → HasRows index rows → EachRow HasRange rows → AreSome xs → AreSome (with_rows index xs)
+  pub rows-some : (index : Option Index) (rows : List IndexEntry) (xs : List Contribution) → HasRows index rows → EachRow HasRange rows → AreSome xs → AreSome (with_rows index xs)
   rows-some None rows xs has h some = some
   rows-some (Some index) rows xs has h some = ranges-some (ranges_of index StrOffsets) xs (index-holds has.0 rows index has.1 h) some
 
@@ -230,7 +230,7 @@ is-whole order encoding size r whole inside =
     (le-leb _ _ (omega (arith, long)))
     (eq-eqb _ 0 (whole-rest encoding.format r.size (header_size encoding) whole.count long))
 
-ranges-tested : (order : Endianness) (encoding : Encoding) (size last_end at end : ℕ) (ys xs : List Contribution) → Tile order encoding at ys end → IsPartOf xs ys → last_end ≤ at → end ≤ size
+pub ranges-tested : (order : Endianness) (encoding : Encoding) (size last_end at end : ℕ) (ys xs : List Contribution) → Tile order encoding at ys end → IsPartOf xs ys → last_end ≤ at → end ≤ size
     → ranges_test encoding size last_end xs ≡ Ok tt
 unfolding ranges_test
 ranges-tested order encoding size last_end at end ys [] tile part low high = refl

@@ -6,15 +6,17 @@ use Rattle.dwp_base.specs.declared.class.Class.{Class}
 use Rattle.dwp_base.specs.declared.endian.Endianness.{Endianness}
 use Rattle.dwp_bytes.specs.declared.encoding.Encoding.{Encoding}
 use Rattle.dwp_dwarf.specs.Units.{UnitsAreTaken}
+use Rattle.thorin_strings.specs.Strings.{data_of}
 use Rattle.thorin_builder.specs.Builder.{State, taken}
 use Rattle.thorin_builder.specs.Encodings.{section_has}
 use Rattle.thorin_builder.specs.Plain.{HasTiledOffsets, HasNamedUnits, IsPlain, HoldsPlain}
 use Rattle.thorin_builder.specs.Represents.{IsSound, IsSoundBegun}
 use Rattle.thorin_builder.specs.State.{InProgress, empty}
-use Rattle.thorin_builder.proofs.Filled.{filled-kept}
 use Rattle.thorin_builder.proofs.HeadersRead.{ReadAlone}
+use Rattle.thorin_builder.proofs.InfoThere.{info-there}
 use Rattle.thorin_builder.proofs.InputJoined.{empty-sound}
 use Rattle.thorin_builder.proofs.NamesKept.{names-kept}
+use Rattle.thorin_builder.proofs.OffsetsAgain.{no-turn}
 use Rattle.thorin_builder.proofs.OffsetsTiled.{tiled-kept}
 use Rattle.thorin_builder.proofs.PartLaws.{NamesTheSameLaw}
 use Rattle.thorin_builder.proofs.PlainSteps.{PlainStep, plain-step, kept-so}
@@ -23,20 +25,20 @@ use Rattle.thorin_builder.proofs.RowsNamed.{named-kept}
 new-plain : (encoding : Encoding) (class : Class) (machine : ℕ) (order : Endianness) → IsPlain encoding (empty class machine order)
 new-plain encoding class machine order = record {
   named = λ kind shared some. absurd (omega (arith, some));
-  offsets = record { ranges = []; tile = refl; rows = tt };
+  offsets = record { ranges = []; tile = refl; rows = tt; named = λ range there. absurd there; strings = λ final table front. no-turn order encoding (data_of final) [] 0 [] };
   units = tt;
-  filled = tt;
+  info = λ some. absurd (omega (arith, some));
 }
 
 step-plain : NamesTheSameLaw → UnitsAreTaken → ReadAlone → (old new : State) (encoding : Encoding) (s : PlainStep old new encoding) → IsSound s.before → IsPlain encoding s.before → IsPlain encoding s.now
 step-plain names reads alone old new encoding s sound before = record {
   named = named-kept s.source s.before s.now s.plain s.is s.more before.named;
   offsets = subst (λ e. HasTiledOffsets e s.now) s.encoding_is
-      (tiled-kept names s.source s.before s.now s.plain sound.units.table s.order s.is (subst (λ e. HasTiledOffsets e s.before) (sym s.encoding_is) before.offsets));
+      (tiled-kept names s.source s.before s.now s.plain sound.units.table s.order s.is s.more (subst (λ e. HasTiledOffsets e s.before) (sym s.encoding_is) before.offsets));
   units = subst (λ e. HasNamedUnits e s.now) s.encoding_is
       (names-kept reads alone s.source s.before s.now s.plain (subst (λ e. list_all (section_has e s.source.object.order) s.source.object.sections ≡ true) (sym s.encoding_is) s.all) sound s.order s.is
       (subst (λ e. HasNamedUnits e s.before) (sym s.encoding_is) before.units));
-  filled = filled-kept s.source s.before s.now s.is before.filled;
+  info = λ some. info-there reads alone s.source s.before s.now (s.first ∙ ap Ok (sym s.encoding_is)) s.is before.info;
 }
 
 pub taken-plain : NamesTheSameLaw → UnitsAreTaken → ReadAlone → (bytes : List ℕ) (old new : State) → IsSoundBegun old.begun → HoldsPlain old → taken bytes old ≡ Ok new → HoldsPlain new

@@ -97,7 +97,7 @@ ready rows_law source before parts after (n ∷ ns) (r ∷ rs) table h are heade
     }
 
 -- the names of a package's units
-keys-held : (made : InProgress) → keys (held_units made) ≡ names_of made
+pub keys-held : (made : InProgress) → keys (held_units made) ≡ names_of made
 keys-held made = by made.file.contents made.rows
   where
     by : (c : Contents) (rows : List IndexEntry) → keys (map {B = DwarfObject × List ℕ} (λ row. (row.id, unit_bytes c row)) rows) ≡ map (λ row. row.id) rows

@@ -63,7 +63,7 @@ names-apart (r ∷ rs) h = (
   names-apart rs (λ i j d below within. h (suc i) (suc j) d (omega (arith, below)) (omega (arith, within))),
 )
 
-different-sym : (a b : DwarfObject) → same_name a b ≡ false → same_name b a ≡ false
+pub different-sym : (a b : DwarfObject) → same_name a b ≡ false → same_name b a ≡ false
 different-sym a b h = by (same_name b a) refl
   where
     by : (t : Bool) → same_name b a ≡ t → t ≡ false

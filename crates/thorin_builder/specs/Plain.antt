@@ -1,11 +1,11 @@
 -- A package that is made of plain objects of one encoding, each of which added a unit (DWARF 5,
 -- 7.3.5).
 use Rattle.std.specs.Prelude.{◌≡◌, ℕ, ◌+◌, ◌*◌, ◌<◌, Bool, true, ◌||◌, ◌⊎◌, List, [], ◌∷◌, length}
-use Rattle.std.specs.Prelude.{Some, Ok}
+use Rattle.std.specs.Prelude.{take, Some, Ok}
 use Rattle.dwp_base.specs.declared.endian.Endianness.{Endianness}
 use Rattle.dwp_base.specs.declared.section.Contribution.{Contribution}
 use Rattle.dwp_base.specs.declared.section.SectionKind.{SectionKind}
-use Rattle.dwp_base.specs.declared.section.SectionKind.TheVariants.{Abbrev, StrOffsets}
+use Rattle.dwp_base.specs.declared.section.SectionKind.TheVariants.{Info, Abbrev, StrOffsets}
 use Rattle.dwp_base.specs.Sections.{same_kind}
 use Rattle.dwp_bytes.specs.Encoding.{offset_size}
 use Rattle.dwp_bytes.specs.Input.{Input, section}
@@ -15,9 +15,11 @@ use Rattle.dwp_dwarf.specs.Units.{Unit as Header, unit_at}
 use Rattle.dwp_elf.specs.Contents.{content_of}
 use Rattle.dwp_index.specs.Package.{part_of, place_of}
 use Rattle.thorin_identity.specs.Identity.{identity}
+use Rattle.thorin_packaged.specs.PackagedOffsets.{rewritten_from}
 use Rattle.thorin_parts.specs.IndexText.{is_used}
 use Rattle.thorin_parts.specs.declared.entry.IndexEntry.{IndexEntry}
 use Rattle.thorin_strings.specs.StringOffsets.{header_of}
+use Rattle.thorin_strings.specs.Strings.{IsTable, data_of}
 use Rattle.thorin_builder.specs.Builder.{State}
 use Rattle.thorin_builder.specs.Growing.{Contents}
 use Rattle.thorin_builder.specs.Parts.{is_copied}
@@ -57,12 +59,29 @@ abbrev pub HasOneOf : List Contribution → IndexEntry → Type 0
 HasOneOf ranges row =
     (range : Contribution) → row.debug_str_offsets ≡ Some range → IsAmong range ranges
 
--- the ranges of string offsets that rows have fill their section, and none lies over another
+-- some row has this range of string offsets
+abbrev pub IsOfSome : Contribution → List IndexEntry → Type 0
+IsOfSome range [] = ⊥
+IsOfSome range (row ∷ rows) = (row.debug_str_offsets ≡ Some range) ⊎ IsOfSome range rows
+
+-- such ranges of a section, rewritten in turn where no string is yet, give just these strings, in
+-- their order, whatever strings follow them in the section of strings
+abbrev pub GiveStrings : Endianness → Encoding → List ℕ → List Contribution → List (List ℕ) → Type 0
+GiveStrings order encoding bytes ranges strings =
+    (final : List (List ℕ)) → IsTable final → take (length strings) final ≡ strings
+    → (written : List ℕ)
+    × (rewritten_from order encoding (data_of final) bytes 0 ranges [] ≡ Ok (written, strings))
+
+-- the ranges of string offsets that rows have fill their section, and none lies over another; and
+-- they give the package's strings
 pub record HasTiledOffsets (encoding : Encoding) (made : InProgress) : Type 0 where
   pub ranges : List Contribution
   pub tile : Tile made.file.order encoding 0 ranges
       (length (content_of StrOffsets made.file.contents))
   pub rows : EachRow (HasOneOf ranges) made.rows
+  pub named : (range : Contribution) → IsAmong range ranges → IsOfSome range made.rows
+  pub strings : GiveStrings made.file.order encoding (content_of StrOffsets made.file.contents)
+      ranges made.strings
 
 -- a row's unit, read of its own bytes alone, has the encoding, and by the row's abbreviations the
 -- row's name
@@ -77,17 +96,12 @@ abbrev pub HasNamedUnits : Encoding → InProgress → Type 0
 HasNamedUnits encoding made =
     EachRow (NamesItself made.file.order encoding made.file.contents) made.rows
 
--- each of the contents has bytes
-abbrev pub AllFilled : Contents → Type 0
-AllFilled [] = Unit {0}
-AllFilled (c ∷ cs) = (0 < length c.1) × AllFilled cs
-
--- what is so of a package of plain objects of this encoding
+-- what is so of a package of plain objects of this encoding; of its units some stand in info
 pub record IsPlain (encoding : Encoding) (made : InProgress) : Type 0 where
   pub named : HasNamedParts made
   pub offsets : HasTiledOffsets encoding made
   pub units : HasNamedUnits encoding made
-  pub filled : AllFilled made.file.contents
+  pub info : 0 < length made.rows → 0 < length (content_of Info made.file.contents)
 
 -- so is a builder's package, where its inputs have one encoding
 pub record HoldsPlain (state : State) : Type 0 where

@@ -11,6 +11,7 @@ ghost use Rattle.thorin_builder.specs.Meaning.{keys};
 ghost use Rattle.thorin_builder.specs.Represents.{units_in};
 ghost use Rattle.thorin_builder.specs.Missing.{missing_left};
 ghost use Rattle.thorin_builder.specs.Own.{packs_again};
+ghost use Rattle.thorin_builder.specs.OwnAccepted.{IsAcceptedByNewOnceWritten};
 ghost use Rattle.thorin_builder.specs.OwnAccepted.{IsAcceptedOnceWritten};
 ghost use Rattle.thorin_builder.specs.OwnUnits.{HasOneEncoding};
 ghost use Rattle.thorin_builder.specs.StateView.{begun_of};
@@ -27,7 +28,9 @@ use crate::joins::inputs_are_joined;
 use crate::laws::finished_packages_are_read;
 use crate::missing::MissingTargets;
 use crate::own::one_encoding_is_kept;
-use crate::plain::{own_packages_are_accepted, plain_packages_are_kept};
+use crate::plain::{
+    own_packages_are_accepted, own_packages_are_accepted_by_a_new_one, plain_packages_are_kept,
+};
 use crate::reader::InputReader;
 use dwp_bytes::RelocationEntry;
 use dwp_dwarf::Encoding;
@@ -350,9 +353,10 @@ impl<'output, 'session: 'output, Sess: Session<RelocationEntry>> DwarfPackage<
         }
     }
 
-    /// The object to be written. Where `packs_again` was true, the written bytes are an input of any
-    /// package of their byte order and of a new one, unless a compilation unit is there already
-    /// (`DuplicateUnit`) or the offset of a string doesn't fit (`NumberTooLarge`).
+    /// The object to be written. Where `packs_again` was true, the written bytes are an input of a
+    /// new package, which has the same units then, and of any package of their byte order, unless a
+    /// compilation unit is there already (`DuplicateUnit`) or the offset of a string doesn't fit
+    /// (`NumberTooLarge`).
     ///
     /// # Errors
     /// `MissingReferencedUnit` for the first unit that an executable refers to and that isn't
@@ -364,6 +368,7 @@ impl<'output, 'session: 'output, Sess: Session<RelocationEntry>> DwarfPackage<
         ensures finished { IfOk result (IsFinishedState self.entry.state) }
         ensures packaged { IfOk result (IsPackageOnceWritten (units_in self.entry.state)) }
         ensures accepted { IfOk result (IsAcceptedOnceWritten self.entry.state) }
+        ensures accepted_by_new { IfOk result (IsAcceptedByNewOnceWritten self.entry.state) }
     {
         let (file, _differing) = self.finish_with_differing();
         file
@@ -377,6 +382,7 @@ impl<'output, 'session: 'output, Sess: Session<RelocationEntry>> DwarfPackage<
         ensures finished { IfOk result.0 (IsFinishedState self.entry.state) }
         ensures packaged { IfOk result.0 (IsPackageOnceWritten (units_in self.entry.state)) }
         ensures accepted { IfOk result.0 (IsAcceptedOnceWritten self.entry.state) }
+        ensures accepted_by_new { IfOk result.0 (IsAcceptedByNewOnceWritten self.entry.state) }
         ensures differing { map (λ s. s.0) result.1.items ≡ spec.differing_in self.entry.state }
     {
         let DwarfPackage {
@@ -394,6 +400,7 @@ impl<'output, 'session: 'output, Sess: Session<RelocationEntry>> DwarfPackage<
         };
         finished_packages_are_read();
         own_packages_are_accepted();
+        own_packages_are_accepted_by_a_new_one();
         let tested = test_targets(contained, &targets);
         match (tested, in_progress) {
             (Ok(()), Some(package)) => package.finish(),

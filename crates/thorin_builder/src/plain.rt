@@ -20,6 +20,9 @@ ghost use Rattle.thorin_builder.specs.Plain.{HoldsPlain, IsPlain};
 ghost use Rattle.thorin_builder.specs.Represents.{IsSoundBegun};
 ghost use Rattle.thorin_builder.specs.State.{InProgress, adding};
 
+use crate::again::written_packages_mean_their_units;
+use crate::joins::inputs_are_joined;
+use crate::laws::finished_packages_are_read;
 use dwp_dwarf::laws::units_have_all_bytes;
 use dwp_index::laws::{contents_are_read, units_are_read_alone};
 use dwp_table::laws::look_up_finds_exactly;
@@ -30,9 +33,9 @@ use thorin_strings::laws::rewritten_offsets_name_the_same;
 /// The law of plain packages: where the inputs of a builder have one encoding, each section that
 /// units share and that has bytes has a part that a row names; the ranges of string offsets that
 /// rows have fill their section, one directly behind the other, each with whole entries under a
-/// header of its own (DWARF 5, 7.26); and each unit, read of its own bytes alone, has the encoding,
-/// and by its row's abbreviations its row's name. An input that is taken keeps that so. It does
-/// nothing.
+/// header of its own (DWARF 5, 7.26), and their entries in order name the package's strings in the
+/// order of these; and each unit, read of its own bytes alone, has the encoding, and by its row's
+/// abbreviations its row's name. An input that is taken keeps that so. It does nothing.
 pub fn plain_packages_are_kept()
     ensures { (bytes : List ℕ) (old new : State) → IsSoundBegun old.begun → HoldsPlain old
         → taken bytes old ≡ Ok new → HoldsPlain new }
@@ -111,8 +114,9 @@ pub fn own_packages_are_accepted()
 }
 
 /// The law of own packages in a new one: where `packs_again` is true of a builder, and its package
-/// is finished and written, the written bytes are taken by a new package, unless the offset of a
-/// string doesn't fit the format: no compilation unit stands in them twice. It does nothing.
+/// is finished and written, the written bytes are taken by a new package: no compilation unit
+/// stands in them twice, and its strings get just the offsets that they have there. It has the same
+/// units then, in some order, and what is packed of it alone answers as they do. It does nothing.
 pub fn own_packages_are_accepted_by_a_new_one()
     ensures { (state : State) (file : Object)
         → IsSoundBegun state.begun
@@ -130,4 +134,7 @@ pub fn own_packages_are_accepted_by_a_new_one()
     written_index_is_read();
     written_index_has_the_entries();
     contents_are_read();
+    inputs_are_joined();
+    written_packages_mean_their_units();
+    finished_packages_are_read();
 }
