@@ -4,6 +4,7 @@ ghost use Rattle.std.specs.Prelude.{◌≡◌, length, take, map, OnOk, OnErr, I
 ghost use Rattle.dwp_base.specs.declared.section.SectionKind.TheVariants.{Str};
 ghost use Rattle.dwp_elf.specs.FileText.{Object};
 ghost use Rattle.thorin_faults.specs.Answers.{Gives};
+ghost use Rattle.thorin_strings.specs.Known.{AreKnown};
 ghost use Rattle.thorin_builder.specs.Growing.{IsGrown, with_parts};
 ghost use Rattle.thorin_builder.specs.Parts as spec;
 ghost use Rattle.thorin_builder.specs.Used.{first};
@@ -18,7 +19,7 @@ use dwp_elf::WritableObject;
 use std::alloc::Global;
 use thorin_faults::Error;
 use thorin_packaged::remap_packaged_offsets;
-use thorin_strings::PackageStringTable;
+use thorin_strings::{PackageStringTable, Repeats};
 
 /// The bytes of a part: those of the input, or string offsets that were rewritten.
 #[derive(Drop)]
@@ -104,14 +105,18 @@ fn rewritten(
     named: &[u8],
     bytes: &[u8],
     strings: &mut PackageStringTable,
+    repeats: &mut Repeats,
 ) -> Result<Vec<u8>, Error>
-    requires { named.now ≡ first Str (view.source source.now).object.sections }
+    requires named { named.now ≡ first Str (view.source source.now).object.sections }
+    requires known { AreKnown named.now strings.old repeats.old }
     ensures meaning { Gives (λ written. (written.items, strings.new)) result
         (spec.rewritten (view.source source.now) bytes.now strings.old) }
     ensures kept { take (length strings.old) strings.new ≡ strings.old }
+    ensures known { AreKnown named.now strings.new repeats.new }
 {
     let object = &source.object;
     if source.indexes.is_package() {
+        repeats.clear();
         remap_packaged_offsets(
             alloc,
             strings,
@@ -124,7 +129,7 @@ fn rewritten(
         )
     } else {
         let size = bytes.len() as u64;
-        strings.remap_str_offsets_section(named, bytes, size, object.order, source.encoding)
+        strings.remap_repeating(repeats, named, bytes, size, object.order, source.encoding)
     }
 }
 
@@ -137,19 +142,22 @@ fn add_offsets<'a>(
     named: &[u8],
     bytes: &[u8],
     strings: &mut PackageStringTable,
+    repeats: &mut Repeats,
 ) -> Result<(), Error>
-    requires { named.now ≡ first Str (view.source source.now).object.sections }
+    requires named { named.now ≡ first Str (view.source source.now).object.sections }
+    requires known { AreKnown named.now strings.old repeats.old }
     ensures meaning { Gives (λ _. (map view.part parts.new.items, strings.new)) result
         (spec.with_offsets (view.source source.now) (
           map view.part parts.old.items,
           strings.old,
         ) bytes.now) }
     ensures kept { take (length strings.old) strings.new ≡ strings.old }
+    ensures known { AreKnown named.now strings.new repeats.new }
 {
     if !source.object.has_strings {
         return Err(Error::MissingRequiredSection(SectionKind::Str.name()));
     }
-    let written = rewritten(alloc, source, named, bytes, strings)?;
+    let written = rewritten(alloc, source, named, bytes, strings, repeats)?;
     parts.push(Part {
         kind: SectionKind::StrOffsets,
         bytes: PartBytes::Rewritten(written),
@@ -167,14 +175,17 @@ fn add_part<'a>(
     named: &[u8],
     section: UsedSection<'a>,
     strings: &mut PackageStringTable,
+    repeats: &mut Repeats,
 ) -> Result<(), Error>
-    requires { named.now ≡ first Str (view.source source.now).object.sections }
+    requires named { named.now ≡ first Str (view.source source.now).object.sections }
+    requires known { AreKnown named.now strings.old repeats.old }
     ensures meaning { Gives (λ _. (map view.part parts.new.items, strings.new)) result
         (spec.with_part (view.source source.now) (
           map view.part parts.old.items,
           strings.old,
         ) (view.used section.entry)) }
     ensures kept { take (length strings.old) strings.new ≡ strings.old }
+    ensures known { AreKnown named.now strings.new repeats.new }
 {
     if stands_once(source, section.kind) && has_part(parts, section.kind) {
         return Err(Error::RepeatedSection(section.kind.name()));
@@ -183,7 +194,7 @@ fn add_part<'a>(
         return Err(Error::SectionOutsideFormat(section.kind.name()));
     }
     if section.kind.is(SectionKind::StrOffsets) {
-        return add_offsets(alloc, parts, source, named, section.bytes, strings);
+        return add_offsets(alloc, parts, source, named, section.bytes, strings, repeats);
     }
     if is_copied(section.kind) {
         parts.push(Part {
@@ -210,8 +221,17 @@ pub(crate) fn parts_of<'a>(
     let mut parts = Vec::new(alloc);
     // Looked for once: an input may have many sections of string offsets.
     let named = source.object.first(SectionKind::Str);
+    let mut repeats = Repeats::new(alloc);
     for section in &source.object.sections {
-        add_part(alloc, &mut parts, source, named, *section, strings)?;
+        add_part(
+            alloc,
+            &mut parts,
+            source,
+            named,
+            *section,
+            strings,
+            &mut repeats,
+        )?;
     }
     Ok(parts)
 }

@@ -1,4 +1,5 @@
 use Rattle.std.proofs.Common.{◌≡◌, map, drop, take, length}
+use Rattle.thorin_strings.specs.Known.{AreKnown}
 use Rattle.thorin_builder.specs.Parts.{with_each_part, parts_of}
 use Rattle.thorin_builder.specs.View.{part, used, source}
 use Rattle.thorin_builder.proofs.parts.parts_of.Given as goal
@@ -9,3 +10,4 @@ invariant-loop-section l =
     (with_each_part (source l.source) (map part l.parts.items, l.strings) (map used (drop l.section-index l.source.object.sections.items))
     ≡ parts_of (source l.source) l.fn.strings)
     × (take (length l.fn.strings) l.strings ≡ l.fn.strings)
+    × AreKnown l.named l.strings l.repeats
