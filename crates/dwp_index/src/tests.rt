@@ -218,6 +218,15 @@ fn a_package_of_one_unit(rt: HostRuntime) -> Result<(), Fail> {
 }
 
 #[test]
+fn the_first_byte_of_a_unit(rt: HostRuntime) -> Result<(), Fail> {
+    let package = PackageFile::parse(&PACKAGE)?;
+    assert_eq!(rt; package.first_byte(UNIT), Some(0x10));
+    let of_types = DwarfObject::TypeUnit(DebugTypeSignature(5));
+    assert_eq!(rt; package.first_byte(of_types), None);
+    Ok(())
+}
+
+#[test]
 fn damaged_packages(rt: HostRuntime) -> Result<(), Fail> {
     let mut other = PACKAGE;
     other[117] = 7;
