@@ -29,23 +29,23 @@ use Rattle.thorin_faults.specs.Fault.{Fault, ParseUnitHeader, NotSplitUnit, NoCo
 use Rattle.thorin_identity.specs.Identity.{identity}
 use Rattle.thorin_parts.specs.declared.entry.IndexEntry.{IndexEntry}
 use Rattle.thorin_builder.specs.Encodings.{first_encoding, encoding_of}
-use Rattle.thorin_builder.specs.Growing.{Contents, with_parts, joined_parts}
-use Rattle.thorin_builder.specs.Indexes.{Source, is_package}
+use Rattle.thorin_builder.specs.Growing.{joined_parts}
+use Rattle.thorin_builder.specs.Indexes.{Source}
 use Rattle.thorin_builder.specs.Laid.{type_signature, name_signature}
-use Rattle.thorin_builder.specs.Meaning.{UnitRead, keys, named_unit, named_each, named_at, named_sections, source_units, joining}
+use Rattle.thorin_builder.specs.Meaning.{UnitRead, keys, named_unit, named_each, named_at, named_sections, joining}
 use Rattle.thorin_builder.specs.Names.{same_name}
 use Rattle.thorin_builder.specs.NewUnits.{Adding, NewUnit, place_for, name_for, unit_section}
-use Rattle.thorin_builder.specs.Parts.{Parts, is_in_format, is_copied, with_offsets, has_part, stands_once, with_part, with_each_part, parts_of}
+use Rattle.thorin_builder.specs.Parts.{Parts, is_in_format, has_part, stands_once, with_part, with_each_part}
 use Rattle.thorin_builder.specs.Rows.{abbreviations_for}
 use Rattle.thorin_builder.specs.State.{InProgress, kind_at, names_of, held_units, adding, with_unit_added, with_new_unit, with_new_units, with_source}
 use Rattle.thorin_builder.specs.Used.{Used, has_kind, bytes_of, first}
 use Rattle.thorin_builder.proofs.Apart.{same_name-self, same_name-true}
 use Rattle.thorin_builder.proofs.HeadersRead.{ReadAlone, newer-five, no_header}
 use Rattle.thorin_builder.proofs.IdentitySort.{identity-sort}
-use Rattle.thorin_builder.proofs.Joining.{IsAdded, AreAdded, added-keys}
+use Rattle.thorin_builder.proofs.Joining.{AreAdded, added-keys}
 use Rattle.thorin_builder.proofs.LaidKept.{AllCanLie, all-can-lie}
-use Rattle.thorin_builder.proofs.PartGrowth.{either, same-kind, content-with_bytes, content-with_parts}
-use Rattle.thorin_builder.proofs.RowsNamed.{each-unit, plain-added}
+use Rattle.thorin_builder.proofs.PartGrowth.{same-kind, content-with_bytes, content-with_parts}
+use Rattle.thorin_builder.proofs.RowsNamed.{plain-added}
 use Rattle.thorin_builder.proofs.SourceAdded.{with_all_parts, keys-held}
 use Rattle.thorin_builder.proofs.Steps.{err-ok, ok-eq, bind-inv, by-choice}
 use Rattle.thorin_builder.proofs.UnitsAdded.{names-added}

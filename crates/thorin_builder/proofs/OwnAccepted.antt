@@ -1,7 +1,7 @@
 -- A written package of plain objects of one encoding is accepted.
-use Rattle.std.proofs.Common.{◌≡◌, ◌∙◌, ℕ, ◌+◌, ◌<◌, Bool, true, false, cond, eqb, not, ◌&&◌, List, [], ◌∷◌, ◌++◌, length, refl, sym, ap, subst, Result, Ok, Err, Option, Some, None, arith, true≢false, ◌||◌, inl, ⊎_elim, length-append}
+use Rattle.std.proofs.Common.{◌≡◌, ◌∙◌, ℕ, ◌+◌, ◌<◌, Bool, true, false, cond, eqb, not, ◌&&◌, List, [], ◌∷◌, ◌++◌, length, refl, sym, ap, subst, Result, Ok, Err, Option, Some, None, arith, true≢false, ◌||◌, inl, length-append}
 use Rattle.std.specs.Prelude.{nat_lt, is_some}
-use Rattle.std.proofs.lemmas.Bool.{eqb-true, eqb-false, ltb-true, lt-ltb}
+use Rattle.std.proofs.lemmas.Bool.{eqb-false, ltb-true, lt-ltb}
 use Rattle.std.proofs.lemmas.List.{length-map}
 use Rattle.std.proofs.lemmas.Option.{same_Some}
 use Rattle.dwp_base.specs.Reading.{◌>>=◌}
@@ -14,25 +14,25 @@ use Rattle.dwp_dwarf.specs.declared.unit.UnitSection.TheVariants as places
 use Rattle.dwp_elf.specs.Contents.{KindsDiffer, content_of}
 use Rattle.dwp_elf.specs.FileText.{Object as File, file_text}
 use Rattle.dwp_elf.specs.Written.{written_elf}
-use Rattle.dwp_elf_read.specs.Elf.{Elf, elf_of}
+use Rattle.dwp_elf_read.specs.Elf.{elf_of}
 use Rattle.thorin_faults.specs.Fault.{Fault, MissingRequiredSection}
 use Rattle.thorin_parts.specs.IndexText.{is_used}
 use Rattle.thorin_strings.specs.Strings.{IsTable, data_of}
-use Rattle.thorin_builder.specs.Builder.{State, IsFinished, IsFinishedState, finish_test, order_of, own_after, package_or_new, with_source_or_new, with_units, with_input, taken}
+use Rattle.thorin_builder.specs.Builder.{State, IsFinished, IsFinishedState, finish_test, order_of, package_or_new, with_source_or_new, with_input, taken}
 use Rattle.thorin_builder.specs.Encodings.{encoding_of, one_encoding, file_encoding, own_encoding}
 use Rattle.thorin_builder.specs.Growing.{Contents}
 use Rattle.thorin_builder.specs.Indexes.{Indexes, Source, is_package, indexes_of}
-use Rattle.thorin_builder.specs.NewUnits.{New, new_units}
+use Rattle.thorin_builder.specs.NewUnits.{new_units}
 use Rattle.thorin_builder.specs.Own.{has_content, has_sections, packs_again}
 use Rattle.thorin_builder.specs.OwnAccepted.{IsAcceptedOnceWritten}
-use Rattle.thorin_builder.specs.OwnInput.{written_used, written_object, IsOwn, TakesUpToParts, TakesParts}
-use Rattle.thorin_builder.specs.OwnRefusals.{IsStringOffset, UnlessStringOffset, IsForeseen, UnlessForeseen}
+use Rattle.thorin_builder.specs.OwnInput.{written_used, written_object, IsOwn, TakesParts}
+use Rattle.thorin_builder.specs.OwnRefusals.{UnlessStringOffset, UnlessForeseen}
 use Rattle.thorin_builder.specs.OwnUnits.{AllOf, HoldsOwn}
 use Rattle.thorin_builder.specs.Parts.{Parts, is_in_format, is_copied, rewritten, with_offsets, with_part, with_each_part, parts_of}
 use Rattle.thorin_builder.specs.Plain.{is_shared, IsPlain, HoldsPlain}
 use Rattle.thorin_builder.specs.Represents.{IsSound, IsSoundBegun, units_of, units_begun}
-use Rattle.thorin_builder.specs.State.{InProgress, adding, abbreviations_test, with_all, with_source}
-use Rattle.thorin_builder.specs.Used.{Used, opened, has_info, object_of}
+use Rattle.thorin_builder.specs.State.{InProgress, adding, abbreviations_test, with_source}
+use Rattle.thorin_builder.specs.Used.{Used, opened, object_of}
 use Rattle.thorin_builder.proofs.IndexesRead.{IndexIsRead, IndexHasEntries, SomeIndex, NoIndex}
 use Rattle.thorin_builder.proofs.InputJoined.{new-sound}
 use Rattle.thorin_builder.proofs.OwnFirst.{own-first}
@@ -45,7 +45,7 @@ use Rattle.thorin_builder.proofs.OwnSections.{rest-differ, object-written, opene
 use Rattle.thorin_builder.proofs.OwnRanges.{then-unless}
 use Rattle.thorin_builder.proofs.OwnUnitsGiven.{own-units}
 use Rattle.thorin_builder.proofs.OwnUnitsTaken.{then-foreseen}
-use Rattle.thorin_builder.proofs.PartGrowth.{either, no-bytes, same-kind, is-rewritten}
+use Rattle.thorin_builder.proofs.PartGrowth.{same-kind, is-rewritten}
 use Rattle.thorin_builder.proofs.PartLaws.{NamesTheSameLaw, PackagedLaw}
 use Rattle.thorin_builder.proofs.RowAgain.{FirstLaw, FindLaw}
 use Rattle.thorin_builder.proofs.Steps.{bind-ok}

@@ -1,18 +1,15 @@
 -- A written package of plain objects of one encoding is accepted by a new package.
-use Rattle.std.proofs.Common.{◌≡◌, ◌∙◌, ℕ, List, ◌<◌, true, false, cond, eqb, [], length, refl, sym, ap, subst, Result, Ok, Option, Some, None, arith, ⊎_elim}
+use Rattle.std.proofs.Common.{◌≡◌, ◌∙◌, ℕ, List, true, [], refl, sym, ap, subst, Ok, Option, Some, None}
 use Rattle.std.specs.List.{IsDistinct}
 use Rattle.dwp_base.specs.declared.section.SectionKind.TheVariants as kinds
 use Rattle.dwp_bytes.specs.declared.encoding.Encoding.{Encoding}
 use Rattle.dwp_dwarf.specs.Units.{UnitsAreTaken}
-use Rattle.dwp_elf.specs.Contents.{content_of}
 use Rattle.dwp_elf.specs.FileText.{Object as File, file_text}
 use Rattle.dwp_elf.specs.Written.{written_elf}
-use Rattle.dwp_elf_read.specs.Elf.{elf_of}
-use Rattle.thorin_faults.specs.Fault.{Fault}
 use Rattle.thorin_strings.specs.Strings.{IsTable}
 use Rattle.thorin_builder.specs.Again.{HaveEncodingOf, MeansOnceWritten, input_encoding}
-use Rattle.thorin_builder.specs.Builder.{State, start, begun_by, own_after, IsFinishedState, finish_test, package_or_new, with_source_or_new, with_units, with_input, taken}
-use Rattle.thorin_builder.specs.Encodings.{one_encoding, file_encoding, own_encoding}
+use Rattle.thorin_builder.specs.Builder.{State, start, begun_by, own_after, IsFinishedState, finish_test, with_source_or_new, with_input, taken}
+use Rattle.thorin_builder.specs.Encodings.{one_encoding, own_encoding}
 use Rattle.thorin_builder.specs.Indexes.{Indexes, Source, is_package, indexes_of}
 use Rattle.thorin_builder.specs.Join.{Joins, IsPackageOnceWritten}
 use Rattle.thorin_builder.specs.Meaning.{Meaning, pieces_by, keys}
@@ -35,7 +32,6 @@ use Rattle.thorin_builder.proofs.OwnSections.{opened-elf, object-written}
 use Rattle.thorin_builder.proofs.OwnAccepted.{abbreviations-tested, parts-alone, own-read, own-written}
 use Rattle.thorin_builder.proofs.OwnAlone.{apart-distinct, taken-input, alone-units, alone-answers}
 use Rattle.thorin_builder.proofs.OwnUnitsAlone.{own-units-new}
-use Rattle.thorin_builder.proofs.PartGrowth.{either, no-bytes}
 use Rattle.thorin_builder.proofs.PartLaws.{NamesTheSameLaw, PackagedLaw}
 use Rattle.thorin_builder.proofs.RowAgain.{FirstLaw, FindLaw}
 use Rattle.thorin_builder.proofs.Steps.{bind-ok}

@@ -1,11 +1,10 @@
 -- The ranges of string offsets that the rows of a written package have are all that fill its section, in their order.
-use Rattle.std.proofs.Common.{◌≡◌, ◌∙◌, ℕ, zero, suc, ◌+◌, ◌<◌, ◌≤◌, Bool, true, false, cond, eqb, not, ◌⊎◌, inl, inr, ⊎_elim, List, [], ◌∷◌, length, map, refl, sym, ap, subst, Result, Ok, Option, Some, None, arith, true≢false}
-use Rattle.std.specs.Prelude.{slice_get, filter}
+use Rattle.std.proofs.Common.{◌≡◌, ◌∙◌, ℕ, zero, suc, ◌+◌, ◌<◌, Bool, true, false, cond, eqb, not, ◌⊎◌, inl, inr, ⊎_elim, List, [], ◌∷◌, length, map, refl, sym, ap, subst, Ok, Option, Some, None, arith, true≢false}
+use Rattle.std.specs.Prelude.{slice_get}
 use Rattle.std.specs.List.{range_with_len}
 use Rattle.std.specs.Option.{option_and_then}
 use Rattle.std.specs.Result.{result_ok}
 use Rattle.std.specs.BTreeSet.{insert_key}
-use Rattle.std.specs.Ordering.{match_ordering}
 use Rattle.std.specs.declared.cmp.Ordering.{Ordering}
 use Rattle.std.specs.declared.cmp.Ordering.TheVariants.{Less, Equal, Greater}
 use Rattle.std.proofs.lemmas.Option.{none-some, same_Some}
@@ -14,7 +13,7 @@ use Rattle.dwp_base.specs.declared.endian.Endianness.{Endianness}
 use Rattle.dwp_base.specs.declared.section.Contribution.{Contribution}
 use Rattle.dwp_base.specs.declared.section.SectionKind.TheVariants.{StrOffsets}
 use Rattle.dwp_bytes.specs.declared.encoding.Encoding.{Encoding}
-use Rattle.dwp_index.specs.Index.{Index, Ranges, row_in, range_in}
+use Rattle.dwp_index.specs.Index.{Index, range_in}
 use Rattle.thorin_packaged.specs.PackagedOffsets.{place_cmp, with_ranges, with_rows, offset_ranges, ranges_test, rewritten_from, packaged_offsets}
 use Rattle.thorin_packaged.specs.RowPlaces.{range_of_row, ranges_of}
 use Rattle.thorin_parts.specs.Entries.{contribution_to}
@@ -22,7 +21,7 @@ use Rattle.thorin_parts.specs.ReadRows.{non_empty, HasEntries}
 use Rattle.thorin_parts.specs.declared.entry.IndexEntry.{IndexEntry}
 use Rattle.thorin_builder.specs.Builder.{is_chosen, rows_of}
 use Rattle.thorin_builder.specs.Names.{is_compilation}
-use Rattle.thorin_builder.specs.Plain.{IsWholeRange, Tile, IsAmong, HasOneOf, IsOfSome}
+use Rattle.thorin_builder.specs.Plain.{Tile, IsAmong, HasOneOf, IsOfSome}
 use Rattle.thorin_builder.specs.StandApart.{EachRow}
 use Rattle.thorin_builder.proofs.IndexesRead.{HasRows}
 use Rattle.thorin_builder.proofs.OffsetsAgain.{InTurn}

@@ -1,5 +1,5 @@
 -- A builder's package stays one of plain objects of one encoding.
-use Rattle.std.proofs.Common.{◌≡◌, ◌∙◌, ℕ, true, List, [], length, refl, sym, ap, subst, Ok, Some, arith}
+use Rattle.std.proofs.Common.{◌≡◌, ◌∙◌, ℕ, true, List, [], refl, sym, ap, subst, Ok, arith}
 use Rattle.std.specs.List.{list_all}
 use Rattle.std.proofs.lemmas.Option.{same_Some}
 use Rattle.dwp_base.specs.declared.class.Class.{Class}
@@ -11,7 +11,7 @@ use Rattle.thorin_builder.specs.Builder.{State, taken}
 use Rattle.thorin_builder.specs.Encodings.{section_has}
 use Rattle.thorin_builder.specs.Plain.{HasTiledOffsets, HasNamedUnits, IsPlain, HoldsPlain}
 use Rattle.thorin_builder.specs.Represents.{IsSound, IsSoundBegun}
-use Rattle.thorin_builder.specs.State.{InProgress, empty}
+use Rattle.thorin_builder.specs.State.{empty}
 use Rattle.thorin_builder.proofs.HeadersRead.{ReadAlone}
 use Rattle.thorin_builder.proofs.InfoThere.{info-there}
 use Rattle.thorin_builder.proofs.InputJoined.{empty-sound}

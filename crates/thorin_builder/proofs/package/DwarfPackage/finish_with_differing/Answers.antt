@@ -4,9 +4,6 @@ use Rattle.thorin_faults.specs.declared.fault.Error.{Error}
 use Rattle.thorin_faults.specs.Answers.{Gives}
 use Rattle.thorin_builder.specs.Builder.{State, finish_test, IsFinishedState}
 use Rattle.thorin_builder.specs.OwnAccepted.{IsAcceptedOnceWritten, IsAcceptedByNewOnceWritten}
-use Rattle.thorin_builder.specs.OwnUnits.{HoldsOwn}
-use Rattle.thorin_builder.specs.Plain.{HoldsPlain}
-use Rattle.thorin_builder.specs.Represents.{IsSoundBegun}
 use Rattle.thorin_builder.specs.StateView.{begun_of}
 use Rattle.thorin_builder.proofs.package.DwarfPackage.finish_with_differing.Goals as goal
 
