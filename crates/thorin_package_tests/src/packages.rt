@@ -12,8 +12,8 @@ use std::test::Fail;
 use thorin::DwarfPackage;
 use thorin_faults::{Error, MemorySession};
 use thorin_objects::{
-    ABBREVIATIONS, SPLIT_TYPE, cu, has_unit, object, plain, slots_read, split_unit, tu, unit,
-    unit_count, unit_range,
+    ABBREVIATIONS, SPLIT_TYPE, cu, has_unit, joined, object, plain, slots_read, split_unit, tu,
+    unit, unit_count, unit_range,
 };
 
 /// The unit 9, whose identifier has 2 bytes, and its abbreviation.
@@ -66,15 +66,13 @@ pub fn index(
 /// other way; where it has the type unit 0x11, that one stands between and has the abbreviations of
 /// 0xa.
 fn turned(alloc: Global, has_types: bool) -> Result<Vec<u8>, Fail> {
-    let mut info = split_unit(0xb).to_vec(alloc)?;
-    let mut a_place = 20;
-    let mut types = Vec::new(alloc);
-    if has_types {
-        info.extend_from_slice(&SPLIT_TYPE)?;
-        a_place = 44;
-        types = index(alloc, 5, &[(0, 0), (0x11, 1)], &[[(20, 24), (0, 0x10)]])?;
-    }
-    info.extend_from_slice(&split_unit(0xa))?;
+    let (a, b) = (split_unit(0xa), split_unit(0xb));
+    let (info, a_place, types) = if has_types {
+        let types = index(alloc, 5, &[(0, 0), (0x11, 1)], &[[(20, 24), (0, 0x10)]])?;
+        (joined(alloc, &[&b, &SPLIT_TYPE, &a])?, 44, types)
+    } else {
+        (joined(alloc, &[&b, &a])?, 20, Vec::new(alloc))
+    };
     let units = index(
         alloc,
         5,
@@ -95,8 +93,7 @@ fn turned(alloc: Global, has_types: bool) -> Result<Vec<u8>, Fail> {
 #[test]
 fn rows_keep_their_ranges_in_any_order(rt: HostRuntime) -> Result<(), Fail> {
     let alloc = rt.alloc();
-    let mut info = split_unit(7).to_vec(alloc)?;
-    info.extend_from_slice(&SPLIT_TYPE)?;
+    let info = joined(alloc, &[&split_unit(7), &SPLIT_TYPE])?;
     let first = object(
         alloc,
         &[
@@ -131,10 +128,8 @@ fn rows_keep_their_ranges_in_any_order(rt: HostRuntime) -> Result<(), Fail> {
 #[test]
 fn units_are_named_by_their_rows_abbreviations(rt: HostRuntime) -> Result<(), Fail> {
     let alloc = rt.alloc();
-    let mut info = unit(5).to_vec(alloc)?;
-    info.extend_from_slice(&NINE)?;
-    let mut abbreviations = ABBREVIATIONS.to_vec(alloc)?;
-    abbreviations.extend_from_slice(&OF_NINE)?;
+    let info = joined(alloc, &[&unit(5), &NINE])?;
+    let abbreviations = joined(alloc, &[&ABBREVIATIONS, &OF_NINE])?;
     let units = index(
         alloc,
         2,
