@@ -168,8 +168,8 @@ impl PackageStringTable {
         )
     }
 
-    /// `remap_str_offsets_section` of one of the ranges whose strings stand in one section. What is
-    /// remembered of that section's long strings is read once for all of them.
+    /// The same of one of many ranges that name strings of one section: a long one is read once for
+    /// all of them. What is remembered is of that section and of this table.
     ///
     /// # Errors
     /// Those of `remap_str_offsets_section`; then nothing is remembered.
