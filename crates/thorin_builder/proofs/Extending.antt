@@ -8,7 +8,7 @@ use Rattle.thorin_builder.specs.Indexes.{Source}
 use Rattle.thorin_builder.specs.NewUnits.{New, new_units}
 use Rattle.thorin_builder.specs.Parts.{parts_of}
 use Rattle.thorin_builder.specs.State.{InProgress, Extends, with_source, with_all, with_new_units, abbreviations_test, adding}
-use Rattle.thorin_builder.specs.Used.{Object}
+use Rattle.thorin_builder.specs.Used.{InputFile}
 use Rattle.thorin_builder.proofs.Growth.{is_grown-refl}
 use Rattle.thorin_builder.proofs.Steps.{bind-ok}
 
@@ -42,7 +42,7 @@ pub extends-with : (before p : InProgress) (f : File) (strings : List (List ℕ)
     → Extends before (record p { file = f; strings = strings; differing = differing })
 extends-with before p f strings differing hf hs hd hr = record { file = hf; strings = hs; rows = hr; differing = hd }
 
-abbreviations-there : (object : Object) → object.has_abbreviations ≡ true → abbreviations_test object ≡ Ok tt
+abbreviations-there : (object : InputFile) → object.has_abbreviations ≡ true → abbreviations_test object ≡ Ok tt
 unfolding abbreviations_test
 abbreviations-there object h = rw h
 

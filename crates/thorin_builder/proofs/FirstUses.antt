@@ -37,7 +37,7 @@ use Rattle.thorin_builder.specs.Parts.{Parts, rewritten, with_part, with_each_pa
 use Rattle.thorin_builder.specs.Represents.{IsSound}
 use Rattle.thorin_builder.specs.State.{InProgress, names_of, adding, abbreviations_test, with_unit_added, with_new_unit, with_new_units, with_all, with_source}
 use Rattle.thorin_builder.specs.Strings.{each_from, offset_of_entry, offsets_in, strings_at, strings_of}
-use Rattle.thorin_builder.specs.Used.{Used, Object, opened, has_info, object_of, first}
+use Rattle.thorin_builder.specs.Used.{Used, InputFile, opened, has_info, input_file_of, first}
 use Rattle.thorin_builder.proofs.PartGrowth.{Adds, step}
 use Rattle.thorin_builder.proofs.Steps.{ok-eq, bind-ok, bind-inv}
 
@@ -274,7 +274,7 @@ record Uses (r : Result (List (List ℕ)) Fault) (before : List (List ℕ)) (now
 units-used : (file : Elf) (begun now : Option InProgress) → with_units file begun ≡ Ok now → Uses (named_in_file file) (strings_begun begun) now
 unfolding with_units with_source_or_new named_in_file
 units-used file begun now h =
-    let s1 = bind-inv (object_of file) _ now h in
+    let s1 = bind-inv (input_file_of file) _ now h in
     let s2 = bind-inv (encoding_of s1.0) _ now s1.2 in
     let s3 = bind-inv (order_test s1.0.order begun) _ now s2.2 in
     let s4 = bind-inv (indexes_of s1.0 s2.0) _ now s3.2 in
@@ -282,7 +282,7 @@ units-used file begun now h =
     let s5 = bind-inv (with_source source (package_or_new file begun)) _ now s4.2 in
     record {
       used = named_in source s1.0.sections;
-      named = bind-ok (object_of file) s1.0 _ s1.1 ∙ bind-ok (encoding_of s1.0) s2.0 _ s2.1 ∙ bind-ok (indexes_of s1.0 s2.0) s4.0 _ s4.1;
+      named = bind-ok (input_file_of file) s1.0 _ s1.1 ∙ bind-ok (encoding_of s1.0) s2.0 _ s2.1 ∙ bind-ok (indexes_of s1.0 s2.0) s4.0 _ s4.1;
       strings = λ made is.
           ap (λ (n : InProgress). n.strings) (sym (same_Some _ _ (ok-eq {E = Fault} _ now s5.2 ∙ is)))
           ∙ source-named source (package_or_new file begun) s5.0 s5.1

@@ -19,7 +19,7 @@ use Rattle.thorin_builder.specs.Laid.{IsLaid}
 use Rattle.thorin_builder.specs.Meaning.{Meaning, Members, source_meaning, object_meaning, input_meaning}
 use Rattle.thorin_builder.specs.Represents.{Represents, AreApart, IsSound, IsSoundBegun, units_of, units_begun}
 use Rattle.thorin_builder.specs.State.{InProgress, empty, names_of, with_source}
-use Rattle.thorin_builder.specs.Used.{Object, opened, has_info, object_of, used_from}
+use Rattle.thorin_builder.specs.Used.{InputFile, opened, has_info, input_file_of, used_from}
 use Rattle.thorin_builder.proofs.Apart.{apart-none}
 use Rattle.thorin_builder.proofs.HeadersRead.{ReadAlone, ReadAnywhere}
 use Rattle.thorin_builder.proofs.PartsMean.{PartsLaw}
@@ -42,13 +42,13 @@ tested-order : (order : Endianness) (begun : Option InProgress) → order_test o
 unfolding order_test
 tested-order order begun h = order-eq (order_of begun order) order (order-cond (same_order (order_of begun order) order) h)
 
-object-order : (file : Elf) (object : Object) → object_of file ≡ Ok object → object.order ≡ file.order
-unfolding object_of
+object-order : (file : Elf) (object : InputFile) → input_file_of file ≡ Ok object → object.order ≡ file.order
+unfolding input_file_of
 object-order file object h =
     let s = bind-inv (used_from [] file.sections) _ object h in
-    sym (ap (λ (o : Object). o.order) (ok-eq _ object s.2))
+    sym (ap (λ (o : InputFile). o.order) (ok-eq _ object s.2))
 
-pub made-order : (file : Elf) (object : Object) (begun : Option InProgress) → object_of file ≡ Ok object → order_test object.order begun ≡ Ok tt → object.order ≡ (package_or_new file begun).file.order
+pub made-order : (file : Elf) (object : InputFile) (begun : Option InProgress) → input_file_of file ≡ Ok object → order_test object.order begun ≡ Ok tt → object.order ≡ (package_or_new file begun).file.order
 made-order file object None h t = object-order file object h
 made-order file object (Some made) h t = sym (tested-order object.order (Some made) t)
 
@@ -77,11 +77,11 @@ pub record InputKeeps (bytes : List ℕ) (begun now : Option InProgress) : Type 
   pub sound : IsSoundBegun now
   pub joins : Joins bytes (units_begun begun) (units_begun now)
 
-pub meaning-at : (bytes : List ℕ) (file : Elf) (b : Bool) → opened bytes ≡ Ok file → has_info file ≡ b → input_meaning bytes ≡ cond b (object_of file >>= object_meaning) (Ok [])
+pub meaning-at : (bytes : List ℕ) (file : Elf) (b : Bool) → opened bytes ≡ Ok file → has_info file ≡ b → input_meaning bytes ≡ cond b (input_file_of file >>= object_meaning) (Ok [])
 unfolding input_meaning
-meaning-at bytes file b h k = bind-ok (opened bytes) file _ h ∙ ap (λ e. cond e (object_of file >>= object_meaning) (Ok [])) k
+meaning-at bytes file b h k = bind-ok (opened bytes) file _ h ∙ ap (λ e. cond e (input_file_of file >>= object_meaning) (Ok [])) k
 
-pub object-means : (object : Object) (encoding : Encoding) (indexes : Indexes) (units : List (DwarfObject × Option Meaning)) → encoding_of object ≡ Ok encoding → indexes_of object encoding ≡ Ok indexes
+pub object-means : (object : InputFile) (encoding : Encoding) (indexes : Indexes) (units : List (DwarfObject × Option Meaning)) → encoding_of object ≡ Ok encoding → indexes_of object encoding ≡ Ok indexes
     → source_meaning (record { object = object; encoding = encoding; indexes = indexes }) ≡ Ok units → object_meaning object ≡ Ok units
 unfolding object_meaning
 object-means object encoding indexes units h k m = bind-ok (encoding_of object) encoding _ h ∙ bind-ok (indexes_of object encoding) indexes _ k ∙ m
@@ -94,7 +94,7 @@ units-keep : PartsLaw → RowsLaw → ReadAlone → ReadAnywhere → UnitsAreTak
     → IsSoundBegun begun → opened bytes ≡ Ok file → has_info file ≡ true → with_units file begun ≡ Ok now → InputKeeps bytes begun now
 unfolding with_units with_source_or_new
 units-keep parts_law rows_law alone anywhere reads bytes file begun now sound opens info h =
-    let s1 = bind-inv (object_of file) _ now h in
+    let s1 = bind-inv (input_file_of file) _ now h in
     let s2 = bind-inv (encoding_of s1.0) _ now s1.2 in
     let s3 = bind-inv (order_test s1.0.order begun) _ now s2.2 in
     let s4 = bind-inv (indexes_of s1.0 s2.0) _ now s3.2 in
@@ -111,7 +111,7 @@ units-keep parts_law rows_law alone anywhere reads bytes file begun now sound op
       joins = subst (λ n. Joins bytes (units_begun begun) (units_begun n)) is
           (subst (λ m. Joins bytes m (units_of s5.0)) was (record {
             units = j.units;
-            meaning = meaning-at bytes file true opens info ∙ bind-ok (object_of file) s1.0 _ s1.1 ∙ object-means s1.0 s2.0 s4.0 j.units s2.1 s4.1 j.meaning;
+            meaning = meaning-at bytes file true opens info ∙ bind-ok (input_file_of file) s1.0 _ s1.1 ∙ object-means s1.0 s2.0 s4.0 j.units s2.1 s4.1 j.meaning;
             defined = j.defined;
             added = j.added;
             joined = j.joined;

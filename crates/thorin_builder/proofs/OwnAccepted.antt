@@ -32,7 +32,7 @@ use Rattle.thorin_builder.specs.Parts.{Parts, is_in_format, is_copied, rewritten
 use Rattle.thorin_builder.specs.Plain.{is_shared, IsPlain, HoldsPlain}
 use Rattle.thorin_builder.specs.Represents.{IsSound, IsSoundBegun, units_of, units_begun}
 use Rattle.thorin_builder.specs.State.{InProgress, adding, abbreviations_test, with_source}
-use Rattle.thorin_builder.specs.Used.{Used, opened, object_of}
+use Rattle.thorin_builder.specs.Used.{Used, opened, input_file_of}
 use Rattle.thorin_builder.proofs.IndexesRead.{IndexIsRead, IndexHasEntries, SomeIndex, NoIndex}
 use Rattle.thorin_builder.proofs.InputJoined.{new-sound}
 use Rattle.thorin_builder.proofs.OwnFirst.{own-first}
@@ -229,7 +229,7 @@ module _ (names : NamesTheSameLaw) (law : PackagedLaw) (reads : UnitsAreTaken) (
   own-read =
       bind-ok (opened (file_text file)) (written_elf file) _ (opened-elf (file_text file) (written_elf file) own.read_back)
       ∙ ap (λ b. cond {A = Result (Option Encoding) Fault} b (file_encoding (written_elf file)) (Ok None)) (info-written file own.info)
-      ∙ bind-ok (object_of (written_elf file)) (written_object file) _ (object-written file own.kinds)
+      ∙ bind-ok (input_file_of (written_elf file)) (written_object file) _ (object-written file own.kinds)
       ∙ bind-ok (encoding_of (written_object file)) encoding _ own.first
 
   pub own-accepted : (before : State) → IsSoundBegun before.begun → order_of before.begun file.order ≡ file.order → UnlessForeseen (taken (file_text file) before)

@@ -28,7 +28,7 @@ use Rattle.thorin_builder.specs.Represents.{IsSoundBegun, units_in, units_begun}
 use Rattle.thorin_builder.specs.Rows.{own_range}
 use Rattle.thorin_builder.specs.State.{InProgress}
 use Rattle.thorin_builder.specs.Strings.{strings_of}
-use Rattle.thorin_builder.specs.Used.{Object, opened, has_info, object_of, first}
+use Rattle.thorin_builder.specs.Used.{InputFile, opened, has_info, input_file_of, first}
 use Rattle.thorin_builder.proofs.Steps.{ok-eq, bind-ok, bind-inv}
 
 -- ---- the units that an input means have its encoding
@@ -90,7 +90,7 @@ same-one : (encoding own : Encoding) (b : Bool) → cond {A = Option Encoding} b
 same-one encoding own true h = cc
 same-one encoding own false h = absurd cc
 
-object-encoding : (object : Object) (own : Encoding) (units : Meant) → object_meaning object ≡ Ok units → (e : Encoding) → encoding_of object ≡ Ok e → one_encoding object e ≡ Some own → MeantOf own units
+object-encoding : (object : InputFile) (own : Encoding) (units : Meant) → object_meaning object ≡ Ok units → (e : Encoding) → encoding_of object ≡ Ok e → one_encoding object e ≡ Some own → MeantOf own units
 unfolding object_meaning
 object-encoding object own units h e found one =
     let s = bind-inv (encoding_of object) _ units h in
@@ -98,18 +98,18 @@ object-encoding object own units h e found one =
     let same : s.0 ≡ own = ok-eq s.0 e (sym s.1 ∙ found) ∙ same-one e own (is_plain object.sections && list_all (section_has e object.order) object.sections) one in
     subst (λ v. MeantOf v units) same (source-encoding (record { object = object; encoding = s.0; indexes = i.0 }) units i.2)
 
-file-encoding : (file : Elf) (own : Encoding) (units : Meant) → (object_of file >>= object_meaning) ≡ Ok units → file_encoding file ≡ Ok (Some own) → MeantOf own units
+file-encoding : (file : Elf) (own : Encoding) (units : Meant) → (input_file_of file >>= object_meaning) ≡ Ok units → file_encoding file ≡ Ok (Some own) → MeantOf own units
 unfolding file_encoding
 file-encoding file own units h k =
-    let o = bind-inv (object_of file) object_meaning units h in
-    let p = bind-inv (object_of file) _ (Some own) k in
+    let o = bind-inv (input_file_of file) object_meaning units h in
+    let p = bind-inv (input_file_of file) _ (Some own) k in
     let e = bind-inv (encoding_of p.0) _ (Some own) p.2 in
     let same : p.0 ≡ o.0 = ok-eq p.0 o.0 (sym p.1 ∙ o.1) in
     let one : one_encoding p.0 e.0 ≡ Some own = ok-eq _ (Some own) e.2 in
     object-encoding o.0 own units o.2 e.0 (subst (λ x. encoding_of x ≡ Ok e.0) same e.1) (subst (λ x. one_encoding x e.0 ≡ Some own) same one)
 
 with-info : (file : Elf) (own : Encoding) (units : Meant) (b : Bool)
-    → cond {A = Result Meant Fault} b (object_of file >>= object_meaning) (Ok []) ≡ Ok units → cond {A = Result (Option Encoding) Fault} b (file_encoding file) (Ok None) ≡ Ok (Some own) → MeantOf own units
+    → cond {A = Result Meant Fault} b (input_file_of file >>= object_meaning) (Ok []) ≡ Ok units → cond {A = Result (Option Encoding) Fault} b (file_encoding file) (Ok None) ≡ Ok (Some own) → MeantOf own units
 with-info file own units true h k = file-encoding file own units h k
 with-info file own units false h k = absurd cc
 

@@ -23,7 +23,7 @@ use Rattle.thorin_builder.specs.Parts.{parts_of}
 use Rattle.thorin_builder.specs.Plain.{IsPlain, HoldsPlain}
 use Rattle.thorin_builder.specs.Represents.{IsSoundBegun, units_begun, units_in}
 use Rattle.thorin_builder.specs.State.{InProgress, names_of, adding, abbreviations_test, with_all, with_source}
-use Rattle.thorin_builder.specs.Used.{opened, object_of}
+use Rattle.thorin_builder.specs.Used.{opened, input_file_of}
 use Rattle.thorin_builder.proofs.Apart.{apart-none}
 use Rattle.thorin_builder.proofs.IndexesRead.{IndexIsRead, IndexHasEntries, SomeIndex, NoIndex}
 use Rattle.thorin_builder.proofs.InputJoined.{new-sound}
@@ -96,7 +96,7 @@ own-encoding : (state : State) (encoding : Encoding) (file : File) → IsOwn sta
 unfolding input_encoding
 own-encoding state encoding file own =
     bind-ok (opened (file_text file)) (written_elf file) _ (opened-elf (file_text file) (written_elf file) own.read_back)
-    ∙ bind-ok (object_of (written_elf file)) (written_object file) _ (object-written file own.kinds)
+    ∙ bind-ok (input_file_of (written_elf file)) (written_object file) _ (object-written file own.kinds)
     ∙ own.first
 
 -- the names of a sound builder's units are distinct

@@ -24,7 +24,7 @@ use Rattle.thorin_faults.specs.Fault.{Fault, ParseFileKind, ParseObjectFile}
 use Rattle.thorin_faults.specs.Answers.{as_fault}
 use Rattle.thorin_builder.specs.Growing.{Contents}
 use Rattle.thorin_builder.specs.OwnInput.{written_used, written_object}
-use Rattle.thorin_builder.specs.Used.{Used, elf_in, opened, used_kind, counts_once, unusable, used_bytes, has_kind, with_used, used_from, object_of, bytes_of, first}
+use Rattle.thorin_builder.specs.Used.{Used, elf_in, opened, used_kind, counts_once, unusable, used_bytes, has_kind, with_used, used_from, input_file_of, bytes_of, first}
 use Rattle.thorin_builder.proofs.PartGrowth.{either}
 use Rattle.thorin_builder.proofs.Steps.{err-ok, bind-ok, bind-inv}
 
@@ -207,8 +207,8 @@ unfolding used_from
 used-null rest = ap (λ k. with_used [] (plain_section 0 0 [] []) k >>= λ w. used_from w rest) (kind-none 0 0 [] [] refl)
 
 -- a written file as an input
-pub object-written : (file : File) → KindsDiffer file.contents → object_of (written_elf file) ≡ Ok (written_object file)
-unfolding object_of
+pub object-written : (file : File) → KindsDiffer file.contents → input_file_of (written_elf file) ≡ Ok (written_object file)
+unfolding input_file_of
 object-written file differ =
     bind-ok (used_from [] (written_elf file).sections) (written_used file.contents) _
     (used-null (written_sections 1 (name_table file.contents) file.contents) ∙ used-written 1 (name_table file.contents) file.contents [] differ (λ kind there. absurd (true≢false (sym there))))

@@ -41,7 +41,7 @@ use Rattle.thorin_builder.specs.NewUnits.{new_units}
 use Rattle.thorin_builder.specs.Parts.{parts_of}
 use Rattle.thorin_builder.specs.Represents.{IsSound, IsSoundBegun, AreRowsOf, meaning_at, units_of, units_in, units_begun}
 use Rattle.thorin_builder.specs.State.{InProgress, kind_at, names_of, adding, abbreviations_test, with_source}
-use Rattle.thorin_builder.specs.Used.{Object, opened, elf_in, has_info, object_of, first}
+use Rattle.thorin_builder.specs.Used.{InputFile, opened, elf_in, has_info, input_file_of, first}
 use Rattle.thorin_builder.proofs.Apart.{distinct_chosen}
 use Rattle.thorin_builder.proofs.IndexesRead.{HasRows, IndexIsRead, IndexHasEntries, SomeIndex, NoIndex, index-read, chosen-fit}
 use Rattle.thorin_builder.proofs.InputJoined.{meaning-at, object-means}
@@ -68,11 +68,11 @@ index-same order kind bytes a b h k = by (nat_eq (length bytes) 0) (index_of ord
     by false (Err f) x y = absurd cc
 
 -- the indexes of an input
-pub record AreIndexes (object : Object) (indexes : Indexes) : Type 0 where
+pub record AreIndexes (object : InputFile) (indexes : Indexes) : Type 0 where
   pub compilations : index_in object.order kinds.CuIndex (first kinds.CuIndex object.sections) ≡ Ok indexes.compilations
   pub types : index_in object.order kinds.TuIndex (first kinds.TuIndex object.sections) ≡ Ok indexes.types
 
-pub are-indexes : (object : Object) (encoding : Encoding) (indexes : Indexes) → indexes_of object encoding ≡ Ok indexes → AreIndexes object indexes
+pub are-indexes : (object : InputFile) (encoding : Encoding) (indexes : Indexes) → indexes_of object encoding ≡ Ok indexes → AreIndexes object indexes
 unfolding indexes_of
 are-indexes object encoding indexes h =
     let s1 = bind-inv (index_in object.order kinds.CuIndex (first kinds.CuIndex object.sections)) _ indexes h in
@@ -117,18 +117,18 @@ opened-is bytes file w h k =
 
 -- ---- encodings
 
-encoding-none : (object : Object) (e : Encoding) → first kinds.Info object.sections ≡ [] → encoding_of object ≡ Ok e → ⊥
+encoding-none : (object : InputFile) (e : Encoding) → first kinds.Info object.sections ≡ [] → encoding_of object ≡ Ok e → ⊥
 unfolding encoding_of units units_within
 encoding-none object e none h =
     err-ok NoCompilationUnits e (sym (ap (λ l. first_encoding (units places.Info (section object.order l))) none) ∙ h)
 
 -- the encoding of a written file is that of its object
-input-encoding : (bytes : List ℕ) (w : Elf) (e : Encoding) → elf_of bytes ≡ Ok w → input_encoding bytes ≡ Ok e → (object : Object) × (object_of w ≡ Ok object) × (encoding_of object ≡ Ok e)
+input-encoding : (bytes : List ℕ) (w : Elf) (e : Encoding) → elf_of bytes ≡ Ok w → input_encoding bytes ≡ Ok e → (object : InputFile) × (input_file_of w ≡ Ok object) × (encoding_of object ≡ Ok e)
 unfolding input_encoding
 input-encoding bytes w e back h =
     let s1 = bind-inv (opened bytes) _ e h in
-    let s2 = bind-inv (object_of s1.0) _ e s1.2 in
-    (s2.0, ap object_of (sym (opened-is bytes s1.0 w s1.1 back)) ∙ s2.1, s2.2)
+    let s2 = bind-inv (input_file_of s1.0) _ e s1.2 in
+    (s2.0, ap input_file_of (sym (opened-is bytes s1.0 w s1.1 back)) ∙ s2.1, s2.2)
 
 -- rows whose units have the encoding of these bytes
 abbrev HaveEncoding : List ℕ → List IndexEntry → Type 0
@@ -146,11 +146,11 @@ encoded-rows bytes source mean same is (r ∷ rs) h = (is r.encoding h.0 ∙ sym
 
 -- an input that was taken, and its units
 pub record Taken (bytes : List ℕ) (file : Elf) : Type 0 where
-  pub object : Object
+  pub object : InputFile
   pub encoding : Encoding
   pub indexes : Indexes
   pub all : Reads
-  pub object_is : object_of file ≡ Ok object
+  pub object_is : input_file_of file ≡ Ok object
   pub encoding_is : encoding_of object ≡ Ok encoding
   pub indexes_are : indexes_of object encoding ≡ Ok indexes
   pub units_are : source_units (record { object = object; encoding = encoding; indexes = indexes }) ≡ Ok all
@@ -164,7 +164,7 @@ source-means source all h = bind-ok (source_units source) all _ h
 units-taken : (bytes : List ℕ) (file : Elf) (begun now : Option InProgress) → opened bytes ≡ Ok file → has_info file ≡ true → with_units file begun ≡ Ok now → Taken bytes file
 unfolding with_units with_source_or_new with_source
 units-taken bytes file begun now opens info h =
-    let s1 = bind-inv (object_of file) _ now h in
+    let s1 = bind-inv (input_file_of file) _ now h in
     let s2 = bind-inv (encoding_of s1.0) _ now s1.2 in
     let s3 = bind-inv (order_test s1.0.order begun) _ now s2.2 in
     let s4 = bind-inv (indexes_of s1.0 s2.0) _ now s3.2 in
@@ -185,7 +185,7 @@ units-taken bytes file begun now opens info h =
       indexes_are = s4.1;
       units_are = j.is;
       tested = joined-tested (adding source made t1.0.0) (keys (adding source made t1.0.0).held) j.all t3.0.units j.defined j.are;
-      meaning = meaning-at bytes file true opens info ∙ bind-ok (object_of file) s1.0 _ s1.1 ∙ object-means s1.0 s2.0 s4.0 _ s2.1 s4.1 (source-means source j.all j.is);
+      meaning = meaning-at bytes file true opens info ∙ bind-ok (input_file_of file) s1.0 _ s1.1 ∙ object-means s1.0 s2.0 s4.0 _ s2.1 s4.1 (source-means source j.all j.is);
     }
 
 -- an input without an info section means nothing; another is taken
@@ -224,7 +224,7 @@ module _ (reads : UnitsAreTaken) (first_law : FirstLaw) (find_law : FindLaw) (is
   encodings : HaveEncoding (file_text file) made.rows
   encodings = one-rows (file_text file) mean (λ r. refl) made.rows one
 
-  written-first : (kind : SectionKind) (object : Object) → object_of (written_elf file) ≡ Ok object → first kind object.sections ≡ content_of kind file.contents
+  written-first : (kind : SectionKind) (object : InputFile) → input_file_of (written_elf file) ≡ Ok object → first kind object.sections ≡ content_of kind file.contents
   written-first kind object h = ap (first kind) (written-object file object differ h).1 ∙ first-content kind file.contents differ
 
   -- nothing was joined where there is no content of info

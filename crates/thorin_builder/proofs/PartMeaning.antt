@@ -16,7 +16,7 @@ use Rattle.thorin_builder.specs.Growing.{Contents, joined_parts}
 use Rattle.thorin_builder.specs.Indexes.{Source, is_package}
 use Rattle.thorin_builder.specs.Meaning.{whole_entries, joined_offsets}
 use Rattle.thorin_builder.specs.Parts.{Parts, has_part, stands_once, with_part, with_each_part, parts_of}
-use Rattle.thorin_builder.specs.Used.{Used, Object, first}
+use Rattle.thorin_builder.specs.Used.{Used, InputFile, first}
 use Rattle.thorin_builder.proofs.OffsetRanges.{whole-long, whole-read, empty-read, no-header, rewritten-long, alike-by, IsWhole, whole-more}
 use Rattle.thorin_builder.proofs.PartGrowth.{either, same-kind, joined-front, joined_parts-more, joined_parts-other, Rewritten, Adds, step}
 use Rattle.thorin_builder.proofs.PartLaws.{NamesTheSameLaw, ReadsAlikeLaw, ReadInTurnLaw}
@@ -42,7 +42,7 @@ not-there false true has h once = once
 not-there false false has h once = absurd (true≢false (sym h))
 
 module _ (names : NamesTheSameLaw) (alike : ReadsAlikeLaw) (in_turn : ReadInTurnLaw) (source : Source) (plain : is_package source.indexes ≡ false) where
-  abbrev object : Object
+  abbrev object : InputFile
   object = source.object
 
   abbrev encoding : Encoding

@@ -17,7 +17,7 @@ use Rattle.thorin_builder.specs.Builder.{State, package_or_new, order_test, with
 use Rattle.thorin_builder.specs.Encodings.{encoding_of, is_index, is_plain, section_has, one_encoding, file_encoding, own_encoding}
 use Rattle.thorin_builder.specs.Indexes.{Indexes, Source, is_package, index_in, indexes_of}
 use Rattle.thorin_builder.specs.State.{InProgress, empty, with_source}
-use Rattle.thorin_builder.specs.Used.{Used, Object, opened, has_info, object_of, has_kind, bytes_of, first}
+use Rattle.thorin_builder.specs.Used.{Used, InputFile, opened, has_info, input_file_of, has_kind, bytes_of, first}
 use Rattle.thorin_builder.proofs.InputJoined.{made-order}
 use Rattle.thorin_builder.proofs.OwnEncodings.{common-are, own-or-none}
 use Rattle.thorin_builder.proofs.OwnIndexes.{none-taken}
@@ -49,7 +49,7 @@ not-inv false h = refl
 neither : (a b : Option Index) → a ≡ None → b ≡ None → is_package (record { compilations = a; types = b }) ≡ false
 neither a b h k = ap (λ x. is_some x || is_some b) h ∙ ap is_some k
 
-plain-indexes : (object : Object) (encoding : Encoding) (indexes : Indexes) → is_plain object.sections ≡ true → indexes_of object encoding ≡ Ok indexes → is_package indexes ≡ false
+plain-indexes : (object : InputFile) (encoding : Encoding) (indexes : Indexes) → is_plain object.sections ≡ true → indexes_of object encoding ≡ Ok indexes → is_package indexes ≡ false
 plain-indexes object encoding indexes plain h =
     let are = are-indexes object encoding indexes h in
     let none = not-inv (list_any is_index object.sections) plain in
@@ -59,12 +59,12 @@ plain-indexes object encoding indexes plain h =
 
 -- ---- an object that has one encoding
 
-record OneEncoding (object : Object) (first own : Encoding) : Type 0 where
+record OneEncoding (object : InputFile) (first own : Encoding) : Type 0 where
   is : first ≡ own
   plain : is_plain object.sections ≡ true
   all : list_all (section_has first object.order) object.sections ≡ true
 
-one-by : (object : Object) (encoding own : Encoding) (p a : Bool) → is_plain object.sections ≡ p → list_all (section_has encoding object.order) object.sections ≡ a
+one-by : (object : InputFile) (encoding own : Encoding) (p a : Bool) → is_plain object.sections ≡ p → list_all (section_has encoding object.order) object.sections ≡ a
     → cond {A = Option Encoding} (p && a) (Some encoding) None ≡ Some own → OneEncoding object encoding own
 one-by object encoding own true true p a h = record { is = cc; plain = p; all = a }
 one-by object encoding own true false p a h = absurd cc
@@ -75,8 +75,8 @@ record OwnFile (bytes : List ℕ) (own : Encoding) : Type 0 where
   file : Elf
   opens : opened bytes ≡ Ok file
   info : has_info file ≡ true
-  object : Object
-  object_is : object_of file ≡ Ok object
+  object : InputFile
+  object_is : input_file_of file ≡ Ok object
   encoding : encoding_of object ≡ Ok own
   plain : is_plain object.sections ≡ true
   all : list_all (section_has own object.order) object.sections ≡ true
@@ -90,7 +90,7 @@ unfolding own_encoding file_encoding
 own-file bytes own h =
     let f = bind-inv (opened bytes) _ (Some own) h in
     let i = info-by (has_info f.0) (file_encoding f.0) own f.2 in
-    let o = bind-inv (object_of f.0) _ (Some own) i.1 in
+    let o = bind-inv (input_file_of f.0) _ (Some own) i.1 in
     let e = bind-inv (encoding_of o.0) _ (Some own) o.2 in
     let one = one-by o.0 e.0 own (is_plain o.0.sections) (list_all (section_has e.0 o.0.order) o.0.sections) refl refl (ok-eq {E = Fault} _ (Some own) e.2) in
     record {
@@ -147,7 +147,7 @@ units-of bytes file begun now opens info h =
     sym (ap (λ b. cond {A = Result (Option InProgress) Fault} b (with_units file begun) (Ok (Some (package_or_new file begun)))) info) ∙ here
 
 -- what an object with units made of a package
-record UnitsStep (file : Elf) (object : Object) (encoding : Encoding) (begun now : Option InProgress) : Type 0 where
+record UnitsStep (file : Elf) (object : InputFile) (encoding : Encoding) (begun now : Option InProgress) : Type 0 where
   indexes : Indexes
   read : indexes_of object encoding ≡ Ok indexes
   tested : order_test object.order begun ≡ Ok tt
@@ -155,10 +155,10 @@ record UnitsStep (file : Elf) (object : Object) (encoding : Encoding) (begun now
   is : with_source (record { object = object; encoding = encoding; indexes = indexes }) (package_or_new file begun) ≡ Ok made
   now_is : now ≡ Some made
 
-units-step : (file : Elf) (object : Object) (encoding : Encoding) (begun now : Option InProgress) → object_of file ≡ Ok object → encoding_of object ≡ Ok encoding → with_units file begun ≡ Ok now → UnitsStep file object encoding begun now
+units-step : (file : Elf) (object : InputFile) (encoding : Encoding) (begun now : Option InProgress) → input_file_of file ≡ Ok object → encoding_of object ≡ Ok encoding → with_units file begun ≡ Ok now → UnitsStep file object encoding begun now
 unfolding with_units with_source_or_new
 units-step file object encoding begun now o e h =
-    let s1 = bind-inv (object_of file) _ now h in
+    let s1 = bind-inv (input_file_of file) _ now h in
     let s2 = bind-inv (encoding_of s1.0) _ now s1.2 in
     let s3 = bind-inv (order_test s1.0.order begun) _ now s2.2 in
     let s4 = bind-inv (indexes_of s1.0 s2.0) _ now s3.2 in
@@ -168,7 +168,7 @@ units-step file object encoding begun now o e h =
     record {
       indexes = s4.0;
       read = (λ i. indexes_of (sym same i) (sym same_encoding i)) ∙ s4.1;
-      tested = ap (λ (x : Object). order_test x.order begun) (sym same) ∙ s3.1;
+      tested = ap (λ (x : InputFile). order_test x.order begun) (sym same) ∙ s3.1;
       made = s5.0;
       is = (λ i. with_source (record { object = sym same i; encoding = sym same_encoding i; indexes = s4.0 }) (package_or_new file begun)) ∙ s5.1;
       now_is = sym (ok-eq {E = Fault} _ now s5.2);

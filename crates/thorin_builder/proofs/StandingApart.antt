@@ -31,7 +31,7 @@ use Rattle.thorin_builder.specs.Represents.{LieInside, AreRowsOf, IsSound, IsSou
 use Rattle.thorin_builder.specs.Rows.{adjusted_part, whole_row, unit_row}
 use Rattle.thorin_builder.specs.StandApart.{rows_begun, contents_begun, LieBehind, EachRow, StandApart}
 use Rattle.thorin_builder.specs.State.{InProgress, names_of, kind_at, row_at, adding, abbreviations_test, with_unit_added, with_new_unit, with_new_units, with_all, with_source}
-use Rattle.thorin_builder.specs.Used.{Object, opened, has_info, object_of}
+use Rattle.thorin_builder.specs.Used.{InputFile, opened, has_info, input_file_of}
 use Rattle.thorin_builder.proofs.Joining.{AreAdded, units-joined}
 use Rattle.thorin_builder.proofs.Keeping.{Grows, grows-trans, grows-with_bytes}
 use Rattle.thorin_builder.proofs.OwnRows.{is_shared, IsUnitRow, is-unit_row, whole-part, whole-else}
@@ -223,7 +223,7 @@ is-made begun file made next a h =
 units-appended : (file : Elf) (begun now : Option InProgress) → with_units file begun ≡ Ok now → AppendedBegun begun now
 unfolding with_units with_source_or_new
 units-appended file begun now h made is =
-    let s1 = bind-inv (object_of file) _ now h in
+    let s1 = bind-inv (input_file_of file) _ now h in
     let s2 = bind-inv (encoding_of s1.0) _ now s1.2 in
     let s3 = bind-inv (order_test s1.0.order begun) _ now s2.2 in
     let s4 = bind-inv (indexes_of s1.0 s2.0) _ now s3.2 in

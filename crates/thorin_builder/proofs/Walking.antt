@@ -19,7 +19,7 @@ use Rattle.thorin_faults.specs.Fault.{Fault, fault_of, DecompressData, ObjectRea
 use Rattle.thorin_faults.specs.Answers.{Gives, MemoryAside, as_fault}
 use Rattle.thorin_faults.specs.declared.fault.Error.{Error}
 use Rattle.thorin_builder.specs.Encodings.{is_index, is_plain}
-use Rattle.thorin_builder.specs.Used.{Used, Object, is_present, used_kind, unusable, used_bytes, has_kind, with_used, used_from, object_of}
+use Rattle.thorin_builder.specs.Used.{Used, InputFile, is_present, used_kind, unusable, used_bytes, has_kind, with_used, used_from, input_file_of}
 use Rattle.thorin_builder.specs.View as view
 use Rattle.thorin_builder.specs.declared.object.InputObject.{InputObject}
 use Rattle.thorin_builder.specs.declared.object.UsedSection.{UsedSection}
@@ -135,19 +135,19 @@ taken-end (Ok t) l all h goes = sym goes ∙ used_from-end (taken t) l h
 taken-end (Err e) l all h goes = goes
 
 -- what the whole walk gives
-input-is : (used : List Used) (file : Elf) (object : Object) → used_from [] file.sections ≡ Ok used
+input-is : (used : List Used) (file : Elf) (object : InputFile) → used_from [] file.sections ≡ Ok used
     → object ≡ record { order = file.order; sections = used; has_strings = is_present kinds.Str file; has_abbreviations = is_present kinds.Abbrev file }
-    → object_of file ≡ Ok object
-unfolding object_of
+    → input_file_of file ≡ Ok object
+unfolding input_file_of
 input-is used file object h same = bind-ok (used_from [] file.sections) used _ h ∙ ap Ok (sym same)
 
-no-input : (fault : Fault) (file : Elf) → used_from [] file.sections ≡ Err fault → object_of file ≡ Err fault
-unfolding object_of
+no-input : (fault : Fault) (file : Elf) → used_from [] file.sections ≡ Err fault → input_file_of file ≡ Err fault
+unfolding input_file_of
 no-input fault file h = ap (λ r. r >>= λ sections. Ok (record { order = file.order; sections = sections; has_strings = is_present kinds.Str file; has_abbreviations = is_present kinds.Abbrev file })) h
 
 same-object : (order : Endianness) (used : List Used) (strings abbreviations : Bool) (file : Elf)
     → order ≡ file.order → strings ≡ is_present kinds.Str file → abbreviations ≡ is_present kinds.Abbrev file
-    → ◌≡◌ {A = Object} (record { order = order; sections = used; has_strings = strings; has_abbreviations = abbreviations })
+    → ◌≡◌ {A = InputFile} (record { order = order; sections = used; has_strings = strings; has_abbreviations = abbreviations })
     (record { order = file.order; sections = used; has_strings = is_present kinds.Str file; has_abbreviations = is_present kinds.Abbrev file })
 same-object order used strings abbreviations file o s a = λ i. record { order = o i; sections = used; has_strings = s i; has_abbreviations = a i }
 
@@ -155,10 +155,10 @@ pub walk-gives : (t : Result Taken Error) (r : Result InputObject Error) (order 
     → order ≡ file.order → strings ≡ is_present kinds.Str file → abbreviations ≡ is_present kinds.Abbrev file
     → Gives taken t (used_from [] file.sections)
     → MatchResult t (λ used. Gives view.object r (Ok (record { order = order; sections = taken used; has_strings = strings; has_abbreviations = abbreviations }))) (λ e. r ≡ Err e)
-    → Gives view.object r (object_of file)
+    → Gives view.object r (input_file_of file)
 walk-gives (Ok t) (Ok o) order strings abbreviations file ho hs ha used made =
     input-is (taken t) file _ used (same-object order (taken t) strings abbreviations file ho hs ha) ∙ made
 walk-gives (Ok t) (Err e) order strings abbreviations file ho hs ha used made = λ aside.
     input-is (taken t) file _ used (same-object order (taken t) strings abbreviations file ho hs ha) ∙ made aside
 walk-gives (Err e) r order strings abbreviations file ho hs ha used made =
-    subst (λ x. Gives view.object x (object_of file)) (sym made) (λ aside. no-input (fault_of e) file (used aside))
+    subst (λ x. Gives view.object x (input_file_of file)) (sym made) (λ aside. no-input (fault_of e) file (used aside))

@@ -14,7 +14,7 @@ use Rattle.dwp_elf.specs.Written.{plain_section, written_sections, written_elf}
 use Rattle.dwp_index.specs.Contents as contents
 use Rattle.dwp_index.specs.Contents.{is_of_kind}
 use Rattle.thorin_builder.specs.Growing.{Contents}
-use Rattle.thorin_builder.specs.Used.{Used, Object, is_of, has_info, used_kind, with_used, used_from, used_bytes, counts_once, has_kind, first, object_of}
+use Rattle.thorin_builder.specs.Used.{Used, InputFile, is_of, has_info, used_kind, with_used, used_from, used_bytes, counts_once, has_kind, first, input_file_of}
 use Rattle.thorin_builder.proofs.ReadingFile.{is_same}
 use Rattle.thorin_builder.proofs.Steps.{ok-eq, bind-ok, bind-inv}
 
@@ -171,12 +171,12 @@ null-used o differ =
     ∙ used-written [] 1 (name_table o.contents) o.contents differ (λ kind. inl refl)
 
 -- the object that a written file is
-pub written-object : (o : File) (object : Object) → KindsDiffer o.contents → object_of (written_elf o) ≡ Ok object → (object.order ≡ o.order) × (object.sections ≡ useds o.contents)
-unfolding object_of
+pub written-object : (o : File) (object : InputFile) → KindsDiffer o.contents → input_file_of (written_elf o) ≡ Ok object → (object.order ≡ o.order) × (object.sections ≡ useds o.contents)
+unfolding input_file_of
 written-object o object differ h =
     let s = bind-inv (used_from [] (written_elf o).sections) _ object h in
     let same = ok-eq _ object s.2 in
-    (sym (ap (λ (x : Object). x.order) same), sym (ap (λ (x : Object). x.sections) same) ∙ sym (ok-eq _ _ (sym (null-used o differ) ∙ s.1)))
+    (sym (ap (λ (x : InputFile). x.order) same), sym (ap (λ (x : InputFile). x.sections) same) ∙ sym (ok-eq _ _ (sym (null-used o differ) ∙ s.1)))
 
 -- ---- the first section of a kind has its content
 

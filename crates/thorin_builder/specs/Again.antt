@@ -12,13 +12,13 @@ use Rattle.thorin_faults.specs.Fault.{Fault}
 use Rattle.thorin_builder.specs.Builder.{State, taken}
 use Rattle.thorin_builder.specs.Encodings.{encoding_of}
 use Rattle.thorin_builder.specs.Meaning.{Meaning, Members, input_meaning}
-use Rattle.thorin_builder.specs.Used.{opened, object_of}
+use Rattle.thorin_builder.specs.Used.{opened, input_file_of}
 
 -- the encoding of an input is that of the first unit of its first info section
 unfoldable pub input_encoding : List ℕ → Result Encoding Fault
 input_encoding bytes = do
   file ← opened bytes
-  object ← object_of file
+  object ← input_file_of file
   encoding_of object
 
 -- each unit has the encoding of these bytes as an input

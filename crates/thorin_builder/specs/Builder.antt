@@ -25,7 +25,7 @@ use Rattle.thorin_builder.specs.Growing.{with_bytes}
 use Rattle.thorin_builder.specs.Indexes.{Source, indexes_of}
 use Rattle.thorin_builder.specs.Names.{same_name, is_compilation}
 use Rattle.thorin_builder.specs.State.{InProgress, empty, names_of, with_source}
-use Rattle.thorin_builder.specs.Used.{opened, has_info, object_of}
+use Rattle.thorin_builder.specs.Used.{opened, has_info, input_file_of}
 
 -- a builder: the package, where an input has begun one, the units that executables refer to, and
 -- the one encoding of all units of the accepted inputs, those passed over too, where there is one
@@ -70,7 +70,7 @@ with_source_or_new file source begun = do
 -- what an input with units makes of a package
 unfoldable pub with_units : Elf → Option InProgress → Result (Option InProgress) Fault
 with_units file begun = do
-  object ← object_of file
+  object ← input_file_of file
   encoding ← encoding_of object
   _ ← order_test object.order begun
   indexes ← indexes_of object encoding

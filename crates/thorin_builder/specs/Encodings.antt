@@ -18,7 +18,7 @@ use Rattle.thorin_parts.specs.EntryTests.{same_encoding}
 use Rattle.thorin_faults.specs.Fault.{Fault, ParseUnitHeader, NoCompilationUnits}
 use Rattle.thorin_builder.specs.Indexes.{Source}
 use Rattle.thorin_builder.specs.NewUnits.{unit_section}
-use Rattle.thorin_builder.specs.Used.{Used, Object, opened, has_info, object_of, first}
+use Rattle.thorin_builder.specs.Used.{Used, InputFile, opened, has_info, input_file_of, first}
 
 -- the encoding of an input is that of its first unit
 abbrev pub first_encoding : List (Result Unit ReadError) → Result Encoding Fault
@@ -26,7 +26,7 @@ first_encoding [] = Err NoCompilationUnits
 first_encoding (Ok unit ∷ others) = Ok unit.encoding
 first_encoding (Err e ∷ others) = Err (ParseUnitHeader e)
 
-unfoldable pub encoding_of : Object → Result Encoding Fault
+unfoldable pub encoding_of : InputFile → Result Encoding Fault
 encoding_of object =
     first_encoding (units places.Info (section object.order (first Info object.sections)))
 
@@ -57,14 +57,14 @@ is_plain sections = not (list_any is_index sections)
 
 -- the one encoding of all units of a plain object whose first unit has this encoding, where there
 -- is one
-abbrev pub one_encoding : Object → Encoding → Option Encoding
+abbrev pub one_encoding : InputFile → Encoding → Option Encoding
 one_encoding object encoding =
     if is_plain object.sections && list_all (section_has encoding object.order) object.sections
     then Some encoding else None
 
 unfoldable pub file_encoding : Elf → Result (Option Encoding) Fault
 file_encoding file = do
-  object ← object_of file
+  object ← input_file_of file
   encoding ← encoding_of object
   Ok (one_encoding object encoding)
 

@@ -18,7 +18,7 @@ use Rattle.thorin_builder.specs.Encodings.{encoding_of}
 use Rattle.thorin_builder.specs.Indexes.{Source, is_package, indexes_of}
 use Rattle.thorin_builder.specs.State.{InProgress}
 use Rattle.thorin_builder.specs.Strings.{strings_of}
-use Rattle.thorin_builder.specs.Used.{Used, opened, has_info, object_of, first}
+use Rattle.thorin_builder.specs.Used.{Used, opened, has_info, input_file_of, first}
 
 -- distinct strings once these are used, in order: a new one goes last
 abbrev pub with_strings : List (List ℕ) → List (List ℕ) → List (List ℕ)
@@ -59,7 +59,7 @@ strings_begun (Some made) = made.strings
 -- the strings that an input's bytes name, in order; without an info section none
 unfoldable pub named_in_file : Elf → Result (List (List ℕ)) Fault
 named_in_file file = do
-  object ← object_of file
+  object ← input_file_of file
   encoding ← encoding_of object
   indexes ← indexes_of object encoding
   Ok (named_in (record { object = object; encoding = encoding; indexes = indexes }) object.sections)

@@ -16,7 +16,7 @@ use Rattle.dwp_table.specs.declared.object.DwarfObject.{DwarfObject}
 use Rattle.dwp_table.specs.declared.object.DwarfObject.TheVariants.{Compilation, TypeUnit}
 use Rattle.thorin_faults.specs.Fault.{Fault, ParseIndex, IncompatibleIndexVersion}
 use Rattle.thorin_faults.specs.Answers.{as_fault}
-use Rattle.thorin_builder.specs.Used.{Object, first}
+use Rattle.thorin_builder.specs.Used.{InputFile, first}
 
 -- both indexes, those that there are
 pub record Indexes : Type 0 where
@@ -25,7 +25,7 @@ pub record Indexes : Type 0 where
 
 -- an input whose sections, encoding and indexes are known
 pub record Source : Type 0 where
-  pub object : Object
+  pub object : InputFile
   pub encoding : Encoding
   pub indexes : Indexes
 
@@ -49,7 +49,7 @@ version_test encoding kind (Some index) =
     (IncompatibleIndexVersion (name_of kind) (index_version_of encoding.version) index.version)
 
 -- the indexes of an input; both are read before either's version is tested
-unfoldable pub indexes_of : Object → Encoding → Result Indexes Fault
+unfoldable pub indexes_of : InputFile → Encoding → Result Indexes Fault
 indexes_of object encoding = do
   compilations ← index_in object.order CuIndex (first CuIndex object.sections)
   types ← index_in object.order TuIndex (first TuIndex object.sections)

@@ -31,7 +31,7 @@ use Rattle.thorin_builder.specs.Names.{same_name, is_compilation}
 use Rattle.thorin_builder.specs.NewUnits.{name_for, unit_section}
 use Rattle.thorin_builder.specs.Rows.{own_range}
 use Rattle.thorin_builder.specs.Strings.{strings_of}
-use Rattle.thorin_builder.specs.Used.{Used, Object, opened, has_info, object_of, first}
+use Rattle.thorin_builder.specs.Used.{Used, InputFile, opened, has_info, input_file_of, first}
 
 -- a unit's part of each kind of section that is kept as it is
 pub record Pieces : Type 0 where
@@ -207,7 +207,7 @@ source_meaning source = do
   Ok (map {B = DwarfObject × Option Meaning} (meant source) units)
 
 -- the same of an input with units, whose sections, encoding and indexes are read first
-unfoldable pub object_meaning : Object → Result (List (DwarfObject × Option Meaning)) Fault
+unfoldable pub object_meaning : InputFile → Result (List (DwarfObject × Option Meaning)) Fault
 object_meaning object = do
   encoding ← encoding_of object
   indexes ← indexes_of object encoding
@@ -217,7 +217,7 @@ object_meaning object = do
 unfoldable pub input_meaning : List ℕ → Result (List (DwarfObject × Option Meaning)) Fault
 input_meaning bytes = do
   file ← opened bytes
-  if has_info file then (object_of file >>= object_meaning) else Ok []
+  if has_info file then (input_file_of file >>= object_meaning) else Ok []
 
 -- the names of a list
 abbrev pub keys : {X : Type 0} → List (DwarfObject × X) → List DwarfObject

@@ -17,7 +17,7 @@ use Rattle.thorin_builder.specs.OwnUnits.{AllOf}
 use Rattle.thorin_builder.specs.Parts.{Parts, is_in_format, rewritten, parts_of}
 use Rattle.thorin_builder.specs.Represents.{IsSoundBegun, units_in}
 use Rattle.thorin_builder.specs.State.{InProgress}
-use Rattle.thorin_builder.specs.Used.{Used, Object, is_present}
+use Rattle.thorin_builder.specs.Used.{Used, InputFile, is_present}
 
 -- the sections of a written file that an input is made of: those that have bytes, in order
 abbrev pub written_used : Contents → List Used
@@ -26,7 +26,7 @@ written_used (c ∷ cs) = if length c.1 == 0 then written_used cs
     else record { kind = c.0; bytes = c.1; address = 0 } ∷ written_used cs
 
 -- a written file as an input
-abbrev pub written_object : File → Object
+abbrev pub written_object : File → InputFile
 written_object file = record {
   order = file.order;
   sections = written_used file.contents;

@@ -26,7 +26,7 @@ use Rattle.thorin_builder.specs.Names.{same_name}
 use Rattle.thorin_builder.specs.NewUnits.{New, NewUnit, Adding, new_units}
 use Rattle.thorin_builder.specs.Parts.{parts_of}
 use Rattle.thorin_builder.specs.Rows.{whole_row}
-use Rattle.thorin_builder.specs.Used.{Object}
+use Rattle.thorin_builder.specs.Used.{InputFile}
 
 -- a package that was begun: the file so far, the distinct strings, a row for each unit, and the
 -- signatures of type units that were passed over and differ from those kept
@@ -82,7 +82,7 @@ with_new_units made [] = made
 with_new_units made (unit ∷ units) = with_new_units (with_new_unit made unit) units
 
 -- a section of abbreviations is there
-unfoldable pub abbreviations_test : Object → Result (Unit {0}) Fault
+unfoldable pub abbreviations_test : InputFile → Result (Unit {0}) Fault
 abbreviations_test object =
     if object.has_abbreviations then Ok tt else Err (MissingRequiredSection (name_of kinds.Abbrev))
 

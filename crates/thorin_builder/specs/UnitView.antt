@@ -11,7 +11,7 @@ use Rattle.dwp_bytes.specs.declared.slice.SliceReader.{SliceReader}
 use Rattle.thorin_builder.specs.NewUnits as spec
 use Rattle.thorin_builder.specs.State.{held_units}
 use Rattle.thorin_builder.specs.StateView.{in_progress_of}
-use Rattle.thorin_builder.specs.Used.{Object, first}
+use Rattle.thorin_builder.specs.Used.{InputFile, first}
 use Rattle.thorin_builder.specs.View.{source}
 
 abbrev pub new_unit : NewUnit → spec.NewUnit
@@ -43,5 +43,5 @@ left_in r = record {
 }
 
 -- the byte order and the abbreviations that an input's units are named with
-abbrev pub tables_in : Object → Endianness × List ℕ
+abbrev pub tables_in : InputFile → Endianness × List ℕ
 tables_in object = (object.order, first Abbrev object.sections)

@@ -89,15 +89,15 @@ used_from used (section ∷ sections) = do
   used_from with sections
 
 -- an input whose sections are known
-pub record Object : Type 0 where
+pub record InputFile : Type 0 where
   pub order : Endianness
   pub sections : List Used
   pub has_strings : Bool
   pub has_abbreviations : Bool
 
 -- the sections of an ELF file that are used
-unfoldable pub object_of : Elf → Result Object Fault
-object_of file = do
+unfoldable pub input_file_of : Elf → Result InputFile Fault
+input_file_of file = do
   sections ← used_from [] file.sections
   Ok (record {
     order = file.order;

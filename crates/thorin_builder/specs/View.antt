@@ -9,14 +9,14 @@ use Rattle.thorin_builder.specs.declared.parts.Part.{Part}
 use Rattle.thorin_builder.specs.declared.parts.PartBytes.{PartBytes}
 use Rattle.thorin_builder.specs.declared.parts.PartBytes.TheVariants.{Copied, Rewritten}
 use Rattle.thorin_builder.specs.Indexes as spec
-use Rattle.thorin_builder.specs.Used.{Used, Object}
+use Rattle.thorin_builder.specs.Used.{Used, InputFile}
 
 -- a section that is used
 abbrev pub used : UsedSection → Used
 used s = record { kind = s.kind; bytes = s.bytes.now; address = s.address }
 
 -- an input whose sections are known
-abbrev pub object : InputObject → Object
+abbrev pub object : InputObject → InputFile
 object o = record {
   order = o.order;
   sections = map used o.sections.items;

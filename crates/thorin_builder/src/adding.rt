@@ -6,7 +6,7 @@ ghost use Rattle.thorin_faults.specs.Answers.{Gives};
 ghost use Rattle.thorin_builder.specs.Builder as spec;
 ghost use Rattle.thorin_builder.specs.Encodings.{file_encoding, own_encoding, are_alike};
 ghost use Rattle.thorin_builder.specs.StateView.{in_progress_of, begun_of};
-ghost use Rattle.thorin_builder.specs.Used.{object_of};
+ghost use Rattle.thorin_builder.specs.Used.{input_file_of};
 ghost use Rattle.thorin_builder.specs.View as view;
 
 use crate::in_progress::InProgressDwarfPackage;
@@ -86,7 +86,7 @@ fn add_units(
     file: &ElfFile<'_>,
     object: InputObject<'_>,
 ) -> Result<Option<Encoding>, Error>
-    requires { object_of (elf file.now) ≡ Ok (view.object object) }
+    requires { input_file_of (elf file.now) ≡ Ok (view.object object) }
     ensures own { IfOk result (λ own. file_encoding (elf file.now) ≡ Ok own) }
     ensures meaning { Gives (λ _. begun_of in_progress.new) result
         (spec.with_units (elf file.now) (begun_of in_progress.old)) }

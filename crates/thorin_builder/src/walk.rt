@@ -241,7 +241,7 @@ impl<'a> Walked<'a> {
     /// counts, so it is kept aside.
     pub fn over(alloc: Global, file: &ElfFile<'a>) -> Walked<'a>
         ensures units { result.with_units ≡ spec.has_info (elf file.now) }
-        ensures input { Gives view.object result.input (spec.object_of (elf file.now)) }
+        ensures input { Gives view.object result.input (spec.input_file_of (elf file.now)) }
     {
         let mut present = Present {
             info: false,
