@@ -191,7 +191,7 @@ enum {
 };
 
 /* What packing tells beside its answer; thorin_differing_types tells input, differing and the fault alone. A field that
- * isn't named at the answer is as it was, or without meaning. */
+ * isn't named at the answer is as it was. */
 typedef struct {
   uint64_t size;        /* THORIN_DONE, THORIN_TOO_SMALL: how many bytes the package has */
   uint64_t input;       /* THORIN_REFUSED: the number of the input, from 0 on; THORIN_NO_MEMORY: that of the input at which

@@ -22,6 +22,3 @@ pub use dwp_bytes::{
 pub use entry::{Attribute, Attributes, RootEntry, root};
 pub use strings::{StringSections, attr_string};
 pub use unit::{UnitHeader, UnitHeaders, UnitSection, UnitType};
-
-#[cfg(test)]
-mod tests;

@@ -22,6 +22,3 @@ pub use package::PackageFile;
 pub use unit::PackagedUnit;
 pub use unit_index::{Row, UnitIndex};
 pub use units::{UnitEntry, Units};
-
-#[cfg(test)]
-mod tests;

@@ -2,6 +2,7 @@
 
 ghost use Rattle.std.specs.Prelude.{◌≡◌};
 
+use crate::asserting::same;
 use dwp_base::Endianness;
 use dwp_bytes::{
     Encoding, Format, ReadError, Reader, Relocate, Relocation, RelocationEntry, SliceReader,
@@ -14,6 +15,16 @@ fn stored_and_read<R: Reader>(reader: &R) -> Result<(u32, u64), ReadError> {
     let mut at = *reader;
     let mut again = *reader;
     Ok((at.read_u32()?, again.read_offset(Format::Dwarf32)?))
+}
+
+/// An address of 4 bytes and the length behind it.
+fn address_and_length<R: Reader>(at: &mut R) -> Result<(u64, u64), ReadError> {
+    Ok((at.read_address(4)?, at.read_length(Format::Dwarf32)?))
+}
+
+/// An offset of 4 bytes.
+fn sized_offset<R: Reader>(at: &mut R) -> Result<u64, ReadError> {
+    at.read_sized_offset(4)
 }
 
 fn entry(offset: usize, addend: u64, implicit_addend: bool) -> RelocationEntry
@@ -31,26 +42,40 @@ fn entry(offset: usize, addend: u64, implicit_addend: bool) -> RelocationEntry
     }
 }
 
-#[test]
-fn numbers_of_either_order(rt: HostRuntime) -> Result<(), Fail> {
+/// Numbers of 1, 2, 3, 4 and 8 bytes, and what is read past the end.
+type Numbers = (u8, u16, u32, u32, u64, Result<u8, ReadError>);
+
+/// Those of 18 bytes, which count from 1.
+fn numbers(order: Endianness) -> Result<Numbers, ReadError> {
     let bytes = [
         1, 2, 3, 4, 5, 6, 7, 8, 9, 10, 11, 12, 13, 14, 15, 16, 17, 18,
     ];
-    let mut little = SliceReader::new(&bytes, Endianness::Little);
-    assert_eq!(rt; little.read_u8()?, 0x01);
-    assert_eq!(rt; little.read_u16()?, 0x0302);
-    assert_eq!(rt; little.read_u24()?, 0x060504);
-    assert_eq!(rt; little.read_u32()?, 0x0a090807);
-    assert_eq!(rt; little.read_u64()?, 0x1211100f0e0d0c0b);
-    assert_eq!(rt; little.read_u8(), Err(ReadError::UnexpectedEof));
-    let mut big = SliceReader::new(&bytes, Endianness::Big);
-    assert_eq!(rt; big.read_u8()?, 0x01);
-    assert_eq!(rt; big.read_u16()?, 0x0203);
-    assert_eq!(rt; big.read_u24()?, 0x040506);
-    assert_eq!(rt; big.read_u32()?, 0x0708090a);
-    assert_eq!(rt; big.read_u64()?, 0x0b0c0d0e0f101112);
-    assert_eq!(rt; big.endian(), Endianness::Big);
-    Ok(())
+    let mut at = SliceReader::new(&bytes, order);
+    Ok((
+        at.read_u8()?,
+        at.read_u16()?,
+        at.read_u24()?,
+        at.read_u32()?,
+        at.read_u64()?,
+        at.read_u8(),
+    ))
+}
+
+#[test]
+fn numbers_of_either_order(rt: HostRuntime) {
+    let end = Err(ReadError::UnexpectedEof);
+    same(
+        &rt,
+        numbers(Endianness::Little),
+        Ok((0x01, 0x0302, 0x060504, 0x0a090807, 0x1211100f0e0d0c0b, end)),
+    );
+    same(
+        &rt,
+        numbers(Endianness::Big),
+        Ok((0x01, 0x0203, 0x040506, 0x0708090a, 0x0b0c0d0e0f101112, end)),
+    );
+    let big = SliceReader::new(b"", Endianness::Big);
+    same(&rt, big.endian(), Endianness::Big);
 }
 
 #[test]
@@ -58,14 +83,14 @@ fn sized_numbers(rt: HostRuntime) -> Result<(), Fail> {
     let bytes = [1, 2, 3, 4, 5, 6, 7, 8];
     let section = SliceReader::new(&bytes, Endianness::Little);
     let mut at = section;
-    assert_eq!(rt; at.read_address(1)?, 0x01);
-    assert_eq!(rt; at.read_sized_offset(2)?, 0x0302);
-    assert_eq!(rt; at.read_length(Format::Dwarf32)?, 0x07060504);
-    assert_eq!(rt; at.offset_from(&section), 7);
-    assert_eq!(rt; at.read_address(3), Err(ReadError::AddressSize));
-    assert_eq!(rt; at.read_sized_offset(4), Err(ReadError::UnexpectedEof));
+    same(&rt, at.read_address(1)?, 0x01);
+    same(&rt, at.read_sized_offset(2)?, 0x0302);
+    same(&rt, at.read_length(Format::Dwarf32)?, 0x07060504);
+    same(&rt, at.offset_from(&section), 7);
+    same(&rt, at.read_address(3), Err(ReadError::AddressSize));
+    same(&rt, at.read_sized_offset(4), Err(ReadError::UnexpectedEof));
     let mut whole = section;
-    assert_eq!(rt; whole.read_offset(Format::Dwarf64)?, 0x0807060504030201);
+    same(&rt, whole.read_offset(Format::Dwarf64)?, 0x0807060504030201);
     Ok(())
 }
 
@@ -73,22 +98,26 @@ fn sized_numbers(rt: HostRuntime) -> Result<(), Fail> {
 fn pieces(rt: HostRuntime) -> Result<(), Fail> {
     let section = SliceReader::new(b"abc\0de\xff", Endianness::Little);
     let mut at = section;
-    assert_eq!(rt; at.find(0)?, 3);
-    assert_eq!(rt; at.find(1), Err(ReadError::NoTerminator));
+    same(&rt, at.find(0)?, 3);
+    same(&rt, at.find(1), Err(ReadError::NoTerminator));
     let mut name = at.split(3)?;
-    assert_eq!(rt; name.to_string()?, "abc");
+    same(&rt, name.to_string()?, "abc");
     at.skip(1)?;
-    assert_eq!(rt; at.offset_from(&section), 4);
-    assert_eq!(rt; at.slice(), b"de\xff".as_slice());
-    assert_eq!(rt; at.to_string(), Err(ReadError::BadUtf8));
+    same(&rt, at.offset_from(&section), 4);
+    same(&rt, at.slice(), b"de\xff".as_slice());
+    same(&rt, at.to_string(), Err(ReadError::BadUtf8));
     let mut buffer = [0, 0];
     name.read_slice(&mut buffer)?;
-    assert_eq!(rt; buffer, [b'a', b'b']);
-    assert_eq!(rt; name.read_slice(&mut buffer), Err(ReadError::UnexpectedEof));
+    same(&rt, buffer, [b'a', b'b']);
+    same(
+        &rt,
+        name.read_slice(&mut buffer),
+        Err(ReadError::UnexpectedEof),
+    );
     at.truncate(2)?;
-    assert_eq!(rt; at.to_slice(), b"de".as_slice());
-    assert_eq!(rt; at.truncate(3), Err(ReadError::UnexpectedEof));
-    assert_eq!(rt; at.len(), 2);
+    same(&rt, at.to_slice(), b"de".as_slice());
+    same(&rt, at.truncate(3), Err(ReadError::UnexpectedEof));
+    same(&rt, at.len(), 2);
     at.empty();
     assert!(rt; at.is_empty());
     Ok(())
@@ -113,9 +142,10 @@ fn unsigned_leb128(rt: HostRuntime) {
         (b"\x80\x80\x80\x80\x80\x80\x80\x80\x80\x00", Ok(0)),
     ];
     for (bytes, number) in rows {
-        assert_eq!(rt;
+        same(
+            &rt,
             SliceReader::new(bytes, Endianness::Little).read_uleb128(),
-            number
+            number,
         );
     }
 }
@@ -135,9 +165,10 @@ fn signed_leb128(rt: HostRuntime) {
         (b"\xff\xff\xff\xff\xff\xff\xff\xff\xff\xff\x7f", Err(full)),
     ];
     for (bytes, number) in rows {
-        assert_eq!(rt;
+        same(
+            &rt,
             SliceReader::new(bytes, Endianness::Little).read_sleb128(),
-            number
+            number,
         );
     }
 }
@@ -149,19 +180,18 @@ fn relocated_numbers(rt: HostRuntime) -> Result<(), Fail> {
     let section = SliceReader::new(b"\x10\0\0\0\x10\0\0\0\x10\0\0\0", Endianness::Little);
     let relocations = [entry(0, 0x1100, false), entry(8, 0x1000, true)];
     let mut at = Relocate::new(&relocations, section);
-    assert_eq!(rt; stored_and_read(&section)?, (0x10, 0x10));
-    assert_eq!(rt; stored_and_read(&at)?, (0x10, 0x1100));
-    assert_eq!(rt; at.read_address(4)?, 0x1100);
-    assert_eq!(rt; at.read_length(Format::Dwarf32)?, 0x10);
+    same(&rt, stored_and_read(&section)?, (0x10, 0x10));
+    same(&rt, stored_and_read(&at)?, (0x10, 0x1100));
+    same(&rt, address_and_length(&mut at)?, (0x1100, 0x10));
     let again = [entry(8, 1, true)];
     let twice = Relocate {
         relocations: &again,
         section: Relocate::new(&relocations, section),
         reader: at,
     };
-    assert_eq!(rt; stored_and_read(&twice)?, (0x10, 0x1011));
-    assert_eq!(rt; at.read_sized_offset(4)?, 0x1010);
-    assert_eq!(rt; at.read_sized_offset(4), Err(ReadError::UnexpectedEof));
+    same(&rt, stored_and_read(&twice)?, (0x10, 0x1011));
+    same(&rt, sized_offset(&mut at)?, 0x1010);
+    same(&rt, sized_offset(&mut at), Err(ReadError::UnexpectedEof));
     Ok(())
 }
 
@@ -172,14 +202,18 @@ fn string_offsets(rt: HostRuntime) {
         format: Format::Dwarf64,
         address_size: 8,
     };
-    assert_eq!(rt; wide.string_offsets_header_size(), 16);
-    assert_eq!(rt; wide.string_offsets_count(39), 2);
-    assert_eq!(rt; wide.string_offsets_count(15), 0);
+    same(&rt, wide.string_offsets_header_size(), 16);
+    same(&rt, wide.string_offsets_count(39), 2);
+    same(&rt, wide.string_offsets_count(15), 0);
     let section = b"int\0char\0bool";
-    assert_eq!(rt; string_at(section, 4), Ok(b"char".as_slice()));
-    assert_eq!(rt; string_at(section, 6), Ok(b"ar".as_slice()));
-    assert_eq!(rt; string_at(section, 9), Err(ReadError::NoTerminator));
-    assert_eq!(rt; string_at(section, 14), Err(ReadError::OffsetOutOfRange));
+    same(&rt, string_at(section, 4), Ok(b"char".as_slice()));
+    same(&rt, string_at(section, 6), Ok(b"ar".as_slice()));
+    same(&rt, string_at(section, 9), Err(ReadError::NoTerminator));
+    same(
+        &rt,
+        string_at(section, 14),
+        Err(ReadError::OffsetOutOfRange),
+    );
 }
 
 #[test]
@@ -211,12 +245,13 @@ fn texts_of_faults(rt: HostRuntime) -> Result<(), Fail> {
         ),
         (ReadError::NotAString, "Attribute is no string"),
     ] {
-        assert_eq!(rt; format!(in rt.alloc(); "{fault}")?.as_str(), text);
+        same(&rt, format!(in rt.alloc(); "{fault}")?.as_str(), text);
     }
     let fault = WriteError::ValueTooLarge;
-    assert_eq!(rt;
+    same(
+        &rt,
         format!(in rt.alloc(); "{fault}")?.as_str(),
-        "Value is too large for its field"
+        "Value is too large for its field",
     );
     Ok(())
 }

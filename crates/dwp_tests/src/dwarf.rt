@@ -6,6 +6,7 @@ ghost use Rattle.dwp_dwarf.specs.Declarations.{table_of};
 ghost use Rattle.dwp_dwarf.specs.Entries.{root_at};
 ghost use Rattle.dwp_dwarf.specs.Units.{unit_of};
 
+use crate::asserting::{same, same_at};
 use Endianness::Little;
 use dwp_dwarf::*;
 use rows::{Answer, ROWS};
@@ -14,6 +15,7 @@ use std::test::Fail;
 mod cache;
 mod objects;
 mod rows;
+mod sizes;
 
 /// The tag of a root, and its first number of `DW_AT_GNU_dwo_id`.
 fn root_of<R: Reader>(
@@ -52,10 +54,18 @@ fn units_and_their_roots(rt: HostRuntime) {
     for row in &ROWS {
         let units = SliceReader::new(row.units, row.order);
         let abbreviations = SliceReader::new(row.abbreviations, row.order);
-        assert_eq!(rt; answer_of(units, row.section, abbreviations), row.answer);
+        same(
+            &rt,
+            answer_of(units, row.section, abbreviations),
+            row.answer,
+        );
         let units = Relocate::new(&[], units);
         let abbreviations = Relocate::new(&[], abbreviations);
-        assert_eq!(rt; answer_of(units, row.section, abbreviations), row.answer);
+        same(
+            &rt,
+            answer_of(units, row.section, abbreviations),
+            row.answer,
+        );
     }
 }
 
@@ -108,7 +118,7 @@ static STRINGS: [(u64, &'static [u8], Text); 19] = [
 #[test]
 fn strings_of_attributes(rt: HostRuntime) {
     for (form, value, text) in &STRINGS {
-        assert_eq!(rt; string_of(*form, value), *text, "form {form}");
+        same_at(&rt, string_of(*form, value), *text, form);
     }
 }
 
@@ -181,6 +191,16 @@ fn relocated_tag<'a>(
     }
 }
 
+/// Where the abbreviations of a relocated unit stand, and the tag of its root.
+fn relocated<'a>(
+    units: Relocate<'a, SliceReader<'a>>,
+    abbreviations: Relocate<'a, SliceReader<'a>>,
+) -> Result<(u64, u64), Fail> {
+    let unit = first_unit(units, UnitSection::Info)?;
+    let table = table_at(abbreviations, unit.abbrev_offset())?;
+    Ok((unit.abbrev_offset(), relocated_tag(&unit, &table)?))
+}
+
 #[test]
 fn a_root_by_a_relocated_offset(rt: HostRuntime) -> Result<(), Fail> {
     let relocations = [RelocationEntry {
@@ -193,10 +213,8 @@ fn a_root_by_a_relocated_offset(rt: HostRuntime) -> Result<(), Fail> {
     let units = b"\x10\0\0\0\x04\0\x77\x77\0\0\x08\x01\x05\0\0\0\0\0\0\0";
     let section = SliceReader::new(b"\0\0\x01\x11\0\xb1\x42\x07\0\0\0", Little);
     let reader = Relocate::new(&relocations, SliceReader::new(units, Little));
-    let unit = first_unit(reader, UnitSection::Info)?;
-    assert_eq!(rt; unit.abbrev_offset(), 2);
-    let table = table_at(Relocate::new(&[], section), 2)?;
-    assert_eq!(rt; relocated_tag(&unit, &table)?, 0x11);
+    let found = relocated(reader, Relocate::new(&[], section))?;
+    same(&rt, found, (2, 0x11));
     Ok(())
 }
 
@@ -218,14 +236,14 @@ fn offsets_are_relocated_and_nothing_else(rt: HostRuntime) -> Result<(), Fail> {
     let reader = Relocate::new(&RELOCATIONS, SliceReader::new(bytes, Little));
     let header = first_unit(reader, UnitSection::Types)?;
     let (size, abbreviations, unit_type, version, is_empty) = told(&header);
-    assert_eq!(rt; size, 23);
-    assert_eq!(rt; abbreviations, 0x20);
+    same(&rt, size, 23);
+    same(&rt, abbreviations, 0x20);
     let type_unit = UnitType::TypeUnit {
         type_signature: 0x11,
         type_offset: 0x42,
     };
-    assert_eq!(rt; unit_type, type_unit);
-    assert_eq!(rt; version, 4);
+    same(&rt, unit_type, type_unit);
+    same(&rt, version, 4);
     assert!(rt; is_empty);
     Ok(())
 }

@@ -2,6 +2,7 @@
 
 ghost use Rattle.std.specs.Prelude.{Some};
 
+use crate::asserting::same;
 use dwp_elf::{
     Class, Contribution, ContributionOffset, Endianness, SectionKind, Watched, WritableObject,
     WriteError,
@@ -251,9 +252,9 @@ fn packages_are_laid_out_by_class_and_byte_order(rt: HostRuntime) -> Result<(), 
     let alloc = rt.alloc();
     let object_64 = package(alloc)?;
     let file = object_64.write()?;
-    assert_eq!(rt; file.len(), 544);
-    assert_eq!(rt; file.as_slice(), joined(alloc, PACKAGE)?.as_slice());
-    assert_eq!(rt; object_64.file_size()?, 544);
+    same(&rt, file.len(), 544);
+    same(&rt, file.as_slice(), joined(alloc, PACKAGE)?.as_slice());
+    same(&rt, object_64.file_size()?, 544);
     let object_32 = object(
         alloc,
         Class::Elf32,
@@ -263,9 +264,9 @@ fn packages_are_laid_out_by_class_and_byte_order(rt: HostRuntime) -> Result<(), 
         INDEX_32,
     )?;
     let file = object_32.write()?;
-    assert_eq!(rt; file.len(), 408);
-    assert_eq!(rt; file.as_slice(), joined(alloc, PACKAGE_32)?.as_slice());
-    assert_eq!(rt; object_32.file_size()?, 408);
+    same(&rt, file.len(), 408);
+    same(&rt, file.as_slice(), joined(alloc, PACKAGE_32)?.as_slice());
+    same(&rt, object_32.file_size()?, 408);
     Ok(())
 }
 
@@ -273,11 +274,11 @@ fn packages_are_laid_out_by_class_and_byte_order(rt: HostRuntime) -> Result<(), 
 fn files_without_contents_have_two_sections(rt: HostRuntime) -> Result<(), Fail> {
     let alloc = rt.alloc();
     let file = WritableObject::new(alloc, Class::Elf64, X86_64, Endianness::Little).write()?;
-    assert_eq!(rt; file.len(), 208);
-    assert_eq!(rt; file.as_slice(), joined(alloc, EMPTY)?.as_slice());
+    same(&rt, file.len(), 208);
+    same(&rt, file.as_slice(), joined(alloc, EMPTY)?.as_slice());
     let file = WritableObject::new(alloc, Class::Elf32, 3, Endianness::Little).write()?;
-    assert_eq!(rt; file.len(), 144);
-    assert_eq!(rt; file.as_slice(), joined(alloc, EMPTY_32)?.as_slice());
+    same(&rt, file.len(), 144);
+    same(&rt, file.as_slice(), joined(alloc, EMPTY_32)?.as_slice());
     Ok(())
 }
 
@@ -290,7 +291,7 @@ fn a_package_with_strings_has_728_bytes(rt: HostRuntime) -> Result<(), Fail> {
     object.append(SectionKind::Info, INFO)?;
     object.append(SectionKind::Str, b"b\0a\0")?;
     object.append(SectionKind::CuIndex, &[0; 76])?;
-    assert_eq!(rt; object.file_size()?, 728);
+    same(&rt, object.file_size()?, 728);
     Ok(())
 }
 
@@ -298,23 +299,23 @@ fn a_package_with_strings_has_728_bytes(rt: HostRuntime) -> Result<(), Fail> {
 fn contents_grow_in_order_of_first_append(rt: HostRuntime) -> Result<(), Fail> {
     let alloc = rt.alloc();
     let mut object = WritableObject::new(alloc, Class::Elf32, MIPS, Endianness::Big);
-    assert_eq!(rt; object.append(SectionKind::Info, b"")?, None);
-    assert_eq!(rt; object.sections().len(), 0);
+    same(&rt, object.append(SectionKind::Info, b"")?, None);
+    same(&rt, object.sections().len(), 0);
     object.append(SectionKind::Line, b"ab")?;
     object.append(SectionKind::Info, b"cd")?;
     let place = Contribution {
         offset: ContributionOffset(2),
         size: 3,
     };
-    assert_eq!(rt; object.append(SectionKind::Line, b"efg")?, Some(place));
+    same(&rt, object.append(SectionKind::Line, b"efg")?, Some(place));
     assert!(rt; is_content(object.sections(), 0, SectionKind::Line, b"abefg"));
     assert!(rt; is_content(object.sections(), 1, SectionKind::Info, b"cd"));
     object.truncate(&[3]);
-    assert_eq!(rt; object.sections().len(), 1);
+    same(&rt, object.sections().len(), 1);
     assert!(rt; is_content(object.sections(), 0, SectionKind::Line, b"abe"));
-    assert_eq!(rt; object.class(), Class::Elf32);
-    assert_eq!(rt; object.machine(), MIPS);
-    assert_eq!(rt; object.endianness(), Endianness::Big);
+    same(&rt, object.class(), Class::Elf32);
+    same(&rt, object.machine(), MIPS);
+    same(&rt, object.endianness(), Endianness::Big);
     Ok(())
 }
 
@@ -336,7 +337,11 @@ fn a_slow_writer_gets_the_whole_file(rt: HostRuntime) -> Result<(), Fail> {
     let alloc = rt.alloc();
     let mut writer = make_writer(alloc, 7, usize::MAX, true)?.writer;
     package(alloc)?.write_to(&mut writer)?;
-    assert_eq!(rt; writer.bytes.as_slice(), joined(alloc, PACKAGE)?.as_slice());
+    same(
+        &rt,
+        writer.bytes.as_slice(),
+        joined(alloc, PACKAGE)?.as_slice(),
+    );
     Ok(())
 }
 
@@ -345,13 +350,13 @@ fn a_writer_that_fails_has_a_beginning(rt: HostRuntime) -> Result<(), Fail> {
     let alloc = rt.alloc();
     let mut writer = make_writer(alloc, usize::MAX, 100, true)?;
     match package(alloc)?.write_to(&mut writer) {
-        Err(WriteError::Io(error)) => assert_eq!(rt; error.kind(), ErrorKind::Other),
+        Err(WriteError::Io(error)) => same(&rt, error.kind(), ErrorKind::Other),
         _ => panic!(rt; "the writer failed"),
     }
     let file = joined(alloc, PACKAGE)?;
-    assert_eq!(rt; writer.writer.bytes.len(), 100);
+    same(&rt, writer.writer.bytes.len(), 100);
     assert!(rt; file.starts_with(&writer.writer.bytes));
-    assert_eq!(rt; writer.fault, Some(ErrorKind::Other));
+    same(&rt, writer.fault, Some(ErrorKind::Other));
     Ok(())
 }
 
@@ -360,11 +365,11 @@ fn a_writer_that_takes_nothing_gets_nothing(rt: HostRuntime) -> Result<(), Fail>
     let alloc = rt.alloc();
     let mut writer = make_writer(alloc, usize::MAX, 0, false)?;
     match package(alloc)?.write_to(&mut writer) {
-        Err(WriteError::Io(error)) => assert_eq!(rt; error.kind(), ErrorKind::WriteZero),
+        Err(WriteError::Io(error)) => same(&rt, error.kind(), ErrorKind::WriteZero),
         _ => panic!(rt; "the writer took nothing"),
     }
-    assert_eq!(rt; writer.writer.bytes.len(), 0);
-    assert_eq!(rt; writer.fault, Some(ErrorKind::WriteZero));
+    same(&rt, writer.writer.bytes.len(), 0);
+    same(&rt, writer.fault, Some(ErrorKind::WriteZero));
     Ok(())
 }
 
@@ -378,7 +383,7 @@ fn append_and_write(rt: &impl Abort, alloc: Global) -> Result<Vec<u8>, WriteErro
     ] {
         let size = object.file_size()?;
         if let Err(error) = object.append(kind, bytes) {
-            assert_eq!(rt; object.file_size()?, size);
+            same(rt, object.file_size()?, size);
             return Err(error);
         }
     }
@@ -388,7 +393,7 @@ fn append_and_write(rt: &impl Abort, alloc: Global) -> Result<Vec<u8>, WriteErro
 #[test]
 fn refused_memory_is_answered(rt: HostRuntime) {
     match append_and_write(&rt, rt.alloc()) {
-        Ok(file) => assert_eq!(rt; file.len(), 408),
+        Ok(file) => same(&rt, file.len(), 408),
         Err(WriteError::Memory) => {}
         Err(_) => panic!(rt; "only memory was refused"),
     }

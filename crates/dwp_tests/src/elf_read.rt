@@ -1,5 +1,6 @@
 //! Files of both classes and orders, and damaged ones.
 
+use crate::asserting::{same, same_at};
 use dwp_base::{Class, Endianness, SectionKind};
 use dwp_elf_read::{ElfFile, FileKind, RawRelocation, ReadError, WriteError};
 use std::alloc::{AllocError, Global};
@@ -141,21 +142,68 @@ fn changed(alloc: Global, bytes: &[u8], changes: &[(usize, u8)]) -> Result<Vec<u
     Ok(copy)
 }
 
+/// What a section of a file says, by its number.
+#[derive(PartialEq, Drop)]
+struct Said<'a> {
+    name: Result<&'a str, ReadError>,
+    data: Result<&'a [u8], ReadError>,
+    is_empty: bool,
+    is_compressed: bool,
+    flags: u64,
+    address: u64,
+    link: u32,
+    info: u32,
+}
+
+fn read_section(bytes: &[u8], number: usize) -> Result<Said<'_>, Fail> {
+    let section = ElfFile::parse(bytes)?.section(number).ok_or("not there")?;
+    Ok(Said {
+        name: section.name(),
+        data: section.data(),
+        is_empty: section.is_empty(),
+        is_compressed: section.is_compressed(),
+        flags: section.flags(),
+        address: section.address(),
+        link: section.link(),
+        info: section.info(),
+    })
+}
+
+/// Whether a file has a section of a name.
+fn has(bytes: &[u8], name: &str) -> Result<bool, Fail> {
+    Ok(ElfFile::parse(bytes)?.section_by_name(name).is_some())
+}
+
+/// What the iterator of a section's relocations gives at first.
+fn relocations(
+    bytes: &[u8],
+    number: usize,
+) -> Result<[Option<Result<RawRelocation, ReadError>>; 4], Fail> {
+    let section = ElfFile::parse(bytes)?.section(number).ok_or("not there")?;
+    let mut found = section.relocations();
+    Ok([found.next(), found.next(), found.next(), found.next()])
+}
+
+/// The value of a symbol of a table.
+fn symbol(bytes: &[u8], table: u32, number: u32) -> Result<u64, ReadError> {
+    ElfFile::parse(bytes)?.symbol_value(table, number)
+}
+
 /// Each section of the package by name, type, and where its content lies.
 fn assert_sections(rt: &impl Abort, bytes: &[u8], table: [(&str, u32, usize, usize); 4]) {
     let Ok(file) = ElfFile::parse(bytes) else {
         assert!(rt; false, "the file is not read");
         return;
     };
-    assert_eq!(rt; file.section_count(), 5);
+    same(rt, file.section_count(), 5);
     for (i, &(name, kind, place, size)) in table.iter().enumerate() {
         let Some(section) = file.section(i + 1) else {
             assert!(rt; false, "section {i} is not there");
             return;
         };
         assert!(rt; section.name() == Ok(name), "name of {i}");
-        assert_eq!(rt; section.kind(), kind, "type of {i}");
-        assert_eq!(rt; section.number(), i + 1);
+        same_at(rt, section.kind(), kind, i);
+        same(rt, section.number(), i + 1);
         assert!(rt;
             section.data().ok() == bytes.get(place..place.saturating_add(size)),
             "content of {i}"
@@ -174,12 +222,12 @@ const PLACES: [(&str, u32, usize, usize); 4] = [
 #[test]
 fn package_of_64_bits(rt: HostRuntime) -> Result<(), Fail> {
     let bytes = package(rt.alloc())?;
-    assert_eq!(rt; bytes.len(), 544);
-    assert_eq!(rt; FileKind::parse(&bytes), Ok(FileKind::Elf64));
+    same(&rt, bytes.len(), 544);
+    same(&rt, FileKind::parse(&bytes), Ok(FileKind::Elf64));
     let file = ElfFile::parse(&bytes)?;
-    assert_eq!(rt; file.class(), Class::Elf64);
-    assert_eq!(rt; file.endianness(), Endianness::Little);
-    assert_eq!(rt; file.machine(), 62);
+    same(&rt, file.class(), Class::Elf64);
+    same(&rt, file.endianness(), Endianness::Little);
+    same(&rt, file.machine(), 62);
     assert_sections(&rt, &bytes, PLACES);
     Ok(())
 }
@@ -187,12 +235,12 @@ fn package_of_64_bits(rt: HostRuntime) -> Result<(), Fail> {
 #[test]
 fn package_of_32_bits_big_endian(rt: HostRuntime) -> Result<(), Fail> {
     let bytes = big_endian_package(rt.alloc())?;
-    assert_eq!(rt; bytes.len(), 408);
-    assert_eq!(rt; FileKind::parse(&bytes), Ok(FileKind::Elf32));
+    same(&rt, bytes.len(), 408);
+    same(&rt, FileKind::parse(&bytes), Ok(FileKind::Elf32));
     let file = ElfFile::parse(&bytes)?;
-    assert_eq!(rt; file.class(), Class::Elf32);
-    assert_eq!(rt; file.endianness(), Endianness::Big);
-    assert_eq!(rt; file.machine(), 8);
+    same(&rt, file.class(), Class::Elf32);
+    same(&rt, file.endianness(), Endianness::Big);
+    same(&rt, file.machine(), 8);
     let places = [
         (".debug_abbrev.dwo", 1, 52, 9),
         (".debug_info.dwo", 1, 61, 20),
@@ -217,12 +265,12 @@ fn names_lead_to_sections(rt: HostRuntime) -> Result<(), Fail> {
     let bytes = package(rt.alloc())?;
     let file = ElfFile::parse(&bytes)?;
     let section = file.section_by_name(".debug_info.dwo").ok_or("not found")?;
-    assert_eq!(rt; section.number(), 2);
-    assert_eq!(rt; section.size(), 20);
+    same(&rt, section.number(), 2);
+    same(&rt, section.size(), 20);
     assert!(rt; file.section_by_name(".debug_info").is_none());
     let mut sections = file.sections();
     assert!(rt; sections.next().is_some_and(|section| section.kind() == 0));
-    assert_eq!(rt; sections.count(), 4);
+    same(&rt, sections.count(), 4);
     Ok(())
 }
 
@@ -276,30 +324,23 @@ fn lying_section_headers(rt: HostRuntime) -> Result<(), Fail> {
     let placed = changed(rt.alloc(), &bytes, &[(368, 1)])?;
     let without_bytes = changed(rt.alloc(), &bytes, &[(356, 8), (385, 0xff)])?;
     let nameless = changed(rt.alloc(), &bytes, &[(353, 1)])?;
-    let section = ElfFile::parse(&compressed)?.section(2).ok_or("not there")?;
-    assert!(rt; section.is_compressed());
-    assert_eq!(rt; section.flags(), 0x800);
-    let section = ElfFile::parse(&outside)?.section(2).ok_or("not there")?;
-    assert!(rt; section.data() == Err(ReadError::SectionRange));
-    assert!(rt; !section.is_compressed() && !section.is_empty());
-    let section = ElfFile::parse(&placed)?.section(2).ok_or("not there")?;
-    assert_eq!(rt; section.address(), 1);
-    let section = ElfFile::parse(&without_bytes)?
-        .section(2)
-        .ok_or("not there")?;
-    assert!(rt; section.data() == Ok(b"") && section.is_empty());
-    let file = ElfFile::parse(&nameless)?;
-    let section = file.section(2).ok_or("not there")?;
-    assert!(rt; section.name() == Err(ReadError::NameRange));
-    assert!(rt; file.section_by_name(".debug_info.dwo").is_none());
+    let section = read_section(&compressed, 2)?;
+    assert!(rt; section.is_compressed);
+    same(&rt, section.flags, 0x800);
+    let section = read_section(&outside, 2)?;
+    assert!(rt; section.data == Err(ReadError::SectionRange));
+    assert!(rt; !section.is_compressed && !section.is_empty);
+    same(&rt, read_section(&placed, 2)?.address, 1);
+    let section = read_section(&without_bytes, 2)?;
+    assert!(rt; section.data == Ok(b"") && section.is_empty);
+    assert!(rt; read_section(&nameless, 2)?.name == Err(ReadError::NameRange));
+    assert!(rt; !has(&nameless, ".debug_info.dwo")?);
     Ok(())
 }
 
 #[test]
 fn relocations_with_addends(rt: HostRuntime) -> Result<(), Fail> {
     let bytes = object_with_addends(rt.alloc())?;
-    let file = ElfFile::parse(&bytes)?;
-    let mut relocations = file.section(1).ok_or("not there")?.relocations();
     let first = RawRelocation {
         offset: 4,
         kind: 10,
@@ -316,25 +357,29 @@ fn relocations_with_addends(rt: HostRuntime) -> Result<(), Fail> {
         addend: 16,
         implicit_addend: false,
     };
-    assert!(rt; relocations.next() == Some(Ok(first)));
-    assert!(rt; relocations.next() == Some(Ok(second)));
-    assert!(rt; relocations.next().is_none());
-    let section = file.section(2).ok_or("not there")?;
-    assert!(rt; section.link() == 3 && section.info() == 1);
-    assert!(rt; section.relocations().next().is_none());
-    assert_eq!(rt; file.symbol_value(3, 1), Ok(0x1000));
-    assert_eq!(rt; file.symbol_value(3, 2), Err(ReadError::SymbolIndex));
-    assert_eq!(rt; file.symbol_value(2, 1), Err(ReadError::SymbolTable));
-    assert_eq!(rt; file.symbol_value(5, 1), Err(ReadError::SymbolTable));
-    assert_eq!(rt; file.symbol_value(0, 0), Ok(0));
+    same(
+        &rt,
+        relocations(&bytes, 1)?,
+        [Some(Ok(first)), Some(Ok(second)), None, None],
+    );
+    let section = read_section(&bytes, 2)?;
+    assert!(rt; section.link == 3 && section.info == 1);
+    same(&rt, relocations(&bytes, 2)?, [None; 4]);
+    for (table, number, value) in [
+        (3, 1, Ok(0x1000)),
+        (3, 2, Err(ReadError::SymbolIndex)),
+        (2, 1, Err(ReadError::SymbolTable)),
+        (5, 1, Err(ReadError::SymbolTable)),
+        (0, 0, Ok(0)),
+    ] {
+        same_at(&rt, symbol(&bytes, table, number), value, (table, number));
+    }
     Ok(())
 }
 
 #[test]
 fn relocations_without_addends(rt: HostRuntime) -> Result<(), Fail> {
     let bytes = object_without_addends(rt.alloc())?;
-    let file = ElfFile::parse(&bytes)?;
-    let mut relocations = file.section(1).ok_or("not there")?.relocations();
     let only = RawRelocation {
         offset: 2,
         kind: 20,
@@ -343,9 +388,12 @@ fn relocations_without_addends(rt: HostRuntime) -> Result<(), Fail> {
         addend: 0,
         implicit_addend: true,
     };
-    assert!(rt; relocations.next() == Some(Ok(only)));
-    assert!(rt; relocations.next().is_none());
-    assert_eq!(rt; file.symbol_value(3, 1), Ok(0x2000));
+    same(
+        &rt,
+        relocations(&bytes, 1)?,
+        [Some(Ok(only)), None, None, None],
+    );
+    same(&rt, symbol(&bytes, 3, 1), Ok(0x2000));
     Ok(())
 }
 
@@ -356,28 +404,30 @@ fn relocations_end_with_a_fault(rt: HostRuntime) -> Result<(), Fail> {
     let bytes = object_with_addends(rt.alloc())?;
     // Section 3 becomes a table of relocations of section 1, with 47 bytes.
     let bytes = changed(rt.alloc(), &bytes, &[(412, 4), (440, 47), (452, 1)])?;
-    let file = ElfFile::parse(&bytes)?;
-    let mut relocations = file.section(1).ok_or("not there")?.relocations();
-    assert!(rt; matches!(relocations.next(), Some(Ok(_))));
-    assert!(rt; matches!(relocations.next(), Some(Ok(_))));
-    assert!(rt; relocations.next() == Some(Err(ReadError::RelocationTable)));
-    assert!(rt; relocations.next().is_none());
+    let [first, second, third, end] = relocations(&bytes, 1)?;
+    assert!(rt; matches!(first, Some(Ok(_))));
+    assert!(rt; matches!(second, Some(Ok(_))));
+    assert!(rt; third == Some(Err(ReadError::RelocationTable)));
+    assert!(rt; end.is_none());
     Ok(())
 }
 
 #[test]
 fn archives(rt: HostRuntime) {
-    assert_eq!(rt;
+    same(
+        &rt,
         FileKind::parse(b"!<arch>\n12345678"),
-        Ok(FileKind::Archive)
+        Ok(FileKind::Archive),
     );
-    assert_eq!(rt;
+    same(
+        &rt,
         FileKind::parse(b"!<thin>\n12345678"),
-        Ok(FileKind::Archive)
+        Ok(FileKind::Archive),
     );
-    assert_eq!(rt;
+    same(
+        &rt,
         FileKind::parse(b"!<arch>\n1234567"),
-        Err(ReadError::TooShort)
+        Err(ReadError::TooShort),
     );
     assert!(rt; ElfFile::parse(b"!<arch>\n12345678").err() == Some(ReadError::NotElf));
 }
@@ -414,7 +464,7 @@ fn texts_of_faults(rt: HostRuntime) -> Result<(), Fail> {
         (ReadError::RelocationTable, "Relocation table can't be read"),
         (ReadError::Compressed, "Section is compressed"),
     ] {
-        assert_eq!(rt; format!(in rt.alloc(); "{fault}")?.as_str(), text);
+        same(&rt, format!(in rt.alloc(); "{fault}")?.as_str(), text);
     }
     for (fault, text) in [
         (
@@ -427,7 +477,7 @@ fn texts_of_faults(rt: HostRuntime) -> Result<(), Fail> {
             "Writer failed",
         ),
     ] {
-        assert_eq!(rt; format!(in rt.alloc(); "{fault}")?.as_str(), text);
+        same(&rt, format!(in rt.alloc(); "{fault}")?.as_str(), text);
     }
     Ok(())
 }
@@ -441,9 +491,9 @@ fn sections_are_called_by_their_names(rt: HostRuntime) -> Result<(), Fail> {
     assert!(rt; !info.is_called(".debug_info.dw"));
     assert!(rt; !info.is_called(".debug_info.dwo1"));
     assert!(rt; !info.is_called(""));
-    assert_eq!(rt; info.section_kind(), Some(SectionKind::Info));
+    same(&rt, info.section_kind(), Some(SectionKind::Info));
     let names = file.section(4).ok_or("not there")?;
     assert!(rt; names.is_called(".shstrtab"));
-    assert_eq!(rt; names.section_kind(), None);
+    same(&rt, names.section_kind(), None);
     Ok(())
 }

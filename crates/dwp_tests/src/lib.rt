@@ -1,6 +1,8 @@
-//! Tests of the crates of the formats, `dwp_base` to `dwp_table`, by their public calls.
+//! Tests of the crates of the formats, `dwp_base` to `dwp_index`, by their public calls.
 #![tactic(auto)]
 
+#[cfg(test)]
+mod asserting;
 #[cfg(test)]
 mod base;
 #[cfg(test)]
@@ -11,5 +13,7 @@ mod dwarf;
 mod elf;
 #[cfg(test)]
 mod elf_read;
+#[cfg(test)]
+mod index;
 #[cfg(test)]
 mod table;

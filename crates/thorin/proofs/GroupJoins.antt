@@ -9,8 +9,8 @@ use Rattle.std.proofs.lemmas.Map.Keys.{IsDistinct-IsPermutation, IsDistinct-push
 use Rattle.dwp_table.specs.declared.object.DwarfObject.{DwarfObject}
 use Rattle.dwp_table.specs.declared.object.DwarfObject.TheVariants.{Compilation, TypeUnit}
 use Rattle.thorin.specs.Groups.{AreJoined}
-use Rattle.thorin_builder.specs.Meaning.{keys, joining, can_join}
-use Rattle.thorin_builder.specs.Names.{same_name, is_compilation}
+use Rattle.thorin_join.specs.Meaning.{keys, joining, can_join}
+use Rattle.thorin_input.specs.Names.{same_name, is_compilation}
 use Rattle.thorin.proofs.Shuffled.{IsPermutation-filter}
 
 -- ---- names

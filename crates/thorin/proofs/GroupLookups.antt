@@ -8,8 +8,8 @@ use Rattle.std.proofs.lemmas.List.{map-set, length-map}
 use Rattle.std.proofs.lemmas.List.Edits.{swap_is}
 use Rattle.std.proofs.lemmas.List.Sorted.{IsPermutation-keeps}
 use Rattle.dwp_table.specs.declared.object.DwarfObject.{DwarfObject}
-use Rattle.thorin_builder.specs.Meaning.{keys}
-use Rattle.thorin_builder.specs.Names.{same_name}
+use Rattle.thorin_join.specs.Meaning.{keys}
+use Rattle.thorin_input.specs.Names.{same_name}
 use Rattle.thorin.proofs.GroupJoins.{same-true}
 use Rattle.thorin.proofs.Shuffled.{IsPermutation-filter}
 

@@ -11,14 +11,14 @@ use Rattle.dwp_elf.specs.Written.{written_elf}
 use Rattle.dwp_elf_read.specs.Elf.{elf_of}
 use Rattle.dwp_table.specs.declared.object.DwarfObject.{DwarfObject}
 use Rattle.thorin_faults.specs.Fault.{Fault}
-use Rattle.thorin_builder.specs.Builder.{State, start, taken, with_input, finish_test, IsFinishedState}
-use Rattle.thorin_builder.specs.Encodings.{own_encoding}
-use Rattle.thorin_builder.specs.Join.{JoinAll, IsPackageOf}
-use Rattle.thorin_builder.specs.Meaning.{Meaning, Members, keys, input_meaning, joining, can_join}
-use Rattle.thorin_builder.specs.Names.{same_name}
-use Rattle.thorin_builder.specs.Represents.{IsSoundBegun, units_in}
-use Rattle.thorin_builder.specs.State.{InProgress}
-use Rattle.thorin_builder.specs.Again.{HaveEncodingOf, all_meant, MeansWhereTaken, MeansOnceWritten}
+use Rattle.thorin_join.specs.Builder.{State, start, taken, with_input, finish_test, IsFinishedState}
+use Rattle.thorin_input.specs.Encodings.{own_encoding}
+use Rattle.thorin_join.specs.Join.{JoinAll, IsPackageOf}
+use Rattle.thorin_join.specs.Meaning.{Meaning, Members, keys, input_meaning, joining, can_join}
+use Rattle.thorin_input.specs.Names.{same_name}
+use Rattle.thorin_join.specs.Represents.{IsSoundBegun, units_in}
+use Rattle.thorin_join.specs.State.{InProgress}
+use Rattle.thorin_join.specs.Again.{HaveEncodingOf, all_meant, MeansWhereTaken, MeansOnceWritten}
 use Rattle.thorin.specs.Groups.{taken_each, IsPackedAlone, ArePackedAlone, IsPackedInGroups, AreJoined, HaveTheirEncodings, inputs_of, IsPackageOfAll}
 use Rattle.thorin.proofs.GroupJoins.{groups-defined, groups-joined, joined-distinct, none-distinct}
 use Rattle.thorin.proofs.GroupLookups.{units-found, swap-map}

@@ -5,9 +5,9 @@ use Rattle.std.proofs.lemmas.List.{map-append, take-append-drop}
 use Rattle.dwp_base.specs.Reading.{◌>>=◌}
 use Rattle.thorin_faults.specs.Fault.{Fault}
 use Rattle.thorin_faults.specs.declared.fault.Error.{Error}
-use Rattle.thorin_builder.specs.Builder.{State, start, taken}
-use Rattle.thorin_builder.specs.Join.{JoinAll, IsPackageOf}
-use Rattle.thorin_builder.specs.Represents.{units_in}
+use Rattle.thorin_join.specs.Builder.{State, start, taken}
+use Rattle.thorin_join.specs.Join.{JoinAll, IsPackageOf}
+use Rattle.thorin_join.specs.Represents.{units_in}
 use Rattle.thorin.specs.Groups.{taken_each, IsPackedAlone, ArePackedAlone, PacksAlone, PacksInGroups, IsPackedInGroups, HaveTheirEncodings, IsPackageOfAll, inputs_of}
 use Rattle.thorin.specs.Run.{Writes}
 use Rattle.thorin.proofs.Running.{taken-next}

@@ -14,10 +14,10 @@ use Rattle.thorin_faults.specs.declared.fault.MissingReferencedObjectBehaviour.{
 use Rattle.thorin_executable.specs.View.{named}
 use Rattle.thorin.specs.declared.packing.Input.{Input}
 use Rattle.thorin.specs.declared.packing.Input.TheVariants as inputs
-use Rattle.thorin_builder.specs.Builder.{State}
-use Rattle.thorin_builder.specs.Join.{JoinAll}
-use Rattle.thorin_builder.specs.Meaning.{Members}
-use Rattle.thorin_builder.specs.Represents.{units_in}
+use Rattle.thorin_join.specs.Builder.{State}
+use Rattle.thorin_join.specs.Join.{JoinAll}
+use Rattle.thorin_join.specs.Meaning.{Members}
+use Rattle.thorin_join.specs.Represents.{units_in}
 use Rattle.thorin_builder.specs.Taking.{Outcome, Takes, accepted_of, TakesRead, with_target, TakesReferred, TakesSkeleton, Step, GoesOn, TakesSkeletons, TakesExecutable, TakesFile, TakesExecutableRead}
 use Rattle.thorin.specs.Run.{TakesInput, Took, Ran}
 

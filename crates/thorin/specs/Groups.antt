@@ -10,12 +10,12 @@ use Rattle.dwp_table.specs.declared.object.DwarfObject.{DwarfObject}
 use Rattle.thorin_faults.specs.declared.fault.Error.{Error}
 use Rattle.thorin_faults.specs.Fault.{Fault, fault_of}
 use Rattle.thorin_faults.specs.Answers.{MemoryAside}
-use Rattle.thorin_builder.specs.Again.{HaveEncodingOf}
-use Rattle.thorin_builder.specs.Builder.{State, start, taken}
-use Rattle.thorin_builder.specs.Join.{JoinAll, IsPackageOf}
-use Rattle.thorin_builder.specs.Meaning.{Members, joining, can_join}
-use Rattle.thorin_builder.specs.Names.{same_name}
-use Rattle.thorin_builder.specs.Represents.{units_in}
+use Rattle.thorin_join.specs.Again.{HaveEncodingOf}
+use Rattle.thorin_join.specs.Builder.{State, start, taken}
+use Rattle.thorin_join.specs.Join.{JoinAll, IsPackageOf}
+use Rattle.thorin_join.specs.Meaning.{Members, joining, can_join}
+use Rattle.thorin_input.specs.Names.{same_name}
+use Rattle.thorin_join.specs.Represents.{units_in}
 use Rattle.thorin.specs.Run.{IsWritten, RefusesToWrite}
 
 -- the bytes of inputs, and those of groups of inputs

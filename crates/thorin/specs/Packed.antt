@@ -3,9 +3,9 @@ use Rattle.std.specs.Prelude.{◌≡◌, ℕ, List, [], map, Result, IfOk}
 use Rattle.std.specs.declared.io.Error.{Error as IoError}
 use Rattle.thorin.specs.declared.packing.Input.{Input}
 use Rattle.thorin.specs.declared.packing.Packed.{Packed}
-use Rattle.thorin_builder.specs.Builder.{State, start, differing_in}
-use Rattle.thorin_builder.specs.Join.{JoinAll, IsPackageOf}
-use Rattle.thorin_builder.specs.Represents.{units_in}
+use Rattle.thorin_join.specs.Builder.{State, start, differing_in}
+use Rattle.thorin_join.specs.Join.{JoinAll, IsPackageOf}
+use Rattle.thorin_join.specs.Represents.{units_in}
 use Rattle.thorin.specs.Run.{Ran, Writes}
 
 -- the outcomes are those of a run from the start; its package has the units of the accepted inputs,

@@ -13,7 +13,7 @@ use Rattle.thorin_faults.specs.Fault.{Fault, fault_of, ObjectWrite}
 use Rattle.thorin_faults.specs.Answers.{MemoryAside}
 use Rattle.thorin.specs.declared.packing.Input.{Input}
 use Rattle.thorin.specs.declared.packing.Input.TheVariants as inputs
-use Rattle.thorin_builder.specs.Builder.{State, finish_test, IsFinishedState}
+use Rattle.thorin_join.specs.Builder.{State, finish_test, IsFinishedState}
 use Rattle.thorin_builder.specs.Taking.{Outcome, Takes, accepted_of, TakesFile, TakesExecutable}
 use Rattle.thorin_builder.specs.Taking.{Step}
 

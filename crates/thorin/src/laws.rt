@@ -3,17 +3,18 @@
 ghost use Rattle.std.specs.Prelude.{◌≡◌, ◌∷◌, ◌++◌, ℕ, List, [], Option, IsPermutation};
 ghost use Rattle.std.specs.List.{flat_map};
 ghost use Rattle.dwp_table.specs.declared.object.DwarfObject.{DwarfObject};
-ghost use Rattle.thorin_builder.specs.Builder.{State};
-ghost use Rattle.thorin_builder.specs.Join.{JoinAll};
-ghost use Rattle.thorin_builder.specs.Meaning.{Meaning, joining, can_join};
-ghost use Rattle.thorin_builder.specs.Represents.{units_in};
+ghost use Rattle.thorin_join.specs.Builder.{State};
+ghost use Rattle.thorin_join.specs.Join.{JoinAll};
+ghost use Rattle.thorin_join.specs.Meaning.{Meaning, joining, can_join};
+ghost use Rattle.thorin_join.specs.Represents.{units_in};
 ghost use Rattle.thorin_builder.specs.Taking.{Outcome};
 ghost use Rattle.thorin.specs.declared.packing.Input.{Input};
 ghost use Rattle.thorin.specs.Groups.{AreJoined, HaveTheirEncodings, IsPackedInGroups};
 ghost use Rattle.thorin.specs.Groups.{IsPackageOfAll, inputs_of};
 ghost use Rattle.thorin.specs.Run.{Ran, TakesInput};
 
-use thorin_builder::{InputReader, inputs_are_joined, written_packages_mean_their_units};
+use thorin_builder::InputReader;
+use thorin_join::{inputs_are_joined, written_packages_mean_their_units};
 
 /// The law of joining in groups, on lists of units alone: where each group is joined to nothing,
 /// and what came of the groups, each in any order, is joined then, that is defined where joining

@@ -16,7 +16,7 @@ pub use dwp_table::{DebugTypeSignature, DwarfObject, DwoId};
 pub use groups::pack_groups;
 pub use packing::{Input, Packed, pack, take_input};
 pub use thorin_builder::{DwarfPackage, InputReader, MissingTargets};
-pub use thorin_executable::{Skeleton, SkeletonList, skeletons};
+pub use thorin_executable::{Skeleton, SkeletonList, SkeletonUnits, skeletons};
 pub use thorin_faults::{
     ArenaSession, BytesSession, Error, InputError, MemorySession, MissingReferencedObjectBehaviour,
     Result, Session,

@@ -1,10 +1,10 @@
 //! Whole packages from lists of inputs.
 
 ghost use Rattle.std.specs.Prelude.{◌≡◌, map, IfOk, IfErr};
-ghost use Rattle.thorin_builder.specs.Builder.{differing_in};
-ghost use Rattle.thorin_builder.specs.Join.{IsPackageOf};
+ghost use Rattle.thorin_join.specs.Builder.{differing_in};
+ghost use Rattle.thorin_join.specs.Join.{IsPackageOf};
 ghost use Rattle.thorin.specs.Packed.{IsPacked};
-ghost use Rattle.thorin_builder.specs.Represents.{units_in};
+ghost use Rattle.thorin_join.specs.Represents.{units_in};
 ghost use Rattle.thorin.specs.Run.{Took, Writes};
 
 use dwp_bytes::RelocationEntry;

@@ -1,16 +1,20 @@
 -- A package that loses nothing of what it had.
-use Rattle.std.proofs.Common.{◌≡◌, ◌∙◌, ℕ, ◌≤◌, Bool, true, false, cond, List, ◌++◌, length, take, min, ap, sym, refl, arith, Ok}
+use Rattle.std.proofs.Common.{◌≡◌, ◌∙◌, ℕ, ◌≤◌, Bool, true, false, cond, List, ◌++◌, length, take, min, ap, sym, refl, arith, Ok, Result}
 use Rattle.std.proofs.lemmas.List.{length-take, take-append-le}
 use Rattle.std.proofs.Math.Seq.{take-length}
 use Rattle.dwp_elf.specs.FileText.{Object as File}
-use Rattle.thorin_builder.specs.Growing.{Contents, IsGrown, with_parts}
-use Rattle.thorin_builder.specs.Indexes.{Source}
-use Rattle.thorin_builder.specs.NewUnits.{New, new_units}
-use Rattle.thorin_builder.specs.Parts.{parts_of}
-use Rattle.thorin_builder.specs.State.{InProgress, Extends, with_source, with_all, with_new_units, abbreviations_test, adding}
-use Rattle.thorin_builder.specs.Used.{InputFile}
-use Rattle.thorin_builder.proofs.Growth.{is_grown-refl}
-use Rattle.thorin_builder.proofs.Steps.{bind-ok}
+use Rattle.thorin_input.specs.Growing.{Contents, IsGrown, with_parts}
+use Rattle.thorin_input.specs.Indexes.{Source}
+use Rattle.thorin_input.specs.NewUnits.{New, new_units}
+use Rattle.thorin_input.specs.Parts.{parts_of}
+use Rattle.thorin_join.specs.State.{InProgress, Extends, with_source, with_all, with_new_units, abbreviations_test, adding}
+use Rattle.thorin_input.specs.Used.{InputFile}
+use Rattle.thorin_builder.proofs.Grown.{is_grown-refl}
+use Rattle.dwp_base.specs.Reading.{◌>>=◌}
+
+-- a step that gives x goes on with it
+bind-ok : {A B E : Type 0} (r : Result A E) (x : A) (f : A → Result B E) → r ≡ Ok x → (r >>= f) ≡ f x
+bind-ok r x f h = ap (λ q. q >>= f) h
 
 -- what stands at the front of a list isn't longer than it
 at_most : {A : Type 0} (a b : List A) → take (length a) b ≡ a → length a ≤ length b

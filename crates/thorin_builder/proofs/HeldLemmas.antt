@@ -7,9 +7,9 @@ use Rattle.std.proofs.lemmas.Iterator.Adapters.{position_from-zero}
 use Rattle.std.proofs.lemmas.Option.{none-some, same_Some}
 use Rattle.dwp_table.specs.declared.object.DwarfObject.{DwarfObject}
 use Rattle.thorin_parts.specs.declared.entry.IndexEntry.{IndexEntry}
-use Rattle.thorin_builder.specs.Growing.{Contents}
-use Rattle.thorin_builder.specs.Names.{same_name}
-use Rattle.thorin_builder.specs.State.{InProgress, names_of, unit_bytes, held_units}
+use Rattle.thorin_input.specs.Growing.{Contents}
+use Rattle.thorin_input.specs.Names.{same_name}
+use Rattle.thorin_join.specs.State.{InProgress, names_of, unit_bytes, held_units}
 
 abbrev names : List IndexEntry → List DwarfObject
 names rows = map (λ row. row.id) rows

@@ -6,7 +6,7 @@ use Rattle.std.specs.Map.{lookup}
 use Rattle.dwp_table.specs.declared.object.DwarfObject.{DwarfObject}
 use Rattle.dwp_table.specs.declared.object.DwarfObject.TheVariants.{Compilation, TypeUnit}
 use Rattle.dwp_table.specs.contracts.object.DwarfObjectPartialEq.TheImpl as derived
-use Rattle.thorin_builder.specs.Names.{same_name}
+use Rattle.thorin_input.specs.Names.{same_name}
 
 same_name-at : (a b : DwarfObject) → derived.eq-value.it a b ≡ same_name a b
 same_name-at (Compilation a) (Compilation b) = refl

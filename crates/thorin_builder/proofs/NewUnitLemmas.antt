@@ -5,8 +5,8 @@ use Rattle.std.specs.Prelude.{option_map}
 use Rattle.std.specs.Map.{lookup}
 use Rattle.std.proofs.lemmas.Option.{none-some}
 use Rattle.dwp_table.specs.declared.object.DwarfObject.{DwarfObject}
-use Rattle.thorin_builder.specs.NewUnits.{NewUnit, or_held, kept_bytes}
-use Rattle.thorin_builder.specs.Names.{same_name}
+use Rattle.thorin_input.specs.NewUnits.{NewUnit, or_held, kept_bytes}
+use Rattle.thorin_input.specs.Names.{same_name}
 use Rattle.thorin_builder.specs.declared.units.NewUnit.{NewUnit as CodeUnit}
 use Rattle.thorin_builder.specs.UnitView.{new_unit}
 use Rattle.thorin_builder.proofs.Names.{lookup-map}

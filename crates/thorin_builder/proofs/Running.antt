@@ -1,45 +1,37 @@
 -- The units that an executable refers to, one after the other.
-use Rattle.std.proofs.Common.{◌≡◌, ◌≢◌, ◌∙◌, ℕ, Bool, true, false, true≢false, List, [], ◌∷◌, ◌++◌, refl, sym, ap, subst, Option, Some, None, Result, Ok, Err, ◌<◌, ◌+◌, add-one, length, take, drop, get_or, map, inl, inr, Bor}
-use Rattle.std.specs.Prelude.{option_map}
-use Rattle.std.proofs.Math.Seq.{take-suc}
-use Rattle.std.proofs.lemmas.List.{append_assoc, append-nil, map-append, take-append-drop, length-map}
+use Rattle.std.proofs.Common.{◌≡◌, ◌≢◌, ◌∙◌, ℕ, List, [], ◌∷◌, ◌++◌, refl, sym, ap, subst, arith, Option, Some, None, Result, Ok, Err, length, take}
+use Rattle.std.proofs.lemmas.List.{append_assoc, append-nil, take_all}
 use Rattle.std.specs.declared.io.Error.{Error as IoError}
-use Rattle.std.specs.Path.{path_bytes}
-use Rattle.std.specs.declared.path.Path.{Path}
 use Rattle.dwp_table.specs.declared.object.DwarfObject.{DwarfObject}
 use Rattle.dwp_table.specs.declared.object.DwoId.{DwoId}
-use Rattle.dwp_table.specs.declared.object.DwarfObject.TheVariants.{Compilation, TypeUnit}
+use Rattle.dwp_table.specs.declared.object.DwarfObject.TheVariants.{Compilation}
 use Rattle.thorin_faults.specs.Fault.{Fault, fault_of, Memory}
 use Rattle.thorin_faults.specs.declared.fault.Error.{Error}
 use Rattle.thorin_faults.specs.declared.fault.Error.TheVariants as error
-use Rattle.thorin_faults.specs.declared.fault.InputError.{InputError}
-use Rattle.thorin_faults.specs.declared.fault.InputError.TheVariants.{Io, Memory as no_memory}
 use Rattle.thorin_faults.specs.declared.fault.MissingReferencedObjectBehaviour.{MissingReferencedObjectBehaviour}
 use Rattle.thorin_faults.specs.declared.fault.MissingReferencedObjectBehaviour.TheVariants as behaviour
-use Rattle.thorin_executable.specs.View.{UnlessMemory, IsFront, listed, named}
-use Rattle.thorin_executable.specs.Skeletons.{skeletons_of}
-use Rattle.thorin_executable.specs.declared.listing.Skeleton.{Skeleton}
-use Rattle.thorin_executable.specs.declared.listing.SkeletonList.{SkeletonList}
-use Rattle.std.specs.Result.{is_err}
-use Rattle.thorin_builder.proofs.PartLemmas.{drop-item}
+use Rattle.thorin_faults.specs.Answers.{MemoryAside}
+use Rattle.thorin_executable.specs.Skeletons.{Listed}
 use Rattle.std.specs.List.{list_any}
-use Rattle.thorin_builder.specs.Builder.{State, names_in}
-use Rattle.thorin_builder.specs.Join.{Joins, JoinAll}
-use Rattle.thorin_builder.specs.Meaning.{Members, keys}
-use Rattle.thorin_builder.specs.Names.{same_name, with_name}
-use Rattle.thorin_builder.specs.State.{InProgress}
-use Rattle.thorin_builder.specs.Represents.{units_in, units_begun}
-use Rattle.thorin_builder.proofs.UnitsFound.{keys-units}
-use Rattle.thorin_builder.specs.Taking.{Outcome, Takes, accepted_of, TakesRead, with_target, PassesOver, TakesReferred, TakesSkeleton, is_there, EndsWith, Step, GoesOn, TakesSkeletons, AllTaken, TakesEach, TakesNamed, TakesExecutable, TakesFile, TakesExecutableRead}
+use Rattle.thorin_join.specs.Builder.{State, names_in}
+use Rattle.thorin_join.specs.Meaning.{keys}
+use Rattle.thorin_input.specs.Names.{same_name, with_name}
+use Rattle.thorin_join.specs.State.{InProgress}
+use Rattle.thorin_join.specs.Represents.{units_in, units_begun}
+use Rattle.thorin_builder.proofs.UnitNames.{keys-units}
+use Rattle.thorin_builder.specs.Taking.{Outcome, with_target, PassesOver, TakesSkeleton, is_there, EndsWith, Step, TakesSkeletons, TakesNamed}
 
 abbrev pub Offer : Type 1
 Offer = List ℕ → Result (List ℕ) IoError → Type 0
 
--- the inputs up to one, and that one
-pub taken-next : {A : Type 0} (xs : List A) (i : ℕ) (d : A) → i < length xs → take (i + 1) xs ≡ take i xs ++ get_or xs i d ∷ []
-taken-next xs i d h = ap (λ n. take n xs) (add-one i) ∙ take-suc xs i d h
-
 -- ---- the units that an executable refers to, up to one
+
+-- each of these was taken
+abbrev pub AllTaken : Offer → MissingReferencedObjectBehaviour → List (DwarfObject × List ℕ) → State → State → List (List ℕ) → Type 0
+AllTaken offer missing [] old new accepted = (new ≡ old) × (accepted ≡ [])
+AllTaken offer missing (named ∷ rest) old new accepted =
+    (s : Step) × TakesSkeleton offer missing named old (Ok tt) s.middle s.here
+    × AllTaken offer missing rest s.middle new s.later × (accepted ≡ s.here ++ s.later)
 
 pub taken-more : (offer : Offer) (missing : MissingReferencedObjectBehaviour) (done : List (DwarfObject × List ℕ)) (n : DwarfObject × List ℕ) (old middle new : State) (before here : List (List ℕ))
     → AllTaken offer missing done old middle before → TakesSkeleton offer missing n middle (Ok tt) new here → AllTaken offer missing (done ++ n ∷ []) old new (before ++ here)
@@ -68,71 +60,70 @@ taken-then offer missing (d ∷ ds) rest fault old middle new outcome before her
   (taken-then offer missing ds rest fault all.0.middle middle new outcome all.0.later here all.2 took, ap (λ l. l ++ here) all.3 ∙ append_assoc all.0.here all.0.later here),
 )
 
--- a list that ended with another fault than want of memory
-pub unless-memory : (fault : Option Error) (P : Type 0) → UnlessMemory fault P → option_map fault_of fault ≢ Some Memory → P
-unless-memory None P h other = h
-unless-memory (Some e) P h other = h (λ is. other (ap (λ f. Some (fault_of f)) is))
+-- of all units some were taken, and these are left
+abbrev pub TakenUpTo : Offer → MissingReferencedObjectBehaviour → Listed → Listed → State → State → Type 0
+TakenUpTo offer missing all left old middle =
+    (done : List (DwarfObject × List ℕ)) × (before : List (List ℕ)) × AllTaken offer missing done old middle before × ((done ++ left.0, left.1) ≡ all)
 
--- the first of a list, one of it, and those behind it
-parted : (items : List Skeleton) (i : ℕ) (item : Skeleton) → i < length items → item ≡ get_or items i item → map named (take i items) ++ named item ∷ map named (drop (i + 1) items) ≡ map named items
-parted items i item h e =
-    ap (λ l. map named (take i items) ++ map named l) (sym (drop-item items i item h e))
-    ∙ sym (map-append named (take i items) (drop i items))
-    ∙ ap (map named) (take-append-drop i items)
-
--- one of a list was refused
-pub each-refused : (offer : Offer) (missing : MissingReferencedObjectBehaviour) (items : List Skeleton) (i : ℕ) (item : Skeleton) (old middle new : State) (outcome : Outcome) (before here : List (List ℕ))
-    → AllTaken offer missing (map named (take i items)) old middle before → i < length items → item ≡ get_or items i item
-    → TakesSkeleton offer missing (named item) middle outcome new here → is_err outcome ≡ true
-    → (accepted : List (List ℕ)) × TakesEach offer missing (map named items) old outcome new accepted
-each-refused offer missing items i item old middle new (Ok x) before here all within is took refused = absurd (true≢false (sym refused))
-each-refused offer missing items i item old middle new (Err e) before here all within is took refused = (
-  before ++ here,
-  λ fault. subst (λ l. TakesSkeletons offer missing l fault old (Err e) new (before ++ here)) (parted items i item within is)
-      (taken-then offer missing (map named (take i items)) (named item ∷ map named (drop (i + 1) items)) fault old middle new (Err e) before here all
-      (record { middle = new; here = here; later = [] }, Err e, took, (refl, refl, refl))),
-)
+-- none was taken yet
+pub none-taken : (offer : Offer) (missing : MissingReferencedObjectBehaviour) (all : Listed) (old : State) → TakenUpTo offer missing all all old old
+none-taken offer missing all old = ([], [], (refl, refl), refl)
 
 -- one more was taken
-pub each-next : (offer : Offer) (missing : MissingReferencedObjectBehaviour) (items : List Skeleton) (i : ℕ) (item : Skeleton) (old middle new : State) (outcome : Outcome) (before here : List (List ℕ))
-    → AllTaken offer missing (map named (take i items)) old middle before → i < length items → item ≡ get_or items i item
-    → TakesSkeleton offer missing (named item) middle outcome new here → is_err outcome ≡ false
-    → AllTaken offer missing (map named (take (i + 1) items)) old new (before ++ here)
-each-next offer missing items i item old middle new (Err e) before here all within is took fine = absurd (true≢false fine)
-each-next offer missing items i item old middle new (Ok x) before here all within is took fine =
-    let more : take (i + 1) items ≡ take i items ++ item ∷ [] = taken-next items i item within ∙ ap (λ y. take i items ++ y ∷ []) (sym is) in
-    subst (λ l. AllTaken offer missing l old new (before ++ here)) (sym (ap (map named) more ∙ map-append named (take i items) (item ∷ [])))
-    (taken-more offer missing (map named (take i items)) (named item) old middle new before here all took)
+pub next-taken : (offer : Offer) (missing : MissingReferencedObjectBehaviour) (all left rest : Listed) (n : DwarfObject × List ℕ) (old middle new : State) (here : List (List ℕ))
+    → TakenUpTo offer missing all left old middle → left ≡ (n ∷ rest.0, rest.1) → TakesSkeleton offer missing n middle (Ok tt) new here → TakenUpTo offer missing all rest old new
+next-taken offer missing all left rest n old middle new here (done, before, taken, is) first took = (
+  done ++ n ∷ [],
+  before ++ here,
+  taken-more offer missing done n old middle new before here taken took,
+  ap (λ l. (l, rest.1)) (append_assoc done (n ∷ []) rest.0) ∙ ap (λ (l : Listed). (done ++ l.0, l.1)) (sym first) ∙ is,
+)
 
--- what an executable's bytes name was taken, up to a refusal
-pub named-refused : (offer : Offer) (missing : MissingReferencedObjectBehaviour) (bytes : List ℕ) (list : SkeletonList) (old new : State) (outcome : Outcome) (accepted : List (List ℕ))
-    → IsFront list (skeletons_of bytes) → UnlessMemory list.fault (skeletons_of bytes ≡ listed list)
-    → TakesEach offer missing (map named list.units.items) old outcome new accepted → is_err outcome ≡ true
-    → TakesNamed offer missing bytes old outcome new accepted
-named-refused offer missing bytes list old new (Ok x) accepted front exact each refused = absurd (true≢false (sym refused))
-named-refused offer missing bytes list old new (Err e) accepted front exact each refused = record {
-  named = map named list.units.items;
-  fault = option_map fault_of list.fault;
-  are = unless-memory list.fault (skeletons_of bytes ≡ listed list) exact;
-  front = ap (λ n. take n (skeletons_of bytes).0) (length-map list.units.items named) ∙ front;
-  taken = each (option_map fault_of list.fault);
-}
+-- the first of a list, and those behind it
+front-is : (done rest : List (DwarfObject × List ℕ)) → take (length done) (done ++ rest) ≡ done
+front-is [] rest = refl
+front-is (d ∷ ds) rest = ap (λ l. d ∷ l) (front-is ds rest)
 
--- or to its end
-pub named-ended : (offer : Offer) (missing : MissingReferencedObjectBehaviour) (bytes : List ℕ) (list : SkeletonList) (old new : State) (outcome last : Outcome) (accepted : List (List ℕ))
-    → IsFront list (skeletons_of bytes) → UnlessMemory list.fault (skeletons_of bytes ≡ listed list)
-    → TakesEach offer missing (map named list.units.items) old outcome new accepted → is_err outcome ≡ false → EndsWith (option_map fault_of list.fault) last
-    → TakesNamed offer missing bytes old last new accepted
-named-ended offer missing bytes list old new (Err e) last accepted front exact each fine ends = absurd (true≢false fine)
-named-ended offer missing bytes list old new (Ok x) last accepted front exact each fine ends = record {
-  named = map named list.units.items;
-  fault = option_map fault_of list.fault;
-  are = unless-memory list.fault (skeletons_of bytes ≡ listed list) exact;
-  front = ap (λ n. take n (skeletons_of bytes).0) (length-map list.units.items named) ∙ front;
-  taken = subst (λ l. TakesSkeletons offer missing l (option_map fault_of list.fault) old last new accepted) (append-nil (map named list.units.items))
-      (subst (λ a. TakesSkeletons offer missing (map named list.units.items ++ []) (option_map fault_of list.fault) old last new a) (append-nil accepted)
-      (taken-then offer missing (map named list.units.items) [] (option_map fault_of list.fault) old new new last accepted [] each (ends, refl, refl)));
-}
+-- one was refused
+pub next-refused : (offer : Offer) (missing : MissingReferencedObjectBehaviour) (all left rest : Listed) (n : DwarfObject × List ℕ) (old middle new : State) (e : Error) (here : List (List ℕ))
+    → TakenUpTo offer missing all left old middle → left ≡ (n ∷ rest.0, rest.1) → TakesSkeleton offer missing n middle (Err e) new here
+    → (accepted : List (List ℕ)) × TakesNamed offer missing all old (Err e) new accepted
+next-refused offer missing all left rest n old middle new e here (done, before, taken, is) first took =
+    let whole : all ≡ (done ++ n ∷ rest.0, rest.1) = sym is ∙ ap (λ (l : Listed). (done ++ l.0, l.1)) first in (
+      before ++ here,
+      record {
+        named = done ++ n ∷ rest.0;
+        fault = rest.1;
+        are = λ other. whole;
+        front = ap (λ (l : Listed). take (length (done ++ n ∷ rest.0)) l.0) whole ∙ take_all (length (done ++ n ∷ rest.0)) (done ++ n ∷ rest.0) (omega arith);
+        taken = taken-then offer missing done (n ∷ rest.0) rest.1 old middle new (Err e) before here taken (record { middle = new; here = here; later = [] }, Err e, took, (refl, refl, refl));
+      },
+    )
+
+-- the list ended, or with a fault; where memory ran out it is the first of the list
+ended : (offer : Offer) (missing : MissingReferencedObjectBehaviour) (all left : Listed) (fault : Option Fault) (old new : State) (outcome : Outcome)
+    → TakenUpTo offer missing all left old new → (fault ≢ Some Memory → left ≡ ([], fault)) → EndsWith fault outcome
+    → (accepted : List (List ℕ)) × TakesNamed offer missing all old outcome new accepted
+ended offer missing all left fault old new outcome (done, before, taken, is) end ends = (
+  before,
+  record {
+    named = done;
+    fault = fault;
+    are = λ other. sym is ∙ ap (λ (l : Listed). (done ++ l.0, l.1)) (end other) ∙ ap (λ (l : List (DwarfObject × List ℕ)). (l, fault)) (append-nil done);
+    front = ap (λ (l : Listed). take (length done) l.0) (sym is) ∙ front-is done left.0;
+    taken = subst (λ l. TakesSkeletons offer missing l fault old outcome new before) (append-nil done)
+        (subst (λ a. TakesSkeletons offer missing (done ++ []) fault old outcome new a) (append-nil before)
+        (taken-then offer missing done [] fault old new new outcome before [] taken (ends, refl, refl)));
+  },
+)
+
+pub list-ended : (offer : Offer) (missing : MissingReferencedObjectBehaviour) (all left : Listed) (old new : State)
+    → TakenUpTo offer missing all left old new → left ≡ ([], None) → (accepted : List (List ℕ)) × TakesNamed offer missing all old (Ok tt) new accepted
+list-ended offer missing all left old new so_far is = ended offer missing all left None old new (Ok tt) so_far (λ other. is) refl
+
+pub list-fault : (offer : Offer) (missing : MissingReferencedObjectBehaviour) (all left : Listed) (e : Error) (old new : State)
+    → TakenUpTo offer missing all left old new → MemoryAside e (left ≡ ([], Some (fault_of e))) → (accepted : List (List ℕ)) × TakesNamed offer missing all old (Err e) new accepted
+list-fault offer missing all left e old new so_far is = ended offer missing all left (Some (fault_of e)) old new (Err e) so_far (λ other. is (λ m. other (ap (λ f. Some (fault_of f)) m))) refl
 
 -- a failed read that is passed over, or isn't
 pub passed-over : (missing : MissingReferencedObjectBehaviour) (cause : IoError) (outcome : Outcome) → missing ≡ behaviour.Skip → outcome ≡ Ok tt → PassesOver missing cause outcome

@@ -1,5 +1,5 @@
 -- A package builder over a session.
-use Rattle.thorin_builder.specs.Builder.{State}
+use Rattle.thorin_join.specs.Builder.{State}
 
 pub record Building (Sess : Type 0) : Type 0 where
   pub session : Sess

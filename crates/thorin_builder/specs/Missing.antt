@@ -1,7 +1,7 @@
 -- The units that executables refer to and that a package lacks.
 use Rattle.std.specs.Prelude.{List, filter, drop}
 use Rattle.dwp_table.specs.declared.object.DwarfObject.{DwarfObject}
-use Rattle.thorin_builder.specs.Builder.{is_missing}
+use Rattle.thorin_join.specs.Builder.{is_missing}
 use Rattle.thorin_builder.specs.declared.missing.MissingTargets.{MissingTargets}
 
 -- what the iterator has left

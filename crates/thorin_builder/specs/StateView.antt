@@ -2,7 +2,7 @@
 use Rattle.std.specs.Prelude.{List, [], map, Option, Some, None, option_map}
 use Rattle.thorin_builder.specs.declared.in_progress.InProgressDwarfPackage.{InProgressDwarfPackage}
 use Rattle.thorin_builder.specs.declared.state.Mark.{Mark}
-use Rattle.thorin_builder.specs.State.{InProgress, Amount}
+use Rattle.thorin_join.specs.State.{InProgress, Amount}
 
 abbrev pub in_progress_of : InProgressDwarfPackage → InProgress
 in_progress_of p = record {

@@ -2,30 +2,23 @@
 use Rattle.std.specs.Prelude.{◌≡◌, ◌≢◌, ℕ, Bool, true, false, List, [], ◌∷◌, ◌++◌, take, length}
 use Rattle.std.specs.Prelude.{Option, Some, None, Result, Ok, Err, OnOk, OnErr, ◌⊎◌}
 use Rattle.std.specs.List.{list_any}
-use Rattle.std.specs.Path.{path_bytes}
 use Rattle.std.specs.declared.io.Error.{Error as IoError}
-use Rattle.dwp_elf.specs.FileText.{Object as File, file_text}
-use Rattle.dwp_elf.specs.Contents.{KindsDiffer}
-use Rattle.dwp_elf.specs.Numbers.{Fits}
-use Rattle.dwp_elf.specs.Written.{written_elf}
-use Rattle.dwp_elf_read.specs.Elf.{elf_of}
-use Rattle.dwp_elf_read.specs.declared.fault.WriteError.TheVariants as writer
 use Rattle.thorin_faults.specs.declared.fault.Error.{Error}
 use Rattle.thorin_faults.specs.declared.fault.Error.TheVariants as error
 use Rattle.thorin_faults.specs.declared.fault.InputError.{InputError}
 use Rattle.thorin_faults.specs.declared.fault.InputError.TheVariants as input_error
-use Rattle.thorin_faults.specs.Fault.{Fault, fault_of, ObjectWrite, Memory}
+use Rattle.thorin_faults.specs.Fault.{Fault, fault_of, Memory}
 use Rattle.thorin_faults.specs.declared.fault.MissingReferencedObjectBehaviour.{MissingReferencedObjectBehaviour}
 use Rattle.thorin_faults.specs.declared.fault.MissingReferencedObjectBehaviour.TheVariants as behaviour
-use Rattle.thorin_executable.specs.Skeletons.{skeletons_of}
+use Rattle.thorin_executable.specs.Skeletons.{Listed, skeletons_of}
 use Rattle.dwp_table.specs.declared.object.DwarfObject.{DwarfObject}
 use Rattle.dwp_table.specs.declared.object.DwarfObject.TheVariants.{Compilation, TypeUnit}
-use Rattle.thorin_faults.specs.Answers.{Gives, MemoryAside}
+use Rattle.thorin_faults.specs.Answers.{Gives}
 use Rattle.thorin_faults.specs.Sessions.{input_fault}
-use Rattle.thorin_builder.specs.Builder.{State, names_in, taken, finish_test, IsFinishedState}
-use Rattle.thorin_builder.specs.Join.{Joins}
-use Rattle.thorin_builder.specs.Names.{same_name, with_name}
-use Rattle.thorin_builder.specs.Represents.{units_in}
+use Rattle.thorin_join.specs.Builder.{State, names_in, taken}
+use Rattle.thorin_join.specs.Join.{Joins}
+use Rattle.thorin_input.specs.Names.{same_name, with_name}
+use Rattle.thorin_join.specs.Represents.{units_in}
 
 -- what came of a call: nothing, or its error
 abbrev pub Outcome : Type 0
@@ -148,31 +141,15 @@ TakesSkeletons offer missing (named ∷ rest) fault old outcome new accepted =
     × GoesOn first s outcome new accepted
     (TakesSkeletons offer missing rest fault s.middle outcome new s.later)
 
--- each of these was taken
-abbrev pub AllTaken : (List ℕ → Result (List ℕ) IoError → Type 0) → MissingReferencedObjectBehaviour
-    → List (DwarfObject × List ℕ) → State → State → List (List ℕ) → Type 0
-AllTaken offer missing [] old new accepted = (new ≡ old) × (accepted ≡ [])
-AllTaken offer missing (named ∷ rest) old new accepted =
-    (s : Step) × TakesSkeleton offer missing named old (Ok tt) s.middle s.here
-    × AllTaken offer missing rest s.middle new s.later × (accepted ≡ s.here ++ s.later)
-
--- each was taken, or those up to the first refusal, whatever ends the list
-abbrev pub TakesEach : (List ℕ → Result (List ℕ) IoError → Type 0)
-    → MissingReferencedObjectBehaviour → List (DwarfObject × List ℕ) → State → Outcome → State
-    → List (List ℕ) → Type 0
-TakesEach offer missing list old (Ok x) new accepted = AllTaken offer missing list old new accepted
-TakesEach offer missing list old (Err e) new accepted =
-    (fault : Option Fault) → TakesSkeletons offer missing list fault old (Err e) new accepted
-
--- the units that an executable's bytes refer to and the fault that ends their list; where memory
--- ran out, the first of them
+-- the units that an executable refers to and the fault that ends their list; where memory ran out,
+-- the first of them
 pub record TakesNamed (offer : List ℕ → Result (List ℕ) IoError
-    → Type 0) (missing : MissingReferencedObjectBehaviour) (bytes : List ℕ) (old : State)
+    → Type 0) (missing : MissingReferencedObjectBehaviour) (meaning : Listed) (old : State)
     (outcome : Outcome) (new : State) (accepted : List (List ℕ)) : Type 0 where
   pub named : List (DwarfObject × List ℕ)
   pub fault : Option Fault
-  pub are : fault ≢ Some Memory → skeletons_of bytes ≡ (named, fault)
-  pub front : take (length named) (skeletons_of bytes).0 ≡ named
+  pub are : fault ≢ Some Memory → meaning ≡ (named, fault)
+  pub front : take (length named) meaning.0 ≡ named
   pub taken : TakesSkeletons offer missing named fault old outcome new accepted
 
 -- what a read of an executable gave was taken
@@ -180,7 +157,7 @@ abbrev pub TakesExecutableRead : (List ℕ → Result (List ℕ) IoError → Typ
     → MissingReferencedObjectBehaviour → Result (List ℕ) InputError → State → Outcome → State
     → List (List ℕ) → Type 0
 TakesExecutableRead offer missing (Ok bytes) old outcome new accepted =
-    TakesNamed offer missing bytes old outcome new accepted
+    TakesNamed offer missing (skeletons_of bytes) old outcome new accepted
 TakesExecutableRead offer missing (Err e) old outcome new accepted =
     (outcome ≡ Err (input_fault e)) × (new ≡ old) × (accepted ≡ [])
 

@@ -1,18 +1,15 @@
 -- What the units that an input adds, and what they are added to, stand for.
 use Rattle.std.specs.Prelude.{ℕ, List, map}
-use Rattle.dwp_base.specs.declared.endian.Endianness.{Endianness}
-use Rattle.dwp_base.specs.declared.section.SectionKind.TheVariants.{Abbrev}
 use Rattle.thorin_builder.specs.declared.units.NewUnit.{NewUnit}
 use Rattle.thorin_builder.specs.declared.units.NewUnits.{NewUnits}
 use Rattle.thorin_builder.specs.declared.units.Adding.{Adding}
 use Rattle.thorin_builder.specs.declared.units.Met.{Met}
 use Rattle.dwp_bytes.specs.Input.{Input}
 use Rattle.dwp_bytes.specs.declared.slice.SliceReader.{SliceReader}
-use Rattle.thorin_builder.specs.NewUnits as spec
-use Rattle.thorin_builder.specs.State.{held_units}
+use Rattle.thorin_input.specs.NewUnits as spec
+use Rattle.thorin_join.specs.State.{held_units}
 use Rattle.thorin_builder.specs.StateView.{in_progress_of}
-use Rattle.thorin_builder.specs.Used.{InputFile, first}
-use Rattle.thorin_builder.specs.View.{source}
+use Rattle.thorin_input.specs.View.{source}
 
 abbrev pub new_unit : NewUnit → spec.NewUnit
 new_unit u = record { place = u.place; bytes = u.bytes.now; row = u.row }
@@ -41,7 +38,3 @@ left_in r = record {
   place = r.place;
   bytes = r.bytes.now;
 }
-
--- the byte order and the abbreviations that an input's units are named with
-abbrev pub tables_in : InputFile → Endianness × List ℕ
-tables_in object = (object.order, first Abbrev object.sections)

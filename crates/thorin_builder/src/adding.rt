@@ -3,21 +3,19 @@
 ghost use Rattle.std.specs.Prelude.{◌≡◌, Ok, OnErr, IfOk};
 ghost use Rattle.dwp_elf_read.specs.View.{elf};
 ghost use Rattle.thorin_faults.specs.Answers.{Gives};
-ghost use Rattle.thorin_builder.specs.Builder as spec;
-ghost use Rattle.thorin_builder.specs.Encodings.{file_encoding, own_encoding, are_alike};
+ghost use Rattle.thorin_join.specs.Builder as spec;
+ghost use Rattle.thorin_input.specs.Encodings.{file_encoding, own_encoding, are_alike};
 ghost use Rattle.thorin_builder.specs.StateView.{in_progress_of, begun_of};
-ghost use Rattle.thorin_builder.specs.Used.{input_file_of};
-ghost use Rattle.thorin_builder.specs.View as view;
+ghost use Rattle.thorin_input.specs.Used.{input_file_of};
+ghost use Rattle.thorin_input.specs.View as view;
 
 use crate::in_progress::InProgressDwarfPackage;
-use crate::object::{InputObject, opened};
-use crate::source::{Indexes, Source};
-use crate::walk::Walked;
 use dwp_base::Endianness;
 use dwp_dwarf::Encoding;
 use dwp_elf_read::ElfFile;
 use std::alloc::Global;
 use thorin_faults::Error;
+use thorin_input::{Indexes, InputObject, Source, Walked, opened};
 
 /// A package of the class, machine and byte order of its first input.
 fn begun_by(alloc: Global, file: &ElfFile<'_>) -> InProgressDwarfPackage
@@ -37,7 +35,7 @@ fn is_same_order(a: Endianness, b: Endianness) -> bool
 }
 
 /// `MixedInputEncodings` where the package has another byte order.
-#[tactic(auto, unfolding(crate::specs::Builder::order_test))]
+#[tactic(auto, unfolding(thorin_join::specs::Builder::order_test))]
 fn test_order(in_progress: &Option<InProgressDwarfPackage>, order: Endianness) -> Result<(), Error>
     ensures { Gives (λ _. tt) result (spec.order_test order (begun_of in_progress.now)) }
 {
@@ -55,7 +53,7 @@ fn test_order(in_progress: &Option<InProgressDwarfPackage>, order: Endianness) -
 
 /// Adds the units of an input to the package, which it may begin. Gives whether each has its
 /// encoding.
-#[tactic(auto, unfolding(crate::specs::Builder::with_source_or_new))]
+#[tactic(auto, unfolding(thorin_join::specs::Builder::with_source_or_new))]
 fn add_source(
     alloc: Global,
     in_progress: &mut Option<InProgressDwarfPackage>,
@@ -79,7 +77,7 @@ fn add_source(
 }
 
 /// Adds an input with units, and gives the one encoding of all of them, where there is one.
-#[tactic(auto, unfolding(crate::specs::Builder::with_units, crate::specs::Encodings::file_encoding))]
+#[tactic(auto, unfolding(thorin_join::specs::Builder::with_units, thorin_input::specs::Encodings::file_encoding))]
 fn add_units(
     alloc: Global,
     in_progress: &mut Option<InProgressDwarfPackage>,
@@ -109,7 +107,7 @@ fn add_units(
 /// object and there is one. The first fault from left to right: of the file's kind, the ELF file,
 /// the used sections, the first unit, the byte order, the indexes, the kinds of sections and the
 /// string offsets, the abbreviations, the units. An `Err` leaves the package as it was.
-#[tactic(auto, unfolding(crate::specs::Builder::with_input, crate::specs::Builder::with_units, crate::specs::Encodings::own_encoding))]
+#[tactic(auto, unfolding(thorin_join::specs::Builder::with_input, thorin_join::specs::Builder::with_units, thorin_input::specs::Encodings::own_encoding))]
 pub(crate) fn add_input(
     alloc: Global,
     in_progress: &mut Option<InProgressDwarfPackage>,

@@ -1,7 +1,7 @@
 //! The units that executables refer to and that a package lacks.
 
 ghost use Rattle.std.specs.Prelude.{◌≡◌, ◌∷◌, [], drop, filter, MatchOption};
-ghost use Rattle.thorin_builder.specs.Builder.{is_missing};
+ghost use Rattle.thorin_join.specs.Builder.{is_missing};
 
 use dwp_table::DwarfObject;
 use indexmap::IndexSet;
@@ -16,7 +16,7 @@ pub struct MissingTargets<'a> {
 
 impl<'a> MissingTargets<'a> {
     ghost use Rattle.std.specs.Prelude.{◌≡◌, filter};
-    ghost use Rattle.thorin_builder.specs.Builder.{is_missing};
+    ghost use Rattle.thorin_join.specs.Builder.{is_missing};
     ghost use Rattle.thorin_builder.specs.Missing.{missing_left};
 
     /// Those of these targets.

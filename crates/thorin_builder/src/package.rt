@@ -4,33 +4,26 @@ ghost use Rattle.std.specs.Prelude.{◌≡◌, ℕ, List, map, filter, length, I
 ghost use Rattle.std.specs.Prelude.{OnErr};
 ghost use Rattle.thorin_faults.specs.Answers.{Gives};
 ghost use Rattle.std.specs.Path.{path_bytes};
-ghost use Rattle.thorin_builder.specs.Builder as spec;
-ghost use Rattle.thorin_builder.specs.Builder.{IsFinishedState};
-ghost use Rattle.thorin_builder.specs.Join.{Joins, IsPackageOnceWritten};
-ghost use Rattle.thorin_builder.specs.Meaning.{keys};
-ghost use Rattle.thorin_builder.specs.Represents.{units_in};
+ghost use Rattle.thorin_join.specs.Builder as spec;
+ghost use Rattle.thorin_join.specs.Builder.{IsFinishedState};
+ghost use Rattle.thorin_join.specs.Join.{Joins, IsPackageOnceWritten};
+ghost use Rattle.thorin_join.specs.Meaning.{keys};
+ghost use Rattle.thorin_join.specs.Represents.{units_in};
 ghost use Rattle.thorin_builder.specs.Missing.{missing_left};
-ghost use Rattle.thorin_builder.specs.Own.{packs_again};
-ghost use Rattle.thorin_builder.specs.OwnAccepted.{IsAcceptedByNewOnceWritten};
-ghost use Rattle.thorin_builder.specs.OwnAccepted.{IsAcceptedOnceWritten};
-ghost use Rattle.thorin_builder.specs.OwnUnits.{HasOneEncoding};
+ghost use Rattle.thorin_join.specs.Own.{packs_again};
+ghost use Rattle.thorin_join.specs.OwnAccepted.{IsAcceptedByNewOnceWritten};
+ghost use Rattle.thorin_join.specs.OwnAccepted.{IsAcceptedOnceWritten};
+ghost use Rattle.thorin_join.specs.OwnUnits.{HasOneEncoding};
 ghost use Rattle.thorin_builder.specs.StateView.{begun_of};
-ghost use Rattle.thorin_builder.specs.Taking.{TakesFile, TakesExecutable, TakesNamed, TakesEach};
+ghost use Rattle.thorin_builder.specs.Taking.{TakesFile, TakesExecutable, TakesNamed};
 ghost use Rattle.thorin_builder.specs.Taking.{TakesSkeleton, TakesReferredFile, with_target};
 ghost use Rattle.thorin_builder.specs.Taking.{is_there};
 ghost use Rattle.thorin_executable.specs.Skeletons.{skeletons_of};
-ghost use Rattle.thorin_executable.specs.View.{named, listed, IsFront, UnlessMemory};
+ghost use Rattle.thorin_executable.specs.View.{named};
 
 use crate::adding::add_input;
-use crate::encodings::common;
 use crate::in_progress::InProgressDwarfPackage;
-use crate::joins::inputs_are_joined;
-use crate::laws::finished_packages_are_read;
 use crate::missing::MissingTargets;
-use crate::own::one_encoding_is_kept;
-use crate::plain::{
-    own_packages_are_accepted, own_packages_are_accepted_by_a_new_one, plain_packages_are_kept,
-};
 use crate::reader::InputReader;
 use dwp_bytes::RelocationEntry;
 use dwp_dwarf::Encoding;
@@ -41,8 +34,13 @@ use std::alloc::Global;
 use std::fmt;
 use std::marker::{Model, PhantomData};
 use std::path::Path;
-use thorin_executable::{Skeleton, SkeletonList, skeletons};
+use thorin_executable::{Skeleton, SkeletonUnits};
 use thorin_faults::{Error, InputError, MissingReferencedObjectBehaviour, Session};
+use thorin_input::common;
+use thorin_join::{
+    finished_packages_are_read, inputs_are_joined, one_encoding_is_kept, own_packages_are_accepted,
+    own_packages_are_accepted_by_a_new_one, plain_packages_are_kept,
+};
 
 /// A package that is made of input objects, one after another. What inputs hold is kept by a
 /// session.
@@ -67,9 +65,9 @@ impl<'output, 'session: 'output, Sess: Session<RelocationEntry>> Model
 
     ghost use Rattle.thorin_builder.specs.BuilderView.{building};
     ghost use Rattle.std.specs.Prelude.{◌≡◌, []};
-    ghost use Rattle.thorin_builder.specs.OwnUnits.{HoldsOwn};
-    ghost use Rattle.thorin_builder.specs.Plain.{HoldsPlain};
-    ghost use Rattle.thorin_builder.specs.Represents.{IsSoundBegun};
+    ghost use Rattle.thorin_join.specs.OwnUnits.{HoldsOwn};
+    ghost use Rattle.thorin_join.specs.Plain.{HoldsPlain};
+    ghost use Rattle.thorin_join.specs.Represents.{IsSoundBegun};
     ghost use Rattle.thorin_builder.specs.StateView.{begun_of};
 
     ghost view = { building };
@@ -163,7 +161,7 @@ impl<'output, 'session: 'output, Sess: Session<RelocationEntry>> DwarfPackage<
     /// `ParseUnitHeader`, what `dwo_identifier_of_unit` answers, `NotSplitUnit`, `DuplicateUnit`,
     /// `EmptyUnit`, and of a package `UnitNotInIndex`, `RowNotInIndex`, `BadContribution`,
     /// `SectionNotInRow`.
-    #[tactic(auto, unfolding(crate::specs::Builder::taken))]
+    #[tactic(auto, unfolding(thorin_join::specs::Builder::taken))]
     pub fn add_object_bytes(&mut self, bytes: &[u8]) -> Result<(), Error>
         ensures meaning { Gives (λ _. self.new.state) result (spec.taken bytes.now self.old.state) }
         ensures joins { OnOk result
@@ -212,8 +210,9 @@ impl<'output, 'session: 'output, Sess: Session<RelocationEntry>> DwarfPackage<
         self.add_executable_by(session, &mut room, path, missing)
     }
 
-    /// The same with a reader, which reads the executable, and then each object, into room that is
-    /// free again afterwards. The executable's relocations are placed in the session.
+    /// The same with a reader, which reads each object into room that is free again afterwards, and
+    /// the executable into room of its own. No more than one object and the path of one are held
+    /// beside it. The executable's relocations are placed in the session.
     ///
     /// # Errors
     /// Those of `add_executable`.
@@ -228,58 +227,46 @@ impl<'output, 'session: 'output, Sess: Session<RelocationEntry>> DwarfPackage<
             self.old.state result self.new.state }
         ensures session { self.new.session ≡ self.old.session }
     {
-        match reader.read_into(path, room) {
-            Ok(bytes) => {
-                let list = skeletons(self.alloc, self.session, bytes);
-                self.add_listed(reader, room, list, missing)
-            }
+        let mut executable = Vec::new(self.alloc);
+        match reader.read_into(path, &mut executable) {
+            Ok(bytes) => self.add_named(reader, room, bytes, missing),
             Err(InputError::Io(cause)) => Err(Error::ReadInput(cause)),
             Err(InputError::Memory) => Err(Error::Memory),
         }
     }
 
     /// Adds the objects of the units that an executable's bytes refer to.
-    fn add_listed<R: InputReader>(
+    fn add_named<R: InputReader>(
         &mut self,
         reader: &R,
         room: &mut Vec<u8>,
-        list: SkeletonList,
+        bytes: &[u8],
         missing: MissingReferencedObjectBehaviour,
     ) -> Result<(), Error>
-        ensures taken { (bytes : List ℕ) → IsFront list (skeletons_of bytes)
-            → UnlessMemory list.fault (skeletons_of bytes ≡ listed list)
-            → (accepted : List (List ℕ)) × TakesNamed (R.offer reader.now) missing bytes
-            self.old.state result self.new.state accepted }
+        ensures taken { (accepted : List (List ℕ)) × TakesNamed (R.offer reader.now) missing
+            (skeletons_of bytes.now) self.old.state result self.new.state accepted }
         ensures session { self.new.session ≡ self.old.session }
     {
-        let SkeletonList { units, fault } = list;
-        let outcome = self.add_each(reader, room, &units, missing);
-        if outcome.is_err() {
-            return outcome;
-        }
-        match fault {
-            Some(e) => Err(e),
-            None => Ok(()),
-        }
+        let session = self.session;
+        let mut units = SkeletonUnits::read(self.alloc, session, bytes)?;
+        self.add_each(reader, room, &mut units, missing)
     }
 
-    /// Adds the objects of units that an executable refers to, up to the first refusal.
+    /// Adds the objects of the units that are left of those that an executable refers to, up to the
+    /// first refusal or fault.
     fn add_each<R: InputReader>(
         &mut self,
         reader: &R,
         room: &mut Vec<u8>,
-        units: &[Skeleton],
+        units: &mut SkeletonUnits<'_>,
         missing: MissingReferencedObjectBehaviour,
     ) -> Result<(), Error>
-        ensures taken { (accepted : List (List ℕ)) × TakesEach (R.offer reader.now) missing
-            (map named units.now) self.old.state result self.new.state accepted }
+        ensures taken { (accepted : List (List ℕ)) × TakesNamed (R.offer reader.now) missing
+            units.old self.old.state result self.new.state accepted }
         ensures session { self.new.session ≡ self.old.session }
     {
-        for skeleton in units {
-            let outcome = self.add_skeleton(reader, room, skeleton, missing);
-            if outcome.is_err() {
-                return outcome;
-            }
+        while let Some(skeleton) = units.next()? {
+            self.add_skeleton(reader, room, &skeleton, missing)?;
         }
         Ok(())
     }
@@ -376,7 +363,7 @@ impl<'output, 'session: 'output, Sess: Session<RelocationEntry>> DwarfPackage<
 
     /// The object to be written, or why there is none, as `finish` has it; and the signatures that
     /// `differing_types` gives. The list is handed on as it is, without memory.
-    #[tactic(auto, unfolding(crate::specs::Builder::finish_test))]
+    #[tactic(auto, unfolding(thorin_join::specs::Builder::finish_test))]
     pub fn finish_with_differing(self) -> (Result<WritableObject, Error>, Vec<DebugTypeSignature>)
         ensures refusal { Gives (λ _. tt) result.0 (spec.finish_test self.entry.state) }
         ensures finished { IfOk result.0 (IsFinishedState self.entry.state) }
@@ -467,7 +454,7 @@ fn unit_count(in_progress: &Option<InProgressDwarfPackage>) -> usize
 }
 
 /// `MissingReferencedUnit` for the first unit that executables refer to and that isn't contained.
-#[tactic(auto, unfolding(crate::specs::Builder::targets_test))]
+#[tactic(auto, unfolding(thorin_join::specs::Builder::targets_test))]
 fn test_targets(
     contained: &IndexSet<DwarfObject>,
     targets: &IndexSet<DwarfObject>,

@@ -6,20 +6,16 @@ ghost use Rattle.std.specs.Map.{lookup};
 ghost use Rattle.dwp_index.specs.Package.{part_of};
 ghost use Rattle.thorin_faults.specs.Answers.{Gives};
 ghost use Rattle.thorin_strings.specs.Marks.{mark_of};
-ghost use Rattle.thorin_builder.specs.Builder.{IsFinished, indexes_test, IdentifiersFit, rows_of};
-ghost use Rattle.thorin_builder.specs.Encodings.{are_alike};
-ghost use Rattle.thorin_builder.specs.Names.{same_name, is_compilation};
-ghost use Rattle.thorin_builder.specs.Own.{has_sections};
-ghost use Rattle.thorin_builder.specs.State as spec;
+ghost use Rattle.thorin_join.specs.Builder.{IsFinished, indexes_test, IdentifiersFit, rows_of};
+ghost use Rattle.thorin_input.specs.Encodings.{are_alike};
+ghost use Rattle.thorin_input.specs.Names.{same_name, is_compilation};
+ghost use Rattle.thorin_join.specs.Own.{has_sections};
+ghost use Rattle.thorin_join.specs.State as spec;
 ghost use Rattle.thorin_builder.specs.StateView.{in_progress_of, mark_in};
 ghost use Rattle.thorin_builder.specs.UnitView.{new_unit, new_of};
-ghost use Rattle.thorin_builder.specs.View as view;
+ghost use Rattle.thorin_input.specs.View as view;
 
-use crate::growing::{content, lengths, put, put_moved, restore};
 use crate::in_progress::InProgressDwarfPackage;
-use crate::parts::{parts_of, put_parts};
-use crate::rows::Whole;
-use crate::source::Source;
 use crate::units::{Adding, NewUnit, NewUnits};
 use dwp_base::{Class, Contribution, Endianness, SectionKind};
 use dwp_dwarf::UnitSection;
@@ -28,6 +24,7 @@ use dwp_table::{Bucketable, DebugTypeSignature, DwarfObject};
 use indexmap::IndexSet;
 use std::alloc::Global;
 use thorin_faults::Error;
+use thorin_input::{Source, Whole, content, lengths, parts_of, put, put_moved, put_parts, restore};
 use thorin_parts::{IndexEntry, write_index};
 use thorin_strings::{PackageStringTable, TableMark};
 
@@ -168,7 +165,7 @@ impl InProgressDwarfPackage {
     }
 
     /// The same, but an `Err` may leave more than there was.
-    #[tactic(auto, unfolding(crate::specs::State::with_source, crate::specs::State::abbreviations_test))]
+    #[tactic(auto, unfolding(thorin_join::specs::State::with_source, thorin_join::specs::State::abbreviations_test))]
     fn try_add(&mut self, source: &Source<'_>) -> Result<bool, Error>
         ensures alike { IfOk result (λ alike. alike ≡ are_alike (view.source source.now)) }
         ensures meaning { Gives (λ _. in_progress_of self.new) result
@@ -194,7 +191,7 @@ impl InProgressDwarfPackage {
     }
 
     /// Adds units. It refuses for memory alone.
-    #[tactic(auto, unfolding(crate::specs::State::with_new_units))]
+    #[tactic(auto, unfolding(thorin_join::specs::State::with_new_units))]
     fn add_units(&mut self, new: &NewUnits<'_>) -> Result<(), Error>
         ensures meaning { OnOk result (in_progress_of self.new
             ≡ spec.with_new_units (in_progress_of self.old) (new_of new.now).units) }
@@ -209,7 +206,7 @@ impl InProgressDwarfPackage {
     }
 
     /// Adds a unit whose name isn't there. It refuses for memory alone.
-    #[tactic(auto, unfolding(crate::specs::State::with_new_unit))]
+    #[tactic(auto, unfolding(thorin_join::specs::State::with_new_unit))]
     fn add_unit(&mut self, name: DwarfObject, unit: NewUnit<'_>) -> Result<(), Error>
         ensures meaning { OnOk result (in_progress_of self.new
             ≡ spec.with_new_unit (in_progress_of self.old) (name, new_unit unit.entry)) }
@@ -283,7 +280,7 @@ impl InProgressDwarfPackage {
 
 /// The sections with the strings and both indexes, each where it isn't empty. Refuses as
 /// `write_index` does.
-#[tactic(auto, unfolding(crate::specs::Builder::indexes_test))]
+#[tactic(auto, unfolding(thorin_join::specs::Builder::indexes_test))]
 fn finished(
     alloc: Global,
     object: WritableObject,

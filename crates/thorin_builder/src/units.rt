@@ -3,24 +3,24 @@
 ghost use Rattle.std.specs.Prelude.{◌≡◌, ◌&&◌, [], option_map, Ok, Some, IfOk, IfErr, OnOk};
 ghost use Rattle.dwp_dwarf.specs.Units.{unit_of, unit_seen};
 ghost use Rattle.thorin_faults.specs.Answers.{Gives};
-ghost use Rattle.thorin_builder.specs.Encodings.{has_encoding, all_have, section_has, are_alike};
-ghost use Rattle.thorin_builder.specs.NewUnits as spec;
-ghost use Rattle.thorin_builder.specs.State.{held_units};
+ghost use Rattle.thorin_input.specs.Encodings.{has_encoding, all_have, section_has, are_alike};
+ghost use Rattle.thorin_input.specs.NewUnits as spec;
+ghost use Rattle.thorin_join.specs.State.{held_units};
 ghost use Rattle.thorin_builder.specs.StateView.{in_progress_of};
-ghost use Rattle.thorin_builder.specs.UnitView.{adding_of, met_of, new_unit, new_of, tables_in};
-ghost use Rattle.thorin_builder.specs.View as view;
+ghost use Rattle.thorin_builder.specs.UnitView.{adding_of, met_of, new_unit, new_of};
+ghost use Rattle.thorin_input.specs.View.{tables_in};
+ghost use Rattle.thorin_input.specs.View as view;
 
 use crate::in_progress::InProgressDwarfPackage;
-use crate::object::UsedSection;
-use crate::rows::{Places, Whole, abbreviations_for, test_row, unit_row};
-use crate::source::Source;
-use crate::tables::Tables;
 use dwp_base::SectionKind;
 use dwp_dwarf::{Encoding, ReadError, Reader, SliceReader, UnitHeader, UnitHeaders, UnitSection};
 use dwp_table::{Bucketable, DebugTypeSignature, DwarfObject};
 use indexmap::IndexMap;
 use std::alloc::Global;
 use thorin_faults::Error;
+use thorin_input::{
+    Places, Source, Tables, UsedSection, Whole, abbreviations_for, test_row, unit_row,
+};
 use thorin_parts::IndexEntry;
 
 /// A unit that is added: whether it goes to info or to types, its bytes, and its row but for them.
@@ -80,7 +80,7 @@ fn unit_section(kind: SectionKind) -> Option<UnitSection>
 }
 
 /// `MultipleDebugInfoSection` or `MultipleDebugTypesSection` where a package has a second one.
-#[tactic(auto, unfolding(crate::specs::NewUnits::once_test))]
+#[tactic(auto, unfolding(thorin_input::specs::NewUnits::once_test))]
 fn test_once(adding: &Adding<'_, '_>, place: UnitSection, met: &Met<'_>) -> Result<(), Error>
     ensures { Gives (λ _. tt) result
         (spec.once_test (adding_of adding.now) place (met_of met.now)) }
@@ -104,7 +104,7 @@ fn stay_alike<'a>(alike: bool, encoding: Encoding, header: &UnitHeader<SliceRead
 }
 
 /// The name of a unit that was read in a section.
-#[tactic(auto, unfolding(crate::specs::NewUnits::name_for))]
+#[tactic(auto, unfolding(thorin_input::specs::NewUnits::name_for))]
 fn name_for<'a>(
     source: &Source<'a>,
     places: &Places<'_, '_>,
@@ -129,7 +129,7 @@ impl<'a> NewUnits<'a> {
     /// `ParseUnitHeader`, of a package `UnitNotInIndex` and `BadContribution` of a compile unit's
     /// row, what `dwo_identifier_of_unit` answers, `NotSplitUnit`, `DuplicateUnit`, `EmptyUnit`,
     /// `UnitNotInIndex`, and what the adjustor of contributions answers.
-    #[tactic(auto, unfolding(crate::specs::NewUnits::new_units, crate::specs::NewUnits::with_each_section))]
+    #[tactic(auto, unfolding(thorin_input::specs::NewUnits::new_units, thorin_input::specs::NewUnits::with_each_section))]
     pub fn read(alloc: Global, adding: &Adding<'_, 'a>) -> Result<NewUnits<'a>, Error>
         ensures meaning { Gives new_of result (spec.new_units (adding_of adding.now)) }
         ensures alike { IfOk result (λ new.
@@ -152,7 +152,7 @@ impl<'a> NewUnits<'a> {
     }
 
     /// Adds the units of a section.
-    #[tactic(auto, unfolding(crate::specs::NewUnits::with_section))]
+    #[tactic(auto, unfolding(thorin_input::specs::NewUnits::with_section))]
     fn add_section(
         &mut self,
         alloc: Global,
@@ -175,7 +175,7 @@ impl<'a> NewUnits<'a> {
     }
 
     /// Adds the units of a section of units.
-    #[tactic(auto, unfolding(crate::specs::NewUnits::with_section_at, crate::specs::NewUnits::with_each_read))]
+    #[tactic(auto, unfolding(thorin_input::specs::NewUnits::with_section_at, thorin_input::specs::NewUnits::with_each_read))]
     fn add_section_at(
         &mut self,
         alloc: Global,
@@ -207,7 +207,7 @@ impl<'a> NewUnits<'a> {
     }
 
     /// Adds the unit that was read next.
-    #[tactic(auto, unfolding(crate::specs::NewUnits::with_read))]
+    #[tactic(auto, unfolding(thorin_input::specs::NewUnits::with_read))]
     fn add_read(
         &mut self,
         adding: &Adding<'_, 'a>,
@@ -260,7 +260,7 @@ impl<'a> NewUnits<'a> {
     }
 
     /// Adds a unit, or passes over a type unit that is kept already.
-    #[tactic(auto, unfolding(crate::specs::NewUnits::with_unit))]
+    #[tactic(auto, unfolding(thorin_input::specs::NewUnits::with_unit))]
     fn add_unit(
         &mut self,
         adding: &Adding<'_, 'a>,
@@ -298,7 +298,7 @@ impl<'a> NewUnits<'a> {
     }
 
     /// Adds the first unit of its name.
-    #[tactic(auto, unfolding(crate::specs::NewUnits::with_first))]
+    #[tactic(auto, unfolding(thorin_input::specs::NewUnits::with_first))]
     fn add_first(
         &mut self,
         adding: &Adding<'_, 'a>,

@@ -11,11 +11,11 @@ use Rattle.dwp_table.specs.declared.object.DebugTypeSignature.{DebugTypeSignatur
 use Rattle.thorin_c.specs.Listing.{written_over}
 use Rattle.thorin_c.specs.declared.packing.RefusedInput.{RefusedInput}
 use Rattle.thorin_c.specs.declared.types.ThorinReport.{ThorinReport}
-use Rattle.thorin_builder.specs.Builder.{State, start, taken, differing_in, finish_test, targets_test}
-use Rattle.thorin_builder.specs.Join.{Joins, JoinAll, IsPackageOf}
-use Rattle.thorin_builder.specs.Meaning.{Members}
-use Rattle.thorin_builder.specs.Represents.{units_in}
-use Rattle.thorin_builder.specs.Own.{packs_again}
+use Rattle.thorin_join.specs.Builder.{State, start, taken, differing_in, finish_test, targets_test}
+use Rattle.thorin_join.specs.Join.{Joins, JoinAll, IsPackageOf}
+use Rattle.thorin_join.specs.Meaning.{Members}
+use Rattle.thorin_join.specs.Represents.{units_in}
+use Rattle.thorin_join.specs.Own.{packs_again}
 use Rattle.thorin_c.specs.Packing.{bytes_of, all_taken, Accepts, RefusesAt, StopsAt, Leaves, TellsRefused, TellsLeft, TellsUnfinished, Refuses, RunsOutAt, RunsOutAfter, IsPackage, Differ}
 use Rattle.thorin_c.specs.declared.types.ThorinBytes.{ThorinBytes}
 

@@ -7,10 +7,10 @@ use Rattle.thorin_faults.specs.Answers.{MemoryAside}
 use Rattle.thorin_faults.specs.Fault.{Fault, fault_of}
 use Rattle.thorin_faults.specs.declared.fault.Error.{Error}
 use Rattle.thorin_faults.specs.declared.fault.Error.TheVariants as error
-use Rattle.thorin_builder.specs.Builder.{State, start, taken, differing_in}
-use Rattle.thorin_builder.specs.Join.{JoinAll, IsPackageOf}
-use Rattle.thorin_builder.specs.Own.{packs_again}
-use Rattle.thorin_builder.specs.Represents.{units_in}
+use Rattle.thorin_join.specs.Builder.{State, start, taken, differing_in}
+use Rattle.thorin_join.specs.Join.{JoinAll, IsPackageOf}
+use Rattle.thorin_join.specs.Own.{packs_again}
+use Rattle.thorin_join.specs.Represents.{units_in}
 use Rattle.thorin.specs.Run.{IsWritten, RefusesToWrite}
 use Rattle.thorin_c.specs.Faults.{Tells}
 use Rattle.thorin_c.specs.Listing.{written_over}
@@ -146,6 +146,44 @@ pub record Differ (inputs : List ThorinBytes) (report : ThorinReport)
   pub accepted : Accepts inputs start state
   pub count : report.differing ≡ length (differing_in state)
   pub signatures : new ≡ written_over old (differing_in state)
+
+-- which fields of a report are written: at a package, at a refused input, at a package that can't be
+-- finished, where memory ran out; the others are as they were
+abbrev pub TellsOfPackage : ThorinReport → ThorinReport → Type 0
+TellsOfPackage old new = new ≡ record old {
+  size = new.size;
+  differing = new.differing;
+  packs_again = new.packs_again;
+}
+
+abbrev pub TellsOfInput : ThorinReport → ThorinReport → Type 0
+TellsOfInput old new = new ≡ record old {
+  input = new.input;
+  fault = new.fault;
+  text_size = new.text_size;
+  text = new.text;
+}
+
+abbrev pub TellsOfFault : ThorinReport → ThorinReport → Type 0
+TellsOfFault old new = new ≡ record old {
+  fault = new.fault;
+  text_size = new.text_size;
+  text = new.text;
+}
+
+abbrev pub TellsOfMemory : ThorinReport → ThorinReport → Type 0
+TellsOfMemory old new = new ≡ record old { input = new.input }
+
+-- the same where the type units that differ are asked for
+abbrev pub TellsOfDiffering : ThorinReport → ThorinReport → Type 0
+TellsOfDiffering old new = new ≡ record old { differing = new.differing }
+
+-- by the status
+abbrev pub TellsAlone : (ThorinReport → ThorinReport → Type 0) → ℤ → ThorinReport → ThorinReport
+    → Type 0
+TellsAlone Done status old new = ((status ≡ pos 0) ⊎ (status ≡ pos 10) → Done old new)
+    × (status ≡ pos 11 → TellsOfInput old new) × (status ≡ pos 12 → TellsOfFault old new)
+    × (status ≡ pos 13 → TellsOfMemory old new)
 
 -- what may be answered
 abbrev pub IsPackingStatus : ℤ → Type 0

@@ -3,6 +3,7 @@
 ghost use Rattle.std.specs.Prelude.{◌≡◌, take, slice_index};
 ghost use Rattle.thorin_faults.specs.Fault.{fault_of};
 ghost use Rattle.thorin_c.specs.Faults.{number_of, Tells};
+ghost use Rattle.thorin_c.specs.Packing.{TellsOfFault};
 
 use crate::types::ThorinReport;
 use std::fmt::InlineText;
@@ -10,7 +11,8 @@ use thorin_faults::Error;
 
 /// Writes a fault's number and text, with a zero byte behind it.
 pub(crate) fn tell(fault: Error, report: &mut ThorinReport)
-    ensures { Tells (fault_of fault) report.new }
+    ensures told { Tells (fault_of fault) report.new }
+    ensures alone { TellsOfFault report.old report.new }
 {
     report.fault = number_of(&fault);
     let text = InlineText::<255>::of(fault);

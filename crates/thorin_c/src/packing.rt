@@ -2,15 +2,16 @@
 
 ghost use Rattle.std.specs.Prelude.{◌≡◌, ◌≢◌, map, length, IfOk, IfErr, OnOk, pos, ◌⊎◌};
 ghost use Rattle.std.specs.Prelude.{if◌then◌else◌};
-ghost use Rattle.thorin_builder.specs.Represents.{units_in};
-ghost use Rattle.thorin_builder.specs.Builder.{start};
-ghost use Rattle.thorin_builder.specs.Join.{IsPackageOf};
+ghost use Rattle.thorin_join.specs.Represents.{units_in};
+ghost use Rattle.thorin_join.specs.Builder.{start};
+ghost use Rattle.thorin_join.specs.Join.{IsPackageOf};
 ghost use Rattle.thorin.specs.Run.{Writes};
 ghost use Rattle.thorin_c.specs.Listing.{written_over};
 ghost use Rattle.thorin_c.specs.Packing.{Accepts, StopsAt, IsPackage, IsRefusal, TellsRefused};
 ghost use Rattle.thorin_c.specs.Packing.{TellsLeft, Packs, Needs, Refuses, TellsUnfinished};
 ghost use Rattle.thorin_c.specs.Packing.{RunsOutAt, RunsOutAfter, Differ, IsPackingStatus};
-ghost use Rattle.thorin_c.specs.Packing.{IsDifferingStatus};
+ghost use Rattle.thorin_c.specs.Packing.{IsDifferingStatus, TellsAlone, TellsOfPackage};
+ghost use Rattle.thorin_c.specs.Packing.{TellsOfInput, TellsOfFault, TellsOfMemory, TellsOfDiffering};
 
 use crate::faults::tell;
 use crate::session::NoFiles;
@@ -53,7 +54,8 @@ enum Refusal {
 /// `report.size` is the length that is needed; 11 where an input is refused, the first of them
 /// `report.input`; 12 where the package can't be finished or written; 13 where memory ran out at
 /// the input `report.input`, or, at their number, while the package was finished and written. Under
-/// 11 and 12 the fault's number and text stand in `report`.
+/// 11 and 12 the fault's number and text stand in `report`. The other fields of `report` are left as
+/// they are.
 #[tactic(auto, using(crate::proofs::Taking::refuses, crate::proofs::Taking::unfinished, crate::proofs::Taking::runs_out_at, crate::proofs::Taking::runs_out_after))]
 #[unsafe(no_mangle)]
 pub extern "C" fn thorin_pack(
@@ -70,6 +72,7 @@ pub extern "C" fn thorin_pack(
         ⊎ RunsOutAfter inputs.now report.new.input }
     ensures status { IsPackingStatus result }
     ensures unchanged { result ≢ pos 0 → out.new ≡ out.old }
+    ensures alone { TellsAlone TellsOfPackage result report.old report.new }
 {
     match package_of(alloc, inputs) {
         Ok(packed) => {
@@ -93,7 +96,7 @@ pub extern "C" fn thorin_pack(
 /// The signatures of the type units of inputs that are passed over and whose bytes differ from
 /// those of the unit that is kept: 0, as many as there is room for in `types`, in the order of
 /// passing over, and how many there are in `report.differing`. 11 and 13 as `thorin_pack`, and then
-/// `types` is left as it is.
+/// `types` is left as it is, as are the other fields of `report` always.
 #[tactic(auto, using(crate::proofs::Taking::refuses, crate::proofs::Taking::differs, crate::proofs::Taking::runs_out_at))]
 #[unsafe(no_mangle)]
 pub extern "C" fn thorin_differing_types(
@@ -107,6 +110,7 @@ pub extern "C" fn thorin_differing_types(
     ensures memory { result ≡ pos 13 → RunsOutAt inputs.now report.new.input }
     ensures status { IsDifferingStatus result }
     ensures unchanged { result ≢ pos 0 → types.new ≡ types.old }
+    ensures alone { TellsAlone TellsOfDiffering result report.old report.new }
 {
     let session = NoFiles {};
     let mut builder = DwarfPackage::new(alloc, &session);
@@ -126,6 +130,8 @@ fn refused(refusal: RefusedInput, report: &mut ThorinReport) -> i32
     ensures told { result ≡ pos 11 → TellsRefused refusal.number refusal.fault report.new }
     ensures memory { result ≡ pos 13 → report.new.input ≡ refusal.number }
     ensures status { (result ≡ pos 11) ⊎ (result ≡ pos 13) }
+    ensures input_alone { result ≡ pos 11 → TellsOfInput report.old report.new }
+    ensures memory_alone { result ≡ pos 13 → TellsOfMemory report.old report.new }
 {
     let RefusedInput { number, fault } = refusal;
     if matches!(fault, Error::Memory) {
@@ -142,6 +148,8 @@ fn unfinished(fault: Error, count: usize, report: &mut ThorinReport) -> i32
     ensures told { result ≡ pos 12 → TellsLeft fault report.new }
     ensures memory { result ≡ pos 13 → (fault ≡ Error.Memory) × (report.new.input ≡ count) }
     ensures status { (result ≡ pos 12) ⊎ (result ≡ pos 13) }
+    ensures fault_alone { result ≡ pos 12 → TellsOfFault report.old report.new }
+    ensures memory_alone { result ≡ pos 13 → TellsOfMemory report.old report.new }
 {
     if matches!(fault, Error::Memory) {
         report.input = count as u64;

@@ -1,3 +1,1 @@
-pub mod Identifiers
-pub mod Words
 pub mod Packing

@@ -5,9 +5,9 @@ use Rattle.std.specs.Path.{path_bytes}
 use Rattle.std.specs.declared.io.Error.{Error as IoError}
 use Rattle.dwp_elf.specs.FileText.{Object as File}
 use Rattle.thorin_faults.specs.declared.fault.MissingReferencedObjectBehaviour.{MissingReferencedObjectBehaviour}
-use Rattle.thorin_builder.specs.Builder.{State, start, IsFinishedState}
-use Rattle.thorin_builder.specs.Join.{JoinAll, IsPackageOnceWritten}
-use Rattle.thorin_builder.specs.Represents.{units_in}
+use Rattle.thorin_join.specs.Builder.{State, start, IsFinishedState}
+use Rattle.thorin_join.specs.Join.{JoinAll, IsPackageOnceWritten}
+use Rattle.thorin_join.specs.Represents.{units_in}
 use Rattle.thorin_builder.specs.Taking.{Outcome}
 use Rattle.thorin.specs.declared.packing.Input.{Input}
 use Rattle.thorin.specs.declared.packing.Input.TheVariants as inputs

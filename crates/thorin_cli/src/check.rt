@@ -16,7 +16,7 @@ use std::fmt;
 use std::io::{BufWriter, Write};
 use std::path::Path;
 use thorin::dwo_identifier_of_unit;
-use thorin_executable::{SkeletonList, skeletons};
+use thorin_executable::SkeletonUnits;
 use thorin_faults::{ArenaSession, Error, InputError, Session};
 
 /// Goes over a package: each unit that a slot of an index names is found under its identifier, its
@@ -316,23 +316,40 @@ fn check_named<'s, Sess: Session<RelocationEntry>, W: Write>(
     executable: &str,
     lines: &mut W,
 ) -> Result<u64, Failure> {
-    let SkeletonList { units, fault } = named_units(alloc, session, executable)?;
+    let bytes = match session.read_input(Path::new(executable)) {
+        Ok(bytes) => bytes,
+        Err(InputError::Io(_)) => return Err(Failure::Input),
+        Err(InputError::Memory) => return Err(Failure::Memory),
+    };
+    match SkeletonUnits::read(alloc, session, bytes) {
+        Ok(mut units) => check_skeletons(package, executable, &mut units, lines),
+        Err(fault) => tell_fault(executable, &fault, lines),
+    }
+}
+
+/// The same of the units that are left of those that an executable names.
+fn check_skeletons<W: Write>(
+    package: &PackageFile<'_>,
+    executable: &str,
+    units: &mut SkeletonUnits<'_>,
+    lines: &mut W,
+) -> Result<u64, Failure> {
     let mut faults = 0u64;
-    for skeleton in &units {
+    while let Some(next) = units.next().transpose() {
+        let skeleton = match next {
+            Ok(skeleton) => skeleton,
+            Err(fault) => {
+                let told = tell_fault(executable, &fault, lines)?;
+                return Ok(faults.saturating_add(told));
+            }
+        };
         // What a slot names and can't be read was told with its unit.
         if let Ok(None) = package.find(skeleton.target) {
             tell_missing(skeleton.target, executable, skeleton.path.as_str(), lines)?;
             faults = faults.saturating_add(1);
         }
     }
-    match fault {
-        None => Ok(faults),
-        Some(Error::Memory) => Err(Failure::Memory),
-        Some(fault) => {
-            tell_fault(executable, &fault, lines)?;
-            Ok(faults.saturating_add(1))
-        }
-    }
+    Ok(faults)
 }
 
 /// Prints that the package lacks a unit that an executable names, and the path of its object.
@@ -351,20 +368,11 @@ fn tell_missing<W: Write>(
     .map_err(|_| Failure::Line)
 }
 
-/// Prints why an executable can't be read to its end.
-fn tell_fault<W: Write>(executable: &str, fault: &Error, lines: &mut W) -> Result<(), Failure> {
-    writeln!(lines, "{executable}: {fault}").map_err(|_| Failure::Line)
-}
-
-/// The split units that an executable names.
-fn named_units<Sess: Session<RelocationEntry>>(
-    alloc: Global,
-    session: &Sess,
-    executable: &str,
-) -> Result<SkeletonList, Failure> {
-    match session.read_input(Path::new(executable)) {
-        Ok(bytes) => Ok(skeletons(alloc, session, bytes)),
-        Err(InputError::Io(_)) => Err(Failure::Input),
-        Err(InputError::Memory) => Err(Failure::Memory),
+/// Prints why an executable can't be read to its end. Answers the number of faults, 1.
+fn tell_fault<W: Write>(executable: &str, fault: &Error, lines: &mut W) -> Result<u64, Failure> {
+    if matches!(fault, Error::Memory) {
+        return Err(Failure::Memory);
     }
+    writeln!(lines, "{executable}: {fault}").map_err(|_| Failure::Line)?;
+    Ok(1)
 }

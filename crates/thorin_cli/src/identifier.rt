@@ -1,24 +1,10 @@
 //! Identifiers of units on the command line.
 
-ghost use Rattle.std.specs.Prelude.{◌≡◌, MatchOption};
-ghost use Rattle.std.specs.Str.Parse.{digits_value};
-ghost use Rattle.thorin_cli.specs.Identifiers.{IsIdentifier};
-
 use crate::output::Failure;
+use thorin_words::hexadecimal;
 
 /// The identifier that 1 to 16 hexadecimal digits write, with or without `0x` in front.
 pub(crate) fn identifier(text: &str) -> Result<u64, Failure> {
     let digits = text.strip_prefix("0x").unwrap_or(text);
     hexadecimal(digits).ok_or(Failure::BadIdentifier)
-}
-
-/// The number that 1 to 16 hexadecimal digits write, in either case; none for another text.
-pub fn hexadecimal(digits: &str) -> Option<u64>
-    ensures { MatchOption result (¬ (IsIdentifier digits.now)) (λ n. IsIdentifier digits.now
-        × (n ≡ digits_value 16 digits.now)) }
-{
-    if digits.is_empty() || digits.len() > 16 || digits.as_bytes()[0] == b'+' {
-        return None;
-    }
-    u64::from_str_radix(digits, 16).ok()
 }

@@ -6,7 +6,6 @@ mod command;
 mod find;
 mod identifier;
 mod input;
-pub mod laws;
 mod list;
 mod output;
 mod pack;
@@ -14,18 +13,15 @@ mod reader;
 mod response;
 mod sizes;
 mod telling;
-mod words;
 mod write;
 
 use clap::error::ErrorKind;
 use clap::{ArgMatches, Error};
-pub use identifier::hexadecimal;
 pub use output::Failure;
 use output::{report, show};
 use pack::Packing;
 use std::convert::AsStr;
 use std::io::Write;
-pub use words::split_words;
 
 /// Does what a command line asks for: `words` are the program's name and its arguments, where
 /// `@FILE` stands for the words of a file. What is printed goes to `out`, and a fault as one line

@@ -1,9 +1,9 @@
 //! `thorin pack`.
 
 ghost use Rattle.std.specs.Prelude.{◌≡◌, ◌++◌, List, ℕ, Ok, map, OnOk, IfOk};
-ghost use Rattle.thorin_builder.specs.Builder.{IsFinishedState};
-ghost use Rattle.thorin_builder.specs.Join.{IsPackageOnceWritten};
-ghost use Rattle.thorin_builder.specs.Represents.{units_in};
+ghost use Rattle.thorin_join.specs.Builder.{IsFinishedState};
+ghost use Rattle.thorin_join.specs.Join.{IsPackageOnceWritten};
+ghost use Rattle.thorin_join.specs.Represents.{units_in};
 ghost use Rattle.thorin.specs.Run.{Took};
 ghost use Rattle.thorin_cli.specs.Packing.{anything, asked, object_asked, executable_asked};
 ghost use Rattle.thorin_cli.specs.Packing.{AreAllAccepted, IsPackedOf};

@@ -2,9 +2,9 @@
 
 use crate::input::read_file;
 use crate::output::Failure;
-use crate::words::split_words;
 use std::convert::AsStr;
 use std::fs;
+use thorin_words::split_words;
 
 /// How many response files a command line may name, those among them that response files name.
 const MOST_FILES: u32 = 2000;

@@ -1,36 +1,33 @@
 -- A list of split units, one unit after the other.
-use Rattle.std.proofs.Common.{◌≡◌, ◌∙◌, List, [], ◌∷◌, ◌++◌, Option, Some, None, Result, Ok, Err, ap, sym, append_assoc}
+use Rattle.std.proofs.Common.{◌≡◌, ◌∙◌, List, [], ◌∷◌, ◌++◌, Option, Result, ap, sym, refl, append_assoc, length, take}
 use Rattle.std.proofs.lemmas.List.{append-nil}
-use Rattle.dwp_base.specs.Reading.{◌>>=◌}
 use Rattle.dwp_bytes.specs.declared.fault.ReadError.{ReadError}
 use Rattle.dwp_dwarf.specs.Units.{Unit as UnitMeaning}
 use Rattle.thorin_faults.specs.Fault.{Fault}
 use Rattle.thorin_executable.specs.Sections.{DebugData}
-use Rattle.thorin_executable.specs.Skeletons.{Named, Listed, with_named, with_read, with_first, skeleton_read, skeletons_from}
+use Rattle.thorin_executable.specs.Skeletons.{Named, Listed, with_first, skeleton_read, skeletons_from}
+
+-- what comes first, and what the units behind it stand for
+pub first-then : (debug : DebugData) (read : Result UnitMeaning ReadError) (left rest : List (Result UnitMeaning ReadError)) (found : Result (Option Named) Fault) (all : Listed)
+    → skeletons_from debug left ≡ all → left ≡ read ∷ rest → skeleton_read debug read ≡ found → all ≡ with_first found (skeletons_from debug rest)
+first-then debug read left rest found all so_far is e = sym so_far ∙ ap (skeletons_from debug) is ∙ ap (λ (r : Result (Option Named) Fault). with_first r (skeletons_from debug rest)) e
 
 -- those before, and a list behind them
 abbrev pub put : List Named → Listed → Listed
 put before rest = (before ++ rest.0, rest.1)
 
-step : (before after : List Named) (rest : Listed) (r : Result (Option Named) Fault) → (r >>= λ found. Ok (with_named before found)) ≡ Ok after → put after rest ≡ put before (with_first r rest)
-step before after rest (Ok None) e = let same : before ≡ after = cc in ap (λ (xs : List Named). put xs rest) (sym same)
-step before after rest (Ok (Some x)) e = let same : before ++ (x ∷ []) ≡ after = cc in ap (λ (xs : List Named). put xs rest) (sym same) ∙ rw append_assoc
-step before after rest (Err fault) e = cc
+-- one of the list is among those before
+pub put-step : (before : List Named) (next : Named) (left rest all : Listed) → left ≡ (next ∷ rest.0, rest.1) → put before left ≡ all → put (before ++ next ∷ []) rest ≡ all
+put-step before next left rest all is h = rw append_assoc (ap (put before) (sym is) ∙ h)
 
-pub put-step : (debug : DebugData) (before after : List Named) (read : Result UnitMeaning ReadError) (left rest : List (Result UnitMeaning ReadError)) (all : Listed)
-    → left ≡ read ∷ rest → with_read debug before read ≡ Ok after → put before (skeletons_from debug left) ≡ all → put after (skeletons_from debug rest) ≡ all
-unfolding with_read
-put-step debug before after read left rest all is e h =
-    step before after (skeletons_from debug rest) (skeleton_read debug read) e ∙ ap (λ (l : List (Result UnitMeaning ReadError)). put before (skeletons_from debug l)) (sym is) ∙ h
+-- the list is at its end
+pub put-end : (before : List Named) (fault : Option Fault) (left all : Listed) → left ≡ ([], fault) → put before left ≡ all → all ≡ (before, fault)
+put-end before fault left all is h = sym h ∙ ap (put before) is ∙ ap (λ (xs : List Named). (xs, fault)) (append-nil before)
 
-stop : (before : List Named) (rest : Listed) (fault : Fault) (r : Result (Option Named) Fault) → (r >>= λ found. Ok (with_named before found)) ≡ Err fault → put before (with_first r rest) ≡ (before, Some fault)
-stop before rest fault (Ok None) e = cc
-stop before rest fault (Ok (Some x)) e = cc
-stop before rest fault (Err other) e = let same : other ≡ fault = cc in rw (append-nil, same)
-
-pub put-fault : (debug : DebugData) (before after : List Named) (fault : Fault) (read : Result UnitMeaning ReadError) (left rest : List (Result UnitMeaning ReadError)) (all : Listed)
-    → left ≡ read ∷ rest → with_read debug before read ≡ Err fault → after ≡ before → put before (skeletons_from debug left) ≡ all → all ≡ (after, Some fault)
-unfolding with_read
-put-fault debug before after fault read left rest all is e same h =
-    let ended : put before (skeletons_from debug left) ≡ (before, Some fault) = ap (λ (l : List (Result UnitMeaning ReadError)). put before (skeletons_from debug l)) is ∙ stop before (skeletons_from debug rest) fault (skeleton_read debug read) e in
-    sym h ∙ ended ∙ ap (λ (xs : List Named). (xs, Some fault)) (sym same)
+-- those before are the first of all
+pub put-front : (before : List Named) (left all : Listed) → put before left ≡ all → take (length before) all.0 ≡ before
+put-front before left all h = rw (sym h) (by before left.0)
+  where
+    by : (xs ys : List Named) → take (length xs) (xs ++ ys) ≡ xs
+    by [] ys = refl
+    by (x ∷ xs) ys = ap (λ (l : List Named). x ∷ l) (by xs ys)

@@ -1,6 +1,6 @@
 -- The split units that an executable names: the skeleton units of DWARF 5 (3.1.2), and before
 -- version 5 the units with a GNU_dwo_id (the GNU page DebugFission).
-use Rattle.std.specs.Prelude.{ℕ, List, [], ◌∷◌, ◌++◌, Option, Some, None, Result, Ok, Err}
+use Rattle.std.specs.Prelude.{ℕ, List, [], ◌∷◌, Option, Some, None, Result, Ok, Err}
 use Rattle.dwp_base.specs.Reading.{◌>>=◌}
 use Rattle.dwp_bytes.specs.declared.fault.ReadError.{ReadError}
 use Rattle.dwp_dwarf.specs.Entries.{DebugAttribute}
@@ -50,16 +50,6 @@ skeleton_of debug unit = identity debug.debug_abbrev unit >>= named_if debug uni
 -- the same of the unit that was read next
 unfoldable pub skeleton_read : DebugData → Result Unit ReadError → Result (Option Named) Fault
 skeleton_read debug read = as_fault ParseUnitHeader read >>= skeleton_of debug
-
--- those before and one more, where there is one
-abbrev pub with_named : List Named → Option Named → List Named
-with_named before None = before
-with_named before (Some next) = before ++ next ∷ []
-
--- those before and what the unit that was read next stands for
-unfoldable pub with_read : DebugData → List Named → Result Unit ReadError
-    → Result (List Named) Fault
-with_read debug before read = skeleton_read debug read >>= λ found. Ok (with_named before found)
 
 -- a list up to the first fault, and that fault
 abbrev pub Listed : Type 0

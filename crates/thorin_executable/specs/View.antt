@@ -1,5 +1,6 @@
 -- What the values of this crate stand for, and what a list says where memory ran out.
-use Rattle.std.specs.Prelude.{◌≡◌, length, map, take, Option, Some, None, option_map, string_bytes}
+use Rattle.std.specs.Prelude.{◌≡◌, List, [], ◌∷◌, length, map, take, Option, Some, None, Result, Ok}
+use Rattle.std.specs.Prelude.{Err, option_map, string_bytes}
 use Rattle.dwp_bytes.specs.Input.{Input}
 use Rattle.dwp_dwarf.specs.Attributes.{attribute_of}
 use Rattle.dwp_dwarf.specs.Sections.{strings_of}
@@ -47,3 +48,21 @@ UnlessMemory (Some e) P = MemoryAside e P
 -- the units of a list are the first of what is meant
 abbrev pub IsFront : SkeletonList → Listed → Type 0
 IsFront l meaning = take (length l.units.items) meaning.0 ≡ map named l.units.items
+
+-- what reading of a list begins with: all of it; or the fault that comes before any unit
+abbrev pub IsOpened : Result Listed Error → Listed → Type 0
+IsOpened (Ok left) meaning = meaning ≡ left
+IsOpened (Err e) meaning = MemoryAside e (meaning ≡ ([], Some (fault_of e)))
+
+-- what is answered next of a list, and what is left of it: its first unit; or its end; or the fault
+-- that ends it
+abbrev pub IsNext : Listed → Result (Option Skeleton) Error → Listed → Type 0
+IsNext meaning (Ok (Some first)) left = meaning ≡ (named first ∷ left.0, left.1)
+IsNext meaning (Ok None) left = (meaning ≡ ([], None)) × (left ≡ ([], None))
+IsNext meaning (Err e) left = MemoryAside e (meaning ≡ ([], Some (fault_of e)))
+
+-- what all that was left became: units, and the fault that ended them
+abbrev pub IsPushed : Listed → Result (Unit {0}) Error → List Skeleton → Type 0
+IsPushed meaning (Ok x) units = meaning ≡ (map named units, None)
+IsPushed meaning (Err e) units = MemoryAside e (meaning ≡ (map named units, Some (fault_of e)))
+    × (take (length units) meaning.0 ≡ map named units)

@@ -1,20 +1,22 @@
 //! The split units of an executable, up to the first fault.
 
-ghost use Rattle.std.specs.Prelude.{◌≡◌, map, option_map, OnErr};
-ghost use Rattle.dwp_dwarf.specs.Units.{unit_of, unit_seen, units};
+ghost use Rattle.std.specs.Prelude.{◌≡◌, [], None, Ok, map, option_map, OnErr};
+ghost use Rattle.dwp_dwarf.specs.Units.{unit_of, unit_seen, units_left};
 ghost use Rattle.thorin_faults.specs.Answers.{Gives};
-ghost use Rattle.dwp_dwarf.specs.declared.unit.UnitSection.TheVariants.{Info};
 ghost use Rattle.thorin_executable.specs.Skeletons as spec;
 ghost use Rattle.thorin_executable.specs.View.{data_of, named, listed, IsFront, UnlessMemory};
+ghost use Rattle.thorin_executable.specs.View.{IsOpened, IsNext, IsPushed};
 
 use crate::loading::DebugData;
 use crate::paths::object_path;
+use crate::reader::SectionReader;
 use crate::roots::SplitAttributes;
 use dwp_dwarf::{
     AbbreviationCache, ReadError, Reader, RelocationEntry, UnitHeader, UnitHeaders, UnitSection,
 };
 use dwp_table::DwarfObject;
 use std::alloc::Global;
+use std::marker::Model;
 use thorin_faults::{Error, Session};
 use thorin_identity::dwo_identifier_remembering;
 
@@ -82,58 +84,175 @@ fn skeleton_of<R: Reader>(
     }
 }
 
-/// Adds the split unit that the unit read next stands for, if it does.
-#[tactic(auto, unfolding(crate::specs::Skeletons::skeleton_read, crate::specs::Skeletons::with_read))]
-fn add_read<R: Reader>(
+/// The same of the unit that was read next.
+#[tactic(auto, unfolding(crate::specs::Skeletons::skeleton_read))]
+fn skeleton_read<R: Reader>(
     alloc: Global,
     debug: &DebugData<R>,
     abbreviations: &mut AbbreviationCache<R>,
     read: Result<UnitHeader<R>, ReadError>,
-    units: &mut Vec<Skeleton>,
-) -> Result<(), Error>
+) -> Result<Option<Skeleton>, Error>
     requires { abbreviations.old ≡ debug.now.debug_abbrev }
-    ensures meaning { Gives (λ _. map named units.new.items) result (spec.with_read
-        (data_of R.input debug.now) (map named units.old.items) (unit_seen R.input read)) }
+    ensures meaning { Gives (option_map named) result
+        (spec.skeleton_read (data_of R.input debug.now) (unit_seen R.input read)) }
     ensures kept { abbreviations.new ≡ abbreviations.old }
-    ensures refused { OnErr result (units.new.items ≡ units.old.items) }
 {
     let header = read.map_err(Error::ParseUnitHeader)?;
-    if let Some(skeleton) = skeleton_of(alloc, debug, abbreviations, &header)? {
+    skeleton_of(alloc, debug, abbreviations, &header)
+}
+
+/// The first split unit that one of the units left stands for.
+fn next_named<R: Reader>(
+    alloc: Global,
+    debug: &DebugData<R>,
+    abbreviations: &mut AbbreviationCache<R>,
+    headers: &mut UnitHeaders<R>,
+) -> Result<Option<Skeleton>, Error>
+    requires { abbreviations.old ≡ debug.now.debug_abbrev }
+    ensures next { IsNext
+        (spec.skeletons_from (data_of R.input debug.now) (units_left R.input headers.old)) result
+        (spec.skeletons_from (data_of R.input debug.now) (units_left R.input headers.new)) }
+    ensures kept { abbreviations.new ≡ abbreviations.old }
+{
+    while let Some(read) = headers.next() {
+        if let Some(skeleton) = skeleton_read(alloc, debug, abbreviations, read)? {
+            return Ok(Some(skeleton));
+        }
+    }
+    Ok(None)
+}
+
+/// The units of an executable that are left to read.
+#[derive(Drop)]
+struct UnitsLeft<R: Reader> {
+    alloc: Global,
+    debug: DebugData<R>,
+    abbreviations: AbbreviationCache<R>,
+    headers: UnitHeaders<R>,
+    // A fault was met: nothing comes after it.
+    ended: bool,
+}
+
+impl<R: Reader> Model for UnitsLeft<R> {
+    ghost use Rattle.std.specs.Prelude.{◌≡◌, [], None, if◌then◌else◌};
+    ghost use Rattle.dwp_dwarf.specs.Units.{units_left};
+    ghost use Rattle.thorin_executable.specs.Skeletons.{Listed, skeletons_from};
+    ghost use Rattle.thorin_executable.specs.View.{data_of};
+
+    // Contracts see the split units that they stand for, and the fault behind them.
+    ghost Value = { Listed };
+
+    ghost view = { λ u. if u.ended then ([], None)
+        else skeletons_from (data_of R.input u.debug) (units_left R.input u.headers) };
+
+    ghost invariant = { λ u. u.abbreviations ≡ u.debug.debug_abbrev };
+}
+
+impl<R: Reader> UnitsLeft<R> {
+    /// All units.
+    fn new(alloc: Global, debug: DebugData<R>) -> UnitsLeft<R>
+        ensures { result ≡ spec.skeletons_in (Ok (data_of R.input debug)) }
+    {
+        UnitsLeft {
+            alloc,
+            debug,
+            abbreviations: AbbreviationCache::new(alloc, debug.debug_abbrev),
+            headers: UnitHeaders::new(debug.debug_info, UnitSection::Info),
+            ended: false,
+        }
+    }
+
+    /// The next split unit that one of them stands for.
+    fn next(&mut self) -> Result<Option<Skeleton>, Error>
+        ensures next { IsNext self.old result self.new }
+        ensures ended { OnErr result (self.new ≡ ([], None)) }
+    {
+        if self.ended {
+            return Ok(None);
+        }
+        let found = next_named(
+            self.alloc,
+            &self.debug,
+            &mut self.abbreviations,
+            &mut self.headers,
+        );
+        self.ended = found.is_err();
+        found
+    }
+}
+
+/// The split units that an executable names, one after another: of no more than one of them the
+/// path is held. It ends after the first fault.
+#[derive(Drop)]
+pub struct SkeletonUnits<'a> {
+    left: UnitsLeft<SectionReader<'a>>,
+}
+
+impl<'a> Model for SkeletonUnits<'a> {
+    ghost use Rattle.thorin_executable.specs.Skeletons.{Listed};
+
+    // Contracts see those that are left, and the fault behind them.
+    ghost Value = { Listed };
+
+    ghost view = { λ s. s.left };
+}
+
+impl<'a> SkeletonUnits<'a> {
+    /// Those of an executable's bytes, of which nothing is copied. The relocations are placed in
+    /// the session.
+    ///
+    /// # Errors
+    /// `ParseObjectFile`; of a section that is used `DecompressData`, `ObjectRead`,
+    /// `NamelessSection`, `RelocationWithInvalidSymbol`, `MultipleRelocations` and
+    /// `UnsupportedRelocation`; `Memory`.
+    #[tactic(auto, unfolding(crate::specs::Skeletons::skeletons_of))]
+    pub fn read<Sess: Session<RelocationEntry>>(
+        alloc: Global,
+        session: &'a Sess,
+        bytes: &'a [u8],
+    ) -> Result<SkeletonUnits<'a>, Error>
+        ensures { IsOpened result (spec.skeletons_of bytes.now) }
+    {
+        let debug = DebugData::read(alloc, session, bytes)?;
+        Ok(SkeletonUnits {
+            left: UnitsLeft::new(alloc, debug),
+        })
+    }
+
+    /// The next of them; None at the end.
+    ///
+    /// # Errors
+    /// Of a unit `ParseUnitHeader`, those of `dwo_identifier_of_unit`, `NoDie`, `ParseUnit`,
+    /// `MissingDwoName` and, for strings, `GimliRead`; `Memory`. No unit comes after an `Err`.
+    pub fn next(&mut self) -> Result<Option<Skeleton>, Error>
+        ensures next { IsNext self.old result self.new }
+        ensures ended { OnErr result (self.new ≡ ([], None)) }
+    {
+        self.left.next()
+    }
+}
+
+/// Adds all that are left to a list, up to the first fault.
+fn push_all(left: &mut SkeletonUnits<'_>, units: &mut Vec<Skeleton>) -> Result<(), Error>
+    requires { units.old.items ≡ [] }
+    ensures { IsPushed left.old result units.new.items }
+{
+    while let Some(skeleton) = left.next()? {
         units.push(skeleton)?;
     }
     Ok(())
 }
 
-/// The split units that the units of an executable stand for.
-fn units_named<R: Reader>(alloc: Global, debug: &DebugData<R>) -> SkeletonList
-    ensures exact { UnlessMemory result.fault (spec.skeletons_from (data_of R.input debug.now)
-        (units Info (R.input debug.now.debug_info)) ≡ listed result) }
-    ensures front { IsFront result (spec.skeletons_from (data_of R.input debug.now)
-        (units Info (R.input debug.now.debug_info))) }
-{
-    let mut units = Vec::new(alloc);
-    let mut abbreviations = AbbreviationCache::new(alloc, debug.debug_abbrev);
-    for read in UnitHeaders::new(debug.debug_info, UnitSection::Info) {
-        if let Err(fault) = add_read(alloc, debug, &mut abbreviations, read, &mut units) {
-            return SkeletonList {
-                units,
-                fault: Some(fault),
-            };
-        }
-    }
-    SkeletonList { units, fault: None }
-}
-
 /// The split units that an executable names: of each of its units with an identity the identity and
 /// the path of the object, in order, up to the first fault, and that fault. A type unit that names
-/// no object is passed over. The relocations are placed in the session.
+/// no object is passed over. The relocations are placed in the session. All paths are held;
+/// `SkeletonUnits` gives one after another.
 ///
 /// The faults: `ParseObjectFile`; of a section that is used `DecompressData`, `ObjectRead`,
 /// `NamelessSection`, `RelocationWithInvalidSymbol`, `MultipleRelocations` and
 /// `UnsupportedRelocation`; of a unit `ParseUnitHeader`, those of `dwo_identifier_of_unit`,
 /// `NoDie`, `ParseUnit`, `MissingDwoName` and, for strings, `GimliRead`. Where memory ran out the
 /// fault is `Memory`, and the units are the first of the list.
-#[tactic(auto, unfolding(crate::specs::Skeletons::skeletons_of))]
 pub fn skeletons<'a, Sess: Session<RelocationEntry>>(
     alloc: Global,
     session: &'a Sess,
@@ -142,11 +261,10 @@ pub fn skeletons<'a, Sess: Session<RelocationEntry>>(
     ensures exact { UnlessMemory result.fault (spec.skeletons_of bytes.now ≡ listed result) }
     ensures front { IsFront result (spec.skeletons_of bytes.now) }
 {
-    match DebugData::read(alloc, session, bytes) {
-        Ok(debug) => units_named(alloc, &debug),
-        Err(fault) => SkeletonList {
-            units: Vec::new(alloc),
-            fault: Some(fault),
-        },
-    }
+    let mut units = Vec::new(alloc);
+    let fault = match SkeletonUnits::read(alloc, session, bytes) {
+        Ok(mut left) => push_all(&mut left, &mut units).err(),
+        Err(fault) => Some(fault),
+    };
+    SkeletonList { units, fault }
 }

@@ -12,8 +12,6 @@ use dwp_elf_read::{ReadError as ElfReadError, WriteError as ElfWriteError};
 use std::alloc::{AllocError, AllocFailed};
 use std::io;
 
-#[cfg(test)]
-mod tests;
 mod text;
 
 /// What a call of the package builder answers, where no other fault is named.

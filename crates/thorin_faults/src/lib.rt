@@ -6,4 +6,4 @@ pub mod laws;
 mod session;
 
 pub use fault::{Error, InputError, MissingReferencedObjectBehaviour, Result};
-pub use session::{ArenaSession, BytesSession, MemorySession, Session};
+pub use session::{ArenaSession, BytesSession, MemorySession, Session, read_into};

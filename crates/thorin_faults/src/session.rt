@@ -14,10 +14,8 @@ use std::path::Path;
 mod arena;
 mod bytes;
 mod memory;
-#[cfg(test)]
-mod tests;
 
-pub use arena::ArenaSession;
+pub use arena::{ArenaSession, read_into};
 pub use bytes::BytesSession;
 pub use memory::MemorySession;
 

@@ -1,5 +1,6 @@
 //! Rows by place, and string offsets of packages that are rewritten.
 
+use crate::asserting::same;
 use dwp_base::{Contribution, ContributionOffset, Endianness, SectionKind};
 use dwp_bytes::{Encoding, Format, ReadError};
 use dwp_index::{DwarfObject, DwoId, UnitIndex};
@@ -108,12 +109,12 @@ fn rewritten(
 fn ranges_with_headers_of_their_own(rt: HostRuntime) -> Result<(), Fail> {
     let alloc = rt.alloc();
     let (bytes, data) = rewritten(alloc, DWARF5, &[(0, 12), (12, 12)], (0, 12), &A_THEN_B)?;
-    assert_eq!(rt; bytes.as_slice(), A_THEN_B_IN_B_A.as_slice());
-    assert_eq!(rt; data.as_slice(), b"b\0a\0".as_slice());
+    same(&rt, bytes.as_slice(), A_THEN_B_IN_B_A.as_slice());
+    same(&rt, data.as_slice(), b"b\0a\0".as_slice());
 
     // A range of the type unit alone, and rows out of order.
     let (bytes, _) = rewritten(alloc, DWARF5, &[(12, 12), (12, 12)], (0, 12), &A_THEN_B)?;
-    assert_eq!(rt; bytes.as_slice(), A_THEN_B_IN_B_A.as_slice());
+    same(&rt, bytes.as_slice(), A_THEN_B_IN_B_A.as_slice());
     Ok(())
 }
 
@@ -122,8 +123,8 @@ fn bytes_outside_ranges_stay(rt: HostRuntime) -> Result<(), Fail> {
     let offsets = [1, 2, 0, 0, 0, 0, 3, 2, 0, 0, 0, 4, 5, 6];
     let (bytes, data) = rewritten(rt.alloc(), GNU, &[(7, 4)], (2, 4), &offsets)?;
     let expected = [1, 2, 2, 0, 0, 0, 3, 0, 0, 0, 0, 4, 5, 6];
-    assert_eq!(rt; bytes.as_slice(), expected.as_slice());
-    assert_eq!(rt; data.as_slice(), b"b\0a\0".as_slice());
+    same(&rt, bytes.as_slice(), expected.as_slice());
+    same(&rt, data.as_slice(), b"b\0a\0".as_slice());
     Ok(())
 }
 
@@ -140,7 +141,7 @@ fn without_indexes_all_stays(rt: HostRuntime) -> Result<(), Fail> {
         Endianness::Big,
         DWARF5,
     )?;
-    assert_eq!(rt; bytes.as_slice(), [1, 2, 3].as_slice());
+    same(&rt, bytes.as_slice(), [1, 2, 3].as_slice());
     assert!(rt; strings.is_empty());
     Ok(())
 }
@@ -197,21 +198,21 @@ fn rows_by_place(rt: HostRuntime) -> Result<(), Fail> {
     let bytes = index_of(alloc, GNU, &rows)?;
     let index = UnitIndex::parse(&bytes, Endianness::Little)?;
     let abbrevs = RowPlaces::new(alloc, Some(&index), SectionKind::Abbrev)?;
-    assert_eq!(rt; abbrevs.find(part(0, 0x10)), Some(1));
-    assert_eq!(rt; abbrevs.find(part(0x10, 8)), Some(2));
-    assert_eq!(rt; abbrevs.find(part(0x10, 7)), None);
-    assert_eq!(rt; abbrevs.find(part(0, 8)), None);
+    same(&rt, abbrevs.find(part(0, 0x10)), Some(1));
+    same(&rt, abbrevs.find(part(0x10, 8)), Some(2));
+    same(&rt, abbrevs.find(part(0x10, 7)), None);
+    same(&rt, abbrevs.find(part(0, 8)), None);
     let offsets = row_with(alloc, Some(&index), SectionKind::StrOffsets, part(16, 0))?;
-    assert_eq!(rt; offsets, None);
+    same(&rt, offsets, None);
     let lines = row_with(alloc, Some(&index), SectionKind::Line, part(0, 0x10))?;
-    assert_eq!(rt; lines, None);
+    same(&rt, lines, None);
     Ok(())
 }
 
 #[test]
 fn without_an_index_there_are_no_rows(rt: HostRuntime) -> Result<(), Fail> {
     let found = row_with(rt.alloc(), None, SectionKind::Abbrev, part(0, 0x10))?;
-    assert_eq!(rt; found, None);
+    same(&rt, found, None);
     Ok(())
 }
 
@@ -251,10 +252,10 @@ fn a_refused_allocation_is_want_of_memory(rt: HostRuntime) -> Result<(), Fail> {
         DWARF5,
     );
     match written {
-        Ok(bytes) => assert_eq!(rt; bytes.as_slice(), A_THEN_B_IN_B_A.as_slice()),
+        Ok(bytes) => same(&rt, bytes.as_slice(), A_THEN_B_IN_B_A.as_slice()),
         Err(e) => {
             assert!(rt; matches!(e, Error::Memory));
-            assert_eq!(rt; strings.data().get(..2), Some(b"b\0".as_slice()));
+            same(&rt, strings.data().get(..2), Some(b"b\0".as_slice()));
         }
     }
     Ok(())

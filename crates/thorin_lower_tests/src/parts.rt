@@ -1,5 +1,6 @@
 //! Hash tables, entries, written indexes and relocations.
 
+use crate::asserting::same;
 use dwp_base::{Contribution, ContributionOffset, Endianness, SectionKind};
 use dwp_bytes::{Encoding, Format, RelocationEntry};
 use dwp_elf_read::ElfFile;
@@ -59,17 +60,29 @@ fn slots(alloc: Global, ids: &[u64]) -> Result<Buckets, Fail> {
 #[test]
 fn tables(rt: HostRuntime) -> Result<(), Fail> {
     let alloc = rt.alloc();
-    assert_eq!(rt; slots(alloc, &[])?.slots.as_slice(), [0, 0].as_slice());
-    assert_eq!(rt; slots(alloc, &[0x5])?.slots.as_slice(), [0, 1].as_slice());
-    assert_eq!(rt; slots(alloc, &[0])?.slots.as_slice(), [1, 0].as_slice());
+    same(&rt, slots(alloc, &[])?.slots.as_slice(), [0, 0].as_slice());
+    same(
+        &rt,
+        slots(alloc, &[0x5])?.slots.as_slice(),
+        [0, 1].as_slice(),
+    );
+    same(&rt, slots(alloc, &[0])?.slots.as_slice(), [1, 0].as_slice());
     let two = slots(alloc, &[0x1_0000_0002, 0x2])?;
-    assert_eq!(rt; two.slots.as_slice(), [0, 0, 1, 2].as_slice());
+    same(&rt, two.slots.as_slice(), [0, 0, 1, 2].as_slice());
     let three = slots(alloc, &[0x3_0000_0001, 0x1, 0x2_0000_0001])?;
-    assert_eq!(rt; three.slots.as_slice(), [0, 1, 2, 0, 3, 0, 0, 0].as_slice());
-    assert_eq!(rt; three.looked.as_slice(), [1, 2, 2].as_slice());
+    same(
+        &rt,
+        three.slots.as_slice(),
+        [0, 1, 2, 0, 3, 0, 0, 0].as_slice(),
+    );
+    same(&rt, three.looked.as_slice(), [1, 2, 2].as_slice());
     let four = slots(alloc, &[0x1, 0x11, 0x21, 0x31])?;
-    assert_eq!(rt; four.slots.as_slice(), [0, 1, 2, 3, 4, 0, 0, 0].as_slice());
-    assert_eq!(rt; four.looked.as_slice(), [1, 2, 3, 4].as_slice());
+    same(
+        &rt,
+        four.slots.as_slice(),
+        [0, 1, 2, 3, 4, 0, 0, 0].as_slice(),
+    );
+    same(&rt, four.looked.as_slice(), [1, 2, 3, 4].as_slice());
     Ok(())
 }
 
@@ -80,7 +93,7 @@ fn slot_counts(rt: HostRuntime) -> Result<(), Fail> {
         for id in 0..units {
             ids.push(DwoId(id))?;
         }
-        assert_eq!(rt; bucket(rt.alloc(), &ids)?.slots.len(), slots);
+        same(&rt, bucket(rt.alloc(), &ids)?.slots.len(), slots);
     }
     Ok(())
 }
@@ -108,9 +121,9 @@ fn gnu_index_bytes(rt: HostRuntime) -> Result<(), Fail> {
         0x20, 0, 0, 0, 0x10,
     ];
     let index = index_of_one(alloc, Endianness::Little, GNU)?;
-    assert_eq!(rt; index.as_slice(), little.as_slice());
+    same(&rt, index.as_slice(), little.as_slice());
     let index = index_of_one(alloc, Endianness::Big, GNU)?;
-    assert_eq!(rt; index.as_slice(), big.as_slice());
+    same(&rt, index.as_slice(), big.as_slice());
     assert!(rt; write_index(alloc, Endianness::Big, &[])?.is_empty());
     Ok(())
 }
@@ -129,9 +142,9 @@ fn standard_index_bytes(rt: HostRuntime) -> Result<(), Fail> {
         0x20, 0, 0, 0, 0x10,
     ];
     let index = index_of_one(alloc, Endianness::Little, DWARF5)?;
-    assert_eq!(rt; index.as_slice(), little.as_slice());
+    same(&rt, index.as_slice(), little.as_slice());
     let index = index_of_one(alloc, Endianness::Big, DWARF5)?;
-    assert_eq!(rt; index.as_slice(), big.as_slice());
+    same(&rt, index.as_slice(), big.as_slice());
     Ok(())
 }
 
@@ -174,9 +187,9 @@ fn moved_parts(rt: HostRuntime) -> Result<(), Fail> {
     ];
     let bytes = write_index(rt.alloc(), Endianness::Little, &rows)?;
     let index = UnitIndex::parse(&bytes, Endianness::Little)?;
-    assert_eq!(rt; abbreviations_of(Some(&index), 0xb)?, part(0x30, 8));
-    assert_eq!(rt; abbreviations_of(Some(&index), 0xa)?, part(0x20, 0x10));
-    assert_eq!(rt; abbreviations_of(None, 0xa)?, part(0x20, 0x18));
+    same(&rt, abbreviations_of(Some(&index), 0xb)?, part(0x30, 8));
+    same(&rt, abbreviations_of(Some(&index), 0xa)?, part(0x20, 0x10));
+    same(&rt, abbreviations_of(None, 0xa)?, part(0x20, 0x18));
     Ok(())
 }
 
@@ -229,17 +242,23 @@ fn relocated_values(rt: HostRuntime) -> Result<(), Fail> {
     // With addends: symbol 1 plus 0x100 at 8, and 5 at 0.
     let found = relocations_of(rt.alloc(), RELA, &[8, 0x1_0000_0001, 0x100, 0, 10, 5])??;
     assert_eq!(rt; found.len(), 2);
-    assert_eq!(rt; (found[0].offset, found[0].relocation.value(0x10)), (0, 5));
-    assert_eq!(rt;
+    same(
+        &rt,
+        (found[0].offset, found[0].relocation.value(0x10)),
+        (0, 5),
+    );
+    same(
+        &rt,
         (found[1].offset, found[1].relocation.value(0x10)),
-        (8, 0x1100)
+        (8, 0x1100),
     );
     // With the stored numbers: symbol 1 at 16.
     let found = relocations_of(rt.alloc(), REL, &[16, 0x1_0000_0001, 8, 1, 0, 1])??;
     assert_eq!(rt; found.len(), 3);
-    assert_eq!(rt;
+    same(
+        &rt,
         (found[2].offset, found[2].relocation.value(0x10)),
-        (16, 0x1010)
+        (16, 0x1010),
     );
     Ok(())
 }
@@ -251,9 +270,10 @@ fn relocation_faults(rt: HostRuntime) -> Result<(), Fail> {
     let Err(unsupported) = relocations_of(rt.alloc(), RELA, &[0, 1, 0, 6, 2, 0])? else {
         return Err(Fail::from("it was accepted"));
     };
-    assert_eq!(rt;
+    same(
+        &rt,
         format!(in rt.alloc(); "{unsupported}")?.as_str(),
-        "Unsupported relocation for section .debug_info at offset 0x00000006"
+        "Unsupported relocation for section .debug_info at offset 0x00000006",
     );
     let symbol = relocations_of(rt.alloc(), RELA, &[0, 0x2_0000_0001, 0, 6, 2, 0])?;
     assert!(rt; matches!(symbol, Err(Error::RelocationWithInvalidSymbol(_, 0))));
@@ -266,20 +286,25 @@ fn a_refused_allocation_is_want_of_memory(rt: HostRuntime) -> Result<(), Fail> {
     let units = [DwoId(0x3_0000_0001), DwoId(0x1), DwoId(0x2_0000_0001)];
     let refused = bucket(alloc, &units);
     assert!(rt; matches!(refused, Ok(_) | Err(Error::Memory)));
-    assert_eq!(rt;
+    same(
+        &rt,
         bucket(alloc, &units)?.looked.as_slice(),
-        [1, 2, 2].as_slice()
+        [1, 2, 2].as_slice(),
     );
     let rows = [entry(GNU, 0x5, part(0, 0x10))];
     let refused = write_index(alloc, Endianness::Little, &rows);
     assert!(rt; matches!(refused, Ok(_) | Err(Error::Memory)));
-    assert_eq!(rt; write_index(alloc, Endianness::Little, &rows)?.len(), 52);
+    same(
+        &rt,
+        write_index(alloc, Endianness::Little, &rows)?.len(),
+        52,
+    );
     let bytes = executable(alloc, RELA, &[8, 0x1_0000_0001, 0x100, 0, 10, 5])?;
     let file = ElfFile::parse(&bytes)?;
     let section = file.section_by_name(".debug_info").ok_or("no section")?;
     let refused = add_relocations(alloc, &file, &section);
     assert!(rt; matches!(refused, Ok(_) | Err(Error::Memory)));
-    assert_eq!(rt; add_relocations(alloc, &file, &section)?.len(), 2);
+    same(&rt, add_relocations(alloc, &file, &section)?.len(), 2);
     let bytes = executable(alloc, RELA, &[8, 1, 0, 8, 1, 0])?;
     let file = ElfFile::parse(&bytes)?;
     let section = file.section_by_name(".debug_info").ok_or("no section")?;

@@ -1,16 +1,13 @@
 //! Packages that are cut off, or in which a byte is another, read and added.
 
+use crate::asserting::{same, same_at};
 use crate::packages::{answer, changed, finished};
-use crate::packing::packed;
-use bumpalo::Bump;
+use crate::packing::{added, packed};
 use dwp_elf::{Class, Endianness, SectionKind};
 use dwp_elf_read::ReadError;
 use dwp_index::{PackageError, PackageFile};
 use std::alloc::Global;
-use std::collections::BTreeMap;
 use std::test::Fail;
-use thorin::DwarfPackage;
-use thorin_faults::MemorySession;
 use thorin_objects::{ABBREVIATIONS, cu, made, part, with_strings};
 
 /// What the builder answers of the beginning of a file that has a header of so many bytes.
@@ -60,7 +57,7 @@ fn is_read_whole_alone(file: &[u8], header: usize) -> bool {
 fn each_beginning_of_a_package_is_read_as_cut(rt: HostRuntime) -> Result<(), Fail> {
     let alloc = rt.alloc();
     let file = finished(alloc)?;
-    assert_eq!(rt; file.len(), 544);
+    same(&rt, file.len(), 544);
     assert!(rt; is_read_whole_alone(&file, 64));
     Ok(())
 }
@@ -70,7 +67,7 @@ fn each_beginning_of_a_package_with_strings_is_refused(rt: HostRuntime) -> Resul
     let alloc = rt.alloc();
     let input = with_strings(alloc, 5)?;
     let file = packed(alloc, &[input.as_slice()])?.file?;
-    assert_eq!(rt; file.len(), 728);
+    same(&rt, file.len(), 728);
     assert!(rt; is_added_whole_alone(alloc, &file, 64)?);
     assert!(rt; is_read_whole_alone(&file, 64));
     Ok(())
@@ -98,7 +95,7 @@ fn narrow(alloc: Global) -> Result<Vec<u8>, Fail> {
 fn each_beginning_of_a_package_of_32_bits_is_refused(rt: HostRuntime) -> Result<(), Fail> {
     let alloc = rt.alloc();
     let file = narrow(alloc)?;
-    assert_eq!(rt; file.len(), 408);
+    same(&rt, file.len(), 408);
     assert!(rt; is_added_whole_alone(alloc, &file, 52)?);
     assert!(rt; is_read_whole_alone(&file, 52));
     Ok(())
@@ -172,7 +169,7 @@ fn a_lying_package_is_read(rt: HostRuntime) -> Result<(), Fail> {
     ] {
         for (place, byte, want) in table {
             let answer = finds_with(rt.alloc(), *place, *byte)?;
-            assert_eq!(rt; answer.as_str(), *want, "{byte:x} at {place}");
+            same_at(&rt, answer.as_str(), *want, (byte, place));
         }
     }
     Ok(())
@@ -183,12 +180,8 @@ fn an_identifier_in_a_shorter_form_is_read(rt: HostRuntime) -> Result<(), Fail> 
     let alloc = rt.alloc();
     // The form data1 in place of data8.
     let bytes = changed(alloc, &finished(alloc)?, 69, 0x0b)?;
-    let bump = Bump::new(alloc);
-    let files = BTreeMap::new(alloc);
-    let session = MemorySession::new(&bump, &files);
-    let mut builder = DwarfPackage::new(alloc, &session);
-    builder.add_object_bytes(&bytes)?;
-    assert_eq!(rt; builder.contained_units().len(), 1);
-    assert!(rt; builder.contained_units().contains(&cu(5)));
+    let added = added(alloc, &[bytes.as_slice()])?;
+    assert!(rt; added.answer.is_ok());
+    same(&rt, added.units.as_slice(), [cu(5)].as_slice());
     Ok(())
 }

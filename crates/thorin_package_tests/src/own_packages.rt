@@ -1,16 +1,13 @@
 //! Packages of the builder's own as inputs, and type units that differ.
 
+use crate::asserting::same;
 use crate::packages::index;
-use crate::packing::packed;
-use bumpalo::Bump;
+use crate::packing::{added, packed};
 use dwp_elf::SectionKind;
 use dwp_table::DebugTypeSignature;
 use std::alloc::Global;
-use std::collections::BTreeMap;
 use std::process::Abort;
 use std::test::Fail;
-use thorin::DwarfPackage;
-use thorin_faults::MemorySession;
 use thorin_objects::{
     ABBREVIATIONS, SPLIT_TYPE, TYPE_UNIT, cu, joined, longer_type_unit, object, part, plain,
     slots_read, split, split_unit, tu, unit, unit_bytes, with_strings, with_types,
@@ -18,16 +15,9 @@ use thorin_objects::{
 
 /// What adding inputs in order to a new package answers last, and whether it packs again then.
 fn told(alloc: Global, inputs: &[&[u8]]) -> Result<String, Fail> {
-    let bump = Bump::new(alloc);
-    let files = BTreeMap::new(alloc);
-    let session = MemorySession::new(&bump, &files);
-    let mut builder = DwarfPackage::new(alloc, &session);
-    let mut last = Ok(());
-    for bytes in inputs {
-        last = builder.add_object_bytes(bytes);
-    }
-    let again = builder.packs_again();
-    match last {
+    let added = added(alloc, inputs)?;
+    let again = added.packs_again;
+    match &added.answer {
         Ok(()) => Ok(format!(in alloc; "Ok {again}")?),
         Err(fault) => Ok(format!(in alloc; "{fault:?} {again}")?),
     }
@@ -45,7 +35,7 @@ fn file_of(alloc: Global, inputs: &[&[u8]]) -> Result<Vec<u8>, Fail> {
 /// Asserts that text of these inputs.
 fn tells(rt: &impl Abort, alloc: Global, inputs: &[&[u8]], want: &str) -> Result<(), Fail> {
     let told = told(alloc, inputs)?;
-    assert_eq!(rt; told.as_str(), want);
+    same(rt, told.as_str(), want);
     Ok(())
 }
 
@@ -93,7 +83,7 @@ fn what_packs_again_is_told(rt: HostRuntime) -> Result<(), Fail> {
     let y = plain(alloc, 6)?;
     let strings = with_strings(alloc, 5)?;
     let own = file_of(alloc, &[&strings])?;
-    assert_eq!(rt; own.len(), 728);
+    same(&rt, own.len(), 728);
     comes_to_rest(&rt, alloc, &own)?;
     tells(&rt, alloc, &[], "Ok false")?;
     tells(&rt, alloc, &[&x], "Ok true")?;
@@ -114,8 +104,8 @@ fn comes_to_rest(rt: &impl Abort, alloc: Global, file: &[u8]) -> Result<(), Fail
 
 /// Asserts that a package has 712 bytes, and these contents from 64 on.
 fn holds(rt: &impl Abort, file: &[u8], contents: &[u8]) {
-    assert_eq!(rt; file.len(), 712);
-    assert_eq!(rt; part(file, 64, 123), contents);
+    same(rt, file.len(), 712);
+    same(rt, part(file, 64, 123), contents);
 }
 
 /// The line section of the object of the unit 6.
@@ -156,7 +146,7 @@ fn a_package_packed_alone_comes_to_rest(rt: HostRuntime) -> Result<(), Fail> {
     let x = plain(alloc, 5)?;
     let y = plain(alloc, 6)?;
     let turned = file_of(alloc, &[&y, &x])?;
-    assert_eq!(rt; turned.len(), 608);
+    same(&rt, turned.len(), 608);
     comes_to_rest(&rt, alloc, &turned)?;
     lines_move(&rt, alloc)
 }
@@ -185,13 +175,13 @@ fn a_package_with_fewer_slots_is_packed_again(rt: HostRuntime) -> Result<(), Fai
     let alloc = rt.alloc();
     let units = joined(alloc, &[&unit(5), &unit(6), &unit(7)])?;
     let older = older(alloc, &units)?;
-    assert_eq!(rt; older.len(), 656);
+    same(&rt, older.len(), 656);
     let (x, y, v) = (plain(alloc, 5)?, plain(alloc, 6)?, plain(alloc, 7)?);
     let now = file_of(alloc, &[&x, &y, &v])?;
-    assert_eq!(rt; now.len(), 704);
+    same(&rt, now.len(), 704);
     for (id, from, to) in [(5, 0, 20), (6, 20, 40), (7, 40, 60)] {
-        assert_eq!(rt; slots_read(&older, cu(id))?, 1);
-        assert_eq!(rt; unit_bytes(&older, cu(id))?, part(&units, from, to));
+        same(&rt, slots_read(&older, cu(id))?, 1);
+        same(&rt, unit_bytes(&older, cu(id))?, part(&units, from, to));
     }
     assert!(rt; file_of(alloc, &[&older])? == now);
     Ok(())
@@ -209,8 +199,8 @@ fn the_first_is_kept(rt: &impl Abort, alloc: Global, inputs: &[&[u8]]) -> Result
     let [signature] = packed.differing.as_slice() else {
         panic!(rt; "one type unit differs");
     };
-    assert_eq!(rt; signature.0, 0x11);
-    assert_eq!(rt; unit_bytes(&file, tu(0x11))?, TYPE_UNIT.as_slice());
+    same(rt, signature.0, 0x11);
+    same(rt, unit_bytes(&file, tu(0x11))?, TYPE_UNIT.as_slice());
     Ok(())
 }
 
@@ -242,6 +232,6 @@ fn type_units_that_differ_are_told(rt: HostRuntime) -> Result<(), Fail> {
     // The kept unit may stand earlier in the same input, and each time counts.
     let both = joined(alloc, &[&TYPE_UNIT, &longer])?;
     let w = with_types(alloc, &unit(8), &both)?;
-    assert_eq!(rt; differing(alloc, &[&w, &y])?.len(), 2);
+    same(&rt, differing(alloc, &[&w, &y])?.len(), 2);
     Ok(())
 }

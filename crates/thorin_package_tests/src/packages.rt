@@ -1,16 +1,13 @@
 //! Finished packages as inputs.
 
-use crate::packing::packed;
-use bumpalo::Bump;
+use crate::asserting::{same, same_at};
+use crate::packing::{added, packed};
 use dwp_bytes::ReadError;
 use dwp_elf::{Endianness, SectionKind};
 use dwp_index::{PackageError, PackageFile};
-use dwp_table::DwarfObject;
 use std::alloc::Global;
-use std::collections::BTreeMap;
 use std::test::Fail;
-use thorin::DwarfPackage;
-use thorin_faults::{Error, MemorySession};
+use thorin_faults::Error;
 use thorin_objects::{
     ABBREVIATIONS, SPLIT_TYPE, cu, has_unit, joined, object, plain, slots_read, split_unit, tu,
     unit, unit_count, unit_range,
@@ -115,12 +112,12 @@ fn rows_keep_their_ranges_in_any_order(rt: HostRuntime) -> Result<(), Fail> {
             (cu(0xa), (64, 20), (0x20, 0x10)),
         ] {
             let range = unit_range(&file, name, SectionKind::Info)?;
-            assert_eq!(rt; range, info, "{name:?}");
+            same_at(&rt, range, info, name);
             let range = unit_range(&file, name, SectionKind::Abbrev)?;
-            assert_eq!(rt; range, abbrev, "{name:?}");
+            same_at(&rt, range, abbrev, name);
         }
         // The type unit that comes again has no second row.
-        assert_eq!(rt; unit_count(&file)?, 4);
+        same(&rt, unit_count(&file)?, 4);
     }
     Ok(())
 }
@@ -144,13 +141,9 @@ fn units_are_named_by_their_rows_abbreviations(rt: HostRuntime) -> Result<(), Fa
             (SectionKind::CuIndex, units.as_slice()),
         ],
     )?;
-    let bump = Bump::new(alloc);
-    let files = BTreeMap::new(alloc);
-    let session = MemorySession::new(&bump, &files);
-    let mut builder = DwarfPackage::new(alloc, &session);
-    builder.add_object_bytes(&input)?;
-    let names: Vec<DwarfObject> = builder.contained_units().iter().copied().collect(alloc)?;
-    assert_eq!(rt; names.as_slice(), [cu(5), cu(9)].as_slice());
+    let added = added(alloc, &[input.as_slice()])?;
+    assert!(rt; added.answer.is_ok());
+    same(&rt, added.units.as_slice(), [cu(5), cu(9)].as_slice());
     Ok(())
 }
 
@@ -168,9 +161,10 @@ fn an_index_of_another_version_is_refused(rt: HostRuntime) -> Result<(), Fail> {
     )?;
     for outcome in packed(alloc, &[input.as_slice()])?.outcomes {
         match outcome {
-            Err(fault) => assert_eq!(rt;
+            Err(fault) => same(
+                &rt,
                 fault.to_string(alloc)?.as_str(),
-                "Incompatible `.debug_cu_index` index version: found version 5, expected version 2"
+                "Incompatible `.debug_cu_index` index version: found version 5, expected version 2",
             ),
             Ok(()) => panic!(rt; "the index has the wrong version"),
         }
@@ -196,7 +190,7 @@ fn a_package_is_packed_again(rt: HostRuntime) -> Result<(), Fail> {
         outcome?;
     }
     let file = both.file?;
-    assert_eq!(rt; file.len(), 608);
+    same(&rt, file.len(), 608);
     assert!(rt; has_unit(&file, cu(5))?);
     let five = plain(alloc, 5)?;
     let twice = packed(alloc, &[five.as_slice(), finished.as_slice()])?;
@@ -208,11 +202,7 @@ fn a_package_is_packed_again(rt: HostRuntime) -> Result<(), Fail> {
 
 /// What adding bytes to a new package answers.
 pub fn answer(alloc: Global, bytes: &[u8]) -> Result<String, Fail> {
-    let bump = Bump::new(alloc);
-    let files = BTreeMap::new(alloc);
-    let session = MemorySession::new(&bump, &files);
-    let mut builder = DwarfPackage::new(alloc, &session);
-    match builder.add_object_bytes(bytes) {
+    match &added(alloc, &[bytes])?.answer {
         Ok(()) => Ok(String::from_str(alloc, "Ok")?),
         Err(fault) => Ok(format!(in alloc; "{fault:?}")?),
     }
@@ -284,7 +274,7 @@ fn a_lying_package_is_refused(rt: HostRuntime) -> Result<(), Fail> {
         for (place, byte, want) in table {
             let bytes = changed(alloc, &finished, *place, *byte)?;
             let answer = answer(alloc, &bytes)?;
-            assert_eq!(rt; answer.as_str(), *want, "{byte:x} at {place}");
+            same_at(&rt, answer.as_str(), *want, (byte, place));
         }
     }
     Ok(())
@@ -301,9 +291,9 @@ fn a_cut_package_is_refused(rt: HostRuntime) -> Result<(), Fail> {
             16..64 => "ParseObjectFile(TooShort)",
             _ => "ParseObjectFile(SectionTable)",
         };
-        assert_eq!(rt; answer.as_str(), want, "the first {length} bytes");
+        same_at(&rt, answer.as_str(), want, length);
     }
-    assert_eq!(rt; answer(alloc, &finished)?.as_str(), "Ok");
+    same(&rt, answer(alloc, &finished)?.as_str(), "Ok");
     Ok(())
 }
 
@@ -321,7 +311,7 @@ fn a_lying_index_is_read(rt: HostRuntime) -> Result<(), Fail> {
     let finished = finished(alloc)?;
     let renamed = changed(alloc, &finished, 117, 7)?;
     assert!(rt; !has_unit(&renamed, cu(5))?);
-    assert_eq!(rt; slots_read(&renamed, cu(5))?, 2);
+    same(&rt, slots_read(&renamed, cu(5))?, 2);
     assert!(rt; has_unit(&renamed, cu(7))?);
     for (place, byte, fault) in [
         (129, 2, PackageError::Index(ReadError::RowOutOfRange)),
@@ -329,7 +319,7 @@ fn a_lying_index_is_read(rt: HostRuntime) -> Result<(), Fail> {
         (153, 0x0a, PackageError::Range(SectionKind::Abbrev)),
     ] {
         let lying = changed(alloc, &finished, place, byte)?;
-        assert_eq!(rt; refusal_of(&lying)?, fault);
+        same(&rt, refusal_of(&lying)?, fault);
     }
     Ok(())
 }

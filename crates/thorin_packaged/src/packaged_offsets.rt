@@ -71,7 +71,7 @@ fn rewritten(
 {
     let mut out = Vec::with_capacity(alloc, debug_str_offsets.len())?;
     let mut at = 0;
-    let mut repeats = Repeats::new(alloc);
+    let mut repeats = Repeats::of_ranges(alloc, debug_str);
     for range in ranges {
         let begin = range.offset.0 as usize;
         let end = begin + range.size as usize;

@@ -1,11 +1,11 @@
 //! What is left where a read of the session, or a placing in it, fails, for each in turn.
 
-use crate::building::{add_named, finished, missing_units, units};
+use crate::asserting::same;
+use crate::building::{Outcome, add_named, added, file_of, push_units};
 use crate::counting::{CountingSession, Refusal, four_objects};
 use crate::executables::{files, relocated};
 use crate::packing::packed;
 use bumpalo::Bump;
-use dwp_table::{Bucketable, DwarfObject};
 use std::alloc::Global;
 use std::collections::BTreeMap;
 use std::io;
@@ -30,36 +30,6 @@ fn name_of(answer: &Result<(), Error>) -> &'static str {
         },
         Err(_) => "another fault",
     }
-}
-
-/// What came of adding an executable: the answer, the units that the package has then, and those
-/// that are missing.
-#[derive(Drop)]
-struct Outcome {
-    answer: Result<(), Error>,
-    has: Vec<DwarfObject>,
-    lacks: Vec<DwarfObject>,
-}
-
-/// Adds the executable to a new package.
-fn added<'s>(
-    alloc: Global,
-    session: &'s CountingSession<'s>,
-    missing: MissingReferencedObjectBehaviour,
-) -> Result<Outcome, Fail> {
-    let mut builder = DwarfPackage::new(alloc, session);
-    let answer = add_named(&mut builder, missing);
-    let has = units(alloc, &builder)?;
-    let lacks = missing_units(alloc, &builder)?;
-    Ok(Outcome { answer, has, lacks })
-}
-
-/// Writes the numbers of units behind a text.
-fn push_units(alloc: Global, text: &mut String, units: &[DwarfObject]) -> Result<(), Fail> {
-    for unit in units {
-        text.push_str(format!(in alloc; " {}", unit.index())?.as_str())?;
-    }
-    Ok(())
 }
 
 /// The answer, after how many reads it came, the units that there are, and those that are missing.
@@ -103,7 +73,7 @@ const READS: [(Refusal, MissingReferencedObjectBehaviour, &str); 10] = [
 fn each_read_fails_in_turn(rt: HostRuntime) -> Result<(), Fail> {
     for (refusal, missing, want) in READS {
         let told = told(rt.alloc(), refusal, missing)?;
-        assert_eq!(rt; told.as_str(), want);
+        same(&rt, told.as_str(), want);
     }
     Ok(())
 }
@@ -122,7 +92,7 @@ fn want_of_memory_is_never_passed_over(rt: HostRuntime) -> Result<(), Fail> {
     for missing in [SKIP, STOP] {
         for (refusal, want) in WANTS {
             let told = told(rt.alloc(), refusal, missing)?;
-            assert_eq!(rt; told.as_str(), want);
+            same(&rt, told.as_str(), want);
         }
     }
     Ok(())
@@ -157,7 +127,7 @@ fn a_failed_read_is_told_of_its_input(rt: HostRuntime) -> Result<(), Fail> {
         (Refusal::ReadForMemory(4), "Ok Memory "),
     ] {
         let outcomes = outcomes(rt.alloc(), refusal)?;
-        assert_eq!(rt; outcomes.as_str(), want);
+        same(&rt, outcomes.as_str(), want);
     }
     Ok(())
 }
@@ -170,8 +140,10 @@ fn file_of_two_tries<'s>(
 ) -> Result<Vec<u8>, Error> {
     let mut builder = DwarfPackage::new(alloc, session);
     let _first = add_named(&mut builder, missing);
-    add_named(&mut builder, missing)?;
-    Ok(finished(builder)?.write()?)
+    let second = add_named(&mut builder, missing);
+    let file = file_of(builder);
+    second?;
+    file
 }
 
 /// Whether that is the file of the objects of these units, where the session refuses a call.
@@ -234,9 +206,10 @@ fn executable_accepted(alloc: Global, placing: u32) -> Result<Option<bool>, Fail
 fn relocations_that_cannot_be_placed(rt: HostRuntime) -> Result<(), Fail> {
     // Those of the abbreviations, which are none, and those of the units.
     for (placing, is_accepted) in [(0, false), (1, false), (2, true)] {
-        assert_eq!(rt;
+        same(
+            &rt,
             executable_accepted(rt.alloc(), placing)?,
-            Some(is_accepted)
+            Some(is_accepted),
         );
     }
     Ok(())
@@ -269,7 +242,11 @@ fn groups_accepted(alloc: Global, placing: u32) -> Result<Option<bool>, Fail> {
 #[test]
 fn packages_of_groups_that_cannot_be_placed(rt: HostRuntime) -> Result<(), Fail> {
     for (placing, is_accepted) in [(0, false), (1, false), (2, true)] {
-        assert_eq!(rt; groups_accepted(rt.alloc(), placing)?, Some(is_accepted));
+        same(
+            &rt,
+            groups_accepted(rt.alloc(), placing)?,
+            Some(is_accepted),
+        );
     }
     Ok(())
 }

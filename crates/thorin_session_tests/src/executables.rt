@@ -1,18 +1,18 @@
 //! Packages of the objects that an executable refers to.
 
-use crate::building::{add_named, finished, missing_units};
+use crate::asserting::same;
+use crate::building::{Outcome, added, push_units};
 use crate::packing::packed;
 use bumpalo::Bump;
 use dwp_elf::{SectionKind, WriteError};
-use dwp_table::DwarfObject;
-use std::alloc::Global;
+use std::alloc::{AllocError, Global};
 use std::collections::BTreeMap;
 use std::io;
 use std::path::{AsPath, Path};
 use std::test::Fail;
-use thorin::{DwarfPackage, Input, pack};
+use thorin::{Input, pack};
 use thorin_faults::{Error, MemorySession, MissingReferencedObjectBehaviour};
-use thorin_objects::{cu, object, part, plain, renamed};
+use thorin_objects::{joined, object, part, plain, renamed};
 
 /// An abbreviation 1 of a compile unit: GNU_dwo_name and comp_dir, both strings, and a GNU_dwo_id
 /// of 8 bytes; and an abbreviation 2 of a type unit.
@@ -54,9 +54,7 @@ pub fn executable(alloc: Global, sections: &[(SectionKind, &[u8])]) -> Result<Ve
 
 /// The executable with the unit of an identifier.
 fn naming(alloc: Global, id: u8) -> Result<Vec<u8>, Fail> {
-    let mut abbreviations = NAMING.to_vec(alloc)?;
-    abbreviations.truncate(13);
-    abbreviations.push(0)?;
+    let abbreviations = joined(alloc, &[part(&NAMING, 0, 13), &[0]])?;
     executable(
         alloc,
         &[
@@ -111,8 +109,7 @@ pub fn relocated(alloc: Global) -> Result<Vec<u8>, Fail> {
 
 /// The executable with a type unit that has no name before the unit 5.
 fn with_type_unit(alloc: Global) -> Result<Vec<u8>, Fail> {
-    let mut units = TYPE_UNIT.to_vec(alloc)?;
-    units.extend_from_slice(&naming_unit(5, 0))?;
+    let units = joined(alloc, &[&TYPE_UNIT, &naming_unit(5, 0)])?;
     executable(
         alloc,
         &[
@@ -136,34 +133,21 @@ pub fn files(
     Ok(files)
 }
 
-/// What came of adding an executable and of finishing, and the units that were missing between.
-#[derive(Drop)]
-struct Outcome {
-    added: Result<(), Error>,
-    missing: Vec<DwarfObject>,
-    file: Result<Vec<u8>, Error>,
-}
-
 /// Adds the executable at `/e` to a new package.
 fn tried(
     alloc: Global,
     files: &BTreeMap<String, Vec<u8>>,
     behaviour: MissingReferencedObjectBehaviour,
-) -> Result<Outcome, Fail> {
+) -> Result<Outcome, AllocError> {
     let bump = Bump::new(alloc);
     let session = MemorySession::new(&bump, files);
-    let mut builder = DwarfPackage::new(alloc, &session);
-    let added = add_named(&mut builder, behaviour);
-    let missing = missing_units(alloc, &builder)?;
-    let file = match finished(builder) {
-        Ok(object) => Ok(object.write()?),
-        Err(fault) => Err(fault),
-    };
-    Ok(Outcome {
-        added,
-        missing,
-        file,
-    })
+    added(alloc, &session, behaviour)
+}
+
+/// How many units are missing, and the file.
+fn accepted(outcome: Outcome) -> Result<(usize, Vec<u8>), Error> {
+    outcome.answer?;
+    Ok((outcome.lacks.len(), outcome.file?))
 }
 
 #[test]
@@ -177,36 +161,74 @@ fn an_executable_brings_its_object(rt: HostRuntime) -> Result<(), Fail> {
     executables.push(with_type_unit(alloc)?)?;
     for executable in executables {
         let files = files(alloc, executable, Some(plain(alloc, 5)?))?;
-        let tried = tried(alloc, &files, MissingReferencedObjectBehaviour::Error)?;
-        tried.added?;
-        assert_eq!(rt; tried.missing.len(), 0);
-        assert!(rt; tried.file? == expected);
+        let (missing, file) = accepted(tried(alloc, &files, STOP)?)?;
+        same(&rt, missing, 0);
+        assert!(rt; file == expected);
     }
     Ok(())
 }
 
+/// What adding an executable answered.
+fn name_of(answer: &Result<(), Error>) -> &'static str {
+    match answer {
+        Ok(()) => "Ok",
+        Err(Error::ReadInput(cause)) if cause.kind() == io::ErrorKind::NotFound => "NotFound",
+        Err(Error::ParseFileKind(_)) => "ParseFileKind",
+        Err(_) => "another fault",
+    }
+}
+
+/// That answer, the units that were missing, and why there is no file.
+fn text_of(alloc: Global, outcome: &Outcome) -> Result<String, Fail> {
+    let mut text = String::from_str(alloc, name_of(&outcome.answer))?;
+    text.push_str(", lacks")?;
+    push_units(alloc, &mut text, &outcome.lacks)?;
+    match &outcome.file {
+        Ok(_) => text.push_str(": a file")?,
+        Err(fault) => text.push_str(format!(in alloc; ": {fault}")?.as_str())?,
+    }
+    Ok(text)
+}
+
+/// That text of adding the executable that names a unit.
+fn told(
+    alloc: Global,
+    id: u8,
+    object: Option<Vec<u8>>,
+    behaviour: MissingReferencedObjectBehaviour,
+) -> Result<String, Fail> {
+    let files = files(alloc, naming(alloc, id)?, object)?;
+    text_of(alloc, &tried(alloc, &files, behaviour)?)
+}
+
+const SKIP: MissingReferencedObjectBehaviour = MissingReferencedObjectBehaviour::Skip;
+
+const STOP: MissingReferencedObjectBehaviour = MissingReferencedObjectBehaviour::Error;
+
+/// A unit whose object isn't there, what is done then, and what that tells.
+const ABSENT: [(u8, MissingReferencedObjectBehaviour, &str); 3] = [
+    (
+        5,
+        SKIP,
+        "Ok, lacks 5: Unit 0x00000005 referenced by executable was not found",
+    ),
+    (
+        5,
+        STOP,
+        "NotFound, lacks 5: Unit 0x00000005 referenced by executable was not found",
+    ),
+    (
+        1,
+        SKIP,
+        "Ok, lacks 1: Unit 0x00000001 referenced by executable was not found",
+    ),
+];
+
 #[test]
 fn an_object_that_is_not_there_is_missing(rt: HostRuntime) -> Result<(), Fail> {
-    let alloc = rt.alloc();
-    let of_five = files(alloc, naming(alloc, 5)?, None)?;
-    let skipped = tried(alloc, &of_five, MissingReferencedObjectBehaviour::Skip)?;
-    skipped.added?;
-    assert_eq!(rt; skipped.missing.as_slice(), [cu(5)].as_slice());
-    assert!(rt; matches!(skipped.file, Err(Error::MissingReferencedUnit(5))));
-    let refused = tried(alloc, &of_five, MissingReferencedObjectBehaviour::Error)?;
-    match &refused.added {
-        Err(Error::ReadInput(cause)) => assert_eq!(rt; cause.kind(), io::ErrorKind::NotFound),
-        _ => panic!(rt; "there is no such file"),
-    }
-    assert_eq!(rt; refused.missing.as_slice(), [cu(5)].as_slice());
-    let of_one = files(alloc, naming(alloc, 1)?, None)?;
-    let skipped = tried(alloc, &of_one, MissingReferencedObjectBehaviour::Skip)?;
-    match &skipped.file {
-        Err(fault) => assert_eq!(rt;
-            fault.to_string(alloc)?.as_str(),
-            "Unit 0x00000001 referenced by executable was not found"
-        ),
-        Ok(_) => panic!(rt; "the unit is missing"),
+    for (id, behaviour, want) in ABSENT {
+        let told = told(rt.alloc(), id, None, behaviour)?;
+        same(&rt, told.as_str(), want);
     }
     Ok(())
 }
@@ -214,14 +236,14 @@ fn an_object_that_is_not_there_is_missing(rt: HostRuntime) -> Result<(), Fail> {
 #[test]
 fn an_object_that_is_cut_is_never_skipped(rt: HostRuntime) -> Result<(), Fail> {
     let alloc = rt.alloc();
-    let files = files(alloc, naming(alloc, 5)?, Some([0u8; 15].to_vec(alloc)?))?;
-    for behaviour in [
-        MissingReferencedObjectBehaviour::Skip,
-        MissingReferencedObjectBehaviour::Error,
-    ] {
-        let tried = tried(alloc, &files, behaviour)?;
-        assert!(rt; matches!(tried.added, Err(Error::ParseFileKind(_))));
-        assert_eq!(rt; tried.missing.as_slice(), [cu(5)].as_slice());
+    for behaviour in [SKIP, STOP] {
+        let cut = joined(alloc, &[&[0; 15]])?;
+        let told = told(alloc, 5, Some(cut), behaviour)?;
+        same(
+            &rt,
+            told.as_str(),
+            "ParseFileKind, lacks 5: Unit 0x00000005 referenced by executable was not found",
+        );
     }
     Ok(())
 }
@@ -231,7 +253,7 @@ fn a_path_and_an_executable_are_packed(rt: HostRuntime) -> Result<(), Fail> {
     let alloc = rt.alloc();
     let x = plain(alloc, 5)?;
     let expected = packed(alloc, &[x.as_slice()])?.file?;
-    assert_eq!(rt; expected.len(), 544);
+    same(&rt, expected.len(), 544);
     let files = files(alloc, naming(alloc, 5)?, Some(x))?;
     let bump = Bump::new(alloc);
     let session = MemorySession::new(&bump, &files);

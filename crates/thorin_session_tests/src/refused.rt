@@ -1,7 +1,8 @@
 //! What is left where memory is refused: run with one allocation that fails, for each in turn. The
 //! next try has memory then, and gives the file of a run that met no refusal.
 
-use crate::building::{add, finished, unit_count, written};
+use crate::asserting::same;
+use crate::building::{add, file_of, finished, unit_count, written};
 use crate::packing::packed;
 use bumpalo::Bump;
 use dwp_elf::WriteError;
@@ -62,8 +63,37 @@ fn has<'o, 's: 'o, 'm>(
     builder.contained_units().contains(name)
 }
 
-// The file of a package of objects, by `add_object_bytes`, `finish` and `write`. An object that was
-// refused has added no unit, and is added by a second try; so is a file written that was refused.
+// Adds objects. One that was refused has added no unit, and is added by a second try.
+fn add_all<'o, 's: 'o, 'm>(
+    rt: &impl Abort,
+    builder: &mut DwarfPackage<'o, 's, MemorySession<'m>>,
+    objects: &[&'s [u8]],
+) -> Result<(), Error> {
+    for bytes in objects {
+        let before = unit_count(builder);
+        if let Err(fault) = add(builder, bytes) {
+            assert!(rt; matches!(fault, Error::Memory));
+            same(rt, unit_count(builder), before);
+            add(builder, bytes)?;
+        }
+    }
+    Ok(())
+}
+
+// Asserts that a package has these units and no others.
+fn has_all<'o, 's: 'o, 'm>(
+    rt: &impl Abort,
+    builder: &DwarfPackage<'o, 's, MemorySession<'m>>,
+    named: &[DwarfObject],
+) {
+    same(rt, unit_count(builder), named.len());
+    for name in named {
+        assert!(rt; has(builder, name));
+    }
+}
+
+// The file of a package of objects, by `add_object_bytes`, `finish` and `write`. A file that was
+// refused is written by a second try.
 fn added<'s, 'm>(
     rt: &impl Abort,
     alloc: Global,
@@ -72,19 +102,13 @@ fn added<'s, 'm>(
     named: &[DwarfObject],
 ) -> Result<Vec<u8>, Error> {
     let mut builder = DwarfPackage::new(alloc, session);
-    for bytes in objects {
-        let before = unit_count(&builder);
-        if let Err(fault) = add(&mut builder, bytes) {
-            assert!(rt; matches!(fault, Error::Memory));
-            assert_eq!(rt; unit_count(&builder), before);
-            add(&mut builder, bytes)?;
-        }
+    let answer = add_all(rt, &mut builder, objects);
+    if answer.is_ok() {
+        has_all(rt, &builder, named);
     }
-    assert_eq!(rt; unit_count(&builder), named.len());
-    for name in named {
-        assert!(rt; has(&builder, name));
-    }
-    written(rt, &finished(builder)?)
+    let object = finished(builder);
+    answer?;
+    written(rt, &object?)
 }
 
 // As `added`, and all of it by a second try where `finish` was refused, which hands nothing back.
@@ -115,8 +139,8 @@ fn a_refused_allocation_leaves_a_new_package(rt: HostRuntime) -> Result<(), Fail
     let files = BTreeMap::new(alloc);
     let session = MemorySession::new(&bump, &files);
     let file = adds(&rt, alloc, &session, &[five.as_slice()], &[cu(5)])?;
-    assert_eq!(rt; file.len(), 544);
-    assert_eq!(rt; part(file.as_slice(), 73, 93), unit(5).as_slice());
+    same(&rt, file.len(), 544);
+    same(&rt, part(file.as_slice(), 73, 93), unit(5).as_slice());
     Ok(())
 }
 
@@ -135,9 +159,9 @@ fn a_refused_allocation_leaves_a_package(rt: HostRuntime) -> Result<(), Fail> {
         &[five.as_slice(), six.as_slice()],
         &[cu(5), cu(6)],
     )?;
-    assert_eq!(rt; file.len(), 608);
-    assert_eq!(rt; part(file.as_slice(), 82, 102), unit(5).as_slice());
-    assert_eq!(rt; part(file.as_slice(), 102, 122), unit(6).as_slice());
+    same(&rt, file.len(), 608);
+    same(&rt, part(file.as_slice(), 82, 102), unit(5).as_slice());
+    same(&rt, part(file.as_slice(), 102, 122), unit(6).as_slice());
     Ok(())
 }
 
@@ -149,8 +173,8 @@ fn a_refused_allocation_leaves_the_strings(rt: HostRuntime) -> Result<(), Fail> 
     let files = BTreeMap::new(alloc);
     let session = MemorySession::new(&bump, &files);
     let file = adds(&rt, alloc, &session, &[strings.as_slice()], &[cu(5)])?;
-    assert_eq!(rt; file.len(), 728);
-    assert_eq!(rt; part(file.as_slice(), 101, 105), b"b\0a\0".as_slice());
+    same(&rt, file.len(), 728);
+    same(&rt, part(file.as_slice(), 101, 105), b"b\0a\0".as_slice());
     Ok(())
 }
 
@@ -169,13 +193,27 @@ fn a_refused_allocation_leaves_the_type_units(rt: HostRuntime) -> Result<(), Fai
         &[types.as_slice(), strings.as_slice()],
         &[cu(7), tu(0x11), cu(8)],
     )?;
-    assert_eq!(rt; unit_bytes(&file, tu(0x11))?, TYPE_UNIT.as_slice());
-    assert_eq!(rt; unit_string(&file, cu(8), 1)?, Some(b"a".as_slice()));
+    same(&rt, unit_bytes(&file, tu(0x11))?, TYPE_UNIT.as_slice());
+    same(&rt, unit_string(&file, cu(8), 1)?, Some(b"a".as_slice()));
     Ok(())
 }
 
-// The file of a package of an object and, where it isn't refused, a second one; and whether it was
-// refused.
+// Adds an object and, where it isn't refused, a second one; whether that one was refused.
+fn add_both<'o, 's: 'o, 'm>(
+    rt: &impl Abort,
+    builder: &mut DwarfPackage<'o, 's, MemorySession<'m>>,
+    first: &'s [u8],
+    second: &'s [u8],
+) -> Result<bool, Error> {
+    add(builder, first)?;
+    if let Err(fault) = add(builder, second) {
+        assert!(rt; matches!(fault, Error::Memory));
+        return Ok(true);
+    }
+    Ok(false)
+}
+
+// The file of a package of them, and whether the second one was refused.
 fn added_once<'s, 'm>(
     rt: &impl Abort,
     alloc: Global,
@@ -184,13 +222,10 @@ fn added_once<'s, 'm>(
     second: &'s [u8],
 ) -> Result<(Vec<u8>, bool), Error> {
     let mut builder = DwarfPackage::new(alloc, session);
-    add(&mut builder, first)?;
-    let mut is_refused = false;
-    if let Err(fault) = add(&mut builder, second) {
-        assert!(rt; matches!(fault, Error::Memory));
-        is_refused = true;
-    }
-    Ok((finished(builder)?.write()?, is_refused))
+    let answer = add_both(rt, &mut builder, first, second);
+    let file = file_of(builder);
+    let is_refused = answer?;
+    Ok((file?, is_refused))
 }
 
 #[test]
@@ -238,9 +273,9 @@ fn tells(rt: &impl Abort, tried: Result<Packed, Error>, sizes: &[usize]) -> Resu
         }
     }
     match &packed.file {
-        Ok(file) => assert_eq!(rt; Some(&file.len()), sizes.get(refused)),
+        Ok(file) => same(rt, Some(&file.len()), sizes.get(refused)),
         Err(fault) => {
-            assert_eq!(rt; refused, 0);
+            same(rt, refused, 0);
             assert!(rt; matches!(fault, Error::Memory));
         }
     }
@@ -255,7 +290,7 @@ fn a_refused_allocation_of_packing_is_told(rt: HostRuntime) -> Result<(), Fail> 
     let objects = [five.as_slice(), six.as_slice()];
     tells(&rt, packed(alloc, &objects), &[608, 544])?;
     let file = sure_whole(alloc, &objects)?;
-    assert_eq!(rt; file.len(), 608);
-    assert_eq!(rt; part(file.as_slice(), 102, 122), unit(6).as_slice());
+    same(&rt, file.len(), 608);
+    same(&rt, part(file.as_slice(), 102, 122), unit(6).as_slice());
     Ok(())
 }

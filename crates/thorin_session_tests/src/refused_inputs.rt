@@ -1,6 +1,7 @@
 //! What is left where memory is refused, of packages and executables as inputs and of type units
 //! that differ: run with one allocation that fails, for each in turn.
 
+use crate::asserting::same;
 use crate::building::{add, add_named, finished, unit_count, written};
 use crate::executables::naming_file;
 use crate::refused::{adds, sure, sure_whole, sure_with_types};
@@ -23,7 +24,7 @@ fn a_refused_allocation_leaves_a_package_as_input(rt: HostRuntime) -> Result<(),
     let files = BTreeMap::new(alloc);
     let session = MemorySession::new(&bump, &files);
     let file = adds(&rt, alloc, &session, &[finished.as_slice()], &[cu(5)])?;
-    assert_eq!(rt; file.len(), 544);
+    same(&rt, file.len(), 544);
     Ok(())
 }
 
@@ -42,22 +43,33 @@ fn sure_files(alloc: Global) -> Result<BTreeMap<String, Vec<u8>>, Error> {
     }
 }
 
-// The file of a package of the objects that an executable names. An executable that was refused is
-// added by a second try: want of memory is never passed over.
+// Adds the executable. One that was refused is added by a second try: want of memory is never passed
+// over.
+fn add_surely<'o, 's: 'o, 'm>(
+    rt: &impl Abort,
+    builder: &mut DwarfPackage<'o, 's, MemorySession<'m>>,
+) -> Result<(), Error> {
+    let skip = MissingReferencedObjectBehaviour::Skip;
+    if let Err(fault) = add_named(builder, skip) {
+        assert!(rt; matches!(fault, Error::Memory));
+        same(rt, unit_count(builder), 0);
+        add_named(builder, skip)?;
+    }
+    same(rt, unit_count(builder), 1);
+    Ok(())
+}
+
+// The file of a package of the objects that an executable names.
 fn added<'s, 'm>(
     rt: &impl Abort,
     alloc: Global,
     session: &'s MemorySession<'m>,
 ) -> Result<Vec<u8>, Error> {
-    let skip = MissingReferencedObjectBehaviour::Skip;
     let mut builder = DwarfPackage::new(alloc, session);
-    if let Err(fault) = add_named(&mut builder, skip) {
-        assert!(rt; matches!(fault, Error::Memory));
-        assert_eq!(rt; unit_count(&builder), 0);
-        add_named(&mut builder, skip)?;
-    }
-    assert_eq!(rt; unit_count(&builder), 1);
-    written(rt, &finished(builder)?)
+    let answer = add_surely(rt, &mut builder);
+    let object = finished(builder);
+    answer?;
+    written(rt, &object?)
 }
 
 #[test]
@@ -93,13 +105,29 @@ fn differing_count<'o, 's: 'o, 'm>(
     builder: &DwarfPackage<'o, 's, MemorySession<'m>>,
 ) -> usize {
     for signature in builder.differing_types() {
-        assert_eq!(rt; signature.0, 0x11);
+        same(rt, signature.0, 0x11);
     }
     builder.differing_types().len()
 }
 
-// How many type units differ, once both objects are added. One that was refused has added none, and
-// is added by a second try.
+// Adds objects. One that was refused has added no type unit that differs, and is added by a second
+// try.
+fn add_all<'o, 's: 'o, 'm>(
+    rt: &impl Abort,
+    builder: &mut DwarfPackage<'o, 's, MemorySession<'m>>,
+    objects: &[&'s [u8]],
+) -> Result<(), Error> {
+    for bytes in objects {
+        if let Err(fault) = add(builder, bytes) {
+            assert!(rt; matches!(fault, Error::Memory));
+            same(rt, differing_count(rt, builder), 0);
+            add(builder, bytes)?;
+        }
+    }
+    Ok(())
+}
+
+// How many type units differ, once both objects are added.
 fn differing<'s, 'm>(
     rt: &impl Abort,
     alloc: Global,
@@ -107,14 +135,12 @@ fn differing<'s, 'm>(
     objects: &[&'s [u8]],
 ) -> Result<usize, Error> {
     let mut builder = DwarfPackage::new(alloc, session);
-    for bytes in objects {
-        if let Err(fault) = add(&mut builder, bytes) {
-            assert!(rt; matches!(fault, Error::Memory));
-            assert_eq!(rt; differing_count(rt, &builder), 0);
-            add(&mut builder, bytes)?;
-        }
+    let answer = add_all(rt, &mut builder, objects);
+    let count = differing_count(rt, &builder);
+    match answer {
+        Ok(()) => Ok(count),
+        Err(fault) => Err(fault),
     }
-    Ok(differing_count(rt, &builder))
 }
 
 #[test]
@@ -126,6 +152,6 @@ fn a_refused_allocation_leaves_the_differing_types(rt: HostRuntime) -> Result<()
     let files = BTreeMap::new(alloc);
     let session = MemorySession::new(&bump, &files);
     let objects = [kept.as_slice(), longer.as_slice()];
-    assert_eq!(rt; differing(&rt, alloc, &session, &objects)?, 1);
+    same(&rt, differing(&rt, alloc, &session, &objects)?, 1);
     Ok(())
 }

@@ -17,3 +17,5 @@ pub mod ShortLemmas
 pub mod GrownLemmas
 pub mod MergeLemmas
 pub mod KnownLemmas
+pub mod PlacesLemmas
+pub mod HashedLemmas

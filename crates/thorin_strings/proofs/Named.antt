@@ -1,15 +1,15 @@
 -- A string of a table is read where its offset says, also once more strings have come.
-use Rattle.std.proofs.Common.{◌≡◌, ◌≢◌, ℕ, suc, ◌+◌, ◌-◌, ◌<◌, Bool, true, false, ◌||◌, cond, eqb, ltb, List, [], ◌∷◌, ◌++◌, length, take, drop, Ok, Contains, ap, sym, subst, refl, ◌∙◌, arith, length-append}
+use Rattle.std.proofs.Common.{◌≡◌, ◌≢◌, ℕ, suc, ◌+◌, ◌-◌, ◌<◌, Bool, true, false, ◌||◌, cond, eqb, ltb, List, [], ◌∷◌, ◌++◌, length, take, drop, get_or, Ok, Contains, ap, sym, subst, refl, ◌∙◌, ⊎_elim, arith, length-append}
 use Rattle.std.specs.List.{list_any, before_first, position_or_len}
 use Rattle.std.specs.Str.{bytes_eq}
-use Rattle.std.proofs.lemmas.List.{take_all, take_at, take-append-drop, drop_at, drop-drop, length-drop, length-take, get_or_default, get_or-take}
+use Rattle.std.proofs.lemmas.List.{take_all, take_at, take-append-drop, drop_at, drop-drop, length-drop, length-take, get_or_default, get_or-take, get_or-append-add, get_or_at}
 use Rattle.std.proofs.lemmas.List.Elements.{All-push}
 use Rattle.std.proofs.lemmas.List.Quantifiers.{all_pairs_push}
 use Rattle.std.proofs.lemmas.List.Sums.{fails_before_first}
-use Rattle.std.proofs.lemmas.Bool.{false≢true, le-ltb, eq-eqb, or_parts, cond-true, cond-false}
+use Rattle.std.proofs.lemmas.Bool.{false≢true, le-ltb, eq-eqb, or_parts, cond-true, cond-false, cases_lt}
 use Rattle.std.proofs.lemmas.Slice.Eq.{bytes_eq-Decides}
 use Rattle.dwp_bytes.specs.StringOffsets.{string_from, string_at}
-use Rattle.thorin_strings.specs.Strings.{terminated, data_of, offset_of, with_string, IsZeroFree, IsTable}
+use Rattle.thorin_strings.specs.Strings.{terminated, data_of, offset_of, with_string, IsZeroFree, IsTable, BeginsAt}
 use Rattle.thorin_strings.proofs.StringLemmas.{data_of-cons, before_first-ended}
 use Rattle.thorin_strings.proofs.OffsetLemmas.{has_Decides}
 
@@ -144,6 +144,36 @@ read_there ss s free h =
     let ended : list_any (λ b. eqb b 0) (drop (offset_of ss s) (data_of ss)) ≡ true = ap (list_any (λ b. eqb b 0)) stands.here ∙ zero_behind s stands.rest in
     let string : string_from (data_of ss) (offset_of ss s) ≡ s = ap (before_first (λ b. eqb b 0)) stands.here ∙ before_first-ended s stands.rest free in
     rw (inside, ended) (ap Ok string)
+
+-- behind the zero byte of the string before it
+zero_by : (b : Bool) (t : List ℕ) (ss : List (List ℕ)) (s : List ℕ) → bytes_eq t s ≡ b → (b || has ss s) ≡ true → (has ss s ≡ true → 0 < offset_of ss s → get_or (data_of ss) (offset_of ss s - 1) 0 ≡ 0) → 0 < offset_of (t ∷ ss) s → get_or (data_of (t ∷ ss)) (offset_of (t ∷ ss) s - 1) 0 ≡ 0
+zero_by true t ss s first h later some =
+    let at_start : offset_of (t ∷ ss) s ≡ 0 = cond-true _ _ _ first in
+    absurd (omega arith)
+zero_by false t ss s other h later some =
+    let far : offset_of (t ∷ ss) s ≡ length t + 1 + offset_of ss s = cond-false _ _ _ other in
+    let long : length (terminated t) ≡ length t + 1 = length-append t (0 ∷ []) in
+    ⊎_elim
+    (λ more.
+    let at : offset_of (t ∷ ss) s - 1 ≡ length (terminated t) + (offset_of ss s - 1) = omega arith in
+    ap (λ n. get_or (data_of (t ∷ ss)) n 0) at ∙ get_or-append-add (terminated t) (data_of ss) (offset_of ss s - 1) 0 ∙ later h more)
+    (λ none.
+    let at : offset_of (t ∷ ss) s - 1 ≡ length t = omega arith in
+    ap (λ n. get_or (data_of (t ∷ ss)) n 0) at ∙ ap (λ l. get_or l (length t) 0) (data_of-cons t ss) ∙ get_or_at t 0 (data_of ss) 0 (length t) refl)
+    (cases_lt 0 (offset_of ss s))
+
+zero_before : (ss : List (List ℕ)) (s : List ℕ) → has ss s ≡ true → 0 < offset_of ss s → get_or (data_of ss) (offset_of ss s - 1) 0 ≡ 0
+zero_before [] s h some = absurd (false≢true h)
+zero_before (t ∷ ss) s h some = zero_by (bytes_eq t s) t ss s refl h (zero_before ss s) some
+
+-- a string begins at its offset
+pub begins_there : (ss : List (List ℕ)) (s : List ℕ) → IsZeroFree s → has ss s ≡ true → BeginsAt (data_of ss) (offset_of ss s) × (string_from (data_of ss) (offset_of ss s) ≡ s)
+begins_there ss s free h =
+    let stands = stands_behind ss s h in
+    let long : length (data_of ss) - offset_of ss s ≡ length s + suc (length stands.rest) = sym (length-drop (offset_of ss s) (data_of ss)) ∙ ap length stands.here ∙ length-append s (0 ∷ stands.rest) in (
+      record { within = omega (arith, long); behind = zero_before ss s h },
+      ap (before_first (λ b. eqb b 0)) stands.here ∙ before_first-ended s stands.rest free,
+    )
 
 -- a table that begins with these strings has its strings at their offsets
 pub read_later : (ss final : List (List ℕ)) (s : List ℕ) → take (length ss) final ≡ ss → IsZeroFree s → has ss s ≡ true → string_at (data_of final) (offset_of ss s) ≡ Ok s

@@ -5,3 +5,6 @@ pub mod Chunks
 pub mod Rewritten
 pub mod Grown
 pub mod Known
+pub mod Places
+pub mod Hashed
+pub mod Table

@@ -3,16 +3,17 @@
 
 mod batch;
 mod guess;
+mod hashed;
 pub mod laws;
 mod merge;
 mod offsets;
 mod order;
+mod places;
 mod positions;
 mod repeats;
 mod search;
+mod sorted;
 mod table;
-#[cfg(test)]
-mod tests;
 
 pub use repeats::Repeats;
 pub use table::{PackageStringOffset, PackageStringTable, TableMark};

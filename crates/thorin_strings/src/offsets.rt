@@ -240,7 +240,7 @@ impl PackageStringTable {
         if section_size == 0 || section_size < header_size || !is_whole {
             return None;
         }
-        if !self.has_all_guesses() {
+        if !self.places_together() {
             return None;
         }
         let entry_size = encoding.format.offset_size() as u64;
@@ -290,6 +290,7 @@ impl PackageStringTable {
         let entry_size = encoding.format.offset_size() as u64;
         let count = encoding.string_offsets_count(section_size);
         let mut out = header(alloc, endian, encoding, count * entry_size)?;
+        out.reserve(debug_str_offsets.len())?;
         for index in 0..count {
             let offset = self.remapped_entry(
                 repeats,

@@ -12,21 +12,26 @@ const LONG: usize = 512;
 /// How many trees there are: an offset is in the tree of its lowest bits.
 const TREES: usize = 1024;
 
+/// How many bytes of a section share a cell.
+const CELL: usize = 8;
+
 /// What a link is that leads nowhere.
 const FREE: usize = 0;
 
-/// The offsets that long strings have in a section, and those that they have in a table.
+/// The offsets that strings have in a section, and those that they have in a table: those of long
+/// strings, and where many ranges name the same strings those of most.
 ///
 /// A section names a long string as often as it likes by a few bytes; by this it is read once. The
 /// pairs stand in trees, each under a pair before it, to the left or the right by a bit of its
 /// offset in the section: the pair of an offset is found, or its place, in as many steps as an
-/// offset has bits at most. The trees save time and decide nothing: a pair counts for its own
-/// offset alone.
+/// offset has bits at most. A short string's pair is found by the cell of its offset, where that was
+/// free. Trees and cells save time and decide nothing: a pair counts for its own offset alone.
 #[derive(Drop)]
 pub struct Repeats {
     alloc: Global,
     pairs: Vec<(u64, u64)>,
     links: Vec<usize>,
+    cells: Vec<u32>,
 }
 
 impl Model for Repeats {
@@ -65,6 +70,29 @@ fn walk(links: &[usize], pairs: &[(u64, u64)], offset: u64) -> Result<u64, usize
     Err(at)
 }
 
+/// The offset in the table of the string at an offset, where the pair of its cell has it.
+fn look(cells: &[u32], pairs: &[(u64, u64)], offset: u64) -> Option<u64>
+    ensures { IfSome result (λ known. Contains pairs.now (offset, known)) }
+{
+    let number = *cells.get(offset as usize / CELL)?;
+    let pair = pairs.get((number as usize).wrapping_sub(1))?;
+    if pair.0 != offset {
+        return None;
+    }
+    Some(pair.1)
+}
+
+/// Leads the cell of an offset to a pair; false where there is none or it is taken.
+fn lead_cell(cells: &mut [u32], offset: u64, number: usize) -> bool {
+    match cells.get_mut(offset as usize / CELL) {
+        Some(cell) if *cell == 0 && number < u32::MAX as usize => {
+            *cell = number as u32;
+            true
+        }
+        _ => false,
+    }
+}
+
 /// Makes the first links of the trees, where there are none.
 fn plant(alloc: Global, links: &mut Vec<usize>) -> Result<(), AllocError> {
     if links.is_empty() {
@@ -90,7 +118,20 @@ impl Repeats {
             alloc,
             pairs: Vec::new(alloc),
             links: Vec::new(alloc),
+            cells: Vec::new(alloc),
         }
+    }
+
+    /// The same for many ranges that name strings of a section: short ones are remembered too, as
+    /// far as there is memory for their cells.
+    pub fn of_ranges(alloc: Global, section: &[u8]) -> Self
+        ensures { result ≡ [] }
+    {
+        let mut repeats = Repeats::new(alloc);
+        if let Ok(cells) = Vec::from_elem(alloc, 0, section.len() / CELL + 1) {
+            repeats.cells = cells;
+        }
+        repeats
     }
 
     /// The offset in the table of the string at an offset, where that is remembered.
@@ -98,16 +139,24 @@ impl Repeats {
         ensures { (section : List ℕ) (strings : List (List ℕ)) → AreKnown section strings self.now
             → IfSome result (λ known. IsKnown section strings (offset, known)) }
     {
+        if let Some(known) = look(&self.cells, &self.pairs, offset) {
+            return Some(known);
+        }
         walk(&self.links, &self.pairs, offset).ok()
     }
 
-    /// Remembers the offset in the table of the string at an offset, where that string is long.
+    /// Remembers the offset in the table of the string at an offset, where that string is long or
+    /// its cell is free.
     pub(crate) fn enter(&mut self, string: &[u8], offset: u64, known: u64) -> Result<(), AllocError>
         ensures { (section : List ℕ) (strings : List (List ℕ)) → AreKnown section strings self.old
             → IsKnown section strings (offset, known)
             → AreKnown section strings self.new }
     {
         if string.len() < LONG {
+            let number = self.pairs.len() + 1;
+            if lead_cell(&mut self.cells, offset, number) {
+                self.pairs.push((offset, known))?;
+            }
             return Ok(());
         }
         plant(self.alloc, &mut self.links)?;
@@ -126,5 +175,8 @@ impl Repeats {
     {
         self.pairs.clear();
         self.links.clear();
+        for cell in &mut self.cells {
+            *cell = 0;
+        }
     }
 }

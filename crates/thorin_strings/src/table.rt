@@ -1,8 +1,7 @@
 //! The table of distinct strings of a package (DWARF 5, 7.26).
 
 ghost use Rattle.std.specs.Prelude.{◌≡◌, ◌↔◌, ◌+◌, ◌*◌, ◌<◌, ◌^◌, ◌++◌, ℕ, List, [], length, take};
-ghost use Rattle.std.specs.Prelude.{filter, nat_lt, Ok, OnOk, IfOk, IfErr, IsSome, IfSome, IsNone};
-ghost use Rattle.std.specs.Prelude.{IsTrue, Contains};
+ghost use Rattle.std.specs.Prelude.{Ok, OnOk, IfOk, IfErr, IsSome, IfSome, IsNone, IsTrue, Contains};
 ghost use Rattle.dwp_bytes.specs.Encoding.{offset_size};
 ghost use Rattle.dwp_bytes.specs.StringOffsets.{header_size};
 ghost use Rattle.thorin_strings.specs.StringOffsets.{remapped_entries, entry_bytes};
@@ -11,19 +10,14 @@ ghost use Rattle.thorin_strings.specs.Strings.{IsTable, IsWithinDigits};
 ghost use Rattle.thorin_strings.specs.Marks.{mark_of};
 ghost use Rattle.thorin_strings.specs.Known.{AreKnown};
 
-use crate::batch::Batch;
-use crate::guess::{Guesses, hash_of};
-use crate::merge::enter_all;
-use crate::order::order;
-use crate::positions::Positions;
+use crate::hashed::HashedStrings;
 use crate::repeats::Repeats;
-use crate::search::{find_near, search};
+use crate::sorted::SortedStrings;
 use dwp_base::Endianness;
 use dwp_bytes::Encoding;
 use memchr::memchr;
 use std::alloc::Global;
 use std::marker::Model;
-use std::mem::replace;
 use thorin_faults::Error;
 
 /// Where a string begins in `.debug_str.dwo` of the package.
@@ -39,39 +33,31 @@ pub struct TableMark {
     pub bytes: usize,
 }
 
+/// How a table finds its strings.
+#[derive(Drop)]
+enum Strings {
+    Hashed(HashedStrings),
+    Sorted(SortedStrings),
+}
+
 /// The distinct strings of a package, in order of first use. A clause sees the table as their list.
 ///
-/// No string is copied but into the data; beside it the table keeps where each begins, in the order
-/// of the strings, guesses of that by hashes, and the place behind the string that was found last:
-/// inputs that share strings often use them in the same order, so a string is looked for there
-/// first, then where its hash guesses, and then by the order.
+/// No string is copied but into the data; beside it the table keeps where each begins. A string is
+/// found by its hash, as long as no two have one hash and each hash has its place among few; once
+/// that is over it is found by the order of the strings.
 #[derive(Drop)]
 pub struct PackageStringTable {
     alloc: Global,
-    bytes: Vec<u8>,
-    positions: Positions,
-    guesses: Guesses,
-    next: usize,
+    strings: Strings,
 }
 
 impl Model for PackageStringTable {
     ghost use Rattle.std.specs.Prelude.{List, ℕ};
-    ghost use Rattle.thorin_strings.specs.Strings.{strings_in, IsIndexed};
+    ghost use Rattle.thorin_strings.specs.Table.{strings_of};
 
     ghost Value = { List (List ℕ) };
 
-    ghost view = { λ t. strings_in t.bytes.items };
-
-    ghost invariant = { λ t. IsIndexed t.bytes.items t.positions };
-}
-
-/// Forgets what came after so many bytes.
-fn forget(bytes: &mut Vec<u8>, positions: &mut Positions, mark: usize)
-    ensures data { bytes.new.items ≡ take mark bytes.old.items }
-    ensures positions { positions.new ≡ filter (λ p. nat_lt p mark) positions.old }
-{
-    bytes.truncate(mark);
-    positions.keep_below(mark as u64);
+    ghost view = { λ t. strings_of t.strings };
 }
 
 impl PackageStringTable {
@@ -81,10 +67,7 @@ impl PackageStringTable {
     {
         PackageStringTable {
             alloc,
-            bytes: Vec::new(alloc),
-            positions: Positions::new(alloc),
-            guesses: Guesses::new(alloc),
-            next: 0,
+            strings: Strings::Hashed(HashedStrings::new(alloc)),
         }
     }
 
@@ -92,7 +75,10 @@ impl PackageStringTable {
     pub fn len(&self) -> usize
         ensures { result ≡ length self.now }
     {
-        self.positions.len()
+        match &self.strings {
+            Strings::Hashed(strings) => strings.len(),
+            Strings::Sorted(strings) => strings.len(),
+        }
     }
 
     /// Whether there are none.
@@ -107,7 +93,10 @@ impl PackageStringTable {
         ensures whole { result.now ≡ data_of self.now }
         ensures table { IsTable self.now }
     {
-        &self.bytes
+        match &self.strings {
+            Strings::Hashed(strings) => strings.data(),
+            Strings::Sorted(strings) => strings.data(),
+        }
     }
 
     /// Where the allocator of the table's memory is.
@@ -115,10 +104,13 @@ impl PackageStringTable {
         self.alloc
     }
 
-    /// Whether each string has a guess of its place, so that new strings of a range can be told at
-    /// once.
-    pub(crate) fn has_all_guesses(&self) -> bool {
-        self.guesses.is_whole()
+    /// Whether new strings of a range are told together: the strings are found by their order, and
+    /// each has a guess of its place beside.
+    pub(crate) fn places_together(&self) -> bool {
+        match &self.strings {
+            Strings::Hashed(_) => false,
+            Strings::Sorted(strings) => strings.has_all_guesses(),
+        }
     }
 
     /// The offset of a string, where the table has it, and how many strings were compared.
@@ -127,16 +119,10 @@ impl PackageStringTable {
         ensures offset { IfSome result.0 (λ o. o.0 ≡ offset_of self.now string.now) }
         ensures count { IsWithinDigits result.1 (length self.now) }
     {
-        let bytes = self.bytes.as_slice();
-        if memchr(0, string).is_some() {
-            return (None, 0);
+        match &self.strings {
+            Strings::Hashed(strings) => strings.find_counted(string),
+            Strings::Sorted(strings) => strings.find_counted(string),
         }
-        let found = search(bytes, &self.positions, string);
-        let offset = match found.place {
-            Ok(place) => Some(PackageStringOffset(place)),
-            Err(_) => None,
-        };
-        (offset, found.compared)
     }
 
     /// The offset of a string, which goes last where the table hasn't it.
@@ -150,29 +136,24 @@ impl PackageStringTable {
         ensures kept { take (length self.old) self.new ≡ self.old }
         ensures err { IfErr result (λ e. (e ≡ Error.Memory) × (self.new ≡ self.old)) }
     {
-        let bytes = self.bytes.as_slice();
-        match find_near(bytes, &self.positions, &self.guesses, self.next, string) {
-            Ok(offset) => {
-                self.next = offset + string.len() + 1;
-                Ok(PackageStringOffset(offset))
-            }
-            Err(rank) => {
-                let offset = self.bytes.len();
-                self.bytes.reserve(string.len() + 1)?;
-                self.positions.insert(rank, offset as u64)?;
-                self.bytes.extend_from_slice(string).unwrap();
-                self.bytes.push(0).unwrap();
-                self.guesses.enter(hash_of(string), offset);
-                Ok(PackageStringOffset(offset))
-            }
+        let hashed = match &mut self.strings {
+            Strings::Hashed(strings) => strings,
+            Strings::Sorted(strings) => return strings.get_or_insert(string),
+        };
+        if let Some(offset) = hashed.place(string)? {
+            return Ok(PackageStringOffset(offset));
         }
+        let Some(mut sorted) = hashed.sorted() else {
+            return Err(Error::Memory);
+        };
+        let result = sorted.get_or_insert(string);
+        self.strings = Strings::Sorted(sorted);
+        result
     }
 
-    /// Appends the offsets of the strings that the first entries name to some bytes. New strings
-    /// are entered together: what no guess knows is taken for new, and once all are compared in
-    /// their order, no two are equal and none was there. None where two are, where an entry can't
-    /// be read or the format can't hold its offset, where a guess was lost, and for want of memory;
-    /// the table is then as it was.
+    /// Appends the offsets of the strings that the first entries name to some bytes, where new
+    /// strings are told together. None where they aren't, where an entry can't be read or the
+    /// format can't hold its offset, and for want of memory; the table is then as it was.
     pub(crate) fn place_entries(
         &mut self,
         repeats: &mut Repeats,
@@ -193,50 +174,27 @@ impl PackageStringTable {
         ensures none { IsNone result → self.new ≡ self.old }
         ensures known { IfSome result (λ _. AreKnown debug_str.now self.new repeats.new) }
     {
-        let mark = self.bytes.len();
-        let mut batch = Batch {
-            bytes: replace(&mut self.bytes, Vec::new(self.alloc)),
-            guesses: replace(&mut self.guesses, Guesses::new(self.alloc)),
-            next: self.next,
-            places: Vec::new(self.alloc),
-        };
-        let range = batch.place_entries(
-            repeats,
-            debug_str,
-            debug_str_offsets,
-            endian,
-            encoding,
-            count,
-            first,
-        );
-        let Batch {
-            bytes,
-            guesses,
-            next,
-            mut places,
-        } = batch;
-        self.bytes = bytes;
-        self.guesses = guesses;
-        self.next = next;
-        let Some(range) = range else {
-            self.bytes.truncate(mark);
-            return None;
-        };
-        order(self.alloc, self.bytes.as_slice(), &mut places);
-        if !enter_all(self.bytes.as_slice(), &mut self.positions, &places) {
-            forget(&mut self.bytes, &mut self.positions, mark);
-            return None;
+        match &mut self.strings {
+            Strings::Hashed(_) => None,
+            Strings::Sorted(strings) => strings.place_entries(
+                repeats,
+                debug_str,
+                debug_str_offsets,
+                endian,
+                encoding,
+                count,
+                first,
+            ),
         }
-        Some(range)
     }
 
     /// How much the table holds now, to which `truncate` goes back.
     pub fn mark(&self) -> TableMark
         ensures { result ≡ mark_of self.now }
     {
-        TableMark {
-            strings: self.len(),
-            bytes: self.bytes.len(),
+        match &self.strings {
+            Strings::Hashed(strings) => strings.mark(),
+            Strings::Sorted(strings) => strings.mark(),
         }
     }
 
@@ -245,9 +203,9 @@ impl PackageStringTable {
         requires { mark ≡ mark_of (take mark.strings self.old) }
         ensures { self.new ≡ take mark.strings self.old }
     {
-        if mark.bytes < self.bytes.len() {
-            self.bytes.truncate(mark.bytes);
-            self.positions.keep_below(mark.bytes as u64);
+        match &mut self.strings {
+            Strings::Hashed(strings) => strings.truncate(mark),
+            Strings::Sorted(strings) => strings.truncate(mark),
         }
     }
 
@@ -256,7 +214,9 @@ impl PackageStringTable {
         ensures whole { result.items ≡ data_of self }
         ensures table { IsTable self }
     {
-        let PackageStringTable { bytes, .. } = self;
-        bytes
+        match self.strings {
+            Strings::Hashed(strings) => strings.finish(),
+            Strings::Sorted(strings) => strings.finish(),
+        }
     }
 }

@@ -1,5 +1,6 @@
 //! Objects that say the same in rarer forms, the identifier 0, and what a builder prints.
 
+use crate::asserting::{same, same_at};
 use crate::packing::packed;
 use bumpalo::Bump;
 use dwp_elf::SectionKind;
@@ -25,7 +26,7 @@ fn an_indirect_form_carries_the_identifier(rt: HostRuntime) -> Result<(), Fail> 
         ],
     )?;
     let file = packed(alloc, &[input.as_slice()])?.file?;
-    assert_eq!(rt; unit_bytes(&file, cu(5))?, info.as_slice());
+    same(&rt, unit_bytes(&file, cu(5))?, info.as_slice());
     Ok(())
 }
 
@@ -52,7 +53,7 @@ fn with_counts_in_section_0(alloc: Global) -> Result<Vec<u8>, Fail> {
 fn section_0_has_the_number_of_sections(rt: HostRuntime) -> Result<(), Fail> {
     let alloc = rt.alloc();
     let input = with_counts_in_section_0(alloc)?;
-    assert_eq!(rt; input.len(), 400);
+    same(&rt, input.len(), 400);
     let five = plain(alloc, 5)?;
     let expected = packed(alloc, &[five.as_slice()])?.file?;
     assert!(rt; packed(alloc, &[input.as_slice()])?.file? == expected);
@@ -65,8 +66,8 @@ fn the_identifier_0_is_found(rt: HostRuntime) -> Result<(), Fail> {
     let input = plain(alloc, 0)?;
     let file = packed(alloc, &[input.as_slice()])?.file?;
     for (id, is_there, slots) in [(0, true, 1), (2, false, 2)] {
-        assert_eq!(rt; has_unit(&file, cu(id))?, is_there, "unit {id}");
-        assert_eq!(rt; slots_read(&file, cu(id))?, slots, "unit {id}");
+        same_at(&rt, has_unit(&file, cu(id))?, is_there, id);
+        same_at(&rt, slots_read(&file, cu(id))?, slots, id);
     }
     Ok(())
 }
@@ -79,14 +80,23 @@ fn text_of<'o, 's: 'o>(
     Ok(format!(in alloc; "{builder:?}")?)
 }
 
-/// The same before any input and with an object.
+/// The same before an input and with it.
+fn texts_of<'o, 's: 'o>(
+    alloc: Global,
+    builder: &mut DwarfPackage<'o, 's, BytesSession<'s>>,
+    input: &[u8],
+) -> Result<(String, String), Fail> {
+    let before = text_of(alloc, builder)?;
+    builder.add_object_bytes(input)?;
+    let after = text_of(alloc, builder)?;
+    Ok((before, after))
+}
+
+/// Those texts of a new package and of an object.
 fn printed<'s>(alloc: Global, session: &'s BytesSession<'s>) -> Result<(String, String), Fail> {
     let input = plain(alloc, 5)?;
     let mut builder = DwarfPackage::new(alloc, session);
-    let before = text_of(alloc, &builder)?;
-    builder.add_object_bytes(&input)?;
-    let after = text_of(alloc, &builder)?;
-    Ok((before, after))
+    texts_of(alloc, &mut builder, &input)
 }
 
 #[test]
@@ -95,13 +105,15 @@ fn a_builder_prints_itself(rt: HostRuntime) -> Result<(), Fail> {
     let arena = Bump::new(alloc);
     let session = BytesSession::new(&arena);
     let (before, after) = printed(alloc, &session)?;
-    assert_eq!(rt;
+    same(
+        &rt,
         before.as_str(),
-        "DwarfPackage { in_progress: None, target_count: 0 }"
+        "DwarfPackage { in_progress: None, target_count: 0 }",
     );
-    assert_eq!(rt;
+    same(
+        &rt,
         after.as_str(),
-        "DwarfPackage { in_progress: Some(InProgressDwarfPackage), target_count: 0 }"
+        "DwarfPackage { in_progress: Some(InProgressDwarfPackage), target_count: 0 }",
     );
     Ok(())
 }

@@ -1,5 +1,6 @@
 //! Packing in groups.
 
+use crate::asserting::{same, same_at};
 use crate::packing::packed;
 use bumpalo::Bump;
 use dwp_elf::SectionKind;
@@ -41,7 +42,7 @@ fn two_groups_make_the_package_of_their_objects(rt: HostRuntime) -> Result<(), F
     let arena = Bump::new(alloc);
     let session = BytesSession::new(&arena);
     let file = grouped(alloc, &session, &[&[x.as_slice()], &[y.as_slice()]])?;
-    assert_eq!(rt; file.len(), 608);
+    same(&rt, file.len(), 608);
     assert!(rt; file == packed(alloc, &[x.as_slice(), y.as_slice()])?.file?);
     let twice = grouped(alloc, &session, &[&[x.as_slice()], &[x.as_slice()]]);
     assert!(rt; matches!(twice, Err(Error::DuplicateUnit(5))));
@@ -88,9 +89,9 @@ fn the_first_has_no_lines(rt: &impl Abort, file: &[u8]) -> Result<(), Fail> {
         (tu(0x11), [].as_slice()),
     ] {
         let content = unit_content(file, name, SectionKind::Line)?;
-        assert_eq!(rt; content, lines, "{name:?}");
+        same_at(rt, content, lines, name);
     }
-    assert_eq!(rt; unit_bytes(file, tu(0x11))?, SPLIT_TYPE.as_slice());
+    same(rt, unit_bytes(file, tu(0x11))?, SPLIT_TYPE.as_slice());
     Ok(())
 }
 
@@ -120,7 +121,7 @@ fn a_thousand_groups_make_70048_bytes(rt: HostRuntime) -> Result<(), Fail> {
     let arena = Bump::new(alloc);
     let session = BytesSession::new(&arena);
     let file = grouped(alloc, &session, groups.as_slice())?;
-    assert_eq!(rt; file.len(), 70_048);
+    same(&rt, file.len(), 70_048);
     assert!(rt; file == packed(alloc, objects.as_slice())?.file?);
     Ok(())
 }

@@ -1,5 +1,6 @@
 //! Packages of many units and of many strings.
 
+use crate::asserting::same;
 use crate::packing::packed;
 use dwp_elf::{Endianness, SectionKind};
 use std::alloc::Global;
@@ -12,11 +13,12 @@ use thorin_objects::{
 /// Asserts that the package has the units 1 to 1000, each in the slot that is looked at first.
 fn has_a_thousand(rt: &impl Abort, file: &[u8]) -> Result<(), Fail> {
     for id in 1..1001u64 {
-        assert_eq!(rt; slots_read(file, cu(id))?, 1);
+        same(rt, slots_read(file, cu(id))?, 1);
         let identifier = Endianness::Little.bytes_of_u64(id);
-        assert_eq!(rt;
+        same(
+            rt,
             unit_bytes(file, cu(id))?.get(12..),
-            Some(identifier.as_slice())
+            Some(identifier.as_slice()),
         );
     }
     Ok(())
@@ -35,7 +37,7 @@ fn a_thousand_objects_make_70048_bytes(rt: HostRuntime) -> Result<(), Fail> {
         assert!(rt; outcome.is_ok());
     }
     let file = packed.file?;
-    assert_eq!(rt; file.len(), 70_048);
+    same(&rt, file.len(), 70_048);
     has_a_thousand(&rt, &file)
 }
 
@@ -69,9 +71,9 @@ fn five_thousand_strings_make_44608_bytes(rt: HostRuntime) -> Result<(), Fail> {
     let alloc = rt.alloc();
     let input = with_numbers(alloc)?;
     let file = packed(alloc, &[input.as_slice()])?.file?;
-    assert_eq!(rt; file.len(), 44_608);
+    same(&rt, file.len(), 44_608);
     let last = unit_string(&file, cu(5), 4999)?;
-    assert_eq!(rt; last, Some(b"4999".as_slice()));
-    assert_eq!(rt; unit_string(&file, cu(5), 5000)?, None);
+    same(&rt, last, Some(b"4999".as_slice()));
+    same(&rt, unit_string(&file, cu(5), 5000)?, None);
     Ok(())
 }

@@ -1,5 +1,6 @@
 //! Packages of several objects.
 
+use crate::asserting::{same, same_at};
 use crate::packing::packed;
 use dwp_bytes::ReadError;
 use dwp_elf::{Class, Endianness, SectionKind};
@@ -23,7 +24,7 @@ fn refuses_once(rt: &impl Abort, packed: &Packed, unit: u64) {
             refused = refused.saturating_add(1);
         }
     }
-    assert_eq!(rt; refused, 1);
+    same(rt, refused, 1);
 }
 
 #[test]
@@ -34,16 +35,17 @@ fn a_unit_that_comes_again_is_refused(rt: HostRuntime) -> Result<(), Fail> {
     let packed = packed(alloc, &[x.as_slice(), y.as_slice(), x.as_slice()])?;
     refuses_once(&rt, &packed, 5);
     let file = packed.file?;
-    assert_eq!(rt; file.len(), 608);
+    same(&rt, file.len(), 608);
     let six = unit(6);
-    assert_eq!(rt; unit_bytes(&file, cu(6))?, six.as_slice());
+    same(&rt, unit_bytes(&file, cu(6))?, six.as_slice());
     for (kind, place, size) in [(SectionKind::Info, 0x14, 0x14), (SectionKind::Abbrev, 9, 9)] {
-        assert_eq!(rt; unit_range(&file, cu(6), kind)?, (place, size), "{kind:?}");
+        same_at(&rt, unit_range(&file, cu(6), kind)?, (place, size), kind);
     }
     // Four slots, of which the second and the third are used.
-    assert_eq!(rt;
+    same(
+        &rt,
         part(&file, 170, 186),
-        [0u8, 0, 0, 0, 1, 0, 0, 0, 2, 0, 0, 0, 0, 0, 0, 0].as_slice()
+        [0u8, 0, 0, 0, 1, 0, 0, 0, 2, 0, 0, 0, 0, 0, 0, 0].as_slice(),
     );
     Ok(())
 }
@@ -51,16 +53,12 @@ fn a_unit_that_comes_again_is_refused(rt: HostRuntime) -> Result<(), Fail> {
 /// Asserts what the package says of the type unit 0x11, which is there once, with the abbreviations
 /// of the unit 7.
 fn has_the_first_type_unit(rt: &impl Abort, file: &[u8]) -> Result<(), Fail> {
-    assert_eq!(rt; slots_read(file, tu(0x11))?, 1);
-    assert_eq!(rt; unit_bytes(file, tu(0x11))?, TYPE_UNIT.as_slice());
+    same(rt, slots_read(file, tu(0x11))?, 1);
+    same(rt, unit_bytes(file, tu(0x11))?, TYPE_UNIT.as_slice());
     for (kind, place, size) in [(SectionKind::Types, 0, 0x17), (SectionKind::Abbrev, 0, 9)] {
-        assert_eq!(rt;
-            unit_range(file, tu(0x11), kind)?,
-            (place, size),
-            "{kind:?}"
-        );
+        same_at(rt, unit_range(file, tu(0x11), kind)?, (place, size), kind);
     }
-    assert_eq!(rt; type_unit_count(file)?, 1);
+    same(rt, type_unit_count(file)?, 1);
     Ok(())
 }
 
@@ -71,11 +69,11 @@ fn a_type_unit_that_comes_again_is_passed_over(rt: HostRuntime) -> Result<(), Fa
     let z = with_types(alloc, seven.as_slice(), TYPE_UNIT.as_slice())?;
     let w = with_types(alloc, eight.as_slice(), longer.as_slice())?;
     let packed = packed(alloc, &[z.as_slice(), z.as_slice(), w.as_slice()])?;
-    assert_eq!(rt; packed.outcomes.len(), 3);
+    same(&rt, packed.outcomes.len(), 3);
     refuses_once(&rt, &packed, 7);
     let file = packed.file?;
     has_the_first_type_unit(&rt, &file)?;
-    assert_eq!(rt; unit_bytes(&file, cu(8))?, eight.as_slice());
+    same(&rt, unit_bytes(&file, cu(8))?, eight.as_slice());
     Ok(())
 }
 
@@ -99,7 +97,7 @@ fn another_byte_order_is_refused(rt: HostRuntime) -> Result<(), Fail> {
     let packed = packed(alloc, &[x.as_slice(), other.as_slice()])?;
     let last = packed.outcomes.last().ok_or("there are outcomes")?;
     assert!(rt; matches!(last, Err(Error::MixedInputEncodings)));
-    assert_eq!(rt; packed.file?.len(), 544);
+    same(&rt, packed.file?.len(), 544);
     Ok(())
 }
 
@@ -118,7 +116,7 @@ fn a_cut_object_is_passed_over(rt: HostRuntime) -> Result<(), Fail> {
     )?;
     let five = plain(alloc, 5)?;
     let packed = packed(alloc, &[cut.as_slice(), five.as_slice()])?;
-    assert_eq!(rt; packed.outcomes.len(), 2);
+    same(&rt, packed.outcomes.len(), 2);
     let mut refused = 0u32;
     for outcome in &packed.outcomes {
         if let Err(fault) = outcome {
@@ -126,11 +124,11 @@ fn a_cut_object_is_passed_over(rt: HostRuntime) -> Result<(), Fail> {
             refused = refused.saturating_add(1);
         }
     }
-    assert_eq!(rt; refused, 1);
+    same(&rt, refused, 1);
     // Neither the class nor the byte order is those of the cut object.
     let file = packed.file?;
-    assert_eq!(rt; file.len(), 544);
-    assert_eq!(rt; part(file.as_slice(), 73, 93), unit(5).as_slice());
+    same(&rt, file.len(), 544);
+    same(&rt, part(file.as_slice(), 73, 93), unit(5).as_slice());
     Ok(())
 }
 
@@ -150,15 +148,16 @@ fn strings_of_two_objects_are_kept_once(rt: HostRuntime) -> Result<(), Fail> {
     let file = packed(alloc, &[first.as_slice(), second.as_slice()])?.file?;
     let bytes = file.as_slice();
     // Abbreviations of 18 bytes at 64, string offsets of 12, info of 40, strings of 4.
-    assert_eq!(rt;
+    same(
+        &rt,
         part(bytes, 82, 94),
-        [0u8, 0, 0, 0, 2, 0, 0, 0, 0, 0, 0, 0].as_slice()
+        [0u8, 0, 0, 0, 2, 0, 0, 0, 0, 0, 0, 0].as_slice(),
     );
-    assert_eq!(rt; part(bytes, 134, 138), b"b\0a\0".as_slice());
+    same(&rt, part(bytes, 134, 138), b"b\0a\0".as_slice());
     let offsets = unit_range(bytes, cu(6), SectionKind::StrOffsets)?;
-    assert_eq!(rt; offsets, (8, 4));
-    assert_eq!(rt; unit_string(bytes, cu(6), 0)?, Some(b"b".as_slice()));
-    assert_eq!(rt; unit_string(bytes, cu(6), 1)?, None);
+    same(&rt, offsets, (8, 4));
+    same(&rt, unit_string(bytes, cu(6), 0)?, Some(b"b".as_slice()));
+    same(&rt, unit_string(bytes, cu(6), 1)?, None);
     Ok(())
 }
 
@@ -188,7 +187,7 @@ fn repeated_sections_make_one_range(rt: HostRuntime) -> Result<(), Fail> {
     )?;
     let file = packed(alloc, &[first.as_slice(), second.as_slice()])?.file?;
     let abbreviations = unit_range(&file, cu(7), SectionKind::Abbrev)?;
-    assert_eq!(rt; abbreviations, (0x10, 9));
+    same(&rt, abbreviations, (0x10, 9));
     Ok(())
 }
 

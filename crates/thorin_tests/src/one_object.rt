@@ -1,5 +1,6 @@
 //! Packages of one object.
 
+use crate::asserting::{same, same_at};
 use crate::packing::packed;
 use dwp_elf::{Class, Endianness, SectionKind};
 use std::alloc::Global;
@@ -23,10 +24,10 @@ fn one_unit_makes_544_bytes(rt: HostRuntime) -> Result<(), Fail> {
     let alloc = rt.alloc();
     let input = plain(alloc, 5)?;
     let packed = packed(alloc, &[input.as_slice()])?;
-    assert_eq!(rt; packed.outcomes.len(), 1);
+    same(&rt, packed.outcomes.len(), 1);
     let file = packed.file?;
     let bytes = file.as_slice();
-    assert_eq!(rt; bytes.len(), 544);
+    same(&rt, bytes.len(), 544);
     let five = unit(5);
     for (from, to, want) in [
         (64, 73, ABBREVIATIONS.as_slice()),
@@ -37,7 +38,7 @@ fn one_unit_makes_544_bytes(rt: HostRuntime) -> Result<(), Fail> {
         (40, 48, [224, 0, 0, 0, 0, 0, 0, 0].as_slice()),
         (60, 62, [5, 0].as_slice()),
     ] {
-        assert_eq!(rt; part(bytes, from, to), want, "from {from} to {to}");
+        same_at(&rt, part(bytes, from, to), want, (from, to));
     }
     finds_five(&rt, bytes)?;
     Ok(())
@@ -46,12 +47,12 @@ fn one_unit_makes_544_bytes(rt: HostRuntime) -> Result<(), Fail> {
 /// Asserts what the package says of its unit 5, which has abbreviations and no strings.
 fn finds_five(rt: &impl Abort, file: &[u8]) -> Result<(), Fail> {
     let five = unit(5);
-    assert_eq!(rt; slots_read(file, cu(5))?, 1);
-    assert_eq!(rt; unit_bytes(file, cu(5))?, five.as_slice());
+    same(rt, slots_read(file, cu(5))?, 1);
+    same(rt, unit_bytes(file, cu(5))?, five.as_slice());
     let abbreviations = unit_content(file, cu(5), SectionKind::Abbrev)?;
-    assert_eq!(rt; abbreviations, ABBREVIATIONS.as_slice());
-    assert_eq!(rt; unit_row(file, cu(5))?, 1);
-    assert_eq!(rt; unit_string(file, cu(5), 0)?, None);
+    same(rt, abbreviations, ABBREVIATIONS.as_slice());
+    same(rt, unit_row(file, cu(5))?, 1);
+    same(rt, unit_string(file, cu(5), 0)?, None);
     Ok(())
 }
 
@@ -62,7 +63,7 @@ fn two_strings_make_728_bytes(rt: HostRuntime) -> Result<(), Fail> {
     let packed = packed(alloc, &[input.as_slice()])?;
     let file = packed.file?;
     let bytes = file.as_slice();
-    assert_eq!(rt; bytes.len(), 728);
+    same(&rt, bytes.len(), 728);
     let five = unit(5);
     for (from, to, want) in [
         (64, 73, ABBREVIATIONS.as_slice()),
@@ -70,14 +71,14 @@ fn two_strings_make_728_bytes(rt: HostRuntime) -> Result<(), Fail> {
         (81, 101, five.as_slice()),
         (101, 105, b"b\0a\0".as_slice()),
     ] {
-        assert_eq!(rt; part(bytes, from, to), want, "from {from} to {to}");
+        same_at(&rt, part(bytes, from, to), want, (from, to));
     }
     for (number, want) in [
         (0, Some(b"b".as_slice())),
         (1, Some(b"a".as_slice())),
         (2, None),
     ] {
-        assert_eq!(rt; unit_string(bytes, cu(5), number)?, want, "string {number}");
+        same_at(&rt, unit_string(bytes, cu(5), number)?, want, number);
     }
     Ok(())
 }
@@ -95,7 +96,7 @@ fn other_sections_are_left_out(rt: HostRuntime) -> Result<(), Fail> {
     )?;
     let with_code = renamed(alloc, with_code.as_slice(), b".debug_line.dwo", b".text\0")?;
     let file = packed(alloc, &[with_code.as_slice()])?.file?;
-    assert_eq!(rt; file.len(), 544);
+    same(&rt, file.len(), 544);
     let five = plain(alloc, 5)?;
     let without = packed(alloc, &[five.as_slice()])?.file?;
     assert!(rt; file.as_slice() == without.as_slice());
@@ -151,7 +152,7 @@ fn without_units_there_is_no_content(rt: HostRuntime) -> Result<(), Fail> {
     let alloc = rt.alloc();
     let wide = object(alloc, &[(SectionKind::Abbrev, ABBREVIATIONS.as_slice())])?;
     let file = packed(alloc, &[wide.as_slice()])?.file?;
-    assert_eq!(rt; file.len(), 208);
+    same(&rt, file.len(), 208);
     let narrow = made(
         alloc,
         Class::Elf32,
@@ -160,7 +161,7 @@ fn without_units_there_is_no_content(rt: HostRuntime) -> Result<(), Fail> {
         &[(SectionKind::Abbrev, ABBREVIATIONS.as_slice())],
     )?;
     let file = packed(alloc, &[narrow.as_slice()])?.file?;
-    assert_eq!(rt; file.len(), 144);
+    same(&rt, file.len(), 144);
     let none = packed(alloc, &[])?;
     assert!(rt; matches!(none.file, Err(Error::NoOutputObjectCreated)));
     Ok(())
@@ -184,16 +185,16 @@ fn big_endian_of_32_bits_makes_408_bytes(rt: HostRuntime) -> Result<(), Fail> {
     )?;
     let file = packed(alloc, &[input.as_slice()])?.file?;
     let bytes = file.as_slice();
-    assert_eq!(rt; bytes.len(), 408);
+    same(&rt, bytes.len(), 408);
     for (from, to, want) in [
         (52, 61, ABBREVIATIONS.as_slice()),
         (61, 81, info.as_slice()),
         // The section headers stand at 208.
         (32, 36, [0, 0, 0, 208].as_slice()),
     ] {
-        assert_eq!(rt; part(bytes, from, to), want, "from {from} to {to}");
+        same_at(&rt, part(bytes, from, to), want, (from, to));
     }
-    assert_eq!(rt; unit_bytes(bytes, cu(5))?, info.as_slice());
+    same(&rt, unit_bytes(bytes, cu(5))?, info.as_slice());
     Ok(())
 }
 

@@ -1,5 +1,6 @@
 //! Abbreviations that are remembered.
 
+use crate::asserting::{same, same_at};
 use dwp_dwarf::*;
 use std::test::Fail;
 
@@ -14,7 +15,15 @@ const TABLES: [u8; 30] = [
 fn tag_of<R: Reader>(
     found: Result<Option<Abbreviation<R>>, ReadError>,
 ) -> Result<Option<u64>, ReadError> {
-    Ok(found?.map(|abbreviation| abbreviation.tag()))
+    match found? {
+        Some(abbreviation) => Ok(Some(abbreviation.tag())),
+        None => Ok(None),
+    }
+}
+
+/// The tag of a code in the table at a place, as it is read.
+fn tag_read(section: SliceReader<'_>, offset: u64, code: u64) -> Result<Option<u64>, ReadError> {
+    tag_of(Abbreviations::new(section, offset)?.get(code))
 }
 
 /// The tags of a code in the table at a place: as it is remembered, and as it is read.
@@ -24,8 +33,10 @@ fn tags_of<'a>(
     offset: u64,
     code: u64,
 ) -> [Result<Option<u64>, ReadError>; 2] {
-    let read = Abbreviations::new(section, offset).and_then(|table| table.get(code));
-    [tag_of(cache.get(offset, code)), tag_of(read)]
+    [
+        tag_of(cache.get(offset, code)),
+        tag_read(section, offset, code),
+    ]
 }
 
 #[test]
@@ -49,10 +60,10 @@ fn a_remembered_table_answers_as_one_that_is_read(rt: HostRuntime) -> Result<(),
         (0, 5, Ok(Some(0x11))),
     ] {
         let tags = tags_of(&mut cache, section, offset, code);
-        assert_eq!(rt; tags, [expected, expected], "{code} at {offset}");
+        same_at(&rt, tags, [expected, expected], (code, offset));
     }
     let found = cache.get(0, 1)?.ok_or("not there")?;
     assert!(rt; found.has_children());
-    assert_eq!(rt; cache.section().offset_from(&section), 0);
+    same(&rt, cache.section().offset_from(&section), 0);
     Ok(())
 }

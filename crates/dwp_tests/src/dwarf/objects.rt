@@ -1,5 +1,7 @@
 //! Objects of compilers, and what their root entries say.
 
+use super::{first_unit, table_at};
+use crate::asserting::same;
 use Endianness::Little;
 use dwp_dwarf::*;
 use std::test::Fail;
@@ -216,40 +218,65 @@ static OBJECTS: [Object; 6] = [
     },
 ];
 
-fn sections(object: &'static Object) -> StringSections<SliceReader<'static>> {
-    StringSections {
-        debug_str: SliceReader::new(object.strings, Little),
+/// How many bytes the first unit of a section has, its encoding and its type.
+fn header_of(
+    info: &'static [u8],
+    section: UnitSection,
+) -> Result<(usize, Encoding, UnitType), Fail> {
+    let header = first_unit(SliceReader::new(info, Little), section)?;
+    Ok((header.bytes().len(), header.encoding(), header.unit_type()))
+}
+
+/// Its root entry.
+fn entry_of(
+    info: &'static [u8],
+    section: UnitSection,
+    abbrev: &'static [u8],
+) -> Result<RootEntry<SliceReader<'static>>, Fail> {
+    let header = first_unit(SliceReader::new(info, Little), section)?;
+    let abbreviations = table_at(SliceReader::new(abbrev, Little), header.abbrev_offset())?;
+    Ok(root(&header, &abbreviations)?.ok_or("a root")?)
+}
+
+/// The string of an attribute, where it has one.
+fn text_of(
+    strings: &'static [u8],
+    str_offsets: &'static [u8],
+    format: Format,
+    base: u64,
+    attribute: &Attribute<SliceReader<'static>>,
+) -> Option<&'static [u8]> {
+    let sections = StringSections {
+        debug_str: SliceReader::new(strings, Little),
         debug_line_str: SliceReader::new(b"", Little),
-        debug_str_offsets: SliceReader::new(object.str_offsets, Little),
+        debug_str_offsets: SliceReader::new(str_offsets, Little),
+    };
+    match attr_string(&sections, format, base, attribute) {
+        Ok(text) => Some(text.slice()),
+        Err(_) => None,
     }
 }
 
 #[test]
 fn objects_of_compilers(rt: HostRuntime) -> Result<(), Fail> {
     for object in &OBJECTS {
-        let info = SliceReader::new(object.info, Little);
-        let header = UnitHeaders::new(info, object.section)
-            .next()
-            .ok_or("a unit")??;
-        assert_eq!(rt; header.bytes().len(), object.info.len());
-        assert_eq!(rt; header.encoding(), object.encoding);
-        assert_eq!(rt; header.unit_type(), object.unit_type);
-        let abbrev = SliceReader::new(object.abbrev, Little);
-        let abbreviations = Abbreviations::new(abbrev, header.abbrev_offset())?;
-        let entry = root(&header, &abbreviations)?.ok_or("a root")?;
-        assert_eq!(rt; entry.tag, object.tag);
+        let header = (object.info.len(), object.encoding, object.unit_type);
+        same(&rt, header_of(object.info, object.section)?, header);
+        let entry = entry_of(object.info, object.section, object.abbrev)?;
+        same(&rt, entry.tag, object.tag);
         let mut expected = object.attributes.iter();
         for attribute in entry.attributes {
             let attribute = attribute?;
             let (name, form, text) = expected.next().ok_or("no more attributes")?;
-            assert_eq!(rt; (attribute.name, attribute.form), (*name, *form));
-            let found = attr_string(
-                &sections(object),
+            same(&rt, (attribute.name, attribute.form), (*name, *form));
+            let found = text_of(
+                object.strings,
+                object.str_offsets,
                 object.encoding.format,
                 object.base,
                 &attribute,
             );
-            assert_eq!(rt; found.ok().map(|found| found.slice()), *text);
+            same(&rt, found, *text);
         }
         assert!(rt; expected.next().is_none());
     }

@@ -1,6 +1,7 @@
 //! Each fault of an executable.
 
 use super::files::*;
+use crate::asserting::same;
 use dwp_dwarf::ReadError;
 use dwp_elf_read::ReadError as ElfError;
 use std::alloc::Global;
@@ -104,96 +105,127 @@ fn relocations_that_cannot_be_applied(rt: HostRuntime) -> Result<(), Fail> {
     Ok(())
 }
 
-#[test]
-fn units_without_a_header_or_an_identity(rt: HostRuntime) -> Result<(), Fail> {
-    let alloc = rt.alloc();
-    let found = fault(alloc, &ABBREVIATIONS, &[0x10, 0, 0, 0, 4, 0])?;
-    assert!(rt; matches!(found, Error::ParseUnitHeader(ReadError::UnexpectedEof)));
-    let found = fault(
-        alloc,
+/// The text of that fault.
+fn text_of_fault(alloc: Global, abbreviations: &[u8], units: &[u8]) -> Result<String, Fail> {
+    let fault = fault(alloc, abbreviations, units)?;
+    Ok(format!(in alloc; "{fault:?}")?)
+}
+
+/// Abbreviations, units, and the fault.
+const OF_UNITS: [(&[u8], &[u8], &str); 5] = [
+    (
+        &ABBREVIATIONS,
+        &[0x10, 0, 0, 0, 4, 0],
+        "ParseUnitHeader(UnexpectedEof)",
+    ),
+    (
         &ABBREVIATIONS,
         &[8, 0, 0, 0, 4, 0, 99, 0, 0, 0, 8, 1],
-    )?;
-    assert!(rt;
-        matches!(
-            found,
-            Error::ParseUnitAbbreviations(ReadError::OffsetOutOfRange)
-        )
-    );
-    let found = fault(alloc, &ABBREVIATIONS, &[7, 0, 0, 0, 4, 0, 0, 0, 0, 0, 8])?;
-    assert!(rt; matches!(found, Error::NoDie));
-    let found = fault(
-        alloc,
+        "ParseUnitAbbreviations(OffsetOutOfRange)",
+    ),
+    (&ABBREVIATIONS, &[7, 0, 0, 0, 4, 0, 0, 0, 0, 0, 8], "NoDie"),
+    (
         &[1, 0x3c, 0, 0, 0, 0],
         &[8, 0, 0, 0, 4, 0, 0, 0, 0, 0, 8, 1],
-    )?;
-    assert!(rt; matches!(found, Error::TopLevelDieNotUnit));
-    let found = fault(alloc, &ABBREVIATIONS, &[8, 0, 0, 0, 4, 0, 0, 0, 0, 0, 8, 2])?;
-    assert!(rt; matches!(found, Error::GimliRead(ReadError::UnknownCode)));
+        "TopLevelDieNotUnit",
+    ),
+    (
+        &ABBREVIATIONS,
+        &[8, 0, 0, 0, 4, 0, 0, 0, 0, 0, 8, 2],
+        "GimliRead(UnknownCode)",
+    ),
+];
+
+#[test]
+fn units_without_a_header_or_an_identity(rt: HostRuntime) -> Result<(), Fail> {
+    for (abbreviations, units, want) in OF_UNITS {
+        let found = text_of_fault(rt.alloc(), abbreviations, units)?;
+        same(&rt, found.as_str(), want);
+    }
     Ok(())
 }
 
 /// A skeleton unit of version 5, unit 7, with this abbreviation offset and these bytes behind its
-/// header.
+/// header, of which there are fewer than 200.
 fn skeleton(alloc: Global, offset: u8, entries: &[u8]) -> Result<Vec<u8>, Fail> {
-    let mut unit = [0, 0, 0, 0, 5, 0, 4, 8, offset, 0, 0, 0].to_vec(alloc)?;
+    let length = u8::try_from(entries.len()).unwrap_or(0).saturating_add(16);
+    let mut unit = Vec::new(alloc);
+    unit.extend_from_slice(&[length, 0, 0, 0, 5, 0, 4, 8, offset, 0, 0, 0])?;
     unit.extend_from_slice(&[7, 0, 0, 0, 0, 0, 0, 0])?;
     unit.extend_from_slice(entries)?;
-    let [length, ..] = (unit.len() - 4).to_le_bytes();
-    unit[0] = length;
     Ok(unit)
 }
 
+/// The text of the fault of a skeleton unit.
+fn text_of_skeleton(
+    alloc: Global,
+    abbreviations: &[u8],
+    offset: u8,
+    entries: &[u8],
+) -> Result<String, Fail> {
+    let unit = skeleton(alloc, offset, entries)?;
+    text_of_fault(alloc, abbreviations, &unit)
+}
+
+/// An abbreviation with dwo_name and a block.
+const NAME_AND_BLOCK: [u8; 10] = [1, 0x4a, 0, 0x76, 8, 3, 0x0a, 0, 0, 0];
+
+/// Abbreviations, where a skeleton's begin, the skeleton's entries, and the fault.
+const OF_ROOTS: [(&[u8], u8, &[u8], &str); 6] = [
+    // No entry: that comes before the offset, which is past the end.
+    (&NAME_AND_BLOCK, 99, &[], "NoDie"),
+    (&NAME_AND_BLOCK, 99, &[1], "ParseUnit(OffsetOutOfRange)"),
+    (&NAME_AND_BLOCK, 99, &[0x81], "ParseUnit(UnexpectedEof)"),
+    (&NAME_AND_BLOCK, 0, &[2], "ParseUnit(UnknownCode)"),
+    (&[1, 0], 0, &[1], "ParseUnit(ZeroTag)"),
+    // The block behind the name is too long for the unit.
+    (
+        &NAME_AND_BLOCK,
+        0,
+        &[1, 0x61, 0, 9],
+        "ParseUnit(UnexpectedEof)",
+    ),
+];
+
 #[test]
 fn root_entries_that_cannot_be_read(rt: HostRuntime) -> Result<(), Fail> {
-    let alloc = rt.alloc();
-    // dwo_name and a block.
-    let abbreviations = [1, 0x4a, 0, 0x76, 8, 3, 0x0a, 0, 0, 0];
-    // No entry: that comes before the offset, which is past the end.
-    let found = fault(alloc, &abbreviations, &skeleton(alloc, 99, &[])?)?;
-    assert!(rt; matches!(found, Error::NoDie));
-    let found = fault(alloc, &abbreviations, &skeleton(alloc, 99, &[1])?)?;
-    assert!(rt; matches!(found, Error::ParseUnit(ReadError::OffsetOutOfRange)));
-    let found = fault(alloc, &abbreviations, &skeleton(alloc, 99, &[0x81])?)?;
-    assert!(rt; matches!(found, Error::ParseUnit(ReadError::UnexpectedEof)));
-    let found = fault(alloc, &abbreviations, &skeleton(alloc, 0, &[2])?)?;
-    assert!(rt; matches!(found, Error::ParseUnit(ReadError::UnknownCode)));
-    let found = fault(alloc, &[1, 0], &skeleton(alloc, 0, &[1])?)?;
-    assert!(rt; matches!(found, Error::ParseUnit(ReadError::ZeroTag)));
-    // The block behind the name is too long for the unit.
-    let found = fault(
-        alloc,
-        &abbreviations,
-        &skeleton(alloc, 0, &[1, 0x61, 0, 9])?,
-    )?;
-    assert!(rt; matches!(found, Error::ParseUnit(ReadError::UnexpectedEof)));
+    for (abbreviations, offset, entries, want) in OF_ROOTS {
+        let found = text_of_skeleton(rt.alloc(), abbreviations, offset, entries)?;
+        same(&rt, found.as_str(), want);
+    }
     Ok(())
 }
+
+/// Abbreviations, a skeleton's entries, and the fault: no name, a number, and an offset into a
+/// section that isn't there.
+const OF_NAMES: [(&[u8], &[u8], &str); 3] = [
+    (&[1, 0x4a, 0, 0, 0, 0], &[1], "MissingDwoName(7)"),
+    (
+        &[1, 0x4a, 0, 0x76, 0x0b, 0, 0],
+        &[1, 5],
+        "GimliRead(NotAString)",
+    ),
+    (
+        &[1, 0x4a, 0, 0x76, 0x0e, 0, 0],
+        &[1, 5, 0, 0, 0],
+        "GimliRead(OffsetOutOfRange)",
+    ),
+];
 
 #[test]
 fn names_that_are_missing_or_cannot_be_read(rt: HostRuntime) -> Result<(), Fail> {
     let alloc = rt.alloc();
-    let found = fault(alloc, &[1, 0x4a, 0, 0, 0, 0], &skeleton(alloc, 0, &[1])?)?;
-    assert!(rt; matches!(found, Error::MissingDwoName(7)));
-    // A number, and an offset into a section that isn't there.
-    let found = fault(
-        alloc,
-        &[1, 0x4a, 0, 0x76, 0x0b, 0, 0],
-        &skeleton(alloc, 0, &[1, 5])?,
-    )?;
-    assert!(rt; matches!(found, Error::GimliRead(ReadError::NotAString)));
-    let entry = [1, 5, 0, 0, 0];
-    let found = fault(
-        alloc,
-        &[1, 0x4a, 0, 0x76, 0x0e, 0, 0],
-        &skeleton(alloc, 0, &entry)?,
-    )?;
-    assert!(rt; matches!(found, Error::GimliRead(ReadError::OffsetOutOfRange)));
+    for (abbreviations, entries, want) in OF_NAMES {
+        let found = text_of_skeleton(alloc, abbreviations, 0, entries)?;
+        same(&rt, found.as_str(), want);
+    }
     // Texts that are none: the name, the directory.
-    let found = fault(alloc, &ABBREVIATIONS, &unit(alloc, b"\xff\0", b"/b\0")?)?;
-    assert!(rt; matches!(found, Error::GimliRead(ReadError::BadUtf8)));
-    let found = fault(alloc, &ABBREVIATIONS, &unit(alloc, b"a\0", b"\xff\0")?)?;
-    assert!(rt; matches!(found, Error::GimliRead(ReadError::BadUtf8)));
+    let texts: [(&[u8], &[u8]); 2] = [(b"\xff\0", b"/b\0"), (b"a\0", b"\xff\0")];
+    for (name, directory) in texts {
+        let unit = unit(alloc, name, directory)?;
+        let found = text_of_fault(alloc, &ABBREVIATIONS, &unit)?;
+        same(&rt, found.as_str(), "GimliRead(BadUtf8)");
+    }
     Ok(())
 }
 
@@ -205,7 +237,7 @@ fn the_units_before_a_fault_are_listed(rt: HostRuntime) -> Result<(), Fail> {
     units[29..58].copy_from_slice(&UNIT);
     units[58] = 1;
     let list = named(alloc, &ABBREVIATIONS, &units)?;
-    assert_eq!(rt; list.units.len(), 2);
+    same(&rt, list.units.len(), 2);
     assert!(rt; matches!(list.fault, Some(Error::ParseUnitHeader(_))));
     Ok(())
 }

@@ -7,8 +7,8 @@ use dwp_table::{DebugTypeSignature, DwarfObject, DwoId};
 use std::alloc::Global;
 use std::path::{AsPath, Path};
 use std::test::Fail;
-use thorin_executable::{Skeleton, SkeletonList, skeletons};
-use thorin_faults::{ArenaSession, Error, Session};
+use thorin_executable::{Skeleton, SkeletonList, SkeletonUnits, skeletons};
+use thorin_faults::{ArenaSession, Error, MemorySession, Session};
 
 fn is(skeleton: &Skeleton, target: DwarfObject, path: &str) -> bool {
     skeleton.target == target && skeleton.path.as_str() == path
@@ -175,6 +175,34 @@ fn units_without_identity_are_passed_over(rt: HostRuntime) -> Result<(), Fail> {
     Ok(())
 }
 
+#[test]
+fn units_come_one_after_another(rt: HostRuntime) -> Result<(), Fail> {
+    let alloc = rt.alloc();
+    let mut units = unit(alloc, b"/x/a.dwo\0", b"/b\0")?;
+    units.extend_from_slice(&unit(alloc, b"c.dwo\0", b"/b\0")?)?;
+    // The length of a unit that isn't there.
+    units.extend_from_slice(&[9, 0, 0, 0])?;
+    let bytes = executable(alloc, &ABBREVIATIONS, &units)?;
+    let bump = Bump::new(alloc);
+    let files = std::collections::BTreeMap::new(alloc);
+    let session = MemorySession::new(&bump, &files);
+    let mut left = SkeletonUnits::read(alloc, &session, &bytes)?;
+    let five = DwarfObject::Compilation(DwoId(5));
+    assert!(rt;
+        left.next()?
+            .is_some_and(|first| is(&first, five, "/x/a.dwo"))
+    );
+    assert!(rt;
+        left.next()?
+            .is_some_and(|second| is(&second, five, "/b/c.dwo"))
+    );
+    assert!(rt; matches!(left.next(), Err(Error::ParseUnitHeader(_))));
+    assert!(rt; matches!(left.next(), Ok(None)));
+    let refused = SkeletonUnits::read(alloc, &session, b"no ELF file");
+    assert!(rt; matches!(refused, Err(Error::ParseObjectFile(_))));
+    Ok(())
+}
+
 /// Reads a file from a session and asks what it names, as a builder does.
 fn named_at<Sess: Session<RelocationEntry>>(
     alloc: Global,
@@ -208,7 +236,7 @@ fn a_refused_allocation_is_want_of_memory(rt: HostRuntime) -> Result<(), Fail> {
     let bytes = executable(alloc, &ABBREVIATIONS, &units)?;
     let bump = Bump::new(alloc);
     let files = std::collections::BTreeMap::new(alloc);
-    let session = thorin_faults::MemorySession::new(&bump, &files);
+    let session = MemorySession::new(&bump, &files);
     let first = skeletons(alloc, &session, &bytes);
     assert!(rt; matches!(first.fault, None | Some(Error::Memory)));
     assert!(rt; first.fault.is_some() || first.units.len() == 2);

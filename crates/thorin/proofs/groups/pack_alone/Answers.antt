@@ -1,9 +1,9 @@
 use Rattle.std.proofs.Common.{◌≡◌, ◌∙◌, ℕ, ◌+◌, List, [], ◌∷◌, ◌++◌, take, drop, get_or, Ok, Bor, inl, subst, sym, ap, refl}
 use Rattle.std.proofs.lemmas.List.{take_all}
 use Rattle.std.proofs.lemmas.Result.{err_from_is_err_and}
-use Rattle.thorin_builder.specs.Builder.{start, taken}
-use Rattle.thorin_builder.specs.Join.{JoinAll, Joins}
-use Rattle.thorin_builder.specs.Represents.{units_in}
+use Rattle.thorin_join.specs.Builder.{start, taken}
+use Rattle.thorin_join.specs.Join.{JoinAll, Joins}
+use Rattle.thorin_join.specs.Represents.{units_in}
 use Rattle.thorin.specs.Groups.{taken_each, bytes_in}
 use Rattle.thorin.proofs.Grouping.{taken-more, taken-refused, mapped-next, mapped-around, packs-alone, taken-start}
 use Rattle.thorin.proofs.Running.{join-append}

@@ -1,7 +1,7 @@
 use Rattle.std.proofs.Common.{◌≡◌, [], take, Ok}
-use Rattle.thorin_builder.specs.Builder.{start}
-use Rattle.thorin_builder.specs.Join.{JoinAll}
-use Rattle.thorin_builder.specs.Represents.{units_in}
+use Rattle.thorin_join.specs.Builder.{start}
+use Rattle.thorin_join.specs.Join.{JoinAll}
+use Rattle.thorin_join.specs.Represents.{units_in}
 use Rattle.thorin.specs.Groups.{taken_each, bytes_in}
 use Rattle.thorin.proofs.groups.pack_alone.Given as goal
 

@@ -1,5 +1,5 @@
 use Rattle.std.proofs.Common.{◌≡◌, ◌∙◌, subst, rules, ◌++◌, ◌∷◌, [], take, get_or}
-use Rattle.thorin_builder.specs.Builder.{start}
+use Rattle.thorin_join.specs.Builder.{start}
 use Rattle.thorin.specs.declared.packing.Input.{Input}
 use Rattle.thorin.specs.declared.packing.Input.TheVariants.{Object}
 use Rattle.std.proofs.lemmas.List.{take_all}

@@ -1,5 +1,5 @@
 use Rattle.std.proofs.Common.{◌≡◌, ℕ, List, take}
-use Rattle.thorin_builder.specs.Builder.{start}
+use Rattle.thorin_join.specs.Builder.{start}
 use Rattle.thorin.specs.Run.{Ran}
 use Rattle.thorin.proofs.packing.pack.Given as goal
 

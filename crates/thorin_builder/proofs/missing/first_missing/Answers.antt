@@ -1,8 +1,8 @@
 use Rattle.std.proofs.Common.{◌≡◌, ◌∙◌, Some, None, true, false, not, ap, sym, rules}
 use Rattle.std.specs.Prelude.{slice_get}
 use Rattle.std.specs.List.{list_any}
-use Rattle.thorin_builder.specs.Builder.{is_missing}
-use Rattle.thorin_builder.specs.Names.{same_name}
+use Rattle.thorin_join.specs.Builder.{is_missing}
+use Rattle.thorin_input.specs.Names.{same_name}
 use Rattle.thorin_builder.proofs.Names.{among-is}
 use Rattle.thorin_builder.proofs.MissingLemmas.{first-passes, first-fails, none-left}
 use Rattle.thorin_builder.proofs.missing.first_missing.Goals.{in-Some+else-not-contains, in_default}

@@ -1,6 +1,6 @@
 use Rattle.std.proofs.Common.{◌≡◌, ◌∙◌, ◌∷◌, ap, sym, rules, true, false, not, Some}
 use Rattle.std.specs.Prelude.{find}
-use Rattle.thorin_builder.specs.Builder.{is_missing, targets_test}
+use Rattle.thorin_join.specs.Builder.{is_missing, targets_test}
 use Rattle.thorin_builder.proofs.Names.{among-is, find-first, find-next}
 use Rattle.thorin_builder.proofs.package.test_targets.Goals as goal
 

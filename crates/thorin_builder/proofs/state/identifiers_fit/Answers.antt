@@ -2,7 +2,7 @@ use Rattle.std.proofs.Common.{◌∙◌, ℕ, add-one, ◌+◌, ◌++◌, ◌∷
 use Rattle.std.proofs.Math.Seq.{take-suc}
 use Rattle.dwp_table.specs.Objects.{identifier_of}
 use Rattle.thorin_parts.specs.declared.entry.IndexEntry.{IndexEntry}
-use Rattle.thorin_builder.specs.Builder.{IdentifiersFit}
+use Rattle.thorin_join.specs.Builder.{IdentifiersFit}
 use Rattle.thorin_builder.proofs.state.identifiers_fit.Goals as goal
 
 fits-more : (rows : List IndexEntry) (row : IndexEntry) → IdentifiersFit rows → identifier_of row.id < 2 ^ 64 → IdentifiersFit (rows ++ row ∷ [])

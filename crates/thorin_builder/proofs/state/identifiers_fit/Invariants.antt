@@ -1,5 +1,5 @@
 use Rattle.std.proofs.Common.{take}
-use Rattle.thorin_builder.specs.Builder.{IdentifiersFit}
+use Rattle.thorin_join.specs.Builder.{IdentifiersFit}
 use Rattle.thorin_builder.proofs.state.identifiers_fit.Given as goal
 
 -- those of the rows so far

@@ -1,5 +1,5 @@
 use Rattle.std.proofs.Common.{◌≡◌, ℕ, List, Ok, map}
-use Rattle.thorin_builder.specs.Builder.{start}
+use Rattle.thorin_join.specs.Builder.{start}
 use Rattle.thorin_builder.specs.Taking.{Outcome}
 use Rattle.thorin.specs.declared.packing.Input.{Input}
 use Rattle.thorin_cli.specs.Packing.{AreAllAccepted}

@@ -1,7 +1,7 @@
 use Rattle.std.proofs.Common.{◌≡◌, map}
 use Rattle.dwp_table.specs.declared.object.DwarfObject.{DwarfObject}
-use Rattle.thorin_builder.specs.NewUnits.{NewUnit}
-use Rattle.thorin_builder.specs.State.{InProgress, Extends, with_new_units}
+use Rattle.thorin_input.specs.NewUnits.{NewUnit}
+use Rattle.thorin_join.specs.State.{InProgress, Extends, with_new_units}
 use Rattle.thorin_builder.specs.StateView.{in_progress_of}
 use Rattle.thorin_builder.specs.UnitView.{new_unit, new_of}
 use Rattle.thorin_builder.proofs.in_progress.InProgressDwarfPackage.add_units.Given as goal

@@ -2,13 +2,13 @@ use Rattle.std.proofs.Common.{◌≡◌, ◌∙◌, ℕ, ap, sym, map, rules, Li
 use Rattle.std.proofs.Math.Seq.{take-length}
 use Rattle.std.proofs.lemmas.List.{map-append}
 use Rattle.dwp_table.specs.declared.object.DebugTypeSignature.{DebugTypeSignature}
-use Rattle.thorin_builder.specs.Growing.{Contents, with_parts}
-use Rattle.thorin_builder.specs.View as view
+use Rattle.thorin_input.specs.Growing.{Contents, with_parts}
+use Rattle.thorin_input.specs.View as view
 use Rattle.thorin_builder.specs.UnitView.{new_of}
-use Rattle.thorin_builder.specs.NewUnits.{new_units}
-use Rattle.thorin_builder.specs.State.{adding}
+use Rattle.thorin_input.specs.NewUnits.{new_units}
+use Rattle.thorin_join.specs.State.{adding}
 use Rattle.thorin_builder.specs.StateView.{in_progress_of}
-use Rattle.thorin_builder.proofs.Growth.{is_grown-refl}
+use Rattle.thorin_builder.proofs.Grown.{is_grown-refl}
 use Rattle.thorin_builder.proofs.Extending.{extends-with, front-append, with_source-is, with_all-is}
 use Rattle.thorin_builder.proofs.in_progress.InProgressDwarfPackage.try_add.Goals as goal
 

@@ -1,36 +1,28 @@
-use Rattle.std.proofs.Common.{◌≡◌, ◌∙◌, ℕ, List, ◌++◌, ◌+◌, map, take, refl, rules, subst, true, false, ap, length}
-use Rattle.std.specs.Result.{is_err}
-use Rattle.std.proofs.lemmas.List.{take_all}
-use Rattle.thorin_executable.specs.View.{named}
-use Rattle.thorin_builder.specs.Taking.{AllTaken, TakesSkeleton}
-use Rattle.thorin_builder.proofs.Running.{each-refused, each-next}
+use Rattle.std.proofs.Common.{◌∙◌, Ok, subst}
+use Rattle.std.proofs.lemmas.Result.{err_from_is_err_and}
+use Rattle.thorin_executable.specs.View.{IsNext}
+use Rattle.thorin_builder.proofs.Running.{next-taken, next-refused, list-ended, list-fault}
 use Rattle.thorin_builder.proofs.package.DwarfPackage.add_each.Goals as goal
 
-pub returns-then-is_err-clause-taken : goal.returns-then-is_err-clause-taken
-returns-then-is_err-clause-taken g c =
-    let offer = g.R.InputReader.offer c.args.reader.now in
-    let took : (accepted : List (List ℕ)) × TakesSkeleton offer c.args.missing (named c.skeleton-item.result) c.loop-skeleton.self.state c.add_skeleton-outcome.result c.add_skeleton-outcome.new.self.state accepted =
-    c.add_skeleton-outcome.ensures.taken in
-    each-refused offer c.args.missing c.args.units.now c.loop-skeleton.skeleton-index c.skeleton-item.result c.args.self.now.state c.loop-skeleton.self.state c.add_skeleton-outcome.new.self.state c.add_skeleton-outcome.result
-    c.loop-skeleton.invariant.0.0 took.0 c.loop-skeleton.invariant.0.1 c.loop-skeleton-test.true c.skeleton-item.is took.1 (search (rules, c.is_err.ensures, c.if-is_err))
+pub returns-in_err-skeleton-clause-taken : goal.returns-in_err-skeleton-clause-taken
+returns-in_err-skeleton-clause-taken g c =
+    let p = err_from_is_err_and c.from_residual.result c.from_residual.ensures.1 in
+    rw (p.1, p.2) (list-fault _ _ _ _ _ _ _ c.loop-skeleton.invariant.0 c.in_err-skeleton.ensures.next)
+
+pub returns-in_err-add_skeleton-clause-taken : goal.returns-in_err-add_skeleton-clause-taken
+returns-in_err-add_skeleton-clause-taken g c =
+    let first = subst (λ found. IsNext c.loop-skeleton.units (Ok found) c.next.new.self) c.in-Some.is c.in_ok-skeleton.ensures.next in
+    let p = err_from_is_err_and c.from_residual-in_err-add_skeleton.result c.from_residual-in_err-add_skeleton.ensures.1 in
+    rw (p.1, p.2) (next-refused _ _ _ _ _ _ _ _ _ _ _ c.loop-skeleton.invariant.0 first c.in_err-add_skeleton.ensures.taken.1)
 
 pub loop-skeleton-preserved : goal.loop-skeleton-preserved
 loop-skeleton-preserved g c =
-    let offer = g.R.InputReader.offer c.args.reader.now in
-    let took : (accepted : List (List ℕ)) × TakesSkeleton offer c.args.missing (named c.skeleton-item.result) c.loop-skeleton.self.state c.add_skeleton-outcome.result c.add_skeleton-outcome.new.self.state accepted =
-    c.add_skeleton-outcome.ensures.taken in (
-      (
-        c.loop-skeleton.invariant.0.0 ++ took.0,
-        each-next offer c.args.missing c.args.units.now c.loop-skeleton.skeleton-index c.skeleton-item.result c.args.self.now.state c.loop-skeleton.self.state c.add_skeleton-outcome.new.self.state c.add_skeleton-outcome.result
-            c.loop-skeleton.invariant.0.0 took.0 c.loop-skeleton.invariant.0.1 c.loop-skeleton-test.true c.skeleton-item.is took.1 (search (rules, c.is_err.ensures, c.if-is_err)),
-      ),
-      c.add_skeleton-outcome.ensures.session ∙ c.loop-skeleton.invariant.1,
+    let first = subst (λ found. IsNext c.loop-skeleton.units (Ok found) c.next.new.self) c.in-Some.is c.in_ok-skeleton.ensures.next in (
+      next-taken _ _ _ _ _ _ _ _ _ _ c.loop-skeleton.invariant.0 first c.in_ok-add_skeleton.ensures.taken.1,
+      c.add_skeleton.ensures.session ∙ c.loop-skeleton.invariant.1,
     )
 
 pub returns-clause-taken : goal.returns-clause-taken
 returns-clause-taken g c =
-    let offer = g.R.InputReader.offer c.args.reader.now in (
-      c.loop-skeleton.invariant.0.0,
-      subst (λ l. AllTaken offer c.args.missing (map named l) c.args.self.now.state c.loop-skeleton.self.state c.loop-skeleton.invariant.0.0)
-          (take_all c.loop-skeleton.skeleton-index c.args.units.now c.loop-skeleton-test.false) c.loop-skeleton.invariant.0.1,
-    )
+    let end = subst (λ found. IsNext c.loop-skeleton.units (Ok found) c.next.new.self) c.in_default.is c.in_ok-skeleton.ensures.next in
+    list-ended _ _ _ _ _ _ c.loop-skeleton.invariant.0 end.0

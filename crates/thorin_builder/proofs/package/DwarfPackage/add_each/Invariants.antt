@@ -1,10 +1,12 @@
-use Rattle.std.proofs.Common.{◌≡◌, ℕ, List, map, take}
-use Rattle.thorin_executable.specs.View.{named}
-use Rattle.thorin_builder.specs.Taking.{AllTaken}
+use Rattle.std.proofs.Common.{◌≡◌, length}
+use Rattle.thorin_builder.proofs.Running.{TakenUpTo}
 use Rattle.thorin_builder.proofs.package.DwarfPackage.add_each.Given as goal
 
 -- the units so far were taken
 abbrev pub invariant-loop-skeleton : goal.invariant-loop-skeleton
 invariant-loop-skeleton g l =
-    ((accepted : List (List ℕ)) × AllTaken (g.R.InputReader.offer l.reader) l.missing (map named (take l.skeleton-index l.units)) l.fn.self.state l.self.state accepted)
+    TakenUpTo (g.R.InputReader.offer l.reader) l.missing l.fn.units l.units l.fn.self.state l.self.state
     × (l.self.session ≡ l.fn.self.session)
+
+abbrev pub decreases-loop-skeleton : goal.decreases-loop-skeleton
+decreases-loop-skeleton g l = length l.units.0

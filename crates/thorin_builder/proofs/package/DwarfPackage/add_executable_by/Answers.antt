@@ -6,8 +6,8 @@ pub returns-in-Ok-clause-taken : goal.returns-in-Ok-clause-taken
 returns-in-Ok-clause-taken g c = record {
   read = Ok c.in-Ok.bytes.now;
   within = c.in-Ok.ensures.offered;
-  accepted = (c.add_listed.ensures.taken c.in-Ok.bytes.now c.skeletons-list.ensures.front c.skeletons-list.ensures.exact).0;
-  taken = (c.add_listed.ensures.taken c.in-Ok.bytes.now c.skeletons-list.ensures.front c.skeletons-list.ensures.exact).1;
+  accepted = c.add_named.ensures.taken.0;
+  taken = c.add_named.ensures.taken.1;
 }
 
 pub returns-in-Err-Io-clause-taken : goal.returns-in-Err-Io-clause-taken
@@ -18,5 +18,5 @@ returns-in-Err-Io-clause-taken g c = record {
   taken = (search (rules, c.in-Err-Io.cause-is, c.in-Err-Io.field-0-is), refl, refl);
 }
 
-pub returns-in-Err-Memory-clause-taken : goal.returns-in-Err-Memory-clause-taken
-returns-in-Err-Memory-clause-taken g c = record { read = Err Memory; within = tt; accepted = []; taken = (refl, refl, refl) }
+pub returns-clause-taken : goal.returns-clause-taken
+returns-clause-taken g c = record { read = Err Memory; within = tt; accepted = []; taken = (refl, refl, refl) }

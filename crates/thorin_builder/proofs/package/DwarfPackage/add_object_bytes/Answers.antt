@@ -1,14 +1,14 @@
 use Rattle.std.proofs.Common.{◌≡◌, ◌∙◌, List, [], Bool, true, false, not, ap, sym, subst, refl, rules, Ok, Option, Some, None}
 use Rattle.std.specs.Prelude.{is_none, is_some}
 use Rattle.thorin_builder.specs.declared.in_progress.InProgressDwarfPackage.{InProgressDwarfPackage}
-use Rattle.thorin_builder.specs.Builder.{State, with_input, own_after}
-use Rattle.thorin_builder.specs.Encodings.{own_encoding}
-use Rattle.thorin_builder.specs.OwnUnits.{HoldsOwn}
-use Rattle.thorin_builder.specs.Plain.{HoldsPlain}
-use Rattle.thorin_builder.specs.Represents.{IsSoundBegun}
-use Rattle.thorin_builder.specs.State.{InProgress}
+use Rattle.thorin_join.specs.Builder.{State, with_input, own_after}
+use Rattle.thorin_input.specs.Encodings.{own_encoding}
+use Rattle.thorin_join.specs.OwnUnits.{HoldsOwn}
+use Rattle.thorin_join.specs.Plain.{HoldsPlain}
+use Rattle.thorin_join.specs.Represents.{IsSoundBegun}
+use Rattle.thorin_join.specs.State.{InProgress}
 use Rattle.thorin_builder.specs.StateView.{begun_of}
-use Rattle.thorin_builder.proofs.OwnEncodings.{taken-as, after-none, after-first, after-more}
+use Rattle.thorin_builder.proofs.OwnKept.{taken-as, after-none, after-first, after-more}
 use Rattle.thorin_builder.proofs.package.DwarfPackage.add_object_bytes.Goals.{then-unit_count-units, else-unit_count-units+then-is_first, else-unit_count-units+else-is_first}
 use Rattle.thorin_builder.proofs.package.DwarfPackage.add_object_bytes.Goals as goal
 

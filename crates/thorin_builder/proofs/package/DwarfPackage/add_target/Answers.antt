@@ -1,6 +1,6 @@
 use Rattle.std.proofs.Common.{◌≡◌, sym, rules}
 use Rattle.dwp_table.specs.declared.object.DwarfObject.TheVariants.{Compilation}
-use Rattle.thorin_builder.specs.Names.{with_name}
+use Rattle.thorin_input.specs.Names.{with_name}
 use Rattle.thorin_builder.proofs.Running.{target-is}
 use Rattle.thorin_builder.proofs.package.DwarfPackage.add_target.Goals as goal
 

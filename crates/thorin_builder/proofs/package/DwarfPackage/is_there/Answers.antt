@@ -1,8 +1,8 @@
 use Rattle.std.proofs.Common.{◌≡◌, ◌∙◌, ap, sym, rules}
 use Rattle.std.specs.List.{list_any}
 use Rattle.dwp_table.specs.declared.object.DwarfObject.TheVariants.{Compilation}
-use Rattle.thorin_builder.specs.Builder.{names_in}
-use Rattle.thorin_builder.specs.Names.{same_name}
+use Rattle.thorin_join.specs.Builder.{names_in}
+use Rattle.thorin_input.specs.Names.{same_name}
 use Rattle.thorin_builder.proofs.Names.{among-is}
 use Rattle.thorin_builder.proofs.Running.{there-is, names-begun}
 use Rattle.thorin_builder.proofs.package.DwarfPackage.is_there.Goals as goal

@@ -1,6 +1,6 @@
 use Rattle.std.proofs.Common.{◌≡◌, ◌∙◌, ap, sym, rules}
 use Rattle.std.specs.Prelude.{filter}
-use Rattle.thorin_builder.specs.Builder.{is_missing, names_in}
+use Rattle.thorin_join.specs.Builder.{is_missing, names_in}
 use Rattle.thorin_builder.proofs.Running.{names-begun}
 use Rattle.thorin_builder.proofs.package.DwarfPackage.missing_targets.Goals as goal
 

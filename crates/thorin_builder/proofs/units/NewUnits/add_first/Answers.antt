@@ -1,8 +1,8 @@
 use Rattle.std.proofs.Common.{◌≡◌, ◌∙◌, ap, None, rules}
 use Rattle.std.specs.Map.{lookup}
 use Rattle.indexmap.proofs.CallerLemmas.{insert_entry-new}
-use Rattle.thorin_builder.specs.Names.{same_name}
-use Rattle.thorin_builder.specs.NewUnits.{with_first}
+use Rattle.thorin_input.specs.Names.{same_name}
+use Rattle.thorin_input.specs.NewUnits.{with_first}
 use Rattle.thorin_builder.specs.UnitView.{adding_of}
 use Rattle.thorin_builder.proofs.Names.{same_name-is}
 use Rattle.thorin_builder.proofs.NewUnitLemmas.{not_added, added_last}

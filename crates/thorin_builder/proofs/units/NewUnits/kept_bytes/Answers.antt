@@ -1,6 +1,6 @@
 use Rattle.std.proofs.Common.{◌≡◌, ◌∙◌, ap, sym, Some, None}
 use Rattle.std.specs.Map.{lookup}
-use Rattle.thorin_builder.specs.Names.{same_name}
+use Rattle.thorin_input.specs.Names.{same_name}
 use Rattle.thorin_builder.specs.UnitView.{new_unit}
 use Rattle.thorin_builder.proofs.Names.{same_name-is, lookup-map}
 use Rattle.thorin_builder.proofs.units.NewUnits.kept_bytes.Goals as goal

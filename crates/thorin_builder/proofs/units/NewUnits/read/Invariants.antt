@@ -1,9 +1,9 @@
 use Rattle.std.proofs.Common.{◌≡◌, ◌&&◌, map, drop, [], false}
 use Rattle.std.specs.List.{list_all}
-use Rattle.thorin_builder.specs.Encodings.{section_has, are_alike}
-use Rattle.thorin_builder.specs.NewUnits.{with_each_section}
-use Rattle.thorin_builder.specs.UnitView.{new_of, met_of, adding_of, tables_in}
-use Rattle.thorin_builder.specs.View.{used, source}
+use Rattle.thorin_input.specs.Encodings.{section_has, are_alike}
+use Rattle.thorin_input.specs.NewUnits.{with_each_section}
+use Rattle.thorin_builder.specs.UnitView.{new_of, met_of, adding_of}
+use Rattle.thorin_input.specs.View.{used, source, tables_in}
 use Rattle.thorin_builder.proofs.units.NewUnits.read.Given as goal
 
 -- what the sections that are left add to the units so far is what all add; and all have the input's encoding where those

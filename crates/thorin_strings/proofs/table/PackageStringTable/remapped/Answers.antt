@@ -7,7 +7,7 @@ use Rattle.thorin_strings.proofs.table.PackageStringTable.remapped.Goals as goal
 pub loop-index-init : goal.loop-index-init
 loop-index-init c = record {
   kept = take_all _ c.args.self.now (omega arith);
-  so_far = ([], entries_none _ _ _ _ _, sym (append-nil c.in_ok-out.out.items));
+  so_far = ([], entries_none _ _ _ _ _, sym (append-nil c.reserve.new.self.items));
   known = c.requires.known;
 }
 

@@ -1,5 +1,0 @@
-use Rattle.thorin_builder.proofs.Growth.{truncated-begins}
-use Rattle.thorin_builder.proofs.growing.restore.Goals as goal
-
-pub returns : goal.returns
-returns c before grown same = rw (c.truncate.ensures, same, truncated-begins before.contents c.args.file.now.contents grown.contents, grown.class, grown.machine, grown.order)

@@ -1,0 +1,23 @@
+use Rattle.std.proofs.Common.{◌∙◌, Option, Result, Ok, ap, sym}
+use Rattle.std.specs.Prelude.{option_map}
+use Rattle.std.proofs.lemmas.Result.{err_from_is_err_and}
+use Rattle.thorin_faults.specs.Fault.{Fault}
+use Rattle.thorin_executable.specs.Skeletons.{Named}
+use Rattle.thorin_executable.specs.View.{named}
+use Rattle.thorin_executable.specs.declared.listing.Skeleton.{Skeleton}
+use Rattle.thorin_executable.proofs.NamedSteps.{first-then}
+use Rattle.thorin_executable.proofs.listing.next_named.Goals as goal
+
+abbrev as_named : Option Skeleton → Result (Option Named) Fault
+as_named found = Ok (option_map named found)
+
+pub returns-in_err-skeleton-clause-next : goal.returns-in_err-skeleton-clause-next
+returns-in_err-skeleton-clause-next g c =
+    let p = err_from_is_err_and c.from_residual.result c.from_residual.ensures.1 in
+    rw (p.1, p.2) (λ aside. first-then _ _ _ _ _ _ c.loop-read.invariant.0 c.in-Some.ensures.steps (c.in_err-skeleton.ensures.meaning aside))
+
+pub returns-in-Some-2-clause-next : goal.returns-in-Some-2-clause-next
+returns-in-Some-2-clause-next g c = first-then _ _ _ _ _ _ c.loop-read.invariant.0 c.in-Some.ensures.steps (c.in_ok-skeleton.ensures.meaning ∙ ap as_named c.in-Some-2.is)
+
+pub loop-read-preserved : goal.loop-read-preserved
+loop-read-preserved g c = (sym (first-then _ _ _ _ _ _ c.loop-read.invariant.0 c.in-Some.ensures.steps (c.in_ok-skeleton.ensures.meaning ∙ ap as_named c.in_default-2.is)), c.skeleton_read.ensures.kept ∙ c.loop-read.invariant.1)

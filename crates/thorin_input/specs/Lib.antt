@@ -1,0 +1,10 @@
+pub mod Used
+pub mod View
+pub mod Growing
+pub mod Indexes
+pub mod Names
+pub mod Rows
+pub mod WholeFits
+pub mod Parts
+pub mod NewUnits
+pub mod Encodings

@@ -1,0 +1,93 @@
+-- What an input adds to the sections of a package beside its units (DWARF 5, 7.3.5; the
+-- GNU page DebugFissionDWP).
+use Rattle.std.specs.Prelude.{ℕ, Bool, true, false, ◌&&◌, ◌||◌, not, nat_le, List, [], ◌∷◌, ◌++◌}
+use Rattle.std.specs.Prelude.{length, Result, Ok, Err, if◌then◌else◌}
+use Rattle.std.specs.List.{list_any}
+use Rattle.dwp_base.specs.declared.section.SectionKind.{SectionKind}
+use Rattle.dwp_base.specs.declared.section.SectionKind.TheVariants.{Types, Abbrev, Line, Loc}
+use Rattle.dwp_base.specs.declared.section.SectionKind.TheVariants.{Loclists, Rnglists, StrOffsets}
+use Rattle.dwp_base.specs.declared.section.SectionKind.TheVariants.{Macinfo, Macro, Str}
+use Rattle.dwp_base.specs.Reading.{◌>>=◌}
+use Rattle.dwp_base.specs.Sections.{name_of, same_kind}
+use Rattle.dwp_bytes.specs.declared.encoding.Encoding.{Encoding}
+use Rattle.thorin_strings.specs.StringOffsets.{remapped}
+use Rattle.thorin_packaged.specs.PackagedOffsets.{packaged_offsets}
+use Rattle.thorin_faults.specs.Fault.{Fault, MissingRequiredSection, RepeatedSection}
+use Rattle.thorin_faults.specs.Fault.{SectionOutsideFormat}
+use Rattle.thorin_input.specs.Growing.{Contents}
+use Rattle.thorin_input.specs.Indexes.{Source, is_package}
+use Rattle.thorin_input.specs.Used.{Used, InputFile, first}
+
+-- packages of an encoding's version have the section: location and range lists of DWARF 5 from
+-- version 5 on, type units, location lists and macros of older versions below it
+abbrev pub is_in_format : Encoding → SectionKind → Bool
+is_in_format encoding Loclists = nat_le 5 encoding.version
+is_in_format encoding Rnglists = nat_le 5 encoding.version
+is_in_format encoding Types = not (nat_le 5 encoding.version)
+is_in_format encoding Loc = not (nat_le 5 encoding.version)
+is_in_format encoding Macinfo = not (nat_le 5 encoding.version)
+is_in_format encoding _ = true
+
+-- a section that goes to the package whole and as it is
+abbrev pub is_copied : SectionKind → Bool
+is_copied Abbrev = true
+is_copied Line = true
+is_copied Loc = true
+is_copied Loclists = true
+is_copied Rnglists = true
+is_copied Macinfo = true
+is_copied Macro = true
+is_copied _ = false
+
+-- the parts so far, and the distinct strings so far
+abbrev pub Parts : Type 0
+Parts = Contents × List (List ℕ)
+
+-- a part of a kind is there
+abbrev pub has_part : SectionKind → Contents → Bool
+has_part kind parts = list_any (λ part. same_kind part.0 kind) parts
+
+-- an input may have one section of the kind alone: a package of each kind, an object of DWARF 5 of
+-- string offsets
+abbrev pub stands_once : Source → SectionKind → Bool
+stands_once source kind =
+    is_package source.indexes || (nat_le 5 source.encoding.version && same_kind kind StrOffsets)
+
+-- string offsets that name their strings among the distinct ones: those of a package range by range
+unfoldable pub rewritten : Source → List ℕ → List (List ℕ) → Result (List ℕ × List (List ℕ)) Fault
+rewritten source bytes strings =
+    if is_package source.indexes
+    then packaged_offsets source.object.order source.encoding source.indexes.compilations
+    source.indexes.types (first Str source.object.sections) bytes strings
+    else remapped source.object.order source.encoding (first Str source.object.sections) bytes
+    (length bytes) strings
+
+-- the parts with string offsets
+unfoldable pub with_offsets : Source → Parts → List ℕ → Result Parts Fault
+with_offsets source before bytes =
+    if not source.object.has_strings then Err (MissingRequiredSection (name_of Str))
+    else (rewritten source bytes before.1 >>= λ written.
+    Ok (before.0 ++ (StrOffsets, written.0) ∷ [], written.1))
+
+-- the parts with what a section adds
+unfoldable pub with_part : Source → Parts → Used → Result Parts Fault
+with_part source before section =
+    if stands_once source section.kind && has_part section.kind before.0
+    then Err (RepeatedSection (name_of section.kind))
+    else (if not (is_in_format source.encoding section.kind)
+    then Err (SectionOutsideFormat (name_of section.kind))
+    else (if same_kind section.kind StrOffsets then with_offsets source before section.bytes
+    else (if is_copied section.kind
+    then Ok (before.0 ++ (section.kind, section.bytes) ∷ [], before.1)
+    else Ok before)))
+
+-- the same for each of these sections, in file order
+unfoldable pub with_each_part : Source → Parts → List Used → Result Parts Fault
+with_each_part source before [] = Ok before
+with_each_part source before (section ∷ sections) = do
+  next ← with_part source before section
+  with_each_part source next sections
+
+-- the parts of an input, and the distinct strings after those before
+abbrev pub parts_of : Source → List (List ℕ) → Result Parts Fault
+parts_of source strings = with_each_part source ([], strings) source.object.sections

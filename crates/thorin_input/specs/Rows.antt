@@ -1,0 +1,128 @@
+-- The rows that units get: each unit's part of each section of its input, where it comes to lie in
+-- the package (DWARF 5, 7.3.5.3).
+use Rattle.std.specs.Prelude.{ℕ, Bool, true, false, ◌==◌, ◌&&◌, not, List, length, Option, Some}
+use Rattle.std.specs.Prelude.{None, Result, Ok, Err, if◌then◌else◌}
+use Rattle.dwp_base.specs.declared.section.SectionKind.{SectionKind}
+use Rattle.dwp_base.specs.declared.section.SectionKind.TheVariants.{Abbrev, Line, Loc, Loclists}
+use Rattle.dwp_base.specs.declared.section.SectionKind.TheVariants.{Rnglists, StrOffsets, Macinfo}
+use Rattle.dwp_base.specs.declared.section.SectionKind.TheVariants.{Macro}
+use Rattle.dwp_base.specs.declared.section.Contribution.{Contribution}
+use Rattle.dwp_base.specs.Reading.{◌>>=◌}
+use Rattle.dwp_base.specs.Sections.{name_of}
+use Rattle.dwp_bytes.specs.declared.encoding.Encoding.{Encoding}
+use Rattle.dwp_dwarf.specs.Units.{Unit as Header}
+use Rattle.dwp_dwarf.specs.declared.unit.UnitType.{UnitType}
+use Rattle.dwp_dwarf.specs.declared.unit.UnitType.TheVariants as unit_types
+use Rattle.dwp_index.specs.Index.{Index, Ranges, row_in, range_in}
+use Rattle.dwp_index.specs.Package.{part_of, is_outside}
+use Rattle.dwp_table.specs.Objects.{identifier_of}
+use Rattle.dwp_table.specs.declared.object.DwarfObject.{DwarfObject}
+use Rattle.dwp_table.specs.declared.object.DwarfObject.TheVariants.{Compilation}
+use Rattle.thorin_parts.specs.Adjusting.{Adjustor, adjusted}
+use Rattle.thorin_parts.specs.declared.entry.IndexEntry.{IndexEntry}
+use Rattle.thorin_packaged.specs.RowPlaces.{row_by_place}
+use Rattle.thorin_faults.specs.Fault.{Fault, UnitNotInIndex, RowNotInIndex, BadContribution}
+use Rattle.thorin_faults.specs.Answers.{as_fault}
+use Rattle.thorin_input.specs.Growing.{Contents, joined_parts, range_put}
+use Rattle.thorin_input.specs.Indexes.{Indexes, Source, is_package, index_for, looked_up}
+use Rattle.thorin_input.specs.Used.{first}
+
+-- where the whole of each section that units share comes to lie, once parts are added to contents:
+-- as the row of a unit that has all of it
+unfoldable pub whole_row : Encoding → Contents → Contents → IndexEntry
+whole_row encoding before parts = record {
+  encoding = encoding;
+  id = Compilation (record { 0 = 0 });
+  debug_info = None;
+  debug_types = None;
+  debug_abbrev = range_put Abbrev (joined_parts Abbrev parts) before;
+  debug_line = range_put Line (joined_parts Line parts) before;
+  debug_loc = range_put Loc (joined_parts Loc parts) before;
+  debug_loclists = range_put Loclists (joined_parts Loclists parts) before;
+  debug_rnglists = range_put Rnglists (joined_parts Rnglists parts) before;
+  debug_str_offsets = range_put StrOffsets (joined_parts StrOffsets parts) before;
+  debug_macinfo = range_put Macinfo (joined_parts Macinfo parts) before;
+  debug_macro = range_put Macro (joined_parts Macro parts) before;
+}
+
+-- a unit's part of a section which as a whole lies there in the package
+abbrev pub adjusted_part : Indexes → DwarfObject → SectionKind → Option Contribution
+    → Result (Option Contribution) Fault
+adjusted_part indexes name kind whole = adjusted (record {
+  compilation = indexes.compilations;
+  types = indexes.types;
+  section = kind;
+}) name whole
+
+-- the row of a unit but for its own bytes: its part of each section that units share
+unfoldable pub unit_row : Indexes → IndexEntry → DwarfObject → Result IndexEntry Fault
+unit_row indexes whole name = do
+  abbreviations ← adjusted_part indexes name Abbrev whole.debug_abbrev
+  line ← adjusted_part indexes name Line whole.debug_line
+  loc ← adjusted_part indexes name Loc whole.debug_loc
+  loclists ← adjusted_part indexes name Loclists whole.debug_loclists
+  rnglists ← adjusted_part indexes name Rnglists whole.debug_rnglists
+  str_offsets ← adjusted_part indexes name StrOffsets whole.debug_str_offsets
+  macinfo ← adjusted_part indexes name Macinfo whole.debug_macinfo
+  macros ← adjusted_part indexes name Macro whole.debug_macro
+  Ok (record whole {
+    id = name;
+    debug_abbrev = abbreviations;
+    debug_line = line;
+    debug_loc = loc;
+    debug_loclists = loclists;
+    debug_rnglists = rnglists;
+    debug_str_offsets = str_offsets;
+    debug_macinfo = macinfo;
+    debug_macro = macros;
+  })
+
+-- a unit's range of its section
+abbrev pub own_range : Header → Contribution
+own_range unit = record { offset = record { 0 = unit.whole.place }; size = length unit.whole.bytes }
+
+-- the number of the row by place: the lowest of the index of a name's kind whose range in the
+-- section is exactly the unit's
+abbrev pub number_by_place : Indexes → SectionKind → DwarfObject → Header → Option ℕ
+number_by_place indexes kind name unit = row_by_place (index_for indexes name) kind (own_range unit)
+
+-- two row numbers are there, and are the same
+abbrev pub is_same_row : Option ℕ → Option ℕ → Bool
+is_same_row (Some a) (Some b) = a == b
+is_same_row _ _ = false
+
+-- in a package the row by place is the one that looking the unit's identifier up gives
+unfoldable pub row_test : Indexes → SectionKind → DwarfObject → Header → Result (Unit {0}) Fault
+row_test indexes kind name unit =
+    if not (is_package indexes) then Ok tt
+    else (if is_same_row (number_by_place indexes kind name unit)
+    (looked_up (index_for indexes name) (identifier_of name)) then Ok tt
+    else Err (UnitNotInIndex (identifier_of name)))
+
+-- the abbreviations of a row; none where it has none. Before its unit's identity is known, faults
+-- have the number 0
+unfoldable pub row_abbreviations : List ℕ → Ranges → Result (List ℕ) Fault
+row_abbreviations bytes row =
+    if is_outside bytes (range_in row Abbrev) then Err (BadContribution (name_of Abbrev) 0)
+    else Ok (part_of bytes (range_in row Abbrev))
+
+-- those of the row of a number of an index; a number by place is that of a row
+unfoldable pub numbered_abbreviations : List ℕ → Option Index → Option ℕ → Result (List ℕ) Fault
+numbered_abbreviations bytes (Some index) (Some number) = do
+  row ← as_fault (λ e. RowNotInIndex e number) (row_in index number)
+  row_abbreviations bytes row
+numbered_abbreviations bytes _ _ = Err (UnitNotInIndex 0)
+
+-- a compile unit, whose identity is in its root entry
+abbrev pub is_compile : UnitType → Bool
+is_compile unit_types.Compilation = true
+is_compile _ = false
+
+-- the abbreviations that a unit's identity is read with: those of the first section, for a compile
+-- unit of a package those of its row by place
+unfoldable pub abbreviations_for : Source → SectionKind → Header → Result (List ℕ) Fault
+abbreviations_for source kind unit =
+    if is_package source.indexes && is_compile unit.unit_type
+    then numbered_abbreviations (first Abbrev source.object.sections) source.indexes.compilations
+    (row_by_place source.indexes.compilations kind (own_range unit))
+    else Ok (first Abbrev source.object.sections)

@@ -1,0 +1,80 @@
+//! Which sections of an input are used, and what they hold.
+
+ghost use Rattle.std.specs.Prelude.{◌≡◌, ◌||◌, not, map, find, option_map};
+ghost use Rattle.std.specs.List.{list_any};
+ghost use Rattle.dwp_base.specs.Sections.{same_kind};
+ghost use Rattle.dwp_base.specs.declared.section.SectionKind.TheVariants as kinds;
+ghost use Rattle.dwp_elf_read.specs.View.{elf};
+ghost use Rattle.thorin_faults.specs.Answers.{Gives};
+ghost use Rattle.thorin_input.specs.Used as spec;
+
+use dwp_base::{Endianness, SectionKind};
+use dwp_elf_read::{ElfFile, FileKind};
+use thorin_faults::Error;
+
+/// A section of an input that is used: its kind, its content, and the address in its header.
+#[derive(Clone, Copy)]
+pub struct UsedSection<'a> {
+    /// Its kind, by its name.
+    pub kind: SectionKind,
+    /// Its content.
+    pub bytes: &'a [u8],
+    /// The address in its header.
+    pub address: u64,
+}
+
+/// The used sections of an input, in file order, none empty: all that units have contributions to,
+/// the first of strings, and the first of each index.
+#[derive(Drop)]
+pub struct InputObject<'a> {
+    /// The byte order of the file.
+    pub order: Endianness,
+    /// The used sections, in file order.
+    pub sections: Vec<UsedSection<'a>>,
+    /// Whether a section of strings is there under its own name, an empty one too.
+    pub has_strings: bool,
+    /// Whether a section of abbreviations is there under its own name, an empty one too.
+    pub has_abbreviations: bool,
+    /// Whether no section is an index.
+    pub plain: bool,
+    ghost no_index: { plain ≡ not (list_any (λ s. same_kind s.kind kinds.CuIndex
+        || same_kind s.kind kinds.TuIndex) sections.items) },
+}
+
+/// The ELF file that an input is: `ParseFileKind`, `InvalidInputKind` for an archive,
+/// `ParseObjectFile`.
+#[tactic(auto, unfolding(crate::specs::Used::opened))]
+pub fn opened(bytes: &[u8]) -> Result<ElfFile<'_>, Error>
+    ensures { Gives elf result (spec.opened bytes.now) }
+{
+    match FileKind::parse(bytes).map_err(Error::ParseFileKind)? {
+        FileKind::Archive => Err(Error::InvalidInputKind),
+        FileKind::Elf32 | FileKind::Elf64 => ElfFile::parse(bytes).map_err(Error::ParseObjectFile),
+    }
+}
+
+impl<'a> InputObject<'a> {
+    ghost use Rattle.thorin_input.specs.View.{used, object};
+
+    /// The first section of a kind.
+    pub fn find(&self, kind: SectionKind) -> Option<UsedSection<'a>>
+        ensures { option_map used result ≡ find (spec.has_kind kind) (object self.now).sections }
+    {
+        for section in &self.sections {
+            if section.kind.is(kind) {
+                return Some(*section);
+            }
+        }
+        None
+    }
+
+    /// The content of the first section of a kind; no bytes where there is none.
+    pub fn first(&self, kind: SectionKind) -> &'a [u8]
+        ensures { result.now ≡ spec.first kind (object self.now).sections }
+    {
+        match self.find(kind) {
+            Some(section) => section.bytes,
+            None => &[],
+        }
+    }
+}

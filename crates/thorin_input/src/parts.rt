@@ -1,0 +1,256 @@
+//! What an input adds to the sections of a package beside its units.
+
+ghost use Rattle.std.specs.Prelude.{◌≡◌, length, take, map, OnOk, OnErr, IfErr};
+ghost use Rattle.dwp_base.specs.declared.section.SectionKind.TheVariants.{Str};
+ghost use Rattle.dwp_elf.specs.FileText.{Object};
+ghost use Rattle.thorin_faults.specs.Answers.{Gives};
+ghost use Rattle.thorin_strings.specs.Known.{AreKnown};
+ghost use Rattle.thorin_input.specs.Growing.{IsGrown, with_parts};
+ghost use Rattle.thorin_input.specs.Parts as spec;
+ghost use Rattle.thorin_input.specs.Used.{first};
+ghost use Rattle.thorin_input.specs.View as view;
+
+use crate::growing::put;
+use crate::object::UsedSection;
+use crate::source::Source;
+use dwp_base::SectionKind;
+use dwp_dwarf::Encoding;
+use dwp_elf::WritableObject;
+use std::alloc::Global;
+use thorin_faults::Error;
+use thorin_packaged::remap_packaged_offsets;
+use thorin_strings::{PackageStringTable, Repeats};
+
+/// The bytes of a part: those of the input, or string offsets that were rewritten.
+#[derive(Drop)]
+pub enum PartBytes<'a> {
+    /// Those of the input.
+    Copied(&'a [u8]),
+    /// String offsets, rewritten.
+    Rewritten(Vec<u8>),
+}
+
+/// What is added to a section of the package.
+#[derive(Drop)]
+pub struct Part<'a> {
+    /// The section that it is added to.
+    pub kind: SectionKind,
+    /// What is added.
+    pub bytes: PartBytes<'a>,
+}
+
+impl<'a> Part<'a> {
+    /// Its bytes.
+    pub fn bytes(&self) -> &[u8]
+        ensures { result.now ≡ (view.part self.now).1 }
+    {
+        match &self.bytes {
+            PartBytes::Copied(bytes) => bytes,
+            PartBytes::Rewritten(bytes) => bytes,
+        }
+    }
+}
+
+/// Whether packages of an encoding's version have a section of this kind.
+fn is_in_format(encoding: Encoding, kind: SectionKind) -> bool
+    ensures { result ≡ spec.is_in_format encoding kind }
+{
+    match kind {
+        SectionKind::Loclists | SectionKind::Rnglists => encoding.is_std_dwarf_package_format(),
+        SectionKind::Types | SectionKind::Loc | SectionKind::Macinfo => {
+            !encoding.is_std_dwarf_package_format()
+        }
+        _ => true,
+    }
+}
+
+/// Whether a section goes to the package whole and as it is.
+fn is_copied(kind: SectionKind) -> bool
+    ensures { result ≡ spec.is_copied kind }
+{
+    match kind {
+        SectionKind::Abbrev
+        | SectionKind::Line
+        | SectionKind::Loc
+        | SectionKind::Loclists
+        | SectionKind::Rnglists
+        | SectionKind::Macinfo
+        | SectionKind::Macro => true,
+        _ => false,
+    }
+}
+
+/// Whether a part of a kind is there.
+fn has_part(parts: &[Part<'_>], kind: SectionKind) -> bool
+    ensures { result ≡ spec.has_part kind (map view.part parts.now) }
+{
+    for part in parts {
+        if part.kind.is(kind) {
+            return true;
+        }
+    }
+    false
+}
+
+/// Whether an input may have one section of a kind alone.
+fn stands_once(source: &Source<'_>, kind: SectionKind) -> bool
+    ensures { result ≡ spec.stands_once (view.source source.now) kind }
+{
+    source.indexes.is_package()
+        || source.encoding.is_std_dwarf_package_format() && kind.is(SectionKind::StrOffsets)
+}
+
+/// String offsets that name their strings in the table: those of a package range by range. An `Err`
+/// may leave strings behind those before.
+#[tactic(auto, unfolding(crate::specs::Parts::rewritten))]
+fn rewritten(
+    alloc: Global,
+    source: &Source<'_>,
+    named: &[u8],
+    bytes: &[u8],
+    strings: &mut PackageStringTable,
+    repeats: &mut Repeats,
+) -> Result<Vec<u8>, Error>
+    requires named { named.now ≡ first Str (view.source source.now).object.sections }
+    requires known { AreKnown named.now strings.old repeats.old }
+    ensures meaning { Gives (λ written. (written.items, strings.new)) result
+        (spec.rewritten (view.source source.now) bytes.now strings.old) }
+    ensures kept { take (length strings.old) strings.new ≡ strings.old }
+    ensures known { AreKnown named.now strings.new repeats.new }
+{
+    let object = &source.object;
+    if source.indexes.is_package() {
+        repeats.clear();
+        remap_packaged_offsets(
+            alloc,
+            strings,
+            source.indexes.compilations.as_ref(),
+            source.indexes.types.as_ref(),
+            named,
+            bytes,
+            object.order,
+            source.encoding,
+        )
+    } else {
+        let size = bytes.len() as u64;
+        strings.remap_repeating(repeats, named, bytes, size, object.order, source.encoding)
+    }
+}
+
+/// Adds a section of string offsets, rewritten. An `Err` may leave strings behind those before.
+#[tactic(auto, unfolding(crate::specs::Parts::with_offsets))]
+fn add_offsets<'a>(
+    alloc: Global,
+    parts: &mut Vec<Part<'a>>,
+    source: &Source<'a>,
+    named: &[u8],
+    bytes: &[u8],
+    strings: &mut PackageStringTable,
+    repeats: &mut Repeats,
+) -> Result<(), Error>
+    requires named { named.now ≡ first Str (view.source source.now).object.sections }
+    requires known { AreKnown named.now strings.old repeats.old }
+    ensures meaning { Gives (λ _. (map view.part parts.new.items, strings.new)) result
+        (spec.with_offsets (view.source source.now) (
+          map view.part parts.old.items,
+          strings.old,
+        ) bytes.now) }
+    ensures kept { take (length strings.old) strings.new ≡ strings.old }
+    ensures known { AreKnown named.now strings.new repeats.new }
+{
+    if !source.object.has_strings {
+        return Err(Error::MissingRequiredSection(SectionKind::Str.name()));
+    }
+    let written = rewritten(alloc, source, named, bytes, strings, repeats)?;
+    parts.push(Part {
+        kind: SectionKind::StrOffsets,
+        bytes: PartBytes::Rewritten(written),
+    })?;
+    Ok(())
+}
+
+/// Adds what a section adds: `RepeatedSection`, `SectionOutsideFormat`, `MissingRequiredSection`,
+/// and the faults of string offsets.
+#[tactic(auto, unfolding(crate::specs::Parts::with_part))]
+fn add_part<'a>(
+    alloc: Global,
+    parts: &mut Vec<Part<'a>>,
+    source: &Source<'a>,
+    named: &[u8],
+    section: UsedSection<'a>,
+    strings: &mut PackageStringTable,
+    repeats: &mut Repeats,
+) -> Result<(), Error>
+    requires named { named.now ≡ first Str (view.source source.now).object.sections }
+    requires known { AreKnown named.now strings.old repeats.old }
+    ensures meaning { Gives (λ _. (map view.part parts.new.items, strings.new)) result
+        (spec.with_part (view.source source.now) (
+          map view.part parts.old.items,
+          strings.old,
+        ) (view.used section.entry)) }
+    ensures kept { take (length strings.old) strings.new ≡ strings.old }
+    ensures known { AreKnown named.now strings.new repeats.new }
+{
+    if stands_once(source, section.kind) && has_part(parts, section.kind) {
+        return Err(Error::RepeatedSection(section.kind.name()));
+    }
+    if !is_in_format(source.encoding, section.kind) {
+        return Err(Error::SectionOutsideFormat(section.kind.name()));
+    }
+    if section.kind.is(SectionKind::StrOffsets) {
+        return add_offsets(alloc, parts, source, named, section.bytes, strings, repeats);
+    }
+    if is_copied(section.kind) {
+        parts.push(Part {
+            kind: section.kind,
+            bytes: PartBytes::Copied(section.bytes),
+        })?;
+    }
+    Ok(())
+}
+
+/// What an input adds to sections beside its units, in file order, its string offsets rewritten
+/// over the strings of the package: the first fault of its sections. An `Err` may leave strings
+/// behind those before.
+#[tactic(auto, unfolding(crate::specs::Parts::with_each_part))]
+pub fn parts_of<'a>(
+    alloc: Global,
+    source: &Source<'a>,
+    strings: &mut PackageStringTable,
+) -> Result<Vec<Part<'a>>, Error>
+    ensures meaning { Gives (λ parts. (map view.part parts.items, strings.new)) result
+        (spec.parts_of (view.source source.now) strings.old) }
+    ensures kept { take (length strings.old) strings.new ≡ strings.old }
+{
+    let mut parts = Vec::new(alloc);
+    // Looked for once: an input may have many sections of string offsets.
+    let named = source.object.first(SectionKind::Str);
+    let mut repeats = Repeats::new(alloc);
+    for section in &source.object.sections {
+        add_part(
+            alloc,
+            &mut parts,
+            source,
+            named,
+            *section,
+            strings,
+            &mut repeats,
+        )?;
+    }
+    Ok(parts)
+}
+
+/// Adds the parts to the contents of a package, in order. It refuses for memory alone, and may then
+/// leave bytes behind those before.
+#[tactic(auto, unfolding(crate::specs::Growing::with_parts))]
+pub fn put_parts(file: &mut WritableObject, parts: &[Part<'_>]) -> Result<(), Error>
+    ensures contents { OnOk result (file.new
+        ≡ record file.old { contents = with_parts (map view.part parts.now) file.old.contents }) }
+    ensures refused { IfErr result (λ e. e ≡ Error.Memory) }
+    ensures grown { (before : Object) → IsGrown before file.old → IsGrown before file.new }
+{
+    for part in parts {
+        put(file, part.kind, part.bytes())?;
+    }
+    Ok(())
+}

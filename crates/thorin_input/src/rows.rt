@@ -1,0 +1,320 @@
+//! The rows that units get: each unit's part of each section of its input.
+
+ghost use Rattle.std.specs.Prelude.{◌≡◌, length, map, false, IfOk, IfErr};
+ghost use Rattle.dwp_base.specs.declared.section.SectionKind.TheVariants.{Abbrev};
+ghost use Rattle.dwp_dwarf.specs.Units.{unit_of};
+ghost use Rattle.dwp_index.specs.Package.{part_of, is_outside};
+ghost use Rattle.dwp_table.specs.Objects.{identifier_of};
+ghost use Rattle.thorin_faults.specs.Answers.{Gives};
+ghost use Rattle.thorin_parts.specs.Adjusting.{GivesExactly};
+ghost use Rattle.thorin_packaged.specs.RowPlaces.{row_by_place};
+ghost use Rattle.thorin_input.specs.Growing.{joined_parts, range_put};
+ghost use Rattle.thorin_input.specs.Indexes.{index_for};
+ghost use Rattle.thorin_input.specs.Rows as spec;
+ghost use Rattle.thorin_input.specs.Used.{first};
+ghost use Rattle.thorin_input.specs.View as view;
+ghost use Rattle.thorin_input.specs.WholeFits.{EndFits, EndsFit};
+
+use crate::growing::content;
+use crate::parts::Part;
+use crate::source::{Indexes, Source};
+use dwp_base::{Contribution, ContributionOffset, Endianness, SectionKind};
+use dwp_dwarf::{Encoding, Reader, SliceReader, UnitHeader, UnitType};
+use dwp_elf::WritableObject;
+use dwp_index::{Row, UnitIndex};
+use dwp_table::{Bucketable, DwarfObject, DwoId};
+use std::alloc::Global;
+use thorin_faults::Error;
+use thorin_packaged::RowPlaces;
+use thorin_parts::{ContributionAdjustor, IndexEntry};
+
+/// Where the whole of each section that units share comes to lie, as the row of a unit that has all
+/// of it.
+#[derive(Clone, Copy)]
+pub struct Whole {
+    /// The row; its identifier and the ranges of the unit's own sections say nothing.
+    pub row: IndexEntry,
+    ghost fits: { EndsFit row },
+}
+
+/// How many bytes parts add to the section of a kind. `Memory` where no memory could hold them.
+fn added(parts: &[Part<'_>], kind: SectionKind) -> Result<usize, Error>
+    ensures size { IfOk result (λ size.
+        size ≡ length (joined_parts kind (map view.part parts.now))) }
+    ensures refused { IfErr result (λ e. e ≡ Error.Memory) }
+{
+    let mut size = 0_usize;
+    for part in parts {
+        if part.kind.is(kind) {
+            size = size.checked_add(part.bytes().len()).ok_or(Error::Memory)?;
+        }
+    }
+    Ok(size)
+}
+
+/// Where the whole of the section of a kind comes to lie once parts are put. `Memory` where no
+/// memory could hold it.
+fn whole_range(
+    file: &WritableObject,
+    parts: &[Part<'_>],
+    kind: SectionKind,
+) -> Result<Option<Contribution>, Error>
+    ensures range { IfOk result (λ range.
+        range ≡ range_put kind (joined_parts kind (map view.part parts.now)) file.now.contents) }
+    ensures fits { IfOk result EndFits }
+    ensures refused { IfErr result (λ e. e ≡ Error.Memory) }
+{
+    let size = added(parts, kind)?;
+    if size == 0 {
+        return Ok(None);
+    }
+    let offset = content(file, kind).len();
+    if size > usize::MAX - offset {
+        return Err(Error::Memory);
+    }
+    Ok(Some(Contribution {
+        offset: ContributionOffset(offset as u64),
+        size: size as u64,
+    }))
+}
+
+impl Whole {
+    /// Where the whole of each section comes to lie once parts are put behind the contents of a
+    /// file. It refuses for memory alone.
+    #[tactic(auto, unfolding(crate::specs::Rows::whole_row))]
+    pub fn of(encoding: Encoding, file: &WritableObject, parts: &[Part<'_>]) -> Result<Whole, Error>
+        ensures row { IfOk result (λ whole.
+            whole.row ≡ spec.whole_row encoding file.now.contents (map view.part parts.now)) }
+        ensures refused { IfErr result (λ e. e ≡ Error.Memory) }
+    {
+        let debug_abbrev = whole_range(file, parts, SectionKind::Abbrev)?;
+        let debug_line = whole_range(file, parts, SectionKind::Line)?;
+        let debug_loc = whole_range(file, parts, SectionKind::Loc)?;
+        let debug_loclists = whole_range(file, parts, SectionKind::Loclists)?;
+        let debug_rnglists = whole_range(file, parts, SectionKind::Rnglists)?;
+        let debug_str_offsets = whole_range(file, parts, SectionKind::StrOffsets)?;
+        let debug_macinfo = whole_range(file, parts, SectionKind::Macinfo)?;
+        let debug_macro = whole_range(file, parts, SectionKind::Macro)?;
+        Ok(Whole {
+            row: IndexEntry {
+                encoding,
+                id: DwarfObject::Compilation(DwoId(0)),
+                debug_info: None,
+                debug_types: None,
+                debug_abbrev,
+                debug_line,
+                debug_loc,
+                debug_loclists,
+                debug_rnglists,
+                debug_str_offsets,
+                debug_macinfo,
+                debug_macro,
+            },
+        })
+    }
+}
+
+/// A unit's part of a section which as a whole lies there in the package.
+fn adjusted_part(
+    indexes: &Indexes<'_>,
+    name: DwarfObject,
+    kind: SectionKind,
+    whole: Option<Contribution>,
+) -> Result<Option<Contribution>, Error>
+    requires { EndFits whole }
+    ensures { GivesExactly result (spec.adjusted_part (view.indexes indexes.now) name kind whole) }
+{
+    let compilations = indexes.compilations.as_ref();
+    let types = indexes.types.as_ref();
+    ContributionAdjustor::new(compilations, types, kind).adjust(name, whole)
+}
+
+/// The row of a unit but for its own bytes: its part of each section that units share.
+#[tactic(auto, unfolding(crate::specs::Rows::unit_row))]
+pub fn unit_row(
+    indexes: &Indexes<'_>,
+    whole: &Whole,
+    name: DwarfObject,
+) -> Result<IndexEntry, Error>
+    ensures { Gives (λ row. row) result
+        (spec.unit_row (view.indexes indexes.now) whole.now.row name) }
+{
+    let row = whole.row;
+    let debug_abbrev = adjusted_part(indexes, name, SectionKind::Abbrev, row.debug_abbrev)?;
+    let debug_line = adjusted_part(indexes, name, SectionKind::Line, row.debug_line)?;
+    let debug_loc = adjusted_part(indexes, name, SectionKind::Loc, row.debug_loc)?;
+    let debug_loclists = adjusted_part(indexes, name, SectionKind::Loclists, row.debug_loclists)?;
+    let debug_rnglists = adjusted_part(indexes, name, SectionKind::Rnglists, row.debug_rnglists)?;
+    let debug_str_offsets = adjusted_part(
+        indexes,
+        name,
+        SectionKind::StrOffsets,
+        row.debug_str_offsets,
+    )?;
+    let debug_macinfo = adjusted_part(indexes, name, SectionKind::Macinfo, row.debug_macinfo)?;
+    let debug_macro = adjusted_part(indexes, name, SectionKind::Macro, row.debug_macro)?;
+    Ok(IndexEntry {
+        encoding: row.encoding,
+        id: name,
+        debug_info: row.debug_info,
+        debug_types: row.debug_types,
+        debug_abbrev,
+        debug_line,
+        debug_loc,
+        debug_loclists,
+        debug_rnglists,
+        debug_str_offsets,
+        debug_macinfo,
+        debug_macro,
+    })
+}
+
+/// A unit's range of its section.
+fn own_range<'a>(header: &UnitHeader<SliceReader<'a>>) -> Contribution
+    ensures { result ≡ spec.own_range (unit_of ⟦<SliceReader<'a> as Reader>⟧.input header.now) }
+{
+    let start = SliceReader::new(&[], Endianness::Little);
+    let bytes = header.bytes();
+    Contribution {
+        offset: ContributionOffset(bytes.offset_from(&start) as u64),
+        size: bytes.slice().len() as u64,
+    }
+}
+
+/// The rows by place of both indexes of an input, in one of its sections.
+#[derive(Drop)]
+pub struct Places<'i, 'a> {
+    /// Those of the compilation index.
+    pub compilations: RowPlaces<'i, 'a>,
+    /// Those of the type index.
+    pub types: RowPlaces<'i, 'a>,
+}
+
+impl<'i, 'a> Places<'i, 'a> {
+    /// The rows by place in a section of a kind. It refuses for memory alone.
+    pub fn new(
+        alloc: Global,
+        indexes: &'i Indexes<'a>,
+        kind: SectionKind,
+    ) -> Result<Places<'i, 'a>, Error>
+        ensures compilations { IfOk result (λ places. places.compilations
+            ≡ record { index = (view.indexes indexes.now).compilations; section = kind }) }
+        ensures types { IfOk result (λ places.
+            places.types ≡ record { index = (view.indexes indexes.now).types; section = kind }) }
+        ensures refused { IfErr result (λ e. e ≡ Error.Memory) }
+    {
+        let compilations = RowPlaces::new(alloc, indexes.compilations.as_ref(), kind)?;
+        let types = RowPlaces::new(alloc, indexes.types.as_ref(), kind)?;
+        Ok(Places {
+            compilations,
+            types,
+        })
+    }
+}
+
+/// `UnitNotInIndex` where, in a package, a unit's row by place isn't the one that looking its
+/// identifier up gives.
+#[tactic(auto, unfolding(crate::specs::Rows::row_test))]
+pub fn test_row<'a>(
+    indexes: &Indexes<'_>,
+    places: &Places<'_, '_>,
+    kind: SectionKind,
+    name: DwarfObject,
+    header: &UnitHeader<SliceReader<'a>>,
+) -> Result<(), Error>
+    requires compilations { places.now.compilations
+        ≡ record { index = (view.indexes indexes.now).compilations; section = kind } }
+    requires types { places.now.types ≡ record {
+      index = (view.indexes indexes.now).types;
+      section = kind;
+    } }
+    ensures { Gives (λ _. tt) result (spec.row_test (view.indexes indexes.now) kind name
+        (unit_of ⟦<SliceReader<'a> as Reader>⟧.input header.now)) }
+{
+    if !indexes.is_package() {
+        return Ok(());
+    }
+    let range = own_range(header);
+    let here = match name {
+        DwarfObject::Compilation(_) => places.compilations.find(range),
+        DwarfObject::TypeUnit(_) => places.types.find(range),
+    };
+    match (here, indexes.looked_up(name)) {
+        (Some(here), Some(there)) if here == there => Ok(()),
+        _ => Err(Error::UnitNotInIndex(name.index())),
+    }
+}
+
+/// Where the abbreviations of a row stand; none where it has none. `BadContribution` where they are
+/// outside the section.
+#[tactic(auto, unfolding(crate::specs::Rows::row_abbreviations))]
+fn row_abbreviations(bytes: &[u8], row: &Row<'_>) -> Result<Option<Contribution>, Error>
+    ensures part { Gives (part_of bytes.now) result (spec.row_abbreviations bytes.now row.now) }
+    ensures inside { IfOk result (λ range. is_outside bytes.now range ≡ false) }
+{
+    let Some(range) = row.range(SectionKind::Abbrev) else {
+        return Ok(None);
+    };
+    let size = bytes.len() as u64;
+    if range.offset.0 > size || size - range.offset.0 < range.size {
+        return Err(Error::BadContribution(SectionKind::Abbrev.name(), 0));
+    }
+    Ok(Some(range))
+}
+
+/// Those of the row of a number of an index.
+#[tactic(auto, unfolding(crate::specs::Rows::numbered_abbreviations))]
+fn numbered_abbreviations(
+    bytes: &[u8],
+    index: &Option<UnitIndex<'_>>,
+    number: Option<u32>,
+) -> Result<Option<Contribution>, Error>
+    ensures part { Gives (part_of bytes.now) result
+        (spec.numbered_abbreviations bytes.now index.now number) }
+    ensures inside { IfOk result (λ range. is_outside bytes.now range ≡ false) }
+{
+    match (index, number) {
+        (Some(index), Some(number)) => match index.row(number) {
+            Ok(row) => row_abbreviations(bytes, &row),
+            Err(e) => Err(Error::RowNotInIndex(e, number)),
+        },
+        _ => Err(Error::UnitNotInIndex(0)),
+    }
+}
+
+/// The range of all bytes.
+fn whole_range_of(bytes: &[u8]) -> Option<Contribution>
+    ensures part { part_of bytes.now result ≡ bytes.now }
+    ensures inside { is_outside bytes.now result ≡ false }
+{
+    Some(Contribution {
+        offset: ContributionOffset(0),
+        size: bytes.len() as u64,
+    })
+}
+
+/// Where in the first section of abbreviations those stand that a unit's identity is read with: all
+/// of it; for a compile unit of a package those of its row by place (`UnitNotInIndex`,
+/// `BadContribution`).
+#[tactic(auto, unfolding(crate::specs::Rows::abbreviations_for))]
+pub fn abbreviations_for<'a>(
+    source: &Source<'a>,
+    bytes: &[u8],
+    places: &Places<'_, '_>,
+    kind: SectionKind,
+    header: &UnitHeader<SliceReader<'a>>,
+) -> Result<Option<Contribution>, Error>
+    requires places { places.now.compilations
+        ≡ record { index = (view.source source.now).indexes.compilations; section = kind } }
+    requires bytes { bytes.now ≡ first Abbrev (view.source source.now).object.sections }
+    ensures part { Gives (part_of bytes.now) result (spec.abbreviations_for (view.source source.now)
+        kind (unit_of ⟦<SliceReader<'a> as Reader>⟧.input header.now)) }
+    ensures inside { IfOk result (λ range. is_outside bytes.now range ≡ false) }
+{
+    if source.indexes.is_package() && matches!(header.unit_type(), UnitType::Compilation) {
+        let number = places.compilations.find(own_range(header));
+        numbered_abbreviations(bytes, &source.indexes.compilations, number)
+    } else {
+        Ok(whole_range_of(bytes))
+    }
+}

@@ -1,0 +1,16 @@
+pub mod State
+pub mod Builder
+pub mod Strings
+pub mod Meaning
+pub mod Laid
+pub mod Represents
+pub mod Join
+pub mod StandApart
+pub mod FirstUse
+pub mod Again
+pub mod Own
+pub mod OwnUnits
+pub mod OwnInput
+pub mod Plain
+pub mod OwnRefusals
+pub mod OwnAccepted

@@ -1,0 +1,240 @@
+-- What an input means: its units by name, in file order, with all that belongs to each; and how
+-- such lists are joined (DWARF 5, 7.3.5; the GNU page DebugFissionDWP).
+use Rattle.std.specs.Prelude.{ℕ, Bool, true, not, ◌&&◌, ◌+◌, ◌*◌, List, [], ◌∷◌, ◌++◌, map, take}
+use Rattle.std.specs.Prelude.{length, find, is_none, Option, Some, None, Result, Ok, Err}
+use Rattle.std.specs.Prelude.{if◌then◌else◌}
+use Rattle.std.specs.List.{list_any}
+use Rattle.std.specs.Option.{option_and_then}
+use Rattle.dwp_base.specs.declared.section.SectionKind.{SectionKind}
+use Rattle.dwp_base.specs.declared.section.SectionKind.TheVariants.{Abbrev, Line, Loc, Loclists}
+use Rattle.dwp_base.specs.declared.section.SectionKind.TheVariants.{Rnglists, StrOffsets, Macinfo}
+use Rattle.dwp_base.specs.declared.section.SectionKind.TheVariants.{Macro, Str}
+use Rattle.dwp_base.specs.declared.section.Contribution.{Contribution}
+use Rattle.dwp_base.specs.Reading.{◌>>=◌}
+use Rattle.dwp_base.specs.Sections.{same_kind}
+use Rattle.dwp_bytes.specs.Encoding.{offset_size}
+use Rattle.dwp_bytes.specs.Input.{section}
+use Rattle.dwp_bytes.specs.StringOffsets.{header_size, entry_count}
+use Rattle.dwp_bytes.specs.declared.encoding.Encoding.{Encoding}
+use Rattle.dwp_bytes.specs.declared.fault.ReadError.{ReadError}
+use Rattle.dwp_dwarf.specs.Units.{Unit as Header, units}
+use Rattle.dwp_dwarf.specs.declared.unit.UnitSection.{UnitSection}
+use Rattle.dwp_index.specs.Index.{Index, Ranges, row_in, range_in}
+use Rattle.dwp_index.specs.Package.{part_of, is_outside}
+use Rattle.dwp_table.specs.declared.object.DwarfObject.{DwarfObject}
+use Rattle.thorin_packaged.specs.RowPlaces.{row_by_place}
+use Rattle.thorin_faults.specs.Fault.{Fault, ParseUnitHeader}
+use Rattle.thorin_faults.specs.Answers.{as_fault}
+use Rattle.thorin_input.specs.Encodings.{encoding_of}
+use Rattle.thorin_input.specs.Indexes.{Indexes, Source, is_package, index_for, indexes_of}
+use Rattle.thorin_input.specs.Names.{same_name, is_compilation}
+use Rattle.thorin_input.specs.NewUnits.{name_for, unit_section}
+use Rattle.thorin_input.specs.Rows.{own_range}
+use Rattle.thorin_join.specs.Strings.{strings_of}
+use Rattle.thorin_input.specs.Used.{Used, InputFile, opened, has_info, input_file_of, first}
+
+-- a unit's part of each kind of section that is kept as it is
+pub record Pieces : Type 0 where
+  pub abbreviations : List ℕ
+  pub line : List ℕ
+  pub loc : List ℕ
+  pub loclists : List ℕ
+  pub rnglists : List ℕ
+  pub macinfo : List ℕ
+  pub macros : List ℕ
+
+-- the piece of a kind; other kinds have none
+abbrev pub piece : Pieces → SectionKind → List ℕ
+piece pieces Abbrev = pieces.abbreviations
+piece pieces Line = pieces.line
+piece pieces Loc = pieces.loc
+piece pieces Loclists = pieces.loclists
+piece pieces Rnglists = pieces.rnglists
+piece pieces Macinfo = pieces.macinfo
+piece pieces Macro = pieces.macros
+piece pieces _ = []
+
+-- these bytes of each kind
+abbrev pub pieces_by : (SectionKind → List ℕ) → Pieces
+pieces_by bytes = record {
+  abbreviations = bytes Abbrev;
+  line = bytes Line;
+  loc = bytes Loc;
+  loclists = bytes Loclists;
+  rnglists = bytes Rnglists;
+  macinfo = bytes Macinfo;
+  macros = bytes Macro;
+}
+
+-- all that belongs to a unit: its bytes, its pieces, its strings in the order of their offsets, and
+-- its input's encoding
+pub record Meaning : Type 0 where
+  pub bytes : List ℕ
+  pub pieces : Pieces
+  pub strings : List (List ℕ)
+  pub encoding : Encoding
+
+-- units by their names, with all that belongs to each
+abbrev pub Members : Type 0
+Members = List (DwarfObject × Meaning)
+
+-- the contents of all sections of a kind, joined in file order
+abbrev pub joined_content : SectionKind → List Used → List ℕ
+joined_content kind [] = []
+joined_content kind (s ∷ ss) =
+    if same_kind s.kind kind then s.bytes ++ joined_content kind ss else joined_content kind ss
+
+-- a section of string offsets without the bytes past its last whole entry
+abbrev pub whole_entries : Encoding → List ℕ → List ℕ
+whole_entries encoding bytes = take
+    (header_size encoding + entry_count encoding (length bytes) * offset_size encoding.format) bytes
+
+-- those of an object, joined
+abbrev pub joined_offsets : Encoding → List Used → List ℕ
+joined_offsets encoding [] = []
+joined_offsets encoding (s ∷ ss) =
+    if same_kind s.kind StrOffsets then whole_entries encoding s.bytes ++ joined_offsets encoding ss
+    else joined_offsets encoding ss
+
+-- a unit's part of the sections of a kind: by its row, where its input is a package, else all of
+-- them
+abbrev pub part_by : Source → Option Ranges → SectionKind → List ℕ
+part_by source None kind = joined_content kind source.object.sections
+part_by source (Some row) kind = part_of (first kind source.object.sections) (range_in row kind)
+
+-- its string offsets
+abbrev pub offsets_by : Source → Option Ranges → List ℕ
+offsets_by source None = joined_offsets source.encoding source.object.sections
+offsets_by source (Some row) =
+    part_of (first StrOffsets source.object.sections) (range_in row StrOffsets)
+
+-- the kinds of section that units share
+abbrev pub shared_kinds : List SectionKind
+shared_kinds = Abbrev ∷ Line ∷ Loc ∷ Loclists ∷ Rnglists ∷ StrOffsets ∷ Macinfo ∷ Macro ∷ []
+
+-- the ranges of a row lie inside their sections
+abbrev pub lie_inside : Source → Option Ranges → Bool
+lie_inside source None = true
+lie_inside source (Some row) = is_none
+    (find (λ kind. is_outside (first kind source.object.sections) (range_in row kind)) shared_kinds)
+
+-- a unit of these bytes, by its row, whose strings are these, where they can be read
+abbrev pub meaning_with : Source → List ℕ → Option Ranges → Result (List (List ℕ)) ReadError
+    → Option Meaning
+meaning_with source bytes row (Ok strings) = Some (record {
+  bytes = bytes;
+  pieces = pieces_by (part_by source row);
+  strings = strings;
+  encoding = source.encoding;
+})
+meaning_with source bytes row (Err e) = None
+
+-- all that belongs to it: nothing where a range lies outside its section, or a string can't be read
+unfoldable pub meaning_by : Source → List ℕ → Option Ranges → Option Meaning
+meaning_by source bytes row =
+    if lie_inside source row
+    then meaning_with source bytes row (strings_of source.object.order source.encoding
+    (first Str source.object.sections) (offsets_by source row))
+    else None
+
+-- what was read, where it was
+abbrev pub read_of : {X E : Type 0} → Result X E → Option X
+read_of (Ok x) = Some x
+read_of (Err e) = None
+
+-- the row of an index by place
+abbrev pub placed_row : Option Index → SectionKind → Contribution → Option Ranges
+placed_row None kind range = None
+placed_row (Some index) kind range =
+    option_and_then (λ number. read_of (row_in index number)) (row_by_place (Some index) kind range)
+
+-- a unit that was read, and the kind of section that it stands in
+pub record UnitRead : Type 0 where
+  pub from : SectionKind
+  pub unit : Header
+
+-- a unit with all that belongs to it: of a package by its row by place, and nothing without that
+-- row
+unfoldable pub unit_meaning : Source → DwarfObject × UnitRead → Option Meaning
+unit_meaning source read =
+    if is_package source.indexes
+    then option_and_then (λ row. meaning_by source read.1.unit.whole.bytes (Some row))
+    (placed_row (index_for source.indexes read.0) read.1.from (own_range read.1.unit))
+    else meaning_by source read.1.unit.whole.bytes None
+
+-- a unit that was read, by its name
+unfoldable pub named_unit : Source → SectionKind → Result Header ReadError
+    → Result (DwarfObject × UnitRead) Fault
+named_unit source kind read = do
+  unit ← as_fault ParseUnitHeader read
+  name ← name_for source kind unit
+  Ok (name, record { from = kind; unit = unit })
+
+-- all that were read of a section
+unfoldable pub named_each : Source → SectionKind → List (Result Header ReadError)
+    → Result (List (DwarfObject × UnitRead)) Fault
+named_each source kind [] = Ok []
+named_each source kind (read ∷ rest) = do
+  unit ← named_unit source kind read
+  others ← named_each source kind rest
+  Ok (unit ∷ others)
+
+abbrev pub named_at : Source → Used → Option UnitSection
+    → Result (List (DwarfObject × UnitRead)) Fault
+named_at source from None = Ok []
+named_at source from (Some place) =
+    named_each source from.kind (units place (section source.object.order from.bytes))
+
+-- those of each of these sections, in file order
+unfoldable pub named_sections : Source → List Used → Result (List (DwarfObject × UnitRead)) Fault
+named_sections source [] = Ok []
+named_sections source (from ∷ rest) = do
+  here ← named_at source from (unit_section from.kind)
+  others ← named_sections source rest
+  Ok (here ++ others)
+
+-- the units of an input by their names, in file order
+abbrev pub source_units : Source → Result (List (DwarfObject × UnitRead)) Fault
+source_units source = named_sections source source.object.sections
+
+-- each with all that belongs to it, if it has that
+abbrev pub meant : Source → DwarfObject × UnitRead → DwarfObject × Option Meaning
+meant source read = (read.0, unit_meaning source read)
+
+unfoldable pub source_meaning : Source → Result (List (DwarfObject × Option Meaning)) Fault
+source_meaning source = do
+  units ← source_units source
+  Ok (map {B = DwarfObject × Option Meaning} (meant source) units)
+
+-- the same of an input with units, whose sections, encoding and indexes are read first
+unfoldable pub object_meaning : InputFile → Result (List (DwarfObject × Option Meaning)) Fault
+object_meaning object = do
+  encoding ← encoding_of object
+  indexes ← indexes_of object encoding
+  source_meaning (record { object = object; encoding = encoding; indexes = indexes })
+
+-- what an input's bytes mean; without an info section they mean no units
+unfoldable pub input_meaning : List ℕ → Result (List (DwarfObject × Option Meaning)) Fault
+input_meaning bytes = do
+  file ← opened bytes
+  if has_info file then (input_file_of file >>= object_meaning) else Ok []
+
+-- the names of a list
+abbrev pub keys : {X : Type 0} → List (DwarfObject × X) → List DwarfObject
+keys units = map (λ u. u.0) units
+
+-- what a list adds to names that are there: a unit whose name is there, or came before, is passed
+-- over
+abbrev pub joining : {X : Type 0} → List DwarfObject → List (DwarfObject × X)
+    → List (DwarfObject × X)
+joining names [] = []
+joining names (unit ∷ rest) =
+    if list_any (same_name unit.0) names then joining names rest
+    else unit ∷ joining (names ++ unit.0 ∷ []) rest
+
+-- there is a join: no compilation unit of the list has a name that is there, or came before
+abbrev pub can_join : {X : Type 0} → List DwarfObject → List (DwarfObject × X) → Bool
+can_join names [] = true
+can_join names (unit ∷ rest) =
+    if list_any (same_name unit.0) names then not (is_compilation unit.0) && can_join names rest
+    else can_join (names ++ unit.0 ∷ []) rest

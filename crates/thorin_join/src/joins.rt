@@ -1,0 +1,32 @@
+//! What inputs add to a package, as a law.
+
+ghost use Rattle.std.specs.Prelude.{◌≡◌, ℕ, List, Option, Ok};
+ghost use Rattle.thorin_join.specs.Builder.{with_input};
+ghost use Rattle.thorin_join.specs.Join.{Joins};
+ghost use Rattle.thorin_join.specs.Represents.{IsSoundBegun, units_begun};
+ghost use Rattle.thorin_join.specs.State.{InProgress};
+
+use dwp_dwarf::laws::units_have_all_bytes;
+use dwp_index::laws::units_are_read_alone;
+use thorin_packaged::laws::packaged_rows_are_read_alike;
+use thorin_parts::laws::{
+    joined_string_offsets_are_read_in_turn, rewritten_strings_are_read_alike,
+};
+use thorin_strings::laws::rewritten_offsets_name_the_same;
+
+/// The law of accepted inputs: a package whose units can be found and read has, once an input was
+/// taken, the units that it had and those that the input joins to them, and all of them can be
+/// found and read. It does nothing.
+pub fn inputs_are_joined()
+    ensures sound { (bytes : List ℕ) (begun now : Option InProgress) → IsSoundBegun begun
+        → with_input bytes begun ≡ Ok now → IsSoundBegun now }
+    ensures joins { (bytes : List ℕ) (begun now : Option InProgress) → IsSoundBegun begun
+        → with_input bytes begun ≡ Ok now → Joins bytes (units_begun begun) (units_begun now) }
+{
+    rewritten_offsets_name_the_same();
+    rewritten_strings_are_read_alike();
+    joined_string_offsets_are_read_in_turn();
+    packaged_rows_are_read_alike();
+    units_are_read_alone();
+    units_have_all_bytes();
+}

@@ -1,0 +1,7 @@
+use Rattle.std.proofs.Common.{rules}
+use Rattle.thorin_strings.specs.Places.{hash}
+use Rattle.thorin_strings.proofs.places.hash.Goals as goal
+
+pub returns : goal.returns
+unfolding hash
+returns c = search rules

@@ -1,0 +1,33 @@
+-- Places of strings by their hashes, in slots: a hash has the first slot that is free then, from its
+-- home on.
+use Rattle.std.specs.Prelude.{ℕ, zero, suc, ◌+◌, ◌-◌, ◌/◌, ◌^◌, ◌==◌, if◌then◌else◌, List, Option}
+use Rattle.std.specs.Prelude.{None, Some, slice_index_or}
+use Rattle.std.specs.Int.RustNames.{bit_and}
+use Rattle.std.specs.Hash.FoldHasher.{initial, write, finish}
+use Rattle.thorin_strings.specs.declared.places.Slot.{Slot}
+
+-- the hash of a string, 64 bits
+unfoldable pub hash : List ℕ → ℕ
+hash s = finish (write initial s)
+
+-- a slot without a place
+abbrev pub free : Slot
+free = record { hash = 0; behind = 0 }
+
+-- the place that the first slot of a hash has, of so many from one on, and before a free one
+abbrev pub place_from : List Slot → ℕ → ℕ → ℕ → Option ℕ
+place_from slots at zero h = None
+place_from slots at (suc n) h =
+    if (slice_index_or slots at free).behind == 0
+    then None
+    else (if (slice_index_or slots at free).hash == h
+    then Some ((slice_index_or slots at free).behind - 1)
+    else place_from slots (at + 1) n h)
+
+-- the first slot of a hash, by its upper half
+abbrev pub home : ℕ → ℕ → ℕ
+home mask h = bit_and (h / 2 ^ 32) mask
+
+-- the place that a hash has
+unfoldable pub place_of : List Slot → ℕ → ℕ → Option ℕ
+place_of slots mask h = place_from slots (home mask h) 16 h

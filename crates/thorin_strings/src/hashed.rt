@@ -1,0 +1,174 @@
+//! Strings that are found by their hashes.
+
+ghost use Rattle.std.specs.Prelude.{◌≡◌, ◌↔◌, ◌+◌, ◌<◌, ◌^◌, ℕ, List, [], length, take};
+ghost use Rattle.std.specs.Prelude.{OnOk, IfOk, IfErr, IsSome, IfSome, IsNone, Contains};
+ghost use Rattle.thorin_strings.specs.Strings.{data_of, offset_of, with_string, IsZeroFree};
+ghost use Rattle.thorin_strings.specs.Strings.{IsTable, IsWithinDigits};
+ghost use Rattle.thorin_strings.specs.Marks.{mark_of};
+ghost use Rattle.thorin_strings.specs.Hashed.{IsPlaced};
+
+use crate::places::{Places, hash};
+use crate::search::stands_at;
+use crate::sorted::{SortedStrings, positions_of};
+use crate::table::{PackageStringOffset, TableMark};
+use memchr::memchr;
+use std::alloc::Global;
+use std::marker::Model;
+use std::mem::replace;
+use thorin_faults::Error;
+
+/// Distinct strings, in order of first use, each of which is found by its hash: that has the
+/// string's place. So no two have one hash, and one string at most is compared with another.
+///
+/// The place behind the string that was found last is looked at first: inputs that share strings
+/// often use them in the same order.
+#[derive(Drop)]
+pub(crate) struct HashedStrings {
+    alloc: Global,
+    bytes: Vec<u8>,
+    begins: Vec<u64>,
+    places: Places,
+    next: usize,
+}
+
+impl Model for HashedStrings {
+    ghost use Rattle.std.specs.Prelude.{List, ℕ};
+    ghost use Rattle.thorin_strings.specs.Strings.{strings_in};
+    ghost use Rattle.thorin_strings.specs.Hashed.{IsHashed};
+
+    ghost Value = { List (List ℕ) };
+
+    ghost view = { λ t. strings_in t.bytes.items };
+
+    ghost invariant = { λ t. IsHashed t.bytes.items t.begins.items t.places.slots.items
+        t.places.mask };
+}
+
+impl HashedStrings {
+    /// No strings, which take no memory.
+    pub fn new(alloc: Global) -> Self
+        ensures { result ≡ [] }
+    {
+        HashedStrings {
+            alloc,
+            bytes: Vec::new(alloc),
+            begins: Vec::new(alloc),
+            places: Places::new(alloc),
+            next: 0,
+        }
+    }
+
+    /// How many strings there are.
+    pub fn len(&self) -> usize
+        ensures { result ≡ length self.now }
+    {
+        self.begins.len()
+    }
+
+    /// Each string and a zero byte.
+    pub fn data(&self) -> &[u8]
+        ensures whole { result.now ≡ data_of self.now }
+        ensures table { IsTable self.now }
+    {
+        &self.bytes
+    }
+
+    /// The offset of a string, where it is there, and how many strings were compared.
+    pub fn find_counted(&self, string: &[u8]) -> (Option<PackageStringOffset>, u32)
+        ensures found { IsSome result.0 ↔ Contains self.now string.now }
+        ensures offset { IfSome result.0 (λ o. o.0 ≡ offset_of self.now string.now) }
+        ensures count { IsWithinDigits result.1 (length self.now) }
+    {
+        if self.begins.is_empty() {
+            return (None, 0);
+        }
+        if memchr(0, string).is_some() {
+            return (None, 0);
+        }
+        let Some(place) = self.places.find(hash(string)) else {
+            return (None, 0);
+        };
+        if stands_at(&self.bytes, place, string) {
+            (Some(PackageStringOffset(place)), 1)
+        } else {
+            (None, 1)
+        }
+    }
+
+    /// The offset of a string, which goes last where it is new. None where a new one can't be told
+    /// by its hash; then nothing changed.
+    ///
+    /// # Errors
+    /// `Memory` alone, and then nothing changed.
+    pub fn place(&mut self, string: &[u8]) -> Result<Option<usize>, Error>
+        requires { IsZeroFree string.now }
+        ensures placed { IfOk result (λ offset. IsPlaced self.old self.new string.now offset) }
+        ensures kept { take (length self.old) self.new ≡ self.old }
+        ensures err { IfErr result (λ e. (e ≡ Error.Memory) × (self.new ≡ self.old)) }
+    {
+        if stands_at(&self.bytes, self.next, string) {
+            let place = self.next;
+            self.next = place.saturating_add(string.len() + 1);
+            return Ok(Some(place));
+        }
+        let hash = hash(string);
+        if let Some(place) = self.places.find(hash) {
+            if stands_at(&self.bytes, place, string) {
+                self.next = place.saturating_add(string.len() + 1);
+                return Ok(Some(place));
+            }
+            return Ok(None);
+        }
+        let place = self.bytes.len();
+        self.bytes.reserve(string.len() + 1)?;
+        self.begins.reserve(1)?;
+        if !self.places.enter(hash, place) {
+            return Ok(None);
+        }
+        self.begins.push(place as u64).unwrap();
+        self.bytes.extend_from_slice(string).unwrap();
+        self.bytes.push(0).unwrap();
+        Ok(Some(place))
+    }
+
+    /// The same strings, found by their order; none are left here then. None for want of memory,
+    /// and then nothing changed.
+    pub fn sorted(&mut self) -> Option<SortedStrings>
+        ensures same { IfSome result (λ strings. strings ≡ self.old) }
+        ensures none { IsNone result → self.new ≡ self.old }
+    {
+        let positions = positions_of(self.alloc, &self.bytes, &self.begins)?;
+        let bytes = replace(&mut self.bytes, Vec::new(self.alloc));
+        let sorted = SortedStrings::of(self.alloc, bytes, positions, &self.begins);
+        self.begins.clear();
+        Some(sorted)
+    }
+
+    /// How much is here now, to which `truncate` goes back.
+    pub fn mark(&self) -> TableMark
+        ensures { result ≡ mark_of self.now }
+    {
+        TableMark {
+            strings: self.begins.len(),
+            bytes: self.bytes.len(),
+        }
+    }
+
+    /// Forgets every string that came after a mark. What its hash has as its place may stay there.
+    pub fn truncate(&mut self, mark: TableMark)
+        requires { mark ≡ mark_of (take mark.strings self.old) }
+        ensures { self.new ≡ take mark.strings self.old }
+    {
+        self.bytes.truncate(mark.bytes);
+        self.begins.truncate(mark.strings);
+    }
+
+    /// Each string and a zero byte.
+    pub fn finish(self) -> Vec<u8>
+        ensures whole { result.items ≡ data_of self }
+        ensures table { IsTable self }
+    {
+        let HashedStrings { bytes, .. } = self;
+        bytes
+    }
+}

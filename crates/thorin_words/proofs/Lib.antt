@@ -1,0 +1,2 @@
+pub mod Numerals
+pub mod Splitting

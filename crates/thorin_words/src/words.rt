@@ -1,0 +1,96 @@
+//! The words of a text, as linkers read those of a response file.
+
+ghost use Rattle.std.specs.Prelude.{◌≡◌, map, IfOk};
+ghost use Rattle.thorin_words.specs.Words.{behind, keeps, is_between, is_space, is_mark, words_of};
+
+use std::alloc::{AllocError, Global};
+use std::mem;
+
+/// Where a byte of the text stands.
+#[derive(Clone, Copy)]
+enum Place {
+    /// Between two words.
+    Between,
+    /// In a word, behind this quotation mark where there is one.
+    Inside(Option<u8>),
+    /// In a word, directly behind a backslash.
+    Escaped(Option<u8>),
+}
+
+impl Place {
+    /// The place behind a byte.
+    fn behind(self, byte: u8) -> Place
+        ensures { result ≡ behind self byte }
+    {
+        let quote = match self {
+            Place::Between => None,
+            Place::Inside(quote) => quote,
+            Place::Escaped(quote) => return Place::Inside(quote),
+        };
+        match quote {
+            _ if byte == b'\\' => Place::Escaped(quote),
+            Some(mark) if byte == mark => Place::Inside(None),
+            Some(_) => Place::Inside(quote),
+            None if is_space(byte) => Place::Between,
+            None if is_mark(byte) => Place::Inside(Some(byte)),
+            None => Place::Inside(None),
+        }
+    }
+
+    /// Whether a byte at this place belongs to the word.
+    fn keeps(self, byte: u8) -> bool
+        ensures { result ≡ keeps self byte }
+    {
+        match self {
+            Place::Escaped(_) => true,
+            Place::Inside(Some(mark)) => byte != b'\\' && byte != mark,
+            _ => byte != b'\\' && !is_mark(byte) && !is_space(byte),
+        }
+    }
+
+    fn is_between(self) -> bool
+        ensures { result ≡ is_between self }
+    {
+        matches!(self, Place::Between)
+    }
+}
+
+/// A blank, or one of the five control characters from the tabulator to the carriage return.
+fn is_space(byte: u8) -> bool
+    ensures { result ≡ is_space byte }
+{
+    byte == b' ' || (b'\t'..=b'\r').contains(&byte)
+}
+
+fn is_mark(byte: u8) -> bool
+    ensures { result ≡ is_mark byte }
+{
+    byte == b'\'' || byte == b'"'
+}
+
+/// The words of a text: whitespace separates them; a quotation mark, `'` or `"`, takes what stands
+/// up to the next one of its kind into the word, and a backslash the byte behind it, also between
+/// quotation marks. The text's end ends all. So linkers read what stands in the file of `@FILE`.
+///
+/// # Errors
+/// Want of memory.
+pub fn split_words(alloc: Global, text: &[u8]) -> Result<Vec<Vec<u8>>, AllocError>
+    ensures { IfOk result (λ words. map (λ word. word.items) words.items ≡ words_of text.now) }
+{
+    let mut words = Vec::new(alloc);
+    let mut word = Vec::new(alloc);
+    let mut place = Place::Between;
+    for byte in text {
+        let was = place;
+        place = was.behind(*byte);
+        if was.keeps(*byte) {
+            word.push(*byte)?;
+        } else if place.is_between() && !was.is_between() {
+            words.push(mem::replace(&mut word, Vec::new(alloc)))?;
+        }
+    }
+    if !place.is_between() {
+        words.push(word)?;
+    }
+    Ok(words)
+}
