@@ -4,7 +4,8 @@
 string_inputs.py FOLDER [NAME=COUNT..]: each object is FOLDER/NAME-COUNT.dwo. A NAME is one of
 
     random    distinct strings of 22 bytes, the first 14 of which are the same, in an order that is far from theirs
-    equal     distinct strings of 16 bytes that have one hash in thorin's table
+    equal     distinct strings of 16 bytes that have one hash in thorin's table, so that it sorts them at once
+    late      those of random, and then two of one hash, so that thorin's table sorts all of them at the end
     long      distinct strings of 1,008 bytes, the first 1,000 of which are the same
     suffixes  all ends of one string of COUNT letters; a package of them has COUNT * (COUNT + 3) / 2 bytes of strings
 
@@ -40,24 +41,30 @@ def random(count):
         yield b"thorin::name::" + b"".join(letters[byte] for byte in number.to_bytes(4, "little"))
 
 
-def turned(state):
-    return (state << 23 | state >> 41) % 2 ** 64
+# The hash multiplies what is left of each half of 16 bytes; nothing is left of a second half like this, so it is 0.
+SECOND_HALF = 0x9E37_79B9_7F4A_7C15
 
 
 def equal(count):
     seed = 7
     while count:
         seed = (seed * 6_364_136_223_846_793_005 + 1_442_695_040_888_963_407) % 2 ** 64
-        first = seed | 0x0101_0101_0101_0101
-        second = turned((turned(16) ^ first) * 0x9e37_79b9_7f4a_7c15 % 2 ** 64) ^ 0x1234_5678_9abc_def1
-        string = struct.pack("<QQ", first, second)
+        string = struct.pack("<QQ", seed | 0x0101_0101_0101_0101, SECOND_HALF)
         if 0 not in string:
             count -= 1
             yield string
 
 
+def late(count):
+    yield from random(count)
+    yield from equal(2)
+
+
 def long(count):
     return (b"x" * 1000 + b"%08d" % number for number in range(count))
+
+
+KINDS = {"random": random, "equal": equal, "late": late, "long": long}
 
 
 def of_strings(strings):
@@ -78,7 +85,7 @@ def main():
     folder.mkdir(parents=True, exist_ok=True)
     for word in sys.argv[2:] or ["random=10000", "random=100000", "random=1000000", "equal=100000", "long=20000", "suffixes=10000"]:
         name, count = word.split("=")
-        made = of_suffixes(int(count)) if name == "suffixes" else of_strings({"random": random, "equal": equal, "long": long}[name](int(count)))
+        made = of_suffixes(int(count)) if name == "suffixes" else of_strings(KINDS[name](int(count)))
         offsets = struct.pack(f"<{len(made[1])}I", *made[1])
         sections = [(".debug_info.dwo", UNIT), (".debug_abbrev.dwo", ABBREVIATIONS), (".debug_str.dwo", made[0]), (".debug_str_offsets.dwo", offsets)]
         (folder / f"{name}-{count}.dwo").write_bytes(elf(sections))
