@@ -1,7 +1,8 @@
-//! What the tests of packages share: small objects, and what a package says of a unit. The
-//! functions promise nothing, so a test that calls them is proved without their insides.
+//! What tests share: assertions, small objects, and what a package says of a unit. The functions
+//! promise nothing, so a test that calls them is proved without their insides.
 #![tactic(auto)]
 
+pub mod asserting;
 mod objects;
 mod units;
 
