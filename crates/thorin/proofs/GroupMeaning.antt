@@ -1,20 +1,18 @@
 -- What packing in groups means: the join of all inputs at once.
-use Rattle.std.proofs.Common.{◌≡◌, ◌∙◌, ℕ, zero, suc, ◌<◌, ◌+◌, Bool, true, false, true≢false, cond, List, [], ◌∷◌, ◌++◌, length, map, filter, get_or, Option, Some, None, Result, Ok, Err, All, refl, sym, ap, subst, arith, append-nil}
-use Rattle.std.specs.List.{swap, flat_map, IsDistinct, AllByRecursion}
+use Rattle.std.proofs.Common.{◌≡◌, ◌∙◌, ℕ, ◌<◌, true, List, [], ◌∷◌, ◌++◌, length, Option, Some, Result, Ok, Err, refl, sym, ap, subst, arith}
+use Rattle.std.specs.List.{swap, flat_map, IsDistinct}
 use Rattle.std.specs.List.Sorted.{IsPermutation}
-use Rattle.std.specs.Map.{lookup}
 use Rattle.std.proofs.lemmas.List.{length-map}
-use Rattle.std.proofs.lemmas.List.Sorted.{IsPermutation-refl, IsPermutation-sym, IsPermutation-trans, IsPermutation-swap, IsPermutation-keeps, length_permutation, All-permutation}
+use Rattle.std.proofs.lemmas.List.Sorted.{IsPermutation-refl, IsPermutation-sym, IsPermutation-trans, IsPermutation-swap, IsPermutation-keeps}
 use Rattle.dwp_base.specs.Reading.{◌>>=◌}
 use Rattle.dwp_elf.specs.FileText.{Object as File, file_text}
 use Rattle.dwp_elf.specs.Written.{written_elf}
 use Rattle.dwp_elf_read.specs.Elf.{elf_of}
 use Rattle.dwp_table.specs.declared.object.DwarfObject.{DwarfObject}
-use Rattle.thorin_faults.specs.Fault.{Fault}
 use Rattle.thorin_join.specs.Builder.{State, start, taken, with_input, finish_test, IsFinishedState}
 use Rattle.thorin_input.specs.Encodings.{own_encoding}
-use Rattle.thorin_join.specs.Join.{JoinAll, IsPackageOf}
-use Rattle.thorin_join.specs.Meaning.{Meaning, Members, keys, input_meaning, joining, can_join}
+use Rattle.thorin_join.specs.Join.{IsPackageOf}
+use Rattle.thorin_join.specs.Meaning.{Meaning, Members, keys, joining, can_join}
 use Rattle.thorin_input.specs.Names.{same_name}
 use Rattle.thorin_join.specs.Represents.{IsSoundBegun, units_in}
 use Rattle.thorin_join.specs.State.{InProgress}
@@ -22,7 +20,7 @@ use Rattle.thorin_join.specs.Again.{HaveEncodingOf, all_meant, MeansWhereTaken, 
 use Rattle.thorin.specs.Groups.{taken_each, IsPackedAlone, ArePackedAlone, IsPackedInGroups, AreJoined, HaveTheirEncodings, inputs_of, IsPackageOfAll}
 use Rattle.thorin.proofs.GroupJoins.{groups-defined, groups-joined, joined-distinct, none-distinct}
 use Rattle.thorin.proofs.GroupLookups.{units-found, swap-map}
-use Rattle.thorin.proofs.GroupUnits.{Units, AllMean, keys-meant, mean-append, IsJoinOf, join-of, joins-all}
+use Rattle.thorin.proofs.GroupUnits.{Units, AllMean, keys-meant, mean-append, join-of, joins-all}
 
 -- what the laws of the builder say
 abbrev pub KeepsSound : Type 0

@@ -1,5 +1,5 @@
 -- The one encoding that a builder holds, as a step with an input leaves it.
-use Rattle.std.proofs.Common.{◌≡◌, ◌∙◌, ℕ, ◌<◌, ◌≤◌, Bool, true, false, cond, List, length, refl, sym, ap, Result, Ok, Option, Some, None, arith, true≢false}
+use Rattle.std.proofs.Common.{◌≡◌, ◌∙◌, ℕ, ◌<◌, ◌≤◌, true, false, cond, List, length, refl, sym, ap, Result, Ok, Option, Some, None, arith, true≢false}
 use Rattle.std.specs.Prelude.{is_some, is_none}
 use Rattle.std.proofs.lemmas.Bool.{le-ltb, lt-ltb}
 use Rattle.dwp_base.specs.Reading.{◌>>=◌}

@@ -1,5 +1,5 @@
 -- What the units that an input adds, and what they are added to, stand for.
-use Rattle.std.specs.Prelude.{ℕ, List, map}
+use Rattle.std.specs.Prelude.{map}
 use Rattle.thorin_builder.specs.declared.units.NewUnit.{NewUnit}
 use Rattle.thorin_builder.specs.declared.units.NewUnits.{NewUnits}
 use Rattle.thorin_builder.specs.declared.units.Adding.{Adding}

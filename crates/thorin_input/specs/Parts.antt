@@ -16,7 +16,7 @@ use Rattle.thorin_faults.specs.Fault.{Fault, MissingRequiredSection, RepeatedSec
 use Rattle.thorin_faults.specs.Fault.{SectionOutsideFormat}
 use Rattle.thorin_input.specs.Growing.{Contents}
 use Rattle.thorin_input.specs.Indexes.{Source, is_package}
-use Rattle.thorin_input.specs.Used.{Used, InputFile, first}
+use Rattle.thorin_input.specs.Used.{Used, first}
 
 -- packages of an encoding's version have the section: location and range lists of DWARF 5 from
 -- version 5 on, type units, location lists and macros of older versions below it

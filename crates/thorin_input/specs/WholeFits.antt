@@ -1,5 +1,5 @@
 -- Ranges whose ends have 64 bits.
-use Rattle.std.specs.Prelude.{ℕ, ◌+◌, ◌<◌, ◌^◌, Option}
+use Rattle.std.specs.Prelude.{◌+◌, ◌<◌, ◌^◌, Option}
 use Rattle.std.specs.Option.{ForSome}
 use Rattle.dwp_base.specs.declared.section.Contribution.{Contribution}
 use Rattle.thorin_parts.specs.declared.entry.IndexEntry.{IndexEntry}

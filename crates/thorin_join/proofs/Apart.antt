@@ -1,5 +1,5 @@
 -- Names of units that are apart: no two places have one name.
-use Rattle.std.proofs.Common.{◌≡◌, ◌∙◌, ℕ, ◌+◌, ◌<◌, Bool, true, false, not, cond, List, [], ◌∷◌, ◌++◌, length, map, true≢false, subst₂, inl, inr, get_or, All, AllPairs, ap, sym, subst, refl, arith, eq-eqb, eqb-true, append_assoc, append-nil}
+use Rattle.std.proofs.Common.{◌≡◌, ◌∙◌, ℕ, ◌<◌, Bool, true, false, not, cond, List, [], ◌∷◌, ◌++◌, length, map, true≢false, subst₂, inl, inr, get_or, All, AllPairs, ap, sym, subst, refl, arith, eq-eqb, eqb-true, append_assoc, append-nil}
 use Rattle.std.specs.List.{list_any}
 use Rattle.std.proofs.lemmas.Bool.{cases_order}
 use Rattle.std.proofs.lemmas.List.Elements.{filter_passes}

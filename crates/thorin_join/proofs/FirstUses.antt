@@ -1,13 +1,11 @@
 -- The strings of a package are those that its inputs name, in order of first use.
-use Rattle.std.proofs.Common.{◌≡◌, ◌∙◌, ℕ, zero, suc, ◌+◌, ◌*◌, ◌-◌, ◌/◌, ◌%◌, ◌==◌, ◌≤◌, ◌<◌, Bool, true, false, cond, not, ◌&&◌, eqb, leb, nat_eq, nat_lt, nat_le, List, [], ◌∷◌, ◌++◌, length, take, drop, length-take, length-drop, ap, sym, subst, refl, Result, Ok, Err, Option, Some, None, inl, inr, if◌then◌else◌, arith}
+use Rattle.std.proofs.Common.{◌≡◌, ◌∙◌, ℕ, zero, suc, ◌+◌, ◌*◌, ◌-◌, ◌/◌, ◌%◌, ◌==◌, ◌≤◌, Bool, true, false, cond, not, ◌&&◌, eqb, nat_lt, nat_le, List, [], ◌∷◌, ◌++◌, length, drop, length-take, length-drop, ap, sym, subst, refl, Result, Ok, Err, Option, Some, None, inl, inr, if◌then◌else◌, arith}
 use Rattle.std.specs.Prelude.{slice_range}
 use Rattle.std.specs.List.{list_any}
 use Rattle.std.specs.Result.{result_unwrap_or}
-use Rattle.std.proofs.lemmas.List.{append-nil}
 use Rattle.std.proofs.lemmas.Bool.{eqb-true, leb-true}
 use Rattle.std.proofs.lemmas.Option.{same_Some}
 use Rattle.dwp_base.specs.Reading.{◌>>=◌}
-use Rattle.dwp_base.specs.Numbers.{number}
 use Rattle.dwp_base.specs.Sections.{same_kind}
 use Rattle.dwp_base.specs.declared.endian.Endianness.{Endianness}
 use Rattle.dwp_base.specs.declared.section.Contribution.{Contribution}
@@ -30,14 +28,14 @@ use Rattle.thorin_strings.specs.Strings.{with_string, offset_of}
 use Rattle.thorin_join.specs.Builder.{package_or_new, order_test, with_source_or_new, with_units, with_input}
 use Rattle.thorin_input.specs.Encodings.{encoding_of}
 use Rattle.thorin_join.specs.FirstUse.{with_strings, named_by, named_by_ranges, named_by_section, named_in, strings_begun, named_in_file, used_by, UsesStrings}
-use Rattle.thorin_input.specs.Indexes.{Indexes, Source, is_package, indexes_of}
+use Rattle.thorin_input.specs.Indexes.{Source, is_package, indexes_of}
 use Rattle.thorin_input.specs.Names.{same_name}
-use Rattle.thorin_input.specs.NewUnits.{New, NewUnit, new_units}
+use Rattle.thorin_input.specs.NewUnits.{NewUnit, new_units}
 use Rattle.thorin_input.specs.Parts.{Parts, rewritten, with_part, with_each_part, parts_of}
 use Rattle.thorin_join.specs.Represents.{IsSound}
 use Rattle.thorin_join.specs.State.{InProgress, names_of, adding, abbreviations_test, with_unit_added, with_new_unit, with_new_units, with_all, with_source}
-use Rattle.thorin_join.specs.Strings.{each_from, offset_of_entry, offsets_in, strings_at, strings_of}
-use Rattle.thorin_input.specs.Used.{Used, InputFile, opened, has_info, input_file_of, first}
+use Rattle.thorin_join.specs.Strings.{each_from, offset_of_entry, strings_at, strings_of}
+use Rattle.thorin_input.specs.Used.{Used, opened, has_info, input_file_of, first}
 use Rattle.thorin_join.proofs.PartGrowth.{Adds, step}
 use Rattle.thorin_join.proofs.Steps.{ok-eq, bind-ok, bind-inv}
 

@@ -2,7 +2,6 @@
 use Rattle.std.proofs.Common.{◌≡◌, ◌∙◌, ℕ, Bool, true, false, not, cond, ◌||◌, ◌&&◌, ◌==◌, List, [], ◌∷◌, ◌++◌, map, Option, Some, None, is_some, Result, Ok, Err, ap, ap₂, sym, subst, refl, append_assoc, append-nil}
 use Rattle.std.specs.List.{list_any}
 use Rattle.std.specs.Map.{lookup}
-use Rattle.std.specs.Option.{ok_or}
 use Rattle.std.specs.Str.{bytes_eq}
 use Rattle.std.proofs.lemmas.List.Folds.{list_any-append}
 use Rattle.std.proofs.lemmas.List.{map-append}
@@ -18,7 +17,6 @@ use Rattle.dwp_table.specs.declared.object.DwarfObject.TheVariants.{Compilation,
 use Rattle.thorin_parts.specs.declared.entry.IndexEntry.{IndexEntry}
 use Rattle.thorin_faults.specs.Fault.{Fault, ParseUnitHeader, EmptyUnit}
 use Rattle.thorin_faults.specs.Answers.{as_fault}
-use Rattle.thorin_input.specs.Indexes.{Source}
 use Rattle.thorin_join.specs.Meaning.{UnitRead, keys, joining, can_join, named_unit, named_each, named_at, named_sections, source_units}
 use Rattle.thorin_input.specs.Names.{same_name, is_compilation}
 use Rattle.thorin_input.specs.NewUnits.{NewUnit, New, Adding, Met, or_held, kept_bytes, place_for, with_first, with_unit, name_for, with_read, with_each_read, unit_section, none_met, with_met, once_test, with_section_at, with_section_in, with_section, with_each_section, new_units}

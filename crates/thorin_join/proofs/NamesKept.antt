@@ -1,6 +1,6 @@
 -- Each unit of a package names itself by the abbreviations of its row, where plain objects of one encoding are added.
-use Rattle.std.proofs.Common.{◌≡◌, ◌∙◌, ℕ, zero, suc, ◌+◌, ◌<◌, ◌≤◌, Bool, true, false, cond, ◌&&◌, List, [], ◌∷◌, ◌++◌, length, refl, sym, ap, subst, Result, Ok, Err, Option, Some, None, arith, true≢false, append_assoc, append-nil, length-append}
-use Rattle.std.specs.Prelude.{slice_get, find}
+use Rattle.std.proofs.Common.{◌≡◌, ◌∙◌, ℕ, suc, ◌+◌, ◌<◌, ◌≤◌, Bool, true, false, cond, ◌&&◌, List, [], ◌∷◌, ◌++◌, length, refl, sym, ap, subst, Result, Ok, Option, Some, None, arith, true≢false, length-append}
+use Rattle.std.specs.Prelude.{find}
 use Rattle.std.specs.List.{list_any, list_all}
 use Rattle.std.specs.Option.{ok_or}
 use Rattle.std.proofs.lemmas.Option.{none-some, same_Some}
@@ -24,7 +24,6 @@ use Rattle.thorin_faults.specs.Fault.{Fault, ParseUnitHeader, NotSplitUnit}
 use Rattle.thorin_faults.specs.Answers.{as_fault}
 use Rattle.thorin_identity.specs.Identity.{identity}
 use Rattle.thorin_parts.specs.Entries.{contribution_to}
-use Rattle.thorin_parts.specs.EntryTests.{same_encoding}
 use Rattle.thorin_parts.specs.declared.entry.IndexEntry.{IndexEntry}
 use Rattle.thorin_input.specs.Encodings.{has_encoding, all_have, section_has}
 use Rattle.thorin_input.specs.Growing.{Contents, with_bytes, with_parts, joined_parts, range_put}
@@ -41,17 +40,17 @@ use Rattle.thorin_join.specs.StandApart.{EachRow}
 use Rattle.thorin_join.specs.State.{InProgress, kind_at, names_of, row_at, unit_bytes, adding, with_unit_added, with_new_unit, with_new_units, with_source}
 use Rattle.thorin_input.specs.Used.{Used, first, has_kind, bytes_of}
 use Rattle.thorin_packaged.specs.RowPlaces.{row_by_place}
-use Rattle.thorin_join.proofs.HeadersRead.{ReadAlone, FiveOrType, name-identity}
+use Rattle.thorin_join.proofs.HeadersRead.{ReadAlone, name-identity}
 use Rattle.thorin_join.proofs.IdentitySort.{identity-sort}
-use Rattle.thorin_join.proofs.Joining.{IsAdded, AreAdded, units-joined}
-use Rattle.thorin_join.proofs.Keeping.{Grows, grows-refl, grows-trans, grows-with_bytes, keep-part, keep-lie}
+use Rattle.thorin_join.proofs.Joining.{IsAdded, AreAdded}
+use Rattle.thorin_join.proofs.Keeping.{Grows, grows-with_bytes, keep-part, keep-lie}
 use Rattle.thorin_join.proofs.LaidKept.{types-only}
 use Rattle.thorin_join.proofs.LongerTables.{identity-stays}
-use Rattle.thorin_join.proofs.OffsetsTiled.{row-append, each-row, weaker, order-kept}
+use Rattle.thorin_join.proofs.OffsetsTiled.{row-append, weaker, order-kept}
 use Rattle.thorin_join.proofs.OwnEncodings.{encoding-eq}
-use Rattle.thorin_join.proofs.OwnRows.{is-unit_row, whole-else, each-shared}
-use Rattle.thorin_join.proofs.PartGrowth.{content-with_parts, content-with_bytes, parts-copied}
-use Rattle.thorin_join.proofs.RowsNamed.{shared-row, shared-apart, plain-part, PlainAdded, plain-added}
+use Rattle.thorin_join.proofs.OwnRows.{is-unit_row, whole-else}
+use Rattle.thorin_join.proofs.PartGrowth.{content-with_parts, parts-copied}
+use Rattle.thorin_join.proofs.RowsNamed.{shared-row, plain-part, plain-added}
 use Rattle.thorin_join.proofs.Shifted.{identity-shifted}
 use Rattle.thorin_join.proofs.SourceAdded.{with_all_parts, grows-with_parts}
 use Rattle.thorin_join.proofs.StandingApart.{sound-inside}

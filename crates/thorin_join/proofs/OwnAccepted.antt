@@ -1,5 +1,5 @@
 -- A written package of plain objects of one encoding is accepted.
-use Rattle.std.proofs.Common.{◌≡◌, ◌∙◌, ℕ, ◌+◌, ◌<◌, Bool, true, false, cond, eqb, not, ◌&&◌, List, [], ◌∷◌, ◌++◌, length, refl, sym, ap, subst, Result, Ok, Err, Option, Some, None, arith, true≢false, ◌||◌, inl, length-append}
+use Rattle.std.proofs.Common.{◌≡◌, ◌∙◌, ℕ, ◌<◌, Bool, true, false, cond, eqb, not, ◌&&◌, List, [], ◌∷◌, ◌++◌, length, refl, sym, ap, subst, Result, Ok, Err, Option, Some, None, arith, true≢false, ◌||◌, inl, length-append}
 use Rattle.std.specs.Prelude.{nat_lt, is_some}
 use Rattle.std.proofs.lemmas.Bool.{eqb-false, ltb-true, lt-ltb}
 use Rattle.std.proofs.lemmas.List.{length-map}

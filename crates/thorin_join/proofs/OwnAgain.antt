@@ -1,6 +1,6 @@
 -- A written package of plain objects as an input: its indexes, and its string offsets.
-use Rattle.std.proofs.Common.{◌≡◌, ◌∙◌, ℕ, suc, ◌+◌, ◌<◌, ◌≤◌, Bool, true, false, cond, List, [], ◌∷◌, ◌++◌, length, refl, sym, ap, subst, Result, Ok, Option, Some, arith, inl, inr}
-use Rattle.std.specs.Prelude.{slice_get, slice_range}
+use Rattle.std.proofs.Common.{◌≡◌, ◌∙◌, ℕ, suc, ◌+◌, ◌<◌, true, false, cond, List, [], ◌∷◌, ◌++◌, length, refl, sym, ap, subst, Ok, Some, arith, inl, inr}
+use Rattle.std.specs.Prelude.{slice_get}
 use Rattle.std.proofs.lemmas.List.{length-map}
 use Rattle.std.proofs.lemmas.Option.{same_Some}
 use Rattle.std.proofs.Math.Seq.{take-length}
@@ -13,7 +13,6 @@ use Rattle.dwp_bytes.specs.StringOffsets.{entry_count}
 use Rattle.dwp_bytes.specs.declared.encoding.Encoding.{Encoding}
 use Rattle.dwp_elf.specs.Contents.{KindsDiffer, content_of}
 use Rattle.dwp_elf.specs.FileText.{Object as File}
-use Rattle.dwp_index.specs.Index.{Index}
 use Rattle.dwp_index.specs.Package.{index_in_section, part_of}
 use Rattle.dwp_index.specs.Strings.{string_in}
 use Rattle.dwp_table.specs.declared.object.DwarfObject.{DwarfObject}
@@ -21,14 +20,13 @@ use Rattle.thorin_parts.specs.declared.entry.IndexEntry.{IndexEntry}
 use Rattle.thorin_strings.specs.Strings.{IsTable, data_of}
 use Rattle.thorin_join.specs.Builder.{State, IdentifiersFit, IsFinished, rows_of}
 use Rattle.thorin_input.specs.Growing.{Contents, with_bytes}
-use Rattle.thorin_input.specs.Indexes.{Indexes, Source, is_package, indexes_of}
+use Rattle.thorin_input.specs.Indexes.{Indexes, Source, indexes_of}
 use Rattle.thorin_join.specs.Meaning.{Meaning, Members}
-use Rattle.thorin_input.specs.Names.{is_compilation}
 use Rattle.thorin_join.specs.OwnInput.{written_object, IsOwn}
 use Rattle.thorin_join.specs.OwnRefusals.{UnlessStringOffset}
 use Rattle.thorin_join.specs.OwnUnits.{AllOf}
 use Rattle.thorin_input.specs.Parts.{rewritten}
-use Rattle.thorin_join.specs.Plain.{is_shared, IsWholeRange, Tile, IsAmong, HasOneOf, HasTiledOffsets, IsPlain}
+use Rattle.thorin_join.specs.Plain.{is_shared, IsWholeRange, Tile, IsAmong, HasOneOf, IsPlain}
 use Rattle.thorin_join.specs.Represents.{IsSound, IsSoundBegun, IsRowOf, AreRowsOf, units_of, units_begun}
 use Rattle.thorin_join.specs.StandApart.{EachRow}
 use Rattle.thorin_join.specs.State.{InProgress, names_of}

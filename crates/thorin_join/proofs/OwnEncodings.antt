@@ -1,9 +1,8 @@
 -- All units of plain objects of one encoding have it.
-use Rattle.std.proofs.Common.{◌≡◌, ◌∙◌, ℕ, ◌<◌, ◌≤◌, Bool, true, false, cond, eqb, ◌&&◌, ltb, List, [], ◌∷◌, ◌++◌, length, map, refl, sym, ap, subst, Result, Ok, Err, Option, Some, None, arith, true≢false}
-use Rattle.std.specs.Prelude.{is_some, is_none}
+use Rattle.std.proofs.Common.{◌≡◌, ◌∙◌, ℕ, Bool, true, false, cond, eqb, ◌&&◌, ltb, List, [], ◌∷◌, ◌++◌, length, map, refl, sym, ap, subst, Result, Ok, Err, Option, Some, None, arith}
 use Rattle.std.specs.List.{list_any, list_all}
 use Rattle.std.specs.Option.{option_and_then}
-use Rattle.std.proofs.lemmas.Bool.{ltb-true, eqb-true, le-ltb, lt-ltb}
+use Rattle.std.proofs.lemmas.Bool.{ltb-true, eqb-true}
 use Rattle.std.proofs.lemmas.List.{length-map}
 use Rattle.std.proofs.lemmas.List.Elements.{All-cons, All-append}
 use Rattle.dwp_base.specs.Reading.{◌>>=◌}
@@ -23,13 +22,13 @@ use Rattle.thorin_input.specs.Indexes.{Source, is_package, index_for, indexes_of
 use Rattle.thorin_join.specs.Join.{Joins}
 use Rattle.thorin_join.specs.Meaning.{Meaning, Members, UnitRead, keys, meaning_with, meaning_by, unit_meaning, lie_inside, offsets_by, placed_row, meant, source_units, source_meaning, object_meaning, input_meaning, joining}
 use Rattle.thorin_input.specs.Names.{same_name}
-use Rattle.thorin_join.specs.OwnUnits.{AllOf, HoldsOwn, HasOneEncoding}
+use Rattle.thorin_join.specs.OwnUnits.{AllOf, HoldsOwn}
 use Rattle.thorin_join.specs.Represents.{IsSoundBegun, units_in, units_begun}
 use Rattle.thorin_input.specs.Rows.{own_range}
 use Rattle.thorin_join.specs.State.{InProgress}
 use Rattle.thorin_join.specs.Strings.{strings_of}
 use Rattle.thorin_input.specs.Used.{InputFile, opened, has_info, input_file_of, first}
-use Rattle.thorin_join.proofs.Steps.{ok-eq, bind-ok, bind-inv}
+use Rattle.thorin_join.proofs.Steps.{ok-eq, bind-inv}
 
 -- ---- the units that an input means have its encoding
 

@@ -1,7 +1,6 @@
 -- The sections of a written package are in the format of its units.
-use Rattle.std.proofs.Common.{◌≡◌, ◌∙◌, ℕ, zero, suc, ◌+◌, ◌<◌, Bool, true, false, cond, not, leb, ◌||◌, ⊎_elim, List, [], ◌∷◌, ◌++◌, length, refl, sym, ap, subst, Result, Ok, Err, Option, Some, None, arith, true≢false}
+use Rattle.std.proofs.Common.{◌≡◌, ◌∙◌, ℕ, zero, suc, ◌<◌, Bool, true, false, cond, not, leb, ◌||◌, ⊎_elim, List, [], ◌∷◌, length, refl, sym, ap, Result, Ok, Err, Option, Some, None, arith, true≢false}
 use Rattle.std.specs.Prelude.{slice_get, is_some}
-use Rattle.std.specs.List.{list_any}
 use Rattle.std.proofs.lemmas.Option.{none-some, same_Some}
 use Rattle.dwp_base.specs.Reading.{◌>>=◌}
 use Rattle.dwp_base.specs.Sections.{name_of}
@@ -16,7 +15,7 @@ use Rattle.dwp_dwarf.specs.declared.unit.UnitSection.TheVariants as places
 use Rattle.dwp_table.specs.Columns.{column_of, contribution_kinds}
 use Rattle.thorin_faults.specs.Fault.{Fault, SectionOutsideFormat}
 use Rattle.thorin_parts.specs.Entries.{contribution_to}
-use Rattle.thorin_parts.specs.EntryTests.{each, count_test, encoding_test, format_test, offset_test, size_test, parts_test, tests_under, index_tests}
+use Rattle.thorin_parts.specs.EntryTests.{each, count_test, encoding_test, format_test, parts_test, tests_under, index_tests}
 use Rattle.thorin_parts.specs.IndexText.{is_used}
 use Rattle.thorin_parts.specs.declared.entry.IndexEntry.{IndexEntry}
 use Rattle.thorin_join.specs.Builder.{rows_of}
@@ -26,7 +25,6 @@ use Rattle.thorin_join.specs.State.{kind_at}
 use Rattle.thorin_join.proofs.OwnIndexes.{HaveVersion, version-chosen}
 use Rattle.thorin_join.proofs.OwnUnitRows.{used-chosen}
 use Rattle.thorin_join.proofs.Steps.{bind-inv}
-use Rattle.thorin_join.proofs.Written.{Tested}
 
 -- what each of a list passes
 each-passed : {A : Type 0} (test : A → Result (Unit {0}) Fault) (xs : List A) (n : ℕ) (x : A) → each test xs ≡ Ok tt → slice_get xs n ≡ Some x → test x ≡ Ok tt

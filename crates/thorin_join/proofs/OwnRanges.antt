@@ -1,6 +1,6 @@
 -- The ranges of string offsets of a written package lie apart, and each is rewritten unless the offset of a string doesn't fit.
-use Rattle.std.proofs.Common.{◌≡◌, ◌∙◌, ℕ, zero, suc, ◌+◌, ◌-◌, ◌*◌, ◌/◌, ◌%◌, ◌<◌, ◌≤◌, Bool, true, false, cond, eqb, ltb, leb, not, ◌&&◌, ◌⊎◌, inl, inr, List, [], ◌∷◌, ◌++◌, length, map, drop, refl, sym, ap, subst, Result, Ok, Err, Option, Some, None, arith, true≢false}
-use Rattle.std.specs.Prelude.{slice_get, slice_range, nat_lt, nat_le, ◌==◌, codes, unwrap_or}
+use Rattle.std.proofs.Common.{◌≡◌, ◌∙◌, ℕ, zero, suc, ◌+◌, ◌-◌, ◌*◌, ◌%◌, ◌<◌, ◌≤◌, Bool, true, false, cond, eqb, ltb, not, ◌&&◌, ◌⊎◌, inl, inr, List, [], ◌∷◌, ◌++◌, length, map, drop, refl, sym, ap, subst, Result, Ok, Err, Option, Some, None, arith, true≢false}
+use Rattle.std.specs.Prelude.{slice_get, nat_lt, nat_le, ◌==◌, codes}
 use Rattle.std.specs.List.{range_with_len}
 use Rattle.std.specs.Option.{option_and_then}
 use Rattle.std.specs.Result.{result_ok}
@@ -9,7 +9,7 @@ use Rattle.std.specs.Cmp.{nat_cmp_is}
 use Rattle.std.specs.Ordering.{match_ordering, nat_cmp, ordering_then}
 use Rattle.std.specs.declared.cmp.Ordering.{Ordering}
 use Rattle.std.specs.declared.cmp.Ordering.TheVariants.{Less, Equal, Greater}
-use Rattle.std.proofs.lemmas.Bool.{le-leb, le-ltb, lt-ltb, eq-eqb, ltb-true, ltb-false}
+use Rattle.std.proofs.lemmas.Bool.{le-leb, le-ltb, lt-ltb, eq-eqb, ltb-true}
 use Rattle.std.proofs.lemmas.Nat.{row_fits}
 use Rattle.std.proofs.Math.Dec.{eqb-suc-zero}
 use Rattle.std.proofs.lemmas.Option.{none-some, same_Some}
@@ -36,9 +36,9 @@ use Rattle.thorin_parts.specs.Entries.{contribution_to}
 use Rattle.thorin_parts.specs.ReadRows.{HasEntries}
 use Rattle.thorin_parts.specs.declared.entry.IndexEntry.{IndexEntry}
 use Rattle.thorin_strings.specs.StringOffsets.{header_of, offset_at, named_at, offset_limit, fitting_offset, remapped_entry, remapped_entries, remapped, entry_bytes}
-use Rattle.thorin_strings.specs.Strings.{offset_of, with_string}
+use Rattle.thorin_strings.specs.Strings.{offset_of}
 use Rattle.thorin_join.specs.Builder.{is_chosen, rows_of}
-use Rattle.thorin_join.specs.OwnRefusals.{IsStringOffset, UnlessStringOffset}
+use Rattle.thorin_join.specs.OwnRefusals.{UnlessStringOffset}
 use Rattle.thorin_join.specs.Plain.{IsWholeRange, Tile, IsAmong}
 use Rattle.thorin_join.specs.StandApart.{EachRow}
 use Rattle.thorin_join.proofs.IndexesRead.{HasRows}

@@ -1,7 +1,6 @@
 -- A unit of a written package gets a row, whatever package it is added to.
-use Rattle.std.proofs.Common.{◌≡◌, ◌∙◌, ℕ, zero, suc, ◌+◌, ◌<◌, ◌≤◌, Bool, true, false, cond, not, eqb, leb, ◌||◌, ◌⊎◌, inl, inr, ⊎_elim, List, [], ◌∷◌, ◌++◌, length, refl, sym, ap, subst, Result, Ok, Err, Option, Some, None, arith, true≢false}
-use Rattle.std.specs.Prelude.{slice_get, is_some, is_none, nat_le}
-use Rattle.std.specs.List.{list_any}
+use Rattle.std.proofs.Common.{◌≡◌, ◌∙◌, ℕ, suc, ◌+◌, ◌<◌, ◌≤◌, Bool, true, false, cond, not, ◌||◌, ◌⊎◌, inl, inr, ⊎_elim, List, [], ◌∷◌, length, refl, sym, ap, subst, Result, Ok, Err, Option, Some, None, arith, true≢false}
+use Rattle.std.specs.Prelude.{slice_get, is_some}
 use Rattle.std.proofs.lemmas.Bool.{le-leb}
 use Rattle.std.proofs.lemmas.Option.{none-some, same_Some}
 use Rattle.dwp_base.specs.Reading.{◌>>=◌}
@@ -14,24 +13,22 @@ use Rattle.dwp_index.specs.Index.{Index, Ranges, row_in, range_in, column_place}
 use Rattle.dwp_table.specs.Objects.{identifier_of}
 use Rattle.dwp_table.specs.declared.object.DwarfObject.{DwarfObject}
 use Rattle.dwp_table.specs.declared.object.DwarfObject.TheVariants.{Compilation, TypeUnit}
-use Rattle.thorin_faults.specs.Fault.{Fault, BadContribution, SectionNotInRow}
+use Rattle.thorin_faults.specs.Fault.{Fault, BadContribution}
 use Rattle.thorin_parts.specs.Adjusting.{Adjustor, own_index, other_index, row_of, has_column_for, moved, moved_range, without_column, part_by_row, adjusted}
 use Rattle.thorin_parts.specs.Entries.{contribution_to}
 use Rattle.thorin_parts.specs.IndexText.{is_used}
-use Rattle.thorin_parts.specs.ReadRows.{HasEntries}
 use Rattle.thorin_parts.specs.declared.entry.IndexEntry.{IndexEntry}
 use Rattle.thorin_join.specs.Builder.{is_chosen, rows_of}
 use Rattle.thorin_input.specs.Growing.{Contents, range_put}
 use Rattle.thorin_input.specs.Indexes.{Indexes, is_package, index_for}
 use Rattle.thorin_input.specs.Names.{is_compilation}
-use Rattle.thorin_join.specs.Plain.{is_shared, HasNamedParts}
+use Rattle.thorin_join.specs.Plain.{is_shared}
 use Rattle.thorin_join.specs.Represents.{LieInside}
 use Rattle.thorin_input.specs.Rows.{adjusted_part, unit_row}
 use Rattle.thorin_join.specs.StandApart.{EachRow}
 use Rattle.thorin_join.proofs.IndexesRead.{HasRows}
 use Rattle.thorin_join.proofs.OwnRows.{own-index, some-index}
 use Rattle.thorin_join.proofs.PackageFound.{part-there}
-use Rattle.thorin_join.proofs.PartGrowth.{either}
 use Rattle.thorin_join.proofs.RowRanges.{range-none}
 use Rattle.thorin_join.proofs.Steps.{bind-ok}
 use Rattle.thorin_join.proofs.UnitAdded.{place-put, range_for}

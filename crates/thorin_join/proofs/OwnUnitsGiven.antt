@@ -1,5 +1,5 @@
 -- The units of a written package of plain objects, as those of an input.
-use Rattle.std.proofs.Common.{◌≡◌, ◌∙◌, ℕ, suc, ◌+◌, ◌<◌, true, List, [], ◌∷◌, ◌++◌, length, refl, sym, ap, subst, Result, Ok, Option, Some, arith}
+use Rattle.std.proofs.Common.{◌≡◌, ◌∙◌, ℕ, ◌<◌, true, List, [], ◌∷◌, length, refl, sym, ap, subst, Ok, Some, arith}
 use Rattle.std.proofs.lemmas.List.{length-map}
 use Rattle.std.proofs.lemmas.Option.{same_Some}
 use Rattle.std.proofs.Math.Seq.{take-length}
@@ -12,7 +12,6 @@ use Rattle.dwp_dwarf.specs.declared.unit.UnitSection.{UnitSection}
 use Rattle.dwp_dwarf.specs.declared.unit.UnitSection.TheVariants as places
 use Rattle.dwp_elf.specs.Contents.{content_of}
 use Rattle.dwp_elf.specs.FileText.{Object as File}
-use Rattle.dwp_table.specs.declared.object.DwarfObject.{DwarfObject}
 use Rattle.thorin_parts.specs.IndexText.{is_used}
 use Rattle.thorin_parts.specs.declared.entry.IndexEntry.{IndexEntry}
 use Rattle.thorin_strings.specs.Strings.{IsTable}
@@ -21,7 +20,7 @@ use Rattle.thorin_input.specs.Growing.{Contents, joined_parts}
 use Rattle.thorin_input.specs.Indexes.{Indexes, Source, indexes_of}
 use Rattle.thorin_join.specs.Laid.{Lie, rows_at}
 use Rattle.thorin_join.specs.Meaning.{Meaning}
-use Rattle.thorin_input.specs.NewUnits.{New, Adding, with_each_read, new_units}
+use Rattle.thorin_input.specs.NewUnits.{Adding, with_each_read, new_units}
 use Rattle.thorin_join.specs.OwnInput.{written_object, IsOwn}
 use Rattle.thorin_join.specs.OwnRefusals.{UnlessForeseen}
 use Rattle.thorin_input.specs.Parts.{is_copied, parts_of}
@@ -29,7 +28,6 @@ use Rattle.thorin_join.specs.Plain.{is_shared, NamesItself, IsPlain}
 use Rattle.thorin_join.specs.Represents.{IsSound, IsSoundBegun, LieInside, AreRowsOf, meaning_at, units_of, units_begun}
 use Rattle.thorin_join.specs.StandApart.{EachRow}
 use Rattle.thorin_join.specs.State.{InProgress, kind_at, adding}
-use Rattle.thorin_input.specs.Used.{Used, first}
 use Rattle.thorin_join.proofs.IndexesRead.{IndexIsRead, IndexHasEntries, SomeIndex, NoIndex}
 use Rattle.thorin_join.proofs.Keeping.{Grows, keep-rows, keep-lie}
 use Rattle.thorin_join.proofs.NamesKept.{keep-names, both-rows}

@@ -1,6 +1,6 @@
 -- The units of a written package are taken as those of an input, unless a compilation unit is there already.
-use Rattle.std.proofs.Common.{◌≡◌, ◌∙◌, ℕ, zero, suc, ◌+◌, ◌<◌, ◌≤◌, Bool, true, false, cond, not, eqb, ◌&&◌, List, [], ◌∷◌, ◌++◌, length, refl, sym, ap, subst, Result, Ok, Err, Option, Some, None, arith, true≢false, length-append, append_assoc, inr}
-use Rattle.std.proofs.lemmas.Bool.{eq-eqb, eqb-false}
+use Rattle.std.proofs.Common.{◌≡◌, ◌∙◌, ℕ, zero, suc, ◌+◌, ◌<◌, ◌≤◌, Bool, true, false, cond, eqb, ◌&&◌, List, [], ◌∷◌, ◌++◌, length, refl, sym, ap, subst, Result, Ok, Err, Option, Some, None, arith, true≢false, length-append, append_assoc, inr}
+use Rattle.std.proofs.lemmas.Bool.{eqb-false}
 use Rattle.std.proofs.lemmas.Option.{none-some, same_Some}
 use Rattle.std.proofs.Math.Seq.{drop-append_seam}
 use Rattle.dwp_base.specs.Reading.{◌>>=◌}
@@ -9,7 +9,7 @@ use Rattle.dwp_base.specs.declared.endian.Endianness.{Endianness}
 use Rattle.dwp_base.specs.declared.section.Contribution.{Contribution}
 use Rattle.dwp_base.specs.declared.section.SectionKind.{SectionKind}
 use Rattle.dwp_base.specs.declared.section.SectionKind.TheVariants as kinds
-use Rattle.dwp_bytes.specs.Input.{Input, section, after}
+use Rattle.dwp_bytes.specs.Input.{section, after}
 use Rattle.dwp_bytes.specs.declared.encoding.Encoding.{Encoding}
 use Rattle.dwp_bytes.specs.declared.fault.ReadError.{ReadError}
 use Rattle.dwp_dwarf.specs.Units.{Unit as Header, UnitsAreTaken, unit_at, units_within, units}
@@ -20,8 +20,7 @@ use Rattle.dwp_index.specs.Package.{part_of, place_of}
 use Rattle.dwp_table.specs.declared.object.DwarfObject.{DwarfObject}
 use Rattle.dwp_table.specs.declared.object.DwarfObject.TheVariants.{Compilation, TypeUnit}
 use Rattle.dwp_table.specs.Objects.{identifier_of}
-use Rattle.thorin_faults.specs.Answers.{as_fault}
-use Rattle.thorin_faults.specs.Fault.{Fault, ParseUnitHeader, EmptyUnit}
+use Rattle.thorin_faults.specs.Fault.{Fault, EmptyUnit}
 use Rattle.thorin_identity.specs.Identity.{identity}
 use Rattle.thorin_parts.specs.Entries.{contribution_to}
 use Rattle.thorin_parts.specs.IndexText.{is_used}
@@ -30,9 +29,9 @@ use Rattle.thorin_input.specs.Growing.{Contents, range_put}
 use Rattle.thorin_input.specs.Indexes.{Source, is_package}
 use Rattle.thorin_join.specs.Laid.{type_signature, name_signature, same_place, Heads, Lie, HaveOneRange, is_at, rows_at}
 use Rattle.thorin_join.specs.Meaning.{Meaning}
-use Rattle.thorin_input.specs.NewUnits.{New, NewUnit, Adding, Met, kept_bytes, with_first, with_unit, name_for, with_read, with_each_read, unit_section, is_met, with_met, none_met, second_section, once_test, with_section_at, with_section_in, with_section, with_each_section, new_units, place_for}
+use Rattle.thorin_input.specs.NewUnits.{New, Adding, Met, kept_bytes, with_first, with_unit, name_for, with_read, with_each_read, unit_section, is_met, with_met, none_met, second_section, once_test, with_section_at, with_section_in, with_section, with_each_section, new_units, place_for}
 use Rattle.thorin_join.specs.OwnInput.{written_used}
-use Rattle.thorin_join.specs.OwnRefusals.{IsForeseen, UnlessForeseen}
+use Rattle.thorin_join.specs.OwnRefusals.{UnlessForeseen}
 use Rattle.thorin_join.specs.Plain.{is_shared, NamesItself}
 use Rattle.thorin_join.specs.Represents.{LieInside, AreRowsOf}
 use Rattle.thorin_input.specs.Rows.{row_test, unit_row}

@@ -24,7 +24,7 @@ use Rattle.dwp_elf_read.specs.declared.kind.FileKind.{FileKind}
 use Rattle.dwp_elf_read.specs.declared.kind.FileKind.TheVariants.{Archive, Elf32, Elf64}
 use Rattle.dwp_index.specs.Index.{Index}
 use Rattle.dwp_index.specs.IndexBytes.{index_of}
-use Rattle.dwp_index.specs.Package.{index_in_section, encoding_in, place_of}
+use Rattle.dwp_index.specs.Package.{index_in_section, place_of}
 use Rattle.dwp_index.specs.Package as reader
 use Rattle.dwp_index.specs.declared.fault.PackageError.TheVariants as faults
 use Rattle.dwp_table.specs.declared.object.DwarfObject.{DwarfObject}
@@ -35,7 +35,7 @@ use Rattle.thorin_join.specs.Again.{input_encoding, HaveEncodingOf, all_meant, M
 use Rattle.thorin_join.specs.Builder.{State, IdentifiersFit, IsFinished, IsFinishedState, finish_test, rows_of, package_or_new, order_test, with_source_or_new, with_units, with_input, taken}
 use Rattle.thorin_input.specs.Encodings.{encoding_of, first_encoding}
 use Rattle.thorin_input.specs.Indexes.{Indexes, Source, is_package, index_in, version_test, indexes_of}
-use Rattle.thorin_join.specs.Laid.{IsLaid, Lie, HaveOneRange, is_at, rows_at}
+use Rattle.thorin_join.specs.Laid.{IsLaid, Lie, is_at, rows_at}
 use Rattle.thorin_join.specs.Meaning.{Meaning, keys, meant, source_units, source_meaning, input_meaning, named_sections}
 use Rattle.thorin_input.specs.NewUnits.{new_units}
 use Rattle.thorin_input.specs.Parts.{parts_of}

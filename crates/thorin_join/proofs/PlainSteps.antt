@@ -1,5 +1,5 @@
 -- What a plain object of one encoding is for the package that it is added to.
-use Rattle.std.proofs.Common.{◌≡◌, ◌∙◌, ℕ, ◌<◌, Bool, true, false, cond, not, ltb, ◌&&◌, ◌||◌, List, [], ◌∷◌, length, refl, sym, ap, subst, Result, Ok, Err, Option, Some, None, arith, true≢false}
+use Rattle.std.proofs.Common.{◌≡◌, ◌∙◌, ℕ, ◌<◌, Bool, true, false, cond, not, ltb, ◌&&◌, ◌||◌, List, [], ◌∷◌, length, refl, sym, ap, subst, Result, Ok, Option, Some, None, arith, true≢false}
 use Rattle.std.specs.Prelude.{find, is_some}
 use Rattle.std.specs.List.{list_any, list_all}
 use Rattle.std.proofs.lemmas.Bool.{ltb-true}
@@ -14,8 +14,8 @@ use Rattle.dwp_bytes.specs.declared.encoding.Encoding.{Encoding}
 use Rattle.dwp_index.specs.Index.{Index}
 use Rattle.thorin_faults.specs.Fault.{Fault}
 use Rattle.thorin_join.specs.Builder.{State, package_or_new, order_test, with_source_or_new, with_units, with_input, names_in, with_own, own_after, taken}
-use Rattle.thorin_input.specs.Encodings.{encoding_of, is_index, is_plain, section_has, one_encoding, file_encoding, own_encoding}
-use Rattle.thorin_input.specs.Indexes.{Indexes, Source, is_package, index_in, indexes_of}
+use Rattle.thorin_input.specs.Encodings.{encoding_of, is_index, is_plain, section_has, file_encoding, own_encoding}
+use Rattle.thorin_input.specs.Indexes.{Indexes, Source, is_package, indexes_of}
 use Rattle.thorin_join.specs.State.{InProgress, empty, with_source}
 use Rattle.thorin_input.specs.Used.{Used, InputFile, opened, has_info, input_file_of, has_kind, bytes_of, first}
 use Rattle.thorin_join.proofs.InputJoined.{made-order}

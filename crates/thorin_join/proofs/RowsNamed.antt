@@ -1,5 +1,5 @@
 -- Each section that units share has a part that a row names, where plain objects add units.
-use Rattle.std.proofs.Common.{◌≡◌, ◌∙◌, ℕ, ◌<◌, ◌≤◌, Bool, true, false, cond, eqb, ◌||◌, List, [], ◌∷◌, ◌++◌, length, refl, sym, ap, subst, Result, Ok, Option, Some, None, ⊎_elim, arith, true≢false, length-append}
+use Rattle.std.proofs.Common.{◌≡◌, ◌∙◌, ℕ, ◌<◌, Bool, true, false, cond, eqb, ◌||◌, List, [], ◌∷◌, ◌++◌, length, refl, sym, ap, subst, Ok, Option, Some, None, ⊎_elim, arith, true≢false, length-append}
 use Rattle.std.specs.Prelude.{is_some}
 use Rattle.std.specs.List.{list_any}
 use Rattle.std.proofs.lemmas.Bool.{eqb-true}
@@ -7,7 +7,6 @@ use Rattle.dwp_base.specs.declared.section.SectionKind.{SectionKind}
 use Rattle.dwp_base.specs.declared.section.SectionKind.TheVariants as kinds
 use Rattle.dwp_base.specs.declared.section.Contribution.{Contribution}
 use Rattle.dwp_base.specs.Sections.{same_kind}
-use Rattle.dwp_bytes.specs.declared.encoding.Encoding.{Encoding}
 use Rattle.dwp_dwarf.specs.declared.unit.UnitSection.{UnitSection}
 use Rattle.dwp_dwarf.specs.declared.unit.UnitSection.TheVariants as places
 use Rattle.dwp_elf.specs.Contents.{content_of}
@@ -16,7 +15,7 @@ use Rattle.thorin_faults.specs.Fault.{Fault}
 use Rattle.thorin_parts.specs.Entries.{contribution_to}
 use Rattle.thorin_parts.specs.IndexText.{is_used}
 use Rattle.thorin_parts.specs.declared.entry.IndexEntry.{IndexEntry}
-use Rattle.thorin_input.specs.Growing.{Contents, with_parts, joined_parts, range_behind, range_put}
+use Rattle.thorin_input.specs.Growing.{Contents, joined_parts, range_put}
 use Rattle.thorin_input.specs.Indexes.{Source, is_package}
 use Rattle.thorin_join.specs.Meaning.{UnitRead, keys, source_units, joining}
 use Rattle.thorin_input.specs.Names.{same_name}
@@ -24,7 +23,7 @@ use Rattle.thorin_input.specs.NewUnits.{New, NewUnit, new_units}
 use Rattle.thorin_input.specs.Parts.{parts_of}
 use Rattle.thorin_join.specs.Plain.{is_shared, HasNamedParts}
 use Rattle.thorin_input.specs.Rows.{whole_row}
-use Rattle.thorin_join.specs.State.{InProgress, kind_at, names_of, row_at, adding, abbreviations_test, with_unit_added, with_new_unit, with_new_units, with_all, with_source}
+use Rattle.thorin_join.specs.State.{InProgress, kind_at, names_of, row_at, adding, abbreviations_test, with_unit_added, with_new_unit, with_new_units, with_source}
 use Rattle.thorin_join.proofs.Joining.{IsAdded, AreAdded, units-joined}
 use Rattle.thorin_join.proofs.OwnRows.{each-shared, adjusted-plain, is-unit_row, whole-part}
 use Rattle.thorin_join.proofs.PartGrowth.{either, content-with_bytes, content-with_parts}

@@ -1,5 +1,5 @@
 -- The ranges of an input's units lie behind those of the inputs before it.
-use Rattle.std.proofs.Common.{◌≡◌, ◌∙◌, ℕ, ◌+◌, ◌≤◌, Bool, true, false, cond, true≢false, not, is_none, ◌&&◌, nat_eq, nat_le, List, [], ◌∷◌, ◌++◌, length, map, ap, sym, subst, refl, Result, Ok, Err, Option, Some, None, ◌⊎◌, inl, inr, ⊎_elim, arith}
+use Rattle.std.proofs.Common.{◌≡◌, ◌∙◌, ℕ, ◌+◌, ◌≤◌, Bool, true, false, cond, true≢false, is_none, ◌&&◌, nat_eq, nat_le, List, [], ◌∷◌, ◌++◌, length, ap, sym, subst, refl, Result, Ok, Err, Option, Some, None, ◌⊎◌, inl, inr, ⊎_elim, arith}
 use Rattle.std.specs.List.{list_any}
 use Rattle.std.proofs.lemmas.List.{append_assoc, append-nil, length-append}
 use Rattle.std.proofs.lemmas.Option.{none-some, same_Some}
@@ -23,18 +23,18 @@ use Rattle.thorin_join.specs.Builder.{package_or_new, order_test, with_source_or
 use Rattle.thorin_input.specs.Encodings.{encoding_of}
 use Rattle.thorin_input.specs.Growing.{Contents, HasFront, range_put, joined_parts, with_parts}
 use Rattle.thorin_input.specs.Indexes.{Indexes, Source, indexes_of}
-use Rattle.thorin_join.specs.Meaning.{Meaning, Members, UnitRead}
+use Rattle.thorin_join.specs.Meaning.{Members, UnitRead}
 use Rattle.thorin_input.specs.Names.{same_name}
-use Rattle.thorin_input.specs.NewUnits.{Adding, New, NewUnit, new_units}
+use Rattle.thorin_input.specs.NewUnits.{NewUnit, new_units}
 use Rattle.thorin_input.specs.Parts.{parts_of}
 use Rattle.thorin_join.specs.Represents.{LieInside, AreRowsOf, IsSound, IsSoundBegun}
 use Rattle.thorin_input.specs.Rows.{adjusted_part, whole_row, unit_row}
 use Rattle.thorin_join.specs.StandApart.{rows_begun, contents_begun, LieBehind, EachRow, StandApart}
 use Rattle.thorin_join.specs.State.{InProgress, names_of, kind_at, row_at, adding, abbreviations_test, with_unit_added, with_new_unit, with_new_units, with_all, with_source}
-use Rattle.thorin_input.specs.Used.{InputFile, opened, has_info, input_file_of}
+use Rattle.thorin_input.specs.Used.{opened, has_info, input_file_of}
 use Rattle.thorin_join.proofs.Joining.{AreAdded, units-joined}
 use Rattle.thorin_join.proofs.Keeping.{Grows, grows-trans, grows-with_bytes}
-use Rattle.thorin_join.proofs.OwnRows.{is_shared, IsUnitRow, is-unit_row, whole-part, whole-else}
+use Rattle.thorin_join.proofs.OwnRows.{is_shared, is-unit_row, whole-part, whole-else}
 use Rattle.thorin_join.proofs.PartGrowth.{either}
 use Rattle.thorin_join.proofs.SourceAdded.{grows-with_parts}
 use Rattle.thorin_join.proofs.Steps.{ok-eq, bind-inv}

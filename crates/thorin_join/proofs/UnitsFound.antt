@@ -1,9 +1,9 @@
 -- The units that a package represents are those that stand in the ranges of its rows.
 use Rattle.std.proofs.Common.{◌≡◌, ◌∙◌, ℕ, List, [], ◌∷◌, map, ap, sym, refl}
-use Rattle.std.specs.Prelude.{slice_get, Ok}
+use Rattle.std.specs.Prelude.{Ok}
 use Rattle.std.specs.Result.{result_unwrap_or}
 use Rattle.std.proofs.Math.Seq.{take-length}
-use Rattle.dwp_base.specs.declared.section.SectionKind.TheVariants.{Types, Abbrev, Line, Loc, Loclists, Rnglists, StrOffsets, Macinfo, Macro}
+use Rattle.dwp_base.specs.declared.section.SectionKind.TheVariants.{Abbrev, Line, Loc, Loclists, Rnglists, StrOffsets, Macinfo, Macro}
 use Rattle.dwp_base.specs.declared.endian.Endianness.{Endianness}
 use Rattle.dwp_elf.specs.Contents.{content_of}
 use Rattle.dwp_index.specs.Package.{part_of, place_of}
@@ -12,8 +12,8 @@ use Rattle.thorin_strings.specs.Strings.{IsTable, data_of}
 use Rattle.thorin_parts.specs.Entries.{contribution_to}
 use Rattle.thorin_parts.specs.declared.entry.IndexEntry.{IndexEntry}
 use Rattle.thorin_input.specs.Growing.{Contents}
-use Rattle.thorin_join.specs.Meaning.{Meaning, Members, Pieces, pieces_by, piece, keys}
-use Rattle.thorin_join.specs.Represents.{Shares, Owns, IsRowOf, AreRowsOf, Represents, meaning_at, units_of}
+use Rattle.thorin_join.specs.Meaning.{Meaning, Members, pieces_by, keys}
+use Rattle.thorin_join.specs.Represents.{IsRowOf, AreRowsOf, Represents, meaning_at, units_of}
 use Rattle.thorin_join.specs.State.{InProgress, kind_at, names_of, unit_bytes}
 use Rattle.thorin_join.specs.Strings.{strings_of}
 use Rattle.thorin_join.proofs.StringLists.{strings-are}

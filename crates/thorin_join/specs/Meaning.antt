@@ -26,7 +26,7 @@ use Rattle.thorin_packaged.specs.RowPlaces.{row_by_place}
 use Rattle.thorin_faults.specs.Fault.{Fault, ParseUnitHeader}
 use Rattle.thorin_faults.specs.Answers.{as_fault}
 use Rattle.thorin_input.specs.Encodings.{encoding_of}
-use Rattle.thorin_input.specs.Indexes.{Indexes, Source, is_package, index_for, indexes_of}
+use Rattle.thorin_input.specs.Indexes.{Source, is_package, index_for, indexes_of}
 use Rattle.thorin_input.specs.Names.{same_name, is_compilation}
 use Rattle.thorin_input.specs.NewUnits.{name_for, unit_section}
 use Rattle.thorin_input.specs.Rows.{own_range}

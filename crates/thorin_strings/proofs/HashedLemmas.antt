@@ -1,22 +1,19 @@
 -- Strings that are found by their hashes.
-use Rattle.std.proofs.Common.{◌≡◌, ◌≢◌, ℕ, zero, suc, ◌+◌, ◌-◌, ◌<◌, ◌≤◌, ◌^◌, Bool, true, false, eqb, List, [], ◌∷◌, ◌++◌, length, take, drop, get_or, All, AllPairs, Contains, Option, Some, None, IsPermutation, ap, ap₂, sym, subst, refl, ◌∙◌, ⊎_elim, arith, length-append}
-use Rattle.std.specs.List.{list_any}
-use Rattle.std.specs.Str.{bytes_eq}
-use Rattle.std.proofs.lemmas.List.{append-nil, take-append-drop, take_at, length-drop, length-take, get_or_default, get_or_push, get_or_append_left, get_or-drop, nil_from_length}
+use Rattle.std.proofs.Common.{◌≡◌, ◌≢◌, ℕ, zero, suc, ◌+◌, ◌<◌, List, [], ◌∷◌, ◌++◌, length, take, drop, AllPairs, Contains, Some, None, IsPermutation, ap, sym, subst, refl, ◌∙◌, ⊎_elim, arith}
+use Rattle.std.proofs.lemmas.List.{take-append-drop, take_at, get_or_default}
 use Rattle.std.proofs.lemmas.List.Elements.{All-contains, All-take, Contains-append_left, Contains-push_cases}
 use Rattle.std.proofs.lemmas.List.Quantifiers.{all_pairs_push}
 use Rattle.std.proofs.lemmas.List.Sorted.{IsPermutation-refl}
-use Rattle.std.proofs.lemmas.Bool.{cond-true}
 use Rattle.dwp_bytes.specs.StringOffsets.{string_from}
 use Rattle.thorin_strings.specs.declared.places.Slot.{Slot}
 use Rattle.thorin_strings.specs.Places.{hash, place_of}
-use Rattle.thorin_strings.specs.Strings.{terminated, data_of, offset_of, with_string, strings_in, offsets_from, IsZeroFree, IsTable, IsIndexed, BeginsAt, IsWithinDigits}
+use Rattle.thorin_strings.specs.Strings.{terminated, data_of, offset_of, strings_in, offsets_from, IsZeroFree, IsTable, IsIndexed, BeginsAt, IsWithinDigits}
 use Rattle.thorin_strings.specs.Hashed.{IsHashed}
 use Rattle.thorin_strings.specs.Grown.{IsGrown, AreSorted}
 use Rattle.thorin_strings.proofs.StringLemmas.{strings_in-data_of, zero_free-strings_in}
-use Rattle.thorin_strings.proofs.OffsetLemmas.{data_of-append, offsets_from-append, length-offsets_from, has_Decides, offset_of-absent}
+use Rattle.thorin_strings.proofs.OffsetLemmas.{data_of-append, offsets_from-append, length-offsets_from, has_Decides}
 use Rattle.thorin_strings.proofs.TableLemmas.{strings_push, AllPairs-take}
-use Rattle.thorin_strings.proofs.Named.{has, offset_kept, there_once_used, begins_there}
+use Rattle.thorin_strings.proofs.Named.{offset_kept, there_once_used, begins_there}
 use Rattle.thorin_strings.proofs.MergeLemmas.{table_merged}
 use Rattle.thorin_strings.proofs.GrownLemmas.{used_last}
 

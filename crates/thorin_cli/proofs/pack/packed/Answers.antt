@@ -1,4 +1,4 @@
-use Rattle.std.proofs.Common.{◌≡◌, ℕ, List, Ok, map}
+use Rattle.std.proofs.Common.{ℕ, List, Ok, map}
 use Rattle.thorin_join.specs.Builder.{start}
 use Rattle.thorin_builder.specs.Taking.{Outcome}
 use Rattle.thorin.specs.declared.packing.Input.{Input}

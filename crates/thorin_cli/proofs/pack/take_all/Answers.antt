@@ -1,10 +1,10 @@
-use Rattle.std.proofs.Common.{◌≡◌, ◌++◌, ◌∷◌, [], ◌+◌, List, Ok, map, take, get_or, rules}
+use Rattle.std.proofs.Common.{◌++◌, ◌∷◌, [], Ok, map, take, get_or}
 use Rattle.std.proofs.lemmas.List.{map-append, take_all}
 use Rattle.thorin_builder.specs.Taking.{Outcome}
 use Rattle.thorin.specs.declared.packing.Input.{Input}
 use Rattle.thorin.specs.declared.packing.Input.TheVariants.{Object}
 use Rattle.thorin.specs.Run.{Took}
-use Rattle.thorin_cli.specs.Packing.{anything, AreAllAccepted}
+use Rattle.thorin_cli.specs.Packing.{anything}
 use Rattle.thorin_cli.proofs.Inputs.{taken-next}
 use Rattle.thorin_cli.proofs.pack.take_all.Goals as goal
 

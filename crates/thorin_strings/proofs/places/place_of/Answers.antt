@@ -2,7 +2,7 @@ use Rattle.std.proofs.Common.{◌+◌, ◌-◌, ◌∙◌, ap, sym, arith}
 use Rattle.std.proofs.lemmas.List.{get_or_past}
 use Rattle.thorin_strings.specs.declared.places.Slot.{Slot}
 use Rattle.thorin_strings.specs.Places.{free}
-use Rattle.thorin_strings.proofs.PlacesLemmas.{begun, at_free, at_hash, at_other}
+use Rattle.thorin_strings.proofs.PlacesLemmas.{begun, at_free, at_other}
 use Rattle.thorin_strings.proofs.places.place_of.Goals as goal
 
 pub loop-number-init : goal.loop-number-init

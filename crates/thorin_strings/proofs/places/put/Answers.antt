@@ -1,6 +1,5 @@
-use Rattle.std.proofs.Common.{◌≡◌, ◌∙◌, get_or, set, Some, ap, sym, subst, arith, length, List}
-use Rattle.thorin_strings.specs.declared.places.Slot.{Slot}
-use Rattle.thorin_strings.specs.Places.{free, place_of}
+use Rattle.std.proofs.Common.{◌∙◌, Some, ap, arith}
+use Rattle.thorin_strings.specs.Places.{place_of}
 use Rattle.thorin_strings.proofs.PlacesLemmas.{put_of, kept_of}
 use Rattle.thorin_strings.proofs.places.put.Goals as goal
 

@@ -1,4 +1,3 @@
-use Rattle.std.proofs.Common.{◌≡◌}
 use Rattle.thorin_builder.proofs.Extending.{front-either}
 use Rattle.thorin_builder.proofs.in_progress.InProgressDwarfPackage.add_unit.Goals as goal
 

@@ -1,4 +1,4 @@
-use Rattle.std.proofs.Common.{◌≡◌, ◌∙◌, List, [], Bool, true, false, not, ap, sym, subst, refl, rules, Ok, Option, Some, None}
+use Rattle.std.proofs.Common.{◌≡◌, ◌∙◌, [], Bool, true, false, not, ap, sym, subst, refl, rules, Ok, Option, Some, None}
 use Rattle.std.specs.Prelude.{is_none, is_some}
 use Rattle.thorin_builder.specs.declared.in_progress.InProgressDwarfPackage.{InProgressDwarfPackage}
 use Rattle.thorin_join.specs.Builder.{State, with_input, own_after}

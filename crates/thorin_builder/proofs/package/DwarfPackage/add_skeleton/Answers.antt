@@ -1,4 +1,4 @@
-use Rattle.std.proofs.Common.{◌≡◌, ◌∙◌, false, refl, rules, subst, inl, inr, Ok, Err, [], ap, sym}
+use Rattle.std.proofs.Common.{◌≡◌, false, refl, rules, subst, inl, inr, []}
 use Rattle.std.specs.Path.{path_bytes}
 use Rattle.thorin_faults.specs.declared.fault.Error.TheVariants as error
 use Rattle.thorin_executable.specs.View.{named}

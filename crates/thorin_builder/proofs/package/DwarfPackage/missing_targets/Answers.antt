@@ -1,4 +1,4 @@
-use Rattle.std.proofs.Common.{◌≡◌, ◌∙◌, ap, sym, rules}
+use Rattle.std.proofs.Common.{◌≡◌, ◌∙◌, ap, rules}
 use Rattle.std.specs.Prelude.{filter}
 use Rattle.thorin_join.specs.Builder.{is_missing, names_in}
 use Rattle.thorin_builder.proofs.Running.{names-begun}

@@ -1,4 +1,4 @@
-use Rattle.std.proofs.Common.{◌∙◌, ap, sym, arith, length, refl, Some}
+use Rattle.std.proofs.Common.{◌∙◌, ap, arith, length}
 use Rattle.thorin_strings.specs.Places.{place_of}
 use Rattle.thorin_strings.proofs.PlacesLemmas.{taken}
 use Rattle.thorin_strings.proofs.places.Places.enter_in_more.Goals as goal
