@@ -1,5 +1,6 @@
 -- An ascending list of relocations is searched by halves.
-use Rattle.std.proofs.Common.{◌≡◌, ◌≢◌, inl, inr, ℕ, zero, suc, ◌<◌, ◌≤◌, Bool, true, false, eqb, ◌&&◌, List, [], ◌∷◌, length, get_or, Some, None, Ok, Err, refl, arith}
+use Rattle.std.proofs.Common.{◌≡◌, ◌≢◌, inl, inr, ℕ, zero, suc, ◌<◌, ◌≤◌, Bool, true, false, eqb}
+use Rattle.std.proofs.Common.{◌&&◌, List, [], ◌∷◌, length, get_or, Some, None, Ok, Err, refl, arith}
 use Rattle.std.proofs.lemmas.Bool.{ltb-true, cases_lt}
 use Rattle.std.proofs.lemmas.Bool.Decides.{nat_tests}
 use Rattle.std.specs.Ordering.{nat_cmp, ordering_index}
@@ -12,42 +13,53 @@ both : (a b : Bool) → (a && b) ≡ true → (a ≡ true) × (b ≡ true)
 both true b e = (refl, e)
 both false b e = absurd cc
 
-past_all : (n : ℕ) (xs : List RelocationEntry) (k : ℕ) (d : RelocationEntry) → begins_past n xs ≡ true → ascends xs ≡ true → k < length xs → n < (get_or xs k d).offset
+past_all : (n : ℕ) (xs : List RelocationEntry) (k : ℕ) (d : RelocationEntry) → begins_past n xs ≡
+    true → ascends xs ≡ true → k < length xs → n < (get_or xs k d).offset
 past_all n [] k d begins ordered lt = absurd (omega arith)
 past_all n (x ∷ xs) zero d begins ordered lt = ltb-true _ _ begins
 past_all n (x ∷ xs) (suc k) d begins ordered lt =
     let parts = both _ _ ordered in
     let first : n < x.offset = ltb-true _ _ begins in
-    let rest : x.offset < (get_or xs k d).offset = past_all x.offset xs k d parts.0 parts.1 (omega arith) in
+    let rest : x.offset < (get_or xs k d).offset = past_all x.offset xs k d parts.0 parts.1
+    (omega arith) in
     omega arith
 
-rising : (xs : List RelocationEntry) (i j : ℕ) (d : RelocationEntry) → ascends xs ≡ true → i ≤ j → j < length xs → (get_or xs i d).offset ≤ (get_or xs j d).offset
+rising : (xs : List RelocationEntry) (i j : ℕ) (d : RelocationEntry) → ascends xs ≡ true → i ≤ j
+    → j < length xs → (get_or xs i d).offset ≤ (get_or xs j d).offset
 rising [] i j d ordered le lt = absurd (omega arith)
 rising (x ∷ xs) zero zero d ordered le lt = omega arith
 rising (x ∷ xs) zero (suc j) d ordered le lt =
     let parts = both _ _ ordered in
-    let rest : x.offset < (get_or xs j d).offset = past_all x.offset xs j d parts.0 parts.1 (omega arith) in
+    let rest : x.offset < (get_or xs j d).offset = past_all x.offset xs j d parts.0 parts.1
+    (omega arith) in
     omega arith
 rising (x ∷ xs) (suc i) zero d ordered le lt = absurd (omega arith)
-rising (x ∷ xs) (suc i) (suc j) d ordered le lt = rising xs i j d (both _ _ ordered).1 (omega arith) (omega arith)
+rising (x ∷ xs) (suc i) (suc j) d ordered le lt = rising xs i j d (both _ _ ordered).1
+    (omega arith) (omega arith)
 
-found : (xs : List RelocationEntry) (i offset : ℕ) (d : RelocationEntry) → ascends xs ≡ true → i < length xs → (get_or xs i d).offset ≡ offset → relocation_at xs offset ≡ Some (get_or xs i d).relocation
+found : (xs : List RelocationEntry) (i offset : ℕ) (d : RelocationEntry) → ascends xs ≡ true
+    → i < length xs → (get_or xs i d).offset ≡ offset → relocation_at xs offset ≡ Some
+    (get_or xs i d).relocation
 found [] i offset d ordered lt at = absurd (omega arith)
-found (x ∷ xs) zero offset d ordered lt at = let e : eqb x.offset offset ≡ true = grind (arith, nat_tests) in rw e refl
+found (x ∷ xs) zero offset d ordered lt at = let e : eqb x.offset offset ≡ true =
+    grind (arith, nat_tests) in rw e refl
 found (x ∷ xs) (suc i) offset d ordered lt at =
     let parts = both _ _ ordered in
-    let rest : x.offset < (get_or xs i d).offset = past_all x.offset xs i d parts.0 parts.1 (omega arith) in
+    let rest : x.offset < (get_or xs i d).offset = past_all x.offset xs i d parts.0 parts.1
+    (omega arith) in
     let e : eqb x.offset offset ≡ false = grind (arith, nat_tests) in
     rw e (found xs i offset d parts.1 (omega arith) at)
 
-missing : (xs : List RelocationEntry) (offset : ℕ) → ((k : ℕ) (d : RelocationEntry) → k < length xs → (get_or xs k d).offset ≢ offset) → relocation_at xs offset ≡ None
+missing : (xs : List RelocationEntry) (offset : ℕ) → ((k : ℕ) (d : RelocationEntry) → k < length xs
+    → (get_or xs k d).offset ≢ offset) → relocation_at xs offset ≡ None
 missing [] offset nowhere = refl
 missing (x ∷ xs) offset nowhere =
     let here : x.offset ≢ offset = nowhere 0 x (omega arith) in
     let e : eqb x.offset offset ≡ false = grind (arith, nat_tests) in
     rw e (missing xs offset (λ k d lt. nowhere (suc k) d (omega arith)))
 
-index_rises : (a b offset : ℕ) → a ≤ b → ordering_index (nat_cmp a offset) ≤ ordering_index (nat_cmp b offset)
+index_rises : (a b offset : ℕ) → a ≤ b → ordering_index (nat_cmp a offset) ≤ ordering_index
+    (nat_cmp b offset)
 index_rises a b offset le = grind (arith, nat_tests)
 
 equal_at : (a b : ℕ) → nat_cmp a b ≡ Equal → a ≡ b
@@ -59,19 +71,26 @@ less_at a b e = grind (arith, nat_tests)
 greater_at : (a b : ℕ) → nat_cmp a b ≡ Greater → a ≢ b
 greater_at a b e = grind (arith, nat_tests)
 
-searchable : (xs : List RelocationEntry) (offset : ℕ) → ascends xs ≡ true → IsNonDecreasingBy (λ y. ordering_index (nat_cmp y.offset offset)) xs
+searchable : (xs : List RelocationEntry) (offset : ℕ) → ascends xs ≡ true → IsNonDecreasingBy (λ y.
+    ordering_index (nat_cmp y.offset offset)) xs
 searchable xs offset ordered = λ i j d le lt. index_rises _ _ offset (rising xs i j d ordered le lt)
 
-pub searched_Ok : (xs : List RelocationEntry) (offset stored i : ℕ) (d : RelocationEntry) → ascends xs ≡ true → i < length xs → IsBinarySearchResult (λ y. nat_cmp y.offset offset) xs (Ok i)
+pub searched_Ok : (xs : List RelocationEntry) (offset stored i : ℕ) (d : RelocationEntry)
+    → ascends xs ≡ true → i < length xs → IsBinarySearchResult (λ y.
+    nat_cmp y.offset offset) xs (Ok i)
     → value_of (get_or xs i d).relocation stored ≡ relocated_by xs offset stored
 unfolding relocated_by
-searched_Ok xs offset stored i d ordered lt h = rw (found xs i offset d ordered lt (equal_at _ _ (h d))) refl
+searched_Ok xs offset stored i d ordered lt h =
+    rw (found xs i offset d ordered lt (equal_at _ _ (h d))) refl
 
-pub searched_Err : (xs : List RelocationEntry) (offset stored i : ℕ) → ascends xs ≡ true → IsBinarySearchResult (λ y. nat_cmp y.offset offset) xs (Err i) → stored ≡ relocated_by xs offset stored
+pub searched_Err : (xs : List RelocationEntry) (offset stored i : ℕ) → ascends xs ≡ true
+    → IsBinarySearchResult (λ y. nat_cmp y.offset offset) xs (Err i) → stored ≡ relocated_by
+    xs offset stored
 unfolding relocated_by
 searched_Err xs offset stored i ordered h =
     let parts = h (searchable xs offset ordered) in
-    let nowhere : (k : ℕ) (d : RelocationEntry) → k < length xs → (get_or xs k d).offset ≢ offset = λ k d lt. elim (cases_lt k i) [
+    let nowhere : (k : ℕ) (d : RelocationEntry) → k < length xs → (get_or xs k d).offset ≢ offset =
+    λ k d lt. elim (cases_lt k i) [
       | inl low ↦ less_at _ _ (parts.0 k d (omega arith) low)
       | inr high ↦ greater_at _ _ (parts.1 k d high lt)
     ] in

@@ -1,5 +1,7 @@
 -- Reading goes forward: what is left is what was there, without what was read.
-use Rattle.std.proofs.Common.{◌≡◌, ℕ, ◌+◌, ◌<◌, ◌≤◌, Bool, true, false, cond, length, drop, Result, Ok, Err, ltb, refl, ap, sym, subst, ◌∙◌, ◌⊎◌, inl, inr, add_assoc, arith}
+use Rattle.std.proofs.Common.{◌≡◌, ℕ, ◌+◌, ◌<◌, ◌≤◌, Bool, true, false, cond, length, drop, Result}
+use Rattle.std.proofs.Common.{Ok, Err, ltb, refl, ap, sym, subst, ◌∙◌, ◌⊎◌, inl, inr, add_assoc}
+use Rattle.std.proofs.Common.{arith}
 use Rattle.std.specs.Prelude.{slice_index}
 use Rattle.std.proofs.lemmas.Bool.{ltb-false}
 use Rattle.std.proofs.lemmas.List.{drop-drop, length-drop}
@@ -8,27 +10,32 @@ use Rattle.dwp_bytes.specs.declared.fault.ReadError.TheVariants.{UnexpectedEof}
 use Rattle.dwp_bytes.specs.Input.{Input, Goes, front, after, split_at, byte_at, number_at}
 
 -- the value of a step that did not fail
-pub bind_ok : {A B E : Type 0} (r : Result A E) (f : A → Result B E) (y : B) → (r >>= f) ≡ Ok y → (x : A) × (r ≡ Ok x) × (f x ≡ Ok y)
+pub bind_ok : {A B E : Type 0} (r : Result A E) (f : A → Result B E) (y : B) → (r >>= f) ≡ Ok y
+    → (x : A) × (r ≡ Ok x) × (f x ≡ Ok y)
 bind_ok (Ok x) f y e = (x, refl, e)
 bind_ok (Err d) f y e = absurd cc
 
 -- a test that did not fail
-pub guard_ok : {A E : Type 0} (b : Bool) (d : E) (x y : A) → cond b (Err d) (Ok x) ≡ Ok y → (b ≡ false) × (x ≡ y)
+pub guard_ok : {A E : Type 0} (b : Bool) (d : E) (x y : A) → cond b (Err d) (Ok x) ≡ Ok y
+    → (b ≡ false) × (x ≡ y)
 guard_ok true d x y e = absurd cc
 guard_ok false d x y e = (refl, cc)
 
 -- a choice that did not fail
-pub chosen : {A : Type 0} (b : Bool) (x y z : A) → cond b x y ≡ z → ((b ≡ true) × (x ≡ z)) ⊎ ((b ≡ false) × (y ≡ z))
+pub chosen : {A : Type 0} (b : Bool) (x y z : A) → cond b x y ≡ z → ((b ≡ true) × (x ≡ z))
+    ⊎ ((b ≡ false) × (y ≡ z))
 chosen true x y z e = inl (refl, e)
 chosen false x y z e = inr (refl, e)
 
 -- the same, with what follows from either
-pub by_choice : {A : Type 0} (P : Type 0) (b : Bool) (x y z : A) → cond b x y ≡ z → (x ≡ z → P) → (y ≡ z → P) → P
+pub by_choice : {A : Type 0} (P : Type 0) (b : Bool) (x y z : A) → cond b x y ≡ z → (x ≡ z → P)
+    → (y ≡ z → P) → P
 by_choice P true x y z e left right = left e
 by_choice P false x y z e left right = right e
 
 -- the same, with which way the test went
-pub by_test : {A : Type 0} (P : Type 0) (b : Bool) (x y z : A) → cond b x y ≡ z → (b ≡ true → x ≡ z → P) → (b ≡ false → y ≡ z → P) → P
+pub by_test : {A : Type 0} (P : Type 0) (b : Bool) (x y z : A) → cond b x y ≡ z
+    → (b ≡ true → x ≡ z → P) → (b ≡ false → y ≡ z → P) → P
 by_test P true x y z e left right = left refl e
 by_test P false x y z e left right = right refl e
 
@@ -47,19 +54,28 @@ pub record IsBehind (n : ℕ) (i j : Input) : Type 0 where
 after-after : (m n : ℕ) (i : Input) → after n (after m i) ≡ after (m + n) i
 after-after m n i = rw (drop-drop n m i.bytes, add_assoc i.place m n) refl
 
-pub IsBehind-then : (m n : ℕ) (i j k : Input) → IsBehind m i j → IsBehind n j k → IsBehind (m + n) i k
+pub IsBehind-then : (m n : ℕ) (i j k : Input) → IsBehind m i j → IsBehind n j k
+    → IsBehind (m + n) i k
 IsBehind-then m n i j k p q =
-    let left : n ≤ length (drop m i.bytes) = subst (λ (x : Input). n ≤ length x.bytes) p.is q.fits in
+    let left : n ≤ length (drop m i.bytes) =
+    subst (λ (x : Input). n ≤ length x.bytes) p.is q.fits in
     record {
       fits = omega (arith, length-drop m i.bytes, p.fits);
       is = q.is ∙ ap (after n) p.is ∙ after-after m n i;
     }
 
-pub split_is : (n : ℕ) (i : Input) (p : Input × Input) → split_at n i ≡ Ok p → (p.0 ≡ front n i) × IsBehind n i p.1
+pub split_is : (n : ℕ) (i : Input) (p : Input × Input) → split_at n i ≡ Ok p → (p.0 ≡ front n i)
+    × IsBehind n i p.1
 unfolding split_at
 split_is n i p e =
-    let g = guard_ok (ltb (length i.bytes) n) UnexpectedEof (front n i, after n i) p e in
-    (ap (λ (x : Input × Input). x.0) (sym g.1), record { fits = ltb-false _ _ g.0; is = ap (λ (x : Input × Input). x.1) (sym g.1) })
+    let g = guard_ok (ltb (length i.bytes) n) UnexpectedEof (front n i, after n i) p e in (
+      ap (λ (x : Input × Input). x.0) (sym g.1),
+      record {
+        fits = ltb-false _ _ g.0;
+        is =
+            ap (λ (x : Input × Input). x.1) (sym g.1);
+      },
+    )
 
 pub number_is : (n : ℕ) (i : Input) (p : ℕ × Input) → number_at n i ≡ Ok p → IsBehind n i p.1
 unfolding number_at
@@ -73,8 +89,17 @@ goes_shorter i j g =
     let left : j.bytes ≡ drop g.taken i.bytes = ap (λ (x : Input). x.bytes) g.is in
     omega (arith, g.some, g.enough, ap length left, length-drop g.taken i.bytes)
 
-pub byte_shorter : (i : Input) (p : ℕ × Input) → byte_at i ≡ Ok p → length p.1.bytes < length i.bytes
+pub byte_shorter : (i : Input) (p : ℕ × Input) → byte_at i ≡ Ok p
+    → length p.1.bytes < length i.bytes
 unfolding byte_at
 byte_shorter i p e =
-    let g = guard_ok (ltb (length i.bytes) 1) UnexpectedEof (slice_index i.bytes 0, after 1 i) p e in
-    omega (arith, ltb-false _ _ g.0, ap (λ (x : ℕ × Input). length x.1.bytes) g.1, length-drop 1 i.bytes)
+    let g = guard_ok (ltb (length i.bytes) 1) UnexpectedEof (
+      slice_index i.bytes 0,
+      after 1 i,
+    ) p e in
+    omega (
+      arith,
+      ltb-false _ _ g.0,
+      ap (λ (x : ℕ × Input). length x.1.bytes) g.1,
+      length-drop 1 i.bytes,
+    )

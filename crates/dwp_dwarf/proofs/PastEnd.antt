@@ -4,6 +4,7 @@ use Rattle.dwp_bytes.specs.declared.fault.ReadError.TheVariants.{OffsetOutOfRang
 use Rattle.dwp_bytes.specs.Input.{Input}
 use Rattle.dwp_dwarf.specs.Offsets.{from_at}
 
-pub past_end : (place : ℕ) (section : Input) → length section.bytes < place → from_at place section ≡ Err OffsetOutOfRange
+pub past_end : (place : ℕ) (section : Input) → length section.bytes < place → from_at place section
+    ≡ Err OffsetOutOfRange
 unfolding from_at
 past_end place section h = rw (lt-ltb _ _ h) refl

@@ -1,5 +1,7 @@
--- What is remembered of a table and the rest of it say the same after each declaration that is read.
-use Rattle.std.proofs.Common.{◌≡◌, ◌≢◌, ℕ, List, [], length, OnOk, true, false, Option, Some, None, Result, Ok, Err, eqb, refl, ap, sym, subst, ◌∙◌, eq-eqb, arith}
+-- What is remembered of a table and the rest of it say the same after each declaration that is
+-- read.
+use Rattle.std.proofs.Common.{◌≡◌, ◌≢◌, ℕ, List, [], length, OnOk, true, false, Option, Some, None}
+use Rattle.std.proofs.Common.{Result, Ok, Err, eqb, refl, ap, sym, subst, ◌∙◌, eq-eqb, arith}
 use Rattle.std.specs.Result.{is_ok}
 use Rattle.std.specs.Map.{lookup}
 use Rattle.std.proofs.lemmas.Grind.{common_steps}
@@ -40,56 +42,89 @@ abbrev Said : Type 0
 Said = Result (Option Declaration) ReadError
 
 module _ {R : Type 0} (input : R → Input) where
-  pub known_alike : (o : Option (Abbreviation R)) (r s : Said) → (o ≡ None → r ≡ s) → known_or input o r ≡ known_or input o s
+  pub known_alike : (o : Option (Abbreviation R)) (r s : Said) → (o ≡ None → r ≡ s)
+      → known_or input o r ≡ known_or input o s
   known_alike (Some a) r s e = refl
   known_alike None r s e = e refl
 
   -- where the code isn't remembered, what is said of it is what the rests say
-  pub rest_says : (known before : BTreeMap ℕ (Abbreviation R)) (i j : Input) (code : ℕ) → get nat_cmp known code ≡ None → get nat_cmp before code ≡ None → remembered input known i code ≡ remembered input before j code → declaration code i ≡ declaration code j
+  pub rest_says : (known before : BTreeMap ℕ (Abbreviation R)) (i j : Input) (code : ℕ)
+      → get nat_cmp known code ≡ None → get nat_cmp before code ≡ None → remembered input known i
+      code ≡ remembered input before j code → declaration code i ≡ declaration code j
   rest_says known before i j code none gone same =
-      let one : known_or input None (declaration code i) ≡ remembered input known i code = ap (λ (o : Option (Abbreviation R)). known_or input o (declaration code i)) (sym none) in
-      let two : remembered input before j code ≡ known_or input None (declaration code j) = ap (λ (o : Option (Abbreviation R)). known_or input o (declaration code j)) gone in
+      let one : known_or input None (declaration code i) ≡ remembered input known i code =
+      ap (λ (o : Option (Abbreviation R)). known_or input o (declaration code i)) (sym none) in
+      let two : remembered input before j code ≡ known_or input None (declaration code j) =
+      ap (λ (o : Option (Abbreviation R)). known_or input o (declaration code j)) gone in
       one ∙ same ∙ two
 
   -- what the same memory says beside the same rest
-  pub memory_alike : (known before : BTreeMap ℕ (Abbreviation R)) (i : Input) (code : ℕ) → get nat_cmp known code ≡ get nat_cmp before code → remembered input known i code ≡ remembered input before i code
-  memory_alike known before i code e = ap (λ (o : Option (Abbreviation R)). known_or input o (declaration code i)) e
+  pub memory_alike : (known before : BTreeMap ℕ (Abbreviation R)) (i : Input) (code : ℕ)
+      → get nat_cmp known code ≡ get nat_cmp before code → remembered input known i code ≡
+      remembered input before i code
+  memory_alike known before i code e = ap (λ (o : Option (Abbreviation R)).
+      known_or input o (declaration code i)) e
 
   -- a table of which nothing was read
-  pub nothing_read : (section table : Input) (offset : ℕ) (known : BTreeMap ℕ (Abbreviation R)) → from_at offset section ≡ Ok table → known.entries ≡ [] → RemembersTable input section offset known table
+  pub nothing_read : (section table : Input) (offset : ℕ) (known : BTreeMap ℕ (Abbreviation R))
+      → from_at offset section ≡ Ok table → known.entries ≡ [] → RemembersTable input section
+      offset known table
   nothing_read section table offset known is empty = record {
     table = table;
     is = is;
-    same = λ code. ap (λ (es : List (ℕ × Abbreviation R)). known_or input (lookup (is_at (nat_cmp code)) es) (declaration code table)) empty;
+    same = λ code. ap (λ (es : List (ℕ × Abbreviation R)).
+        known_or input (lookup (is_at (nat_cmp code)) es) (declaration code table)) empty;
   }
 
   -- a table of which more was read
-  pub more_read : (section : Input) (offset : ℕ) (known more : BTreeMap ℕ (Abbreviation R)) (rest left : Input) → RemembersTable input section offset known rest → ((other : ℕ) → remembered input more left other ≡ remembered input known rest other) → RemembersTable input section offset more left
-  more_read section offset known more rest left before kept = record { table = before.table; is = before.is; same = λ code. kept code ∙ before.same code }
+  pub more_read : (section : Input) (offset : ℕ) (known more : BTreeMap ℕ (Abbreviation R))
+      (rest left : Input) → RemembersTable input section offset known rest
+      → ((other : ℕ) → remembered input more left other ≡ remembered input known rest other)
+      → RemembersTable input section offset more left
+  more_read section offset known more rest left before kept = record {
+    table = before.table;
+    is =
+        before.is;
+    same = λ code. kept code ∙ before.same code;
+  }
 
   module _ (lebs : LebsTakeBytes) where
     -- a code that is remembered already
-    pub passed : (known : BTreeMap ℕ (Abbreviation R)) (i : Input) (x : (ℕ × Declaration) × Input) → next_at i ≡ Ok (Some x) → is_some (get nat_cmp known x.0.0) ≡ true → (other : ℕ) → remembered input known x.1 other ≡ remembered input known i other
+    pub passed : (known : BTreeMap ℕ (Abbreviation R)) (i : Input) (x : (ℕ × Declaration) × Input)
+        → next_at i ≡ Ok (Some x) → is_some (get nat_cmp known x.0.0) ≡ true → (other : ℕ)
+        → remembered input known x.1 other ≡ remembered input known i other
     passed known i x h there other =
         known_alike (get nat_cmp known other) (declaration other x.1) (declaration other i)
         (λ none. sym (look_up-other lebs other i x h (ne_eqb x.0.0 other (λ e.
         let gone : get nat_cmp known x.0.0 ≡ None = ap (get nat_cmp known) e ∙ none in
-        let never : false ≡ true = sym (ap (λ (o : Option (Abbreviation R)). is_some o) gone) ∙ there in
+        let never : false ≡ true = sym (ap (λ (o : Option (Abbreviation R)). is_some o)
+        gone) ∙ there in
         absurd cc))))
 
     -- a code that is remembered now
-    pub inserted : (old new : BTreeMap ℕ (Abbreviation R)) (i : Input) (x : (ℕ × Declaration) × Input) (a : Abbreviation R) → next_at i ≡ Ok (Some x) → x.0.1 ≡ declaration_of input a → get nat_cmp old x.0.0 ≡ None → get nat_cmp new x.0.0 ≡ Some a → ((q : ℕ) → q ≢ x.0.0 → get nat_cmp new q ≡ get nat_cmp old q)
+    pub inserted : (old new : BTreeMap ℕ (Abbreviation R)) (i : Input) (x : (ℕ × Declaration)
+        × Input) (a : Abbreviation R) → next_at i ≡ Ok (Some x) → x.0.1 ≡ declaration_of input a
+        → get nat_cmp old x.0.0 ≡ None → get nat_cmp new x.0.0 ≡ Some a
+        → ((q : ℕ) → q ≢ x.0.0 → get nat_cmp new q ≡ get nat_cmp old q)
         → (other : ℕ) → remembered input new x.1 other ≡ remembered input old i other
     inserted old new i x a h is none some others other =
         by_bool (remembered input new x.1 other ≡ remembered input old i other) (eqb x.0.0 other)
         (λ here.
         let same : x.0.0 ≡ other = eqb-true _ _ here in
-        let now : remembered input new x.1 x.0.0 ≡ Ok (Some (declaration_of input a)) = ap (λ (o : Option (Abbreviation R)). known_or input o (declaration x.0.0 x.1)) some in
-        let before : remembered input old i x.0.0 ≡ declaration x.0.0 i = ap (λ (o : Option (Abbreviation R)). known_or input o (declaration x.0.0 i)) none in
-        let read : declaration x.0.0 i ≡ Ok (Some x.0.1) = look_up-here lebs x.0.0 i x h (eq-eqb x.0.0 x.0.0 refl) in
-        let known : Ok (Some x.0.1) ≡ Ok (Some (declaration_of input a)) = ap (λ (d : Declaration). Ok (Some d)) is in
-        subst (λ (c : ℕ). remembered input new x.1 c ≡ remembered input old i c) same (now ∙ sym known ∙ sym read ∙ sym before))
+        let now : remembered input new x.1 x.0.0 ≡ Ok (Some (declaration_of input a)) =
+        ap (λ (o : Option (Abbreviation R)). known_or input o (declaration x.0.0 x.1)) some in
+        let before : remembered input old i x.0.0 ≡ declaration x.0.0 i =
+        ap (λ (o : Option (Abbreviation R)). known_or input o (declaration x.0.0 i)) none in
+        let read : declaration x.0.0 i ≡ Ok (Some x.0.1) = look_up-here lebs x.0.0 i x h
+        (eq-eqb x.0.0 x.0.0 refl) in
+        let known : Ok (Some x.0.1) ≡ Ok (Some (declaration_of input a)) = ap (λ (d : Declaration).
+        Ok (Some d)) is in
+        subst (λ (c : ℕ). remembered input new x.1 c ≡ remembered input old i c) same
+        (now ∙ sym known ∙ sym read ∙ sym before))
         (λ apart.
-        let stays : get nat_cmp new other ≡ get nat_cmp old other = others other (λ e. let never : true ≡ false = sym (eq-eqb x.0.0 other (sym e)) ∙ apart in absurd cc) in
+        let stays : get nat_cmp new other ≡ get nat_cmp old other =
+        others other (λ e. let never : true ≡ false = sym (eq-eqb x.0.0 other (sym e)) ∙
+        apart in absurd cc) in
         memory_alike new old x.1 other stays
-        ∙ known_alike (get nat_cmp old other) (declaration other x.1) (declaration other i) (λ gone. sym (look_up-other lebs other i x h apart)))
+        ∙ known_alike (get nat_cmp old other) (declaration other x.1) (declaration other i) (λ gone.
+        sym (look_up-other lebs other i x h apart)))

@@ -1,5 +1,6 @@
 -- The greatest of a file's numbers decides whether all of them fit its class.
-use Rattle.std.proofs.Common.{◌≡◌, ℕ, zero, suc, ◌+◌, ◌*◌, ◌^◌, ◌<◌, ◌≤◌, List, [], ◌∷◌, ◌++◌, length, replicate, refl, ap, arith, length-append}
+use Rattle.std.proofs.Common.{◌≡◌, ℕ, zero, suc, ◌+◌, ◌*◌, ◌^◌, ◌<◌, ◌≤◌, List, [], ◌∷◌, ◌++◌}
+use Rattle.std.proofs.Common.{length, replicate, refl, ap, arith, length-append}
 use Rattle.std.specs.Prelude.{Option, None, Some, MatchOption, OnOk, IfErr}
 use Rattle.std.specs.Option.{ok_or}
 use Rattle.std.specs.List.{All}
@@ -14,7 +15,9 @@ use Rattle.dwp_base.specs.declared.section.SectionKind.{SectionKind}
 use Rattle.dwp_base.specs.Numbers.{number_bytes}
 use Rattle.dwp_base.specs.Sections.{name_of}
 use Rattle.dwp_elf_read.specs.Layout.{word_size, header_size, entry_size}
-use Rattle.dwp_elf.specs.FileText.{Object, file_header, section_header, content_bytes, name_table, headers_from, null_header, section_count, names_end, zeros_after, headers_place, file_text}
+use Rattle.dwp_elf.specs.FileText.{Object, file_header, section_header, content_bytes, name_table}
+use Rattle.dwp_elf.specs.FileText.{headers_from, null_header, section_count, names_end, zeros_after}
+use Rattle.dwp_elf.specs.FileText.{headers_place, file_text}
 use Rattle.dwp_elf.specs.Numbers.{places_from, offsets_and_sizes, Fits}
 use Rattle.dwp_elf_read.specs.declared.fault.WriteError.{WriteError}
 use Rattle.dwp_elf.specs.declared.places.Places.{Places}
@@ -32,25 +35,40 @@ pub length-number_bytes : (order : Endianness) (n x : ℕ) → length (number_by
 length-number_bytes Little n x = length-bytes_low_first 0 n x
 length-number_bytes Big n x = length-bytes_high_first n x
 
-pub length-section_header : (class : Class) (order : Endianness) (name type place size : ℕ) → length (section_header class order name type place size) ≡ entry_size class
+pub length-section_header : (class : Class) (order : Endianness) (name type place size : ℕ)
+    → length (section_header class order name type place size) ≡ entry_size class
 unfolding section_header
 length-section_header Elf32 order name type place size = simp (length-append, length-number_bytes)
 length-section_header Elf64 order name type place size = simp (length-append, length-number_bytes)
 
-pub length-file_header : (class : Class) (order : Endianness) (machine headers count : ℕ) → length (file_header class order machine headers count) ≡ header_size class
+pub length-file_header : (class : Class) (order : Endianness) (machine headers count : ℕ)
+    → length (file_header class order machine headers count) ≡ header_size class
 unfolding file_header
 length-file_header Elf32 order machine headers count = simp (length-append, length-number_bytes)
 length-file_header Elf64 order machine headers count = simp (length-append, length-number_bytes)
 
-pub length-headers_from : (class : Class) (order : Endianness) (size name place : ℕ) (cs : List (SectionKind × List ℕ))
+pub length-headers_from : (class : Class) (order : Endianness) (size name place : ℕ)
+    (cs : List (SectionKind × List ℕ))
     → length (headers_from class order size name place cs) ≡ entry_size class * (length cs + 1)
 unfolding headers_from
-length-headers_from class order size name place [] = omega (arith, length-section_header class order name 3 place size)
+length-headers_from class order size name place [] = omega (
+  arith,
+  length-section_header class order
+      name 3 place size,
+)
 length-headers_from class order size name place (c ∷ cs) =
     let header = section_header class order name 1 place (length c.1) in
-    let after = headers_from class order size (name + length (name_of c.0) + 1) (place + length c.1) cs in
-    let rest = length-headers_from class order size (name + length (name_of c.0) + 1) (place + length c.1) cs in
-    omega (arith, length-append header after, length-section_header class order name 1 place (length c.1), rest)
+    let after = headers_from class order size (name + length (name_of c.0) + 1)
+    (place + length c.1) cs in
+    let rest = length-headers_from class order size (name + length (name_of c.0) + 1)
+    (place + length c.1) cs in
+    omega (
+      arith,
+      length-append header after,
+      length-section_header class order name 1 place
+          (length c.1),
+      rest,
+    )
 
 pub length-null_header : (class : Class) → length (null_header class) ≡ entry_size class
 length-null_header Elf32 = refl
@@ -59,15 +77,19 @@ length-null_header Elf64 = refl
 pub length-file_text : (o : Object) → length (file_text o) ≡ file_length o.class o.contents
 unfolding file_text
 length-file_text o =
-    let header = file_header o.class o.order o.machine (headers_place o.class o.contents) (section_count o.contents) in
+    let header = file_header o.class o.order o.machine (headers_place o.class o.contents)
+    (section_count o.contents) in
     let names = name_table o.contents in
     let zeros : List ℕ = replicate (zeros_after (names_end o.class o.contents)) 0 in
-    let first = length-file_header o.class o.order o.machine (headers_place o.class o.contents) (section_count o.contents) in
-    let last = length-headers_from o.class o.order (length names) 1 (header_size o.class) o.contents in
+    let first = length-file_header o.class o.order o.machine (headers_place o.class o.contents)
+    (section_count o.contents) in
+    let last = length-headers_from o.class o.order (length names) 1
+    (header_size o.class) o.contents in
     let headers = headers_from o.class o.order (length names) 1 (header_size o.class) o.contents in
     omega (
       arith,
-      length-append (header ++ content_bytes o.contents ++ names ++ zeros) (null_header o.class ++ headers),
+      length-append (header ++ content_bytes o.contents ++ names ++ zeros)
+          (null_header o.class ++ headers),
       length-append (header ++ content_bytes o.contents ++ names) zeros,
       length-append (header ++ content_bytes o.contents) names,
       length-append header (content_bytes o.contents),
@@ -79,41 +101,65 @@ length-file_text o =
     )
 
 -- each offset and size is at most where the section headers begin
-places_from-le : (size place limit : ℕ) (cs : List (SectionKind × List ℕ)) → place + length (content_bytes cs) ≤ limit → size ≤ limit
+places_from-le : (size place limit : ℕ) (cs : List (SectionKind × List ℕ))
+    → place + length (content_bytes cs) ≤ limit → size ≤ limit
     → All (λ n. n ≤ limit) (places_from size place cs)
 unfolding content_bytes
 places_from-le size place limit [] h k =
-    All-cons (λ n. n ≤ limit) place (size ∷ []) (omega arith) (All-cons (λ n. n ≤ limit) size [] k (All-nil (λ n. n ≤ limit)))
+    All-cons (λ n. n ≤ limit) place (size ∷ []) (omega arith) (All-cons (λ n. n ≤ limit) size [] k
+    (All-nil (λ n. n ≤ limit)))
 places_from-le size place limit (c ∷ cs) h k =
     let split = length-append c.1 (content_bytes cs) in
-    All-cons (λ n. n ≤ limit) place (length c.1 ∷ places_from size (place + length c.1) cs) (omega (arith, split))
-    (All-cons (λ n. n ≤ limit) (length c.1) (places_from size (place + length c.1) cs) (omega (arith, split))
+    All-cons (λ n. n ≤ limit) place (length c.1 ∷ places_from size (place + length c.1) cs)
+    (omega (arith, split))
+    (All-cons (λ n. n ≤ limit) (length c.1) (places_from size (place + length c.1) cs)
+    (omega (arith, split))
     (places_from-le size (place + length c.1) limit cs (omega (arith, split)) k))
 
-offsets_and_sizes-lt : (o : Object) (limit : ℕ) → headers_place o.class o.contents < limit → All (λ n. n < limit) (offsets_and_sizes o)
+offsets_and_sizes-lt : (o : Object) (limit : ℕ) → headers_place o.class o.contents < limit
+    → All (λ n. n < limit) (offsets_and_sizes o)
 offsets_and_sizes-lt o limit h =
     let place = headers_place o.class o.contents in
     let names = length (name_table o.contents) in
-    let small = places_from-le names (header_size o.class) place o.contents (omega arith) (omega arith) in
-    let within : All (λ n. n < limit) (places_from names (header_size o.class) o.contents) = λ k d l. let here = small k d l in omega (arith, here) in
+    let small = places_from-le names (header_size o.class) place o.contents (omega arith)
+    (omega arith) in
+    let within : All (λ n. n < limit) (places_from names (header_size o.class) o.contents) =
+    λ k d l. let here = small k d l in omega (arith, here) in
     All-cons (λ n. n < limit) place (places_from names (header_size o.class) o.contents) h within
 
-Fits_of : (class : Class) (machine : ℕ) (order : Endianness) (cs : List (SectionKind × List ℕ)) → headers_place class cs < 2 ^ (8 * word_size class)
-    → file_length class cs < 2 ^ 64 → Fits (record { class = class; machine = machine; order = order; contents = cs })
+Fits_of : (class : Class) (machine : ℕ) (order : Endianness) (cs : List (SectionKind × List ℕ))
+    → headers_place class cs < 2 ^ (8 * word_size class)
+    → file_length class cs < 2 ^ 64 → Fits (record {
+      class = class;
+      machine = machine;
+      order =
+          order;
+      contents = cs;
+    })
 unfolding Fits
-Fits_of Elf32 machine order cs h k = offsets_and_sizes-lt (record { class = Elf32; machine = machine; order = order; contents = cs }) (2 ^ 32) h
+Fits_of Elf32 machine order cs h k = offsets_and_sizes-lt (record {
+  class = Elf32;
+  machine =
+      machine;
+  order = order;
+  contents = cs;
+}) (2 ^ 32) h
 Fits_of Elf64 machine order cs h k =
     let o : Object = record { class = Elf64; machine = machine; order = order; contents = cs } in
-    All-cons (λ n. n < 2 ^ 64) (length (file_text o)) (offsets_and_sizes o) (omega (arith, length-file_text o)) (offsets_and_sizes-lt o (2 ^ 64) h)
+    All-cons (λ n. n < 2 ^ 64) (length (file_text o)) (offsets_and_sizes o)
+    (omega (arith, length-file_text o)) (offsets_and_sizes-lt o (2 ^ 64) h)
 
 -- all of them fit where the greatest do
-pub Fits-from : (o : Object) → headers_place o.class o.contents < 2 ^ (8 * word_size o.class) → file_length o.class o.contents < 2 ^ 64 → Fits o
+pub Fits-from : (o : Object) → headers_place o.class o.contents < 2 ^ (8 * word_size o.class)
+    → file_length o.class o.contents < 2 ^ 64 → Fits o
 Fits-from o h k = Fits_of o.class o.machine o.order o.contents h k
 
-refused_of : (class : Class) (machine : ℕ) (order : Endianness) (cs : List (SectionKind × List ℕ)) → PassesLimit class cs
+refused_of : (class : Class) (machine : ℕ) (order : Endianness) (cs : List (SectionKind × List ℕ))
+    → PassesLimit class cs
     → ¬ Fits (record { class = class; machine = machine; order = order; contents = cs })
 unfolding Fits
-refused_of Elf32 machine order cs h fits = let first = fits 0 0 (omega arith) in absurd (omega (arith, first))
+refused_of Elf32 machine order cs h fits = let first = fits 0 0 (omega arith) in
+    absurd (omega (arith, first))
 refused_of Elf64 machine order cs h fits =
     let o : Object = record { class = Elf64; machine = machine; order = order; contents = cs } in
     let first = fits 0 0 (omega arith) in absurd (omega (arith, first, length-file_text o))
@@ -123,11 +169,14 @@ pub refused-from : (o : Object) → PassesLimit o.class o.contents → ¬ Fits o
 refused-from o h = refused_of o.class o.machine o.order o.contents h
 
 -- what the places of a file, or that there are none, mean for its object
-pub places-fits : (o : Object) (r : Option Places) (e : WriteError) → MatchOption r (PassesLimit o.class o.contents) (ArePlaces o.class o.contents) → OnOk (ok_or r e) (Fits o)
+pub places-fits : (o : Object) (r : Option Places) (e : WriteError)
+    → MatchOption r (PassesLimit o.class o.contents) (ArePlaces o.class o.contents)
+    → OnOk (ok_or r e) (Fits o)
 places-fits o None e h = tt
 places-fits o (Some p) e h = Fits-from o h.place_fits h.length_fits
 
-pub places-refused : (o : Object) (r : Option Places) (e : WriteError) → MatchOption r (PassesLimit o.class o.contents) (ArePlaces o.class o.contents)
+pub places-refused : (o : Object) (r : Option Places) (e : WriteError)
+    → MatchOption r (PassesLimit o.class o.contents) (ArePlaces o.class o.contents)
     → IfErr (ok_or r e) (λ x. (x ≡ e) × ¬ Fits o)
 places-refused o None e h = (refl, refused-from o h)
 places-refused o (Some p) e h = tt

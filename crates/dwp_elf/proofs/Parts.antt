@@ -1,9 +1,14 @@
 -- Lemmas on the parts of a file, section by section.
-use Rattle.std.proofs.Common.{◌≡◌, ℕ, zero, suc, ◌+◌, ◌*◌, ◌^◌, ◌<◌, ◌≤◌, List, [], ◌∷◌, ◌++◌, length, drop, get_or, refl, sym, ap, ◌∙◌, arith, add-one, length-append}
+use Rattle.std.proofs.Common.{◌≡◌, ℕ, zero, suc, ◌+◌, ◌*◌, ◌^◌, ◌<◌, ◌≤◌, List, [], ◌∷◌, ◌++◌}
+use Rattle.std.proofs.Common.{length, drop, get_or, refl, sym, ap, ◌∙◌, arith, add-one}
+use Rattle.std.proofs.Common.{length-append}
 use Rattle.std.specs.Global.{Vec}
 use Rattle.std.proofs.Math.Seq.{drop-cons}
 use Rattle.dwp_base.specs.declared.section.SectionKind.{SectionKind}
-use Rattle.dwp_base.specs.declared.section.SectionKind.TheVariants.{Info, Types, Abbrev, Line, Loc, Loclists, Rnglists, StrOffsets, Macinfo, Macro, Str, CuIndex, TuIndex}
+use Rattle.dwp_base.specs.declared.section.SectionKind.TheVariants.{Info, Types, Abbrev, Line, Loc}
+use Rattle.dwp_base.specs.declared.section.SectionKind.TheVariants.{Loclists, Rnglists, StrOffsets}
+use Rattle.dwp_base.specs.declared.section.SectionKind.TheVariants.{Macinfo, Macro, Str, CuIndex}
+use Rattle.dwp_base.specs.declared.section.SectionKind.TheVariants.{TuIndex}
 use Rattle.dwp_base.specs.declared.class.Class.{Class}
 use Rattle.dwp_base.specs.declared.class.Class.TheVariants.{Elf32, Elf64}
 use Rattle.dwp_base.specs.declared.endian.Endianness.{Endianness}
@@ -13,16 +18,22 @@ use Rattle.dwp_elf_read.specs.Layout.{word_size}
 use Rattle.dwp_elf.specs.FileText.{content_bytes, names_of, headers_from, section_header}
 
 -- the section at a place, and those after it
-drop-item : (xs : List (SectionKind × Vec ℕ)) (i : ℕ) (x : SectionKind × Vec ℕ) → i < length xs → x ≡ get_or xs i x → drop i xs ≡ x ∷ drop (i + 1) xs
-drop-item xs i x h e = drop-cons xs i x h ∙ ap (λ y. y ∷ drop (suc i) xs) (sym e) ∙ ap (λ k. x ∷ drop k xs) (sym (add-one i))
+drop-item : (xs : List (SectionKind × Vec ℕ)) (i : ℕ) (x : SectionKind × Vec ℕ) → i < length xs
+    → x ≡ get_or xs i x → drop i xs ≡ x ∷ drop (i + 1) xs
+drop-item xs i x h e = drop-cons xs i x h ∙ ap (λ y. y ∷ drop (suc i) xs) (sym e) ∙ ap (λ k.
+    x ∷ drop k xs) (sym (add-one i))
 
-pub content_bytes-drop : (xs : List (SectionKind × Vec ℕ)) (i : ℕ) (x : SectionKind × Vec ℕ) → i < length xs → x ≡ get_or xs i x
-    → content_bytes (contents_of (drop i xs)) ≡ x.1.items ++ content_bytes (contents_of (drop (i + 1) xs))
+pub content_bytes-drop : (xs : List (SectionKind × Vec ℕ)) (i : ℕ) (x : SectionKind × Vec ℕ)
+    → i < length xs → x ≡ get_or xs i x
+    → content_bytes (contents_of (drop i xs)) ≡ x.1.items ++ content_bytes
+    (contents_of (drop (i + 1) xs))
 unfolding content_bytes
 content_bytes-drop xs i x h e = ap (λ l. content_bytes (contents_of l)) (drop-item xs i x h e)
 
-pub names_of-drop : (xs : List (SectionKind × Vec ℕ)) (i : ℕ) (x : SectionKind × Vec ℕ) → i < length xs → x ≡ get_or xs i x
-    → names_of (contents_of (drop i xs)) ≡ (name_of x.0 ++ 0 ∷ []) ++ names_of (contents_of (drop (i + 1) xs))
+pub names_of-drop : (xs : List (SectionKind × Vec ℕ)) (i : ℕ) (x : SectionKind × Vec ℕ)
+    → i < length xs → x ≡ get_or xs i x
+    → names_of (contents_of (drop i xs)) ≡ (name_of x.0 ++ 0 ∷ []) ++ names_of
+    (contents_of (drop (i + 1) xs))
 unfolding names_of
 names_of-drop xs i x h e = ap (λ l. names_of (contents_of l)) (drop-item xs i x h e)
 
@@ -33,11 +44,13 @@ drop-end [] (suc i) h = refl
 drop-end (x ∷ xs) zero h = absurd (omega arith)
 drop-end (x ∷ xs) (suc i) h = drop-end xs i (omega arith)
 
-pub content_bytes-end : (xs : List (SectionKind × Vec ℕ)) (i : ℕ) → length xs ≤ i → content_bytes (contents_of (drop i xs)) ≡ []
+pub content_bytes-end : (xs : List (SectionKind × Vec ℕ)) (i : ℕ) → length xs ≤ i
+    → content_bytes (contents_of (drop i xs)) ≡ []
 unfolding content_bytes
 content_bytes-end xs i h = ap (λ l. content_bytes (contents_of l)) (drop-end xs i h)
 
-pub names_of-end : (xs : List (SectionKind × Vec ℕ)) (i : ℕ) → length xs ≤ i → names_of (contents_of (drop i xs)) ≡ []
+pub names_of-end : (xs : List (SectionKind × Vec ℕ)) (i : ℕ) → length xs ≤ i
+    → names_of (contents_of (drop i xs)) ≡ []
 unfolding names_of
 names_of-end xs i h = ap (λ l. names_of (contents_of l)) (drop-end xs i h)
 
@@ -58,31 +71,46 @@ length-name_of CuIndex = omega arith
 length-name_of TuIndex = omega arith
 
 -- the same for lengths
-pub length-content_bytes-drop : (xs : List (SectionKind × Vec ℕ)) (i : ℕ) (x : SectionKind × Vec ℕ) → i < length xs → x ≡ get_or xs i x
-    → length (content_bytes (contents_of (drop i xs))) ≡ length x.1.items + length (content_bytes (contents_of (drop (i + 1) xs)))
+pub length-content_bytes-drop : (xs : List (SectionKind × Vec ℕ)) (i : ℕ) (x : SectionKind × Vec ℕ)
+    → i < length xs → x ≡ get_or xs i x
+    → length (content_bytes (contents_of (drop i xs))) ≡ length x.1.items + length
+    (content_bytes (contents_of (drop (i + 1) xs)))
 length-content_bytes-drop xs i x h e =
-    ap length (content_bytes-drop xs i x h e) ∙ length-append x.1.items (content_bytes (contents_of (drop (i + 1) xs)))
+    ap length (content_bytes-drop xs i x h e) ∙ length-append x.1.items
+    (content_bytes (contents_of (drop (i + 1) xs)))
 
-pub length-names_of-drop : (xs : List (SectionKind × Vec ℕ)) (i : ℕ) (x : SectionKind × Vec ℕ) → i < length xs → x ≡ get_or xs i x
-    → length (names_of (contents_of (drop i xs))) ≡ length (name_of x.0) + 1 + length (names_of (contents_of (drop (i + 1) xs)))
+pub length-names_of-drop : (xs : List (SectionKind × Vec ℕ)) (i : ℕ) (x : SectionKind × Vec ℕ)
+    → i < length xs → x ≡ get_or xs i x
+    → length (names_of (contents_of (drop i xs))) ≡ length (name_of x.0) + 1 + length
+    (names_of (contents_of (drop (i + 1) xs)))
 length-names_of-drop xs i x h e =
-    ap length (names_of-drop xs i x h e) ∙ length-append (name_of x.0 ++ 0 ∷ []) (names_of (contents_of (drop (i + 1) xs)))
-    ∙ ap (λ n. n + length (names_of (contents_of (drop (i + 1) xs)))) (length-append (name_of x.0) (0 ∷ []))
+    ap length (names_of-drop xs i x h e) ∙ length-append (name_of x.0 ++ 0 ∷ [])
+    (names_of (contents_of (drop (i + 1) xs)))
+    ∙ ap (λ n. n + length (names_of (contents_of (drop (i + 1) xs))))
+    (length-append (name_of x.0) (0 ∷ []))
 
-pub headers_from-drop : (class : Class) (order : Endianness) (size name place name' place' : ℕ) (xs : List (SectionKind × Vec ℕ)) (i : ℕ) (x : SectionKind × Vec ℕ)
-    → i < length xs → x ≡ get_or xs i x → name' ≡ name + length (name_of x.0) + 1 → place' ≡ place + length x.1.items
+pub headers_from-drop : (class : Class) (order : Endianness) (size name place name' place' : ℕ)
+    (xs : List (SectionKind × Vec ℕ)) (i : ℕ) (x : SectionKind × Vec ℕ)
+    → i < length xs → x ≡ get_or xs i x → name' ≡ name + length (name_of x.0) + 1
+    → place' ≡ place + length x.1.items
     → headers_from class order size name place (contents_of (drop i xs))
-    ≡ section_header class order name 1 place (length x.1.items) ++ headers_from class order size name' place' (contents_of (drop (i + 1) xs))
+    ≡ section_header class order name 1 place (length x.1.items) ++ headers_from class order size
+    name' place' (contents_of (drop (i + 1) xs))
 unfolding headers_from
 headers_from-drop class order size name place name' place' xs i x h e n p =
     ap (λ l. headers_from class order size name place (contents_of l)) (drop-item xs i x h e)
-    ∙ ap (λ k. section_header class order name 1 place (length x.1.items) ++ headers_from class order size k (place + length x.1.items) (contents_of (drop (i + 1) xs))) (sym n)
-    ∙ ap (λ k. section_header class order name 1 place (length x.1.items) ++ headers_from class order size name' k (contents_of (drop (i + 1) xs))) (sym p)
+    ∙ ap (λ k. section_header class order name 1 place (length x.1.items) ++ headers_from class
+    order size k (place + length x.1.items) (contents_of (drop (i + 1) xs))) (sym n)
+    ∙ ap (λ k. section_header class order name 1 place (length x.1.items) ++ headers_from class
+    order size name' k (contents_of (drop (i + 1) xs))) (sym p)
 
-pub headers_from-end : (class : Class) (order : Endianness) (size name place : ℕ) (xs : List (SectionKind × Vec ℕ)) (i : ℕ) → length xs ≤ i
-    → headers_from class order size name place (contents_of (drop i xs)) ≡ section_header class order name 3 place size
+pub headers_from-end : (class : Class) (order : Endianness) (size name place : ℕ)
+    (xs : List (SectionKind × Vec ℕ)) (i : ℕ) → length xs ≤ i
+    → headers_from class order size name place (contents_of (drop i xs)) ≡ section_header class
+    order name 3 place size
 unfolding headers_from
-headers_from-end class order size name place xs i h = ap (λ l. headers_from class order size name place (contents_of l)) (drop-end xs i h)
+headers_from-end class order size name place xs i h = ap (λ l. headers_from class order size name
+    place (contents_of l)) (drop-end xs i h)
 
 -- what the class limits is within 64 bits
 pub limit-le : (class : Class) → 2 ^ (8 * word_size class) ≤ 2 ^ 64

@@ -21,8 +21,11 @@ limit Elf32 n h = h
 limit Elf64 n h = h
 
 -- places that fit their class are those of a file that is read back
-pub places-back : (o : Object) (r : Option Places) (e : WriteError) → o.machine < 2 ^ 16 → KindsDiffer o.contents
-    → MatchOption r (PassesLimit o.class o.contents) (ArePlaces o.class o.contents) → OnOk (ok_or r e) (elf_of (file_text o) ≡ Ok (written_elf o))
+pub places-back : (o : Object) (r : Option Places) (e : WriteError) → o.machine < 2 ^ 16
+    → KindsDiffer o.contents
+    → MatchOption r (PassesLimit o.class o.contents) (ArePlaces o.class o.contents)
+    → OnOk (ok_or r e) (elf_of (file_text o) ≡ Ok (written_elf o))
 places-back o None e small differ h = tt
 places-back o (Some p) e small differ h =
-    elf_of-file_text o small (limit o.class (headers_place o.class o.contents) h.place_fits) (omega (arith, length-KindsDiffer o.contents differ))
+    elf_of-file_text o small (limit o.class (headers_place o.class o.contents) h.place_fits)
+    (omega (arith, length-KindsDiffer o.contents differ))

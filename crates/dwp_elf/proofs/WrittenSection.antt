@@ -1,5 +1,7 @@
 -- Reading one written section: its content and its name.
-use Rattle.std.proofs.Common.{◌≡◌, ℕ, zero, suc, ◌+◌, ◌-◌, ◌<◌, ◌==◌, nat_lt, nat_le, Bool, true, false, cond, List, [], ◌∷◌, ◌++◌, Some, None, length, take, drop, position, refl, ap, ◌∙◌, arith, length-append}
+use Rattle.std.proofs.Common.{◌≡◌, ℕ, zero, suc, ◌+◌, ◌-◌, ◌<◌, ◌==◌, nat_lt, nat_le, Bool, true}
+use Rattle.std.proofs.Common.{false, cond, List, [], ◌∷◌, ◌++◌, Some, None, length, take, drop}
+use Rattle.std.proofs.Common.{position, refl, ap, ◌∙◌, arith, length-append}
 use Rattle.std.specs.Prelude.{codes}
 use Rattle.std.specs.List.{position_or_len, slice_range}
 use Rattle.std.specs.Option.{option_and_then}
@@ -9,7 +11,10 @@ use Rattle.std.proofs.lemmas.Bool.{lt-ltb, ltb-true, false≢true}
 use Rattle.std.proofs.lemmas.Str.{IsUtf8-from_ascii, is_utf8-from_IsUtf8}
 use Rattle.std.proofs.lemmas.Str.Ascii.{IsAscii-nil}
 use Rattle.dwp_base.specs.declared.section.SectionKind.{SectionKind}
-use Rattle.dwp_base.specs.declared.section.SectionKind.TheVariants.{Info, Types, Abbrev, Line, Loc, Loclists, Rnglists, StrOffsets, Macinfo, Macro, Str, CuIndex, TuIndex}
+use Rattle.dwp_base.specs.declared.section.SectionKind.TheVariants.{Info, Types, Abbrev, Line, Loc}
+use Rattle.dwp_base.specs.declared.section.SectionKind.TheVariants.{Loclists, Rnglists, StrOffsets}
+use Rattle.dwp_base.specs.declared.section.SectionKind.TheVariants.{Macinfo, Macro, Str, CuIndex}
+use Rattle.dwp_base.specs.declared.section.SectionKind.TheVariants.{TuIndex}
 use Rattle.dwp_base.specs.Sections.{name_of}
 use Rattle.dwp_elf_read.specs.Elf.{section_content, text_of, text_at, section_of}
 use Rattle.dwp_elf.specs.Written.{plain_section}
@@ -57,41 +62,70 @@ kind-name Str = record { ends = λ more. refl; utf8 = utf8-of (name_of Str) refl
 kind-name CuIndex = record { ends = λ more. refl; utf8 = utf8-of (name_of CuIndex) refl }
 kind-name TuIndex = record { ends = λ more. refl; utf8 = utf8-of (name_of TuIndex) refl }
 
-position-name : (text more : List ℕ) → IsName text → position (λ b. b == 0) (text ++ 0 ∷ more) ≡ Some (length text)
+position-name : (text more : List ℕ) → IsName text → position (λ b. b == 0) (text ++ 0 ∷ more) ≡
+    Some (length text)
 position-name text more h =
     let bytes = text ++ 0 ∷ more in
     let within : length text < length bytes = omega (arith, length-append text (0 ∷ more)) in
     ap (λ (n : ℕ). cond (nat_lt n (length bytes)) (Some n) None) (h.ends more)
-    ∙ ap (λ (b : Bool). cond b (Some (length text)) None) (lt-ltb (length text) (length bytes) within)
+    ∙ ap (λ (b : Bool). cond b (Some (length text)) None)
+    (lt-ltb (length text) (length bytes) within)
 
 -- a name is read from its place in the name table
-pub text_at-name : (table text more : List ℕ) (place : ℕ) → drop place table ≡ text ++ 0 ∷ more → IsName text → text_at table place ≡ Some text
+pub text_at-name : (table text more : List ℕ) (place : ℕ) → drop place table ≡ text ++ 0 ∷ more
+    → IsName text → text_at table place ≡ Some text
 unfolding text_at text_of
 text_at-name table text more place e h =
-    ap (λ (bytes : List ℕ). option_and_then (λ n. text_of (take n bytes)) (position (λ b. b == 0) bytes)) e
+    ap (λ (bytes : List ℕ). option_and_then (λ n. text_of (take n bytes))
+    (position (λ b. b == 0) bytes)) e
     ∙ ap (option_and_then (λ n. text_of (take n (text ++ 0 ∷ more)))) (position-name text more h)
     ∙ ap text_of (take-append_seam text (0 ∷ more))
     ∙ ap (λ (b : Bool). cond b (Some text) None) h.utf8
 
-slice-content : (bytes content after : List ℕ) (place : ℕ) → drop place bytes ≡ content ++ after → slice_range bytes place (place + length content) ≡ content
+slice-content : (bytes content after : List ℕ) (place : ℕ) → drop place bytes ≡ content ++ after
+    → slice_range bytes place (place + length content) ≡ content
 slice-content bytes content after place e =
     let size : place + length content - place ≡ length content = omega arith in
-    ap (λ (n : ℕ). take n (drop place bytes)) size ∙ ap (take (length content)) e ∙ take-append_seam content after
+    ap (λ (n : ℕ). take n (drop place bytes)) size ∙ ap (take (length content)) e ∙
+    take-append_seam content after
 
 -- a content is read from its place in the file
-pub content_of-place : (bytes content after : List ℕ) (place name type : ℕ) → (type == 8) ≡ false → drop place bytes ≡ content ++ after
+pub content_of-place : (bytes content after : List ℕ) (place name type : ℕ) → (type == 8) ≡ false
+    → drop place bytes ≡ content ++ after
     → nat_le (place + length content) (length bytes) ≡ true
-    → section_content bytes (record { name = name; kind = type; flags = 0; address = 0; offset = place; size = length content; link = 0; info = 0 }) ≡ Some content
+    → section_content bytes (record {
+      name = name;
+      kind = type;
+      flags = 0;
+      address = 0;
+      offset =
+          place;
+      size = length content;
+      link = 0;
+      info = 0;
+    }) ≡ Some content
 unfolding section_content
 content_of-place bytes content after place name type other e within =
-    ap (λ (b : Bool). cond b (Some []) (cond (nat_le (place + length content) (length bytes)) (Some (slice_range bytes place (place + length content))) None)) other
-    ∙ ap (λ (b : Bool). cond b (Some (slice_range bytes place (place + length content))) None) within
+    ap (λ (b : Bool). cond b (Some []) (cond (nat_le (place + length content) (length bytes))
+    (Some (slice_range bytes place (place + length content))) None)) other
+    ∙ ap (λ (b : Bool). cond b (Some (slice_range bytes place (place + length content))) None)
+    within
     ∙ ap Some (slice-content bytes content after place e)
 
-pub section_of-written : (bytes table content after text more : List ℕ) (i place name type : ℕ) → (type == 8) ≡ false
+pub section_of-written : (bytes table content after text more : List ℕ) (i place name type : ℕ)
+    → (type == 8) ≡ false
     → drop place bytes ≡ content ++ after → nat_le (place + length content) (length bytes) ≡ true
     → drop name table ≡ text ++ 0 ∷ more → IsName text
-    → section_of bytes (Some table) i (record { name = name; kind = type; flags = 0; address = 0; offset = place; size = length content; link = 0; info = 0 })
+    → section_of bytes (Some table) i (record {
+      name = name;
+      kind = type;
+      flags = 0;
+      address = 0;
+      offset = place;
+      size = length content;
+      link = 0;
+      info = 0;
+    })
     ≡ plain_section i type text content
 unfolding section_of
 section_of-written bytes table content after text more i place name type other e within f h =

@@ -1,5 +1,7 @@
 -- The sections of a file by number, and the entries of a table.
-use Rattle.std.proofs.Common.{◌≡◌, ℕ, ◌+◌, ◌-◌, ◌*◌, ◌<◌, ◌≤◌, Bool, true, false, cond, List, [], ◌∷◌, ◌++◌, Some, None, Result, Ok, length, map, slice_get, find, ap, ◌∙◌, sym, arith}
+use Rattle.std.proofs.Common.{◌≡◌, ℕ, ◌+◌, ◌-◌, ◌*◌, ◌<◌, ◌≤◌, Bool, true, false, cond, List, []}
+use Rattle.std.proofs.Common.{◌∷◌, ◌++◌, Some, None, Result, Ok, length, map, slice_get, find, ap}
+use Rattle.std.proofs.Common.{◌∙◌, sym, arith}
 use Rattle.std.proofs.lemmas.List.{length-map}
 use Rattle.std.proofs.lemmas.List.FromFn.{length-map-range_with_len}
 use Rattle.std.proofs.lemmas.Option.{slice_get_past}
@@ -11,14 +13,17 @@ use Rattle.dwp_elf_read.specs.declared.relocations.Relocations.{Relocations}
 use Rattle.dwp_elf_read.specs.declared.section.Section.{Section}
 use Rattle.dwp_elf_read.specs.declared.table.Table.{Table}
 use Rattle.dwp_elf_read.specs.Elf.{Elf, SectionMeaning, sections_from}
-use Rattle.dwp_elf_read.specs.Relocation.{relocation_at, relocation_size, entries_from, entries_then, relocates, table_of, relocations_in}
-use Rattle.dwp_elf_read.specs.View.{elf, file, section, placed, placed_sections, sections_after, sections_left, nth, entries_left, relocations_left}
+use Rattle.dwp_elf_read.specs.Relocation.{relocation_at, relocation_size, entries_from}
+use Rattle.dwp_elf_read.specs.Relocation.{entries_then, relocates, table_of, relocations_in}
+use Rattle.dwp_elf_read.specs.View.{elf, file, section, placed, placed_sections, sections_after}
+use Rattle.dwp_elf_read.specs.View.{sections_left, nth, entries_left, relocations_left}
 
 pub length-sections : (f : ElfFile) → length (elf f).sections ≡ f.count
 unfolding elf sections_after sections_from
 length-sections f = length-map-range_with_len (nth f) 0 (f.count - 0) ∙ omega arith
 
-pub sections-more : (f : ElfFile) (i : ℕ) → i < f.count → sections_after f i ≡ nth f i ∷ sections_after f (i + 1)
+pub sections-more : (f : ElfFile) (i : ℕ) → i < f.count → sections_after f i ≡ nth f i ∷
+    sections_after f (i + 1)
 unfolding sections_after sections_from
 sections-more f i h = ap (map (nth f)) (range-more i f.count h)
 
@@ -26,87 +31,127 @@ pub sections-done : (f : ElfFile) (i : ℕ) → f.count ≤ i → sections_after
 unfolding sections_after sections_from
 sections-done f i h = ap (map (nth f)) (range-done i f.count h)
 
-pub slice_get-sections : (f : ElfFile) (i : ℕ) → i < f.count → slice_get (elf f).sections i ≡ Some (nth f i)
+pub slice_get-sections : (f : ElfFile) (i : ℕ) → i < f.count → slice_get (elf f).sections i
+    ≡ Some (nth f i)
 unfolding elf sections_after sections_from
 slice_get-sections f i h =
     let within : i < f.count - 0 = omega arith in
     let e : 0 + i ≡ i = omega arith in
     slice_get-range (nth f) 0 (f.count - 0) i within ∙ ap (λ (k : ℕ). Some (nth f k)) e
 
-pub slice_get-sections_past : (f : ElfFile) (i : ℕ) → f.count ≤ i → slice_get (elf f).sections i ≡ None
+pub slice_get-sections_past : (f : ElfFile) (i : ℕ) → f.count ≤ i
+    → slice_get (elf f).sections i ≡ None
 slice_get-sections_past f i h = slice_get_past (elf f).sections i (omega (arith, length-sections f))
 
 -- the first section from i on that passes is the one at i, or it is further on
-pub find-hit : (p : SectionMeaning → Bool) (f : ElfFile) (i : ℕ) → i < f.count → p (nth f i) ≡ true → find p (sections_after f i) ≡ Some (nth f i)
-find-hit p f i h e = ap (find p) (sections-more f i h) ∙ ap (λ (b : Bool). cond b (Some (nth f i)) (find p (sections_after f (i + 1)))) e
+pub find-hit : (p : SectionMeaning → Bool) (f : ElfFile) (i : ℕ) → i < f.count → p (nth f i) ≡ true
+    → find p (sections_after f i) ≡ Some (nth f i)
+find-hit p f i h e = ap (find p) (sections-more f i h) ∙ ap (λ (b : Bool). cond b (Some (nth f i))
+    (find p (sections_after f (i + 1)))) e
 
-pub find-miss : (p : SectionMeaning → Bool) (f : ElfFile) (i : ℕ) → i < f.count → p (nth f i) ≡ false → find p (sections_after f i) ≡ find p (sections_after f (i + 1))
-find-miss p f i h e = ap (find p) (sections-more f i h) ∙ ap (λ (b : Bool). cond b (Some (nth f i)) (find p (sections_after f (i + 1)))) e
+pub find-miss : (p : SectionMeaning → Bool) (f : ElfFile) (i : ℕ) → i < f.count
+    → p (nth f i) ≡ false → find p (sections_after f i) ≡ find p (sections_after f (i + 1))
+find-miss p f i h e = ap (find p) (sections-more f i h) ∙ ap (λ (b : Bool). cond b (Some (nth f i))
+    (find p (sections_after f (i + 1)))) e
 
-pub find-end : (p : SectionMeaning → Bool) (f : ElfFile) (i : ℕ) → f.count ≤ i → find p (sections_after f i) ≡ None
+pub find-end : (p : SectionMeaning → Bool) (f : ElfFile) (i : ℕ) → f.count ≤ i
+    → find p (sections_after f i) ≡ None
 find-end p f i h = ap (find p) (sections-done f i h)
 
 -- the iterator over sections gives the one that it stands at
-pub sections_left-more : (f : ElfFile) (i : ℕ) (s : Section) → i < f.count → section s ≡ nth f i → file s ≡ elf f → sections_left (record { file = f; next = i }) ≡ placed s ∷ sections_left (record { file = f; next = i + 1 })
+pub sections_left-more : (f : ElfFile) (i : ℕ) (s : Section) → i < f.count → section s ≡ nth f i
+    → file s ≡ elf f → sections_left (record { file = f; next = i }) ≡ placed s ∷ sections_left
+    (record { file = f; next = i + 1 })
 unfolding sections_left
 sections_left-more f i s h here in_file =
     ap (placed_sections (elf f)) (sections-more f i h)
-    ∙ ap (λ (e : Elf). record { file = e; section = nth f i } ∷ placed_sections (elf f) (sections_after f (i + 1))) (sym in_file)
-    ∙ ap (λ (m : SectionMeaning). record { file = file s; section = m } ∷ placed_sections (elf f) (sections_after f (i + 1))) (sym here)
+    ∙ ap (λ (e : Elf). record { file = e; section = nth f i } ∷ placed_sections (elf f)
+    (sections_after f (i + 1))) (sym in_file)
+    ∙ ap (λ (m : SectionMeaning). record { file = file s; section = m } ∷ placed_sections (elf f)
+    (sections_after f (i + 1))) (sym here)
 
-pub sections_left-done : (f : ElfFile) (i : ℕ) → f.count ≤ i → sections_left (record { file = f; next = i }) ≡ []
+pub sections_left-done : (f : ElfFile) (i : ℕ) → f.count ≤ i
+    → sections_left (record { file = f; next = i }) ≡ []
 unfolding sections_left
 sections_left-done f i h = ap (placed_sections (elf f)) (sections-done f i h)
 
 abbrev entry_ok : RawRelocation → Result RawRelocation ReadError
 entry_ok r = Ok r
 
-pub length-sections_left : (f : ElfFile) → length (sections_left (record { file = f; next = 0 })) ≡ f.count
+pub length-sections_left : (f : ElfFile)
+    → length (sections_left (record { file = f; next = 0 })) ≡ f.count
 unfolding sections_left elf
 length-sections_left f = length-map (sections_after f 0) _ ∙ length-sections f
 
 -- the entry of a table that comes next
-pub entries-more : (t : Table) → t.next < t.count → entries_left t ≡ Ok (relocation_at t.entries.class t.entries.order t.explicit t.link t.entries.bytes.now (t.next * relocation_size t.entries.class t.explicit)) ∷ entries_left (record t { next = t.next + 1 })
+pub entries-more : (t : Table) → t.next < t.count → entries_left t ≡ Ok
+    (relocation_at t.entries.class t.entries.order t.explicit t.link t.entries.bytes.now
+    (t.next * relocation_size t.entries.class t.explicit)) ∷ entries_left
+    (record t { next = t.next + 1 })
 unfolding entries_left entries_from
 entries-more t h =
-    ap (map (λ (k : ℕ). entry_ok (relocation_at t.entries.class t.entries.order t.explicit t.link t.entries.bytes.now (k * relocation_size t.entries.class t.explicit)))) (range-more t.next t.count h)
+    ap (map (λ (k : ℕ). entry_ok (relocation_at t.entries.class t.entries.order t.explicit t.link
+    t.entries.bytes.now (k * relocation_size t.entries.class t.explicit))))
+    (range-more t.next t.count h)
 
 pub entries-done : (t : Table) → t.count ≤ t.next → entries_left t ≡ []
 unfolding entries_left entries_from
 entries-done t h =
-    ap (map (λ (k : ℕ). entry_ok (relocation_at t.entries.class t.entries.order t.explicit t.link t.entries.bytes.now (k * relocation_size t.entries.class t.explicit)))) (range-done t.next t.count h)
+    ap (map (λ (k : ℕ). entry_ok (relocation_at t.entries.class t.entries.order t.explicit t.link
+    t.entries.bytes.now (k * relocation_size t.entries.class t.explicit))))
+    (range-done t.next t.count h)
 
 -- what is left once the entries of the table are given
 abbrev pub others : Relocations → ℕ → List (Result RawRelocation ReadError)
-others it i = relocations_in it.file.image.class it.file.image.order it.target (sections_after it.file i)
+others it i = relocations_in it.file.image.class it.file.image.order it.target
+    (sections_after it.file i)
 
-left-others : (it : Relocations) → entries_left it.table ≡ [] → relocations_left it ≡ others it it.section
+left-others : (it : Relocations) → entries_left it.table ≡ [] → relocations_left it ≡
+    others it it.section
 unfolding relocations_left
-left-others it none = ap (λ (front : List (Result RawRelocation ReadError)). front ++ others it it.section) none
+left-others it none = ap (λ (front : List (Result RawRelocation ReadError)).
+    front ++ others it it.section) none
 
-pub left-done : (it : Relocations) → entries_left it.table ≡ [] → it.file.count ≤ it.section → relocations_left it ≡ []
+pub left-done : (it : Relocations) → entries_left it.table ≡ [] → it.file.count ≤ it.section
+    → relocations_left it ≡ []
 unfolding relocations_in
-left-done it none h = left-others it none ∙ ap (relocations_in it.file.image.class it.file.image.order it.target) (sections-done it.file it.section h)
+left-done it none h = left-others it none ∙ ap (relocations_in it.file.image.class
+    it.file.image.order it.target) (sections-done it.file it.section h)
 
-left-more : (it : Relocations) (s : SectionMeaning) → entries_left it.table ≡ [] → it.section < it.file.count → s ≡ nth it.file it.section → relocations_left it ≡ relocations_in it.file.image.class it.file.image.order it.target (s ∷ sections_after it.file (it.section + 1))
+left-more : (it : Relocations) (s : SectionMeaning) → entries_left it.table ≡ []
+    → it.section < it.file.count → s ≡ nth it.file it.section → relocations_left it ≡ relocations_in
+    it.file.image.class it.file.image.order it.target (s ∷ sections_after it.file (it.section + 1))
 left-more it s none h here =
-    left-others it none ∙ ap (relocations_in it.file.image.class it.file.image.order it.target) (sections-more it.file it.section h ∙ ap (λ (m : SectionMeaning). m ∷ sections_after it.file (it.section + 1)) (sym here))
+    left-others it none ∙ ap (relocations_in it.file.image.class it.file.image.order it.target)
+    (sections-more it.file it.section h ∙ ap (λ (m : SectionMeaning). m ∷ sections_after it.file
+    (it.section + 1)) (sym here))
 
 -- a section that has no relocations of the target is passed over
-pub left-passed : (it : Relocations) (s : SectionMeaning) → entries_left it.table ≡ [] → it.section < it.file.count → s ≡ nth it.file it.section → relocates it.target s ≡ false → relocations_left it ≡ others it (it.section + 1)
+pub left-passed : (it : Relocations) (s : SectionMeaning) → entries_left it.table ≡ []
+    → it.section < it.file.count → s ≡ nth it.file it.section → relocates it.target s ≡ false
+    → relocations_left it ≡ others it (it.section + 1)
 unfolding relocations_in
 left-passed it s none h here passes =
     left-more it s none h here
-    ∙ ap (λ (b : Bool). cond b (entries_then it.file.image.class it.file.image.order s (table_of it.file.image.class s) (others it (it.section + 1))) (others it (it.section + 1))) passes
+    ∙ ap (λ (b : Bool). cond b (entries_then it.file.image.class it.file.image.order s
+    (table_of it.file.image.class s) (others it (it.section + 1))) (others it (it.section + 1)))
+    passes
 
 -- one that has some gives them first
-pub left-entered : (it : Relocations) (s : SectionMeaning) → entries_left it.table ≡ [] → it.section < it.file.count → s ≡ nth it.file it.section → relocates it.target s ≡ true → relocations_left it ≡ entries_then it.file.image.class it.file.image.order s (table_of it.file.image.class s) (others it (it.section + 1))
+pub left-entered : (it : Relocations) (s : SectionMeaning) → entries_left it.table ≡ []
+    → it.section < it.file.count → s ≡ nth it.file it.section → relocates it.target s ≡ true
+    → relocations_left it ≡ entries_then it.file.image.class it.file.image.order s
+    (table_of it.file.image.class s) (others it (it.section + 1))
 unfolding relocations_in
 left-entered it s none h here enters =
     left-more it s none h here
-    ∙ ap (λ (b : Bool). cond b (entries_then it.file.image.class it.file.image.order s (table_of it.file.image.class s) (others it (it.section + 1))) (others it (it.section + 1))) enters
+    ∙ ap (λ (b : Bool). cond b (entries_then it.file.image.class it.file.image.order s
+    (table_of it.file.image.class s) (others it (it.section + 1))) (others it (it.section + 1)))
+    enters
 
 -- one table that is at its end is as good as another
-pub left-same : (it : Relocations) (t : Table) → entries_left it.table ≡ [] → entries_left t ≡ [] → relocations_left it ≡ relocations_left (record it { table = t })
+pub left-same : (it : Relocations) (t : Table) → entries_left it.table ≡ [] → entries_left t ≡ []
+    → relocations_left it ≡ relocations_left (record it { table = t })
 unfolding relocations_left
-left-same it t old new = ap (λ (front : List (Result RawRelocation ReadError)). front ++ others it it.section) (old ∙ sym new)
+left-same it t old new = ap (λ (front : List (Result RawRelocation ReadError)).
+    front ++ others it it.section) (old ∙ sym new)

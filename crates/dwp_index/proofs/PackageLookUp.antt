@@ -1,5 +1,6 @@
 -- What looking a unit up in a package gives.
-use Rattle.std.proofs.Common.{◌≡◌, ℕ, ◌+◌, ◌≤◌, Bool, false, cond, not, List, [], ◌∷◌, length, refl, sym, ap, subst, ◌∙◌, arith}
+use Rattle.std.proofs.Common.{◌≡◌, ℕ, ◌+◌, ◌≤◌, Bool, false, cond, not, List, [], ◌∷◌, length, refl}
+use Rattle.std.proofs.Common.{sym, ap, subst, ◌∙◌, arith}
 use Rattle.std.specs.Prelude.{Option, Some, None, Result, Ok, Err, IfOk, slice_range}
 use Rattle.std.specs.List.{find}
 use Rattle.std.specs.Option.{option_map_or}
@@ -19,11 +20,16 @@ use Rattle.dwp_index.specs.declared.fault.PackageError.{PackageError}
 use Rattle.dwp_index.specs.declared.fault.PackageError.TheVariants as faults
 use Rattle.dwp_index.specs.Contents.{Sections, content}
 use Rattle.dwp_index.specs.Index.{Index, Ranges, row_in, range_in}
-use Rattle.dwp_index.specs.Package.{Package, FoundUnit, as_fault, is_outside, first_outside, all_inside, encoding_in, part_of, row_bytes, unit_in, unit_at_row, unit_found, found_by, index_for, found_counted, found}
-use Rattle.dwp_index.specs.Finding.{own_place, own_bytes, LiesInside, unit_of, HasIndex, IsUnitOf, IsNotNamed, GivesWithin, row_number, slots_for}
+use Rattle.dwp_index.specs.Package.{Package, FoundUnit, as_fault, is_outside, first_outside}
+use Rattle.dwp_index.specs.Package.{all_inside, encoding_in, part_of, row_bytes, unit_in}
+use Rattle.dwp_index.specs.Package.{unit_at_row, unit_found, found_by, index_for, found_counted}
+use Rattle.dwp_index.specs.Package.{found}
+use Rattle.dwp_index.specs.Finding.{own_place, own_bytes, LiesInside, unit_of, HasIndex, IsUnitOf}
+use Rattle.dwp_index.specs.Finding.{IsNotNamed, GivesWithin, row_number, slots_for}
 
 -- ---- the ranges
-not_outside : (bytes : List ℕ) (range : Option Contribution) → ((c : Contribution) → range ≡ Some c → c.offset.0 + c.size ≤ length bytes) → is_outside bytes range ≡ false
+not_outside : (bytes : List ℕ) (range : Option Contribution) → ((c : Contribution) → range ≡ Some c
+    → c.offset.0 + c.size ≤ length bytes) → is_outside bytes range ≡ false
 not_outside bytes None h = refl
 not_outside bytes (Some c) h = ap not (le-leb (c.offset.0 + c.size) (length bytes) (h c refl))
 
@@ -31,25 +37,38 @@ find-no : {X : Type 0} (p : X → Bool) (xs : List X) → ((x : X) → p x ≡ f
 find-no p [] h = refl
 find-no p (x ∷ xs) h = let no = h x in rw no (find-no p xs h)
 
-none_outside : (contents : Sections) (row : Ranges) → LiesInside contents row → first_outside contents row ≡ None
+none_outside : (contents : Sections) (row : Ranges) → LiesInside contents row
+    → first_outside contents row ≡ None
 unfolding first_outside
-none_outside contents row inside = find-no (λ kind. is_outside (content contents kind) (range_in row kind)) contribution_kinds (λ kind. not_outside (content contents kind) (range_in row kind) (inside kind))
+none_outside contents row inside = find-no (λ kind. is_outside (content contents kind)
+    (range_in row kind)) contribution_kinds (λ kind. not_outside (content contents kind)
+    (range_in row kind) (inside kind))
 
 -- ---- the unit
-unit_in-inside : (pack : Package) (object : DwarfObject) (number : ℕ) (row : Ranges) (encoding : Encoding) → LiesInside pack.contents row
-    → encoding_in pack.order (own_place object row) (own_bytes pack.contents object row) ≡ Ok encoding → unit_in pack object number row ≡ Ok (unit_of pack object number row encoding)
+unit_in-inside : (pack : Package) (object : DwarfObject) (number : ℕ) (row : Ranges)
+    (encoding : Encoding) → LiesInside pack.contents row
+    → encoding_in pack.order (own_place object row) (own_bytes pack.contents object row) ≡ Ok
+    encoding → unit_in pack object number row ≡ Ok (unit_of pack object number row encoding)
 unfolding unit_in
 unit_in-inside pack object number row encoding inside read =
-    ap (λ (o : Option SectionKind). all_inside o >>= λ x. as_fault faults.Unit (encoding_in pack.order (own_place object row) (own_bytes pack.contents object row)) >>= λ e. Ok (unit_of pack object number row e)) (none_outside pack.contents row inside)
-    ∙ ap (λ (r : Result Encoding ReadError). as_fault faults.Unit r >>= λ e. Ok (unit_of pack object number row e)) read
+    ap (λ (o : Option SectionKind). all_inside o >>= λ x. as_fault faults.Unit
+    (encoding_in pack.order (own_place object row) (own_bytes pack.contents object row)) >>=
+    λ e. Ok (unit_of pack object number row e)) (none_outside pack.contents row inside)
+    ∙ ap (λ (r : Result Encoding ReadError). as_fault faults.Unit r >>= λ e.
+    Ok (unit_of pack object number row e)) read
 
-at_row : (pack : Package) (object : DwarfObject) (index : Index) (number count : ℕ) (row : Ranges) (encoding : Encoding) → row_in index number ≡ Ok row → LiesInside pack.contents row
-    → encoding_in pack.order (own_place object row) (own_bytes pack.contents object row) ≡ Ok encoding
-    → unit_at_row pack object index number count ≡ Ok (Some (unit_of pack object number row encoding), count)
+at_row : (pack : Package) (object : DwarfObject) (index : Index) (number count : ℕ) (row : Ranges)
+    (encoding : Encoding) → row_in index number ≡ Ok row → LiesInside pack.contents row
+    → encoding_in pack.order (own_place object row) (own_bytes pack.contents object
+    row) ≡ Ok encoding
+    → unit_at_row pack object index number count ≡ Ok
+    (Some (unit_of pack object number row encoding), count)
 unfolding unit_at_row
 at_row pack object index number count row encoding there inside read =
-    ap (λ (x : Result Ranges ReadError). as_fault faults.Index x >>= λ y. unit_in pack object number y >>= λ unit. Ok (Some unit, count)) there
-    ∙ ap (λ (x : Result FoundUnit PackageError). x >>= λ unit. Ok (Some unit, count)) (unit_in-inside pack object number row encoding inside read)
+    ap (λ (x : Result Ranges ReadError). as_fault faults.Index x >>= λ y. unit_in pack object number
+    y >>= λ unit. Ok (Some unit, count)) there
+    ∙ ap (λ (x : Result FoundUnit PackageError). x >>= λ unit. Ok (Some unit, count))
+    (unit_in-inside pack object number row encoding inside read)
 
 -- ---- the look-up
 abbrev Row : DwarfObject → Index → Option ℕ
@@ -58,14 +77,21 @@ Row object index = found_row index.signatures index.rows (identifier_of object)
 abbrev Count : DwarfObject → Index → ℕ
 Count object index = look_count index.signatures index.rows (identifier_of object)
 
-by_index : (pack : Package) (object : DwarfObject) (index : Index) → index_for pack object ≡ Some index → found_counted pack object ≡ unit_found pack object index (Row object index) (Count object index)
+by_index : (pack : Package) (object : DwarfObject) (index : Index) → index_for pack object ≡ Some
+    index → found_counted pack object ≡ unit_found pack object index (Row object index)
+    (Count object index)
 unfolding found_counted
 by_index pack object index e = ap (found_by pack object) e
 
-by_row : (pack : Package) (object : DwarfObject) (index : Index) (row : Option ℕ) → index_for pack object ≡ Some index → Row object index ≡ row → found_counted pack object ≡ unit_found pack object index row (Count object index)
-by_row pack object index row e f = by_index pack object index e ∙ ap (λ o. unit_found pack object index o (Count object index)) f
+by_row : (pack : Package) (object : DwarfObject) (index : Index) (row : Option ℕ)
+    → index_for pack object ≡ Some index → Row object index ≡ row → found_counted pack object ≡
+    unit_found pack object index row (Count object index)
+by_row pack object index row e f = by_index pack object index e ∙ ap (λ o. unit_found pack object
+    index o (Count object index)) f
 
-gives : (pack : Package) (object : DwarfObject) (unit : Option FoundUnit) (count most : ℕ) → count ≤ most → found_counted pack object ≡ Ok (unit, count) → GivesWithin pack object unit most
+gives : (pack : Package) (object : DwarfObject) (unit : Option FoundUnit) (count most : ℕ)
+    → count ≤ most → found_counted pack object ≡ Ok (unit, count)
+    → GivesWithin pack object unit most
 unfolding found
 gives pack object unit count most few e = record {
   count = count;
@@ -76,35 +102,53 @@ gives pack object unit count most few e = record {
 
 -- what the law of look-up says
 abbrev pub FindsLaw : Type 0
-FindsLaw = (ids signatures rows : List ℕ) (x : ℕ) → IsIndex ids signatures rows → FindsExactly ids x (found_row signatures rows x) (look_count signatures rows x)
+FindsLaw = (ids signatures rows : List ℕ) (x : ℕ) → IsIndex ids signatures rows → FindsExactly ids x
+    (found_row signatures rows x) (look_count signatures rows x)
 
-pub present_unit : FindsLaw → (pack : Package) (object : DwarfObject) (ids : List ℕ) (index : Index) (r : ℕ) (row : Ranges) (encoding : Encoding) → HasIndex pack object ids index
-    → IsUnitOf pack object ids index r row encoding → GivesWithin pack object (Some (unit_of pack object (r + 1) row encoding)) (r + 1)
+pub present_unit : FindsLaw → (pack : Package) (object : DwarfObject) (ids : List ℕ) (index : Index)
+    (r : ℕ) (row : Ranges) (encoding : Encoding) → HasIndex pack object ids index
+    → IsUnitOf pack object ids index r row encoding → GivesWithin pack object
+    (Some (unit_of pack object (r + 1) row encoding)) (r + 1)
 present_unit finds pack object ids index r row encoding has unit =
     let exact = finds ids index.signatures index.rows (identifier_of object) has.slots in
     gives pack object _ (Count object index) (r + 1) (exact.present_count r unit.within unit.named)
-    (by_row pack object index (Some (r + 1)) has.index_is (exact.present_row r unit.within unit.named)
-    ∙ at_row pack object index (r + 1) (Count object index) row encoding unit.row_is unit.inside unit.header)
+    (by_row pack object index (Some (r + 1)) has.index_is
+    (exact.present_row r unit.within unit.named)
+    ∙ at_row pack object index (r + 1) (Count object index) row encoding unit.row_is
+    unit.inside unit.header)
 
-pub absent_unit : FindsLaw → (pack : Package) (object : DwarfObject) (ids : List ℕ) (index : Index) → HasIndex pack object ids index → IsNotNamed object ids → GivesWithin pack object None (length ids + 1)
+pub absent_unit : FindsLaw → (pack : Package) (object : DwarfObject) (ids : List ℕ) (index : Index)
+    → HasIndex pack object ids index → IsNotNamed object ids → GivesWithin pack object None
+    (length ids + 1)
 absent_unit finds pack object ids index has absent =
     let exact = finds ids index.signatures index.rows (identifier_of object) has.slots in
-    gives pack object None (Count object index) (length ids + 1) (exact.absent_count absent) (by_row pack object index None has.index_is (exact.absent_row absent))
+    gives pack object None (Count object index) (length ids + 1) (exact.absent_count absent)
+    (by_row pack object index None has.index_is (exact.absent_row absent))
 
-pub no_index : (pack : Package) (object : DwarfObject) → index_for pack object ≡ None → GivesWithin pack object None 0
+pub no_index : (pack : Package) (object : DwarfObject) → index_for pack object ≡ None
+    → GivesWithin pack object None 0
 unfolding found_counted
 no_index pack object e = gives pack object None 0 0 (omega arith) (ap (found_by pack object) e)
 
 -- ---- the parts
-part_inside : (bytes : List ℕ) (range : Contribution) (o : Option Contribution) → o ≡ Some range → range.offset.0 + range.size ≤ length bytes → part_of bytes o ≡ slice_range bytes range.offset.0 (range.offset.0 + range.size)
-part_inside bytes range o e inside = ap (part_of bytes) e ∙ ap (λ b. cond b (slice_range bytes range.offset.0 (range.offset.0 + range.size)) []) (le-leb (range.offset.0 + range.size) (length bytes) inside)
+part_inside : (bytes : List ℕ) (range : Contribution) (o : Option Contribution) → o ≡ Some range
+    → range.offset.0 + range.size ≤ length bytes → part_of bytes o ≡ slice_range bytes
+    range.offset.0 (range.offset.0 + range.size)
+part_inside bytes range o e inside = ap (part_of bytes) e ∙ ap (λ b.
+    cond b (slice_range bytes range.offset.0 (range.offset.0 + range.size)) [])
+    (le-leb (range.offset.0 + range.size) (length bytes) inside)
 
-pub row_bytes-part : (contents : Sections) (row : Ranges) (kind : SectionKind) (range : Contribution) → range_in row kind ≡ Some range → range.offset.0 + range.size ≤ length (content contents kind)
-    → row_bytes contents row kind ≡ slice_range (content contents kind) range.offset.0 (range.offset.0 + range.size)
+pub row_bytes-part : (contents : Sections) (row : Ranges) (kind : SectionKind)
+    (range : Contribution) → range_in row kind ≡ Some range → range.offset.0 + range.size ≤ length
+    (content contents kind)
+    → row_bytes contents row kind ≡ slice_range (content contents kind) range.offset.0
+    (range.offset.0 + range.size)
 unfolding row_bytes
-row_bytes-part contents row kind range e inside = part_inside (content contents kind) range (range_in row kind) e inside
+row_bytes-part contents row kind range e inside = part_inside (content contents kind) range
+    (range_in row kind) e inside
 
-pub row_bytes-absent : (contents : Sections) (row : Ranges) (kind : SectionKind) → range_in row kind ≡ None → row_bytes contents row kind ≡ []
+pub row_bytes-absent : (contents : Sections) (row : Ranges) (kind : SectionKind)
+    → range_in row kind ≡ None → row_bytes contents row kind ≡ []
 unfolding row_bytes
 row_bytes-absent contents row kind e = ap (part_of (content contents kind)) e
 
@@ -120,64 +164,96 @@ pub record Tells (row : Option ℕ) (count : ℕ) (unit : Option FoundUnit) (loo
   pub row_is : row_number unit ≡ row
   pub count_is : looked ≡ count
 
-tells-same : (given unit : Option FoundUnit) (count looked : ℕ) → Given given count ≡ Given unit looked → Tells (row_number given) count unit looked
+tells-same : (given unit : Option FoundUnit) (count looked : ℕ) → Given given count ≡ Given unit
+    looked → Tells (row_number given) count unit looked
 tells-same given unit count looked h =
     let same : (given, count) ≡ (unit, looked) = cc in
-    record { row_is = ap (λ (p : Option FoundUnit × ℕ). row_number p.0) (sym same); count_is = ap (λ (p : Option FoundUnit × ℕ). p.1) (sym same) }
+    record {
+      row_is = ap (λ (p : Option FoundUnit × ℕ). row_number p.0) (sym same);
+      count_is =
+          ap (λ (p : Option FoundUnit × ℕ). p.1) (sym same);
+    }
 
-encoded : (pack : Package) (object : DwarfObject) (number count : ℕ) (row : Ranges) (read : Result Encoding PackageError) (unit : Option FoundUnit) (looked : ℕ)
-    → ((read >>= λ e. Ok (unit_of pack object number row e)) >>= λ u. Given (Some u) count) ≡ Given unit looked → Tells (Some number) count unit looked
-encoded pack object number count row (Ok e) unit looked h = tells-same (Some (unit_of pack object number row e)) unit count looked h
+encoded : (pack : Package) (object : DwarfObject) (number count : ℕ) (row : Ranges)
+    (read : Result Encoding PackageError) (unit : Option FoundUnit) (looked : ℕ)
+    → ((read >>= λ e. Ok (unit_of pack object number row e)) >>= λ u. Given (Some u) count) ≡ Given
+    unit looked → Tells (Some number) count unit looked
+encoded pack object number count row (Ok e) unit looked h =
+    tells-same (Some (unit_of pack object number row e)) unit count looked h
 encoded pack object number count row (Err e) unit looked h = absurd cc
 
-ranged : (pack : Package) (object : DwarfObject) (number count : ℕ) (row : Ranges) (outside : Option SectionKind) (unit : Option FoundUnit) (looked : ℕ)
-    → ((all_inside outside >>= λ x. as_fault faults.Unit (encoding_in pack.order (own_place object row) (own_bytes pack.contents object row)) >>= λ e. Ok (unit_of pack object number row e)) >>= λ u. Given (Some u) count) ≡ Given unit looked
+ranged : (pack : Package) (object : DwarfObject) (number count : ℕ) (row : Ranges)
+    (outside : Option SectionKind) (unit : Option FoundUnit) (looked : ℕ)
+    → ((all_inside outside >>= λ x. as_fault faults.Unit (encoding_in pack.order
+    (own_place object row) (own_bytes pack.contents object row)) >>= λ e.
+    Ok (unit_of pack object number row e)) >>= λ u. Given (Some u) count) ≡ Given unit looked
     → Tells (Some number) count unit looked
-ranged pack object number count row None unit looked h = encoded pack object number count row (as_fault faults.Unit (encoding_in pack.order (own_place object row) (own_bytes pack.contents object row))) unit looked h
+ranged pack object number count row None unit looked h = encoded pack object number count row
+    (as_fault faults.Unit (encoding_in pack.order (own_place object row) (own_bytes pack.contents
+    object row))) unit looked h
 ranged pack object number count row (Some kind) unit looked h = absurd cc
 
-rowed : (pack : Package) (object : DwarfObject) (number count : ℕ) (row : Result Ranges ReadError) (unit : Option FoundUnit) (looked : ℕ)
-    → (as_fault faults.Index row >>= λ x. unit_in pack object number x >>= λ u. Given (Some u) count) ≡ Given unit looked → Tells (Some number) count unit looked
+rowed : (pack : Package) (object : DwarfObject) (number count : ℕ) (row : Result Ranges ReadError)
+    (unit : Option FoundUnit) (looked : ℕ)
+    → (as_fault faults.Index row >>= λ x. unit_in pack object number x >>= λ u.
+    Given (Some u) count) ≡ Given unit looked → Tells (Some number) count unit looked
 unfolding unit_in
-rowed pack object number count (Ok row) unit looked h = ranged pack object number count row (first_outside pack.contents row) unit looked h
+rowed pack object number count (Ok row) unit looked h = ranged pack object number count row
+    (first_outside pack.contents row) unit looked h
 rowed pack object number count (Err e) unit looked h = absurd cc
 
-row-tells : (pack : Package) (object : DwarfObject) (index : Index) (number count : ℕ) (unit : Option FoundUnit) (looked : ℕ) → unit_at_row pack object index number count ≡ Ok (unit, looked) → Tells (Some number) count unit looked
+row-tells : (pack : Package) (object : DwarfObject) (index : Index) (number count : ℕ)
+    (unit : Option FoundUnit) (looked : ℕ) → unit_at_row pack object index number count ≡ Ok
+    (unit, looked) → Tells (Some number) count unit looked
 unfolding unit_at_row
-row-tells pack object index number count unit looked h = rowed pack object number count (row_in index number) unit looked h
+row-tells pack object index number count unit looked h = rowed pack object number count
+    (row_in index number) unit looked h
 
 -- ---- what a call answered, where the index has the row of a number
-module _ (pack : Package) (object : DwarfObject) (index : Index) (number count : ℕ) (there : index_for pack object ≡ Some index) where
+module _ (pack : Package) (object : DwarfObject) (index : Index) (number count : ℕ)
+    (there : index_for pack object ≡ Some index) where
   abbrev Answered : Answer → Type 0
   Answered r = Answers (λ y. y) r (unit_at_row pack object index number count)
 
-  pub within_slots : (r : Answer) → Answered r → count ≤ length index.rows → IfOk r (λ y. y.1 ≤ slots_for pack object)
+  pub within_slots : (r : Answer) → Answered r → count ≤ length index.rows
+      → IfOk r (λ y. y.1 ≤ slots_for pack object)
   within_slots (Ok y) h within =
       let tells = row-tells pack object index number count y.0 y.1 h in
-      let slots : slots_for pack object ≡ length index.rows = ap (λ o. option_map_or (λ (i : Index). length i.rows) o 0) there in
+      let slots : slots_for pack object ≡ length index.rows =
+      ap (λ o. option_map_or (λ (i : Index). length i.rows) o 0) there in
       omega (arith, tells.count_is, slots)
   within_slots (Err e) h within = tt
 
   -- in a table of distinct identifiers, what was found of x there
   abbrev Given_index : (List ℕ → Type 0) → Type 0
-  Given_index P = (ids : List ℕ) (other : Index) → index_for pack object ≡ Some other → IsIndex ids other.signatures other.rows → P ids
+  Given_index P = (ids : List ℕ) (other : Index) → index_for pack object ≡ Some other
+      → IsIndex ids other.signatures other.rows → P ids
 
   same_index : (other : Index) → index_for pack object ≡ Some other → other ≡ index
   same_index other e = same_Some other index (sym e ∙ there)
 
-  slots_of : (ids : List ℕ) (other : Index) → index_for pack object ≡ Some other → IsIndex ids other.signatures other.rows → IsIndex ids index.signatures index.rows
-  slots_of ids other e slots = subst (λ (i : Index). IsIndex ids i.signatures i.rows) (same_index other e) slots
+  slots_of : (ids : List ℕ) (other : Index) → index_for pack object ≡ Some other
+      → IsIndex ids other.signatures other.rows → IsIndex ids index.signatures index.rows
+  slots_of ids other e slots = subst (λ (i : Index). IsIndex ids i.signatures i.rows)
+      (same_index other e) slots
 
-  pub exactly : (x : ℕ) (row : Option ℕ) (r : Answer) → x ≡ identifier_of object → row ≡ Some number → ((ids : List ℕ) → IsIndex ids index.signatures index.rows → FindsExactly ids x row count)
-      → Answered r → IfOk r (λ y. Given_index (λ ids. FindsExactly ids (identifier_of object) (row_number y.0) y.1))
+  pub exactly : (x : ℕ) (row : Option ℕ) (r : Answer) → x ≡ identifier_of object → row ≡ Some number
+      → ((ids : List ℕ) → IsIndex ids index.signatures index.rows → FindsExactly ids x row count)
+      → Answered r → IfOk r (λ y. Given_index (λ ids. FindsExactly ids (identifier_of object)
+      (row_number y.0) y.1))
   exactly x row (Ok y) same found exact h = λ ids other e slots.
       let tells = row-tells pack object index number count y.0 y.1 h in
-      subst (λ (n : ℕ). FindsExactly ids (identifier_of object) (row_number y.0) n) (sym tells.count_is)
-      (subst (λ (o : Option ℕ). FindsExactly ids (identifier_of object) o count) (found ∙ sym tells.row_is)
-      (subst (λ (n : ℕ). FindsExactly ids n row count) same (exact ids (slots_of ids other e slots))))
+      subst (λ (n : ℕ). FindsExactly ids (identifier_of object) (row_number y.0) n)
+      (sym tells.count_is)
+      (subst (λ (o : Option ℕ). FindsExactly ids (identifier_of object) o count)
+      (found ∙ sym tells.row_is)
+      (subst (λ (n : ℕ). FindsExactly ids n row count) same
+      (exact ids (slots_of ids other e slots))))
   exactly x row (Err e) same found exact h = tt
 
-  pub few : (r : Answer) → ((ids : List ℕ) → IsIndex ids index.signatures index.rows → count ≤ length ids + 1) → Answered r → IfOk r (λ y. Given_index (λ ids. y.1 ≤ length ids + 1))
+  pub few : (r : Answer) → ((ids : List ℕ) → IsIndex ids index.signatures index.rows
+      → count ≤ length ids + 1) → Answered r
+      → IfOk r (λ y. Given_index (λ ids. y.1 ≤ length ids + 1))
   few (Ok y) least h = λ ids other e slots.
       let tells = row-tells pack object index number count y.0 y.1 h in
       omega (arith, tells.count_is, least ids (slots_of ids other e slots))

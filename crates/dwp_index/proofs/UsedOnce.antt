@@ -1,5 +1,8 @@
 -- The used slots of an index of distinct identifiers.
-use Rattle.std.proofs.Common.{◌≡◌, ℕ, zero, suc, ◌+◌, ◌<◌, ◌≤◌, Bool, true, cond, not, eqb, List, [], ◌∷◌, ◌++◌, length, map, get_or, take, drop, set, refl, sym, ap, subst, ◌∙◌, ◌⊎◌, inl, inr, arith, append_assoc, length-append, drop-cons}
+use Rattle.std.proofs.Common.{◌≡◌, ℕ, zero, suc, ◌+◌, ◌<◌, ◌≤◌, Bool, true, cond, not, eqb, List}
+use Rattle.std.proofs.Common.{[], ◌∷◌, ◌++◌, length, map, get_or, take, drop, set, refl, sym, ap}
+use Rattle.std.proofs.Common.{subst, ◌∙◌, ◌⊎◌, inl, inr, arith, append_assoc, length-append}
+use Rattle.std.proofs.Common.{drop-cons}
 use Rattle.std.specs.Prelude.{Option, Some, None, filter}
 use Rattle.std.specs.List.{range_with_len}
 use Rattle.std.specs.List.Sorted.{IsPermutation}
@@ -7,9 +10,13 @@ use Rattle.std.proofs.Math.Decide.{dec_lt}
 use Rattle.std.proofs.Math.ListN.{get_or-eq_default}
 use Rattle.std.proofs.Math.Seq.{get_or-append_seam}
 use Rattle.std.proofs.lemmas.Bool.{ne_eqb}
-use Rattle.std.proofs.lemmas.List.{take-append-drop, take-set, drop-set-lt, get_or-set_same, get_or-set_other, length-set, drop_all}
+use Rattle.std.proofs.lemmas.List.{take-append-drop, take-set, drop-set-lt, get_or-set_same}
+use Rattle.std.proofs.lemmas.List.{get_or-set_other, length-set, drop_all}
 use Rattle.std.proofs.lemmas.List.Elements.{filter-append}
-use Rattle.std.proofs.lemmas.List.Sorted.{IsPermutation-refl, IsPermutation-sym, IsPermutation-cons, IsPermutation-to_front, IsPermutation-trans, IsPermutation-middle, IsPermutation-map, IsPermutation-append}
+use Rattle.std.proofs.lemmas.List.Sorted.{IsPermutation-refl, IsPermutation-sym, IsPermutation-cons}
+use Rattle.std.proofs.lemmas.List.Sorted.{IsPermutation-to_front, IsPermutation-trans}
+use Rattle.std.proofs.lemmas.List.Sorted.{IsPermutation-middle, IsPermutation-map}
+use Rattle.std.proofs.lemmas.List.Sorted.{IsPermutation-append}
 use Rattle.dwp_table.specs.Table.{IsHashTable, IsIndex, signature_of}
 use Rattle.dwp_table.specs.Probing.{place}
 use Rattle.dwp_index.specs.Index.{Index}
@@ -34,39 +41,50 @@ is_used r ne = ap not (ne_eqb r 0 ne)
 split : (xs : List ℕ) (k : ℕ) → k < length xs → take k xs ++ get_or xs k 0 ∷ drop (suc k) xs ≡ xs
 split xs k h = ap (λ l. take k xs ++ l) (sym (drop-cons xs k 0 h)) ∙ take-append-drop k xs
 
-filtered : (xs : List ℕ) (k r : ℕ) → k < length xs → get_or xs k 0 ≡ r → filter used xs ≡ filter used (take k xs) ++ cond (used r) (r ∷ filter used (drop (suc k) xs)) (filter used (drop (suc k) xs))
+filtered : (xs : List ℕ) (k r : ℕ) → k < length xs → get_or xs k 0 ≡ r → filter used xs ≡ filter
+    used (take k xs) ++ cond (used r) (r ∷ filter used (drop (suc k) xs))
+    (filter used (drop (suc k) xs))
 filtered xs k r h e =
-    ap (filter used) (sym (split xs k h)) ∙ filter-append used (take k xs) (get_or xs k 0 ∷ drop (suc k) xs)
-    ∙ ap (λ n. filter used (take k xs) ++ cond (used n) (n ∷ filter used (drop (suc k) xs)) (filter used (drop (suc k) xs))) e
+    ap (filter used) (sym (split xs k h)) ∙ filter-append used (take k xs)
+    (get_or xs k 0 ∷ drop (suc k) xs)
+    ∙ ap (λ n. filter used (take k xs) ++ cond (used n) (n ∷ filter used (drop (suc k) xs))
+    (filter used (drop (suc k) xs))) e
 
-without : (xs : List ℕ) (k : ℕ) → k < length xs → filter used (set xs k 0) ≡ filter used (take k xs) ++ filter used (drop (suc k) xs)
+without : (xs : List ℕ) (k : ℕ) → k < length xs → filter used (set xs k 0) ≡ filter used (take k xs)
+    ++ filter used (drop (suc k) xs)
 without xs k h =
     let len = length-set xs k 0 in
     filtered (set xs k 0) k 0 (omega (arith, len)) (get_or-set_same xs k 0 0 h)
     ∙ ap (λ l. filter used l ++ filter used (drop (suc k) (set xs k 0))) (take-set xs k 0)
     ∙ ap (λ l. filter used (take k xs) ++ filter used l) (drop-set-lt (suc k) xs k 0 (omega arith))
 
-one_out : (xs : List ℕ) (k r : ℕ) → k < length xs → get_or xs k 0 ≡ suc r → IsPermutation (suc r ∷ filter used (set xs k 0)) (filter used xs)
+one_out : (xs : List ℕ) (k r : ℕ) → k < length xs → get_or xs k 0 ≡ suc r
+    → IsPermutation (suc r ∷ filter used (set xs k 0)) (filter used xs)
 one_out xs k r h e =
     let a = filter used (take k xs) in
     let c = filter used (drop (suc k) xs) in
     subst (λ l. IsPermutation (suc r ∷ l) (filter used xs)) (sym (without xs k h))
-    (subst (λ l. IsPermutation (suc r ∷ (a ++ c)) l) (sym (filtered xs k (suc r) h e ∙ ap (λ b. a ++ cond b (suc r ∷ c) c) (is_used (suc r) (λ z. omega arith))))
+    (subst (λ l. IsPermutation (suc r ∷ (a ++ c)) l)
+    (sym (filtered xs k (suc r) h e ∙ ap (λ b. a ++ cond b (suc r ∷ c) c)
+    (is_used (suc r) (λ z. omega arith))))
     (IsPermutation-sym (a ++ suc r ∷ c) (suc r ∷ (a ++ c)) (IsPermutation-middle a (suc r) c)))
 
 -- ---- the numbers up to n, each once
 pub record HasEach (n : ℕ) (xs : List ℕ) : Type 0 where
   pub each : (r : ℕ) → r < n → (k : ℕ) × (k < length xs) × (get_or xs k 0 ≡ suc r)
   pub most : (k : ℕ) → get_or xs k 0 ≤ n
-  pub once : (k l : ℕ) → k < length xs → l < length xs → 0 < get_or xs k 0 → get_or xs k 0 ≡ get_or xs l 0 → k ≡ l
+  pub once : (k l : ℕ) → k < length xs → l < length xs → 0 < get_or xs k 0
+      → get_or xs k 0 ≡ get_or xs l 0 → k ≡ l
 
 none_used : (xs : List ℕ) → ((k : ℕ) → get_or xs k 0 ≤ 0) → filter used xs ≡ []
 none_used [] h = refl
 none_used (x ∷ xs) h =
     let first : x ≡ 0 = omega (arith, h 0) in
-    ap (λ n. cond (used n) (n ∷ filter used xs) (filter used xs)) first ∙ none_used xs (λ k. h (suc k))
+    ap (λ n. cond (used n) (n ∷ filter used xs) (filter used xs)) first ∙ none_used xs
+    (λ k. h (suc k))
 
-one_fewer : (n : ℕ) (xs : List ℕ) (has : HasEach (suc n) xs) → HasEach n (set xs (has.each n (omega arith)).0 0)
+one_fewer : (n : ℕ) (xs : List ℕ) (has : HasEach (suc n) xs)
+    → HasEach n (set xs (has.each n (omega arith)).0 0)
 one_fewer n xs has =
     let last = has.each n (omega arith) in
     let at = last.0 in
@@ -75,22 +93,31 @@ one_fewer n xs has =
     let here = get_or-set_same xs at 0 0 last.1 in
     record {
       each = λ r h.
-          let k = has.each r (omega arith) in
-          (k.0, omega (arith, len, k.1), other k.0 (λ e. let same = ap (λ m. get_or xs m 0) e in omega (arith, k.2, last.2, same)) ∙ k.2);
+          let k = has.each r (omega arith) in (
+            k.0,
+            omega (arith, len, k.1),
+            other k.0 (λ e. let same = ap (λ m. get_or xs m 0) e in
+                omega (arith, k.2, last.2, same)) ∙ k.2,
+          );
       most = λ k. elim (same_or_not k at) [
         | inl e ↦ let same = ap (λ m. get_or (set xs at 0) m 0) e in omega (arith, same, here)
         | inr ne ↦
             elim (dec_lt k (length xs)) [
               | yes p ↦
-                  let apart : get_or xs k 0 ≡ suc n → ⊥ = λ e. ne (has.once k at p last.1 (omega (arith, e)) (e ∙ sym last.2)) in
+                  let apart : get_or xs k 0 ≡ suc n → ⊥ = λ e.
+                  ne (has.once k at p last.1 (omega (arith, e)) (e ∙ sym last.2)) in
                   omega (arith, other k ne, has.most k, apart)
               | no p ↦ omega (arith, get_or-eq_default (set xs at 0) 0 {n = k} (omega (arith, len)))
             ]
       ];
       once = λ k l p q some same.
-          let k_apart : k ≡ at → ⊥ = λ e. let zero' = ap (λ m. get_or (set xs at 0) m 0) e in omega (arith, zero', here, some) in
-          let l_apart : l ≡ at → ⊥ = λ e. let zero' = ap (λ m. get_or (set xs at 0) m 0) e in omega (arith, zero', here, some, same) in
-          has.once k l (omega (arith, len)) (omega (arith, len)) (omega (arith, other k k_apart, some)) (sym (other k k_apart) ∙ same ∙ other l l_apart);
+          let k_apart : k ≡ at → ⊥ = λ e. let zero' = ap (λ m. get_or (set xs at 0) m 0) e in
+          omega (arith, zero', here, some) in
+          let l_apart : l ≡ at → ⊥ = λ e. let zero' = ap (λ m. get_or (set xs at 0) m 0) e in
+          omega (arith, zero', here, some, same) in
+          has.once k l (omega (arith, len)) (omega (arith, len))
+          (omega (arith, other k k_apart, some)) (sym (other k k_apart) ∙ same ∙
+          other l l_apart);
     }
 
 range_more : (n a : ℕ) → range_with_len a (suc n) ≡ range_with_len a n ++ (a + n) ∷ []
@@ -100,17 +127,23 @@ range_more (suc n) a =
     ap (λ l. a ∷ l) (range_more n (a + 1) ∙ ap (λ m. range_with_len (a + 1) n ++ m ∷ []) same)
 
 range_last : (n : ℕ) → range_with_len 1 (suc n) ≡ range_with_len 1 n ++ suc n ∷ []
-range_last n = let same : 1 + n ≡ suc n = omega arith in range_more n 1 ∙ ap (λ m. range_with_len 1 n ++ m ∷ []) same
+range_last n = let same : 1 + n ≡ suc n = omega arith in range_more n 1 ∙ ap (λ m.
+    range_with_len 1 n ++ m ∷ []) same
 
-pub each_once : (n : ℕ) (xs : List ℕ) → HasEach n xs → IsPermutation (range_with_len 1 n) (filter used xs)
-each_once zero xs has = subst (λ l. IsPermutation [] l) (sym (none_used xs has.most)) (IsPermutation-refl [])
+pub each_once : (n : ℕ) (xs : List ℕ) → HasEach n xs → IsPermutation (range_with_len 1 n)
+    (filter used xs)
+each_once zero xs has = subst (λ l. IsPermutation [] l) (sym (none_used xs has.most))
+    (IsPermutation-refl [])
 each_once (suc n) xs has =
     let last = has.each n (omega arith) in
     let before = range_with_len 1 n in
     let fewer = set xs last.0 0 in
     subst (λ l. IsPermutation l (filter used xs)) (sym (range_last n))
-    (IsPermutation-trans (before ++ suc n ∷ []) (suc n ∷ before) (filter used xs) (IsPermutation-to_front before (suc n))
-    (IsPermutation-trans (suc n ∷ before) (suc n ∷ filter used fewer) (filter used xs) (IsPermutation-cons (suc n) before (filter used fewer) (each_once n fewer (one_fewer n xs has)))
+    (IsPermutation-trans (before ++ suc n ∷ []) (suc n ∷ before) (filter used xs)
+    (IsPermutation-to_front before (suc n))
+    (IsPermutation-trans (suc n ∷ before) (suc n ∷ filter used fewer) (filter used xs)
+    (IsPermutation-cons (suc n) before (filter used fewer)
+    (each_once n fewer (one_fewer n xs has)))
     (one_out xs last.0 n last.1 last.2)))
 
 -- ---- the slots
@@ -119,7 +152,11 @@ named ids r = (signature_of ids r, r)
 
 -- a slot with a row is one of the slots
 slot-within : (rows : List ℕ) (k r : ℕ) → get_or rows k 0 ≡ suc r → k < length rows
-slot-within rows k r e = elim (dec_lt k (length rows)) [ yes p ↦ p | no p ↦ absurd (omega (arith, e, get_or-eq_default rows 0 {n = k} (omega arith))) ]
+slot-within rows k r e = elim (dec_lt k (length rows)) [
+  | yes p ↦ p
+  | no p ↦ absurd
+      (omega (arith, e, get_or-eq_default rows 0 {n = k} (omega arith)))
+]
 
 pub rows_have_each : (ids rows : List ℕ) → IsHashTable ids rows → HasEach (length ids) rows
 rows_have_each ids rows table = record {
@@ -132,10 +169,13 @@ rows_have_each ids rows table = record {
   once = table.once;
 }
 
-slot-named : (ids : List ℕ) (index : Index) (k : ℕ) → IsIndex ids index.signatures index.rows → k < length index.rows → slot_at index k ≡ named ids (get_or index.rows k 0)
+slot-named : (ids : List ℕ) (index : Index) (k : ℕ) → IsIndex ids index.signatures index.rows
+    → k < length index.rows → slot_at index k ≡ named ids (get_or index.rows k 0)
 slot-named ids index k is h = ap (λ s. (s, get_or index.rows k 0)) (is.beside k h)
 
-used-from : (ids : List ℕ) (index : Index) → IsIndex ids index.signatures index.rows → (n k : ℕ) → k + n ≡ length index.rows → used_in index k ≡ map (named ids) (filter used (drop k index.rows))
+used-from : (ids : List ℕ) (index : Index) → IsIndex ids index.signatures index.rows → (n k : ℕ)
+    → k + n ≡ length index.rows → used_in index k ≡ map (named ids)
+    (filter used (drop k index.rows))
 used-from ids index is zero k e =
     let none : drop k index.rows ≡ [] = drop_all k index.rows (omega arith) in
     used_none index k (omega arith) ∙ sym (ap (λ l. map (named ids) (filter used l)) none)
@@ -144,48 +184,68 @@ used-from ids index is (suc n) k e =
     let one : k + 1 ≡ suc k = omega arith in
     let within : k < length index.rows = omega arith in
     let rest = used-from ids index is n (k + 1) (omega arith) in
-    let after : drop k index.rows ≡ row ∷ drop (k + 1) index.rows = drop-cons index.rows k 0 within ∙ ap (λ m. row ∷ drop m index.rows) (sym one) in
+    let after : drop k index.rows ≡ row ∷ drop (k + 1) index.rows = drop-cons index.rows k 0 within
+    ∙ ap (λ m. row ∷ drop m index.rows) (sym one) in
     elim (same_or_not row 0) [
       | inl zero' ↦
           used_after index k within zero' ∙ rest
           ∙ sym (ap (λ l. map (named ids) (filter used l)) after
-          ∙ ap (λ m. map (named ids) (cond (used m) (m ∷ filter used (drop (k + 1) index.rows)) (filter used (drop (k + 1) index.rows)))) zero')
+          ∙ ap (λ m. map (named ids) (cond (used m) (m ∷ filter used (drop (k + 1) index.rows))
+          (filter used (drop (k + 1) index.rows)))) zero')
       | inr some ↦
           used_here index k within some
           ∙ ap (λ l. slot_at index k ∷ l) rest
-          ∙ ap (λ s. s ∷ map (named ids) (filter used (drop (k + 1) index.rows))) (slot-named ids index k is within)
+          ∙ ap (λ s. s ∷ map (named ids) (filter used (drop (k + 1) index.rows)))
+          (slot-named ids index k is within)
           ∙ sym (ap (λ l. map (named ids) (filter used l)) after
-          ∙ ap (λ b. map (named ids) (cond b (row ∷ filter used (drop (k + 1) index.rows)) (filter used (drop (k + 1) index.rows)))) (is_used row some))
+          ∙ ap (λ b. map (named ids) (cond b (row ∷ filter used (drop (k + 1) index.rows))
+          (filter used (drop (k + 1) index.rows)))) (is_used row some))
     ]
 
 -- ---- the identifiers
-named-at : (before ids : List ℕ) (x r : ℕ) → r ≡ suc (length before) → named (before ++ x ∷ ids) r ≡ (x, r)
+named-at : (before ids : List ℕ) (x r : ℕ) → r ≡ suc (length before)
+    → named (before ++ x ∷ ids) r ≡ (x, r)
 named-at before ids x zero e = absurd (omega arith)
 named-at before ids x (suc r) e =
     let same : r ≡ length before = omega arith in
-    ap (λ s. (s, suc r)) (ap (λ k. get_or (before ++ x ∷ ids) k 0) same ∙ get_or-append_seam before x ids 0)
+    ap (λ s. (s, suc r)) (ap (λ k. get_or (before ++ x ∷ ids) k 0) same ∙
+    get_or-append_seam before x ids 0)
 
-numbered-from : (before ids : List ℕ) (r : ℕ) → r ≡ suc (length before) → numbered r ids ≡ map (named (before ++ ids)) (range_with_len r (length ids))
+numbered-from : (before ids : List ℕ) (r : ℕ) → r ≡ suc (length before) → numbered r ids ≡ map
+    (named (before ++ ids)) (range_with_len r (length ids))
 numbered-from before [] r e = refl
 numbered-from before (x ∷ ids) r e =
-    let longer : r + 1 ≡ suc (length (before ++ x ∷ [])) = omega (arith, length-append before (x ∷ [])) in
+    let longer : r + 1 ≡ suc (length (before ++ x ∷ [])) =
+    omega (arith, length-append before (x ∷ [])) in
     ap (λ l. (x, r) ∷ l) (numbered-from (before ++ x ∷ []) ids (r + 1) longer)
-    ∙ ap (λ l. (x, r) ∷ map (named l) (range_with_len (r + 1) (length ids))) (append_assoc before (x ∷ []) ids)
-    ∙ ap (λ s. s ∷ map (named (before ++ x ∷ ids)) (range_with_len (r + 1) (length ids))) (sym (named-at before ids x r e))
+    ∙ ap (λ l. (x, r) ∷ map (named l) (range_with_len (r + 1) (length ids)))
+    (append_assoc before (x ∷ []) ids)
+    ∙ ap (λ s. s ∷ map (named (before ++ x ∷ ids)) (range_with_len (r + 1) (length ids)))
+    (sym (named-at before ids x r e))
 
-pub slots_once : (ids : List ℕ) (index : Index) → IsIndex ids index.signatures index.rows → IsPermutation (numbered 1 ids) (used_in index 0)
+pub slots_once : (ids : List ℕ) (index : Index) → IsIndex ids index.signatures index.rows
+    → IsPermutation (numbered 1 ids) (used_in index 0)
 slots_once ids index is =
     subst (λ l. IsPermutation l (used_in index 0)) (sym (numbered-from [] ids 1 (omega arith)))
-    (subst (λ l. IsPermutation (map (named ids) (range_with_len 1 (length ids))) l) (sym (used-from ids index is (length index.rows) 0 (omega arith)))
-    (IsPermutation-map (named ids) (range_with_len 1 (length ids)) (filter used index.rows) (each_once (length ids) index.rows (rows_have_each ids index.rows is.table))))
+    (subst (λ l. IsPermutation (map (named ids) (range_with_len 1 (length ids))) l)
+    (sym (used-from ids index is (length index.rows) 0 (omega arith)))
+    (IsPermutation-map (named ids) (range_with_len 1 (length ids)) (filter used index.rows)
+    (each_once (length ids) index.rows (rows_have_each ids index.rows is.table))))
 
-used_once : (index : Option Index) (ids : List ℕ) → IsIndexOfIds index ids → IsPermutation (numbered 1 ids) (used_from index 0)
-used_once None ids none = subst (λ l. IsPermutation (numbered 1 l) []) (sym none) (IsPermutation-refl [])
+used_once : (index : Option Index) (ids : List ℕ) → IsIndexOfIds index ids
+    → IsPermutation (numbered 1 ids) (used_from index 0)
+used_once None ids none = subst (λ l. IsPermutation (numbered 1 l) []) (sym none)
+    (IsPermutation-refl [])
 used_once (Some index) ids is = slots_once ids index is
 
-pub entries_once : (compilations types : Option Index) (ids signatures : List ℕ) → IsIndexOfIds compilations ids → IsIndexOfIds types signatures
+pub entries_once : (compilations types : Option Index) (ids signatures : List ℕ)
+    → IsIndexOfIds compilations ids → IsIndexOfIds types signatures
     → IsPermutation (entries_of ids signatures) (entries_from compilations types 0 0)
 entries_once compilations types ids signatures c t =
-    IsPermutation-append (map compilation_entry (numbered 1 ids)) (map compilation_entry (used_from compilations 0)) (map type_entry (numbered 1 signatures)) (map type_entry (used_from types 0))
-    (IsPermutation-map compilation_entry (numbered 1 ids) (used_from compilations 0) (used_once compilations ids c))
-    (IsPermutation-map type_entry (numbered 1 signatures) (used_from types 0) (used_once types signatures t))
+    IsPermutation-append (map compilation_entry (numbered 1 ids))
+    (map compilation_entry (used_from compilations 0)) (map type_entry (numbered 1 signatures))
+    (map type_entry (used_from types 0))
+    (IsPermutation-map compilation_entry (numbered 1 ids) (used_from compilations 0)
+    (used_once compilations ids c))
+    (IsPermutation-map type_entry (numbered 1 signatures) (used_from types 0)
+    (used_once types signatures t))

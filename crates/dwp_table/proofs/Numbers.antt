@@ -1,5 +1,7 @@
 -- Powers of two, odd steps round them, and the pigeonhole principle.
-use Rattle.std.proofs.Common.{◌≡◌, ℕ, zero, suc, ◌+◌, ◌-◌, ◌*◌, ◌/◌, ◌%◌, ◌^◌, ◌<◌, ◌≤◌, Bool, true, false, cond, eqb, ltb, ◌⊎◌, inl, inr, refl, sym, ap, subst, ◌∙◌, arith}
+use Rattle.std.proofs.Common.{◌≡◌, ℕ, zero, suc, ◌+◌, ◌-◌, ◌*◌, ◌/◌, ◌%◌, ◌^◌, ◌<◌, ◌≤◌, Bool, true}
+use Rattle.std.proofs.Common.{false, cond, eqb, ltb, ◌⊎◌, inl, inr, refl, sym, ap, subst, ◌∙◌}
+use Rattle.std.proofs.Common.{arith}
 use Rattle.std.specs.Prelude.{count_ones, bit_or, IsTrue}
 use Rattle.std.specs.Int.{is_power_of_two}
 use Rattle.std.proofs.lemmas.Bool.{eqb-true, eqb-false, ltb-true, ltb-false}
@@ -30,7 +32,12 @@ odd_factor : (k d t q : ℕ) → d * (2 * t + 1) ≡ 2 ^ k * q → (r : ℕ) × 
 odd_factor zero d t q e = (d, omega arith)
 odd_factor (suc k) d t q e =
     let p = 2 ^ k * q in
-    let twice : d * (2 * t + 1) ≡ 2 * p = e ∙ omega (arith, pow-suc 2 k, ap (λ x. x * q) (pow-suc 2 k)) in
+    let twice : d * (2 * t + 1) ≡ 2 * p = e ∙ omega (
+      arith,
+      pow-suc 2 k,
+      ap (λ x. x * q)
+          (pow-suc 2 k),
+    ) in
     let h = p - d * t in
     let even : d ≡ 2 * h = omega arith in
     let halved : h * (2 * t + 1) ≡ 2 ^ k * q = omega (arith, ap (λ x. x * t) even) in
@@ -43,7 +50,11 @@ rounds m a b pos le e =
     let a' = div-add-mod' a m in
     let b' = div-add-mod' b m in
     elim (dec_lt (b / m) (a / m)) [
-      | yes less ↦ absurd (omega (arith, mul-le-mul_right {m = suc (b / m)} {n = a / m} m (omega arith)))
+      | yes less ↦ absurd (omega (
+        arith,
+        mul-le-mul_right {m = suc (b / m)} {n = a / m}
+            m (omega arith),
+      ))
       | no more ↦
           let q = b / m - a / m in
           let whole : b / m ≡ a / m + q = omega arith in
@@ -52,23 +63,33 @@ rounds m a b pos le e =
 
 not_whole : (m d r : ℕ) → 0 < d → d < m → d ≡ m * r → ⊥
 not_whole m d zero pos below e = omega (arith, e)
-not_whole m d (suc r) pos below e = omega (arith, e, mul-le-mul_left {m = 1} {n = suc r} m (omega arith))
+not_whole m d (suc r) pos below e = omega (
+  arith,
+  e,
+  mul-le-mul_left {m = 1} {n = suc r}
+      m (omega arith),
+)
 
-apart : (k start t i j : ℕ) → i < j → j < 2 ^ k → (start + i * (2 * t + 1)) % 2 ^ k ≡ (start + j * (2 * t + 1)) % 2 ^ k → ⊥
+apart : (k start t i j : ℕ) → i < j → j < 2 ^ k → (start + i * (2 * t + 1)) % 2 ^ k ≡
+    (start + j * (2 * t + 1)) % 2 ^ k → ⊥
 apart k start t i j less below same =
     let d = j - i in
     let split : j ≡ i + d = omega arith in
     let product = ap (λ x. x * (2 * t + 1)) split in
-    let q = rounds (2 ^ k) (start + i * (2 * t + 1)) (start + j * (2 * t + 1)) (pow_pos k) (omega arith) same in
+    let q = rounds (2 ^ k) (start + i * (2 * t + 1)) (start + j * (2 * t + 1)) (pow_pos k)
+    (omega arith) same in
     let r = odd_factor k d t q.0 (omega (arith, q.1)) in
     not_whole (2 ^ k) d r.0 (omega arith) (omega arith) r.1
 
-pub one_slot : (size start step i j : ℕ) → IsTrue (is_power_of_two size) → step % 2 ≡ 1 → i < size → j < size → (start + i * step) % size ≡ (start + j * step) % size → i ≡ j
+pub one_slot : (size start step i j : ℕ) → IsTrue (is_power_of_two size) → step % 2 ≡ 1 → i < size
+    → j < size → (start + i * step) % size ≡ (start + j * step) % size → i ≡ j
 one_slot size start step i j power odd in_i in_j same =
     let k = exponent size power in
     let t = step / 2 in
     let s : step ≡ 2 * t + 1 = omega arith in
-    let same' : (start + i * (2 * t + 1)) % 2 ^ k.0 ≡ (start + j * (2 * t + 1)) % 2 ^ k.0 = subst (λ x. (start + i * x) % 2 ^ k.0 ≡ (start + j * x) % 2 ^ k.0) s (subst (λ m. (start + i * step) % m ≡ (start + j * step) % m) k.1 same) in
+    let same' : (start + i * (2 * t + 1)) % 2 ^ k.0 ≡ (start + j * (2 * t + 1)) % 2 ^ k.0 =
+    subst (λ x. (start + i * x) % 2 ^ k.0 ≡ (start + j * x) % 2 ^ k.0) s
+    (subst (λ m. (start + i * step) % m ≡ (start + j * step) % m) k.1 same) in
     elim (dec_lt i j) [
       | yes p ↦ absurd (apart k.0 start t i j p (omega (arith, k.1)) same')
       | no p ↦ elim (dec_lt j i) [
@@ -106,22 +127,29 @@ past_by x m y false e = inr (eqb-false x m e, refl)
 past_is : (x m y : ℕ) → Past x m y (cond (eqb x m) y x)
 past_is x m y = past_by x m y (eqb x m) refl
 
-past_into : (f : ℕ → ℕ) (n m : ℕ) → Into f (suc n) (suc m) → OneToOne f (suc n) → Into (past f m n) n m
+past_into : (f : ℕ → ℕ) (n m : ℕ) → Into f (suc n) (suc m) → OneToOne f (suc n)
+    → Into (past f m n) n m
 past_into f n m into one i p =
     let a = into i (omega arith) in
     let b = into n (omega arith) in
     let other : f i ≡ f n → ⊥ = λ e. let z = one i n (omega arith) (omega arith) e in omega arith in
-    elim (past_is (f i) m (f n)) [ inl w ↦ omega (arith, w.0, w.1) | inr w ↦ omega (arith, w.0, w.1) ]
+    elim (past_is (f i) m (f n)) [
+      | inl w ↦ omega (arith, w.0, w.1)
+      | inr w ↦ omega
+          (arith, w.0, w.1)
+    ]
 
 past_one : (f : ℕ → ℕ) (n m : ℕ) → OneToOne f (suc n) → OneToOne (past f m n) n
 past_one f n m one i j p q e =
     elim (past_is (f i) m (f n)) [
       | inl v ↦ elim (past_is (f j) m (f n)) [
         | inl w ↦ one i j (omega arith) (omega arith) (v.0 ∙ sym w.0)
-        | inr w ↦ let z = one n j (omega arith) (omega arith) (sym v.1 ∙ e ∙ w.1) in absurd (omega arith)
+        | inr w ↦ let z = one n j (omega arith) (omega arith) (sym v.1 ∙ e ∙ w.1) in
+            absurd (omega arith)
       ]
       | inr v ↦ elim (past_is (f j) m (f n)) [
-        | inl w ↦ let z = one i n (omega arith) (omega arith) (sym v.1 ∙ e ∙ w.1) in absurd (omega arith)
+        | inl w ↦ let z = one i n (omega arith) (omega arith) (sym v.1 ∙ e ∙ w.1) in
+            absurd (omega arith)
         | inr w ↦ one i j (omega arith) (omega arith) (sym v.1 ∙ e ∙ w.1)
       ]
     ]
@@ -130,7 +158,8 @@ past_one f n m one i j p q e =
 pub pigeonhole : (n m : ℕ) (f : ℕ → ℕ) → Into f n m → OneToOne f n → n ≤ m
 pigeonhole zero m f into one = omega arith
 pigeonhole (suc n) zero f into one = absurd (omega (arith, into n (omega arith)))
-pigeonhole (suc n) (suc m) f into one = omega (arith, pigeonhole n m (past f m n) (past_into f n m into one) (past_one f n m one))
+pigeonhole (suc n) (suc m) f into one =
+    omega (arith, pigeonhole n m (past f m n) (past_into f n m into one) (past_one f n m one))
 
 -- a value that f gives below n, or that it doesn't
 given : (f : ℕ → ℕ) (n v : ℕ) → ((i : ℕ) × (i < n) × (f i ≡ v)) ⊎ ((i : ℕ) → i < n → f i ≡ v → ⊥)
@@ -140,26 +169,39 @@ given f (suc n) v = elim (given f n v) [
   | inr none ↦ given_last f n v none (eqb (f n) v) refl
 ]
   where
-    given_last : (f : ℕ → ℕ) (n v : ℕ) → ((i : ℕ) → i < n → f i ≡ v → ⊥) → (t : Bool) → eqb (f n) v ≡ t → ((i : ℕ) × (i < suc n) × (f i ≡ v)) ⊎ ((i : ℕ) → i < suc n → f i ≡ v → ⊥)
+    given_last : (f : ℕ → ℕ) (n v : ℕ) → ((i : ℕ) → i < n → f i ≡ v → ⊥) → (t : Bool)
+        → eqb (f n) v ≡ t → ((i : ℕ) × (i < suc n) × (f i ≡ v))
+        ⊎ ((i : ℕ) → i < suc n → f i ≡ v → ⊥)
     given_last f n v none true e = inl (n, omega arith, eqb-true _ _ e)
-    given_last f n v none false e = inr (λ i h same. elim (dec_lt i n) [ yes p ↦ none i p same | no p ↦ let last : i ≡ n = omega arith in eqb-false _ _ e (sym (ap f last) ∙ same) ])
+    given_last f n v none false e =
+        inr (λ i h same. elim (dec_lt i n) [
+          | yes p ↦ none i p same
+          | no p ↦ let last : i ≡ n =
+              omega arith in eqb-false _ _ e (sym (ap f last) ∙ same)
+        ])
 
 -- f, and v at n
 abbrev with_last : (ℕ → ℕ) → ℕ → ℕ → ℕ → ℕ
 with_last f n v i = cond (ltb i n) (f i) v
 
-with_last_by : (f : ℕ → ℕ) (n v i : ℕ) (t : Bool) → ltb i n ≡ t → ((i < n) × (cond t (f i) v ≡ f i)) ⊎ ((n ≤ i) × (cond t (f i) v ≡ v))
+with_last_by : (f : ℕ → ℕ) (n v i : ℕ) (t : Bool) → ltb i n ≡ t → ((i < n) × (cond t (f i) v ≡ f i))
+    ⊎ ((n ≤ i) × (cond t (f i) v ≡ v))
 with_last_by f n v i true e = inl (ltb-true _ _ e, refl)
 with_last_by f n v i false e = inr (ltb-false _ _ e, refl)
 
 -- each hole is filled, where no two of as many things are in one
-pub surjective : (n : ℕ) (f : ℕ → ℕ) (v : ℕ) → v < n → Into f n n → OneToOne f n → (i : ℕ) × (i < n) × (f i ≡ v)
+pub surjective : (n : ℕ) (f : ℕ → ℕ) (v : ℕ) → v < n → Into f n n → OneToOne f n → (i : ℕ)
+    × (i < n) × (f i ≡ v)
 surjective n f v below into one =
     elim (given f n v) [
       | inl w ↦ w
       | inr none ↦ absurd (
           let cases = λ (i : ℕ). with_last_by f n v i (ltb i n) refl in
-          let into' : Into (with_last f n v) (suc n) n = λ i h. elim (cases i) [ inl w ↦ let b = into i w.0 in omega (arith, w.1) | inr w ↦ omega (arith, w.1) ] in
+          let into' : Into (with_last f n v) (suc n) n = λ i h. elim (cases i) [
+            | inl w ↦ let b =
+                into i w.0 in omega (arith, w.1)
+            | inr w ↦ omega (arith, w.1)
+          ] in
           let one' : OneToOne (with_last f n v) (suc n) = λ i j p q e.
           elim (cases i) [
             | inl a ↦ elim (cases j) [
@@ -175,12 +217,15 @@ surjective n f v below into one =
     ]
 
 -- ---- going round by an odd step
-pub visits_each_once : (size start step : ℕ) → IsTrue (is_power_of_two size) → step % 2 ≡ 1 → VisitsEachOnce size start step
+pub visits_each_once : (size start step : ℕ) → IsTrue (is_power_of_two size) → step % 2 ≡ 1
+    → VisitsEachOnce size start step
 visits_each_once size start step power odd =
     let k = exponent size power in
     let pos : 0 < size = omega (arith, k.1, pow_pos k.0) in
-    let once : OneToOne (λ i. (start + i * step) % size) size = λ i j p q e. one_slot size start step i j power odd p q e in
+    let once : OneToOne (λ i. (start + i * step) % size) size = λ i j p q e.
+    one_slot size start step i j power odd p q e in
     record {
-      each = λ slot below. surjective size (λ i. (start + i * step) % size) slot below (λ i p. mod-lt _ pos) once;
+      each = λ slot below. surjective size (λ i. (start + i * step) % size) slot below (λ i p.
+          mod-lt _ pos) once;
       once = once;
     }

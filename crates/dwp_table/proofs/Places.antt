@@ -19,13 +19,16 @@ pub place-lt : (size x i : ℕ) → IsTrue (is_power_of_two size) → place size
 unfolding place
 place-lt size x i power = mod-lt _ (positive size power)
 
-pub place-zero : (size x : ℕ) → IsTrue (is_power_of_two size) → place size x 0 ≡ bit_and x (size - 1)
+pub place-zero : (size x : ℕ) → IsTrue (is_power_of_two size)
+    → place size x 0 ≡ bit_and x (size - 1)
 unfolding place
 place-zero size x power =
     let first : bit_and x (size - 1) + 0 * step size x ≡ bit_and x (size - 1) = omega arith in
-    ap (λ n. n % size) first ∙ mod-eq_of_lt (omega (arith, and_le_r x (size - 1), positive size power))
+    ap (λ n. n % size) first ∙ mod-eq_of_lt
+    (omega (arith, and_le_r x (size - 1), positive size power))
 
-pub place-next : (size x i : ℕ) → IsTrue (is_power_of_two size) → place size x (i + 1) ≡ bit_and (place size x i + step size x) (size - 1)
+pub place-next : (size x i : ℕ) → IsTrue (is_power_of_two size) → place size x (i + 1) ≡ bit_and
+    (place size x i + step size x) (size - 1)
 unfolding place
 place-next size x i power =
     let start = bit_and x (size - 1) in
@@ -35,4 +38,5 @@ place-next size x i power =
 
 pub places_apart : (size x : ℕ) → IsTrue (is_power_of_two size) → OneToOne (place size x) size
 unfolding place step
-places_apart size x power i j p q e = one_slot size (bit_and x (size - 1)) (bit_or (bit_and (x / 2 ^ 32) (size - 1)) 1) i j power (odd-or_one _) p q e
+places_apart size x power i j p q e = one_slot size (bit_and x (size - 1))
+    (bit_or (bit_and (x / 2 ^ 32) (size - 1)) 1) i j power (odd-or_one _) p q e

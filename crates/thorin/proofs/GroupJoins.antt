@@ -1,10 +1,13 @@
 -- Joining in groups: joining what groups joined is joining all of them.
-use Rattle.std.proofs.Common.{◌≡◌, ◌∙◌, Bool, true, false, not, cond, ◌||◌, ◌&&◌, List, [], ◌∷◌, ◌++◌, filter, true≢false, ap, ap₂, sym, subst, refl, eq-eqb, eqb-true, append_assoc, append-nil}
+use Rattle.std.proofs.Common.{◌≡◌, ◌∙◌, Bool, true, false, not, cond, ◌||◌, ◌&&◌, List, [], ◌∷◌}
+use Rattle.std.proofs.Common.{◌++◌, filter, true≢false, ap, ap₂, sym, subst, refl, eq-eqb, eqb-true}
+use Rattle.std.proofs.Common.{append_assoc, append-nil}
 use Rattle.std.specs.Cmp.{IsEquivalence}
 use Rattle.std.specs.List.{IsDistinct, AllByRecursion, list_any, flat_map}
 use Rattle.std.specs.List.Sorted.{IsPermutation}
 use Rattle.std.proofs.lemmas.List.Folds.{list_any-append}
-use Rattle.std.proofs.lemmas.List.Sorted.{IsPermutation-refl, IsPermutation-append, IsPermutation-map, list_any-IsPermutation}
+use Rattle.std.proofs.lemmas.List.Sorted.{IsPermutation-refl, IsPermutation-append}
+use Rattle.std.proofs.lemmas.List.Sorted.{IsPermutation-map, list_any-IsPermutation}
 use Rattle.std.proofs.lemmas.Map.Keys.{IsDistinct-IsPermutation, IsDistinct-push}
 use Rattle.dwp_table.specs.declared.object.DwarfObject.{DwarfObject}
 use Rattle.dwp_table.specs.declared.object.DwarfObject.TheVariants.{Compilation, TypeUnit}
@@ -16,7 +19,8 @@ use Rattle.thorin.proofs.Shuffled.{IsPermutation-filter}
 -- ---- names
 
 pub same-true : (a b : DwarfObject) → same_name a b ≡ true → a ≡ b
-same-true (Compilation a) (Compilation b) h = ap (λ n. Compilation (record { 0 = n })) (eqb-true a.0 b.0 h)
+same-true (Compilation a) (Compilation b) h = ap (λ n. Compilation (record { 0 = n }))
+    (eqb-true a.0 b.0 h)
 same-true (TypeUnit a) (TypeUnit b) h = ap (λ n. TypeUnit (record { 0 = n })) (eqb-true a.0 b.0 h)
 same-true (Compilation a) (TypeUnit b) h = cc
 same-true (TypeUnit a) (Compilation b) h = cc
@@ -34,7 +38,8 @@ both false true f g = g refl
 both false false f g = refl
 
 same-flips : (a b : DwarfObject) → same_name a b ≡ same_name b a
-same-flips a b = both (same_name a b) (same_name b a) (λ h. same-at b a (sym (same-true a b h))) (λ h. same-at a b (sym (same-true b a h)))
+same-flips a b = both (same_name a b) (same_name b a) (λ h. same-at b a (sym (same-true a b h)))
+    (λ h. same-at a b (sym (same-true b a h)))
 
 names-equal : IsEquivalence same_name
 names-equal = record {
@@ -48,9 +53,11 @@ abbrev Alike : List DwarfObject → List DwarfObject → Type 0
 Alike a b = (test : DwarfObject → Bool) → list_any test a ≡ list_any test b
 
 alike-append : (a b c d : List DwarfObject) → Alike a b → Alike c d → Alike (a ++ c) (b ++ d)
-alike-append a b c d h k = λ test. list_any-append test a c ∙ ap₂ (λ x y. x || y) (h test) (k test) ∙ sym (list_any-append test b d)
+alike-append a b c d h k = λ test. list_any-append test a c ∙ ap₂ (λ x y. x || y) (h test) (k test)
+    ∙ sym (list_any-append test b d)
 
-alike-more : (a b : List DwarfObject) (name : DwarfObject) → Alike a b → Alike (a ++ name ∷ []) (b ++ name ∷ [])
+alike-more : (a b : List DwarfObject) (name : DwarfObject) → Alike a b → Alike (a ++ name ∷ [])
+    (b ++ name ∷ [])
 alike-more a b name h = alike-append a b (name ∷ []) (name ∷ []) h (λ test. refl)
 
 or-true : (a : Bool) → (a || true) ≡ true
@@ -62,30 +69,43 @@ or-false true = refl
 or-false false = refl
 
 -- a test that a name passes is passed where the name is
-passed-there : (names : List DwarfObject) (name : DwarfObject) (test : DwarfObject → Bool) → list_any (same_name name) names ≡ true → test name ≡ true → list_any test names ≡ true
+passed-there : (names : List DwarfObject) (name : DwarfObject) (test : DwarfObject → Bool)
+    → list_any (same_name name) names ≡ true → test name ≡ true → list_any test names ≡ true
 passed-there [] name test h k = absurd (true≢false (sym h))
-passed-there (n ∷ ns) name test h k = by (same_name name n) refl h (λ later. passed-there ns name test later k)
+passed-there (n ∷ ns) name test h k = by (same_name name n) refl h (λ later.
+    passed-there ns name test later k)
   where
-    by : (b : Bool) → same_name name n ≡ b → (b || list_any (same_name name) ns) ≡ true → (list_any (same_name name) ns ≡ true → list_any test ns ≡ true) → (test n || list_any test ns) ≡ true
+    by : (b : Bool) → same_name name n ≡ b → (b || list_any (same_name name) ns) ≡ true
+        → (list_any (same_name name) ns ≡ true → list_any test ns ≡ true)
+        → (test n || list_any test ns) ≡ true
     by true e h later = ap (λ t. t || list_any test ns) (ap test (sym (same-true name n e)) ∙ k)
     by false e h later = ap (λ t. test n || t) (later h) ∙ or-true (test n)
 
 -- a name that is there changes nothing
-alike-known : (names : List DwarfObject) (name : DwarfObject) → list_any (same_name name) names ≡ true → Alike names (names ++ name ∷ [])
-alike-known names name h = λ test. by test (test name) refl ∙ sym (list_any-append test names (name ∷ []))
+alike-known : (names : List DwarfObject) (name : DwarfObject) → list_any (same_name name) names ≡
+    true → Alike names (names ++ name ∷ [])
+alike-known names name h = λ test. by test (test name) refl ∙ sym
+    (list_any-append test names (name ∷ []))
   where
-    by : (test : DwarfObject → Bool) (b : Bool) → test name ≡ b → list_any test names ≡ (list_any test names || (test name || false))
-    by test true e = passed-there names name test h e ∙ sym (ap (λ t. list_any test names || (t || false)) e ∙ or-true (list_any test names))
-    by test false e = sym (ap (λ t. list_any test names || (t || false)) e ∙ or-false (list_any test names))
+    by : (test : DwarfObject → Bool) (b : Bool) → test name ≡ b → list_any test names ≡
+        (list_any test names || (test name || false))
+    by test true e = passed-there names name test h e ∙ sym
+        (ap (λ t. list_any test names || (t || false)) e ∙ or-true (list_any test names))
+    by test false e = sym (ap (λ t. list_any test names || (t || false)) e ∙ or-false
+        (list_any test names))
 
-joining-alike : {X : Type 0} (a b : List DwarfObject) (us : List (DwarfObject × X)) → Alike a b → joining a us ≡ joining b us
+joining-alike : {X : Type 0} (a b : List DwarfObject) (us : List (DwarfObject × X)) → Alike a b
+    → joining a us ≡ joining b us
 joining-alike a b [] h = refl
-joining-alike a b (u ∷ us) h = λ i. cond (h (same_name u.0) i) (joining-alike a b us h i) (u ∷ joining-alike (a ++ u.0 ∷ []) (b ++ u.0 ∷ []) us (alike-more a b u.0 h) i)
+joining-alike a b (u ∷ us) h = λ i. cond (h (same_name u.0) i) (joining-alike a b us h i)
+    (u ∷ joining-alike (a ++ u.0 ∷ []) (b ++ u.0 ∷ []) us (alike-more a b u.0 h) i)
 
-can_join-alike : {X : Type 0} (a b : List DwarfObject) (us : List (DwarfObject × X)) → Alike a b → can_join a us ≡ can_join b us
+can_join-alike : {X : Type 0} (a b : List DwarfObject) (us : List (DwarfObject × X)) → Alike a b
+    → can_join a us ≡ can_join b us
 can_join-alike a b [] h = refl
 can_join-alike a b (u ∷ us) h =
-    λ i. cond (h (same_name u.0) i) (not (is_compilation u.0) && can_join-alike a b us h i) (can_join-alike (a ++ u.0 ∷ []) (b ++ u.0 ∷ []) us (alike-more a b u.0 h) i)
+    λ i. cond (h (same_name u.0) i) (not (is_compilation u.0) && can_join-alike a b us h i)
+    (can_join-alike (a ++ u.0 ∷ []) (b ++ u.0 ∷ []) us (alike-more a b u.0 h) i)
 
 -- ---- joining to names that are there
 
@@ -93,25 +113,35 @@ abbrev is_new : {X : Type 0} → List DwarfObject → DwarfObject × X → Bool
 is_new names u = not (list_any (same_name u.0) names)
 
 -- what a list adds to more names is what it adds to fewer, without the units of those names
-joining-new : {X : Type 0} (names more : List DwarfObject) (us : List (DwarfObject × X)) → joining (names ++ more) us ≡ filter (is_new names) (joining more us)
+joining-new : {X : Type 0} (names more : List DwarfObject) (us : List (DwarfObject × X))
+    → joining (names ++ more) us ≡ filter (is_new names) (joining more us)
 joining-new names more [] = refl
 joining-new {X} names more (u ∷ us) =
-    ap (λ b. cond b (joining (names ++ more) us) (u ∷ joining ((names ++ more) ++ u.0 ∷ []) us)) (list_any-append (same_name u.0) names more)
-    ∙ by (list_any (same_name u.0) names) (list_any (same_name u.0) more) refl (joining-new names more us) (joining-new names (more ++ u.0 ∷ []) us)
+    ap (λ b. cond b (joining (names ++ more) us) (u ∷ joining ((names ++ more) ++ u.0 ∷ []) us))
+    (list_any-append (same_name u.0) names more)
+    ∙ by (list_any (same_name u.0) names) (list_any (same_name u.0) more) refl
+    (joining-new names more us) (joining-new names (more ++ u.0 ∷ []) us)
   where
     by : (a b : Bool) → list_any (same_name u.0) names ≡ a
         → joining (names ++ more) us ≡ filter (is_new names) (joining more us)
-        → joining (names ++ (more ++ u.0 ∷ [])) us ≡ filter (is_new names) (joining (more ++ u.0 ∷ []) us)
-        → cond (a || b) (joining (names ++ more) us) (u ∷ joining ((names ++ more) ++ u.0 ∷ []) us) ≡ filter (is_new names) (cond b (joining more us) (u ∷ joining (more ++ u.0 ∷ []) us))
+        → joining (names ++ (more ++ u.0 ∷ [])) us ≡ filter (is_new names)
+        (joining (more ++ u.0 ∷ []) us)
+        → cond (a || b) (joining (names ++ more) us) (u ∷ joining ((names ++ more) ++ u.0 ∷ []) us)
+        ≡ filter (is_new names) (cond b (joining more us) (u ∷ joining (more ++ u.0 ∷ []) us))
     by true true e here there = here
     by false true e here there = here
     by true false e here there =
-        joining-alike (names ++ more) (names ++ (more ++ u.0 ∷ [])) us (λ test. alike-known (names ++ more) u.0 (list_any-append (same_name u.0) names more ∙ ap (λ t. t || list_any (same_name u.0) more) e) test ∙ ap (list_any test) (append_assoc names more (u.0 ∷ [])))
+        joining-alike (names ++ more) (names ++ (more ++ u.0 ∷ [])) us (λ test.
+        alike-known (names ++ more) u.0 (list_any-append (same_name u.0) names more ∙ ap (λ t.
+        t || list_any (same_name u.0) more) e) test ∙ ap (list_any test)
+        (append_assoc names more (u.0 ∷ [])))
         ∙ there
-        ∙ sym (ap (λ t. cond (not t) (u ∷ filter (is_new names) (joining (more ++ u.0 ∷ []) us)) (filter (is_new names) (joining (more ++ u.0 ∷ []) us))) e)
+        ∙ sym (ap (λ t. cond (not t) (u ∷ filter (is_new names) (joining (more ++ u.0 ∷ []) us))
+        (filter (is_new names) (joining (more ++ u.0 ∷ []) us))) e)
     by false false e here there =
         ap (λ l. u ∷ l) (ap (λ n. joining n us) (append_assoc names more (u.0 ∷ [])) ∙ there)
-        ∙ sym (ap (λ t. cond (not t) (u ∷ filter (is_new names) (joining (more ++ u.0 ∷ []) us)) (filter (is_new names) (joining (more ++ u.0 ∷ []) us))) e)
+        ∙ sym (ap (λ t. cond (not t) (u ∷ filter (is_new names) (joining (more ++ u.0 ∷ []) us))
+        (filter (is_new names) (joining (more ++ u.0 ∷ []) us))) e)
 
 abbrev clashes : List DwarfObject → DwarfObject → Bool
 clashes names name = is_compilation name && list_any (same_name name) names
@@ -120,111 +150,160 @@ and-true : (a b : Bool) → (a && b) ≡ true → (a ≡ true) × (b ≡ true)
 and-true true b h = (refl, h)
 and-true false b h = absurd (true≢false (sym h))
 
--- a list that can be joined can be joined to more names where none of its compilation units is there
-can_join-new : {X : Type 0} (names more : List DwarfObject) (us : List (DwarfObject × X)) → can_join more us ≡ true → can_join (names ++ more) us ≡ not (list_any (clashes names) (keys us))
+-- a list that can be joined can be joined to more names where none of its compilation units is
+-- there
+can_join-new : {X : Type 0} (names more : List DwarfObject) (us : List (DwarfObject × X))
+    → can_join more us ≡ true → can_join (names ++ more) us ≡ not
+    (list_any (clashes names) (keys us))
 can_join-new names more [] h = refl
 can_join-new {X} names more (u ∷ us) h =
-    ap (λ b. cond b (not (is_compilation u.0) && can_join (names ++ more) us) (can_join ((names ++ more) ++ u.0 ∷ []) us)) (list_any-append (same_name u.0) names more)
-    ∙ by (list_any (same_name u.0) names) (list_any (same_name u.0) more) (is_compilation u.0) refl h (can_join-new names more us) (can_join-new names (more ++ u.0 ∷ []) us)
+    ap (λ b. cond b (not (is_compilation u.0) && can_join (names ++ more) us)
+    (can_join ((names ++ more) ++ u.0 ∷ []) us)) (list_any-append (same_name u.0) names more)
+    ∙ by (list_any (same_name u.0) names) (list_any (same_name u.0) more) (is_compilation u.0) refl
+    h (can_join-new names more us) (can_join-new names (more ++ u.0 ∷ []) us)
   where
     rest : Bool
     rest = list_any (clashes names) (keys us)
 
     by : (a b c : Bool) → list_any (same_name u.0) names ≡ a
         → cond b (not c && can_join more us) (can_join (more ++ u.0 ∷ []) us) ≡ true
-        → (can_join more us ≡ true → can_join (names ++ more) us ≡ not (list_any (clashes names) (keys us)))
-        → (can_join (more ++ u.0 ∷ []) us ≡ true → can_join (names ++ (more ++ u.0 ∷ [])) us ≡ not (list_any (clashes names) (keys us)))
-        → cond (a || b) (not c && can_join (names ++ more) us) (can_join ((names ++ more) ++ u.0 ∷ []) us) ≡ not ((c && a) || list_any (clashes names) (keys us))
+        → (can_join more us ≡ true → can_join (names ++ more) us ≡ not
+        (list_any (clashes names) (keys us)))
+        → (can_join (more ++ u.0 ∷ []) us ≡ true → can_join (names ++ (more ++ u.0 ∷ [])) us ≡ not
+        (list_any (clashes names) (keys us)))
+        → cond (a || b) (not c && can_join (names ++ more) us)
+        (can_join ((names ++ more) ++ u.0 ∷ []) us) ≡ not
+        ((c && a) || list_any (clashes names) (keys us))
     by a true true e h here there = absurd (true≢false (sym h))
     by true true false e h here there = here h
     by false true false e h here there = here h
     by true false true e h here there = refl
     by true false false e h here there =
-        can_join-alike (names ++ more) (names ++ (more ++ u.0 ∷ [])) us (λ test. alike-known (names ++ more) u.0 (list_any-append (same_name u.0) names more ∙ ap (λ t. t || list_any (same_name u.0) more) e) test ∙ ap (list_any test) (append_assoc names more (u.0 ∷ [])))
+        can_join-alike (names ++ more) (names ++ (more ++ u.0 ∷ [])) us (λ test.
+        alike-known (names ++ more) u.0 (list_any-append (same_name u.0) names more ∙ ap (λ t.
+        t || list_any (same_name u.0) more) e) test ∙ ap (list_any test)
+        (append_assoc names more (u.0 ∷ [])))
         ∙ there h
-    by false false true e h here there = ap (λ n. can_join n us) (append_assoc names more (u.0 ∷ [])) ∙ there h
-    by false false false e h here there = ap (λ n. can_join n us) (append_assoc names more (u.0 ∷ [])) ∙ there h
+    by false false true e h here there = ap (λ n. can_join n us) (append_assoc names more
+        (u.0 ∷ [])) ∙ there h
+    by false false false e h here there = ap (λ n. can_join n us) (append_assoc names more
+        (u.0 ∷ [])) ∙ there h
 
 -- the names that are there once a list was joined are those before and the list's
-names-joined : {X : Type 0} (names : List DwarfObject) (us : List (DwarfObject × X)) → Alike (names ++ keys (joining names us)) (names ++ keys us)
+names-joined : {X : Type 0} (names : List DwarfObject) (us : List (DwarfObject × X))
+    → Alike (names ++ keys (joining names us)) (names ++ keys us)
 names-joined names [] = λ test. refl
-names-joined {X} names (u ∷ us) = by (list_any (same_name u.0) names) refl (names-joined names us) (names-joined (names ++ u.0 ∷ []) us)
+names-joined {X} names (u ∷ us) = by (list_any (same_name u.0) names) refl (names-joined names us)
+    (names-joined (names ++ u.0 ∷ []) us)
   where
     by : (b : Bool) → list_any (same_name u.0) names ≡ b
         → Alike (names ++ keys (joining names us)) (names ++ keys us)
-        → Alike ((names ++ u.0 ∷ []) ++ keys (joining (names ++ u.0 ∷ []) us)) ((names ++ u.0 ∷ []) ++ keys us)
-        → Alike (names ++ keys (cond b (joining names us) (u ∷ joining (names ++ u.0 ∷ []) us))) (names ++ u.0 ∷ keys us)
+        → Alike ((names ++ u.0 ∷ []) ++ keys (joining (names ++ u.0 ∷ []) us))
+        ((names ++ u.0 ∷ []) ++ keys us)
+        → Alike (names ++ keys (cond b (joining names us) (u ∷ joining (names ++ u.0 ∷ []) us)))
+        (names ++ u.0 ∷ keys us)
     by true e here there = λ test.
         here test
-        ∙ alike-append names (names ++ u.0 ∷ []) (keys us) (keys us) (alike-known names u.0 e) (λ t. refl) test
+        ∙ alike-append names (names ++ u.0 ∷ []) (keys us) (keys us) (alike-known names u.0 e)
+        (λ t. refl) test
         ∙ ap (list_any test) (append_assoc names (u.0 ∷ []) (keys us))
     by false e here there = λ test.
-        ap (list_any test) (sym (append_assoc names (u.0 ∷ []) (keys (joining (names ++ u.0 ∷ []) us))))
+        ap (list_any test) (sym (append_assoc names (u.0 ∷ [])
+        (keys (joining (names ++ u.0 ∷ []) us))))
         ∙ there test
         ∙ ap (list_any test) (append_assoc names (u.0 ∷ []) (keys us))
 
 -- more units are joined to the names of those before them, too
-pub joining-append : {X : Type 0} (names : List DwarfObject) (us vs : List (DwarfObject × X)) → joining names (us ++ vs) ≡ joining names us ++ joining (names ++ keys (joining names us)) vs
+pub joining-append : {X : Type 0} (names : List DwarfObject) (us vs : List (DwarfObject × X))
+    → joining names (us ++ vs) ≡ joining names us ++ joining (names ++ keys (joining names us)) vs
 joining-append names [] vs = ap (λ n. joining n vs) (sym (append-nil names))
-joining-append {X} names (u ∷ us) vs = by (list_any (same_name u.0) names) (joining-append names us vs) (joining-append (names ++ u.0 ∷ []) us vs)
+joining-append {X} names (u ∷ us) vs = by (list_any (same_name u.0) names) (joining-append names us
+    vs) (joining-append (names ++ u.0 ∷ []) us vs)
   where
     by : (b : Bool)
-        → joining names (us ++ vs) ≡ joining names us ++ joining (names ++ keys (joining names us)) vs
-        → joining (names ++ u.0 ∷ []) (us ++ vs) ≡ joining (names ++ u.0 ∷ []) us ++ joining ((names ++ u.0 ∷ []) ++ keys (joining (names ++ u.0 ∷ []) us)) vs
+        → joining names (us ++ vs) ≡ joining names us ++ joining
+        (names ++ keys (joining names us)) vs
+        → joining (names ++ u.0 ∷ []) (us ++ vs) ≡ joining (names ++ u.0 ∷ []) us ++ joining
+        ((names ++ u.0 ∷ []) ++ keys (joining (names ++ u.0 ∷ []) us)) vs
         → cond b (joining names (us ++ vs)) (u ∷ joining (names ++ u.0 ∷ []) (us ++ vs))
-        ≡ cond b (joining names us) (u ∷ joining (names ++ u.0 ∷ []) us) ++ joining (names ++ keys (cond b (joining names us) (u ∷ joining (names ++ u.0 ∷ []) us))) vs
+        ≡ cond b (joining names us) (u ∷ joining (names ++ u.0 ∷ []) us) ++ joining
+        (names ++ keys (cond b (joining names us) (u ∷ joining (names ++ u.0 ∷ []) us))) vs
     by true here there = here
-    by false here there = ap (λ l. u ∷ l) (there ∙ ap (λ n. joining (names ++ u.0 ∷ []) us ++ joining n vs) (append_assoc names (u.0 ∷ []) (keys (joining (names ++ u.0 ∷ []) us))))
+    by false here there = ap (λ l. u ∷ l) (there ∙ ap (λ n. joining (names ++ u.0 ∷ []) us ++
+        joining n vs) (append_assoc names (u.0 ∷ []) (keys (joining (names ++ u.0 ∷ []) us))))
 
 -- a list can be joined where its front can, and then what follows
-pub can_join-append : {X : Type 0} (names : List DwarfObject) (us vs : List (DwarfObject × X)) → can_join names (us ++ vs) ≡ (can_join names us && can_join (names ++ keys (joining names us)) vs)
+pub can_join-append : {X : Type 0} (names : List DwarfObject) (us vs : List (DwarfObject × X))
+    → can_join names (us ++ vs) ≡ (can_join names us && can_join
+    (names ++ keys (joining names us)) vs)
 can_join-append names [] vs = ap (λ n. can_join n vs) (sym (append-nil names))
-can_join-append {X} names (u ∷ us) vs = by (list_any (same_name u.0) names) (not (is_compilation u.0)) (can_join-append names us vs) (can_join-append (names ++ u.0 ∷ []) us vs)
+can_join-append {X} names (u ∷ us) vs = by (list_any (same_name u.0) names)
+    (not (is_compilation u.0)) (can_join-append names us vs)
+    (can_join-append (names ++ u.0 ∷ []) us vs)
   where
     by : (b c : Bool)
-        → can_join names (us ++ vs) ≡ (can_join names us && can_join (names ++ keys (joining names us)) vs)
-        → can_join (names ++ u.0 ∷ []) (us ++ vs) ≡ (can_join (names ++ u.0 ∷ []) us && can_join ((names ++ u.0 ∷ []) ++ keys (joining (names ++ u.0 ∷ []) us)) vs)
+        → can_join names (us ++ vs) ≡ (can_join names us && can_join
+        (names ++ keys (joining names us)) vs)
+        → can_join (names ++ u.0 ∷ []) (us ++ vs) ≡ (can_join (names ++ u.0 ∷ []) us && can_join
+        ((names ++ u.0 ∷ []) ++ keys (joining (names ++ u.0 ∷ []) us)) vs)
         → cond b (c && can_join names (us ++ vs)) (can_join (names ++ u.0 ∷ []) (us ++ vs))
-        ≡ (cond b (c && can_join names us) (can_join (names ++ u.0 ∷ []) us) && can_join (names ++ keys (cond b (joining names us) (u ∷ joining (names ++ u.0 ∷ []) us))) vs)
+        ≡ (cond b (c && can_join names us) (can_join (names ++ u.0 ∷ []) us) && can_join
+        (names ++ keys (cond b (joining names us) (u ∷ joining (names ++ u.0 ∷ []) us))) vs)
     by true true here there = here
     by true false here there = refl
-    by false c here there = there ∙ ap (λ n. can_join (names ++ u.0 ∷ []) us && can_join n vs) (append_assoc names (u.0 ∷ []) (keys (joining (names ++ u.0 ∷ []) us)))
+    by false c here there = there ∙ ap (λ n. can_join (names ++ u.0 ∷ []) us && can_join n vs)
+        (append_assoc names (u.0 ∷ []) (keys (joining (names ++ u.0 ∷ []) us)))
 
 -- ---- lists without a name twice
 
-pub joined-distinct : {X : Type 0} (names : List DwarfObject) (us : List (DwarfObject × X)) → IsDistinct same_name names → IsDistinct same_name (names ++ keys (joining names us))
+pub joined-distinct : {X : Type 0} (names : List DwarfObject) (us : List (DwarfObject × X))
+    → IsDistinct same_name names → IsDistinct same_name (names ++ keys (joining names us))
 joined-distinct names [] h = subst (IsDistinct same_name) (sym (append-nil names)) h
-joined-distinct {X} names (u ∷ us) h = by (list_any (same_name u.0) names) refl (joined-distinct names us h) (joined-distinct (names ++ u.0 ∷ []) us)
+joined-distinct {X} names (u ∷ us) h = by (list_any (same_name u.0) names) refl
+    (joined-distinct names us h) (joined-distinct (names ++ u.0 ∷ []) us)
   where
     by : (b : Bool) → list_any (same_name u.0) names ≡ b
         → IsDistinct same_name (names ++ keys (joining names us))
-        → (IsDistinct same_name (names ++ u.0 ∷ []) → IsDistinct same_name ((names ++ u.0 ∷ []) ++ keys (joining (names ++ u.0 ∷ []) us)))
-        → IsDistinct same_name (names ++ keys (cond b (joining names us) (u ∷ joining (names ++ u.0 ∷ []) us)))
+        → (IsDistinct same_name (names ++ u.0 ∷ []) → IsDistinct same_name ((names ++ u.0 ∷ []) ++
+        keys (joining (names ++ u.0 ∷ []) us)))
+        → IsDistinct same_name
+        (names ++ keys (cond b (joining names us) (u ∷ joining (names ++ u.0 ∷ []) us)))
     by true e here there = here
     by false e here there =
-        subst (IsDistinct same_name) (append_assoc names (u.0 ∷ []) (keys (joining (names ++ u.0 ∷ []) us))) (there (IsDistinct-push names-equal names u.0 h e))
+        subst (IsDistinct same_name) (append_assoc names (u.0 ∷ [])
+        (keys (joining (names ++ u.0 ∷ []) us)))
+        (there (IsDistinct-push names-equal names u.0 h e))
 
 -- a name that comes later isn't among those before
-not-before : (names : List DwarfObject) (name : DwarfObject) (rest : List DwarfObject) → IsDistinct same_name (names ++ name ∷ rest) → list_any (same_name name) names ≡ false
+not-before : (names : List DwarfObject) (name : DwarfObject) (rest : List DwarfObject)
+    → IsDistinct same_name (names ++ name ∷ rest) → list_any (same_name name) names ≡ false
 unfolding IsDistinct
 not-before [] name rest h = refl
-not-before (n ∷ ns) name rest h = ap₂ (λ a b. a || b) (same-flips name n ∙ at ns h.0) (not-before ns name rest h.1)
+not-before (n ∷ ns) name rest h = ap₂ (λ a b. a || b) (same-flips name n ∙ at ns h.0)
+    (not-before ns name rest h.1)
   where
-    at : (ms : List DwarfObject) → AllByRecursion (λ m. same_name n m ≡ false) (ms ++ name ∷ rest) → same_name n name ≡ false
+    at : (ms : List DwarfObject) → AllByRecursion (λ m. same_name n m ≡ false) (ms ++ name ∷ rest)
+        → same_name n name ≡ false
     at [] all = all.0
     at (m ∷ ms) all = at ms all.1
 
-joining-distinct : {X : Type 0} (names : List DwarfObject) (us : List (DwarfObject × X)) → IsDistinct same_name (names ++ keys us) → joining names us ≡ us
+joining-distinct : {X : Type 0} (names : List DwarfObject) (us : List (DwarfObject × X))
+    → IsDistinct same_name (names ++ keys us) → joining names us ≡ us
 joining-distinct names [] h = refl
 joining-distinct names (u ∷ us) h =
-    ap (λ b. cond b (joining names us) (u ∷ joining (names ++ u.0 ∷ []) us)) (not-before names u.0 (keys us) h)
-    ∙ ap (λ l. u ∷ l) (joining-distinct (names ++ u.0 ∷ []) us (subst (IsDistinct same_name) (sym (append_assoc names (u.0 ∷ []) (keys us))) h))
+    ap (λ b. cond b (joining names us) (u ∷ joining (names ++ u.0 ∷ []) us))
+    (not-before names u.0 (keys us) h)
+    ∙ ap (λ l. u ∷ l) (joining-distinct (names ++ u.0 ∷ []) us (subst (IsDistinct same_name)
+    (sym (append_assoc names (u.0 ∷ []) (keys us))) h))
 
-can_join-distinct : {X : Type 0} (names : List DwarfObject) (us : List (DwarfObject × X)) → IsDistinct same_name (names ++ keys us) → can_join names us ≡ true
+can_join-distinct : {X : Type 0} (names : List DwarfObject) (us : List (DwarfObject × X))
+    → IsDistinct same_name (names ++ keys us) → can_join names us ≡ true
 can_join-distinct names [] h = refl
 can_join-distinct names (u ∷ us) h =
-    ap (λ b. cond b (not (is_compilation u.0) && can_join names us) (can_join (names ++ u.0 ∷ []) us)) (not-before names u.0 (keys us) h)
-    ∙ can_join-distinct (names ++ u.0 ∷ []) us (subst (IsDistinct same_name) (sym (append_assoc names (u.0 ∷ []) (keys us))) h)
+    ap (λ b. cond b (not (is_compilation u.0) && can_join names us) (can_join (names ++ u.0 ∷ [])
+    us)) (not-before names u.0 (keys us) h)
+    ∙ can_join-distinct (names ++ u.0 ∷ []) us (subst (IsDistinct same_name)
+    (sym (append_assoc names (u.0 ∷ []) (keys us))) h)
 
 pub none-distinct : IsDistinct same_name []
 unfolding IsDistinct
@@ -237,60 +316,93 @@ record IsSame {X : Type 0} (group result : List (DwarfObject × X)) : Type 0 whe
   names : Alike (keys result) (keys group)
   apart : IsDistinct same_name (keys result)
 
-result-same : {X : Type 0} (group result : List (DwarfObject × X)) → IsPermutation (joining [] group) result → IsSame group result
+result-same : {X : Type 0} (group result : List (DwarfObject × X))
+    → IsPermutation (joining [] group) result → IsSame group result
 result-same group result h =
-    let keyed : IsPermutation (keys (joining [] group)) (keys result) = IsPermutation-map (λ u. u.0) (joining [] group) result h in
+    let keyed : IsPermutation (keys (joining [] group)) (keys result) = IsPermutation-map (λ u. u.0)
+    (joining [] group) result h in
     record {
-      names = λ test. sym (list_any-IsPermutation test (keys (joining [] group)) (keys result) keyed) ∙ names-joined [] group test;
-      apart = IsDistinct-IsPermutation same_name same-flips (keys (joining [] group)) (keys result) keyed (joined-distinct [] group none-distinct);
+      names = λ test. sym (list_any-IsPermutation test (keys (joining [] group)) (keys result)
+          keyed) ∙ names-joined [] group test;
+      apart = IsDistinct-IsPermutation same_name same-flips (keys (joining [] group)) (keys result)
+          keyed (joined-distinct [] group none-distinct);
     }
 
 -- what a group adds to names that are there is what its result adds to the same names
-adds-same : {X : Type 0} (names others : List DwarfObject) (group result : List (DwarfObject × X)) → Alike names others → IsPermutation (joining [] group) result → IsPermutation (joining names group) (joining others result)
+adds-same : {X : Type 0} (names others : List DwarfObject) (group result : List (DwarfObject × X))
+    → Alike names others → IsPermutation (joining [] group) result
+    → IsPermutation (joining names group) (joining others result)
 adds-same {X} names others group result h same =
-    let left : joining names group ≡ filter (is_new names) (joining [] group) = ap (λ n. joining n group) (sym (append-nil names)) ∙ joining-new names [] group in
-    let whole : joining [] result ≡ result = joining-distinct [] result (result-same group result same).apart in
+    let left : joining names group ≡ filter (is_new names) (joining [] group) =
+    ap (λ n. joining n group) (sym (append-nil names)) ∙ joining-new names [] group in
+    let whole : joining [] result ≡ result = joining-distinct [] result
+    (result-same group result same).apart in
     let right : joining others result ≡ filter (is_new names) result =
-    ap (λ n. joining n result) (sym (append-nil others)) ∙ joining-new others [] result ∙ ap (filter (is_new others)) whole ∙ sym (λ i. filter (λ (u : DwarfObject × X). not (h (same_name u.0) i)) result) in
-    subst (λ l. IsPermutation (joining names group) l) (sym right) (subst (λ l. IsPermutation l (filter (is_new names) result)) (sym left) (IsPermutation-filter (is_new names) (joining [] group) result same))
+    ap (λ n. joining n result) (sym (append-nil others)) ∙ joining-new others [] result ∙ ap
+    (filter (is_new others)) whole ∙ sym (λ i. filter (λ (u : DwarfObject × X).
+    not (h (same_name u.0) i)) result) in
+    subst (λ l. IsPermutation (joining names group) l) (sym right)
+    (subst (λ l. IsPermutation l (filter (is_new names) result)) (sym left)
+    (IsPermutation-filter (is_new names) (joining [] group) result same))
 
-can-same : {X : Type 0} (names others : List DwarfObject) (group result : List (DwarfObject × X)) → Alike names others → can_join [] group ≡ true → IsPermutation (joining [] group) result → can_join names group ≡ can_join others result
+can-same : {X : Type 0} (names others : List DwarfObject) (group result : List (DwarfObject × X))
+    → Alike names others → can_join [] group ≡ true → IsPermutation (joining [] group) result
+    → can_join names group ≡ can_join others result
 can-same {X} names others group result h defined same =
     let is = result-same group result same in
     ap (λ n. can_join n group) (sym (append-nil names)) ∙ can_join-new names [] group defined
     ∙ sym (
-    ap (λ n. can_join n result) (sym (append-nil others)) ∙ can_join-new others [] result (can_join-distinct [] result is.apart)
-    ∙ ap not (is.names (clashes others) ∙ sym (λ i. list_any (λ name. is_compilation name && h (same_name name) i) (keys group)))
+    ap (λ n. can_join n result) (sym (append-nil others)) ∙ can_join-new others [] result
+    (can_join-distinct [] result is.apart)
+    ∙ ap not (is.names (clashes others) ∙ sym (λ i.
+    list_any (λ name. is_compilation name && h (same_name name) i) (keys group)))
     )
 
-names-after : {X : Type 0} (names others : List DwarfObject) (group result : List (DwarfObject × X)) → Alike names others → IsPermutation (joining [] group) result → Alike (names ++ keys (joining names group)) (others ++ keys (joining others result))
+names-after : {X : Type 0} (names others : List DwarfObject) (group result : List (DwarfObject × X))
+    → Alike names others → IsPermutation (joining [] group) result
+    → Alike (names ++ keys (joining names group)) (others ++ keys (joining others result))
 names-after names others group result h same = λ test.
     names-joined names group test
-    ∙ alike-append names others (keys group) (keys result) h (λ t. sym ((result-same group result same).names t)) test
+    ∙ alike-append names others (keys group) (keys result) h (λ t.
+    sym ((result-same group result same).names t)) test
     ∙ sym (names-joined others result test)
 
-record AllSame {X : Type 0} (names others : List DwarfObject) (all results : List (DwarfObject × X)) : Type 0 where
+record AllSame {X : Type 0} (names others : List DwarfObject) (all results : List (DwarfObject
+    × X)) : Type 0 where
   defined : can_join names all ≡ can_join others results
   joined : IsPermutation (joining names all) (joining others results)
 
-groups-same : {X : Type 0} (names others : List DwarfObject) (groups results : List (List (DwarfObject × X))) → Alike names others → AreJoined groups results → AllSame names others (flat_map (λ g. g) groups) (flat_map (λ g. g) results)
+groups-same : {X : Type 0} (names others : List DwarfObject)
+    (groups results : List (List (DwarfObject × X))) → Alike names others → AreJoined groups results
+    → AllSame names others (flat_map (λ g. g) groups) (flat_map (λ g. g) results)
 groups-same names others [] [] h are = record { defined = refl; joined = IsPermutation-refl [] }
 groups-same names others [] (r ∷ rs) h are = absurd are
 groups-same names others (g ∷ gs) [] h are = absurd are
 groups-same {X} names others (g ∷ gs) (r ∷ rs) h are =
     let all = flat_map (λ (u : List (DwarfObject × X)). u) gs in
     let results = flat_map (λ (u : List (DwarfObject × X)). u) rs in
-    let later = groups-same (names ++ keys (joining names g)) (others ++ keys (joining others r)) gs rs (names-after names others g r h are.1) are.2 in
+    let later = groups-same (names ++ keys (joining names g)) (others ++ keys (joining others r)) gs
+    rs (names-after names others g r h are.1) are.2 in
     record {
-      defined = can_join-append names g all ∙ ap₂ (λ a b. a && b) (can-same names others g r h are.0 are.1) later.defined ∙ sym (can_join-append others r results);
+      defined = can_join-append names g all ∙ ap₂ (λ a b. a && b) (can-same names others g r h are.0
+          are.1) later.defined ∙ sym (can_join-append others r results);
       joined =
-          subst (λ l. IsPermutation l (joining others (r ++ results))) (sym (joining-append names g all))
-          (subst (λ l. IsPermutation (joining names g ++ joining (names ++ keys (joining names g)) all) l) (sym (joining-append others r results))
-          (IsPermutation-append (joining names g) (joining others r) (joining (names ++ keys (joining names g)) all) (joining (others ++ keys (joining others r)) results) (adds-same names others g r h are.1) later.joined));
+          subst (λ l. IsPermutation l (joining others (r ++ results)))
+          (sym (joining-append names g all))
+          (subst (λ l. IsPermutation (joining names g ++ joining (names ++ keys (joining names g))
+          all) l) (sym (joining-append others r results))
+          (IsPermutation-append (joining names g) (joining others r)
+          (joining (names ++ keys (joining names g)) all)
+          (joining (others ++ keys (joining others r)) results) (adds-same names others g r h
+          are.1) later.joined));
     }
 
-pub groups-defined : {X : Type 0} (groups results : List (List (DwarfObject × X))) → AreJoined groups results → can_join [] (flat_map (λ g. g) groups) ≡ can_join [] (flat_map (λ g. g) results)
+pub groups-defined : {X : Type 0} (groups results : List (List (DwarfObject × X)))
+    → AreJoined groups results → can_join [] (flat_map (λ g. g) groups) ≡ can_join []
+    (flat_map (λ g. g) results)
 groups-defined groups results are = (groups-same [] [] groups results (λ test. refl) are).defined
 
-pub groups-joined : {X : Type 0} (groups results : List (List (DwarfObject × X))) → AreJoined groups results → IsPermutation (joining [] (flat_map (λ g. g) groups)) (joining [] (flat_map (λ g. g) results))
+pub groups-joined : {X : Type 0} (groups results : List (List (DwarfObject × X)))
+    → AreJoined groups results → IsPermutation (joining [] (flat_map (λ g. g) groups))
+    (joining [] (flat_map (λ g. g) results))
 groups-joined groups results are = (groups-same [] [] groups results (λ test. refl) are).joined

@@ -1,5 +1,6 @@
 -- Inputs that are joined, as the list of all their units; and back.
-use Rattle.std.proofs.Common.{◌≡◌, ◌∙◌, ℕ, Bool, true, false, true≢false, ◌&&◌, List, [], ◌∷◌, ◌++◌, Option, Some, Ok, refl, sym, ap, ap₂, subst, append_assoc, append-nil}
+use Rattle.std.proofs.Common.{◌≡◌, ◌∙◌, ℕ, Bool, true, false, true≢false, ◌&&◌, List, [], ◌∷◌, ◌++◌}
+use Rattle.std.proofs.Common.{Option, Some, Ok, refl, sym, ap, ap₂, subst, append_assoc, append-nil}
 use Rattle.std.proofs.lemmas.List.{map-append}
 use Rattle.dwp_table.specs.declared.object.DwarfObject.{DwarfObject}
 use Rattle.thorin_join.specs.Join.{Joins, JoinAll}
@@ -18,20 +19,28 @@ pub record Split : Type 0 where
 -- what inputs mean, one after the other
 abbrev pub AllMean : List (List ℕ) → Units → Type 0
 AllMean [] all = all ≡ []
-AllMean (bytes ∷ rest) all = (s : Split) × (input_meaning bytes ≡ Ok s.here) × AllMean rest s.later × (all ≡ s.here ++ s.later)
+AllMean (bytes ∷ rest) all = (s : Split) × (input_meaning bytes ≡ Ok s.here) × AllMean rest s.later
+    × (all ≡ s.here ++ s.later)
 
-pub mean-append : (cs bs : List (List ℕ)) (us vs : Units) → AllMean cs us → AllMean bs vs → AllMean (cs ++ bs) (us ++ vs)
+pub mean-append : (cs bs : List (List ℕ)) (us vs : Units) → AllMean cs us → AllMean bs vs
+    → AllMean (cs ++ bs) (us ++ vs)
 mean-append [] bs us vs h k = subst (λ l. AllMean bs l) (sym (ap (λ l. l ++ vs) h)) k
-mean-append (c ∷ cs) bs us vs h k =
-    (record { here = h.0.here; later = h.0.later ++ vs }, h.1, mean-append cs bs h.0.later vs h.2 k, ap (λ l. l ++ vs) h.3 ∙ append_assoc h.0.here h.0.later vs)
+mean-append (c ∷ cs) bs us vs h k = (
+  record { here = h.0.here; later = h.0.later ++ vs },
+  h.1,
+  mean-append cs bs h.0.later vs h.2 k,
+  ap (λ l. l ++ vs) h.3 ∙ append_assoc h.0.here h.0.later vs,
+)
 
 pub keys-meant : (units : Members) → keys (all_meant units) ≡ keys units
 keys-meant [] = refl
 keys-meant (u ∷ us) = ap (λ l. u.0 ∷ l) (keys-meant us)
 
 -- the names that are there once some units were joined
-names-then : (before added : Members) (us : Units) → joining (keys before) us ≡ all_meant added → keys (before ++ added) ≡ keys before ++ keys (joining (keys before) us)
-names-then before added us h = map-append (λ u. u.0) before added ∙ ap (λ l. keys before ++ l) (sym (ap keys h ∙ keys-meant added))
+names-then : (before added : Members) (us : Units) → joining (keys before) us ≡ all_meant added
+    → keys (before ++ added) ≡ keys before ++ keys (joining (keys before) us)
+names-then before added us h = map-append (λ u. u.0) before added ∙ ap (λ l. keys before ++ l)
+    (sym (ap keys h ∙ keys-meant added))
 
 -- the join of inputs is that of the list of all their units
 pub record IsJoinOf (inputs : List (List ℕ)) (before now : Members) : Type 0 where
@@ -42,20 +51,33 @@ pub record IsJoinOf (inputs : List (List ℕ)) (before now : Members) : Type 0 w
   pub joined : joining (keys before) all ≡ all_meant added
   pub is : now ≡ before ++ added
 
-pub join-of : (inputs : List (List ℕ)) (before now : Members) → JoinAll inputs before now → IsJoinOf inputs before now
-join-of [] before now h = record { all = []; meant = refl; defined = refl; added = []; joined = refl; is = h ∙ sym (append-nil before) }
+pub join-of : (inputs : List (List ℕ)) (before now : Members) → JoinAll inputs before now
+    → IsJoinOf inputs before now
+join-of [] before now h = record {
+  all = [];
+  meant = refl;
+  defined = refl;
+  added = [];
+  joined =
+      refl;
+  is = h ∙ sym (append-nil before);
+}
 join-of (bytes ∷ rest) before now h =
     let later = join-of rest h.0 now h.2 in
-    let names : keys h.0 ≡ keys before ++ keys (joining (keys before) h.1.units) = ap keys h.1.is ∙ names-then before h.1.added h.1.units h.1.joined in
+    let names : keys h.0 ≡ keys before ++ keys (joining (keys before) h.1.units) =
+    ap keys h.1.is ∙ names-then before h.1.added h.1.units h.1.joined in
     record {
       all = h.1.units ++ later.all;
       meant = (record { here = h.1.units; later = later.all }, h.1.meaning, later.meant, refl);
-      defined = can_join-append (keys before) h.1.units later.all ∙ ap₂ (λ a b. a && b) h.1.defined (ap (λ n. can_join n later.all) (sym names) ∙ later.defined);
+      defined = can_join-append (keys before) h.1.units later.all ∙ ap₂ (λ a b. a && b) h.1.defined
+          (ap (λ n. can_join n later.all) (sym names) ∙ later.defined);
       added = h.1.added ++ later.added;
       joined =
           joining-append (keys before) h.1.units later.all
-          ∙ ap₂ (λ a b. a ++ b) h.1.joined (ap (λ n. joining n later.all) (sym names) ∙ later.joined)
-          ∙ sym (map-append (λ (u : DwarfObject × Meaning). let v : DwarfObject × Option Meaning = (u.0, Some u.1) in v) h.1.added later.added);
+          ∙ ap₂ (λ a b. a ++ b) h.1.joined (ap (λ n. joining n later.all)
+          (sym names) ∙ later.joined)
+          ∙ sym (map-append (λ (u : DwarfObject × Meaning). let v : DwarfObject × Option Meaning =
+          (u.0, Some u.1) in v) h.1.added later.added);
       is = later.is ∙ ap (λ l. l ++ later.added) h.1.is ∙ append_assoc before h.1.added later.added;
     }
 
@@ -67,8 +89,16 @@ record Parted (front back : Units) (units : Members) : Type 0 where
   second_is : back ≡ all_meant second
   whole : units ≡ first ++ second
 
-parted : (front back : Units) (units : Members) → front ++ back ≡ all_meant units → Parted front back units
-parted [] back units h = record { first = []; second = units; first_is = refl; second_is = h; whole = refl }
+parted : (front back : Units) (units : Members) → front ++ back ≡ all_meant units
+    → Parted front back units
+parted [] back units h = record {
+  first = [];
+  second = units;
+  first_is = refl;
+  second_is =
+      h;
+  whole = refl;
+}
 parted (u ∷ us) back [] h = absurd cc
 parted (u ∷ us) back (v ∷ vs) h =
     let head : u ≡ (v.0, Some v.1) = cc in
@@ -91,18 +121,38 @@ both-true true b h = (refl, h)
 both-true false b h = absurd (true≢false (sym h))
 
 -- and the join of that list is the join of the inputs
-pub joins-all : (inputs : List (List ℕ)) (all : Units) (before added : Members) → AllMean inputs all → can_join (keys before) all ≡ true → joining (keys before) all ≡ all_meant added → JoinAll inputs before (before ++ added)
+pub joins-all : (inputs : List (List ℕ)) (all : Units) (before added : Members) → AllMean inputs all
+    → can_join (keys before) all ≡ true → joining (keys before) all ≡ all_meant added
+    → JoinAll inputs before (before ++ added)
 joins-all [] all before added meant defined joined =
-    ap (λ l. before ++ l) (none-meant added (sym (ap (joining (keys before)) meant) ∙ joined)) ∙ append-nil before
+    ap (λ l. before ++ l) (none-meant added (sym (ap (joining (keys before)) meant) ∙ joined)) ∙
+    append-nil before
 joins-all (bytes ∷ rest) all before added meant defined joined =
     let here = meant.0.here in
     let later = meant.0.later in
     let names = keys before ++ keys (joining (keys before) here) in
-    let both = both-true (can_join (keys before) here) (can_join names later) (sym (can_join-append (keys before) here later) ∙ sym (ap (can_join (keys before)) meant.3) ∙ defined) in
-    let parts = parted (joining (keys before) here) (joining names later) added (sym (joining-append (keys before) here later) ∙ sym (ap (joining (keys before)) meant.3) ∙ joined) in
+    let both = both-true (can_join (keys before) here) (can_join names later)
+    (sym (can_join-append (keys before) here later) ∙ sym (ap (can_join (keys before))
+    meant.3) ∙ defined) in
+    let parts = parted (joining (keys before) here) (joining names later) added
+    (sym (joining-append (keys before) here later) ∙ sym (ap (joining (keys before))
+    meant.3) ∙ joined) in
     let middle = before ++ parts.first in
     let named : keys middle ≡ names = names-then before parts.first here parts.first_is in
-    let step : Joins bytes before middle = record { units = here; meaning = meant.1; defined = both.0; added = parts.first; joined = parts.first_is; is = refl } in
+    let step : Joins bytes before middle = record {
+      units = here;
+      meaning = meant.1;
+      defined =
+          both.0;
+      added = parts.first;
+      joined = parts.first_is;
+      is = refl;
+    } in
     let further : JoinAll rest middle (middle ++ parts.second) =
-    joins-all rest later middle parts.second meant.2 (ap (λ n. can_join n later) named ∙ both.1) (ap (λ n. joining n later) named ∙ parts.second_is) in
-    (middle, step, subst (λ l. JoinAll rest middle l) (append_assoc before parts.first parts.second ∙ ap (λ l. before ++ l) (sym parts.whole)) further)
+    joins-all rest later middle parts.second meant.2 (ap (λ n. can_join n later) named ∙ both.1)
+    (ap (λ n. joining n later) named ∙ parts.second_is) in (
+      middle,
+      step,
+      subst (λ l. JoinAll rest middle l) (append_assoc before parts.first parts.second
+          ∙ ap (λ l. before ++ l) (sym parts.whole)) further,
+    )

@@ -1,5 +1,6 @@
 -- A package that loses nothing of what it had.
-use Rattle.std.proofs.Common.{◌≡◌, ◌∙◌, ℕ, ◌≤◌, Bool, true, false, cond, List, ◌++◌, length, take, min, ap, sym, refl, arith, Ok, Result}
+use Rattle.std.proofs.Common.{◌≡◌, ◌∙◌, ℕ, ◌≤◌, Bool, true, false, cond, List, ◌++◌, length, take}
+use Rattle.std.proofs.Common.{min, ap, sym, refl, arith, Ok, Result}
 use Rattle.std.proofs.lemmas.List.{length-take, take-append-le}
 use Rattle.std.proofs.Math.Seq.{take-length}
 use Rattle.dwp_elf.specs.FileText.{Object as File}
@@ -7,13 +8,15 @@ use Rattle.thorin_input.specs.Growing.{Contents, IsGrown, with_parts}
 use Rattle.thorin_input.specs.Indexes.{Source}
 use Rattle.thorin_input.specs.NewUnits.{New, new_units}
 use Rattle.thorin_input.specs.Parts.{parts_of}
-use Rattle.thorin_join.specs.State.{InProgress, Extends, with_source, with_all, with_new_units, abbreviations_test, adding}
+use Rattle.thorin_join.specs.State.{InProgress, Extends, with_source, with_all, with_new_units}
+use Rattle.thorin_join.specs.State.{abbreviations_test, adding}
 use Rattle.thorin_input.specs.Used.{InputFile}
 use Rattle.thorin_builder.proofs.Grown.{is_grown-refl}
 use Rattle.dwp_base.specs.Reading.{◌>>=◌}
 
 -- a step that gives x goes on with it
-bind-ok : {A B E : Type 0} (r : Result A E) (x : A) (f : A → Result B E) → r ≡ Ok x → (r >>= f) ≡ f x
+bind-ok : {A B E : Type 0} (r : Result A E) (x : A) (f : A → Result B E) → r ≡ Ok x
+    → (r >>= f) ≡ f x
 bind-ok r x f h = ap (λ q. q >>= f) h
 
 -- what stands at the front of a list isn't longer than it
@@ -23,11 +26,13 @@ at_most a b h =
     omega arith
 
 -- it stays there where more is added behind
-pub front-append : {A : Type 0} (a b x : List A) → take (length a) b ≡ a → take (length a) (b ++ x) ≡ a
+pub front-append : {A : Type 0} (a b x : List A) → take (length a) b ≡ a
+    → take (length a) (b ++ x) ≡ a
 front-append a b x h = take-append-le (length a) b x (at_most a b h) ∙ h
 
 -- also where nothing may be added
-pub front-either : {A : Type 0} (a b x : List A) (c : Bool) → take (length a) b ≡ a → take (length a) (cond c (b ++ x) b) ≡ a
+pub front-either : {A : Type 0} (a b x : List A) (c : Bool) → take (length a) b ≡ a
+    → take (length a) (cond c (b ++ x) b) ≡ a
 front-either a b x true h = front-append a b x h
 front-either a b x false h = h
 
@@ -40,27 +45,43 @@ extends-refl p = record {
 }
 
 -- a file that grew, and more strings and signatures
-pub extends-with : (before p : InProgress) (f : File) (strings : List (List ℕ)) (differing : List ℕ) → IsGrown before.file f
-    → take (length before.strings) strings ≡ before.strings → take (length before.differing) differing ≡ before.differing
+pub extends-with : (before p : InProgress) (f : File) (strings : List (List ℕ)) (differing : List ℕ)
+    → IsGrown before.file f
+    → take (length before.strings) strings ≡ before.strings → take (length before.differing)
+    differing ≡ before.differing
     → take (length before.rows) p.rows ≡ before.rows
     → Extends before (record p { file = f; strings = strings; differing = differing })
-extends-with before p f strings differing hf hs hd hr = record { file = hf; strings = hs; rows = hr; differing = hd }
+extends-with before p f strings differing hf hs hd hr = record {
+  file = hf;
+  strings = hs;
+  rows = hr;
+  differing = hd;
+}
 
-abbreviations-there : (object : InputFile) → object.has_abbreviations ≡ true → abbreviations_test object ≡ Ok tt
+abbreviations-there : (object : InputFile) → object.has_abbreviations ≡ true
+    → abbreviations_test object ≡ Ok tt
 unfolding abbreviations_test
 abbreviations-there object h = rw h
 
 -- the steps of an input
-pub with_source-is : (source : Source) (p : InProgress) (parts : Contents × List (List ℕ)) (new : New)
-    → parts_of source p.strings ≡ Ok parts → source.object.has_abbreviations ≡ true → new_units (adding source p parts.0) ≡ Ok new
+pub with_source-is : (source : Source) (p : InProgress) (parts : Contents
+    × List (List ℕ)) (new : New)
+    → parts_of source p.strings ≡ Ok parts → source.object.has_abbreviations ≡ true
+    → new_units (adding source p parts.0) ≡ Ok new
     → with_source source p ≡ Ok (with_all p parts new)
 unfolding with_source
 with_source-is source p parts new hp ha hn =
-    bind-ok (parts_of source p.strings) parts _ hp ∙ bind-ok (abbreviations_test source.object) tt _ (abbreviations-there source.object ha) ∙ bind-ok (new_units (adding source p parts.0)) new _ hn
+    bind-ok (parts_of source p.strings) parts _ hp ∙ bind-ok (abbreviations_test source.object) tt _
+    (abbreviations-there source.object ha) ∙ bind-ok (new_units (adding source p parts.0)) new _
+    hn
 
 -- what is added, one after the other
 pub with_all-is : (p : InProgress) (parts : Contents × List (List ℕ)) (new : New) (q r : InProgress)
-    → q ≡ record p { file = record p.file { contents = with_parts parts.0 p.file.contents }; strings = parts.1; differing = p.differing ++ new.differing }
+    → q ≡ record p {
+      file = record p.file { contents = with_parts parts.0 p.file.contents };
+      strings = parts.1;
+      differing = p.differing ++ new.differing;
+    }
     → r ≡ with_new_units q new.units
     → with_all p parts new ≡ r
 unfolding with_all

@@ -9,4 +9,10 @@ begins-refl [] = tt
 begins-refl (c ∷ cs) = (refl, record { rest = []; is = sym (append-nil c.1) }, begins-refl cs)
 
 pub is_grown-refl : (o : Object) → IsGrown o o
-is_grown-refl o = record { class = refl; machine = refl; order = refl; contents = begins-refl o.contents }
+is_grown-refl o = record {
+  class = refl;
+  machine = refl;
+  order = refl;
+  contents =
+      begins-refl o.contents;
+}

@@ -1,5 +1,6 @@
 -- The one encoding that a builder holds, as a step with an input leaves it.
-use Rattle.std.proofs.Common.{◌≡◌, ◌∙◌, ℕ, ◌<◌, ◌≤◌, true, false, cond, List, length, refl, sym, ap, Result, Ok, Option, Some, None, arith, true≢false}
+use Rattle.std.proofs.Common.{◌≡◌, ◌∙◌, ℕ, ◌<◌, ◌≤◌, true, false, cond, List, length, refl, sym, ap}
+use Rattle.std.proofs.Common.{Result, Ok, Option, Some, None, arith, true≢false}
 use Rattle.std.specs.Prelude.{is_some, is_none}
 use Rattle.std.proofs.lemmas.Bool.{le-ltb, lt-ltb}
 use Rattle.dwp_base.specs.Reading.{◌>>=◌}
@@ -10,7 +11,8 @@ use Rattle.thorin_join.specs.OwnUnits.{HoldsOwn, HasOneEncoding}
 use Rattle.thorin_join.specs.State.{InProgress}
 
 -- a step that gives x goes on with it
-bind-ok : {A B E : Type 0} (r : Result A E) (x : A) (f : A → Result B E) → r ≡ Ok x → (r >>= f) ≡ f x
+bind-ok : {A B E : Type 0} (r : Result A E) (x : A) (f : A → Result B E) → r ≡ Ok x
+    → (r >>= f) ≡ f x
 bind-ok r x f h = ap (λ q. q >>= f) h
 
 -- a builder whose inputs have one encoding
@@ -19,39 +21,58 @@ one-of state holds there = by-own state.own refl there
   where
     by-own : (own : Option Encoding) → state.own ≡ own → is_some own ≡ true → HasOneEncoding state
     by-own None e h = absurd (true≢false (sym h))
-    by-own (Some encoding) e h = record { encoding = encoding; own = e; some = holds.some encoding e; all = holds.all encoding e }
+    by-own (Some encoding) e h = record {
+      encoding = encoding;
+      own = e;
+      some =
+          holds.some encoding e;
+      all = holds.all encoding e;
+    }
 
 -- ---- what is kept beside the package
 
-pub taken-as : (bytes : List ℕ) (old : State) (now : Option InProgress) (found own : Option Encoding)
-    → with_input bytes old.begun ≡ Ok now → own_encoding bytes ≡ Ok found → own_after old now found ≡ own → taken bytes old ≡ Ok (record old { begun = now; own = own })
+pub taken-as : (bytes : List ℕ) (old : State) (now : Option InProgress)
+    (found own : Option Encoding)
+    → with_input bytes old.begun ≡ Ok now → own_encoding bytes ≡ Ok found → own_after old now found
+    ≡ own → taken bytes old ≡ Ok (record old { begun = now; own = own })
 unfolding taken
-taken-as bytes old now found own h k e = bind-ok _ now _ h ∙ bind-ok _ found _ k ∙ ap (λ o. Ok (record old { begun = now; own = o })) e
+taken-as bytes old now found own h k e = bind-ok _ now _ h ∙ bind-ok _ found _ k ∙ ap (λ o.
+    Ok (record old { begun = now; own = o })) e
 
 -- no unit was added
-pub after-none : (old : State) (now : Option InProgress) (found : Option Encoding) (before after : ℕ) → before ≡ length (names_in old.begun) → after ≡ length (names_in now)
+pub after-none : (old : State) (now : Option InProgress) (found : Option Encoding)
+    (before after : ℕ) → before ≡ length (names_in old.begun) → after ≡ length (names_in now)
     → after ≤ before → own_after old now found ≡ None
 after-none old now found before after b a h =
-    ap (λ v. cond {A = Option Encoding} v (with_own old.begun old.own found) None) (le-ltb (length (names_in old.begun)) (length (names_in now)) (omega (arith, b, a, h)))
+    ap (λ v. cond {A = Option Encoding} v (with_own old.begun old.own found) None)
+    (le-ltb (length (names_in old.begun)) (length (names_in now)) (omega (arith, b, a, h)))
 
-more-than : (old : State) (now : Option InProgress) (found : Option Encoding) (before after : ℕ) → before ≡ length (names_in old.begun) → after ≡ length (names_in now)
+more-than : (old : State) (now : Option InProgress) (found : Option Encoding) (before after : ℕ)
+    → before ≡ length (names_in old.begun) → after ≡ length (names_in now)
     → before < after → own_after old now found ≡ with_own old.begun old.own found
 more-than old now found before after b a h =
-    ap (λ v. cond {A = Option Encoding} v (with_own old.begun old.own found) None) (lt-ltb (length (names_in old.begun)) (length (names_in now)) (omega (arith, b, a, h)))
+    ap (λ v. cond {A = Option Encoding} v (with_own old.begun old.own found) None)
+    (lt-ltb (length (names_in old.begun)) (length (names_in now)) (omega (arith, b, a, h)))
 
 -- by the first input, or by a later one
-pub after-first : (old : State) (now : Option InProgress) (found : Option Encoding) (before after : ℕ) → before ≡ length (names_in old.begun) → after ≡ length (names_in now)
+pub after-first : (old : State) (now : Option InProgress) (found : Option Encoding)
+    (before after : ℕ) → before ≡ length (names_in old.begun) → after ≡ length (names_in now)
     → before < after → is_none old.begun ≡ true → own_after old now found ≡ found
-after-first old now found before after b a h first = more-than old now found before after b a h ∙ by-begun old.begun first
+after-first old now found before after b a h first = more-than old now found before after b a h ∙
+    by-begun old.begun first
   where
-    by-begun : (begun : Option InProgress) → is_none begun ≡ true → with_own begun old.own found ≡ found
+    by-begun : (begun : Option InProgress) → is_none begun ≡ true
+        → with_own begun old.own found ≡ found
     by-begun None e = refl
     by-begun (Some made) e = absurd (true≢false (sym e))
 
-pub after-more : (old : State) (now : Option InProgress) (found : Option Encoding) (before after : ℕ) → before ≡ length (names_in old.begun) → after ≡ length (names_in now)
+pub after-more : (old : State) (now : Option InProgress) (found : Option Encoding)
+    (before after : ℕ) → before ≡ length (names_in old.begun) → after ≡ length (names_in now)
     → before < after → is_none old.begun ≡ false → own_after old now found ≡ common old.own found
-after-more old now found before after b a h later = more-than old now found before after b a h ∙ by-begun old.begun later
+after-more old now found before after b a h later = more-than old now found before after b a h ∙
+    by-begun old.begun later
   where
-    by-begun : (begun : Option InProgress) → is_none begun ≡ false → with_own begun old.own found ≡ common old.own found
+    by-begun : (begun : Option InProgress) → is_none begun ≡ false → with_own begun old.own found ≡
+        common old.own found
     by-begun None e = absurd (true≢false e)
     by-begun (Some made) e = refl

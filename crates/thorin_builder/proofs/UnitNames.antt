@@ -8,8 +8,10 @@ use Rattle.thorin_join.specs.Meaning.{Meaning, keys}
 use Rattle.thorin_join.specs.Represents.{meaning_at, units_of}
 use Rattle.thorin_join.specs.State.{InProgress, names_of}
 
-rows-keys : (order : Endianness) (contents : Contents) (strings : List (List ℕ)) (rows : List IndexEntry)
-    → keys (map {B = DwarfObject × Meaning} (λ row. (row.id, meaning_at order contents strings row)) rows) ≡ map (λ row. row.id) rows
+rows-keys : (order : Endianness) (contents : Contents) (strings : List (List ℕ))
+    (rows : List IndexEntry)
+    → keys (map {B = DwarfObject × Meaning} (λ row. (row.id, meaning_at order contents strings row))
+    rows) ≡ map (λ row. row.id) rows
 rows-keys order contents strings [] = refl
 rows-keys order contents strings (r ∷ rs) = ap (λ l. r.id ∷ l) (rows-keys order contents strings rs)
 

@@ -1,5 +1,6 @@
 -- Inputs taken one after the other.
-use Rattle.std.proofs.Common.{◌≡◌, ◌∙◌, ℕ, ◌+◌, List, [], ◌∷◌, ◌++◌, refl, sym, ap, subst, Result, Ok, Err, ◌<◌, if◌then◌else◌, inl, length, take, get_or, map, arith}
+use Rattle.std.proofs.Common.{◌≡◌, ◌∙◌, ℕ, ◌+◌, List, [], ◌∷◌, ◌++◌, refl, sym, ap, subst, Result}
+use Rattle.std.proofs.Common.{Ok, Err, ◌<◌, if◌then◌else◌, inl, length, take, get_or, map, arith}
 use Rattle.std.proofs.lemmas.List.{take_more, map-append, length-map}
 use Rattle.dwp_base.specs.Reading.{◌>>=◌}
 use Rattle.thorin_faults.specs.Fault.{Fault, fault_of, NoOutputObjectCreated}
@@ -16,56 +17,85 @@ use Rattle.thorin_join.specs.Join.{Joins, JoinAll, IsPackageOf}
 use Rattle.thorin_join.specs.Meaning.{Members}
 use Rattle.thorin_join.specs.Represents.{units_in}
 use Rattle.thorin_join.specs.Own.{packs_again}
-use Rattle.thorin_c.specs.Packing.{bytes_of, all_taken, Accepts, RefusesAt, StopsAt, Leaves, TellsRefused, TellsLeft, TellsUnfinished, Refuses, RunsOutAt, RunsOutAfter, IsPackage, Differ}
+use Rattle.thorin_c.specs.Packing.{bytes_of, all_taken, Accepts, RefusesAt, StopsAt, Leaves}
+use Rattle.thorin_c.specs.Packing.{TellsRefused, TellsLeft, TellsUnfinished, Refuses, RunsOutAt}
+use Rattle.thorin_c.specs.Packing.{RunsOutAfter, IsPackage, Differ}
 use Rattle.thorin_c.specs.declared.types.ThorinBytes.{ThorinBytes}
 
 abbrev value : Result State Fault → State → State
 value (Ok s) other = s
 value (Err e) other = other
 
-taken-next : (done : List ThorinBytes) (input : ThorinBytes) (old middle new : State) → all_taken done old ≡ Ok middle → taken input.bytes.now middle ≡ Ok new
+taken-next : (done : List ThorinBytes) (input : ThorinBytes) (old middle new : State)
+    → all_taken done old ≡ Ok middle → taken input.bytes.now middle ≡ Ok new
     → all_taken (done ++ input ∷ []) old ≡ Ok new
 taken-next [] input old middle new h k =
     let same : old ≡ middle = ap (λ r. value r old) h in
     ap (λ r. r >>= λ s. all_taken [] s) (subst (λ s. taken input.bytes.now s ≡ Ok new) (sym same) k)
-taken-next (x ∷ done) input old middle new h k = step (taken x.bytes.now old) (λ s g. taken-next done input s middle new g k) h where
-  step : (first : Result State Fault) → ((s : State) → all_taken done s ≡ Ok middle → all_taken (done ++ input ∷ []) s ≡ Ok new) → (first >>= λ s. all_taken done s) ≡ Ok middle → (first >>= λ s. all_taken (done ++ input ∷ []) s) ≡ Ok new
-  step (Ok s) next h = next s h
-  step (Err e) next h = absurd cc
+taken-next (x ∷ done) input old middle new h k = step (taken x.bytes.now old) (λ s g.
+    taken-next done input s middle new g k) h where
+      step : (first : Result State Fault) → ((s : State) → all_taken done s ≡ Ok middle
+          → all_taken (done ++ input ∷ []) s ≡ Ok new) → (first >>= λ s. all_taken done s) ≡ Ok middle
+          → (first >>= λ s. all_taken (done ++ input ∷ []) s) ≡ Ok new
+      step (Ok s) next h = next s h
+      step (Err e) next h = absurd cc
 
-joined-next : (done : List (List ℕ)) (bytes : List ℕ) (old middle new : Members) → JoinAll done old middle → Joins bytes middle new → JoinAll (done ++ bytes ∷ []) old new
+joined-next : (done : List (List ℕ)) (bytes : List ℕ) (old middle new : Members)
+    → JoinAll done old middle → Joins bytes middle new → JoinAll (done ++ bytes ∷ []) old new
 joined-next [] bytes old middle new h k = (new, subst (λ m. Joins bytes m new) h k, refl)
-joined-next (x ∷ done) bytes old middle new h k = (h.0, h.1, joined-next done bytes h.0 middle new h.2 k)
+joined-next (x ∷ done) bytes old middle new h k =
+    (h.0, h.1, joined-next done bytes h.0 middle new h.2 k)
 
 -- one more input is accepted
-pub accepts-next : (inputs : List ThorinBytes) (i : ℕ) (d : ThorinBytes) (old middle new : State) → i < length inputs → Accepts (take i inputs) old middle
-    → taken (get_or inputs i d).bytes.now middle ≡ Ok new → Joins (get_or inputs i d).bytes.now (units_in middle) (units_in new) → Accepts (take (i + 1) inputs) old new
+pub accepts-next : (inputs : List ThorinBytes) (i : ℕ) (d : ThorinBytes) (old middle new : State)
+    → i < length inputs → Accepts (take i inputs) old middle
+    → taken (get_or inputs i d).bytes.now middle ≡ Ok new → Joins (get_or inputs i d).bytes.now
+    (units_in middle) (units_in new) → Accepts (take (i + 1) inputs) old new
 accepts-next inputs i d old middle new h before now joins =
     subst (λ l. Accepts l old new) (sym (take_more inputs i d h)) (record {
       taken = taken-next (take i inputs) (get_or inputs i d) old middle new before.taken now;
-      joined = subst (λ l. JoinAll l (units_in old) (units_in new)) (sym (map-append (λ input. input.bytes.now) (take i inputs) (get_or inputs i d ∷ [])))
-          (joined-next (bytes_of (take i inputs)) (get_or inputs i d).bytes.now (units_in old) (units_in middle) (units_in new) before.joined joins);
+      joined = subst (λ l. JoinAll l (units_in old) (units_in new))
+          (sym (map-append (λ input. input.bytes.now) (take i inputs) (get_or inputs i d ∷ [])))
+          (joined-next (bytes_of (take i inputs)) (get_or inputs i d).bytes.now (units_in old)
+          (units_in middle) (units_in new) before.joined joins);
     })
 
 -- what is told of a refused input
-pub refuses : (inputs : List ThorinBytes) (old : State) (refusal : RefusedInput) (report : ThorinReport) → old ≡ start
-    → StopsAt inputs old refusal.number refusal.fault → TellsRefused refusal.number refusal.fault report → Refuses inputs report
+pub refuses : (inputs : List ThorinBytes) (old : State) (refusal : RefusedInput)
+    (report : ThorinReport) → old ≡ start
+    → StopsAt inputs old refusal.number refusal.fault → TellsRefused refusal.number refusal.fault
+    report → Refuses inputs report
 refuses inputs old refusal report is at told =
-    let here : RefusesAt inputs old refusal.number (fault_of refusal.fault) = record { within = at.within; state = at.state; before = at.before; refused = at.refused told.not_memory } in
+    let here : RefusesAt inputs old refusal.number (fault_of refusal.fault) =
+    record {
+      within = at.within;
+      state = at.state;
+      before = at.before;
+      refused =
+          at.refused told.not_memory;
+    } in
     record {
       fault = fault_of refusal.fault;
-      refused = subst (λ s. RefusesAt inputs s report.input (fault_of refusal.fault)) is (subst (λ n. RefusesAt inputs old n (fault_of refusal.fault)) (sym told.input) here);
+      refused = subst (λ s. RefusesAt inputs s report.input (fault_of refusal.fault)) is
+          (subst (λ n. RefusesAt inputs old n (fault_of refusal.fault)) (sym told.input) here);
       told = told.told;
     }
 
 -- and of one at which memory ran out
-pub runs_out_at : (inputs : List ThorinBytes) (old : State) (refusal : RefusedInput) (number : ℕ) → old ≡ start
-    → StopsAt inputs old refusal.number refusal.fault → number ≡ refusal.number → RunsOutAt inputs number
+pub runs_out_at : (inputs : List ThorinBytes) (old : State) (refusal : RefusedInput)
+    (number : ℕ) → old ≡ start
+    → StopsAt inputs old refusal.number refusal.fault → number ≡ refusal.number
+    → RunsOutAt inputs number
 runs_out_at inputs old refusal number is at here =
-    subst (λ n. RunsOutAt inputs n) (sym here) (record { within = at.within; state = at.state; before = subst (λ s. Accepts (take refusal.number inputs) s at.state) is at.before })
+    subst (λ n. RunsOutAt inputs n) (sym here) (record {
+      within = at.within;
+      state = at.state;
+      before = subst (λ s. Accepts (take refusal.number inputs) s at.state) is at.before;
+    })
 
 -- and of a package that can't be finished
-pub unfinished : (inputs : List ThorinBytes) (fault : Error) (report : ThorinReport) → Leaves inputs fault → TellsLeft fault report → TellsUnfinished inputs report
+pub unfinished : (inputs : List ThorinBytes) (fault : Error) (report : ThorinReport)
+    → Leaves inputs fault → TellsLeft fault report → TellsUnfinished inputs report
 unfinished inputs fault report is told = record {
   fault = fault_of fault;
   is = record { state = is.state; accepted = is.accepted; refused = is.refused told.not_memory };
@@ -73,7 +103,8 @@ unfinished inputs fault report is told = record {
 }
 
 -- and of one for which memory ran out
-pub runs_out_after : (inputs : List ThorinBytes) (fault : Error) (number : ℕ) → Leaves inputs fault → (fault ≡ error.Memory) × (number ≡ length inputs) → RunsOutAfter inputs number
+pub runs_out_after : (inputs : List ThorinBytes) (fault : Error) (number : ℕ) → Leaves inputs fault
+    → (fault ≡ error.Memory) × (number ≡ length inputs) → RunsOutAfter inputs number
 runs_out_after inputs fault number is out = record {
   some = subst (λ n. 0 < n) (sym out.1) (is.memory out.0);
   all = out.1;
@@ -82,8 +113,11 @@ runs_out_after inputs fault number is out = record {
 }
 
 -- the package of inputs that are all accepted
-pub packs : (inputs : List ThorinBytes) (old state : State) (signatures : List DebugTypeSignature) (bytes : List ℕ) → old ≡ start → Accepts inputs old state → IsWritten state bytes → IsPackageOf (units_in state) bytes
-    → map (λ s. s.0) signatures ≡ differing_in state → IsPackage inputs (length signatures) (if packs_again state then 1 else 0) bytes
+pub packs : (inputs : List ThorinBytes) (old state : State) (signatures : List DebugTypeSignature)
+    (bytes : List ℕ) → old ≡ start → Accepts inputs old state → IsWritten state bytes
+    → IsPackageOf (units_in state) bytes
+    → map (λ s. s.0) signatures ≡ differing_in state → IsPackage inputs (length signatures)
+    (if packs_again state then 1 else 0) bytes
 packs inputs old state signatures bytes is accepted written joined differ = record {
   state = state;
   accepted = subst (λ s. Accepts inputs s state) is accepted;
@@ -94,7 +128,9 @@ packs inputs old state signatures bytes is accepted written joined differ = reco
 }
 
 -- and why it can't be finished
-pub fails : (inputs : List ThorinBytes) (old state : State) (fault : Error) → old ≡ start → 0 < length inputs → Accepts inputs old state → MemoryAside fault (RefusesToWrite state (fault_of fault)) → Leaves inputs fault
+pub fails : (inputs : List ThorinBytes) (old state : State) (fault : Error) → old ≡ start
+    → 0 < length inputs → Accepts inputs old state
+    → MemoryAside fault (RefusesToWrite state (fault_of fault)) → Leaves inputs fault
 fails inputs old state fault is some accepted refused = record {
   state = state;
   accepted = subst (λ s. Accepts inputs s state) is accepted;
@@ -107,7 +143,8 @@ unfolding finish_test targets_test
 none_begun = refl
 
 -- no input makes no package
-pub none_fails : (inputs : List ThorinBytes) → length inputs ≡ 0 → Leaves inputs error.NoOutputObjectCreated
+pub none_fails : (inputs : List ThorinBytes) → length inputs ≡ 0
+    → Leaves inputs error.NoOutputObjectCreated
 none_fails [] e = record {
   state = start;
   accepted = record { taken = refl; joined = refl };
@@ -117,8 +154,10 @@ none_fails [] e = record {
 none_fails (x ∷ inputs) e = absurd (omega arith)
 
 -- the signatures of those that differ
-pub differs : (inputs : List ThorinBytes) (old state : State) (signatures : List DebugTypeSignature) (report : ThorinReport) (before now : List ℕ) → old ≡ start → Accepts inputs old state
-    → map (λ s. s.0) signatures ≡ differing_in state → report.differing ≡ length signatures → now ≡ written_over before (map (λ s. s.0) signatures) → Differ inputs report before now
+pub differs : (inputs : List ThorinBytes) (old state : State) (signatures : List DebugTypeSignature)
+    (report : ThorinReport) (before now : List ℕ) → old ≡ start → Accepts inputs old state
+    → map (λ s. s.0) signatures ≡ differing_in state → report.differing ≡ length signatures
+    → now ≡ written_over before (map (λ s. s.0) signatures) → Differ inputs report before now
 differs inputs old state signatures report before now is accepted differ count written = record {
   state = state;
   accepted = subst (λ s. Accepts inputs s state) is accepted;

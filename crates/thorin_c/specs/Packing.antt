@@ -147,7 +147,8 @@ pub record Differ (inputs : List ThorinBytes) (report : ThorinReport)
   pub count : report.differing ≡ length (differing_in state)
   pub signatures : new ≡ written_over old (differing_in state)
 
--- which fields of a report are written: at a package, at a refused input, at a package that can't be
+-- which fields of a report are written: at a package, at a refused input, at a package that can't
+-- be
 -- finished, where memory ran out; the others are as they were
 abbrev pub TellsOfPackage : ThorinReport → ThorinReport → Type 0
 TellsOfPackage old new = new ≡ record old {

@@ -13,12 +13,16 @@ pub entries-again : (entries : List RelocationEntry) → map entry_of (map pair_
 entries-again [] = refl
 entries-again (e ∷ es) = ap (λ rest. e ∷ rest) (entries-again es)
 
-pub loaded-is : (file target : Elf) (kind : DebugSection) (section : SectionMeaning) (bytes : List ℕ) (entries placed : List RelocationEntry) → target ≡ file
+pub loaded-is : (file target : Elf) (kind : DebugSection) (section : SectionMeaning)
+    (bytes : List ℕ) (entries placed : List RelocationEntry) → target ≡ file
     → debug_content kind section ≡ Ok bytes
-    → with_relocations file section.name (relocations_of target section.number) [] ≡ Ok (map pair_of entries)
+    → with_relocations file section.name (relocations_of target section.number) [] ≡ Ok
+    (map pair_of entries)
     → placed ≡ entries
     → loaded file kind section ≡ Ok (relocated_input placed 0 (input_section file.order bytes))
 unfolding loaded
 loaded-is file target kind section bytes entries placed same content found is =
-    let here : with_relocations file section.name (relocations_of file section.number) [] ≡ Ok (map pair_of entries) = ap (λ (f : Elf). with_relocations file section.name (relocations_of f section.number) []) (sym same) ∙ found in
+    let here : with_relocations file section.name (relocations_of file section.number) [] ≡ Ok
+    (map pair_of entries) = ap (λ (f : Elf). with_relocations file section.name
+    (relocations_of f section.number) []) (sym same) ∙ found in
     rw (content, here, entries-again entries, sym is)

@@ -17,4 +17,5 @@ text_of-some i h = ap (text_by i.bytes) (is_utf8-from_IsUtf8 i.bytes h)
 
 pub text_of-none : (i : Input) → ¬ IsUtf8 i.bytes → text_of i ≡ Err (GimliRead BadUtf8)
 unfolding text_of text_by
-text_of-none i h = ap (text_by i.bytes) (false_from_ne_true (is_utf8 i.bytes) (λ e. h (IsUtf8-from_is_utf8 i.bytes e)))
+text_of-none i h = ap (text_by i.bytes) (false_from_ne_true (is_utf8 i.bytes) (λ e.
+    h (IsUtf8-from_is_utf8 i.bytes e)))

@@ -2,7 +2,21 @@
 use Rattle.std.proofs.Common.{◌≡◌, false, refl, sym}
 use Rattle.std.specs.Prelude.{IsSome}
 use Rattle.std.proofs.lemmas.Bool.{false≢true}
-use Rattle.thorin_faults.specs.Fault.{Fault, ReadInput, ParseFileKind, ParseObjectFile, InvalidInputKind, DecompressData, NamelessSection, RelocationWithInvalidSymbol, MultipleRelocations, UnsupportedRelocation, MissingDwoName, NoCompilationUnits, NoDie, TopLevelDieNotUnit, MissingRequiredSection, ParseUnitAbbreviations, ParseUnitHeader, ParseUnit, IncompatibleIndexVersion, OffsetAtIndex, StrAtOffset, ParseIndex, UnitNotInIndex, RowNotInIndex, SectionNotInRow, EmptyUnit, MultipleDebugInfoSection, MultipleDebugTypesSection, NotSplitUnit, DuplicateUnit, MissingReferencedUnit, NoOutputObjectCreated, MixedInputEncodings, Io, ObjectRead, ObjectWrite, GimliRead, GimliWrite, Memory, NumberTooLarge, BadContribution, SectionOutsideFormat, RepeatedSection, BadStringOffsets, OverlappingStringOffsets}
+use Rattle.thorin_faults.specs.Fault.{Fault, ReadInput, ParseFileKind, ParseObjectFile}
+use Rattle.thorin_faults.specs.Fault.{InvalidInputKind, DecompressData, NamelessSection}
+use Rattle.thorin_faults.specs.Fault.{RelocationWithInvalidSymbol, MultipleRelocations}
+use Rattle.thorin_faults.specs.Fault.{UnsupportedRelocation, MissingDwoName, NoCompilationUnits}
+use Rattle.thorin_faults.specs.Fault.{NoDie, TopLevelDieNotUnit, MissingRequiredSection}
+use Rattle.thorin_faults.specs.Fault.{ParseUnitAbbreviations, ParseUnitHeader, ParseUnit}
+use Rattle.thorin_faults.specs.Fault.{IncompatibleIndexVersion, OffsetAtIndex, StrAtOffset}
+use Rattle.thorin_faults.specs.Fault.{ParseIndex, UnitNotInIndex, RowNotInIndex, SectionNotInRow}
+use Rattle.thorin_faults.specs.Fault.{EmptyUnit, MultipleDebugInfoSection}
+use Rattle.thorin_faults.specs.Fault.{MultipleDebugTypesSection, NotSplitUnit, DuplicateUnit}
+use Rattle.thorin_faults.specs.Fault.{MissingReferencedUnit, NoOutputObjectCreated}
+use Rattle.thorin_faults.specs.Fault.{MixedInputEncodings, Io, ObjectRead, ObjectWrite, GimliRead}
+use Rattle.thorin_faults.specs.Fault.{GimliWrite, Memory, NumberTooLarge, BadContribution}
+use Rattle.thorin_faults.specs.Fault.{SectionOutsideFormat, RepeatedSection, BadStringOffsets}
+use Rattle.thorin_faults.specs.Fault.{OverlappingStringOffsets}
 use Rattle.thorin_faults.specs.Text.{fault_text, is_passed_on}
 
 pub has_text : (fault : Fault) → is_passed_on fault ≡ false → IsSome (fault_text fault)

@@ -1,5 +1,6 @@
 -- Contents that grow, and what is taken back.
-use Rattle.std.proofs.Common.{◌≡◌, ◌∙◌, ℕ, Bool, true, false, cond, List, [], ◌∷◌, ◌++◌, length, refl, ap, ◌==◌}
+use Rattle.std.proofs.Common.{◌≡◌, ◌∙◌, ℕ, Bool, true, false, cond, List, [], ◌∷◌, ◌++◌, length}
+use Rattle.std.proofs.Common.{refl, ap, ◌==◌}
 use Rattle.std.proofs.Math.Seq.{take-append_seam}
 use Rattle.std.proofs.lemmas.List.{append_assoc}
 use Rattle.dwp_base.specs.declared.section.SectionKind.{SectionKind}
@@ -9,22 +10,35 @@ use Rattle.dwp_elf.specs.FileText.{Object}
 use Rattle.thorin_input.specs.Growing.{Contents, Begins, IsGrown, with_bytes, lengths}
 
 -- bytes that are added to a content
-begins-here : (c d : SectionKind × List ℕ) (cs ds : Contents) (x : List ℕ) (kind : SectionKind) (b : Bool)
-    → Begins (c ∷ cs) (d ∷ ds) → Begins cs (appended kind x ds) → Begins (c ∷ cs) (cond b ((d.0, d.1 ++ x) ∷ ds) (d ∷ appended kind x ds))
-begins-here c d cs ds x kind true h later =
-    (h.0, record { rest = h.1.rest ++ x; is = ap (λ v. v ++ x) h.1.is ∙ append_assoc c.1 h.1.rest x }, h.2)
+begins-here : (c d : SectionKind × List ℕ) (cs ds : Contents) (x : List ℕ)
+    (kind : SectionKind) (b : Bool)
+    → Begins (c ∷ cs) (d ∷ ds) → Begins cs (appended kind x ds)
+    → Begins (c ∷ cs) (cond b ((d.0, d.1 ++ x) ∷ ds) (d ∷ appended kind x ds))
+begins-here c d cs ds x kind true h later = (
+  h.0,
+  record {
+    rest = h.1.rest ++ x;
+    is = ap (λ v. v ++ x) h.1.is ∙ append_assoc c.1
+        h.1.rest x;
+  },
+  h.2,
+)
 begins-here c d cs ds x kind false h later = (h.0, h.1, later)
 
-pub begins-appended : (kind : SectionKind) (x : List ℕ) (a b : Contents) → Begins a b → Begins a (appended kind x b)
+pub begins-appended : (kind : SectionKind) (x : List ℕ) (a b : Contents) → Begins a b
+    → Begins a (appended kind x b)
 begins-appended kind x [] b h = tt
 begins-appended kind x (c ∷ cs) [] h = absurd h
-begins-appended kind x (c ∷ cs) (d ∷ ds) h = begins-here c d cs ds x kind (same_kind d.0 kind) h (begins-appended kind x cs ds h.2)
+begins-appended kind x (c ∷ cs) (d ∷ ds) h = begins-here c d cs ds x kind (same_kind d.0 kind) h
+    (begins-appended kind x cs ds h.2)
 
-begins-cond : (kind : SectionKind) (x : List ℕ) (a b : Contents) (e : Bool) → Begins a b → Begins a (cond e b (appended kind x b))
+begins-cond : (kind : SectionKind) (x : List ℕ) (a b : Contents) (e : Bool) → Begins a b
+    → Begins a (cond e b (appended kind x b))
 begins-cond kind x a b true h = h
 begins-cond kind x a b false h = begins-appended kind x a b h
 
-pub begins-with_bytes : (kind : SectionKind) (x : List ℕ) (a b : Contents) → Begins a b → Begins a (with_bytes kind x b)
+pub begins-with_bytes : (kind : SectionKind) (x : List ℕ) (a b : Contents) → Begins a b
+    → Begins a (with_bytes kind x b)
 begins-with_bytes kind x a b h = begins-cond kind x a b (length x == 0) h
 
 -- cut to their lengths, the contents are those from before
@@ -32,9 +46,21 @@ pub truncated-begins : (a b : Contents) → Begins a b → truncated b (lengths 
 truncated-begins [] [] h = refl
 truncated-begins [] (d ∷ ds) h = refl
 truncated-begins (c ∷ cs) [] h = absurd h
-truncated-begins (c ∷ cs) (d ∷ ds) h = rw (h.0, h.1.is, take-append_seam c.1 h.1.rest, truncated-begins cs ds h.2)
+truncated-begins (c ∷ cs) (d ∷ ds) h = rw (
+  h.0,
+  h.1.is,
+  take-append_seam c.1 h.1.rest,
+  truncated-begins cs ds h.2,
+)
 
 -- nothing is lost where bytes are added to a section
-pub is_grown-with_bytes : (before o : Object) (kind : SectionKind) (x : List ℕ) → IsGrown before o → IsGrown before (record o { contents = with_bytes kind x o.contents })
+pub is_grown-with_bytes : (before o : Object) (kind : SectionKind) (x : List ℕ) → IsGrown before o
+    → IsGrown before (record o { contents = with_bytes kind x o.contents })
 is_grown-with_bytes before o kind x h =
-    record { class = h.class; machine = h.machine; order = h.order; contents = begins-with_bytes kind x before.contents o.contents h.contents }
+    record {
+      class = h.class;
+      machine = h.machine;
+      order = h.order;
+      contents =
+          begins-with_bytes kind x before.contents o.contents h.contents;
+    }

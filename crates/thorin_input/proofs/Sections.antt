@@ -6,13 +6,15 @@ use Rattle.thorin_faults.specs.Fault.{Fault}
 use Rattle.thorin_input.specs.Used.{Used, with_used, used_kind, used_from}
 
 -- the sections alone
-pub map-placed : (e : Elf) (ss : List SectionMeaning) → map (λ (p : Placed). p.section) (placed_sections e ss) ≡ ss
+pub map-placed : (e : Elf) (ss : List SectionMeaning) → map (λ (p : Placed). p.section)
+    (placed_sections e ss) ≡ ss
 map-placed e [] = refl
 map-placed e (s ∷ ss) = ap (λ xs. s ∷ xs) (map-placed e ss)
 
 -- one more section that is used, or passed over
 pub used_from-step : (u v : List Used) (l rest : List Placed) (p : Placed) → l ≡ p ∷ rest → with_used u p.section (used_kind p.section) ≡ Ok v
-    → used_from v (map (λ (q : Placed). q.section) rest) ≡ used_from u (map (λ (q : Placed). q.section) l)
+    → used_from v (map (λ (q : Placed). q.section) rest) ≡ used_from u
+    (map (λ (q : Placed). q.section) l)
 unfolding used_from
 used_from-step u v l rest p h step = rw (h, step)
 

@@ -1,5 +1,6 @@
 -- One walk over the sections of an input: what is known of those so far, with those that are left.
-use Rattle.std.proofs.Common.{◌≡◌, ◌∙◌, ℕ, Bool, true, false, cond, not, eqb, ◌||◌, ◌&&◌, List, [], ◌∷◌, map, Option, Some, None, Result, Ok, Err, refl, sym, ap, subst}
+use Rattle.std.proofs.Common.{◌≡◌, ◌∙◌, ℕ, Bool, true, false, cond, not, eqb, ◌||◌, ◌&&◌, List, []}
+use Rattle.std.proofs.Common.{◌∷◌, map, Option, Some, None, Result, Ok, Err, refl, sym, ap, subst}
 use Rattle.std.specs.Prelude.{find, is_some}
 use Rattle.std.specs.List.{list_any}
 use Rattle.std.specs.Option.{option_and_then, ok_or}
@@ -19,7 +20,8 @@ use Rattle.thorin_faults.specs.Fault.{Fault, fault_of, DecompressData, ObjectRea
 use Rattle.thorin_faults.specs.Answers.{Gives, MemoryAside, as_fault}
 use Rattle.thorin_faults.specs.declared.fault.Error.{Error}
 use Rattle.thorin_input.specs.Encodings.{is_index, is_plain}
-use Rattle.thorin_input.specs.Used.{Used, InputFile, is_present, used_kind, unusable, used_bytes, has_kind, with_used, used_from, input_file_of}
+use Rattle.thorin_input.specs.Used.{Used, InputFile, is_present, used_kind, unusable, used_bytes}
+use Rattle.thorin_input.specs.Used.{has_kind, with_used, used_from, input_file_of}
 use Rattle.thorin_input.specs.View as view
 use Rattle.thorin_input.specs.declared.object.InputObject.{InputObject}
 use Rattle.thorin_input.specs.declared.object.UsedSection.{UsedSection}
@@ -27,60 +29,74 @@ use Rattle.thorin_input.specs.declared.walk.Taken.{Taken}
 use Rattle.thorin_input.proofs.Sections.{used_from-step, used_from-fault, used_from-end}
 
 -- a step that gives x goes on with it
-bind-ok : {A B E : Type 0} (r : Result A E) (x : A) (f : A → Result B E) → r ≡ Ok x → (r >>= f) ≡ f x
+bind-ok : {A B E : Type 0} (r : Result A E) (x : A) (f : A → Result B E) → r ≡ Ok x
+    → (r >>= f) ≡ f x
 bind-ok r x f h = ap (λ q. q >>= f) h
 
 -- ---- one section
 
 -- the two spellings of a name
-pub called_is_of : (kind : SectionKind) (name : Option (List ℕ)) → (name_is (name_of kind) name || name_is (compressed_name_of kind) name) ≡ has_name kind name
+pub called_is_of : (kind : SectionKind) (name : Option (List ℕ))
+    → (name_is (name_of kind) name || name_is (compressed_name_of kind) name) ≡ has_name kind name
 called_is_of kind None = refl
 called_is_of kind (Some own) = refl
 
 -- the kind of a section without bytes, and of one that has some
-pub kind-empty : (s : SectionMeaning) → (eqb s.size 0 || eqb s.kind SHT_NOBITS) ≡ true → used_kind s ≡ None
+pub kind-empty : (s : SectionMeaning) → (eqb s.size 0 || eqb s.kind SHT_NOBITS) ≡ true
+    → used_kind s ≡ None
 unfolding used_kind is_of_kind
 kind-empty s h = ap (λ e. find (λ kind. not e && has_name kind s.name) all_kinds) h
 
-full-kind : (name : Option (List ℕ)) → find (λ kind. true && has_name kind name) all_kinds ≡ option_and_then kind_named name
+full-kind : (name : Option (List ℕ)) → find (λ kind. true && has_name kind name) all_kinds ≡
+    option_and_then kind_named name
 full-kind None = refl
 full-kind (Some own) = refl
 
-pub kind-full : (s : SectionMeaning) → (eqb s.size 0 || eqb s.kind SHT_NOBITS) ≡ false → used_kind s ≡ option_and_then kind_named s.name
+pub kind-full : (s : SectionMeaning) → (eqb s.size 0 || eqb s.kind SHT_NOBITS) ≡ false
+    → used_kind s ≡ option_and_then kind_named s.name
 unfolding used_kind is_of_kind
-kind-full s h = ap (λ e. find (λ kind. not e && has_name kind s.name) all_kinds) h ∙ full-kind s.name
+kind-full s h = ap (λ e. find (λ kind. not e && has_name kind s.name) all_kinds) h ∙
+    full-kind s.name
 
 -- the content of a compressed section, and of another
-older : (kind : SectionKind) (name : Option (List ℕ)) → name_is (compressed_name_of kind) name ≡ has_older_name kind name
+older : (kind : SectionKind) (name : Option (List ℕ)) → name_is (compressed_name_of kind) name ≡
+    has_older_name kind name
 older kind None = refl
 older kind (Some own) = refl
 
-range-fault : (content : Option (List ℕ)) → as_fault unusable (ok_or content SectionRange) ≡ as_fault ObjectRead (ok_or content SectionRange)
+range-fault : (content : Option (List ℕ)) → as_fault unusable (ok_or content SectionRange) ≡
+    as_fault ObjectRead (ok_or content SectionRange)
 range-fault None = refl
 range-fault (Some bytes) = refl
 
-choice : (kind : SectionKind) (s : SectionMeaning) (b : Bool) → (has_compressed_flag s || name_is (compressed_name_of kind) s.name) ≡ b
+choice : (kind : SectionKind) (s : SectionMeaning) (b : Bool)
+    → (has_compressed_flag s || name_is (compressed_name_of kind) s.name) ≡ b
     → used_bytes kind s ≡ as_fault unusable (cond b (Err Compressed) (ok_or s.content SectionRange))
 unfolding used_bytes contents.used_bytes
 choice kind s b h =
-    ap (λ n. as_fault unusable (cond (has_compressed_flag s || n) (Err Compressed) (ok_or s.content SectionRange))) (sym (older kind s.name))
+    ap (λ n. as_fault unusable (cond (has_compressed_flag s || n) (Err Compressed)
+    (ok_or s.content SectionRange))) (sym (older kind s.name))
     ∙ ap (λ c. as_fault unusable (cond c (Err Compressed) (ok_or s.content SectionRange))) h
 
-pub bytes-compressed : (kind : SectionKind) (s : SectionMeaning) → (has_compressed_flag s || name_is (compressed_name_of kind) s.name) ≡ true
+pub bytes-compressed : (kind : SectionKind) (s : SectionMeaning)
+    → (has_compressed_flag s || name_is (compressed_name_of kind) s.name) ≡ true
     → used_bytes kind s ≡ Err (DecompressData Compressed)
 bytes-compressed kind s h = choice kind s true h
 
-pub bytes-plain : (kind : SectionKind) (s : SectionMeaning) → (has_compressed_flag s || name_is (compressed_name_of kind) s.name) ≡ false
+pub bytes-plain : (kind : SectionKind) (s : SectionMeaning)
+    → (has_compressed_flag s || name_is (compressed_name_of kind) s.name) ≡ false
     → used_bytes kind s ≡ as_fault ObjectRead (ok_or s.content SectionRange)
 bytes-plain kind s h = choice kind s false h ∙ range-fault s.content
 
 -- ---- kinds among those that are used
 
-pub found-any : {A : Type 0} (test : A → Bool) (xs : List A) → is_some (find test xs) ≡ list_any test xs
+pub found-any : {A : Type 0} (test : A → Bool) (xs : List A) → is_some (find test xs) ≡
+    list_any test xs
 found-any test [] = refl
 found-any {A = A} test (x ∷ xs) = by (test x) (found-any test xs)
   where
-    by : (b : Bool) → is_some (find test xs) ≡ list_any test xs → is_some (cond b (Some x) (find test xs)) ≡ (b || list_any test xs)
+    by : (b : Bool) → is_some (find test xs) ≡ list_any test xs
+        → is_some (cond b (Some x) (find test xs)) ≡ (b || list_any test xs)
     by true h = refl
     by false h = h
 
@@ -92,16 +108,22 @@ both false true false y = refl
 both false false x y = refl
 
 pub either-index : (ss : List UsedSection)
-    → (list_any (has_kind kinds.CuIndex) (map view.used ss) || list_any (has_kind kinds.TuIndex) (map view.used ss))
-    ≡ list_any (λ (s : UsedSection). same_kind s.kind kinds.CuIndex || same_kind s.kind kinds.TuIndex) ss
+    → (list_any (has_kind kinds.CuIndex) (map view.used ss) || list_any (has_kind kinds.TuIndex)
+    (map view.used ss))
+    ≡ list_any (λ (s : UsedSection). same_kind s.kind kinds.CuIndex || same_kind s.kind
+    kinds.TuIndex) ss
 either-index [] = refl
 either-index (s ∷ ss) =
-    both (same_kind s.kind kinds.CuIndex) (list_any (has_kind kinds.CuIndex) (map view.used ss)) (same_kind s.kind kinds.TuIndex) (list_any (has_kind kinds.TuIndex) (map view.used ss))
-    ∙ ap (λ r. (same_kind s.kind kinds.CuIndex || same_kind s.kind kinds.TuIndex) || r) (either-index ss)
+    both (same_kind s.kind kinds.CuIndex) (list_any (has_kind kinds.CuIndex) (map view.used ss))
+    (same_kind s.kind kinds.TuIndex) (list_any (has_kind kinds.TuIndex) (map view.used ss))
+    ∙ ap (λ r. (same_kind s.kind kinds.CuIndex || same_kind s.kind kinds.TuIndex) || r)
+    (either-index ss)
 
-any-index : (ss : List UsedSection) → list_any (λ (s : UsedSection). same_kind s.kind kinds.CuIndex || same_kind s.kind kinds.TuIndex) ss ≡ list_any is_index (map view.used ss)
+any-index : (ss : List UsedSection) → list_any (λ (s : UsedSection). same_kind s.kind kinds.CuIndex
+    || same_kind s.kind kinds.TuIndex) ss ≡ list_any is_index (map view.used ss)
 any-index [] = refl
-any-index (s ∷ ss) = ap (λ r. (same_kind s.kind kinds.CuIndex || same_kind s.kind kinds.TuIndex) || r) (any-index ss)
+any-index (s ∷ ss) = ap (λ r. (same_kind s.kind kinds.CuIndex || same_kind s.kind kinds.TuIndex) ||
+    r) (any-index ss)
 
 pub plain-is : (o : InputObject) → o.plain ≡ is_plain (view.object o).sections
 plain-is o = o.no_index ∙ ap not (any-index o.sections.items)
@@ -109,14 +131,20 @@ plain-is o = o.no_index ∙ ap not (any-index o.sections.items)
 -- ---- the walk
 
 -- a test of a section so far, or of one of those that are left
-pub any-step : (test : SectionMeaning → Bool) (b : Bool) (l rest : List Placed) (p : Placed) → l ≡ p ∷ rest
-    → ((b || test p.section) || list_any test (map (λ (q : Placed). q.section) rest)) ≡ (b || list_any test (map (λ (q : Placed). q.section) l))
+pub any-step : (test : SectionMeaning → Bool) (b : Bool) (l rest : List Placed)
+    (p : Placed) → l ≡ p ∷ rest
+    → ((b || test p.section) || list_any test (map (λ (q : Placed). q.section) rest)) ≡
+    (b || list_any test (map (λ (q : Placed). q.section) l))
 any-step test b l rest p h =
-    or_assoc b (test p.section) (list_any test (map (λ (q : Placed). q.section) rest)) ∙ ap (λ x. b || list_any test (map (λ (q : Placed). q.section) x)) (sym h)
+    or_assoc b (test p.section) (list_any test (map (λ (q : Placed). q.section) rest)) ∙ ap (λ x.
+    b || list_any test (map (λ (q : Placed). q.section) x)) (sym h)
 
-pub any-end : (test : SectionMeaning → Bool) (b : Bool) (l : List Placed) (all : List SectionMeaning) → l ≡ []
-    → (b || list_any test (map (λ (q : Placed). q.section) l)) ≡ list_any test all → b ≡ list_any test all
-any-end test b l all e h = sym (or-false b) ∙ ap (λ x. b || list_any test (map (λ (q : Placed). q.section) x)) (sym e) ∙ h
+pub any-end : (test : SectionMeaning → Bool) (b : Bool) (l : List Placed)
+    (all : List SectionMeaning) → l ≡ []
+    → (b || list_any test (map (λ (q : Placed). q.section) l)) ≡ list_any test all
+    → b ≡ list_any test all
+any-end test b l all e h = sym (or-false b) ∙ ap (λ x.
+    b || list_any test (map (λ (q : Placed). q.section) x)) (sym e) ∙ h
 
 -- the used sections so far, with those that are left; or the fault of the first that can't be used
 abbrev pub taken : Taken → List Used
@@ -126,42 +154,90 @@ abbrev pub GoesOn : Result Taken Error → List SectionMeaning → Result (List 
 GoesOn (Ok t) rest all = used_from (taken t) rest ≡ all
 GoesOn (Err e) rest all = MemoryAside e (all ≡ Err (fault_of e))
 
-pub taken-step : (t n : Result Taken Error) (l rest : List Placed) (p : Placed) (all : Result (List Used) Fault) → l ≡ p ∷ rest
-    → MatchResult t (λ before. Gives taken n (with_used (taken before) p.section (used_kind p.section))) (λ e. n ≡ Err e)
-    → GoesOn t (map (λ (q : Placed). q.section) l) all → GoesOn n (map (λ (q : Placed). q.section) rest) all
-taken-step (Ok t) (Ok n) l rest p all h next goes = used_from-step (taken t) (taken n) l rest p h next ∙ goes
-taken-step (Ok t) (Err e) l rest p all h next goes = λ aside. sym goes ∙ used_from-fault (taken t) l rest p (fault_of e) h (next aside)
-taken-step (Err e) n l rest p all h next goes = subst (λ m. GoesOn m (map (λ (q : Placed). q.section) rest) all) (sym next) goes
+pub taken-step : (t n : Result Taken Error) (l rest : List Placed) (p : Placed)
+    (all : Result (List Used) Fault) → l ≡ p ∷ rest
+    → MatchResult t (λ before. Gives taken n (with_used (taken before) p.section
+    (used_kind p.section))) (λ e. n ≡ Err e)
+    → GoesOn t (map (λ (q : Placed). q.section) l) all
+    → GoesOn n (map (λ (q : Placed). q.section) rest) all
+taken-step (Ok t) (Ok n) l rest p all h next goes = used_from-step (taken t) (taken n) l
+    rest p h next ∙ goes
+taken-step (Ok t) (Err e) l rest p all h next goes = λ aside. sym goes ∙ used_from-fault (taken t) l
+    rest p (fault_of e) h (next aside)
+taken-step (Err e) n l rest p all h next goes =
+    subst (λ m. GoesOn m (map (λ (q : Placed). q.section) rest) all) (sym next) goes
 
-pub taken-end : (t : Result Taken Error) (l : List Placed) (all : Result (List Used) Fault) → l ≡ [] → GoesOn t (map (λ (q : Placed). q.section) l) all → Gives taken t all
+pub taken-end : (t : Result Taken Error) (l : List Placed) (all : Result (List Used) Fault) → l ≡ []
+    → GoesOn t (map (λ (q : Placed). q.section) l) all → Gives taken t all
 taken-end (Ok t) l all h goes = sym goes ∙ used_from-end (taken t) l h
 taken-end (Err e) l all h goes = goes
 
 -- what the whole walk gives
-input-is : (used : List Used) (file : Elf) (object : InputFile) → used_from [] file.sections ≡ Ok used
-    → object ≡ record { order = file.order; sections = used; has_strings = is_present kinds.Str file; has_abbreviations = is_present kinds.Abbrev file }
+input-is : (used : List Used) (file : Elf) (object : InputFile)
+    → used_from [] file.sections ≡ Ok used
+    → object ≡ record {
+      order = file.order;
+      sections = used;
+      has_strings = is_present kinds.Str
+          file;
+      has_abbreviations = is_present kinds.Abbrev file;
+    }
     → input_file_of file ≡ Ok object
 unfolding input_file_of
 input-is used file object h same = bind-ok (used_from [] file.sections) used _ h ∙ ap Ok (sym same)
 
-no-input : (fault : Fault) (file : Elf) → used_from [] file.sections ≡ Err fault → input_file_of file ≡ Err fault
+no-input : (fault : Fault) (file : Elf) → used_from [] file.sections ≡ Err fault
+    → input_file_of file ≡ Err fault
 unfolding input_file_of
-no-input fault file h = ap (λ r. r >>= λ sections. Ok (record { order = file.order; sections = sections; has_strings = is_present kinds.Str file; has_abbreviations = is_present kinds.Abbrev file })) h
+no-input fault file h = ap (λ r. r >>= λ sections.
+    Ok (record {
+      order = file.order;
+      sections = sections;
+      has_strings = is_present kinds.Str file;
+      has_abbreviations = is_present kinds.Abbrev file;
+    })) h
 
 same-object : (order : Endianness) (used : List Used) (strings abbreviations : Bool) (file : Elf)
-    → order ≡ file.order → strings ≡ is_present kinds.Str file → abbreviations ≡ is_present kinds.Abbrev file
-    → ◌≡◌ {A = InputFile} (record { order = order; sections = used; has_strings = strings; has_abbreviations = abbreviations })
-    (record { order = file.order; sections = used; has_strings = is_present kinds.Str file; has_abbreviations = is_present kinds.Abbrev file })
-same-object order used strings abbreviations file o s a = λ i. record { order = o i; sections = used; has_strings = s i; has_abbreviations = a i }
+    → order ≡ file.order → strings ≡ is_present kinds.Str file → abbreviations ≡ is_present
+    kinds.Abbrev file
+    → ◌≡◌ {A = InputFile} (record {
+      order = order;
+      sections = used;
+      has_strings = strings;
+      has_abbreviations = abbreviations;
+    })
+    (record {
+      order = file.order;
+      sections = used;
+      has_strings = is_present kinds.Str file;
+      has_abbreviations = is_present kinds.Abbrev file;
+    })
+same-object order used strings abbreviations file o s a = λ i. record {
+  order = o i;
+  sections =
+      used;
+  has_strings = s i;
+  has_abbreviations = a i;
+}
 
-pub walk-gives : (t : Result Taken Error) (r : Result InputObject Error) (order : Endianness) (strings abbreviations : Bool) (file : Elf)
-    → order ≡ file.order → strings ≡ is_present kinds.Str file → abbreviations ≡ is_present kinds.Abbrev file
+pub walk-gives : (t : Result Taken Error) (r : Result InputObject Error) (order : Endianness)
+    (strings abbreviations : Bool) (file : Elf)
+    → order ≡ file.order → strings ≡ is_present kinds.Str file → abbreviations ≡ is_present
+    kinds.Abbrev file
     → Gives taken t (used_from [] file.sections)
-    → MatchResult t (λ used. Gives view.object r (Ok (record { order = order; sections = taken used; has_strings = strings; has_abbreviations = abbreviations }))) (λ e. r ≡ Err e)
+    → MatchResult t (λ used. Gives view.object r (Ok (record {
+      order = order;
+      sections = taken used;
+      has_strings = strings;
+      has_abbreviations = abbreviations;
+    }))) (λ e. r ≡ Err e)
     → Gives view.object r (input_file_of file)
 walk-gives (Ok t) (Ok o) order strings abbreviations file ho hs ha used made =
-    input-is (taken t) file _ used (same-object order (taken t) strings abbreviations file ho hs ha) ∙ made
+    input-is (taken t) file _ used (same-object order (taken t) strings abbreviations file
+    ho hs ha) ∙ made
 walk-gives (Ok t) (Err e) order strings abbreviations file ho hs ha used made = λ aside.
-    input-is (taken t) file _ used (same-object order (taken t) strings abbreviations file ho hs ha) ∙ made aside
+    input-is (taken t) file _ used (same-object order (taken t) strings abbreviations file ho hs
+    ha) ∙ made aside
 walk-gives (Err e) r order strings abbreviations file ho hs ha used made =
-    subst (λ x. Gives view.object x (input_file_of file)) (sym made) (λ aside. no-input (fault_of e) file (used aside))
+    subst (λ x. Gives view.object x (input_file_of file)) (sym made) (λ aside. no-input (fault_of e)
+    file (used aside))

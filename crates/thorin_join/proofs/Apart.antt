@@ -1,5 +1,7 @@
 -- Names of units that are apart: no two places have one name.
-use Rattle.std.proofs.Common.{◌≡◌, ◌∙◌, ℕ, ◌<◌, Bool, true, false, not, cond, List, [], ◌∷◌, ◌++◌, length, map, true≢false, subst₂, inl, inr, get_or, All, AllPairs, ap, sym, subst, refl, arith, eq-eqb, eqb-true, append_assoc, append-nil}
+use Rattle.std.proofs.Common.{◌≡◌, ◌∙◌, ℕ, ◌<◌, Bool, true, false, not, cond, List, [], ◌∷◌, ◌++◌}
+use Rattle.std.proofs.Common.{length, map, true≢false, subst₂, inl, inr, get_or, All, AllPairs, ap}
+use Rattle.std.proofs.Common.{sym, subst, refl, arith, eq-eqb, eqb-true, append_assoc, append-nil}
 use Rattle.std.specs.List.{list_any}
 use Rattle.std.proofs.lemmas.Bool.{cases_order}
 use Rattle.std.proofs.lemmas.List.Elements.{filter_passes}
@@ -22,8 +24,10 @@ use Rattle.thorin_join.specs.Represents.{AreApart}
 -- one name is the other
 
 pub same_name-true : (a b : DwarfObject) → same_name a b ≡ true → a ≡ b
-same_name-true (Compilation a) (Compilation b) h = ap (λ n. Compilation (record { 0 = n })) (eqb-true a.0 b.0 h)
-same_name-true (TypeUnit a) (TypeUnit b) h = ap (λ n. TypeUnit (record { 0 = n })) (eqb-true a.0 b.0 h)
+same_name-true (Compilation a) (Compilation b) h = ap (λ n. Compilation (record { 0 = n }))
+    (eqb-true a.0 b.0 h)
+same_name-true (TypeUnit a) (TypeUnit b) h = ap (λ n. TypeUnit (record { 0 = n }))
+    (eqb-true a.0 b.0 h)
 same_name-true (Compilation a) (TypeUnit b) h = cc
 same_name-true (TypeUnit a) (Compilation b) h = cc
 
@@ -37,17 +41,24 @@ same_name-equal a b h = subst (λ c. same_name a c ≡ true) h (same_name-self a
 pub same_name-sym : (a b : DwarfObject) → same_name a b ≡ true → same_name b a ≡ true
 same_name-sym a b h = same_name-equal b a (sym (same_name-true a b h))
 
-not-among-by : (names : List DwarfObject) (name : DwarfObject) (k : ℕ) (d : DwarfObject) (b : Bool) → k < length names
+not-among-by : (names : List DwarfObject) (name : DwarfObject) (k : ℕ) (d : DwarfObject) (b : Bool)
+    → k < length names
     → list_any (same_name name) names ≡ false → same_name (get_or names k d) name ≡ b → b ≡ false
 not-among-by names name k d false h e s = refl
-not-among-by names name k d true h e s = absurd (true≢false (sym (list_any_at (same_name name) names k d h (same_name-sym (get_or names k d) name s)) ∙ e))
+not-among-by names name k d true h e s =
+    absurd (true≢false (sym (list_any_at (same_name name) names k d h
+    (same_name-sym (get_or names k d) name s)) ∙ e))
 
-not-among : (names : List DwarfObject) (name : DwarfObject) (k : ℕ) (d : DwarfObject) → k < length names
+not-among : (names : List DwarfObject) (name : DwarfObject) (k : ℕ) (d : DwarfObject)
+    → k < length names
     → list_any (same_name name) names ≡ false → same_name (get_or names k d) name ≡ false
-not-among names name k d h e = not-among-by names name k d (same_name (get_or names k d) name) h e refl
+not-among names name k d h e = not-among-by names name k d
+    (same_name (get_or names k d) name) h e refl
 
-pub apart-more : (names : List DwarfObject) (name : DwarfObject) → AreApart names → list_any (same_name name) names ≡ false → AreApart (names ++ name ∷ [])
-apart-more names name h e = all_pairs_push (λ a b. same_name a b ≡ false) names name h (λ k d within. not-among names name k d within e)
+pub apart-more : (names : List DwarfObject) (name : DwarfObject) → AreApart names
+    → list_any (same_name name) names ≡ false → AreApart (names ++ name ∷ [])
+apart-more names name h e = all_pairs_push (λ a b. same_name a b ≡ false) names name h
+    (λ k d within. not-among names name k d within e)
 
 pub apart-none : AreApart []
 apart-none i j d before within = absurd (omega arith)
@@ -57,52 +68,70 @@ pub joined_distinct : {X : Type 0} (names : List DwarfObject) (all : List (Dwarf
     → AreApart names → AreApart (names ++ map (λ u. u.0) (joining names all))
 joined_distinct names [] h = subst AreApart (sym (append-nil names)) h
 joined_distinct names (u ∷ rest) h =
-    by (list_any (same_name u.0) names) refl (joined_distinct names rest h) (joined_distinct (names ++ u.0 ∷ []) rest)
+    by (list_any (same_name u.0) names) refl (joined_distinct names rest h)
+    (joined_distinct (names ++ u.0 ∷ []) rest)
   where
     by : (b : Bool) → list_any (same_name u.0) names ≡ b
         → AreApart (names ++ map (λ e. e.0) (joining names rest))
-        → (AreApart (names ++ u.0 ∷ []) → AreApart ((names ++ u.0 ∷ []) ++ map (λ e. e.0) (joining (names ++ u.0 ∷ []) rest)))
-        → AreApart (names ++ map (λ e. e.0) (cond b (joining names rest) (u ∷ joining (names ++ u.0 ∷ []) rest)))
+        → (AreApart (names ++ u.0 ∷ []) → AreApart ((names ++ u.0 ∷ []) ++ map (λ e. e.0)
+        (joining (names ++ u.0 ∷ []) rest)))
+        → AreApart (names ++ map (λ e. e.0) (cond b (joining names rest)
+        (u ∷ joining (names ++ u.0 ∷ []) rest)))
     by true e there new = there
     by false e there new =
-        subst AreApart (append_assoc names (u.0 ∷ []) (map (λ d. d.0) (joining (names ++ u.0 ∷ []) rest))) (new (apart-more names u.0 h e))
+        subst AreApart (append_assoc names (u.0 ∷ [])
+        (map (λ d. d.0) (joining (names ++ u.0 ∷ []) rest))) (new (apart-more names u.0 h e))
 
 -- two rows of one kind with one identifier have one name
 
-same_row : (b : Bool) (r s : IndexEntry) → is_chosen b r ≡ true → is_chosen b s ≡ true → identifier_of r.id ≡ identifier_of s.id → same_name r.id s.id ≡ true
+same_row : (b : Bool) (r s : IndexEntry) → is_chosen b r ≡ true → is_chosen b s ≡ true
+    → identifier_of r.id ≡ identifier_of s.id → same_name r.id s.id ≡ true
 same_row true r s hr hs h = same_compilation r.id s.id hr hs h
   where
-    same_compilation : (x y : DwarfObject) → is_compilation x ≡ true → is_compilation y ≡ true → identifier_of x ≡ identifier_of y → same_name x y ≡ true
+    same_compilation : (x y : DwarfObject) → is_compilation x ≡ true → is_compilation y ≡ true
+        → identifier_of x ≡ identifier_of y → same_name x y ≡ true
     same_compilation (Compilation x) (Compilation y) hx hy e = eq-eqb x.0 y.0 e
     same_compilation (TypeUnit x) y hx hy e = absurd cc
     same_compilation (Compilation x) (TypeUnit y) hx hy e = absurd cc
 same_row false r s hr hs h = same_type r.id s.id hr hs h
   where
-    same_type : (x y : DwarfObject) → not (is_compilation x) ≡ true → not (is_compilation y) ≡ true → identifier_of x ≡ identifier_of y → same_name x y ≡ true
+    same_type : (x y : DwarfObject) → not (is_compilation x) ≡ true → not (is_compilation y) ≡ true
+        → identifier_of x ≡ identifier_of y → same_name x y ≡ true
     same_type (TypeUnit x) (TypeUnit y) hx hy e = eq-eqb x.0 y.0 e
     same_type (Compilation x) y hx hy e = absurd cc
     same_type (TypeUnit x) (Compilation y) hx hy e = absurd cc
 
-rows-apart : (rows : List IndexEntry) (names : List DwarfObject) → map (λ r. r.id) rows ≡ names → AreApart names → AllPairs (λ r s. same_name r.id s.id ≡ false) rows
+rows-apart : (rows : List IndexEntry) (names : List DwarfObject) → map (λ r. r.id) rows ≡ names
+    → AreApart names → AllPairs (λ r s. same_name r.id s.id ≡ false) rows
 rows-apart rows names h apart i j d before within =
-    let here : get_or names i d.id ≡ (get_or rows i d).id = sym (ap (λ n. get_or n i d.id) h) ∙ get_or-map (λ r. r.id) rows i d in
-    let there : get_or names j d.id ≡ (get_or rows j d).id = sym (ap (λ n. get_or n j d.id) h) ∙ get_or-map (λ r. r.id) rows j d in
-    let long : length rows ≡ length names = sym (length-map rows (λ (r : IndexEntry). r.id)) ∙ ap length h in
+    let here : get_or names i d.id ≡ (get_or rows i d).id = sym (ap (λ n. get_or n i d.id) h) ∙
+    get_or-map (λ r. r.id) rows i d in
+    let there : get_or names j d.id ≡ (get_or rows j d).id = sym (ap (λ n. get_or n j d.id) h) ∙
+    get_or-map (λ r. r.id) rows j d in
+    let long : length rows ≡ length names = sym (length-map rows (λ (r : IndexEntry). r.id))
+    ∙ ap length h in
     subst₂ (λ a b. same_name a b ≡ false) here there (apart i j d.id before (omega arith))
 
-ids-differ : (b : Bool) (rows : List IndexEntry) (d : IndexEntry) (i j : ℕ) → All (λ r. is_chosen b r ≡ true) rows → AllPairs (λ r s. same_name r.id s.id ≡ false) rows
+ids-differ : (b : Bool) (rows : List IndexEntry) (d : IndexEntry) (i j : ℕ)
+    → All (λ r. is_chosen b r ≡ true) rows → AllPairs (λ r s. same_name r.id s.id ≡ false) rows
     → i < j → j < length rows → get_or (entry_ids rows) i 0 ≡ get_or (entry_ids rows) j 0 → ⊥
 ids-differ b rows d i j chosen apart before within h =
-    let at : get_or (entry_ids rows) i 0 ≡ identifier_of (get_or rows i d).id = get_or-at (λ r. identifier_of r.id) rows i d 0 (omega arith) in
-    let to : get_or (entry_ids rows) j 0 ≡ identifier_of (get_or rows j d).id = get_or-at (λ r. identifier_of r.id) rows j d 0 within in
-    true≢false (sym (same_row b (get_or rows i d) (get_or rows j d) (chosen i d (omega arith)) (chosen j d within) (sym at ∙ h ∙ to)) ∙ apart i j d before within)
+    let at : get_or (entry_ids rows) i 0 ≡ identifier_of (get_or rows i d).id =
+    get_or-at (λ r. identifier_of r.id) rows i d 0 (omega arith) in
+    let to : get_or (entry_ids rows) j 0 ≡ identifier_of (get_or rows j d).id =
+    get_or-at (λ r. identifier_of r.id) rows j d 0 within in
+    true≢false (sym (same_row b (get_or rows i d) (get_or rows j d) (chosen i d (omega arith))
+    (chosen j d within) (sym at ∙ h ∙ to)) ∙ apart i j d before within)
 
 -- the identifiers of rows of one kind with names that are apart are distinct
-chosen-distinct : (b : Bool) (rows : List IndexEntry) → All (λ r. is_chosen b r ≡ true) rows → AllPairs (λ r s. same_name r.id s.id ≡ false) rows → AreDistinct (entry_ids rows)
+chosen-distinct : (b : Bool) (rows : List IndexEntry) → All (λ r. is_chosen b r ≡ true) rows
+    → AllPairs (λ r s. same_name r.id s.id ≡ false) rows → AreDistinct (entry_ids rows)
 chosen-distinct b [] chosen apart i j hi hj h = absurd (omega arith)
 chosen-distinct b (d ∷ rest) chosen apart i j hi hj h =
-    let li : i < length (d ∷ rest) = subst (λ n. i < n) (length-map (d ∷ rest) (λ (r : IndexEntry). identifier_of r.id)) hi in
-    let lj : j < length (d ∷ rest) = subst (λ n. j < n) (length-map (d ∷ rest) (λ (r : IndexEntry). identifier_of r.id)) hj in
+    let li : i < length (d ∷ rest) = subst (λ n. i < n) (length-map (d ∷ rest) (λ (r : IndexEntry).
+    identifier_of r.id)) hi in
+    let lj : j < length (d ∷ rest) = subst (λ n. j < n) (length-map (d ∷ rest) (λ (r : IndexEntry).
+    identifier_of r.id)) hj in
     elim (cases_order i j) [
       | inr (inl before) ↦ absurd (ids-differ b (d ∷ rest) d i j chosen apart before lj h)
       | inl same ↦ same
@@ -110,12 +139,17 @@ chosen-distinct b (d ∷ rest) chosen apart i j hi hj h =
     ]
 
 -- rows whose names are apart: those of one kind have distinct identifiers
-pub distinct_chosen : (b : Bool) (rows : List IndexEntry) (names : List DwarfObject) → map (λ r. r.id) rows ≡ names → AreApart names → AreDistinct (entry_ids (rows_of b rows))
+pub distinct_chosen : (b : Bool) (rows : List IndexEntry) (names : List DwarfObject)
+    → map (λ r. r.id) rows ≡ names → AreApart names → AreDistinct (entry_ids (rows_of b rows))
 distinct_chosen b rows names h apart =
-    chosen-distinct b (rows_of b rows) (filter_passes (is_chosen b) rows) (AllPairs-filter (λ r s. same_name r.id s.id ≡ false) (is_chosen b) rows (rows-apart rows names h apart))
+    chosen-distinct b (rows_of b rows) (filter_passes (is_chosen b) rows)
+    (AllPairs-filter (λ r s. same_name r.id s.id ≡ false) (is_chosen b) rows
+    (rows-apart rows names h apart))
 
-pub distinct_compilations : (rows : List IndexEntry) (names : List DwarfObject) → map (λ r. r.id) rows ≡ names → AreApart names → AreDistinct (entry_ids (rows_of true rows))
+pub distinct_compilations : (rows : List IndexEntry) (names : List DwarfObject)
+    → map (λ r. r.id) rows ≡ names → AreApart names → AreDistinct (entry_ids (rows_of true rows))
 distinct_compilations rows names h apart = distinct_chosen true rows names h apart
 
-pub distinct_types : (rows : List IndexEntry) (names : List DwarfObject) → map (λ r. r.id) rows ≡ names → AreApart names → AreDistinct (entry_ids (rows_of false rows))
+pub distinct_types : (rows : List IndexEntry) (names : List DwarfObject) → map (λ r. r.id) rows ≡
+    names → AreApart names → AreDistinct (entry_ids (rows_of false rows))
 distinct_types rows names h apart = distinct_chosen false rows names h apart

@@ -1,5 +1,6 @@
 -- The name of a unit has the sort, and of a type unit the signature, that its header says.
-use Rattle.std.proofs.Common.{◌≡◌, ℕ, Bool, true, false, cond, List, [], ◌∷◌, ap, sym, Result, Ok, Err, Option, Some, None}
+use Rattle.std.proofs.Common.{◌≡◌, ℕ, Bool, true, false, cond, List, [], ◌∷◌, ap, sym, Result, Ok}
+use Rattle.std.proofs.Common.{Err, Option, Some, None}
 use Rattle.std.specs.Option.{ok_or}
 use Rattle.dwp_bytes.specs.Input.{Input}
 use Rattle.dwp_bytes.specs.declared.fault.ReadError.{ReadError}
@@ -11,50 +12,66 @@ use Rattle.dwp_dwarf.specs.Units.{Unit as Header}
 use Rattle.dwp_dwarf.specs.declared.unit.UnitType.{UnitType}
 use Rattle.dwp_dwarf.specs.declared.unit.UnitType.TheVariants as unit_types
 use Rattle.dwp_table.specs.declared.object.DwarfObject.{DwarfObject}
-use Rattle.thorin_faults.specs.Fault.{Fault, NoDie, TopLevelDieNotUnit, ParseUnitAbbreviations, GimliRead}
+use Rattle.thorin_faults.specs.Fault.{Fault, NoDie, TopLevelDieNotUnit, ParseUnitAbbreviations}
+use Rattle.thorin_faults.specs.Fault.{GimliRead}
 use Rattle.thorin_faults.specs.Answers.{as_fault}
-use Rattle.thorin_identity.specs.Identity.{compilation, is_unit_tag, identifier_in, found_or, first_identifier, entry_identity, root_identity, identity_by, identity}
+use Rattle.thorin_identity.specs.Identity.{compilation, is_unit_tag, identifier_in, found_or}
+use Rattle.thorin_identity.specs.Identity.{first_identifier, entry_identity, root_identity}
+use Rattle.thorin_identity.specs.Identity.{identity_by, identity}
 use Rattle.thorin_join.specs.Laid.{type_signature, name_signature}
 use Rattle.thorin_join.proofs.Steps.{bind-inv}
 
-some-eq : (a b : DwarfObject) → ◌≡◌ {A = Result (Option DwarfObject) Fault} (Ok (Some a)) (Ok (Some b)) → a ≡ b
+some-eq : (a b : DwarfObject) → ◌≡◌ {A = Result (Option DwarfObject) Fault} (Ok (Some a))
+    (Ok (Some b)) → a ≡ b
 some-eq a b h = cc
 
-first-none : (attributes : List (Result DebugAttribute ReadError)) (name : DwarfObject) → first_identifier attributes ≡ Ok (Some name) → name_signature name ≡ None
+first-none : (attributes : List (Result DebugAttribute ReadError)) (name : DwarfObject)
+    → first_identifier attributes ≡ Ok (Some name) → name_signature name ≡ None
 first-none [] name h = absurd cc
 first-none (Err e ∷ others) name h = absurd cc
 first-none (Ok a ∷ others) name h = by (identifier_in a) h (first-none others name)
   where
-    by : (o : Option ℕ) → found_or o (first_identifier others) ≡ Ok (Some name) → (first_identifier others ≡ Ok (Some name) → name_signature name ≡ None) → name_signature name ≡ None
+    by : (o : Option ℕ) → found_or o (first_identifier others) ≡ Ok (Some name)
+        → (first_identifier others ≡ Ok (Some name) → name_signature name ≡ None)
+        → name_signature name ≡ None
     by None k go = go k
     by (Some id) k go = ap name_signature (sym (some-eq (compilation id) name k))
 
-entry-none : (e : DebugEntry) (name : DwarfObject) → entry_identity e ≡ Ok (Some name) → name_signature name ≡ None
+entry-none : (e : DebugEntry) (name : DwarfObject) → entry_identity e ≡ Ok (Some name)
+    → name_signature name ≡ None
 unfolding entry_identity
 entry-none e name h = by (is_unit_tag e.tag) h
   where
-    by : (b : Bool) → cond b (first_identifier e.attributes) (Err TopLevelDieNotUnit) ≡ Ok (Some name) → name_signature name ≡ None
+    by : (b : Bool) → cond b (first_identifier e.attributes) (Err TopLevelDieNotUnit) ≡ Ok
+        (Some name) → name_signature name ≡ None
     by true k = first-none e.attributes name k
     by false k = absurd cc
 
-root-none : (section : Input) (unit : Header) (name : DwarfObject) → root_identity section unit ≡ Ok (Some name) → name_signature name ≡ None
+root-none : (section : Input) (unit : Header) (name : DwarfObject) → root_identity section unit ≡ Ok
+    (Some name) → name_signature name ≡ None
 unfolding root_identity
 root-none section unit name h =
-    let s1 = bind-inv (as_fault ParseUnitAbbreviations (from_at unit.abbrev_offset section)) _ (Some name) h in
+    let s1 = bind-inv (as_fault ParseUnitAbbreviations (from_at unit.abbrev_offset section)) _
+    (Some name) h in
     let s2 = bind-inv (as_fault GimliRead (root_code_at unit.entries)) _ (Some name) s1.2 in
     let s3 = bind-inv (ok_or s2.0 NoDie) _ (Some name) s2.2 in
-    let s4 = bind-inv (as_fault ParseUnitAbbreviations (declaration s3.0.0 s1.0)) _ (Some name) s3.2 in
+    let s4 = bind-inv (as_fault ParseUnitAbbreviations (declaration s3.0.0 s1.0)) _
+    (Some name) s3.2 in
     let s5 = bind-inv (ok_or s4.0 (GimliRead UnknownCode)) _ (Some name) s4.2 in
     entry-none (entry unit.encoding s5.0 s3.0.1) name s5.2
 
-sort-by : (section : Input) (unit : Header) (t : UnitType) (name : DwarfObject) → identity_by section unit t ≡ Ok (Some name) → type_signature t ≡ name_signature name
+sort-by : (section : Input) (unit : Header) (t : UnitType) (name : DwarfObject)
+    → identity_by section unit t ≡ Ok (Some name) → type_signature t ≡ name_signature name
 sort-by section unit (unit_types.Skeleton id) name h = ap name_signature (some-eq _ name h)
 sort-by section unit (unit_types.SplitCompilation id) name h = ap name_signature (some-eq _ name h)
-sort-by section unit (unit_types.TypeUnit signature offset) name h = ap name_signature (some-eq _ name h)
-sort-by section unit (unit_types.SplitType signature offset) name h = ap name_signature (some-eq _ name h)
+sort-by section unit (unit_types.TypeUnit signature offset) name h =
+    ap name_signature (some-eq _ name h)
+sort-by section unit (unit_types.SplitType signature offset) name h =
+    ap name_signature (some-eq _ name h)
 sort-by section unit unit_types.Compilation name h = sym (root-none section unit name h)
 sort-by section unit unit_types.Partial name h = absurd cc
 
-pub identity-sort : (section : Input) (unit : Header) (name : DwarfObject) → identity section unit ≡ Ok (Some name) → type_signature unit.unit_type ≡ name_signature name
+pub identity-sort : (section : Input) (unit : Header) (name : DwarfObject) → identity section unit ≡
+    Ok (Some name) → type_signature unit.unit_type ≡ name_signature name
 unfolding identity
 identity-sort section unit name h = sort-by section unit unit.unit_type name h

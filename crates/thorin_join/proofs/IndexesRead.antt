@@ -1,5 +1,6 @@
 -- The indexes of a finished package, as they are read.
-use Rattle.std.proofs.Common.{◌≡◌, ◌∙◌, ℕ, zero, suc, ◌<◌, ◌^◌, Bool, true, false, cond, List, [], ◌∷◌, length, sym, refl, Ok, Err, Option, Some, None, arith}
+use Rattle.std.proofs.Common.{◌≡◌, ◌∙◌, ℕ, zero, suc, ◌<◌, ◌^◌, Bool, true, false, cond, List, []}
+use Rattle.std.proofs.Common.{◌∷◌, length, sym, refl, Ok, Err, Option, Some, None, arith}
 use Rattle.std.specs.Prelude.{slice_index}
 use Rattle.dwp_base.specs.declared.endian.Endianness.{Endianness}
 use Rattle.dwp_bytes.specs.Encoding.{index_version_of}
@@ -20,14 +21,17 @@ use Rattle.thorin_join.proofs.Steps.{err-ok}
 
 -- the laws of written indexes
 abbrev pub IndexIsRead : Type 0
-IndexIsRead = (order : Endianness) (encoding : Encoding) (entries : List IndexEntry) (bytes : List ℕ)
+IndexIsRead = (order : Endianness) (encoding : Encoding) (entries : List IndexEntry)
+    (bytes : List ℕ)
     → tests_under encoding entries ≡ Ok tt
     → ((r : ℕ) → slice_index (entry_ids entries) r < 2 ^ 64)
     → (text : IsIndexText order (index_version_of encoding.version) entries bytes)
-    → index_of order bytes ≡ Ok (index_with (index_version_of encoding.version) (used_sections entries) entries text.rows)
+    → index_of order bytes ≡ Ok (index_with (index_version_of encoding.version)
+    (used_sections entries) entries text.rows)
 
 abbrev pub IndexHasEntries : Type 0
-IndexHasEntries = (order : Endianness) (encoding : Encoding) (entries : List IndexEntry) (bytes : List ℕ)
+IndexHasEntries = (order : Endianness) (encoding : Encoding) (entries : List IndexEntry)
+    (bytes : List ℕ)
     → tests_under encoding entries ≡ Ok tt
     → AreDistinct (entry_ids entries)
     → ((r : ℕ) → slice_index (entry_ids entries) r < 2 ^ 64)
@@ -37,10 +41,12 @@ IndexHasEntries = (order : Endianness) (encoding : Encoding) (entries : List Ind
     → HasEntries (index_version_of encoding.version) entries index
 
 abbrev pub SomeIndex : Type 0
-SomeIndex = (order : Endianness) (bytes : List ℕ) (index : Index) → 0 < length bytes → index_of order bytes ≡ Ok index → index_in_section order bytes ≡ Ok (Some index)
+SomeIndex = (order : Endianness) (bytes : List ℕ) (index : Index) → 0 < length bytes
+    → index_of order bytes ≡ Ok index → index_in_section order bytes ≡ Ok (Some index)
 
 abbrev pub NoIndex : Type 0
-NoIndex = (order : Endianness) (bytes : List ℕ) → bytes ≡ [] → index_in_section order bytes ≡ Ok None
+NoIndex = (order : Endianness) (bytes : List ℕ) → bytes ≡ []
+    → index_in_section order bytes ≡ Ok None
 
 -- what is read of the index of these rows
 abbrev pub HasRows : Option Index → List IndexEntry → Type 0
@@ -56,36 +62,51 @@ no-bytes : (order : Endianness) → index_of order [] ≡ Err UnexpectedEof
 unfolding index_of version_of
 no-bytes order = refl
 
-some-bytes : (order : Endianness) (bytes : List ℕ) (index : Index) → index_of order bytes ≡ Ok index → 0 < length bytes
+some-bytes : (order : Endianness) (bytes : List ℕ) (index : Index) → index_of order bytes ≡ Ok index
+    → 0 < length bytes
 some-bytes order [] index h = absurd (err-ok UnexpectedEof index (sym (no-bytes order) ∙ h))
 some-bytes order (b ∷ bs) index h = omega arith
 
-pub index-read : IndexIsRead → IndexHasEntries → SomeIndex → NoIndex → (order : Endianness) (rows : List IndexEntry) (bytes : List ℕ)
-    → IsIndexOf order rows bytes → index_tests rows ≡ Ok tt → AreDistinct (entry_ids rows) → ((r : ℕ) → slice_index (entry_ids rows) r < 2 ^ 64)
+pub index-read : IndexIsRead → IndexHasEntries → SomeIndex → NoIndex → (order : Endianness)
+    (rows : List IndexEntry) (bytes : List ℕ)
+    → IsIndexOf order rows bytes → index_tests rows ≡ Ok tt → AreDistinct (entry_ids rows)
+    → ((r : ℕ) → slice_index (entry_ids rows) r < 2 ^ 64)
     → IndexRead order rows bytes
-index-read is_read has some none order [] bytes text tested distinct fit = record { index = None; read = none order bytes text; has = refl }
+index-read is_read has some none order [] bytes text tested distinct fit =
+    record { index = None; read = none order bytes text; has = refl }
 index-read is_read has some none order (row ∷ rows) bytes text tested distinct fit =
     let read = is_read order row.encoding (row ∷ rows) bytes tested fit text in
-    let index = index_with (index_version_of row.encoding.version) (used_sections (row ∷ rows)) (row ∷ rows) text.rows in
+    let index = index_with (index_version_of row.encoding.version) (used_sections (row ∷ rows))
+    (row ∷ rows) text.rows in
     record {
       index = Some index;
       read = some order bytes index (some-bytes order bytes index read) read;
-      has = (index_version_of row.encoding.version, has order row.encoding (row ∷ rows) bytes tested distinct fit text index read, omega arith);
+      has = (
+        index_version_of row.encoding.version,
+        has order row.encoding (row ∷ rows) bytes tested
+            distinct fit text index read,
+        omega arith,
+      );
     }
 
 -- the identifiers of chosen rows have 64 bits
-fit-cond : (row : IndexEntry) (rows : List IndexEntry) (e : Bool) → identifier_of row.id < 2 ^ 64 → IdentifiersFit rows → IdentifiersFit (cond e (row ∷ rows) rows)
+fit-cond : (row : IndexEntry) (rows : List IndexEntry) (e : Bool) → identifier_of row.id < 2 ^ 64
+    → IdentifiersFit rows → IdentifiersFit (cond e (row ∷ rows) rows)
 fit-cond row rows true h k = (h, k)
 fit-cond row rows false h k = k
 
-fit-chosen : (b : Bool) (rows : List IndexEntry) → IdentifiersFit rows → IdentifiersFit (rows_of b rows)
+fit-chosen : (b : Bool) (rows : List IndexEntry) → IdentifiersFit rows
+    → IdentifiersFit (rows_of b rows)
 fit-chosen b [] h = tt
-fit-chosen b (row ∷ rows) h = fit-cond row (rows_of b rows) (is_chosen b row) h.0 (fit-chosen b rows h.1)
+fit-chosen b (row ∷ rows) h = fit-cond row (rows_of b rows) (is_chosen b row) h.0
+    (fit-chosen b rows h.1)
 
-fit-at : (rows : List IndexEntry) → IdentifiersFit rows → (r : ℕ) → slice_index (entry_ids rows) r < 2 ^ 64
+fit-at : (rows : List IndexEntry) → IdentifiersFit rows → (r : ℕ)
+    → slice_index (entry_ids rows) r < 2 ^ 64
 fit-at [] h r = omega arith
 fit-at (row ∷ rows) h zero = h.0
 fit-at (row ∷ rows) h (suc r) = fit-at rows h.1 r
 
-pub chosen-fit : (b : Bool) (rows : List IndexEntry) → IdentifiersFit rows → (r : ℕ) → slice_index (entry_ids (rows_of b rows)) r < 2 ^ 64
+pub chosen-fit : (b : Bool) (rows : List IndexEntry) → IdentifiersFit rows → (r : ℕ)
+    → slice_index (entry_ids (rows_of b rows)) r < 2 ^ 64
 chosen-fit b rows h = fit-at (rows_of b rows) (fit-chosen b rows h)

@@ -1,5 +1,6 @@
 -- The encoding of a written package of plain objects, as an input, is that of all its units.
-use Rattle.std.proofs.Common.{◌≡◌, ◌∙◌, ℕ, zero, suc, ◌<◌, Bool, true, false, cond, List, [], ◌∷◌, ◌++◌, length, refl, sym, ap, subst, Result, Ok, arith}
+use Rattle.std.proofs.Common.{◌≡◌, ◌∙◌, ℕ, zero, suc, ◌<◌, Bool, true, false, cond, List, [], ◌∷◌}
+use Rattle.std.proofs.Common.{◌++◌, length, refl, sym, ap, subst, Result, Ok, arith}
 use Rattle.dwp_base.specs.declared.endian.Endianness.{Endianness}
 use Rattle.dwp_bytes.specs.Input.{Input, section, after}
 use Rattle.dwp_bytes.specs.declared.encoding.Encoding.{Encoding}
@@ -28,7 +29,8 @@ use Rattle.thorin_join.proofs.UnitMoved.{plain, unit-moves}
 use Rattle.thorin_join.proofs.Written.{finished-order, finished-own}
 
 -- what is read first of a section
-record First (order : Endianness) (place : UnitSection) (encoding : Encoding) (bytes : List ℕ) : Type 0 where
+record First (order : Endianness) (place : UnitSection) (encoding : Encoding)
+    (bytes : List ℕ) : Type 0 where
   unit : Header
   rest : List (Result Header ReadError)
   read : units place (section order bytes) ≡ Ok unit ∷ rest
@@ -39,45 +41,67 @@ suc-length : (n : ℕ) → 0 < n → (m : ℕ) × (n ≡ suc m)
 suc-length zero h = absurd (omega (arith, h))
 suc-length (suc m) h = (m, refl)
 
-first-read : (order : Endianness) (place : UnitSection) (encoding : Encoding) (bytes own rest : List ℕ) (unit : Header) (left : Input) → UnitsAreTaken → unit_at place (section order own) ≡ Ok (unit, left) → bytes ≡ own ++ rest → 0 < length bytes
+first-read : (order : Endianness) (place : UnitSection) (encoding : Encoding)
+    (bytes own rest : List ℕ) (unit : Header) (left : Input) → UnitsAreTaken
+    → unit_at place (section order own) ≡ Ok (unit, left) → bytes ≡ own ++ rest → 0 < length bytes
     → unit.encoding ≡ encoding → First order place encoding bytes
 unfolding units
 first-read order place encoding bytes own rest unit left taken read are some is =
     let moved = unit-moves taken order place own rest 0 unit left read in
     let n = suc-length (length bytes) some in
     let behind : Input = after (length unit.whole.bytes) (plain order 0 (own ++ rest)) in
-    let here : unit_at place (plain order 0 bytes) ≡ Ok (moved.unit, behind) = ap (λ l. unit_at place (plain order 0 l)) are ∙ moved.read in
+    let here : unit_at place (plain order 0 bytes) ≡ Ok (moved.unit, behind) =
+    ap (λ l. unit_at place (plain order 0 l)) are ∙ moved.read in
     record {
       unit = moved.unit;
       rest = units_within n.0 place behind;
-      read = ap (λ k. units_within k place (plain order 0 bytes)) n.1 ∙ one-read n.0 place (plain order 0 bytes) moved.unit behind some here;
+      read = ap (λ k. units_within k place (plain order 0 bytes)) n.1 ∙ one-read n.0 place
+          (plain order 0 bytes) moved.unit behind some here;
       is = sym moved.encoding ∙ is;
     }
 
-first-lies : UnitsAreTaken → (order : Endianness) (place : UnitSection) (encoding : Encoding) (contents : Contents) (rows : List IndexEntry) → Lie order place 0 (rows_at place rows) (content_of (kind_at place) contents)
-    → EachRow (NamesItself order encoding contents) rows → 0 < length (content_of (kind_at place) contents) → First order place encoding (content_of (kind_at place) contents)
-first-lies taken order place encoding contents [] lie names some = let e : length (content_of (kind_at place) contents) ≡ 0 = ap length lie in absurd (omega (arith, some, e))
+first-lies : UnitsAreTaken → (order : Endianness) (place : UnitSection) (encoding : Encoding)
+    (contents : Contents) (rows : List IndexEntry) → Lie order place 0 (rows_at place rows)
+    (content_of (kind_at place) contents)
+    → EachRow (NamesItself order encoding contents) rows
+    → 0 < length (content_of (kind_at place) contents) → First order place encoding
+    (content_of (kind_at place) contents)
+first-lies taken order place encoding contents [] lie names some =
+    let e : length (content_of (kind_at place) contents) ≡ 0 = ap length lie in
+    absurd (omega (arith, some, e))
 first-lies taken order place encoding contents (r ∷ rs) lie names some =
-    by (is_at place r) refl lie (λ l. first-lies taken order place encoding contents rs l names.1 some)
+    by (is_at place r) refl lie (λ l. first-lies taken order place encoding contents
+    rs l names.1 some)
   where
-    by : (b : Bool) → is_at place r ≡ b → Lie order place 0 (cond b (r ∷ rows_at place rs) (rows_at place rs)) (content_of (kind_at place) contents)
-        → (Lie order place 0 (rows_at place rs) (content_of (kind_at place) contents) → First order place encoding (content_of (kind_at place) contents)) → First order place encoding (content_of (kind_at place) contents)
+    by : (b : Bool) → is_at place r ≡ b → Lie order place 0 (cond b (r ∷ rows_at place rs)
+        (rows_at place rs)) (content_of (kind_at place) contents)
+        → (Lie order place 0 (rows_at place rs) (content_of (kind_at place) contents)
+        → First order place encoding (content_of (kind_at place) contents))
+        → First order place encoding (content_of (kind_at place) contents)
     by true is l later =
         let head = l.0 in
         let bytes = content_of (kind_at place) contents in
         let part = part-middle [] head.own head.rest bytes 0 head.are refl in
-        let place_is : place ≡ place_of r.id r.debug_types = place-eq place (place_of r.id r.debug_types) is in
-        let bytes_are : unit_bytes contents r ≡ head.own = ap (λ p. part_of (content_of (kind_at p) contents) (contribution_to (kind_at p) r)) (sym place_is) ∙ ap (part_of bytes) head.range ∙ part in
-        let alone = names.0 head.is.unit head.is.rest ((λ i. unit_at (sym place_is i) (section order (bytes_are i))) ∙ head.is.read) in
-        first-read order place encoding bytes head.own head.rest head.is.unit head.is.rest taken head.is.read head.are some alone.0
+        let place_is : place ≡ place_of r.id r.debug_types =
+        place-eq place (place_of r.id r.debug_types) is in
+        let bytes_are : unit_bytes contents r ≡ head.own =
+        ap (λ p. part_of (content_of (kind_at p) contents) (contribution_to (kind_at p) r))
+        (sym place_is) ∙ ap (part_of bytes) head.range ∙ part in
+        let alone = names.0 head.is.unit head.is.rest
+        ((λ i. unit_at (sym place_is i) (section order (bytes_are i))) ∙ head.is.read) in
+        first-read order place encoding bytes head.own head.rest head.is.unit head.is.rest taken
+        head.is.read head.are some alone.0
     by false is l later = later l
 
-pub own-first : UnitsAreTaken → (made : InProgress) (file : File) (encoding : Encoding) → IsSound made → IsFinished made file → KindsDiffer file.contents → IsPlain encoding made → 0 < length (content_of (kind_at places.Info) file.contents)
+pub own-first : UnitsAreTaken → (made : InProgress) (file : File) (encoding : Encoding)
+    → IsSound made → IsFinished made file → KindsDiffer file.contents → IsPlain encoding made
+    → 0 < length (content_of (kind_at places.Info) file.contents)
     → encoding_of (written_object file) ≡ Ok encoding
 unfolding encoding_of
 own-first taken made file encoding sound fin differ is_plain some =
     let same = finished-own made file fin places.Info in
-    let f = first-lies taken made.file.order places.Info encoding made.file.contents made.rows sound.laid.info is_plain.units (subst (λ l. 0 < length l) same some) in
+    let f = first-lies taken made.file.order places.Info encoding made.file.contents made.rows
+    sound.laid.info is_plain.units (subst (λ l. 0 < length l) same some) in
     let held = first-written (kind_at places.Info) file.contents differ ∙ same in
     (λ i. first_encoding (units places.Info (section (finished-order made file fin i) (held i))))
     ∙ ap first_encoding f.read

@@ -1,5 +1,6 @@
 -- What the laws of the crates below say of string offsets that are rewritten.
-use Rattle.std.proofs.Common.{◌≡◌, ℕ, ◌-◌, ◌*◌, ◌<◌, List, ◌++◌, length, take, nat_lt, Option, Ok, if◌then◌else◌}
+use Rattle.std.proofs.Common.{◌≡◌, ℕ, ◌-◌, ◌*◌, ◌<◌, List, ◌++◌, length, take, nat_lt, Option, Ok}
+use Rattle.std.proofs.Common.{if◌then◌else◌}
 use Rattle.dwp_base.specs.declared.endian.Endianness.{Endianness}
 use Rattle.dwp_bytes.specs.Encoding.{offset_size}
 use Rattle.dwp_bytes.specs.declared.encoding.Encoding.{Encoding}
@@ -14,14 +15,16 @@ use Rattle.thorin_packaged.specs.PackagedReading.{PackageReadsAlike}
 
 -- a rewritten range names the same (a law of the string table)
 abbrev pub NamesTheSameLaw : Type 0
-NamesTheSameLaw = (order : Endianness) (encoding : Encoding) (section bytes : List ℕ) (size : ℕ) (before : List (List ℕ)) (rewritten : List ℕ) (after : List (List ℕ))
+NamesTheSameLaw = (order : Endianness) (encoding : Encoding) (section bytes : List ℕ) (size : ℕ)
+    (before : List (List ℕ)) (rewritten : List ℕ) (after : List (List ℕ))
     → IsTable before
     → remapped order encoding section bytes size before ≡ Ok (rewritten, after)
     → NamesTheSame order encoding section bytes size before rewritten after
 
 -- it is read alike (a law of the parts)
 abbrev pub ReadsAlikeLaw : Type 0
-ReadsAlikeLaw = (order : Endianness) (encoding : Encoding) (section bytes : List ℕ) (before : List (List ℕ)) (rewritten : List ℕ) (after final : List (List ℕ))
+ReadsAlikeLaw = (order : Endianness) (encoding : Encoding) (section bytes : List ℕ)
+    (before : List (List ℕ)) (rewritten : List ℕ) (after final : List (List ℕ))
     → IsTable before
     → remapped order encoding section bytes (length bytes) before ≡ Ok (rewritten, after)
     → IsTable final
@@ -41,7 +44,8 @@ ReadInTurnLaw = (order : Endianness) (encoding : Encoding) (strings first second
 
 -- the ranges of a package's rows are read alike (a law of packaged string offsets)
 abbrev pub PackagedLaw : Type 0
-PackagedLaw = (order : Endianness) (encoding : Encoding) (compilations types : Option Index) (section bytes : List ℕ) (before : List (List ℕ)) (written : List ℕ) (after : List (List ℕ))
+PackagedLaw = (order : Endianness) (encoding : Encoding) (compilations types : Option Index)
+    (section bytes : List ℕ) (before : List (List ℕ)) (written : List ℕ) (after : List (List ℕ))
     → IsTable before
     → packaged_offsets order encoding compilations types section bytes before ≡ Ok (written, after)
     → PackageReadsAlike order encoding compilations types section bytes before written after

@@ -1,6 +1,7 @@
 -- A written file is read as the package of its contents.
 use Rattle.std.proofs.lemmas.Option.{same_Some}
-use Rattle.std.proofs.Common.{◌≡◌, ℕ, ◌+◌, ◌^◌, ◌<◌, ◌≤◌, Bool, true, false, cond, inl, inr, List, [], ◌∷◌, length, refl, sym, ap, ◌∙◌, arith}
+use Rattle.std.proofs.Common.{◌≡◌, ℕ, ◌+◌, ◌^◌, ◌<◌, ◌≤◌, Bool, true, false, cond, inl, inr, List}
+use Rattle.std.proofs.Common.{[], ◌∷◌, length, refl, sym, ap, ◌∙◌, arith}
 use Rattle.std.specs.Prelude.{Option, Some, None, Ok, codes, slice_get}
 use Rattle.std.proofs.lemmas.Bool.{eqb-true}
 use Rattle.dwp_base.specs.Sections.{name_of, same_kind, kind_named, rank_of, all_kinds}
@@ -8,7 +9,10 @@ use Rattle.dwp_base.specs.declared.class.Class.{Class}
 use Rattle.dwp_base.specs.declared.class.Class.TheVariants.{Elf32, Elf64}
 use Rattle.dwp_base.specs.declared.endian.Endianness.{Endianness}
 use Rattle.dwp_base.specs.declared.section.SectionKind.{SectionKind}
-use Rattle.dwp_base.specs.declared.section.SectionKind.TheVariants.{Info, Types, Abbrev, Line, Loc, Loclists, Rnglists, StrOffsets, Macinfo, Macro, Str, CuIndex, TuIndex}
+use Rattle.dwp_base.specs.declared.section.SectionKind.TheVariants.{Info, Types, Abbrev, Line, Loc}
+use Rattle.dwp_base.specs.declared.section.SectionKind.TheVariants.{Loclists, Rnglists, StrOffsets}
+use Rattle.dwp_base.specs.declared.section.SectionKind.TheVariants.{Macinfo, Macro, Str, CuIndex}
+use Rattle.dwp_base.specs.declared.section.SectionKind.TheVariants.{TuIndex}
 use Rattle.dwp_elf_read.specs.Layout.{word_size}
 use Rattle.dwp_elf_read.specs.Elf.{Elf, SectionMeaning, elf_of}
 use Rattle.dwp_elf.specs.FileText.{Object, headers_place, name_table, file_text}
@@ -34,7 +38,12 @@ ContentsRead =
     → ((kind : SectionKind) → HasContent file.sections kind (held kind))
     → index_in_section file.order (held CuIndex) ≡ Ok compilations
     → index_in_section file.order (held TuIndex) ≡ Ok types
-    → package_of bytes ≡ Ok (record { order = file.order; contents = sections_of held; compilations = compilations; types = types })
+    → package_of bytes ≡ Ok (record {
+      order = file.order;
+      contents = sections_of held;
+      compilations = compilations;
+      types = types;
+    })
 
 abbrev pub OtherKind : Type 0
 OtherKind =
@@ -51,7 +60,8 @@ ForeignName =
     → is_of_kind kind section ≡ false
 
 abbrev pub NoBytes : Type 0
-NoBytes = (section : SectionMeaning) (kind : SectionKind) → section.size ≡ 0 → is_of_kind kind section ≡ false
+NoBytes = (section : SectionMeaning) (kind : SectionKind) → section.size ≡ 0
+    → is_of_kind kind section ≡ false
 
 -- ---- kinds
 
@@ -71,12 +81,14 @@ at_rank CuIndex = refl
 at_rank TuIndex = refl
 
 pub is_same : (a b : SectionKind) → same_kind a b ≡ true → a ≡ b
-is_same a b e = same_Some _ _ (sym (at_rank a) ∙ ap (slice_get all_kinds) (eqb-true (rank_of a) (rank_of b) e) ∙ at_rank b)
+is_same a b e = same_Some _ _ (sym (at_rank a) ∙ ap (slice_get all_kinds)
+    (eqb-true (rank_of a) (rank_of b) e) ∙ at_rank b)
 
 -- ---- at most 13 contents
 
 abbrev sum_kinds : (SectionKind → ℕ) → ℕ
-sum_kinds f = f Info + f Types + f Abbrev + f Line + f Loc + f Loclists + f Rnglists + f StrOffsets + f Macinfo + f Macro + f Str + f CuIndex + f TuIndex
+sum_kinds f = f Info + f Types + f Abbrev + f Line + f Loc + f Loclists + f Rnglists + f StrOffsets
+    + f Macinfo + f Macro + f Str + f CuIndex + f TuIndex
 
 sum_kinds-one : (kind : SectionKind) → sum_kinds (λ k. cond (same_kind kind k) 1 0) ≡ 1
 sum_kinds-one Info = refl
@@ -100,16 +112,35 @@ sum_kinds-count_of : (cs : List (SectionKind × List ℕ)) → sum_kinds (λ k. 
 sum_kinds-count_of [] = refl
 sum_kinds-count_of (c ∷ cs) =
     sum_kinds-add (λ k. cond (same_kind c.0 k) 1 0) (λ k. count_of k cs)
-    ∙ ap (λ n. n + sum_kinds (λ k. count_of k cs)) (sum_kinds-one c.0) ∙ ap (λ n. 1 + n) (sum_kinds-count_of cs) ∙ omega arith
+    ∙ ap (λ n. n + sum_kinds (λ k. count_of k cs)) (sum_kinds-one c.0) ∙ ap (λ n. 1 + n)
+    (sum_kinds-count_of cs) ∙ omega arith
 
 at_most_13 : (cs : List (SectionKind × List ℕ)) → KindsDiffer cs → length cs ≤ 13
 at_most_13 cs h =
-    omega (arith, sum_kinds-count_of cs, h Info, h Types, h Abbrev, h Line, h Loc, h Loclists, h Rnglists, h StrOffsets, h Macinfo, h Macro, h Str, h CuIndex, h TuIndex)
+    omega (
+      arith,
+      sum_kinds-count_of cs,
+      h Info,
+      h Types,
+      h Abbrev,
+      h Line,
+      h Loc,
+      h Loclists,
+      h
+          Rnglists,
+      h StrOffsets,
+      h Macinfo,
+      h Macro,
+      h Str,
+      h CuIndex,
+      h TuIndex,
+    )
 
 -- ---- the headers' place
 
 fitting : (class : Class) (machine : ℕ) (order : Endianness) (cs : List (SectionKind × List ℕ))
-    → Fits (record { class = class; machine = machine; order = order; contents = cs }) → headers_place class cs < 256 ^ word_size class
+    → Fits (record { class = class; machine = machine; order = order; contents = cs })
+    → headers_place class cs < 256 ^ word_size class
 unfolding Fits
 fitting Elf32 machine order cs fits = let first = fits 0 0 (omega arith) in omega (arith, first)
 fitting Elf64 machine order cs fits = let second = fits 1 0 (omega arith) in omega (arith, second)
@@ -117,20 +148,25 @@ fitting Elf64 machine order cs fits = let second = fits 1 0 (omega arith) in ome
 -- ---- the sections of a written file
 
 -- where no content is of a kind
-nothing_at : (kind : SectionKind) (c : SectionKind × List ℕ) (cs : List (SectionKind × List ℕ)) (b : Bool) → same_kind c.0 kind ≡ b
-    → cond b 1 0 + count_of kind cs ≡ 0 → (count_of kind cs ≡ 0 → content_of kind cs ≡ []) → cond b c.1 (content_of kind cs) ≡ []
+nothing_at : (kind : SectionKind) (c : SectionKind × List ℕ) (cs : List (SectionKind × List ℕ))
+    (b : Bool) → same_kind c.0 kind ≡ b
+    → cond b 1 0 + count_of kind cs ≡ 0 → (count_of kind cs ≡ 0 → content_of kind cs ≡ [])
+    → cond b c.1 (content_of kind cs) ≡ []
 nothing_at kind c cs true e h rest = absurd (omega (arith, h))
 nothing_at kind c cs false e h rest = rest (omega (arith, h))
 
-nothing : (kind : SectionKind) (cs : List (SectionKind × List ℕ)) → count_of kind cs ≡ 0 → content_of kind cs ≡ []
+nothing : (kind : SectionKind) (cs : List (SectionKind × List ℕ)) → count_of kind cs ≡ 0
+    → content_of kind cs ≡ []
 nothing kind [] h = refl
 nothing kind (c ∷ cs) h = nothing_at kind c cs (same_kind c.0 kind) refl h (λ z. nothing kind cs z)
 
 -- a content of the kind: the section has it, or it has no bytes and nothing follows
-here : NoBytes → (kind : SectionKind) (number : ℕ) (names : List ℕ) (k : SectionKind) (bytes : List ℕ) (cs : List (SectionKind × List ℕ))
+here : NoBytes → (kind : SectionKind) (number : ℕ) (names : List ℕ) (k : SectionKind)
+    (bytes : List ℕ) (cs : List (SectionKind × List ℕ))
     → k ≡ kind → count_of kind cs ≡ 0
     → HasContent (written_sections (number + 1) names cs) kind (content_of kind cs)
-    → HasContent (plain_section number 1 (name_of k) bytes ∷ written_sections (number + 1) names cs) kind bytes
+    → HasContent (plain_section number 1 (name_of k) bytes ∷ written_sections (number + 1)
+    names cs) kind bytes
 here empty kind number names k [] cs same none rest =
     inr (empty (plain_section number 1 (name_of k) []) kind refl, rw (nothing kind cs none) at rest)
 here empty kind number names k (b ∷ bs) cs same none rest =
@@ -143,10 +179,12 @@ here empty kind number names k (b ∷ bs) cs same none rest =
       stored = refl;
     })
 
-held_at : OtherKind → NoBytes → (kind : SectionKind) (number : ℕ) (names : List ℕ) (c : SectionKind × List ℕ) (cs : List (SectionKind × List ℕ)) (b : Bool)
+held_at : OtherKind → NoBytes → (kind : SectionKind) (number : ℕ) (names : List ℕ) (c : SectionKind
+    × List ℕ) (cs : List (SectionKind × List ℕ)) (b : Bool)
     → same_kind c.0 kind ≡ b → cond b 1 0 + count_of kind cs ≤ 1
     → HasContent (written_sections (number + 1) names cs) kind (content_of kind cs)
-    → HasContent (plain_section number 1 (name_of c.0) c.1 ∷ written_sections (number + 1) names cs) kind (cond b c.1 (content_of kind cs))
+    → HasContent (plain_section number 1 (name_of c.0) c.1 ∷ written_sections (number + 1) names cs)
+    kind (cond b c.1 (content_of kind cs))
 held_at other empty kind number names c cs true e h rest =
     here empty kind number names c.0 c.1 cs (is_same c.0 kind e) (omega (arith, h)) rest
 held_at other empty kind number names c cs false e h rest =
@@ -156,19 +194,30 @@ fewer : (b : Bool) (n : ℕ) → cond b 1 0 + n ≤ 1 → n ≤ 1
 fewer true n h = omega (arith, h)
 fewer false n h = omega (arith, h)
 
-held_from : OtherKind → ForeignName → NoBytes → (kind : SectionKind) (number : ℕ) (names : List ℕ) (cs : List (SectionKind × List ℕ)) → count_of kind cs ≤ 1
+held_from : OtherKind → ForeignName → NoBytes → (kind : SectionKind) (number : ℕ) (names : List ℕ)
+    (cs : List (SectionKind × List ℕ)) → count_of kind cs ≤ 1
     → HasContent (written_sections number names cs) kind (content_of kind cs)
 held_from other foreign empty kind number names [] h =
-    inr (foreign (plain_section number 3 (codes ".shstrtab") names) kind (codes ".shstrtab") refl refl, refl)
+    inr (
+      foreign (plain_section number 3 (codes ".shstrtab") names) kind (codes ".shstrtab")
+          refl refl,
+      refl,
+    )
 held_from other foreign empty kind number names (c ∷ cs) h =
     held_at other empty kind number names c cs (same_kind c.0 kind) refl h
-    (held_from other foreign empty kind (number + 1) names cs (fewer (same_kind c.0 kind) (count_of kind cs) h))
+    (held_from other foreign empty kind (number + 1) names cs (fewer (same_kind c.0 kind)
+    (count_of kind cs) h))
 
 -- each kind has its content
-held : OtherKind → ForeignName → NoBytes → (o : Object) → KindsDiffer o.contents → (kind : SectionKind)
+held : OtherKind → ForeignName → NoBytes → (o : Object) → KindsDiffer o.contents
+    → (kind : SectionKind)
     → HasContent (written_elf o).sections kind (content_of kind o.contents)
 held other foreign empty o h kind =
-    inr (empty (plain_section 0 0 [] []) kind refl, held_from other foreign empty kind 1 (name_table o.contents) o.contents (h kind))
+    inr (
+      empty (plain_section 0 0 [] []) kind refl,
+      held_from other foreign empty kind 1
+          (name_table o.contents) o.contents (h kind),
+    )
 
 -- ---- the package
 
@@ -177,11 +226,18 @@ pub package_read : ReadBack → ContentsRead → OtherKind → ForeignName → N
     → (compilations types : Option Index)
     → index_in_section o.order (content_of CuIndex o.contents) ≡ Ok compilations
     → index_in_section o.order (content_of TuIndex o.contents) ≡ Ok types
-    → package_of (file_text o) ≡ Ok (record { order = o.order; contents = sections_of (λ kind. content_of kind o.contents); compilations = compilations; types = types })
+    → package_of (file_text o) ≡ Ok (record {
+      order = o.order;
+      contents =
+          sections_of (λ kind. content_of kind o.contents);
+      compilations = compilations;
+      types = types;
+    })
 package_read back read other foreign empty o h machine fits compilations types c t =
     let few : length o.contents < 60000 = omega (arith, at_most_13 o.contents h) in
     read (file_text o) (written_elf o) (λ kind. content_of kind o.contents) compilations types
-    (back o machine (fitting o.class o.machine o.order o.contents fits) few) (held other foreign empty o h) c t
+    (back o machine (fitting o.class o.machine o.order o.contents fits) few)
+    (held other foreign empty o h) c t
 
 -- the same of any bytes that mean the written file
 pub package_held : ContentsRead → OtherKind → ForeignName → NoBytes
@@ -189,6 +245,13 @@ pub package_held : ContentsRead → OtherKind → ForeignName → NoBytes
     → (compilations types : Option Index)
     → index_in_section o.order (content_of CuIndex o.contents) ≡ Ok compilations
     → index_in_section o.order (content_of TuIndex o.contents) ≡ Ok types
-    → package_of bytes ≡ Ok (record { order = o.order; contents = sections_of (λ kind. content_of kind o.contents); compilations = compilations; types = types })
+    → package_of bytes ≡ Ok (record {
+      order = o.order;
+      contents =
+          sections_of (λ kind. content_of kind o.contents);
+      compilations = compilations;
+      types = types;
+    })
 package_held read other foreign empty bytes o h back compilations types c t =
-    read bytes (written_elf o) (λ kind. content_of kind o.contents) compilations types back (held other foreign empty o h) c t
+    read bytes (written_elf o) (λ kind. content_of kind o.contents) compilations types back
+    (held other foreign empty o h) c t

@@ -1,25 +1,35 @@
 -- A unit's root entry is read alike wherever its bytes stand.
-use Rattle.std.proofs.Common.{◌≡◌, ◌∙◌, ℕ, zero, suc, ◌+◌, ◌-◌, ◌*◌, ◌^◌, Bool, true, false, cond, eqb, ltb, List, [], ◌∷◌, length, drop, Result, Ok, Err, Option, Some, None, refl, ap, ap₂, arith}
+use Rattle.std.proofs.Common.{◌≡◌, ◌∙◌, ℕ, zero, suc, ◌+◌, ◌-◌, ◌*◌, ◌^◌, Bool, true, false, cond}
+use Rattle.std.proofs.Common.{eqb, ltb, List, [], ◌∷◌, length, drop, Result, Ok, Err, Option, Some}
+use Rattle.std.proofs.Common.{None, refl, ap, ap₂, arith}
 use Rattle.std.specs.Prelude.{ℤ, pos, ◌+ℤ◌, ◌-ℤ◌, ◌*ℤ◌, slice_index}
 use Rattle.std.specs.Option.{ok_or}
 use Rattle.dwp_base.specs.Numbers.{number}
 use Rattle.dwp_base.specs.Reading.{◌>>=◌}
-use Rattle.dwp_bytes.specs.Input.{Input, front, after, byte_at, number_at, skip_at, split_at, found_at}
+use Rattle.dwp_bytes.specs.Input.{Input, front, after, byte_at, number_at, skip_at, split_at}
+use Rattle.dwp_bytes.specs.Input.{found_at}
 use Rattle.dwp_bytes.specs.Leb.{leb_at, uleb_at, signed_leb_at, sleb_at, is_i64}
 use Rattle.dwp_bytes.specs.declared.encoding.Encoding.{Encoding}
 use Rattle.dwp_bytes.specs.declared.fault.ReadError.{ReadError}
-use Rattle.dwp_bytes.specs.declared.fault.ReadError.TheVariants.{UnexpectedEof, BigLeb, UnknownForm, UnknownCode}
+use Rattle.dwp_bytes.specs.declared.fault.ReadError.TheVariants.{UnexpectedEof, BigLeb, UnknownForm}
+use Rattle.dwp_bytes.specs.declared.fault.ReadError.TheVariants.{UnknownCode}
 use Rattle.dwp_dwarf.specs.Abbreviations.{Specification, Declaration, code_at, declaration}
-use Rattle.dwp_dwarf.specs.Entries.{DebugAttribute, attribute_at, attributes, entry, root_code_at, number_read, number_of}
-use Rattle.dwp_dwarf.specs.Forms.{is_one_of, fixed_size, unit_size, open_layout, sized_or, block_length_at, text_at, past_value, value_at, named_within, named_form_at}
+use Rattle.dwp_dwarf.specs.Entries.{DebugAttribute, attribute_at, attributes, entry, root_code_at}
+use Rattle.dwp_dwarf.specs.Entries.{number_read, number_of}
+use Rattle.dwp_dwarf.specs.Forms.{is_one_of, fixed_size, unit_size, open_layout, sized_or}
+use Rattle.dwp_dwarf.specs.Forms.{block_length_at, text_at, past_value, value_at, named_within}
+use Rattle.dwp_dwarf.specs.Forms.{named_form_at}
 use Rattle.dwp_dwarf.specs.Offsets.{from_at}
 use Rattle.dwp_dwarf.specs.Units.{Unit as Header, listed}
 use Rattle.dwp_dwarf.specs.declared.unit.UnitType.{UnitType}
 use Rattle.dwp_dwarf.specs.declared.unit.UnitType.TheVariants as unit_types
 use Rattle.dwp_table.specs.declared.object.DwarfObject.{DwarfObject}
-use Rattle.thorin_faults.specs.Fault.{Fault, NoDie, TopLevelDieNotUnit, ParseUnitAbbreviations, GimliRead}
+use Rattle.thorin_faults.specs.Fault.{Fault, NoDie, TopLevelDieNotUnit, ParseUnitAbbreviations}
+use Rattle.thorin_faults.specs.Fault.{GimliRead}
 use Rattle.thorin_faults.specs.Answers.{as_fault}
-use Rattle.thorin_identity.specs.Identity.{DW_AT_GNU_dwo_id, is_unit_tag, identifier_in, found_or, first_identifier, entry_identity, root_identity, identity_by, identity}
+use Rattle.thorin_identity.specs.Identity.{DW_AT_GNU_dwo_id, is_unit_tag, identifier_in, found_or}
+use Rattle.thorin_identity.specs.Identity.{first_identifier, entry_identity, root_identity}
+use Rattle.thorin_identity.specs.Identity.{identity_by, identity}
 
 -- the same bytes at a place behind others
 abbrev pub shifted : ℕ → Input → Input
@@ -37,10 +47,12 @@ abbrev Shifts : (A : Type 0) → (Input → Answer A) → Type 0
 Shifts A read = (d : ℕ) (i : Input) → read (shifted d i) ≡ moved d (read i)
 
 after-shifted : (n d : ℕ) (i : Input) → after n (shifted d i) ≡ shifted d (after n i)
-after-shifted n d i = let e : d + i.place + n ≡ d + (i.place + n) = omega arith in ap (λ p. record i { place = p; bytes = drop n i.bytes }) e
+after-shifted n d i = let e : d + i.place + n ≡ d + (i.place + n) = omega arith in
+    ap (λ p. record i { place = p; bytes = drop n i.bytes }) e
 
 one-shifts : {A : Type 0} (d n : ℕ) (i : Input) (a : A) (short : Bool)
-    → cond {A = Answer A} short (Err UnexpectedEof) (Ok (a, after n (shifted d i))) ≡ moved d (cond {A = Answer A} short (Err UnexpectedEof) (Ok (a, after n i)))
+    → cond {A = Answer A} short (Err UnexpectedEof) (Ok (a, after n (shifted d i))) ≡ moved d
+    (cond {A = Answer A} short (Err UnexpectedEof) (Ok (a, after n i)))
 one-shifts d n i a true = refl
 one-shifts d n i a false = ap (λ j. Ok (a, j)) (after-shifted n d i)
 
@@ -58,8 +70,11 @@ shifts-skip n d i = one-shifts d n i tt (ltb (length i.bytes) n)
 
 -- ---- steps
 
-then-shifts : {A B : Type 0} (read : Input → Answer A) → Shifts A read → (next : A → Input → Answer B) → ((a : A) → Shifts B (next a)) → Shifts B (λ i. read i >>= λ a. next a.0 a.1)
-then-shifts {A} {B} read first next second d i = ap (λ r. r >>= λ a. next a.0 a.1) (first d i) ∙ by (read i)
+then-shifts : {A B : Type 0} (read : Input → Answer A) → Shifts A read
+    → (next : A → Input → Answer B) → ((a : A) → Shifts B (next a))
+    → Shifts B (λ i. read i >>= λ a. next a.0 a.1)
+then-shifts {A} {B} read first next second d i = ap (λ r. r >>= λ a. next a.0 a.1)
+    (first d i) ∙ by (read i)
   where
     by : (r : Answer A) → (moved d r >>= λ a. next a.0 a.1) ≡ moved d (r >>= λ a. next a.0 a.1)
     by (Ok x) = second x.0 d x.1
@@ -71,7 +86,8 @@ same-shifts a d i = refl
 fault-shifts : {A : Type 0} (e : ReadError) → Shifts A (λ i. Err e)
 fault-shifts e d i = refl
 
-if-shifts : {A : Type 0} (b : Bool) (one other : Input → Answer A) → Shifts A one → Shifts A other → Shifts A (λ i. cond b (one i) (other i))
+if-shifts : {A : Type 0} (b : Bool) (one other : Input → Answer A) → Shifts A one → Shifts A other
+    → Shifts A (λ i. cond b (one i) (other i))
 if-shifts true one other f g = f
 if-shifts false one other f g = g
 
@@ -79,28 +95,41 @@ shifts-leb : (n : ℕ) → Shifts ℕ (leb_at n)
 unfolding leb_at
 shifts-leb zero = fault-shifts BigLeb
 shifts-leb (suc n) =
-    then-shifts byte_at shifts-byte (λ b i. cond (ltb b 128) (Ok (b, i)) (leb_at n i >>= λ r. Ok (b - 128 + 128 * r.0, r.1)))
-    (λ b. if-shifts (ltb b 128) (λ i. Ok (b, i)) (λ i. leb_at n i >>= λ r. Ok (b - 128 + 128 * r.0, r.1)) (same-shifts b)
-    (then-shifts (leb_at n) (shifts-leb n) (λ r i. Ok (b - 128 + 128 * r, i)) (λ r. same-shifts (b - 128 + 128 * r))))
+    then-shifts byte_at shifts-byte (λ b i. cond (ltb b 128) (Ok (b, i)) (leb_at n i >>= λ r.
+    Ok (b - 128 + 128 * r.0, r.1)))
+    (λ b. if-shifts (ltb b 128) (λ i. Ok (b, i)) (λ i. leb_at n i >>= λ r.
+    Ok (b - 128 + 128 * r.0, r.1)) (same-shifts b)
+    (then-shifts (leb_at n) (shifts-leb n) (λ r i. Ok (b - 128 + 128 * r, i)) (λ r.
+    same-shifts (b - 128 + 128 * r))))
 
 shifts-uleb : Shifts ℕ uleb_at
 unfolding uleb_at
-shifts-uleb = then-shifts (leb_at 10) (shifts-leb 10) (λ n i. cond (ltb n (2 ^ 64)) (Ok (n, i)) (Err BigLeb))
-    (λ n. if-shifts (ltb n (2 ^ 64)) (λ i. Ok (n, i)) (λ i. Err BigLeb) (same-shifts n) (fault-shifts BigLeb))
+shifts-uleb = then-shifts (leb_at 10) (shifts-leb 10) (λ n i. cond (ltb n (2 ^ 64))
+    (Ok (n, i)) (Err BigLeb))
+    (λ n. if-shifts (ltb n (2 ^ 64)) (λ i. Ok (n, i)) (λ i. Err BigLeb) (same-shifts n)
+    (fault-shifts BigLeb))
 
 shifts-signed : (n : ℕ) → Shifts ℤ (signed_leb_at n)
 unfolding signed_leb_at
 shifts-signed zero = fault-shifts BigLeb
 shifts-signed (suc n) =
-    then-shifts byte_at shifts-byte (λ b i. cond (ltb b 64) (Ok (pos b, i)) (cond (ltb b 128) (Ok (pos b -ℤ pos 128, i)) (signed_leb_at n i >>= λ r. Ok (pos (b - 128) +ℤ pos 128 *ℤ r.0, r.1))))
-    (λ b. if-shifts (ltb b 64) (λ i. Ok (pos b, i)) (λ i. cond (ltb b 128) (Ok (pos b -ℤ pos 128, i)) (signed_leb_at n i >>= λ r. Ok (pos (b - 128) +ℤ pos 128 *ℤ r.0, r.1))) (same-shifts (pos b))
-    (if-shifts (ltb b 128) (λ i. Ok (pos b -ℤ pos 128, i)) (λ i. signed_leb_at n i >>= λ r. Ok (pos (b - 128) +ℤ pos 128 *ℤ r.0, r.1)) (same-shifts (pos b -ℤ pos 128))
-    (then-shifts (signed_leb_at n) (shifts-signed n) (λ r i. Ok (pos (b - 128) +ℤ pos 128 *ℤ r, i)) (λ r. same-shifts (pos (b - 128) +ℤ pos 128 *ℤ r)))))
+    then-shifts byte_at shifts-byte (λ b i. cond (ltb b 64) (Ok (pos b, i))
+    (cond (ltb b 128) (Ok (pos b -ℤ pos 128, i)) (signed_leb_at n i >>= λ r.
+    Ok (pos (b - 128) +ℤ pos 128 *ℤ r.0, r.1))))
+    (λ b. if-shifts (ltb b 64) (λ i. Ok (pos b, i)) (λ i.
+    cond (ltb b 128) (Ok (pos b -ℤ pos 128, i)) (signed_leb_at n i >>= λ r.
+    Ok (pos (b - 128) +ℤ pos 128 *ℤ r.0, r.1))) (same-shifts (pos b))
+    (if-shifts (ltb b 128) (λ i. Ok (pos b -ℤ pos 128, i)) (λ i. signed_leb_at n i >>= λ r.
+    Ok (pos (b - 128) +ℤ pos 128 *ℤ r.0, r.1)) (same-shifts (pos b -ℤ pos 128))
+    (then-shifts (signed_leb_at n) (shifts-signed n) (λ r i. Ok (pos (b - 128) +ℤ pos 128 *ℤ r, i))
+    (λ r. same-shifts (pos (b - 128) +ℤ pos 128 *ℤ r)))))
 
 shifts-sleb : Shifts ℤ sleb_at
 unfolding sleb_at
-shifts-sleb = then-shifts (signed_leb_at 10) (shifts-signed 10) (λ n i. cond (is_i64 n) (Ok (n, i)) (Err BigLeb))
-    (λ n. if-shifts (is_i64 n) (λ i. Ok (n, i)) (λ i. Err BigLeb) (same-shifts n) (fault-shifts BigLeb))
+shifts-sleb = then-shifts (signed_leb_at 10) (shifts-signed 10) (λ n i.
+    cond (is_i64 n) (Ok (n, i)) (Err BigLeb))
+    (λ n. if-shifts (is_i64 n) (λ i. Ok (n, i)) (λ i. Err BigLeb) (same-shifts n)
+    (fault-shifts BigLeb))
 
 -- ---- values, which are inputs themselves
 
@@ -113,7 +142,10 @@ moved_both d (Ok x) = Ok (shifted d x.0, shifted d x.1)
 moved_both d (Err e) = Err e
 
 split-by : (n d : ℕ) (i : Input) (short : Bool)
-    → cond {A = Result (Input × Input) ReadError} short (Err UnexpectedEof) (Ok (front n (shifted d i), after n (shifted d i))) ≡ moved_both d (cond {A = Result (Input × Input) ReadError} short (Err UnexpectedEof) (Ok (front n i, after n i)))
+    → cond {A = Result (Input × Input) ReadError} short (Err UnexpectedEof)
+    (Ok (front n (shifted d i), after n (shifted d i))) ≡ moved_both d
+    (cond {A = Result (Input × Input) ReadError} short (Err UnexpectedEof)
+    (Ok (front n i, after n i)))
 split-by n d i true = refl
 split-by n d i false = ap (λ j. Ok (shifted d (front n i), j)) (after-shifted n d i)
 
@@ -122,7 +154,8 @@ unfolding split_at
 split-shifts n d i = split-by n d i (ltb (length i.bytes) n)
 
 -- what is left behind a reading
-left-shifts : {A : Type 0} (read : Input → Answer A) → Shifts A read → (d : ℕ) (i : Input) → (read (shifted d i) >>= λ x. Ok x.1) ≡ moved_rest d (read i >>= λ x. Ok x.1)
+left-shifts : {A : Type 0} (read : Input → Answer A) → Shifts A read → (d : ℕ) (i : Input)
+    → (read (shifted d i) >>= λ x. Ok x.1) ≡ moved_rest d (read i >>= λ x. Ok x.1)
 left-shifts {A} read first d i = ap (λ r. r >>= λ x. Ok x.1) (first d i) ∙ by (read i)
   where
     by : (r : Answer A) → (moved d r >>= λ x. Ok x.1) ≡ moved_rest d (r >>= λ x. Ok x.1)
@@ -132,17 +165,23 @@ left-shifts {A} read first d i = ap (λ r. r >>= λ x. Ok x.1) (first d i) ∙ b
 abbrev from_text : Input → ℕ → Result (Input × Input) ReadError
 from_text i n = split_at n i >>= λ text. skip_at 1 text.1 >>= λ zero_byte. Ok (text.0, zero_byte.1)
 
-end-shifts : (d : ℕ) (text : Input × Input) → (skip_at 1 (shifted d text.1) >>= λ z. Ok (shifted d text.0, z.1)) ≡ moved_both d (skip_at 1 text.1 >>= λ z. Ok (text.0, z.1))
-end-shifts d text = ap (λ r. r >>= λ z. Ok (shifted d text.0, z.1)) (shifts-skip 1 d text.1) ∙ by (skip_at 1 text.1)
+end-shifts : (d : ℕ) (text : Input × Input) → (skip_at 1 (shifted d text.1) >>= λ z.
+    Ok (shifted d text.0, z.1)) ≡ moved_both d (skip_at 1 text.1 >>= λ z. Ok (text.0, z.1))
+end-shifts d text = ap (λ r. r >>= λ z. Ok (shifted d text.0, z.1)) (shifts-skip 1 d text.1) ∙ by
+    (skip_at 1 text.1)
   where
-    by : (r : Answer (Unit {0})) → (moved d r >>= λ z. Ok (shifted d text.0, z.1)) ≡ moved_both d (r >>= λ z. Ok (text.0, z.1))
+    by : (r : Answer (Unit {0})) → (moved d r >>= λ z. Ok (shifted d text.0, z.1)) ≡ moved_both d
+        (r >>= λ z. Ok (text.0, z.1))
     by (Ok x) = refl
     by (Err e) = refl
 
 from-shifts : (d : ℕ) (i : Input) (n : ℕ) → from_text (shifted d i) n ≡ moved_both d (from_text i n)
-from-shifts d i n = ap (λ r. r >>= λ text. skip_at 1 text.1 >>= λ z. Ok (text.0, z.1)) (split-shifts n d i) ∙ by (split_at n i)
+from-shifts d i n = ap (λ r. r >>= λ text. skip_at 1 text.1 >>= λ z. Ok (text.0, z.1))
+    (split-shifts n d i) ∙ by (split_at n i)
   where
-    by : (r : Result (Input × Input) ReadError) → (moved_both d r >>= λ text. skip_at 1 text.1 >>= λ z. Ok (text.0, z.1)) ≡ moved_both d (r >>= λ text. skip_at 1 text.1 >>= λ z. Ok (text.0, z.1))
+    by : (r : Result (Input × Input) ReadError) → (moved_both d r >>= λ text. skip_at 1 text.1 >>=
+        λ z. Ok (text.0, z.1)) ≡ moved_both d (r >>= λ text. skip_at 1 text.1 >>= λ z.
+        Ok (text.0, z.1))
     by (Ok x) = end-shifts d x
     by (Err e) = refl
 
@@ -150,55 +189,70 @@ text-shifts : (d : ℕ) (i : Input) → text_at (shifted d i) ≡ moved_both d (
 unfolding text_at
 text-shifts d i = by (found_at 0 i.bytes)
   where
-    by : (r : Result ℕ ReadError) → (r >>= from_text (shifted d i)) ≡ moved_both d (r >>= from_text i)
+    by : (r : Result ℕ ReadError) → (r >>= from_text (shifted d i)) ≡ moved_both d
+        (r >>= from_text i)
     by (Ok n) = from-shifts d i n
     by (Err e) = refl
 
-text-left : (d : ℕ) (i : Input) → (text_at (shifted d i) >>= λ t. Ok t.1) ≡ moved_rest d (text_at i >>= λ t. Ok t.1)
+text-left : (d : ℕ) (i : Input) → (text_at (shifted d i) >>= λ t. Ok t.1) ≡ moved_rest d
+    (text_at i >>= λ t. Ok t.1)
 text-left d i = ap (λ r. r >>= λ t. Ok t.1) (text-shifts d i) ∙ by (text_at i)
   where
-    by : (r : Result (Input × Input) ReadError) → (moved_both d r >>= λ t. Ok t.1) ≡ moved_rest d (r >>= λ t. Ok t.1)
+    by : (r : Result (Input × Input) ReadError) → (moved_both d r >>= λ t. Ok t.1) ≡ moved_rest d
+        (r >>= λ t. Ok t.1)
     by (Ok x) = refl
     by (Err e) = refl
 
 block-shifts : (read : Input → Answer ℕ) → Shifts ℕ read → (d : ℕ) (i : Input)
-    → (read (shifted d i) >>= λ n. skip_at n.0 n.1 >>= λ rest. Ok rest.1) ≡ moved_rest d (read i >>= λ n. skip_at n.0 n.1 >>= λ rest. Ok rest.1)
-block-shifts read first d i = ap (λ r. r >>= λ n. skip_at n.0 n.1 >>= λ rest. Ok rest.1) (first d i) ∙ by (read i)
+    → (read (shifted d i) >>= λ n. skip_at n.0 n.1 >>= λ rest. Ok rest.1) ≡ moved_rest d
+    (read i >>= λ n. skip_at n.0 n.1 >>= λ rest. Ok rest.1)
+block-shifts read first d i = ap (λ r. r >>= λ n. skip_at n.0 n.1 >>= λ rest. Ok rest.1)
+    (first d i) ∙ by (read i)
   where
-    by : (r : Answer ℕ) → (moved d r >>= λ n. skip_at n.0 n.1 >>= λ rest. Ok rest.1) ≡ moved_rest d (r >>= λ n. skip_at n.0 n.1 >>= λ rest. Ok rest.1)
+    by : (r : Answer ℕ) → (moved d r >>= λ n. skip_at n.0 n.1 >>= λ rest. Ok rest.1) ≡ moved_rest d
+        (r >>= λ n. skip_at n.0 n.1 >>= λ rest. Ok rest.1)
     by (Ok x) = left-shifts (skip_at x.0) (shifts-skip x.0) d x.1
     by (Err e) = refl
 
 abbrev from_past : Input → Input → Result (Input × Input) ReadError
 from_past i rest = split_at (rest.place - i.place) i >>= λ value. Ok (value.0, rest)
 
-from-past : (d : ℕ) (i rest : Input) → from_past (shifted d i) (shifted d rest) ≡ moved_both d (from_past i rest)
+from-past : (d : ℕ) (i rest : Input) → from_past (shifted d i) (shifted d rest) ≡ moved_both d
+    (from_past i rest)
 from-past d i rest =
     let size : d + rest.place - (d + i.place) ≡ rest.place - i.place = omega arith in
     ap (λ n. split_at n (shifted d i) >>= λ value. Ok (value.0, shifted d rest)) size
-    ∙ ap (λ r. r >>= λ value. Ok (value.0, shifted d rest)) (split-shifts (rest.place - i.place) d i)
+    ∙ ap (λ r. r >>= λ value. Ok (value.0, shifted d rest))
+    (split-shifts (rest.place - i.place) d i)
     ∙ by (split_at (rest.place - i.place) i)
   where
-    by : (r : Result (Input × Input) ReadError) → (moved_both d r >>= λ value. Ok (value.0, shifted d rest)) ≡ moved_both d (r >>= λ value. Ok (value.0, rest))
+    by : (r : Result (Input × Input) ReadError) → (moved_both d r >>= λ value.
+        Ok (value.0, shifted d rest)) ≡ moved_both d (r >>= λ value. Ok (value.0, rest))
     by (Ok x) = refl
     by (Err e) = refl
 
-laid-by : (d : ℕ) (i : Input) (there here : Result Input ReadError) → there ≡ moved_rest d here → (there >>= from_past (shifted d i)) ≡ moved_both d (here >>= from_past i)
+laid-by : (d : ℕ) (i : Input) (there here : Result Input ReadError) → there ≡ moved_rest d here
+    → (there >>= from_past (shifted d i)) ≡ moved_both d (here >>= from_past i)
 laid-by d i there here h = ap (λ r. r >>= from_past (shifted d i)) h ∙ by here
   where
-    by : (r : Result Input ReadError) → (moved_rest d r >>= from_past (shifted d i)) ≡ moved_both d (r >>= from_past i)
+    by : (r : Result Input ReadError) → (moved_rest d r >>= from_past (shifted d i)) ≡ moved_both d
+        (r >>= from_past i)
     by (Ok rest) = from-past d i rest
     by (Err e) = refl
 
 -- a value of a layout, if there is one
 abbrev Lays : {L : Type 0} → (L → Input → Result Input ReadError) → ℕ → Input → Option L → Type 0
-Lays past d i layout = (ok_or layout UnknownForm >>= λ l. past l (shifted d i) >>= from_past (shifted d i)) ≡ moved_both d (ok_or layout UnknownForm >>= λ l. past l i >>= from_past i)
+Lays past d i layout = (ok_or layout UnknownForm >>= λ l. past l (shifted d i) >>= from_past
+    (shifted d i)) ≡ moved_both d (ok_or layout UnknownForm >>= λ l. past l i >>= from_past i)
 
-lays-either : {L : Type 0} (past : L → Input → Result Input ReadError) (d : ℕ) (i : Input) (b : Bool) (x y : Option L) → Lays past d i x → Lays past d i y → Lays past d i (cond b x y)
+lays-either : {L : Type 0} (past : L → Input → Result Input ReadError) (d : ℕ) (i : Input)
+    (b : Bool) (x y : Option L) → Lays past d i x → Lays past d i y → Lays past d i (cond b x y)
 lays-either past d i true x y h k = h
 lays-either past d i false x y h k = k
 
-lays-sized : {L : Type 0} (past : L → Input → Result Input ReadError) (d : ℕ) (i : Input) (by_size : Option ℕ → Option L) → ((size : ℕ) → Lays past d i (by_size (Some size))) → Lays past d i (by_size None)
+lays-sized : {L : Type 0} (past : L → Input → Result Input ReadError) (d : ℕ) (i : Input)
+    (by_size : Option ℕ → Option L) → ((size : ℕ) → Lays past d i (by_size (Some size)))
+    → Lays past d i (by_size None)
     → (size : Option ℕ) → Lays past d i (by_size size)
 lays-sized past d i by_size some none (Some size) = some size
 lays-sized past d i by_size some none None = none
@@ -207,18 +261,26 @@ lays-sized past d i by_size some none None = none
 open-lays : (form d : ℕ) (i : Input) → Lays past_value d i (open_layout form)
 unfolding past_value block_length_at
 open-lays form d i =
-    lays-either past_value d i (eqb form 0x0a) _ _ (laid-by d i _ _ (block-shifts byte_at shifts-byte d i))
-    (lays-either past_value d i (eqb form 0x03) _ _ (laid-by d i _ _ (block-shifts (number_at 2) (shifts-number 2) d i))
-    (lays-either past_value d i (eqb form 0x04) _ _ (laid-by d i _ _ (block-shifts (number_at 4) (shifts-number 4) d i))
-    (lays-either past_value d i (is_one_of (0x09 ∷ 0x18 ∷ []) form) _ _ (laid-by d i _ _ (block-shifts uleb_at shifts-uleb d i))
+    lays-either past_value d i (eqb form 0x0a) _ _
+    (laid-by d i _ _ (block-shifts byte_at shifts-byte d i))
+    (lays-either past_value d i (eqb form 0x03) _ _
+    (laid-by d i _ _ (block-shifts (number_at 2) (shifts-number 2) d i))
+    (lays-either past_value d i (eqb form 0x04) _ _
+    (laid-by d i _ _ (block-shifts (number_at 4) (shifts-number 4) d i))
+    (lays-either past_value d i (is_one_of (0x09 ∷ 0x18 ∷ []) form) _ _
+    (laid-by d i _ _ (block-shifts uleb_at shifts-uleb d i))
     (lays-either past_value d i (eqb form 0x08) _ _ (laid-by d i _ _ (text-left d i))
-    (lays-either past_value d i (eqb form 0x0d) _ _ (laid-by d i _ _ (left-shifts sleb_at shifts-sleb d i))
-    (lays-either past_value d i (is_one_of (0x0f ∷ 0x15 ∷ 0x1a ∷ 0x1b ∷ 0x22 ∷ 0x23 ∷ 0x1f01 ∷ 0x1f02 ∷ []) form) _ _ (laid-by d i _ _ (left-shifts uleb_at shifts-uleb d i)) refl))))))
+    (lays-either past_value d i (eqb form 0x0d) _ _
+    (laid-by d i _ _ (left-shifts sleb_at shifts-sleb d i))
+    (lays-either past_value d i (is_one_of (0x0f ∷ 0x15 ∷ 0x1a ∷ 0x1b ∷ 0x22 ∷ 0x23 ∷ 0x1f01 ∷
+    0x1f02 ∷ []) form) _ _ (laid-by d i _ _ (left-shifts uleb_at shifts-uleb d i)) refl))))))
 
-value-shifts : (encoding : Encoding) (form d : ℕ) (i : Input) → value_at encoding form (shifted d i) ≡ moved_both d (value_at encoding form i)
+value-shifts : (encoding : Encoding) (form d : ℕ) (i : Input) → value_at encoding form (shifted d i)
+    ≡ moved_both d (value_at encoding form i)
 unfolding value_at past_value
 value-shifts encoding form d i =
-    lays-sized past_value d i (λ s. sized_or s (sized_or (unit_size encoding form) (open_layout form)))
+    lays-sized past_value d i (λ s. sized_or s (sized_or (unit_size encoding form)
+    (open_layout form)))
     (λ size. laid-by d i _ _ (left-shifts (skip_at size) (shifts-skip size) d i))
     (lays-sized past_value d i (λ s. sized_or s (open_layout form))
     (λ size. laid-by d i _ _ (left-shifts (skip_at size) (shifts-skip size) d i))
@@ -228,11 +290,15 @@ value-shifts encoding form d i =
 
 shifts-named : (n form : ℕ) → Shifts ℕ (named_within n form)
 unfolding named_within
-shifts-named zero form = if-shifts (eqb form 0x16) (λ i. Err UnexpectedEof) (λ i. Ok (form, i)) (fault-shifts UnexpectedEof) (same-shifts form)
+shifts-named zero form = if-shifts (eqb form 0x16) (λ i. Err UnexpectedEof) (λ i. Ok (form, i))
+    (fault-shifts UnexpectedEof) (same-shifts form)
 shifts-named (suc n) form =
-    if-shifts (eqb form 0x16) (λ i. uleb_at i >>= λ named. cond (eqb named.0 0x21) (Err UnknownForm) (named_within n named.0 named.1)) (λ i. Ok (form, i))
-    (then-shifts uleb_at shifts-uleb (λ named i. cond (eqb named 0x21) (Err UnknownForm) (named_within n named i))
-    (λ named. if-shifts (eqb named 0x21) (λ i. Err UnknownForm) (named_within n named) (fault-shifts UnknownForm) (shifts-named n named)))
+    if-shifts (eqb form 0x16) (λ i. uleb_at i >>= λ named. cond (eqb named.0 0x21) (Err UnknownForm)
+    (named_within n named.0 named.1)) (λ i. Ok (form, i))
+    (then-shifts uleb_at shifts-uleb (λ named i. cond (eqb named 0x21) (Err UnknownForm)
+    (named_within n named i))
+    (λ named. if-shifts (eqb named 0x21) (λ i. Err UnknownForm) (named_within n named)
+    (fault-shifts UnknownForm) (shifts-named n named)))
     (same-shifts form)
 
 shifts-form : (form : ℕ) → Shifts ℕ (named_form_at form)
@@ -249,21 +315,38 @@ moved_attribute d (Ok x) = Ok (shifted_attribute d x.0, shifted d x.1)
 moved_attribute d (Err e) = Err e
 
 abbrev from_form : Encoding → ℕ → ℕ × Input → Answer DebugAttribute
-from_form encoding name form = value_at encoding form.0 form.1 >>= λ value. Ok (record { name = name; form = form.0; value = value.0 }, value.1)
+from_form encoding name form = value_at encoding form.0 form.1 >>= λ value.
+    Ok (record { name = name; form = form.0; value = value.0 }, value.1)
 
-form-shifts : (encoding : Encoding) (name d : ℕ) (form : ℕ × Input) → from_form encoding name (form.0, shifted d form.1) ≡ moved_attribute d (from_form encoding name form)
-form-shifts encoding name d form = ap (λ r. r >>= λ value. Ok (record { name = name; form = form.0; value = value.0 }, value.1)) (value-shifts encoding form.0 d form.1) ∙ by (value_at encoding form.0 form.1)
+form-shifts : (encoding : Encoding) (name d : ℕ) (form : ℕ × Input) → from_form encoding name
+    (form.0, shifted d form.1) ≡ moved_attribute d (from_form encoding name form)
+form-shifts encoding name d form = ap (λ r. r >>= λ value.
+    Ok (record { name = name; form = form.0; value = value.0 }, value.1))
+    (value-shifts encoding form.0 d form.1) ∙ by (value_at encoding form.0 form.1)
   where
     by : (r : Result (Input × Input) ReadError)
-        → ◌≡◌ {A = Answer DebugAttribute} (moved_both d r >>= λ value. Ok (record { name = name; form = form.0; value = value.0 }, value.1)) (moved_attribute d (r >>= λ value. Ok (record { name = name; form = form.0; value = value.0 }, value.1)))
+        → ◌≡◌ {A = Answer DebugAttribute} (moved_both d r >>= λ value.
+        Ok (record { name = name; form = form.0; value = value.0 }, value.1))
+        (moved_attribute d (r >>= λ value. Ok (
+          record {
+            name = name;
+            form = form.0;
+            value =
+                value.0;
+          },
+          value.1,
+        )))
     by (Ok x) = refl
     by (Err e) = refl
 
-attribute-shifts : (encoding : Encoding) (s : Specification) (d : ℕ) (i : Input) → attribute_at encoding s (shifted d i) ≡ moved_attribute d (attribute_at encoding s i)
+attribute-shifts : (encoding : Encoding) (s : Specification) (d : ℕ) (i : Input)
+    → attribute_at encoding s (shifted d i) ≡ moved_attribute d (attribute_at encoding s i)
 unfolding attribute_at
-attribute-shifts encoding s d i = ap (λ r. r >>= from_form encoding s.name) (shifts-form s.form d i) ∙ by (named_form_at s.form i)
+attribute-shifts encoding s d i = ap (λ r. r >>= from_form encoding s.name) (shifts-form s.form d i)
+    ∙ by (named_form_at s.form i)
   where
-    by : (r : Answer ℕ) → (moved d r >>= from_form encoding s.name) ≡ moved_attribute d (r >>= from_form encoding s.name)
+    by : (r : Answer ℕ) → (moved d r >>= from_form encoding s.name) ≡ moved_attribute d
+        (r >>= from_form encoding s.name)
     by (Ok x) = form-shifts encoding s.name d x
     by (Err e) = refl
 
@@ -271,7 +354,8 @@ read-same : (d : ℕ) (r : Answer ℕ) → number_read (moved d r) ≡ number_re
 read-same d (Ok x) = refl
 read-same d (Err e) = refl
 
-number-by : (d : ℕ) (read : Input → Answer ℕ) → Shifts ℕ read → (i : Input) → number_read (read (shifted d i)) ≡ number_read (read i)
+number-by : (d : ℕ) (read : Input → Answer ℕ) → Shifts ℕ read → (i : Input)
+    → number_read (read (shifted d i)) ≡ number_read (read i)
 number-by d read first i = ap number_read (first d i) ∙ read-same d (read i)
 
 choice : {A : Type 0} (b : Bool) (x y x' y' : A) → x ≡ x' → y ≡ y' → cond b x y ≡ cond b x' y'
@@ -287,30 +371,40 @@ number-same d a =
     (choice (eqb a.form 0x07) _ _ _ _ (number-by d (number_at 8) (shifts-number 8) a.value)
     (choice (eqb a.form 0x0f) _ _ _ _ (number-by d uleb_at shifts-uleb a.value) refl))))
 
-identifier-same : (d : ℕ) (a : DebugAttribute) → identifier_in (shifted_attribute d a) ≡ identifier_in a
+identifier-same : (d : ℕ) (a : DebugAttribute) → identifier_in (shifted_attribute d a)
+    ≡ identifier_in a
 identifier-same d a = ap (λ n. cond (eqb a.name DW_AT_GNU_dwo_id) n None) (number-same d a)
 
-first-same : (encoding : Encoding) (specs : List Specification) (d : ℕ) (i : Input) → first_identifier (attributes encoding specs (shifted d i)) ≡ first_identifier (attributes encoding specs i)
+first-same : (encoding : Encoding) (specs : List Specification) (d : ℕ) (i : Input)
+    → first_identifier (attributes encoding specs (shifted d i)) ≡ first_identifier
+    (attributes encoding specs i)
 first-same encoding [] d i = refl
 first-same encoding (s ∷ ss) d i =
-    ap (λ r. first_identifier (listed r (attributes encoding ss))) (attribute-shifts encoding s d i) ∙ by (attribute_at encoding s i) (λ j. first-same encoding ss d j)
+    ap (λ r. first_identifier (listed r (attributes encoding ss))) (attribute-shifts encoding s d i)
+    ∙ by (attribute_at encoding s i) (λ j. first-same encoding ss d j)
   where
-    by : (r : Answer DebugAttribute) → ((j : Input) → first_identifier (attributes encoding ss (shifted d j)) ≡ first_identifier (attributes encoding ss j))
-        → first_identifier (listed (moved_attribute d r) (attributes encoding ss)) ≡ first_identifier (listed r (attributes encoding ss))
+    by : (r : Answer DebugAttribute)
+        → ((j : Input) → first_identifier (attributes encoding ss (shifted d j)) ≡ first_identifier
+        (attributes encoding ss j))
+        → first_identifier (listed (moved_attribute d r) (attributes encoding ss)) ≡
+        first_identifier (listed r (attributes encoding ss))
     by (Ok x) later = ap₂ found_or (identifier-same d x.0) (later x.1)
     by (Err e) later = refl
 
 -- ---- the identity in a root entry
 
-entry-same : (encoding : Encoding) (decl : Declaration) (d : ℕ) (i : Input) → entry_identity (entry encoding decl (shifted d i)) ≡ entry_identity (entry encoding decl i)
+entry-same : (encoding : Encoding) (decl : Declaration) (d : ℕ) (i : Input)
+    → entry_identity (entry encoding decl (shifted d i)) ≡ entry_identity (entry encoding decl i)
 unfolding entry_identity
-entry-same encoding decl d i = ap (λ r. cond (is_unit_tag decl.tag) r (Err TopLevelDieNotUnit)) (first-same encoding decl.specifications d i)
+entry-same encoding decl d i = ap (λ r. cond (is_unit_tag decl.tag) r (Err TopLevelDieNotUnit))
+    (first-same encoding decl.specifications d i)
 
 shifts-code : Shifts ℕ code_at
 unfolding code_at
 shifts-code d i = by (eqb (length i.bytes) 0)
   where
-    by : (b : Bool) → cond {A = Answer ℕ} b (Ok (0, shifted d i)) (uleb_at (shifted d i)) ≡ moved d (cond {A = Answer ℕ} b (Ok (0, i)) (uleb_at i))
+    by : (b : Bool) → cond {A = Answer ℕ} b (Ok (0, shifted d i)) (uleb_at (shifted d i)) ≡ moved d
+        (cond {A = Answer ℕ} b (Ok (0, i)) (uleb_at i))
     by true = refl
     by false = shifts-uleb d i
 
@@ -326,22 +420,31 @@ from_code encoding table r = do
   d ← ok_or found (GimliRead UnknownCode)
   entry_identity (entry encoding d code.1)
 
-declared-same : (encoding : Encoding) (found : Result (Option Declaration) Fault) (d : ℕ) (i : Input)
-    → (found >>= λ f. ok_or f (GimliRead UnknownCode) >>= λ decl. entry_identity (entry encoding decl (shifted d i))) ≡ (found >>= λ f. ok_or f (GimliRead UnknownCode) >>= λ decl. entry_identity (entry encoding decl i))
+declared-same : (encoding : Encoding) (found : Result (Option Declaration) Fault)
+    (d : ℕ) (i : Input)
+    → (found >>= λ f. ok_or f (GimliRead UnknownCode) >>= λ decl.
+    entry_identity (entry encoding decl (shifted d i))) ≡ (found >>= λ f.
+    ok_or f (GimliRead UnknownCode) >>= λ decl. entry_identity (entry encoding decl i))
 declared-same encoding (Ok (Some decl)) d i = entry-same encoding decl d i
 declared-same encoding (Ok None) d i = refl
 declared-same encoding (Err e) d i = refl
 
 code-same : (encoding : Encoding) (table : Input) (d : ℕ) (code : ℕ × Input) (b : Bool)
-    → from_code encoding table (cond {A = Code} b (Ok None) (Ok (Some (code.0, shifted d code.1)))) ≡ from_code encoding table (cond {A = Code} b (Ok None) (Ok (Some code)))
+    → from_code encoding table (cond {A = Code} b (Ok None) (Ok (Some (code.0, shifted d code.1))))
+    ≡ from_code encoding table (cond {A = Code} b (Ok None) (Ok (Some code)))
 code-same encoding table d code true = refl
-code-same encoding table d code false = declared-same encoding (as_fault ParseUnitAbbreviations (declaration code.0 table)) d code.1
+code-same encoding table d code false = declared-same encoding (as_fault ParseUnitAbbreviations
+    (declaration code.0 table)) d code.1
 
-code-by : (encoding : Encoding) (table : Input) (d : ℕ) (i : Input) → from_code encoding table (root_code_at (shifted d i)) ≡ from_code encoding table (root_code_at i)
+code-by : (encoding : Encoding) (table : Input) (d : ℕ) (i : Input) → from_code encoding table
+    (root_code_at (shifted d i)) ≡ from_code encoding table (root_code_at i)
 unfolding root_code_at
-code-by encoding table d i = ap (λ r. from_code encoding table (r >>= λ code. cond (eqb code.0 0) (Ok None) (Ok (Some code)))) (shifts-code d i) ∙ by (code_at i)
+code-by encoding table d i = ap (λ r. from_code encoding table (r >>= λ code.
+    cond (eqb code.0 0) (Ok None) (Ok (Some code)))) (shifts-code d i) ∙ by (code_at i)
   where
-    by : (r : Answer ℕ) → from_code encoding table (moved d r >>= λ code. cond (eqb code.0 0) (Ok None) (Ok (Some code))) ≡ from_code encoding table (r >>= λ code. cond (eqb code.0 0) (Ok None) (Ok (Some code)))
+    by : (r : Answer ℕ) → from_code encoding table (moved d r >>= λ code.
+        cond (eqb code.0 0) (Ok None) (Ok (Some code))) ≡ from_code encoding table (r >>= λ code.
+        cond (eqb code.0 0) (Ok None) (Ok (Some code)))
     by (Ok x) = code-same encoding table d x (eqb x.0 0)
     by (Err e) = refl
 
@@ -352,17 +455,22 @@ pub record IsShifted (d : ℕ) (unit other : Header) : Type 0 where
   pub offset : other.abbrev_offset ≡ unit.abbrev_offset
   pub entries : other.entries ≡ shifted d unit.entries
 
-root-same : (section : Input) (d : ℕ) (unit other : Header) → IsShifted d unit other → root_identity section other ≡ root_identity section unit
+root-same : (section : Input) (d : ℕ) (unit other : Header) → IsShifted d unit other
+    → root_identity section other ≡ root_identity section unit
 unfolding root_identity
 root-same section d unit other h =
-    (λ i. as_fault ParseUnitAbbreviations (from_at (h.offset i) section) >>= λ table. from_code (h.encoding i) table (root_code_at (h.entries i)))
+    (λ i. as_fault ParseUnitAbbreviations (from_at (h.offset i) section) >>= λ table.
+    from_code (h.encoding i) table (root_code_at (h.entries i)))
     ∙ by (as_fault ParseUnitAbbreviations (from_at unit.abbrev_offset section))
   where
-    by : (r : Result Input Fault) → (r >>= λ table. from_code unit.encoding table (root_code_at (shifted d unit.entries))) ≡ (r >>= λ table. from_code unit.encoding table (root_code_at unit.entries))
+    by : (r : Result Input Fault) → (r >>= λ table. from_code unit.encoding table
+        (root_code_at (shifted d unit.entries))) ≡ (r >>= λ table. from_code unit.encoding table
+        (root_code_at unit.entries))
     by (Ok table) = code-by unit.encoding table d unit.entries
     by (Err e) = refl
 
-type-same : (section : Input) (d : ℕ) (unit other : Header) (type : UnitType) → IsShifted d unit other → identity_by section other type ≡ identity_by section unit type
+type-same : (section : Input) (d : ℕ) (unit other : Header) (type : UnitType)
+    → IsShifted d unit other → identity_by section other type ≡ identity_by section unit type
 type-same section d unit other (unit_types.Skeleton id) h = refl
 type-same section d unit other (unit_types.SplitCompilation id) h = refl
 type-same section d unit other (unit_types.TypeUnit signature offset) h = refl
@@ -371,6 +479,8 @@ type-same section d unit other unit_types.Compilation h = root-same section d un
 type-same section d unit other unit_types.Partial h = refl
 
 -- both have one identity
-pub identity-shifted : (section : Input) (d : ℕ) (unit other : Header) → IsShifted d unit other → identity section other ≡ identity section unit
+pub identity-shifted : (section : Input) (d : ℕ) (unit other : Header) → IsShifted d unit other
+    → identity section other ≡ identity section unit
 unfolding identity
-identity-shifted section d unit other h = ap (identity_by section other) h.type ∙ type-same section d unit other unit.unit_type h
+identity-shifted section d unit other h = ap (identity_by section other) h.type ∙ type-same section
+    d unit other unit.unit_type h

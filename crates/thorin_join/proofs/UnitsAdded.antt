@@ -1,5 +1,6 @@
 -- The units of an input that are added stand in their rows.
-use Rattle.std.proofs.Common.{◌≡◌, ◌∙◌, ℕ, Bool, true, false, cond, List, [], ◌∷◌, ◌++◌, ap, sym, subst, refl, Ok}
+use Rattle.std.proofs.Common.{◌≡◌, ◌∙◌, ℕ, Bool, true, false, cond, List, [], ◌∷◌, ◌++◌, ap, sym}
+use Rattle.std.proofs.Common.{subst, refl, Ok}
 use Rattle.std.specs.List.{list_any}
 use Rattle.std.proofs.lemmas.List.{append_assoc, append-nil, map-append}
 use Rattle.std.proofs.Math.Seq.{take-length}
@@ -18,8 +19,10 @@ use Rattle.thorin_join.specs.Meaning.{Meaning, Members, keys, joining}
 use Rattle.thorin_input.specs.Names.{same_name}
 use Rattle.thorin_input.specs.NewUnits.{NewUnit}
 use Rattle.thorin_join.specs.Represents.{LieInside, Shares, AreRowsOf}
-use Rattle.thorin_join.specs.State.{InProgress, kind_at, names_of, row_at, with_unit_added, with_new_unit, with_new_units}
-use Rattle.thorin_join.proofs.Keeping.{Grows, grows-with_bytes, keep-lie, keep-shares, keep-rows, rows-next}
+use Rattle.thorin_join.specs.State.{InProgress, kind_at, names_of, row_at, with_unit_added}
+use Rattle.thorin_join.specs.State.{with_new_unit, with_new_units}
+use Rattle.thorin_join.proofs.Keeping.{Grows, grows-with_bytes, keep-lie, keep-shares, keep-rows}
+use Rattle.thorin_join.proofs.Keeping.{rows-next}
 use Rattle.thorin_join.proofs.PartGrowth.{content-with_bytes}
 use Rattle.thorin_join.proofs.UnitAdded.{Fits, unit-added, row-name}
 
@@ -30,31 +33,40 @@ AllNew names [] = Unit {0}
 AllNew names (u ∷ us) = (list_any (same_name u.0) names ≡ false) × AllNew (names ++ u.0 ∷ []) us
 
 -- so are those that are joined
-new-cond : {X : Type 0} (names : List DwarfObject) (u : DwarfObject × X) (kept more : List (DwarfObject × X)) (b : Bool) → list_any (same_name u.0) names ≡ b
+new-cond : {X : Type 0} (names : List DwarfObject) (u : DwarfObject × X)
+    (kept more : List (DwarfObject × X)) (b : Bool) → list_any (same_name u.0) names ≡ b
     → AllNew names kept → AllNew (names ++ u.0 ∷ []) more → AllNew names (cond b kept (u ∷ more))
 new-cond names u kept more true e k m = k
 new-cond names u kept more false e k m = (e, m)
 
-pub joined-new : {X : Type 0} (names : List DwarfObject) (us : List (DwarfObject × X)) → AllNew names (joining names us)
+pub joined-new : {X : Type 0} (names : List DwarfObject) (us : List (DwarfObject × X))
+    → AllNew names (joining names us)
 joined-new names [] = tt
 joined-new names (u ∷ us) =
-    new-cond names u (joining names us) (joining (names ++ u.0 ∷ []) us) (list_any (same_name u.0) names) refl (joined-new names us) (joined-new (names ++ u.0 ∷ []) us)
+    new-cond names u (joining names us) (joining (names ++ u.0 ∷ []) us) (list_any (same_name u.0)
+    names) refl (joined-new names us) (joined-new (names ++ u.0 ∷ []) us)
 
 -- it depends on the names alone
-pub new-by-keys : {X Y : Type 0} (names : List DwarfObject) (us : List (DwarfObject × X)) (vs : List (DwarfObject × Y)) → keys us ≡ keys vs → AllNew names us → AllNew names vs
+pub new-by-keys : {X Y : Type 0} (names : List DwarfObject) (us : List (DwarfObject × X))
+    (vs : List (DwarfObject × Y)) → keys us ≡ keys vs → AllNew names us → AllNew names vs
 new-by-keys names us [] h n = tt
 new-by-keys names [] (v ∷ vs) h n = absurd cc
 new-by-keys names (u ∷ us) (v ∷ vs) h n =
     let here : u.0 ≡ v.0 = cc in
-    let rest : keys us ≡ keys vs = cc in
-    (subst (λ k. list_any (same_name k) names ≡ false) here n.0, new-by-keys (names ++ v.0 ∷ []) us vs rest (subst (λ k. AllNew (names ++ k ∷ []) us) here n.1))
+    let rest : keys us ≡ keys vs = cc in (
+      subst (λ k. list_any (same_name k) names ≡ false) here n.0,
+      new-by-keys (names ++ v.0 ∷ []) us
+          vs rest (subst (λ k. AllNew (names ++ k ∷ []) us) here n.1),
+    )
 
 -- a unit whose name is new is added
-pub is-new : (p : InProgress) (u : DwarfObject × NewUnit) → list_any (same_name u.0) (names_of p) ≡ false → with_new_unit p u ≡ with_unit_added p u
+pub is-new : (p : InProgress) (u : DwarfObject × NewUnit) → list_any (same_name u.0) (names_of p) ≡
+    false → with_new_unit p u ≡ with_unit_added p u
 unfolding with_new_unit
 is-new p u h = rw h refl
 
-pub names-added : (p : InProgress) (u : DwarfObject × NewUnit) → names_of (with_unit_added p u) ≡ names_of p ++ u.0 ∷ []
+pub names-added : (p : InProgress) (u : DwarfObject × NewUnit) → names_of (with_unit_added p u) ≡
+    names_of p ++ u.0 ∷ []
 names-added p u =
     map-append (λ row. row.id) p.rows (row_at u.1.row p.file.contents u.0 u.1.bytes u.1.place ∷ [])
     ∙ ap (λ n. names_of p ++ n ∷ []) (row-name u.1.row p.file.contents u.0 u.1.bytes u.1.place)
@@ -62,7 +74,8 @@ names-added p u =
 -- ---- units that can be added
 
 -- a unit has its place in what its row shares, and its header can be read
-pub record CanBeAdded (order : Endianness) (c : Contents) (strings : List (List ℕ)) (u : DwarfObject × NewUnit) (m : DwarfObject × Meaning) : Type 0 where
+pub record CanBeAdded (order : Endianness) (c : Contents) (strings : List (List ℕ)) (u : DwarfObject
+    × NewUnit) (m : DwarfObject × Meaning) : Type 0 where
   pub name : u.0 ≡ m.0
   pub bytes : u.1.bytes ≡ m.1.bytes
   pub encoded : u.1.row.encoding ≡ m.1.encoding
@@ -72,14 +85,18 @@ pub record CanBeAdded (order : Endianness) (c : Contents) (strings : List (List 
   pub encoding : Encoding
   pub header : encoding_in order u.1.place u.1.bytes ≡ Ok encoding
 
-abbrev pub AllCanBeAdded : Endianness → Contents → List (List ℕ) → List (DwarfObject × NewUnit) → Members → Type 0
+abbrev pub AllCanBeAdded : Endianness → Contents → List (List ℕ) → List (DwarfObject × NewUnit)
+    → Members → Type 0
 AllCanBeAdded order c strings [] [] = Unit {0}
 AllCanBeAdded order c strings [] (m ∷ ms) = ⊥
 AllCanBeAdded order c strings (u ∷ us) [] = ⊥
-AllCanBeAdded order c strings (u ∷ us) (m ∷ ms) = CanBeAdded order c strings u m × AllCanBeAdded order c strings us ms
+AllCanBeAdded order c strings (u ∷ us) (m ∷ ms) = CanBeAdded order c strings u m
+    × AllCanBeAdded order c strings us ms
 
 -- they still can when contents grew
-keep-can : (order : Endianness) (c d : Contents) (strings : List (List ℕ)) (us : List (DwarfObject × NewUnit)) (ms : Members) → Grows c d → AllCanBeAdded order c strings us ms → AllCanBeAdded order d strings us ms
+keep-can : (order : Endianness) (c d : Contents) (strings : List (List ℕ))
+    (us : List (DwarfObject × NewUnit)) (ms : Members) → Grows c d → AllCanBeAdded order c strings
+    us ms → AllCanBeAdded order d strings us ms
 keep-can order c d strings [] [] grows can = tt
 keep-can order c d strings [] (m ∷ ms) grows can = absurd can
 keep-can order c d strings (u ∷ us) [] grows can = absurd can
@@ -89,7 +106,8 @@ keep-can order c d strings (u ∷ us) (m ∷ ms) grows can = (
     bytes = can.0.bytes;
     encoded = can.0.encoded;
     lie = keep-lie c d u.1.row grows can.0.lie;
-    shares = keep-shares order c d strings strings u.1.row m.1 grows (take-length strings) can.0.lie can.0.shares;
+    shares = keep-shares order c d strings strings u.1.row m.1 grows (take-length strings)
+        can.0.lie can.0.shares;
     fits = can.0.fits;
     encoding = can.0.encoding;
     header = can.0.header;
@@ -101,11 +119,14 @@ keep-can order c d strings (u ∷ us) (m ∷ ms) grows can = (
 pub record Added (p : InProgress) (us : List (DwarfObject × NewUnit)) (ms : Members) : Type 0 where
   pub strings : (with_new_units p us).strings ≡ p.strings
   pub order : (with_new_units p us).file.order ≡ p.file.order
-  pub rows : AreRowsOf p.file.order (with_new_units p us).file.contents p.strings (with_new_units p us).rows ms
-  pub other : (kind : SectionKind) → ((place : UnitSection) → same_kind (kind_at place) kind ≡ false) → content_of kind (with_new_units p us).file.contents ≡ content_of kind p.file.contents
+  pub rows : AreRowsOf p.file.order (with_new_units p us).file.contents p.strings
+      (with_new_units p us).rows ms
+  pub other : (kind : SectionKind) → ((place : UnitSection) → same_kind (kind_at place) kind ≡
+      false) → content_of kind (with_new_units p us).file.contents ≡ content_of kind p.file.contents
   pub names : names_of (with_new_units p us) ≡ names_of p ++ keys us
 
-same-added : (p q : InProgress) (us : List (DwarfObject × NewUnit)) (ms : Members) → q ≡ p → Added p us ms → Added q us ms
+same-added : (p q : InProgress) (us : List (DwarfObject × NewUnit)) (ms : Members) → q ≡ p
+    → Added p us ms → Added q us ms
 same-added p q us ms h a = subst (λ r. Added r us ms) (sym h) a
 
 pub units-added : (p : InProgress) (us : List (DwarfObject × NewUnit)) (ms added : Members)
@@ -127,19 +148,26 @@ units-added p (u ∷ us) ms (m ∷ added) new can rows =
     let q = with_unit_added p u in
     let d = q.file.contents in
     let grows = grows-with_bytes k u.1.bytes c in
-    let row = unit-added p.file.order c p.strings u.1.row u.0 u.1.bytes u.1.place m can.0.encoding can.0.name can.0.bytes can.0.encoded can.0.lie can.0.shares can.0.fits can.0.header in
-    let before = keep-rows p.file.order c d p.strings p.strings p.rows ms grows (take-length p.strings) rows in
+    let row = unit-added p.file.order c p.strings u.1.row u.0 u.1.bytes u.1.place m can.0.encoding
+    can.0.name can.0.bytes can.0.encoded can.0.lie can.0.shares can.0.fits can.0.header in
+    let before = keep-rows p.file.order c d p.strings p.strings p.rows ms grows
+    (take-length p.strings) rows in
     let here = rows-next p.file.order d p.strings p.rows ms _ m before row in
     let names = names-added p u in
     let is = is-new p u new.0 in
-    let a = units-added q us (ms ++ m ∷ []) added (subst (λ n. AllNew n us) (sym names) new.1) (keep-can p.file.order c d p.strings us added grows can.1) here in
+    let a = units-added q us (ms ++ m ∷ []) added (subst (λ n. AllNew n us) (sym names) new.1)
+    (keep-can p.file.order c d p.strings us added grows can.1) here in
     record {
       strings = (λ i. (with_new_units (is i) us).strings) ∙ a.strings;
       order = (λ i. (with_new_units (is i) us).file.order) ∙ a.order;
-      rows = subst (λ r. AreRowsOf p.file.order (with_new_units r us).file.contents p.strings (with_new_units r us).rows (ms ++ m ∷ added)) (sym is)
-          (subst (λ l. AreRowsOf p.file.order (with_new_units q us).file.contents p.strings (with_new_units q us).rows l) (append_assoc ms (m ∷ []) added) a.rows);
-      other = λ kind h. (λ i. content_of kind (with_new_units (is i) us).file.contents) ∙ a.other kind h ∙ content-with_bytes kind k u.1.bytes c ∙ rw (h u.1.place) refl;
-      names = (λ i. names_of (with_new_units (is i) us)) ∙ a.names ∙ ap (λ n. n ++ keys us) names ∙ append_assoc (names_of p) (u.0 ∷ []) (keys us);
+      rows = subst (λ r. AreRowsOf p.file.order (with_new_units r us).file.contents p.strings
+          (with_new_units r us).rows (ms ++ m ∷ added)) (sym is)
+          (subst (λ l. AreRowsOf p.file.order (with_new_units q us).file.contents p.strings
+          (with_new_units q us).rows l) (append_assoc ms (m ∷ []) added) a.rows);
+      other = λ kind h. (λ i. content_of kind (with_new_units (is i) us).file.contents) ∙ a.other
+          kind h ∙ content-with_bytes kind k u.1.bytes c ∙ rw (h u.1.place) refl;
+      names = (λ i. names_of (with_new_units (is i) us)) ∙ a.names ∙ ap (λ n. n ++ keys us) names ∙
+          append_assoc (names_of p) (u.0 ∷ []) (keys us);
     }
 
 -- sections that no unit's bytes go to

@@ -3,7 +3,9 @@ use Rattle.std.proofs.Common.{◌≡◌, ◌∙◌, ℕ, List, [], ◌∷◌, ma
 use Rattle.std.specs.Prelude.{Ok}
 use Rattle.std.specs.Result.{result_unwrap_or}
 use Rattle.std.proofs.Math.Seq.{take-length}
-use Rattle.dwp_base.specs.declared.section.SectionKind.TheVariants.{Abbrev, Line, Loc, Loclists, Rnglists, StrOffsets, Macinfo, Macro}
+use Rattle.dwp_base.specs.declared.section.SectionKind.TheVariants.{Abbrev, Line, Loc, Loclists}
+use Rattle.dwp_base.specs.declared.section.SectionKind.TheVariants.{Rnglists, StrOffsets, Macinfo}
+use Rattle.dwp_base.specs.declared.section.SectionKind.TheVariants.{Macro}
 use Rattle.dwp_base.specs.declared.endian.Endianness.{Endianness}
 use Rattle.dwp_elf.specs.Contents.{content_of}
 use Rattle.dwp_index.specs.Package.{part_of, place_of}
@@ -18,14 +20,19 @@ use Rattle.thorin_join.specs.State.{InProgress, kind_at, names_of, unit_bytes}
 use Rattle.thorin_join.specs.Strings.{strings_of}
 use Rattle.thorin_join.proofs.StringLists.{strings-are}
 
-module _ (order : Endianness) (contents : Contents) (strings : List (List ℕ)) (table : IsTable strings) where
-  module _ (row : IndexEntry) (member : DwarfObject × Meaning) (is : IsRowOf order contents strings row member) where
+module _ (order : Endianness) (contents : Contents) (strings : List (List ℕ))
+    (table : IsTable strings) where
+  module _ (row : IndexEntry) (member : DwarfObject × Meaning) (is : IsRowOf order contents strings
+      row member) where
     bytes-are : member.1.bytes ≡ unit_bytes contents row
     bytes-are =
         sym is.owns.bytes
-        ∙ ap (λ place. part_of (content_of (kind_at place) contents) (contribution_to (kind_at place) row)) (is.owns.place_is ∙ ap (λ name. place_of name row.debug_types) (sym is.name))
+        ∙ ap (λ place. part_of (content_of (kind_at place) contents)
+        (contribution_to (kind_at place) row)) (is.owns.place_is ∙ ap (λ name.
+        place_of name row.debug_types) (sym is.name))
 
-    pieces-are : member.1.pieces ≡ pieces_by (λ kind. part_of (content_of kind contents) (contribution_to kind row))
+    pieces-are : member.1.pieces ≡ pieces_by (λ kind. part_of (content_of kind contents)
+        (contribution_to kind row))
     pieces-are = λ i. record {
       abbreviations = sym (is.shares.content Abbrev refl) i;
       line = sym (is.shares.content Line refl) i;
@@ -36,10 +43,15 @@ module _ (order : Endianness) (contents : Contents) (strings : List (List ℕ)) 
       macros = sym (is.shares.content Macro refl) i;
     }
 
-    strings-found : strings_of order row.encoding (data_of strings) (part_of (content_of StrOffsets contents) (contribution_to StrOffsets row)) ≡ Ok member.1.strings
+    strings-found : strings_of order row.encoding (data_of strings)
+        (part_of (content_of StrOffsets contents) (contribution_to StrOffsets row)) ≡ Ok
+        member.1.strings
     strings-found =
-        ap (λ encoding. strings_of order encoding (data_of strings) (part_of (content_of StrOffsets contents) (contribution_to StrOffsets row))) is.encoding
-        ∙ strings-are order member.1.encoding (data_of strings) (part_of (content_of StrOffsets contents) (contribution_to StrOffsets row)) member.1.strings
+        ap (λ encoding. strings_of order encoding (data_of strings)
+        (part_of (content_of StrOffsets contents) (contribution_to StrOffsets row))) is.encoding
+        ∙ strings-are order member.1.encoding (data_of strings)
+        (part_of (content_of StrOffsets contents) (contribution_to StrOffsets row))
+        member.1.strings
         (is.shares.string strings table (take-length strings))
 
     meaning-is : member.1 ≡ meaning_at order contents strings row
@@ -51,17 +63,22 @@ module _ (order : Endianness) (contents : Contents) (strings : List (List ℕ)) 
     }
 
   rows-are : (rows : List IndexEntry) (ms : Members) → AreRowsOf order contents strings rows ms
-      → ms ≡ map {B = DwarfObject × Meaning} (λ row. (row.id, meaning_at order contents strings row)) rows
+      → ms ≡ map {B = DwarfObject × Meaning} (λ row.
+      (row.id, meaning_at order contents strings row)) rows
   rows-are [] [] are = refl
   rows-are [] (m ∷ ms) are = absurd are
   rows-are (r ∷ rs) [] are = absurd are
-  rows-are (r ∷ rs) (m ∷ ms) are = λ i. (sym are.0.name i, meaning-is r m are.0 i) ∷ rows-are rs ms are.1 i
+  rows-are (r ∷ rs) (m ∷ ms) are = λ i. (sym are.0.name i, meaning-is r m are.0 i) ∷
+      rows-are rs ms are.1 i
 
 pub units-are : (made : InProgress) (ms : Members) → Represents made ms → ms ≡ units_of made
-units-are made ms has = rows-are made.file.order made.file.contents made.strings has.table made.rows ms has.rows
+units-are made ms has = rows-are made.file.order made.file.contents made.strings has.table
+    made.rows ms has.rows
 
-rows-keys : (order : Endianness) (contents : Contents) (strings : List (List ℕ)) (rows : List IndexEntry)
-    → keys (map {B = DwarfObject × Meaning} (λ row. (row.id, meaning_at order contents strings row)) rows) ≡ map (λ row. row.id) rows
+rows-keys : (order : Endianness) (contents : Contents) (strings : List (List ℕ))
+    (rows : List IndexEntry)
+    → keys (map {B = DwarfObject × Meaning} (λ row. (row.id, meaning_at order contents strings row))
+    rows) ≡ map (λ row. row.id) rows
 rows-keys order contents strings [] = refl
 rows-keys order contents strings (r ∷ rs) = ap (λ l. r.id ∷ l) (rows-keys order contents strings rs)
 

@@ -36,7 +36,8 @@ pub record AnswersAs (units : Members) (bytes : List ℕ) : Type 0 where
   pub finds : (name : DwarfObject) → MatchOption (lookup (same_name name) units)
       (GivesNone pack name (look_limit units name)) (GivesUnit pack name (look_limit units name))
 
--- a new package takes the file's bytes, has just these units then, in some order, and what is packed
+-- a new package takes the file's bytes, has just these units then, in some order, and what is
+-- packed
 -- of it alone answers as these units, once it is written and read back as an ELF file
 pub record IsAcceptedByNew (units : Members) (file : File) : Type 0 where
   pub after : State

@@ -1,7 +1,10 @@
 -- Rewriting one range after another.
-use Rattle.std.proofs.Common.{◌≡◌, ℕ, ◌+◌, ◌-◌, ◌%◌, ◌<◌, ◌≤◌, Bool, true, false, cond, eqb, ltb, leb, not, ◌&&◌, List, [], ◌∷◌, ◌++◌, length, get_or, take, drop, slice_range, Ok, Err, Result, ap, sym, refl, ◌∙◌, append_assoc, arith}
+use Rattle.std.proofs.Common.{◌≡◌, ℕ, ◌+◌, ◌-◌, ◌%◌, ◌<◌, ◌≤◌, Bool, true, false, cond, eqb, ltb}
+use Rattle.std.proofs.Common.{leb, not, ◌&&◌, List, [], ◌∷◌, ◌++◌, length, get_or, take, drop}
+use Rattle.std.proofs.Common.{slice_range, Ok, Err, Result, ap, sym, refl, ◌∙◌, append_assoc, arith}
 use Rattle.std.proofs.lemmas.Bool.{and_parts, leb-true, ltb-false, eqb-true}
-use Rattle.std.proofs.lemmas.List.{take-take, take_all, length-take, get_or_default, at_drop_more, at_drop_all}
+use Rattle.std.proofs.lemmas.List.{take-take, take_all, length-take, get_or_default, at_drop_more}
+use Rattle.std.proofs.lemmas.List.{at_drop_all}
 use Rattle.dwp_base.specs.declared.endian.Endianness.{Endianness}
 use Rattle.dwp_base.specs.declared.section.Contribution.{Contribution}
 use Rattle.dwp_base.specs.Reading.{◌>>=◌}
@@ -13,19 +16,23 @@ use Rattle.thorin_strings.specs.StringOffsets.{remapped}
 use Rattle.thorin_packaged.specs.PackagedOffsets.{is_whole_range, ranges_test, rewritten_from}
 
 -- ---- what the tests say of the next range
-pub record IsNext (encoding : Encoding) (size last : ℕ) (r : Contribution) (rs : List Contribution) : Type 0 where
+pub record IsNext (encoding : Encoding) (size last : ℕ) (r : Contribution)
+    (rs : List Contribution) : Type 0 where
   pub inside : r.offset.0 + r.size ≤ size
   pub header : header_size encoding ≤ r.size
   pub whole : (r.size - header_size encoding) % offset_size encoding.format ≡ 0
   pub behind : last ≤ r.offset.0
   pub others : ranges_test encoding size (r.offset.0 + r.size) rs ≡ Ok tt
 
-passed_by : (a b : Bool) (first second : Fault) (rest : Result (Unit {0}) Fault) → cond (not a) (Err first) (cond b (Err second) rest) ≡ Ok tt → (a ≡ true) × (b ≡ false) × (rest ≡ Ok tt)
+passed_by : (a b : Bool) (first second : Fault) (rest : Result (Unit {0}) Fault)
+    → cond (not a) (Err first) (cond b (Err second) rest) ≡ Ok tt → (a ≡ true) × (b ≡ false)
+    × (rest ≡ Ok tt)
 passed_by true false first second rest h = (refl, refl, h)
 passed_by true true first second rest h = absurd cc
 passed_by false b first second rest h = absurd cc
 
-pub next_passed : (encoding : Encoding) (size last : ℕ) (r : Contribution) (rs : List Contribution) → ranges_test encoding size last (r ∷ rs) ≡ Ok tt → IsNext encoding size last r rs
+pub next_passed : (encoding : Encoding) (size last : ℕ) (r : Contribution) (rs : List Contribution)
+    → ranges_test encoding size last (r ∷ rs) ≡ Ok tt → IsNext encoding size last r rs
 unfolding ranges_test
 next_passed encoding size last r rs h =
     let inside = leb (r.offset.0 + r.size) size in
@@ -46,7 +53,8 @@ next_passed encoding size last r rs h =
 abbrev Rewriting : Type 0
 Rewriting = Result (List ℕ × List (List ℕ)) Fault
 
-abbrev pub onto : List ℕ → Result (List ℕ × List (List ℕ)) Fault → Result (List ℕ × List (List ℕ)) Fault
+abbrev pub onto : List ℕ → Result (List ℕ × List (List ℕ)) Fault
+    → Result (List ℕ × List (List ℕ)) Fault
 onto front (Ok p) = Ok (front ++ p.0, p.1)
 onto front (Err e) = Err e
 
@@ -55,20 +63,27 @@ onto_none (Ok p) = refl
 onto_none (Err e) = refl
 
 -- so far the rewriting of all is that of the rest behind what was written
-pub record IsSoFar (order : Endianness) (encoding : Encoding) (section bytes : List ℕ) (ranges : List Contribution) (before : List (List ℕ)) (out : List ℕ) (at n : ℕ) (strings : List (List ℕ)) : Type 0 where
+pub record IsSoFar (order : Endianness) (encoding : Encoding) (section bytes : List ℕ)
+    (ranges : List Contribution) (before : List (List ℕ)) (out : List ℕ) (at n : ℕ)
+    (strings : List (List ℕ)) : Type 0 where
   pub kept : take (length before) strings ≡ before
   pub within : at ≤ length bytes
   pub passed : ranges_test encoding (length bytes) at (drop n ranges) ≡ Ok tt
-  pub all : onto out (rewritten_from order encoding section bytes at (drop n ranges) strings) ≡ rewritten_from order encoding section bytes 0 ranges before
+  pub all : onto out (rewritten_from order encoding section bytes at (drop n ranges) strings) ≡
+      rewritten_from order encoding section bytes 0 ranges before
 
 -- what keeps the strings before it keeps those before them
-pub kept_more : (old now new : List (List ℕ)) → take (length old) now ≡ old → take (length now) new ≡ now → take (length old) new ≡ old
+pub kept_more : (old now new : List (List ℕ)) → take (length old) now ≡ old → take (length now) new
+    ≡ now → take (length old) new ≡ old
 kept_more old now new first second =
-    let short : length old ≤ length now = omega (arith, ap length first, length-take (length old) now) in
+    let short : length old ≤ length now =
+    omega (arith, ap length first, length-take (length old) now) in
     sym (take-take (length old) (length now) new short) ∙ ap (take (length old)) second ∙ first
 
-module _ (order : Endianness) (encoding : Encoding) (section bytes : List ℕ) (ranges : List Contribution) (before : List (List ℕ)) where
-  pub none_yet : ranges_test encoding (length bytes) 0 ranges ≡ Ok tt → IsSoFar order encoding section bytes ranges before [] 0 0 before
+module _ (order : Endianness) (encoding : Encoding) (section bytes : List ℕ)
+    (ranges : List Contribution) (before : List (List ℕ)) where
+  pub none_yet : ranges_test encoding (length bytes) 0 ranges ≡ Ok tt → IsSoFar order encoding
+      section bytes ranges before [] 0 0 before
   none_yet passed = record {
     kept = take_all (length before) before (omega arith);
     within = omega arith;
@@ -76,15 +91,19 @@ module _ (order : Endianness) (encoding : Encoding) (section bytes : List ℕ) (
     all = onto_none (rewritten_from order encoding section bytes 0 ranges before);
   }
 
-  module _ (out : List ℕ) (at n : ℕ) (strings : List (List ℕ)) (so_far : IsSoFar order encoding section bytes ranges before out at n strings) where
+  module _ (out : List ℕ) (at n : ℕ) (strings : List (List ℕ)) (so_far : IsSoFar order encoding
+      section bytes ranges before out at n strings) where
     -- at the end
-    rest_is : (rest : List ℕ) → onto out (rewritten_from order encoding section bytes at [] strings) ≡ Ok (out ++ drop at bytes, strings)
+    rest_is : (rest : List ℕ) → onto out (rewritten_from order encoding section bytes at [] strings)
+        ≡ Ok (out ++ drop at bytes, strings)
     unfolding rewritten_from
     rest_is rest = refl
 
-    pub all_written : length ranges ≤ n → rewritten_from order encoding section bytes 0 ranges before ≡ Ok (out ++ drop at bytes, strings)
+    pub all_written : length ranges ≤ n → rewritten_from order encoding section bytes 0 ranges
+        before ≡ Ok (out ++ drop at bytes, strings)
     all_written past =
-        sym so_far.all ∙ at_drop_all (λ rs. onto out (rewritten_from order encoding section bytes at rs strings)) ranges n past ∙ rest_is out
+        sym so_far.all ∙ at_drop_all (λ rs. onto out (rewritten_from order encoding section bytes at
+        rs strings)) ranges n past ∙ rest_is out
 
     -- one more
     module _ (d : Contribution) (less : n < length ranges) where
@@ -97,37 +116,59 @@ module _ (order : Endianness) (encoding : Encoding) (section bytes : List ℕ) (
       pub next : IsNext encoding (length bytes) at r (drop (n + 1) ranges)
       next = next_passed encoding (length bytes) at r (drop (n + 1) ranges)
           (ap (λ x. ranges_test encoding (length bytes) at (x ∷ drop (n + 1) ranges)) there
-          ∙ sym (at_drop_more (ranges_test encoding (length bytes) at) ranges n r less) ∙ so_far.passed)
+          ∙ sym (at_drop_more (ranges_test encoding (length bytes) at) ranges n r less)
+          ∙ so_far.passed)
 
       abbrev range_of_next : Rewriting
-      range_of_next = remapped order encoding section (slice_range bytes r.offset.0 (r.offset.0 + r.size)) r.size strings
+      range_of_next = remapped order encoding section (slice_range bytes r.offset.0
+          (r.offset.0 + r.size)) r.size strings
 
-      from_next : onto out (rewritten_from order encoding section bytes at (r ∷ drop (n + 1) ranges) strings) ≡ rewritten_from order encoding section bytes 0 ranges before
+      from_next : onto out (rewritten_from order encoding section bytes at (r ∷ drop (n + 1) ranges)
+          strings) ≡ rewritten_from order encoding section bytes 0 ranges before
       from_next =
-          ap (λ x. onto out (rewritten_from order encoding section bytes at (x ∷ drop (n + 1) ranges) strings)) there
-          ∙ sym (at_drop_more (λ rs. onto out (rewritten_from order encoding section bytes at rs strings)) ranges n r less) ∙ so_far.all
+          ap (λ x. onto out (rewritten_from order encoding section bytes at
+          (x ∷ drop (n + 1) ranges) strings)) there
+          ∙ sym (at_drop_more (λ rs. onto out (rewritten_from order encoding section bytes at rs
+          strings)) ranges n r less) ∙ so_far.all
 
-      refuses_by : (fault : Fault) → range_of_next ≡ Err fault → onto out (rewritten_from order encoding section bytes at (r ∷ drop (n + 1) ranges) strings) ≡ Err fault
+      refuses_by : (fault : Fault) → range_of_next ≡ Err fault
+          → onto out (rewritten_from order encoding section bytes at (r ∷ drop (n + 1) ranges)
+          strings) ≡ Err fault
       unfolding rewritten_from
       refuses_by fault refused = rw refused refl
 
-      pub one_refused : (fault : Fault) → range_of_next ≡ Err fault → rewritten_from order encoding section bytes 0 ranges before ≡ Err fault
+      pub one_refused : (fault : Fault) → range_of_next ≡ Err fault → rewritten_from order encoding
+          section bytes 0 ranges before ≡ Err fault
       one_refused fault refused = sym from_next ∙ refuses_by fault refused
 
-      onto_more : (front range : List ℕ) (rest : Rewriting) → onto ((out ++ front) ++ range) rest ≡ onto out (rest >>= λ p. Ok (front ++ range ++ p.0, p.1))
-      onto_more front range (Ok p) = ap (λ l. Ok (l, p.1)) (append_assoc (out ++ front) range p.0 ∙ append_assoc out front (range ++ p.0) ∙ ap (λ l. out ++ l) (sym (append_assoc front range p.0)))
+      onto_more : (front range : List ℕ) (rest : Rewriting) → onto ((out ++ front) ++ range) rest ≡
+          onto out (rest >>= λ p. Ok (front ++ range ++ p.0, p.1))
+      onto_more front range (Ok p) = ap (λ l. Ok (l, p.1)) (append_assoc (out ++ front) range p.0 ∙
+          append_assoc out front (range ++ p.0) ∙ ap (λ l. out ++ l)
+          (sym (append_assoc front range p.0)))
       onto_more front range (Err e) = refl
 
-      more_by : (range : List ℕ) (after : List (List ℕ)) → range_of_next ≡ Ok (range, after) → onto ((out ++ slice_range bytes at r.offset.0) ++ range) (rewritten_from order encoding section bytes (r.offset.0 + r.size) (drop (n + 1) ranges) after) ≡ onto out (rewritten_from order encoding section bytes at (r ∷ drop (n + 1) ranges) strings)
+      more_by : (range : List ℕ) (after : List (List ℕ)) → range_of_next ≡ Ok (range, after)
+          → onto ((out ++ slice_range bytes at r.offset.0) ++ range) (rewritten_from order encoding
+          section bytes (r.offset.0 + r.size) (drop (n + 1) ranges) after) ≡ onto out
+          (rewritten_from order encoding section bytes at (r ∷ drop (n + 1) ranges) strings)
       unfolding rewritten_from
-      more_by range after ok = rw ok (onto_more (slice_range bytes at r.offset.0) range (rewritten_from order encoding section bytes (r.offset.0 + r.size) (drop (n + 1) ranges) after))
+      more_by range after ok = rw ok (onto_more (slice_range bytes at r.offset.0) range
+          (rewritten_from order encoding section bytes (r.offset.0 + r.size)
+          (drop (n + 1) ranges) after))
 
-      pub one_more : (range : List ℕ) (after : List (List ℕ)) (new : List ℕ) (end : ℕ) → range_of_next ≡ Ok (range, after) → take (length strings) after ≡ strings → new ≡ (out ++ slice_range bytes at r.offset.0) ++ range → end ≡ r.offset.0 + r.size → IsSoFar order encoding section bytes ranges before new end (n + 1) after
+      pub one_more : (range : List ℕ) (after : List (List ℕ)) (new : List ℕ) (end : ℕ)
+          → range_of_next ≡ Ok (range, after) → take (length strings) after ≡ strings
+          → new ≡ (out ++ slice_range bytes at r.offset.0) ++ range → end ≡ r.offset.0 + r.size
+          → IsSoFar order encoding section bytes ranges before new end (n + 1) after
       one_more range after new end ok kept new_is end_is = record {
         kept = kept_more before strings after so_far.kept kept;
         within = omega (arith, next.inside, end_is);
-        passed = ap (λ e. ranges_test encoding (length bytes) e (drop (n + 1) ranges)) end_is ∙ next.others;
-        all = ap (λ e. onto new (rewritten_from order encoding section bytes e (drop (n + 1) ranges) after)) end_is
-            ∙ ap (λ o. onto o (rewritten_from order encoding section bytes (r.offset.0 + r.size) (drop (n + 1) ranges) after)) new_is
+        passed = ap (λ e. ranges_test encoding (length bytes) e (drop (n + 1) ranges))
+            end_is ∙ next.others;
+        all = ap (λ e. onto new (rewritten_from order encoding section bytes e
+            (drop (n + 1) ranges) after)) end_is
+            ∙ ap (λ o. onto o (rewritten_from order encoding section bytes (r.offset.0 + r.size)
+            (drop (n + 1) ranges) after)) new_is
             ∙ more_by range after ok ∙ from_next;
       }

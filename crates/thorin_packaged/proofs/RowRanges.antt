@@ -1,5 +1,6 @@
 -- The range of each row is among the ranges.
-use Rattle.std.proofs.Common.{◌≡◌, ℕ, zero, suc, ◌-◌, List, [], ◌∷◌, length, get_or, Some, None, Option, Ok, ap, sym, subst, refl, ◌∙◌, ◌⊎◌, inl, inr, arith}
+use Rattle.std.proofs.Common.{◌≡◌, ℕ, zero, suc, ◌-◌, List, [], ◌∷◌, length, get_or, Some, None}
+use Rattle.std.proofs.Common.{Option, Ok, ap, sym, subst, refl, ◌∙◌, ◌⊎◌, inl, inr, arith}
 use Rattle.std.specs.Ordering.{is_eq, match_ordering}
 use Rattle.std.specs.declared.cmp.Ordering.{Ordering}
 use Rattle.std.specs.declared.cmp.Ordering.TheVariants.{Less, Equal, Greater}
@@ -25,58 +26,80 @@ some_same r x same = cc
 equal_same : (r x : Contribution) → place_cmp r x ≡ Equal → r ≡ x
 equal_same r x equal = some_same r x (range_is x (Some r) (sym (key_test r x) ∙ ap is_eq equal))
 
-there_by : (o : Ordering) (r x : Contribution) (xs more : List Contribution) → place_cmp r x ≡ o → IsIn r more → IsIn r (match_ordering o (r ∷ x ∷ xs) (x ∷ xs) (x ∷ more))
+there_by : (o : Ordering) (r x : Contribution) (xs more : List Contribution) → place_cmp r x ≡ o
+    → IsIn r more → IsIn r (match_ordering o (r ∷ x ∷ xs) (x ∷ xs) (x ∷ more))
 there_by Less r x xs more is later = inl refl
 there_by Equal r x xs more is later = inl (equal_same r x is)
 there_by Greater r x xs more is later = inr later
 
-inserted_there : (ranges : List Contribution) (r : Contribution) → IsIn r (insert_key place_cmp ranges r)
+inserted_there : (ranges : List Contribution) (r : Contribution)
+    → IsIn r (insert_key place_cmp ranges r)
 inserted_there [] r = inl refl
-inserted_there (x ∷ xs) r = there_by (place_cmp r x) r x xs (insert_key place_cmp xs r) refl (inserted_there xs r)
+inserted_there (x ∷ xs) r = there_by (place_cmp r x) r x xs (insert_key place_cmp xs r) refl
+    (inserted_there xs r)
 
-still_by : (o : Ordering) (r k x : Contribution) (xs more : List Contribution) → (IsIn r xs → IsIn r more) → (r ≡ x) ⊎ IsIn r xs → IsIn r (match_ordering o (k ∷ x ∷ xs) (x ∷ xs) (x ∷ more))
+still_by : (o : Ordering) (r k x : Contribution) (xs more : List Contribution)
+    → (IsIn r xs → IsIn r more) → (r ≡ x) ⊎ IsIn r xs
+    → IsIn r (match_ordering o (k ∷ x ∷ xs) (x ∷ xs) (x ∷ more))
 still_by Less r k x xs more later there = inr there
 still_by Equal r k x xs more later there = there
 still_by Greater r k x xs more later (inl same) = inl same
 still_by Greater r k x xs more later (inr there) = inr (later there)
 
-inserted_still : (ranges : List Contribution) (k r : Contribution) → IsIn r ranges → IsIn r (insert_key place_cmp ranges k)
+inserted_still : (ranges : List Contribution) (k r : Contribution) → IsIn r ranges
+    → IsIn r (insert_key place_cmp ranges k)
 inserted_still [] k r there = elim there [ ]
-inserted_still (x ∷ xs) k r there = still_by (place_cmp k x) r k x xs (insert_key place_cmp xs k) (inserted_still xs k r) there
+inserted_still (x ∷ xs) k r there = still_by (place_cmp k x) r k x xs (insert_key place_cmp xs k)
+    (inserted_still xs k r) there
 
 -- ---- with those of rows
-rows_still : (rows : List (Option Contribution)) (ranges : List Contribution) (r : Contribution) → IsIn r ranges → IsIn r (with_ranges rows ranges)
+rows_still : (rows : List (Option Contribution)) (ranges : List Contribution) (r : Contribution)
+    → IsIn r ranges → IsIn r (with_ranges rows ranges)
 rows_still [] ranges r there = there
 rows_still (None ∷ rows) ranges r there = rows_still rows ranges r there
-rows_still (Some k ∷ rows) ranges r there = rows_still rows (insert_key place_cmp ranges k) r (inserted_still ranges k r there)
+rows_still (Some k ∷ rows) ranges r there = rows_still rows (insert_key place_cmp ranges k) r
+    (inserted_still ranges k r there)
 
-rows_there : (rows : List (Option Contribution)) (ranges : List Contribution) (r : Contribution) (k : ℕ) → get_or rows k None ≡ Some r → IsIn r (with_ranges rows ranges)
+rows_there : (rows : List (Option Contribution)) (ranges : List Contribution) (r : Contribution)
+    (k : ℕ) → get_or rows k None ≡ Some r → IsIn r (with_ranges rows ranges)
 rows_there [] ranges r k at = absurd cc
 rows_there (None ∷ rows) ranges r zero at = absurd cc
 rows_there (Some x ∷ rows) ranges r zero at =
-    rows_still rows (insert_key place_cmp ranges x) r (subst (λ y. IsIn y (insert_key place_cmp ranges x)) (some_same x r at) (inserted_there ranges x))
+    rows_still rows (insert_key place_cmp ranges x) r
+    (subst (λ y. IsIn y (insert_key place_cmp ranges x)) (some_same x r at)
+    (inserted_there ranges x))
 rows_there (None ∷ rows) ranges r (suc k) at = rows_there rows ranges r k at
-rows_there (Some x ∷ rows) ranges r (suc k) at = rows_there rows (insert_key place_cmp ranges x) r k at
+rows_there (Some x ∷ rows) ranges r (suc k) at =
+    rows_there rows (insert_key place_cmp ranges x) r k at
 
 -- ---- of both indexes
-index_still : (index : Option Index) (ranges : List Contribution) (r : Contribution) → IsIn r ranges → IsIn r (with_rows index ranges)
+index_still : (index : Option Index) (ranges : List Contribution) (r : Contribution) → IsIn r ranges
+    → IsIn r (with_rows index ranges)
 index_still None ranges r there = there
 index_still (Some index) ranges r there = rows_still (ranges_of index StrOffsets) ranges r there
 
-row_at : (index : Index) (number : ℕ) (row : Ranges) (r : Contribution) → row_in index number ≡ Ok row → range_in row StrOffsets ≡ Some r → get_or (ranges_of index StrOffsets) (number - 1) None ≡ Some r
+row_at : (index : Index) (number : ℕ) (row : Ranges) (r : Contribution) → row_in index number ≡ Ok
+    row → range_in row StrOffsets ≡ Some r → get_or (ranges_of index StrOffsets)
+    (number - 1) None ≡ Some r
 unfolding ranges_of
 row_at index number row r there has =
     let within = numbered index number row there in
-    get_or-map-range_with_len (range_of_row index StrOffsets) 1 (length index.offsets) (number - 1) number None (omega (arith, within.0, within.1)) (omega (arith, within.0))
+    get_or-map-range_with_len (range_of_row index StrOffsets) 1 (length index.offsets) (number - 1)
+    number None (omega (arith, within.0, within.1)) (omega (arith, within.0))
     ∙ range_of_found index StrOffsets number row there ∙ has
 
-index_there : (index : Index) (ranges : List Contribution) (number : ℕ) (row : Ranges) (r : Contribution) → row_in index number ≡ Ok row → range_in row StrOffsets ≡ Some r → IsIn r (with_rows (Some index) ranges)
-index_there index ranges number row r there has = rows_there (ranges_of index StrOffsets) ranges r (number - 1) (row_at index number row r there has)
+index_there : (index : Index) (ranges : List Contribution) (number : ℕ) (row : Ranges)
+    (r : Contribution) → row_in index number ≡ Ok row → range_in row StrOffsets ≡ Some r
+    → IsIn r (with_rows (Some index) ranges)
+index_there index ranges number row r there has = rows_there (ranges_of index StrOffsets) ranges r
+    (number - 1) (row_at index number row r there has)
 
-module _ (index : Index) (number : ℕ) (row : Ranges) (r : Contribution) (there : row_in index number ≡ Ok row) (has : range_in row StrOffsets ≡ Some r) where
+module _ (index : Index) (number : ℕ) (row : Ranges) (r : Contribution) (there : row_in index number
+    ≡ Ok row) (has : range_in row StrOffsets ≡ Some r) where
   pub compilation_there : (types : Option Index) → IsIn r (offset_ranges (Some index) types)
   unfolding offset_ranges
-  compilation_there types = index_still types (with_rows (Some index) []) r (index_there index [] number row r there has)
+  compilation_there types = index_still types (with_rows (Some index) []) r
+      (index_there index [] number row r there has)
 
   pub type_there : (compilations : Option Index) → IsIn r (offset_ranges compilations (Some index))
   unfolding offset_ranges

@@ -1,8 +1,12 @@
 -- What tests that all passed say.
-use Rattle.std.proofs.Common.{◌≡◌, ℕ, zero, suc, ◌^◌, ◌<◌, Bool, true, false, cond, ltb, List, [], ◌∷◌, length, get_or, Option, None, Result, Ok, Err, refl, arith}
+use Rattle.std.proofs.Common.{◌≡◌, ℕ, zero, suc, ◌^◌, ◌<◌, Bool, true, false, cond, ltb, List, []}
+use Rattle.std.proofs.Common.{◌∷◌, length, get_or, Option, None, Result, Ok, Err, refl, arith}
 use Rattle.std.specs.Prelude.{All, OnOk}
 use Rattle.dwp_base.specs.Reading.{◌>>=◌}
-use Rattle.dwp_base.specs.declared.section.SectionKind.TheVariants.{Info, Types, Abbrev, Line, Loc, Loclists, Rnglists, StrOffsets, Macinfo, Macro, Str, CuIndex, TuIndex}
+use Rattle.dwp_base.specs.declared.section.SectionKind.TheVariants.{Info, Types, Abbrev, Line, Loc}
+use Rattle.dwp_base.specs.declared.section.SectionKind.TheVariants.{Loclists, Rnglists, StrOffsets}
+use Rattle.dwp_base.specs.declared.section.SectionKind.TheVariants.{Macinfo, Macro, Str, CuIndex}
+use Rattle.dwp_base.specs.declared.section.SectionKind.TheVariants.{TuIndex}
 use Rattle.dwp_base.specs.declared.section.Contribution.{Contribution}
 use Rattle.thorin_faults.specs.Fault.{Fault}
 use Rattle.thorin_parts.specs.declared.entry.IndexEntry.{IndexEntry}
@@ -13,20 +17,25 @@ use Rattle.thorin_parts.specs.IndexText.{FitsRow}
 use Rattle.std.proofs.lemmas.Bool.{ltb-true}
 
 -- the value of a step that did not fail
-pub bind_ok : {A B : Type 0} (r : Result A Fault) (f : A → Result B Fault) (y : B) → (r >>= f) ≡ Ok y → (x : A) × (r ≡ Ok x) × (f x ≡ Ok y)
+pub bind_ok : {A B : Type 0} (r : Result A Fault) (f : A → Result B Fault) (y : B)
+    → (r >>= f) ≡ Ok y → (x : A) × (r ≡ Ok x) × (f x ≡ Ok y)
 bind_ok (Ok x) f y e = (x, refl, e)
 bind_ok (Err d) f y e = absurd cc
 
 -- each test passed where all did
-pub each_passed : {X : Type 0} (test : X → Result (Unit {0}) Fault) (xs : List X) → each test xs ≡ Ok tt → (k : ℕ) (d : X) → k < length xs → test (get_or xs k d) ≡ Ok tt
+pub each_passed : {X : Type 0} (test : X → Result (Unit {0}) Fault) (xs : List X)
+    → each test xs ≡ Ok tt → (k : ℕ) (d : X) → k < length xs → test (get_or xs k d) ≡ Ok tt
 each_passed test [] e k d h = absurd (omega arith)
-each_passed test (x ∷ xs) e zero d h = let first = bind_ok (test x) (λ _. each test xs) tt e in first.1
-each_passed test (x ∷ xs) e (suc k) d h = let first = bind_ok (test x) (λ _. each test xs) tt e in each_passed test xs first.2 k d (omega arith)
+each_passed test (x ∷ xs) e zero d h = let first = bind_ok (test x) (λ _. each test xs) tt e in
+    first.1
+each_passed test (x ∷ xs) e (suc k) d h = let first = bind_ok (test x) (λ _. each test xs) tt e in
+    each_passed test xs first.2 k d (omega arith)
 
 abbrev tested : Bool → Fault → Result (Unit {0}) Fault
 tested b fault = cond b (Ok tt) (Err fault)
 
-number_fits_at : (b : Bool) (n : ℕ) (fault : Fault) → ltb n (2 ^ 32) ≡ b → tested b fault ≡ Ok tt → n < 2 ^ 32
+number_fits_at : (b : Bool) (n : ℕ) (fault : Fault) → ltb n (2 ^ 32) ≡ b
+    → tested b fault ≡ Ok tt → n < 2 ^ 32
 number_fits_at true n fault is e = ltb-true n (2 ^ 32) is
 number_fits_at false n fault is e = absurd cc
 
@@ -34,9 +43,14 @@ pub number_fits : (what : List ℕ) (n : ℕ) → number_test what n ≡ Ok tt �
 number_fits what n e = number_fits_at (ltb n (2 ^ 32)) n _ refl e
 
 -- a test that passed all parts of an entry gives a bound on each of its numbers
-pub row_fits : (measure : Option Contribution → ℕ) (what : List ℕ) (entry : IndexEntry) → measure None ≡ 0 → parts_test (λ _ part. number_test what (measure part)) entry ≡ Ok tt → FitsRow measure entry
+pub row_fits : (measure : Option Contribution → ℕ) (what : List ℕ) (entry : IndexEntry)
+    → measure None ≡ 0 → parts_test (λ _ part. number_test what (measure part)) entry ≡ Ok tt
+    → FitsRow measure entry
 row_fits measure what entry none e kind =
-    let at = λ (k : ℕ) (h : k < 10). number_fits what (measure (contribution_to (get_or contribution_kinds k Info) entry)) (each_passed (λ k'. number_test what (measure (contribution_to k' entry))) contribution_kinds e k Info h) in
+    let at = λ (k : ℕ) (h : k < 10).
+    number_fits what (measure (contribution_to (get_or contribution_kinds k Info) entry))
+    (each_passed (λ k'. number_test what (measure (contribution_to k' entry)))
+    contribution_kinds e k Info h) in
     elim kind as (λ k. measure (contribution_to k entry) < 2 ^ 32) [
       | Info ↦ at 0 (omega arith)
       | Types ↦ at 1 (omega arith)
@@ -53,8 +67,11 @@ row_fits measure what entry none e kind =
       | TuIndex ↦ omega (arith, none)
     ]
 
-pub rows_fit : (measure : Option Contribution → ℕ) (what : List ℕ) (entries : List IndexEntry) → measure None ≡ 0 → All (λ entry. parts_test (λ _ part. number_test what (measure part)) entry ≡ Ok tt) entries → All (FitsRow measure) entries
-rows_fit measure what entries none h k d within = row_fits measure what (get_or entries k d) none (h k d within)
+pub rows_fit : (measure : Option Contribution → ℕ) (what : List ℕ) (entries : List IndexEntry)
+    → measure None ≡ 0 → All (λ entry. parts_test (λ _ part. number_test what (measure part)) entry
+    ≡ Ok tt) entries → All (FitsRow measure) entries
+rows_fit measure what entries none h k d within = row_fits measure what (get_or entries k d)
+    none (h k d within)
 
 pub on_ok : {T E P : Type 0} (r : Result T E) → P → OnOk r P
 on_ok (Ok x) p = p

@@ -1,6 +1,9 @@
 -- String offsets without a header, joined, are read in turn.
-use Rattle.std.proofs.Common.{◌≡◌, ℕ, ◌+◌, ◌-◌, ◌*◌, ◌/◌, ◌<◌, ◌≤◌, true, false, cond, ltb, leb, List, ◌++◌, length, drop, Some, None, ap, ap₂, sym, refl, ◌∙◌, ⊎_elim, arith, length-append}
-use Rattle.std.proofs.lemmas.List.{get_or_append_left, drop_at, drop-drop, length-drop, drop-append-le}
+use Rattle.std.proofs.Common.{◌≡◌, ℕ, ◌+◌, ◌-◌, ◌*◌, ◌/◌, ◌<◌, ◌≤◌, true, false, cond, ltb, leb}
+use Rattle.std.proofs.Common.{List, ◌++◌, length, drop, Some, None, ap, ap₂, sym, refl, ◌∙◌, ⊎_elim}
+use Rattle.std.proofs.Common.{arith, length-append}
+use Rattle.std.proofs.lemmas.List.{get_or_append_left, drop_at, drop-drop, length-drop}
+use Rattle.std.proofs.lemmas.List.{drop-append-le}
 use Rattle.std.proofs.lemmas.Bool.{cases_lt, lt-ltb, le-ltb, lt-leb}
 use Rattle.std.proofs.lemmas.Nat.{row_fits}
 use Rattle.std.proofs.Math.Nat.{add-mul}
@@ -15,7 +18,8 @@ use Rattle.dwp_bytes.specs.StringOffsets.{header_size, entry_count}
 use Rattle.dwp_index.specs.Strings.{entry_in, string_for, string_in}
 
 -- a number in front doesn't depend on what follows it
-number_front : (order : Endianness) (format : Format) (xs ys : List ℕ) → offset_size format ≤ length xs → number order (offset_size format) (xs ++ ys) ≡ number order (offset_size format) xs
+number_front : (order : Endianness) (format : Format) (xs ys : List ℕ) → offset_size format ≤ length
+    xs → number order (offset_size format) (xs ++ ys) ≡ number order (offset_size format) xs
 number_front Little Dwarf32 xs ys within =
     let at = λ (k : ℕ) (h : k < 4). get_or_append_left xs ys 0 k (omega arith) in
     rw (at 0 (omega arith), at 1 (omega arith), at 2 (omega arith), at 3 (omega arith)) refl
@@ -24,21 +28,43 @@ number_front Big Dwarf32 xs ys within =
     rw (at 0 (omega arith), at 1 (omega arith), at 2 (omega arith), at 3 (omega arith)) refl
 number_front Little Dwarf64 xs ys within =
     let at = λ (k : ℕ) (h : k < 8). get_or_append_left xs ys 0 k (omega arith) in
-    rw (at 0 (omega arith), at 1 (omega arith), at 2 (omega arith), at 3 (omega arith), at 4 (omega arith), at 5 (omega arith), at 6 (omega arith), at 7 (omega arith)) refl
+    rw (
+      at 0 (omega arith),
+      at 1 (omega arith),
+      at 2 (omega arith),
+      at 3 (omega arith),
+      at 4
+          (omega arith),
+      at 5 (omega arith),
+      at 6 (omega arith),
+      at 7 (omega arith),
+    ) refl
 number_front Big Dwarf64 xs ys within =
     let at = λ (k : ℕ) (h : k < 8). get_or_append_left xs ys 0 k (omega arith) in
-    rw (at 0 (omega arith), at 1 (omega arith), at 2 (omega arith), at 3 (omega arith), at 4 (omega arith), at 5 (omega arith), at 6 (omega arith), at 7 (omega arith)) refl
+    rw (
+      at 0 (omega arith),
+      at 1 (omega arith),
+      at 2 (omega arith),
+      at 3 (omega arith),
+      at 4
+          (omega arith),
+      at 5 (omega arith),
+      at 6 (omega arith),
+      at 7 (omega arith),
+    ) refl
 
 no_header : (encoding : Encoding) → encoding.version < 5 → header_size encoding ≡ 0
 no_header encoding old =
     let gnu : leb 5 encoding.version ≡ false = lt-leb 5 encoding.version old in
     rw gnu refl
 
-count_joined : (format : Format) (n m l : ℕ) → l ≡ n * offset_size format + m → (l - 0) / offset_size format ≡ n + (m - 0) / offset_size format
+count_joined : (format : Format) (n m l : ℕ) → l ≡ n * offset_size format + m
+    → (l - 0) / offset_size format ≡ n + (m - 0) / offset_size format
 count_joined Dwarf32 n m l e = omega arith
 count_joined Dwarf64 n m l e = omega arith
 
-count_alone : (format : Format) (n l : ℕ) → l ≡ n * offset_size format → (l - 0) / offset_size format ≡ n
+count_alone : (format : Format) (n l : ℕ) → l ≡ n * offset_size format
+    → (l - 0) / offset_size format ≡ n
 count_alone Dwarf32 n l e = omega arith
 count_alone Dwarf64 n l e = omega arith
 
@@ -49,14 +75,17 @@ within_same i n q above =
     (λ past. le-ltb i (n + q) (omega arith) ∙ sym (le-ltb (i - n) q past))
     (cases_lt (i - n) q)
 
-module _ (order : Endianness) (encoding : Encoding) (first second : List ℕ) (n : ℕ) (old : encoding.version < 5) (long : length first ≡ n * offset_size encoding.format) where
+module _ (order : Endianness) (encoding : Encoding) (first second : List ℕ) (n : ℕ)
+    (old : encoding.version < 5) (long : length first ≡ n * offset_size encoding.format) where
   abbrev width : ℕ
   width = offset_size encoding.format
 
-  count_all : entry_count encoding (length (first ++ second)) ≡ n + entry_count encoding (length second)
+  count_all : entry_count encoding (length (first ++ second)) ≡ n + entry_count
+      encoding (length second)
   count_all =
       let header = no_header encoding old in
-      let whole : length (first ++ second) ≡ n * width + length second = length-append first second ∙ ap (λ m. m + length second) long in
+      let whole : length (first ++ second) ≡ n * width + length second = length-append first second
+      ∙ ap (λ m. m + length second) long in
       rw header (count_joined encoding.format n (length second) (length (first ++ second)) whole)
 
   count_first : entry_count encoding (length first) ≡ n
@@ -65,36 +94,52 @@ module _ (order : Endianness) (encoding : Encoding) (first second : List ℕ) (n
       rw header (count_alone encoding.format n (length first) long)
 
   -- an entry of the first
-  entry_before : (i : ℕ) → i < n → entry_in order encoding (first ++ second) i ≡ entry_in order encoding first i
+  entry_before : (i : ℕ) → i < n → entry_in order encoding (first ++ second) i ≡ entry_in order
+      encoding first i
   unfolding entry_in
   entry_before i less =
       let header = no_header encoding old in
       let room : i * width + width ≤ n * width = row_fits i width n width less (omega arith) in
-      let inside : ltb i (entry_count encoding (length (first ++ second))) ≡ true = lt-ltb i _ (omega (arith, count_all)) in
-      let alone : ltb i (entry_count encoding (length first)) ≡ true = lt-ltb i _ (omega (arith, count_first)) in
+      let inside : ltb i (entry_count encoding (length (first ++ second))) ≡ true =
+      lt-ltb i _ (omega (arith, count_all)) in
+      let alone : ltb i (entry_count encoding (length first)) ≡ true =
+      lt-ltb i _ (omega (arith, count_first)) in
       let start : header_size encoding + i * width ≤ length first = omega (arith, header, long) in
-      let past : drop (header_size encoding + i * width) (first ++ second) ≡ drop (header_size encoding + i * width) first ++ second = drop-append-le (header_size encoding + i * width) first second start in
-      let left : width ≤ length (drop (header_size encoding + i * width) first) = omega (arith, header, long, length-drop (header_size encoding + i * width) first) in
-      let read : number order width (drop (header_size encoding + i * width) (first ++ second)) ≡ number order width (drop (header_size encoding + i * width) first) =
-      ap (number order width) past ∙ number_front order encoding.format (drop (header_size encoding + i * width) first) second left in
+      let past : drop (header_size encoding + i * width) (first ++ second) ≡ drop
+      (header_size encoding + i * width) first ++ second =
+      drop-append-le (header_size encoding + i * width) first second start in
+      let left : width ≤ length (drop (header_size encoding + i * width) first) =
+      omega (arith, header, long, length-drop (header_size encoding + i * width) first) in
+      let read : number order width (drop (header_size encoding + i * width) (first ++ second)) ≡
+      number order width (drop (header_size encoding + i * width) first) =
+      ap (number order width) past ∙ number_front order encoding.format
+      (drop (header_size encoding + i * width) first) second left in
       rw (inside, alone) (ap (λ m. Some m) read)
 
   -- one behind it
-  entry_behind : (i : ℕ) → n ≤ i → entry_in order encoding (first ++ second) i ≡ entry_in order encoding second (i - n)
+  entry_behind : (i : ℕ) → n ≤ i → entry_in order encoding (first ++ second) i ≡ entry_in order
+      encoding second (i - n)
   unfolding entry_in
   entry_behind i above =
       let header = no_header encoding old in
-      let same : ltb i (entry_count encoding (length (first ++ second))) ≡ ltb (i - n) (entry_count encoding (length second)) =
+      let same : ltb i (entry_count encoding (length (first ++ second))) ≡ ltb (i - n)
+      (entry_count encoding (length second)) =
       ap (ltb i) count_all ∙ within_same i n (entry_count encoding (length second)) above in
-      let split : i * width ≡ n * width + (i - n) * width = (let e : i ≡ n + (i - n) = omega arith in ap (λ m. m * width) e) ∙ add-mul n (i - n) width in
-      let at : header_size encoding + i * width ≡ n * width + (header_size encoding + (i - n) * width) = omega (arith, header, split) in
-      let past : drop (header_size encoding + i * width) (first ++ second) ≡ drop (header_size encoding + (i - n) * width) second =
+      let split : i * width ≡ n * width + (i - n) * width = (let e : i ≡ n + (i - n) =
+      omega arith in ap (λ m. m * width) e) ∙ add-mul n (i - n) width in
+      let at : header_size encoding + i * width ≡ n * width + (header_size encoding + (i - n) *
+      width) = omega (arith, header, split) in
+      let past : drop (header_size encoding + i * width) (first ++ second) ≡ drop
+      (header_size encoding + (i - n) * width) second =
       ap (λ m. drop m (first ++ second)) at
       ∙ sym (drop-drop (header_size encoding + (i - n) * width) (n * width) (first ++ second))
-      ∙ ap (drop (header_size encoding + (i - n) * width)) (drop_at first second (n * width) long) in
+      ∙ ap (drop (header_size encoding + (i - n) * width))
+      (drop_at first second (n * width) long) in
       ap₂ (λ b l. cond b (Some (number order width l)) None) same past
 
-  pub joined_read : (strings : List ℕ) (i : ℕ) → string_in order encoding strings (first ++ second) i ≡ cond (ltb i n) (string_in order encoding strings first i) (string_in order encoding strings second (i - n))
+  pub joined_read : (strings : List ℕ) (i : ℕ) → string_in order encoding strings (first ++ second)
+      i ≡ cond (ltb i n) (string_in order encoding strings first i) (string_in order encoding
+      strings second (i - n))
   unfolding string_in
   joined_read strings i =
       ⊎_elim

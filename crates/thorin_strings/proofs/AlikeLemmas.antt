@@ -1,5 +1,7 @@
--- Whether the string at a place is another one: by as many bytes as that has, and the zero byte behind them.
-use Rattle.std.proofs.Common.{◌≡◌, ℕ, ◌<◌, List, length, take, get_or, Ordering, Less, Equal, Greater, ap, sym, refl, ◌∙◌}
+-- Whether the string at a place is another one: by as many bytes as that has, and the zero byte
+-- behind them.
+use Rattle.std.proofs.Common.{◌≡◌, ℕ, ◌<◌, List, length, take, get_or, Ordering, Less, Equal}
+use Rattle.std.proofs.Common.{Greater, ap, sym, refl, ◌∙◌}
 use Rattle.std.specs.Ordering.{nat_cmp, ordering_then}
 use Rattle.std.specs.Cmp.{nat_cmp_is}
 use Rattle.std.specs.Cmp.Lexicographic.{slice_cmp}
@@ -13,15 +15,19 @@ both_equal Less b h = cc
 both_equal Equal b h = (refl, h)
 both_equal Greater b h = cc
 
-pub ended_alike : (xs s : List ℕ) → IsZeroFree s → length s < length xs → take (length s) xs ≡ s → get_or xs (length s) 0 ≡ 0 → front_string xs ≡ s
+pub ended_alike : (xs s : List ℕ) → IsZeroFree s → length s < length xs → take (length s) xs ≡ s
+    → get_or xs (length s) 0 ≡ 0 → front_string xs ≡ s
 ended_alike xs s free long same zero =
     tied (front_string xs) s
     (compared_long xs s free long
     ∙ ap (λ l. ordering_then (slice_cmp nat_cmp l s) (nat_cmp (get_or xs (length s) 0) 0)) same
-    ∙ ap (λ o. ordering_then o (nat_cmp (get_or xs (length s) 0) 0)) (tied_itself nat_list_cmp_total s)
+    ∙ ap (λ o. ordering_then o (nat_cmp (get_or xs (length s) 0) 0))
+    (tied_itself nat_list_cmp_total s)
     ∙ sym (nat_cmp_is (get_or xs (length s) 0) 0 Equal zero))
 
-pub alike_ended : (xs s : List ℕ) → IsZeroFree s → length s < length xs → front_string xs ≡ s → (take (length s) xs ≡ s) × (get_or xs (length s) 0 ≡ 0)
+pub alike_ended : (xs s : List ℕ) → IsZeroFree s → length s < length xs → front_string xs ≡ s
+    → (take (length s) xs ≡ s) × (get_or xs (length s) 0 ≡ 0)
 alike_ended xs s free long same =
-    let both = both_equal _ _ (sym (compared_long xs s free long) ∙ ap (λ l. slice_cmp nat_cmp l s) same ∙ tied_itself nat_list_cmp_total s) in
+    let both = both_equal _ _ (sym (compared_long xs s free long) ∙ ap (λ l. slice_cmp nat_cmp l s)
+    same ∙ tied_itself nat_list_cmp_total s) in
     (tied _ _ both.0, ranked (get_or xs (length s) 0) 0 Equal (sym both.1))

@@ -1,9 +1,11 @@
 -- Halving a window of a search takes a binary digit off its size.
-use Rattle.std.proofs.Common.{◌≡◌, ℕ, zero, suc, ◌+◌, ◌-◌, ◌/◌, ◌*◌, ◌^◌, ◌<◌, ◌≤◌, subst, sym, arith}
+use Rattle.std.proofs.Common.{◌≡◌, ℕ, zero, suc, ◌+◌, ◌-◌, ◌/◌, ◌*◌, ◌^◌, ◌<◌, ◌≤◌, subst, sym}
+use Rattle.std.proofs.Common.{arith}
 use Rattle.std.proofs.Math.Nat.{pow-suc}
 
 -- a window with something in it has a digit, and its half has one less
-half : (size digits : ℕ) → 0 < size → size < 2 ^ digits → (1 ≤ digits) × (size / 2 < 2 ^ (digits - 1))
+half : (size digits : ℕ) → 0 < size → size < 2 ^ digits → (1 ≤ digits)
+    × (size / 2 < 2 ^ (digits - 1))
 half size zero some within = absurd (omega arith)
 half size (suc digits) some within =
     let e : 2 ^ suc digits ≡ 2 ^ digits * 2 = pow-suc 2 digits in
@@ -20,7 +22,8 @@ halved_none n = λ k h.
     let same : k - 0 ≡ k = omega arith in
     (omega arith, subst (λ (j : ℕ). n < 2 ^ j) (sym same) h)
 
-pub halved_more : (n steps size rest : ℕ) → IsHalved n steps size → 0 < size → rest ≤ size / 2 → IsHalved n (steps + 1) rest
+pub halved_more : (n steps size rest : ℕ) → IsHalved n steps size → 0 < size → rest ≤ size / 2
+    → IsHalved n (steps + 1) rest
 halved_more n steps size rest so_far some less = λ k h.
     let was = so_far k h in
     let now = half size (k - steps) some was.1 in

@@ -1,5 +1,6 @@
 -- What is remembered of strings that were read.
-use Rattle.std.proofs.Common.{◌≡◌, ℕ, ◌<◌, ◌≤◌, true, ltb, List, ◌++◌, length, take, drop, codes, Result, Ok, Err, ap, ap₂, sym, subst, refl, ◌∙◌}
+use Rattle.std.proofs.Common.{◌≡◌, ℕ, ◌<◌, ◌≤◌, true, ltb, List, ◌++◌, length, take, drop, codes}
+use Rattle.std.proofs.Common.{Result, Ok, Err, ap, ap₂, sym, subst, refl, ◌∙◌}
 use Rattle.std.proofs.lemmas.List.{take-append-drop}
 use Rattle.std.proofs.lemmas.List.Elements.{All-weaker}
 use Rattle.std.proofs.lemmas.Bool.{cond-true, lt-ltb}
@@ -8,7 +9,8 @@ use Rattle.dwp_base.specs.Reading.{◌>>=◌}
 use Rattle.dwp_bytes.specs.declared.encoding.Encoding.{Encoding}
 use Rattle.thorin_faults.specs.Fault.{Fault, NumberTooLarge}
 use Rattle.thorin_strings.specs.Strings.{offset_of, with_string}
-use Rattle.thorin_strings.specs.StringOffsets.{offset_limit, entry_at, string_read, named_at, fitting_offset, remapped_entry}
+use Rattle.thorin_strings.specs.StringOffsets.{offset_limit, entry_at, string_read, named_at}
+use Rattle.thorin_strings.specs.StringOffsets.{fitting_offset, remapped_entry}
 use Rattle.thorin_strings.specs.Known.{offset_read, IsKnown, AreKnown}
 use Rattle.thorin_strings.proofs.Named.{has, has_more, offset_kept, there_once_used, there_if_same}
 use Rattle.thorin_strings.proofs.NamedEntries.{bind_ok}
@@ -21,7 +23,8 @@ pub record WasRead (section : List ℕ) (at place : ℕ) (old new : List (List �
   pub offset : place ≡ offset_of old string
   pub strings : new ≡ with_string old string
 
-pub was_read : (section : List ℕ) (at place : ℕ) (old new : List (List ℕ)) → offset_read section at old ≡ Ok (place, new) → WasRead section at place old new
+pub was_read : (section : List ℕ) (at place : ℕ) (old new : List (List ℕ)) → offset_read section at
+    old ≡ Ok (place, new) → WasRead section at place old new
 unfolding offset_read
 was_read section at place old new h =
     let string = bind_ok (string_read section at) _ (place, new) h in
@@ -33,64 +36,94 @@ was_read section at place old new h =
       strings = ap (λ (p : ℕ × List (List ℕ)). p.1) (sym whole);
     }
 
-pub read_is : (section : List ℕ) (at : ℕ) (old : List (List ℕ)) (string : List ℕ) → string_read section at ≡ Ok string → offset_read section at old ≡ Ok (offset_of old string, with_string old string)
+pub read_is : (section : List ℕ) (at : ℕ) (old : List (List ℕ)) (string : List ℕ)
+    → string_read section at ≡ Ok string → offset_read section at old ≡ Ok
+    (offset_of old string, with_string old string)
 unfolding offset_read
 read_is section at old string read = rw read refl
 
-pub read_used : (section : List ℕ) (at place : ℕ) (old new : List (List ℕ)) (string : List ℕ) → string_read section at ≡ Ok string → (place ≡ offset_of old string) × (new ≡ with_string old string) → offset_read section at old ≡ Ok (place, new)
+pub read_used : (section : List ℕ) (at place : ℕ) (old new : List (List ℕ)) (string : List ℕ)
+    → string_read section at ≡ Ok string → (place ≡ offset_of old string)
+    × (new ≡ with_string old string) → offset_read section at old ≡ Ok (place, new)
 read_used section at place old new string read used =
     read_is section at old string read ∙ ap₂ (λ n l. Ok (n, l)) (sym used.0) (sym used.1)
 
 -- a string that is there is known
-there_known : (section : List ℕ) (at place : ℕ) (strings : List (List ℕ)) (string : List ℕ) → string_read section at ≡ Ok string → has strings string ≡ true → offset_of strings string ≡ place → IsKnown section strings (at, place)
+there_known : (section : List ℕ) (at place : ℕ) (strings : List (List ℕ)) (string : List ℕ)
+    → string_read section at ≡ Ok string → has strings string ≡ true → offset_of strings string ≡
+    place → IsKnown section strings (at, place)
 there_known section at place strings string read there offset =
     read_is section at strings string read ∙ ap₂ (λ n l. Ok (n, l)) offset (cond-true _ _ _ there)
 
 -- what was read is known
-pub known_read : (section : List ℕ) (at place : ℕ) (old new : List (List ℕ)) → offset_read section at old ≡ Ok (place, new) → IsKnown section new (at, place)
+pub known_read : (section : List ℕ) (at place : ℕ) (old new : List (List ℕ)) → offset_read section
+    at old ≡ Ok (place, new) → IsKnown section new (at, place)
 known_read section at place old new h =
     let r = was_read section at place old new h in
     let used = there_once_used old r.string in
-    subst (λ l. IsKnown section l (at, place)) (sym r.strings) (there_known section at place (with_string old r.string) r.string r.read used.0 (used.1 ∙ sym r.offset))
+    subst (λ l. IsKnown section l (at, place)) (sym r.strings) (there_known section at place
+    (with_string old r.string) r.string r.read used.0 (used.1 ∙ sym r.offset))
 
 -- what is known stays so once more strings have come
-pub known_later : (section : List ℕ) (old new : List (List ℕ)) → take (length old) new ≡ old → (pair : ℕ × ℕ) → IsKnown section old pair → IsKnown section new pair
+pub known_later : (section : List ℕ) (old new : List (List ℕ)) → take (length old) new ≡ old
+    → (pair : ℕ × ℕ) → IsKnown section old pair → IsKnown section new pair
 known_later section old new kept pair known =
     let r = was_read section pair.0 pair.1 old old known in
     let there : has old r.string ≡ true = there_if_same old r.string (sym r.strings) in
     let more : List (List ℕ) = drop (length old) new in
-    let parts : old ++ more ≡ new = ap (λ l. l ++ more) (sym kept) ∙ take-append-drop (length old) new in
+    let parts : old ++ more ≡ new = ap (λ l. l ++ more) (sym kept) ∙ take-append-drop
+    (length old) new in
     there_known section pair.0 pair.1 new r.string r.read
     (subst (λ l. has l r.string ≡ true) parts (has_more old more r.string there))
-    (ap (λ l. offset_of l r.string) (sym parts) ∙ offset_kept old more r.string there ∙ sym r.offset)
+    (ap (λ l. offset_of l r.string) (sym parts) ∙ offset_kept old more r.string
+    there ∙ sym r.offset)
 
-pub are_known_later : (section : List ℕ) (old new : List (List ℕ)) (pairs : List (ℕ × ℕ)) → take (length old) new ≡ old → AreKnown section old pairs → AreKnown section new pairs
-are_known_later section old new pairs kept known = All-weaker (IsKnown section old) (IsKnown section new) (known_later section old new kept) pairs known
+pub are_known_later : (section : List ℕ) (old new : List (List ℕ)) (pairs : List (ℕ × ℕ))
+    → take (length old) new ≡ old → AreKnown section old pairs → AreKnown section new pairs
+are_known_later section old new pairs kept known = All-weaker (IsKnown section old)
+    (IsKnown section new) (known_later section old new kept) pairs known
 
 -- an entry whose string was read
-pub entry_read : (order : Endianness) (encoding : Encoding) (section bytes : List ℕ) (index named place : ℕ) (old new : List (List ℕ)) → entry_at order encoding bytes index ≡ Ok named → offset_read section named old ≡ Ok (place, new) → place ≤ offset_limit encoding.format → remapped_entry order encoding section bytes index old ≡ Ok (place, new)
+pub entry_read : (order : Endianness) (encoding : Encoding) (section bytes : List ℕ)
+    (index named place : ℕ) (old new : List (List ℕ)) → entry_at order encoding bytes index ≡ Ok
+    named → offset_read section named old ≡ Ok (place, new) → place ≤ offset_limit encoding.format
+    → remapped_entry order encoding section bytes index old ≡ Ok (place, new)
 unfolding named_at
 entry_read order encoding section bytes index named place old new entry h fits =
     let r = was_read section named place old new h in
-    entry_used order encoding section bytes index old new r.string place (rw (entry, r.read) refl) fits (r.offset, r.strings)
+    entry_used order encoding section bytes index old new r.string place (rw (entry, r.read) refl)
+    fits (r.offset, r.strings)
 
-pub entry_large : (order : Endianness) (encoding : Encoding) (section bytes : List ℕ) (index named place : ℕ) (old new : List (List ℕ)) → entry_at order encoding bytes index ≡ Ok named → offset_read section named old ≡ Ok (place, new) → offset_limit encoding.format < place → remapped_entry order encoding section bytes index old ≡ Err (NumberTooLarge (codes "string offset") place)
+pub entry_large : (order : Endianness) (encoding : Encoding) (section bytes : List ℕ)
+    (index named place : ℕ) (old new : List (List ℕ)) → entry_at order encoding bytes index ≡ Ok
+    named → offset_read section named old ≡ Ok (place, new) → offset_limit encoding.format < place
+    → remapped_entry order encoding section bytes index old ≡ Err
+    (NumberTooLarge (codes "string offset") place)
 unfolding named_at remapped_entry fitting_offset
 entry_large order encoding section bytes index named place old new entry h large =
     let r = was_read section named place old new h in
-    let past : ltb (offset_limit encoding.format) (offset_of old r.string) ≡ true = lt-ltb _ _ (subst (λ n. offset_limit encoding.format < n) r.offset large) in
-    rw (entry, r.read, past) (ap (λ n. Err (NumberTooLarge (codes "string offset") n)) (sym r.offset))
+    let past : ltb (offset_limit encoding.format) (offset_of old r.string) ≡ true =
+    lt-ltb _ _ (subst (λ n. offset_limit encoding.format < n) r.offset large) in
+    rw (entry, r.read, past)
+    (ap (λ n. Err (NumberTooLarge (codes "string offset") n)) (sym r.offset))
 
-unread : {A B E : Type 0} (r : Result A E) (f : A → B) (e : E) → (r >>= (λ x. Ok (f x))) ≡ Err e → r ≡ Err e
+unread : {A B E : Type 0} (r : Result A E) (f : A → B) (e : E) → (r >>= (λ x. Ok (f x))) ≡
+    Err e → r ≡ Err e
 unread (Ok x) f e h = absurd cc
 unread (Err d) f e h = cc
 
-pub entry_unread : (order : Endianness) (encoding : Encoding) (section bytes : List ℕ) (index named : ℕ) (old : List (List ℕ)) (fault : Fault) → entry_at order encoding bytes index ≡ Ok named → offset_read section named old ≡ Err fault → remapped_entry order encoding section bytes index old ≡ Err fault
+pub entry_unread : (order : Endianness) (encoding : Encoding) (section bytes : List ℕ)
+    (index named : ℕ) (old : List (List ℕ)) (fault : Fault) → entry_at order encoding bytes index ≡
+    Ok named → offset_read section named old ≡ Err fault → remapped_entry order encoding section
+    bytes index old ≡ Err fault
 unfolding named_at remapped_entry offset_read
 entry_unread order encoding section bytes index named old fault entry h =
-    let none : string_read section named ≡ Err fault = unread (string_read section named) (λ string. (offset_of old string, with_string old string)) fault h in
+    let none : string_read section named ≡ Err fault = unread (string_read section named) (λ string.
+    (offset_of old string, with_string old string)) fault h in
     rw (entry, none) refl
 
-pub entry_none : (order : Endianness) (encoding : Encoding) (section bytes : List ℕ) (index : ℕ) (old : List (List ℕ)) (fault : Fault) → entry_at order encoding bytes index ≡ Err fault → remapped_entry order encoding section bytes index old ≡ Err fault
+pub entry_none : (order : Endianness) (encoding : Encoding) (section bytes : List ℕ) (index : ℕ)
+    (old : List (List ℕ)) (fault : Fault) → entry_at order encoding bytes index ≡ Err fault
+    → remapped_entry order encoding section bytes index old ≡ Err fault
 unfolding named_at remapped_entry
 entry_none order encoding section bytes index old fault entry = rw entry refl

@@ -1,15 +1,21 @@
 -- A string of a table is read where its offset says, also once more strings have come.
-use Rattle.std.proofs.Common.{◌≡◌, ◌≢◌, ℕ, suc, ◌+◌, ◌-◌, ◌<◌, Bool, true, false, ◌||◌, cond, eqb, ltb, List, [], ◌∷◌, ◌++◌, length, take, drop, get_or, Ok, Contains, ap, sym, subst, refl, ◌∙◌, ⊎_elim, arith, length-append}
+use Rattle.std.proofs.Common.{◌≡◌, ◌≢◌, ℕ, suc, ◌+◌, ◌-◌, ◌<◌, Bool, true, false, ◌||◌, cond, eqb}
+use Rattle.std.proofs.Common.{ltb, List, [], ◌∷◌, ◌++◌, length, take, drop, get_or, Ok, Contains}
+use Rattle.std.proofs.Common.{ap, sym, subst, refl, ◌∙◌, ⊎_elim, arith, length-append}
 use Rattle.std.specs.List.{list_any, before_first, position_or_len}
 use Rattle.std.specs.Str.{bytes_eq}
-use Rattle.std.proofs.lemmas.List.{take_all, take_at, take-append-drop, drop_at, drop-drop, length-drop, length-take, get_or_default, get_or-take, get_or-append-add, get_or_at}
+use Rattle.std.proofs.lemmas.List.{take_all, take_at, take-append-drop, drop_at, drop-drop}
+use Rattle.std.proofs.lemmas.List.{length-drop, length-take, get_or_default, get_or-take}
+use Rattle.std.proofs.lemmas.List.{get_or-append-add, get_or_at}
 use Rattle.std.proofs.lemmas.List.Elements.{All-push}
 use Rattle.std.proofs.lemmas.List.Quantifiers.{all_pairs_push}
 use Rattle.std.proofs.lemmas.List.Sums.{fails_before_first}
-use Rattle.std.proofs.lemmas.Bool.{false≢true, le-ltb, eq-eqb, or_parts, cond-true, cond-false, cases_lt}
+use Rattle.std.proofs.lemmas.Bool.{false≢true, le-ltb, eq-eqb, or_parts, cond-true, cond-false}
+use Rattle.std.proofs.lemmas.Bool.{cases_lt}
 use Rattle.std.proofs.lemmas.Slice.Eq.{bytes_eq-Decides}
 use Rattle.dwp_bytes.specs.StringOffsets.{string_from, string_at}
-use Rattle.thorin_strings.specs.Strings.{terminated, data_of, offset_of, with_string, IsZeroFree, IsTable, BeginsAt}
+use Rattle.thorin_strings.specs.Strings.{terminated, data_of, offset_of, with_string, IsZeroFree}
+use Rattle.thorin_strings.specs.Strings.{IsTable, BeginsAt}
 use Rattle.thorin_strings.proofs.StringLemmas.{data_of-cons, before_first-ended}
 use Rattle.thorin_strings.proofs.OffsetLemmas.{has_Decides}
 
@@ -38,15 +44,19 @@ has_last [] s = rw (itself s) refl
 has_last (t ∷ ss) s = or_right (bytes_eq t s) (has (ss ++ s ∷ []) s) (has_last ss s)
 
 -- and keeps its offset
-offset_by : (b r : Bool) (n x y : ℕ) → (b || r) ≡ true → (r ≡ true → x ≡ y) → cond b 0 (n + 1 + x) ≡ cond b 0 (n + 1 + y)
+offset_by : (b r : Bool) (n x y : ℕ) → (b || r) ≡ true → (r ≡ true → x ≡ y) → cond b 0 (n + 1 + x) ≡
+    cond b 0 (n + 1 + y)
 offset_by true r n x y h same = refl
 offset_by false r n x y h same = ap (λ m. n + 1 + m) (same h)
 
-pub offset_kept : (ss ts : List (List ℕ)) (s : List ℕ) → has ss s ≡ true → offset_of (ss ++ ts) s ≡ offset_of ss s
+pub offset_kept : (ss ts : List (List ℕ)) (s : List ℕ) → has ss s ≡ true → offset_of (ss ++ ts) s
+    ≡ offset_of ss s
 offset_kept [] ts s h = absurd (false≢true h)
-offset_kept (t ∷ ss) ts s h = offset_by (bytes_eq t s) (has ss s) (length t) (offset_of (ss ++ ts) s) (offset_of ss s) h (offset_kept ss ts s)
+offset_kept (t ∷ ss) ts s h = offset_by (bytes_eq t s) (has ss s) (length t)
+    (offset_of (ss ++ ts) s) (offset_of ss s) h (offset_kept ss ts s)
 
-offset_last : (ss : List (List ℕ)) (s : List ℕ) → has ss s ≡ false → offset_of (ss ++ s ∷ []) s ≡ offset_of ss s
+offset_last : (ss : List (List ℕ)) (s : List ℕ) → has ss s ≡ false → offset_of (ss ++ s ∷ []) s
+    ≡ offset_of ss s
 offset_last [] s none = rw (itself s) refl
 offset_last (t ∷ ss) s none =
     let parts = or_parts (bytes_eq t s) (has ss s) none in
@@ -54,17 +64,22 @@ offset_last (t ∷ ss) s none =
     rw other (ap (λ m. length t + 1 + m) (offset_last ss s parts.1))
 
 -- a string is there once it was used, and has the offset that it was given
-there_by : (b : Bool) (ss : List (List ℕ)) (s : List ℕ) → has ss s ≡ b → (has (with_string ss s) s ≡ true) × (offset_of (with_string ss s) s ≡ offset_of ss s)
+there_by : (b : Bool) (ss : List (List ℕ)) (s : List ℕ) → has ss s ≡ b
+    → (has (with_string ss s) s ≡ true) × (offset_of (with_string ss s) s ≡ offset_of ss s)
 there_by true ss s h =
-    let same : with_string ss s ≡ ss = cond-true _ _ _ h in (ap (λ l. has l s) same ∙ h, ap (λ l. offset_of l s) same)
+    let same : with_string ss s ≡ ss = cond-true _ _ _ h in
+    (ap (λ l. has l s) same ∙ h, ap (λ l. offset_of l s) same)
 there_by false ss s h =
-    let more : with_string ss s ≡ ss ++ s ∷ [] = cond-false _ _ _ h in (ap (λ l. has l s) more ∙ has_last ss s, ap (λ l. offset_of l s) more ∙ offset_last ss s h)
+    let more : with_string ss s ≡ ss ++ s ∷ [] = cond-false _ _ _ h in
+    (ap (λ l. has l s) more ∙ has_last ss s, ap (λ l. offset_of l s) more ∙ offset_last ss s h)
 
-pub there_once_used : (ss : List (List ℕ)) (s : List ℕ) → (has (with_string ss s) s ≡ true) × (offset_of (with_string ss s) s ≡ offset_of ss s)
+pub there_once_used : (ss : List (List ℕ)) (s : List ℕ) → (has (with_string ss s) s ≡ true)
+    × (offset_of (with_string ss s) s ≡ offset_of ss s)
 there_once_used ss s = there_by (has ss s) ss s refl
 
 -- where nothing is added it was there
-same_by : (b : Bool) (ss : List (List ℕ)) (s : List ℕ) → has ss s ≡ b → with_string ss s ≡ ss → has ss s ≡ true
+same_by : (b : Bool) (ss : List (List ℕ)) (s : List ℕ) → has ss s ≡ b → with_string ss s ≡ ss
+    → has ss s ≡ true
 same_by true ss s h same = h
 same_by false ss s h same =
     let more : with_string ss s ≡ ss ++ s ∷ [] = cond-false _ _ _ h in
@@ -81,16 +96,24 @@ pub record IsUsed (ss new : List (List ℕ)) (s : List ℕ) : Type 0 where
   pub there : has new s ≡ true
   pub offset : offset_of new s ≡ offset_of ss s
 
-used_by : (b : Bool) (ss : List (List ℕ)) (s : List ℕ) → has ss s ≡ b → IsTable ss → IsZeroFree s → IsUsed ss (with_string ss s) s
+used_by : (b : Bool) (ss : List (List ℕ)) (s : List ℕ) → has ss s ≡ b → IsTable ss → IsZeroFree s
+    → IsUsed ss (with_string ss s) s
 used_by true ss s h table free =
     let same : with_string ss s ≡ ss = cond-true _ _ _ h in
-    subst (λ l. IsUsed ss l s) (sym same) (record { table = table; kept = take_all (length ss) ss (omega arith); there = h; offset = refl })
+    subst (λ l. IsUsed ss l s) (sym same) (record {
+      table = table;
+      kept = take_all (length ss) ss
+          (omega arith);
+      there = h;
+      offset = refl;
+    })
 used_by false ss s h table free =
     let more : with_string ss s ≡ ss ++ s ∷ [] = cond-false _ _ _ h in
     let absent : Contains ss s → has ss s ≡ true = (has_Decides ss s).1 in
     subst (λ l. IsUsed ss l s) (sym more) (record {
       table = record {
-        distinct = all_pairs_push (λ s t. s ≢ t) ss s table.distinct (λ k d within same. false≢true (sym h ∙ absent (k, within, get_or_default ss k s d within ∙ same)));
+        distinct = all_pairs_push (λ s t. s ≢ t) ss s table.distinct (λ k d within same.
+            false≢true (sym h ∙ absent (k, within, get_or_default ss k s d within ∙ same)));
         zero_free = All-push IsZeroFree ss s table.zero_free free;
       };
       kept = take_at ss (s ∷ []) (length ss) refl;
@@ -106,13 +129,15 @@ pub record StandsBehind (ss : List (List ℕ)) (s : List ℕ) : Type 0 where
   pub rest : List ℕ
   pub here : drop (offset_of ss s) (data_of ss) ≡ s ++ 0 ∷ rest
 
-behind_by : (b : Bool) (t : List ℕ) (ss : List (List ℕ)) (s : List ℕ) → bytes_eq t s ≡ b → (b || has ss s) ≡ true → (has ss s ≡ true → StandsBehind ss s) → StandsBehind (t ∷ ss) s
+behind_by : (b : Bool) (t : List ℕ) (ss : List (List ℕ)) (s : List ℕ) → bytes_eq t s ≡ b
+    → (b || has ss s) ≡ true → (has ss s ≡ true → StandsBehind ss s) → StandsBehind (t ∷ ss) s
 behind_by true t ss s first h later =
     let same : t ≡ s = (bytes_eq-Decides t s).0 first in
     let at_start : offset_of (t ∷ ss) s ≡ 0 = cond-true _ _ _ first in
     record {
       rest = data_of ss;
-      here = ap (λ n. drop n (data_of (t ∷ ss))) at_start ∙ data_of-cons t ss ∙ ap (λ l. l ++ 0 ∷ data_of ss) same;
+      here = ap (λ n. drop n (data_of (t ∷ ss))) at_start ∙ data_of-cons t ss ∙ ap (λ l.
+          l ++ 0 ∷ data_of ss) same;
     }
 behind_by false t ss s other h later =
     let there = later h in
@@ -132,21 +157,31 @@ stands_behind (t ∷ ss) s h = behind_by (bytes_eq t s) t ss s refl h (stands_be
 
 zero_behind : (s rest : List ℕ) → list_any (λ b. eqb b 0) (s ++ 0 ∷ rest) ≡ true
 zero_behind [] rest = refl
-zero_behind (b ∷ s) rest = or_right (eqb b 0) (list_any (λ b. eqb b 0) (s ++ 0 ∷ rest)) (zero_behind s rest)
+zero_behind (b ∷ s) rest = or_right (eqb b 0) (list_any (λ b. eqb b 0) (s ++ 0 ∷ rest))
+    (zero_behind s rest)
 
 -- so it is read there
-pub read_there : (ss : List (List ℕ)) (s : List ℕ) → IsZeroFree s → has ss s ≡ true → string_at (data_of ss) (offset_of ss s) ≡ Ok s
+pub read_there : (ss : List (List ℕ)) (s : List ℕ) → IsZeroFree s → has ss s ≡ true
+    → string_at (data_of ss) (offset_of ss s) ≡ Ok s
 unfolding string_at
 read_there ss s free h =
     let stands = stands_behind ss s h in
-    let long : length (data_of ss) - offset_of ss s ≡ length s + suc (length stands.rest) = sym (length-drop (offset_of ss s) (data_of ss)) ∙ ap length stands.here ∙ length-append s (0 ∷ stands.rest) in
-    let inside : ltb (length (data_of ss)) (offset_of ss s) ≡ false = le-ltb _ _ (omega (arith, long)) in
-    let ended : list_any (λ b. eqb b 0) (drop (offset_of ss s) (data_of ss)) ≡ true = ap (list_any (λ b. eqb b 0)) stands.here ∙ zero_behind s stands.rest in
-    let string : string_from (data_of ss) (offset_of ss s) ≡ s = ap (before_first (λ b. eqb b 0)) stands.here ∙ before_first-ended s stands.rest free in
+    let long : length (data_of ss) - offset_of ss s ≡ length s + suc (length stands.rest) =
+    sym (length-drop (offset_of ss s) (data_of ss)) ∙ ap length stands.here ∙ length-append s
+    (0 ∷ stands.rest) in
+    let inside : ltb (length (data_of ss)) (offset_of ss s) ≡ false =
+    le-ltb _ _ (omega (arith, long)) in
+    let ended : list_any (λ b. eqb b 0) (drop (offset_of ss s) (data_of ss)) ≡ true =
+    ap (list_any (λ b. eqb b 0)) stands.here ∙ zero_behind s stands.rest in
+    let string : string_from (data_of ss) (offset_of ss s) ≡ s = ap (before_first (λ b. eqb b 0))
+    stands.here ∙ before_first-ended s stands.rest free in
     rw (inside, ended) (ap Ok string)
 
 -- behind the zero byte of the string before it
-zero_by : (b : Bool) (t : List ℕ) (ss : List (List ℕ)) (s : List ℕ) → bytes_eq t s ≡ b → (b || has ss s) ≡ true → (has ss s ≡ true → 0 < offset_of ss s → get_or (data_of ss) (offset_of ss s - 1) 0 ≡ 0) → 0 < offset_of (t ∷ ss) s → get_or (data_of (t ∷ ss)) (offset_of (t ∷ ss) s - 1) 0 ≡ 0
+zero_by : (b : Bool) (t : List ℕ) (ss : List (List ℕ)) (s : List ℕ) → bytes_eq t s ≡ b
+    → (b || has ss s) ≡ true → (has ss s ≡ true → 0 < offset_of ss s → get_or (data_of ss)
+    (offset_of ss s - 1) 0 ≡ 0) → 0 < offset_of (t ∷ ss) s → get_or (data_of (t ∷ ss))
+    (offset_of (t ∷ ss) s - 1) 0 ≡ 0
 zero_by true t ss s first h later some =
     let at_start : offset_of (t ∷ ss) s ≡ 0 = cond-true _ _ _ first in
     absurd (omega arith)
@@ -155,32 +190,43 @@ zero_by false t ss s other h later some =
     let long : length (terminated t) ≡ length t + 1 = length-append t (0 ∷ []) in
     ⊎_elim
     (λ more.
-    let at : offset_of (t ∷ ss) s - 1 ≡ length (terminated t) + (offset_of ss s - 1) = omega arith in
-    ap (λ n. get_or (data_of (t ∷ ss)) n 0) at ∙ get_or-append-add (terminated t) (data_of ss) (offset_of ss s - 1) 0 ∙ later h more)
+    let at : offset_of (t ∷ ss) s - 1 ≡ length (terminated t) + (offset_of ss s - 1) =
+    omega arith in
+    ap (λ n. get_or (data_of (t ∷ ss)) n 0) at ∙ get_or-append-add (terminated t) (data_of ss)
+    (offset_of ss s - 1) 0 ∙ later h more)
     (λ none.
     let at : offset_of (t ∷ ss) s - 1 ≡ length t = omega arith in
-    ap (λ n. get_or (data_of (t ∷ ss)) n 0) at ∙ ap (λ l. get_or l (length t) 0) (data_of-cons t ss) ∙ get_or_at t 0 (data_of ss) 0 (length t) refl)
+    ap (λ n. get_or (data_of (t ∷ ss)) n 0) at ∙ ap (λ l. get_or l (length t) 0) (data_of-cons t ss)
+    ∙ get_or_at t 0 (data_of ss) 0 (length t) refl)
     (cases_lt 0 (offset_of ss s))
 
-zero_before : (ss : List (List ℕ)) (s : List ℕ) → has ss s ≡ true → 0 < offset_of ss s → get_or (data_of ss) (offset_of ss s - 1) 0 ≡ 0
+zero_before : (ss : List (List ℕ)) (s : List ℕ) → has ss s ≡ true → 0 < offset_of ss s
+    → get_or (data_of ss) (offset_of ss s - 1) 0 ≡ 0
 zero_before [] s h some = absurd (false≢true h)
 zero_before (t ∷ ss) s h some = zero_by (bytes_eq t s) t ss s refl h (zero_before ss s) some
 
 -- a string begins at its offset
-pub begins_there : (ss : List (List ℕ)) (s : List ℕ) → IsZeroFree s → has ss s ≡ true → BeginsAt (data_of ss) (offset_of ss s) × (string_from (data_of ss) (offset_of ss s) ≡ s)
+pub begins_there : (ss : List (List ℕ)) (s : List ℕ) → IsZeroFree s → has ss s ≡ true
+    → BeginsAt (data_of ss) (offset_of ss s) × (string_from (data_of ss) (offset_of ss s) ≡ s)
 begins_there ss s free h =
     let stands = stands_behind ss s h in
-    let long : length (data_of ss) - offset_of ss s ≡ length s + suc (length stands.rest) = sym (length-drop (offset_of ss s) (data_of ss)) ∙ ap length stands.here ∙ length-append s (0 ∷ stands.rest) in (
+    let long : length (data_of ss) - offset_of ss s ≡ length s + suc (length stands.rest) =
+    sym (length-drop (offset_of ss s) (data_of ss)) ∙ ap length stands.here ∙ length-append s
+    (0 ∷ stands.rest) in (
       record { within = omega (arith, long); behind = zero_before ss s h },
       ap (before_first (λ b. eqb b 0)) stands.here ∙ before_first-ended s stands.rest free,
     )
 
 -- a table that begins with these strings has its strings at their offsets
-pub read_later : (ss final : List (List ℕ)) (s : List ℕ) → take (length ss) final ≡ ss → IsZeroFree s → has ss s ≡ true → string_at (data_of final) (offset_of ss s) ≡ Ok s
+pub read_later : (ss final : List (List ℕ)) (s : List ℕ) → take (length ss) final ≡ ss
+    → IsZeroFree s → has ss s ≡ true → string_at (data_of final) (offset_of ss s) ≡ Ok s
 read_later ss final s kept free h =
-    let parts : ss ++ drop (length ss) final ≡ final = ap (λ l. l ++ drop (length ss) final) (sym kept) ∙ take-append-drop (length ss) final in
-    let there : has final s ≡ true = subst (λ l. has l s ≡ true) parts (has_more ss (drop (length ss) final) s h) in
-    let same : offset_of final s ≡ offset_of ss s = ap (λ l. offset_of l s) (sym parts) ∙ offset_kept ss (drop (length ss) final) s h in
+    let parts : ss ++ drop (length ss) final ≡ final = ap (λ l. l ++ drop (length ss) final)
+    (sym kept) ∙ take-append-drop (length ss) final in
+    let there : has final s ≡ true = subst (λ l. has l s ≡ true) parts
+    (has_more ss (drop (length ss) final) s h) in
+    let same : offset_of final s ≡ offset_of ss s = ap (λ l. offset_of l s) (sym parts) ∙
+    offset_kept ss (drop (length ss) final) s h in
     ap (string_at (data_of final)) (sym same) ∙ read_there final s free there
 
 -- what is read has no zero

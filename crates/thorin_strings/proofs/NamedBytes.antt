@@ -1,10 +1,14 @@
 -- The entries of a rewritten range are read as the offsets that were written.
-use Rattle.std.proofs.Common.{◌≡◌, ℕ, zero, suc, ◌+◌, ◌-◌, ◌*◌, ◌/◌, ◌<◌, ◌≤◌, Bool, true, false, cond, eqb, ltb, List, [], ◌∷◌, ◌++◌, length, drop, get_or, Ok, Err, ap, sym, subst, refl, ◌∙◌, ⊎_elim, arith, append_assoc, length-append}
+use Rattle.std.proofs.Common.{◌≡◌, ℕ, zero, suc, ◌+◌, ◌-◌, ◌*◌, ◌/◌, ◌<◌, ◌≤◌, Bool, true, false}
+use Rattle.std.proofs.Common.{cond, eqb, ltb, List, [], ◌∷◌, ◌++◌, length, drop, get_or, Ok, Err}
+use Rattle.std.proofs.Common.{ap, sym, subst, refl, ◌∙◌, ⊎_elim, arith, append_assoc, length-append}
 use Rattle.std.proofs.lemmas.List.{drop_at, drop-drop, take_all}
 use Rattle.std.proofs.Math.Nat.{zero-mul, suc-mul}
 use Rattle.std.proofs.lemmas.Bool.{eqb-true, eqb-false, le-ltb, lt-ltb}
 use Rattle.std.proofs.lemmas.Bool.Decides.{leb_tells}
-use Rattle.std.proofs.lemmas.Nat.{row_fits, from_le_bytes-to_le_bytes_4, from_le_bytes-to_le_bytes_8, from_be_bytes-to_be_bytes_4, from_be_bytes-to_be_bytes_8}
+use Rattle.std.proofs.lemmas.Nat.{row_fits, from_le_bytes-to_le_bytes_4}
+use Rattle.std.proofs.lemmas.Nat.{from_le_bytes-to_le_bytes_8, from_be_bytes-to_be_bytes_4}
+use Rattle.std.proofs.lemmas.Nat.{from_be_bytes-to_be_bytes_8}
 use Rattle.dwp_base.specs.declared.endian.Endianness.{Endianness}
 use Rattle.dwp_base.specs.declared.endian.Endianness.TheVariants.{Little, Big}
 use Rattle.dwp_base.specs.Numbers.{number, number_bytes}
@@ -16,20 +20,23 @@ use Rattle.dwp_bytes.specs.Encoding.{offset_size}
 use Rattle.thorin_faults.specs.Fault.{Fault}
 use Rattle.thorin_strings.specs.Strings.{IsTable}
 use Rattle.dwp_bytes.specs.StringOffsets.{length_size, header_size, entry_count}
-use Rattle.thorin_strings.specs.StringOffsets.{offset_limit, initial_length, header_of, offset_at, named_at, remapped_entries, entry_bytes, remapped}
+use Rattle.thorin_strings.specs.StringOffsets.{offset_limit, initial_length, header_of, offset_at}
+use Rattle.thorin_strings.specs.StringOffsets.{named_at, remapped_entries, entry_bytes, remapped}
 use Rattle.thorin_strings.specs.Rewritten.{NamesOneString, NamesTheSame}
 use Rattle.thorin_strings.proofs.OffsetLemmas.{has_Decides}
 use Rattle.thorin_strings.proofs.Named.{read_later}
 use Rattle.thorin_strings.proofs.NamedEntries.{bind_ok, EntryNames, entries_keep}
 
 -- ---- one number
-written_long : (order : Endianness) (format : Format) (x : ℕ) → length (number_bytes order (offset_size format) x) ≡ offset_size format
+written_long : (order : Endianness) (format : Format) (x : ℕ)
+    → length (number_bytes order (offset_size format) x) ≡ offset_size format
 written_long Little Dwarf32 x = refl
 written_long Little Dwarf64 x = refl
 written_long Big Dwarf32 x = refl
 written_long Big Dwarf64 x = refl
 
-again : (order : Endianness) (format : Format) (x : ℕ) (rest : List ℕ) → x ≤ offset_limit format → number order (offset_size format) (number_bytes order (offset_size format) x ++ rest) ≡ x
+again : (order : Endianness) (format : Format) (x : ℕ) (rest : List ℕ) → x ≤ offset_limit format
+    → number order (offset_size format) (number_bytes order (offset_size format) x ++ rest) ≡ x
 again Little Dwarf32 x rest h = omega (arith, from_le_bytes-to_le_bytes_4 x (omega arith))
 again Little Dwarf64 x rest h = omega (arith, from_le_bytes-to_le_bytes_8 x (omega arith))
 again Big Dwarf32 x rest h = omega (arith, from_be_bytes-to_be_bytes_4 x (omega arith))
@@ -39,7 +46,8 @@ again Big Dwarf64 x rest h = omega (arith, from_be_bytes-to_be_bytes_8 x (omega 
 one_more : (n width : ℕ) → suc n * width ≡ width + n * width
 one_more n width = omega (arith, suc-mul n width)
 
-entries_long : (order : Endianness) (format : Format) (offsets : List ℕ) → length (entry_bytes order format offsets) ≡ length offsets * offset_size format
+entries_long : (order : Endianness) (format : Format) (offsets : List ℕ)
+    → length (entry_bytes order format offsets) ≡ length offsets * offset_size format
 entries_long order format [] = sym (zero-mul (offset_size format))
 entries_long order format (x ∷ xs) =
     length-append (number_bytes order (offset_size format) x) (entry_bytes order format xs)
@@ -47,20 +55,28 @@ entries_long order format (x ∷ xs) =
     ∙ ap (λ n. offset_size format + n) (entries_long order format xs)
     ∙ sym (one_more (length xs) (offset_size format))
 
-entry_read : (order : Endianness) (format : Format) (offsets : List ℕ) (i : ℕ) → i < length offsets → get_or offsets i 0 ≤ offset_limit format → number order (offset_size format) (drop (i * offset_size format) (entry_bytes order format offsets)) ≡ get_or offsets i 0
+entry_read : (order : Endianness) (format : Format) (offsets : List ℕ) (i : ℕ) → i < length offsets
+    → get_or offsets i 0 ≤ offset_limit format → number order (offset_size format)
+    (drop (i * offset_size format) (entry_bytes order format offsets)) ≡ get_or offsets i 0
 entry_read order format [] i less fits = absurd (omega arith)
 entry_read order format (x ∷ xs) zero less fits =
-    ap (λ n. number order (offset_size format) (drop n (entry_bytes order format (x ∷ xs)))) (zero-mul (offset_size format))
+    ap (λ n. number order (offset_size format) (drop n (entry_bytes order format (x ∷ xs))))
+    (zero-mul (offset_size format))
     ∙ again order format x (entry_bytes order format xs) fits
 entry_read order format (x ∷ xs) (suc i) less fits =
-    let past : drop (offset_size format + i * offset_size format) (entry_bytes order format (x ∷ xs)) ≡ drop (i * offset_size format) (entry_bytes order format xs) =
-    sym (drop-drop (i * offset_size format) (offset_size format) (entry_bytes order format (x ∷ xs)))
-    ∙ ap (drop (i * offset_size format)) (drop_at (number_bytes order (offset_size format) x) (entry_bytes order format xs) (offset_size format) (written_long order format x)) in
-    ap (λ n. number order (offset_size format) (drop n (entry_bytes order format (x ∷ xs)))) (one_more i (offset_size format))
+    let past : drop (offset_size format + i * offset_size format) (entry_bytes order format
+    (x ∷ xs)) ≡ drop (i * offset_size format) (entry_bytes order format xs) =
+    sym (drop-drop (i * offset_size format) (offset_size format)
+    (entry_bytes order format (x ∷ xs)))
+    ∙ ap (drop (i * offset_size format)) (drop_at (number_bytes order (offset_size format) x)
+    (entry_bytes order format xs) (offset_size format) (written_long order format x)) in
+    ap (λ n. number order (offset_size format) (drop n (entry_bytes order format (x ∷ xs))))
+    (one_more i (offset_size format))
     ∙ ap (number order (offset_size format)) past ∙ entry_read order format xs i (omega arith) fits
 
 -- ---- the header
-initial_long : (order : Endianness) (format : Format) (n : ℕ) → length (initial_length order format n) ≡ length_size format
+initial_long : (order : Endianness) (format : Format) (n : ℕ)
+    → length (initial_length order format n) ≡ length_size format
 initial_long Little Dwarf32 n = refl
 initial_long Little Dwarf64 n = refl
 initial_long Big Dwarf32 n = refl
@@ -70,18 +86,22 @@ halves_long : (order : Endianness) → length (number_bytes order 2 5 ++ number_
 halves_long Little = refl
 halves_long Big = refl
 
-standard_by : (b : Bool) (fault : Fault) (bytes header : List ℕ) → cond b (Err fault) (Ok bytes) ≡ Ok header → bytes ≡ header
+standard_by : (b : Bool) (fault : Fault) (bytes header : List ℕ) → cond b (Err fault) (Ok bytes) ≡
+    Ok header → bytes ≡ header
 standard_by true fault bytes header h = absurd cc
 standard_by false fault bytes header h = cc
 
-pub header_long : (order : Endianness) (encoding : Encoding) (size : ℕ) (header : List ℕ) → header_of order encoding size ≡ Ok header → length header ≡ header_size encoding
+pub header_long : (order : Endianness) (encoding : Encoding) (size : ℕ) (header : List ℕ)
+    → header_of order encoding size ≡ Ok header → length header ≡ header_size encoding
 unfolding header_of
 header_long order encoding size header h =
     let first = initial_length order encoding.format (size + 4) in
-    let parts : length (first ++ number_bytes order 2 5 ++ number_bytes order 2 0) ≡ length_size encoding.format + 4 =
+    let parts : length (first ++ number_bytes order 2 5 ++ number_bytes order 2 0) ≡ length_size
+    encoding.format + 4 =
     ap length (append_assoc first (number_bytes order 2 5) (number_bytes order 2 0))
     ∙ length-append first (number_bytes order 2 5 ++ number_bytes order 2 0)
-    ∙ ap (λ n. n + length (number_bytes order 2 5 ++ number_bytes order 2 0)) (initial_long order encoding.format (size + 4))
+    ∙ ap (λ n. n + length (number_bytes order 2 5 ++ number_bytes order 2 0))
+    (initial_long order encoding.format (size + 4))
     ∙ ap (λ n. length_size encoding.format + n) (halves_long order) in
     ⊎_elim
     (λ standard. let new : ltb encoding.version 5 ≡ false = le-ltb encoding.version 5 standard.1 in
@@ -98,14 +118,18 @@ count_none : (format : Format) (h : ℕ) → (0 - h) / offset_size format ≡ 0
 count_none Dwarf32 h = omega arith
 count_none Dwarf64 h = omega arith
 
-count_again : (format : Format) (h n l : ℕ) → l ≡ h + n * offset_size format → (l - h) / offset_size format ≡ n
+count_again : (format : Format) (h n l : ℕ) → l ≡ h + n * offset_size format
+    → (l - h) / offset_size format ≡ n
 count_again Dwarf32 h n l e = omega arith
 count_again Dwarf64 h n l e = omega arith
 
 module _ (order : Endianness) (encoding : Encoding) (section bytes : List ℕ) where
   -- an entry of a header and offsets
-  one_named : (header offsets : List ℕ) (strings : List (List ℕ)) (i n : ℕ) → length header ≡ header_size encoding → length offsets ≡ n → i < n → EntryNames order encoding section bytes i strings (get_or offsets i 0)
-      → NamesOneString order encoding section bytes (header ++ entry_bytes order encoding.format offsets) strings i
+  one_named : (header offsets : List ℕ) (strings : List (List ℕ)) (i n : ℕ)
+      → length header ≡ header_size encoding → length offsets ≡ n → i < n
+      → EntryNames order encoding section bytes i strings (get_or offsets i 0)
+      → NamesOneString order encoding section bytes (header ++ entry_bytes order encoding.format
+      offsets) strings i
   unfolding named_at offset_at
   one_named header offsets strings i n front many less entry =
       let width = offset_size encoding.format in
@@ -113,12 +137,16 @@ module _ (order : Endianness) (encoding : Encoding) (section bytes : List ℕ) w
       let at = header_size encoding + i * width in
       let room : i * width + width ≤ n * width = row_fits i width n width less (omega arith) in
       let long : length (header ++ tail) ≡ header_size encoding + n * width =
-      length-append header tail ∙ ap (λ m. m + length tail) front ∙ ap (λ m. header_size encoding + m) (entries_long order encoding.format offsets ∙ ap (λ m. m * width) many) in
-      let inside : ltb (length (header ++ tail)) (at + width) ≡ false = le-ltb _ _ (omega (arith, long)) in
+      length-append header tail ∙ ap (λ m. m + length tail) front ∙ ap (λ m. header_size encoding +
+      m) (entries_long order encoding.format offsets ∙ ap (λ m. m * width) many) in
+      let inside : ltb (length (header ++ tail)) (at + width) ≡ false =
+      le-ltb _ _ (omega (arith, long)) in
       let past : drop at (header ++ tail) ≡ drop (i * width) tail =
-      sym (drop-drop (i * width) (header_size encoding) (header ++ tail)) ∙ ap (drop (i * width)) (drop_at header tail (header_size encoding) front) in
+      sym (drop-drop (i * width) (header_size encoding) (header ++ tail)) ∙ ap (drop (i * width))
+      (drop_at header tail (header_size encoding) front) in
       let read : number order width (drop at (header ++ tail)) ≡ get_or offsets i 0 =
-      ap (number order width) past ∙ entry_read order encoding.format offsets i (omega (arith, many)) entry.fits in
+      ap (number order width) past ∙ entry_read order encoding.format offsets i
+      (omega (arith, many)) entry.fits in
       record {
         string = entry.string;
         there = (has_Decides strings entry.string).0 entry.there;
@@ -128,35 +156,48 @@ module _ (order : Endianness) (encoding : Encoding) (section bytes : List ℕ) w
             rw (inside, read, entry.place, found) refl);
       }
 
-  whole_named : (size : ℕ) (before : List (List ℕ)) (header : List ℕ) (entries : List ℕ × List (List ℕ)) → (size ≡ 0 → ⊥) → IsTable before → header_of order encoding (entry_count encoding size * offset_size encoding.format) ≡ Ok header
-      → remapped_entries order encoding section bytes (entry_count encoding size) before ≡ Ok entries
-      → NamesTheSame order encoding section bytes size before (header ++ entry_bytes order encoding.format entries.0) entries.1
+  whole_named : (size : ℕ) (before : List (List ℕ)) (header : List ℕ) (entries : List ℕ
+      × List (List ℕ)) → (size ≡ 0 → ⊥) → IsTable before → header_of order encoding
+      (entry_count encoding size * offset_size encoding.format) ≡ Ok header
+      → remapped_entries order encoding section bytes (entry_count encoding size)
+      before ≡ Ok entries
+      → NamesTheSame order encoding section bytes size before (header ++ entry_bytes order
+      encoding.format entries.0) entries.1
   whole_named size before header entries some table headed all =
       let n = entry_count encoding size in
       let keep = entries_keep order encoding section bytes n before entries table all in
       let front = header_long order encoding (n * offset_size encoding.format) header headed in
-      let long : length (header ++ entry_bytes order encoding.format entries.0) ≡ header_size encoding + n * offset_size encoding.format =
+      let long : length (header ++ entry_bytes order encoding.format entries.0) ≡ header_size
+      encoding + n * offset_size encoding.format =
       length-append header (entry_bytes order encoding.format entries.0)
       ∙ ap (λ m. m + length (entry_bytes order encoding.format entries.0)) front
-      ∙ ap (λ m. header_size encoding + m) (entries_long order encoding.format entries.0 ∙ ap (λ m. m * offset_size encoding.format) keep.long) in
+      ∙ ap (λ m. header_size encoding + m) (entries_long order encoding.format entries.0 ∙ ap (λ m.
+      m * offset_size encoding.format) keep.long) in
       record {
         table = keep.table;
         kept = keep.kept;
         count = count_again encoding.format (header_size encoding) n _ long;
         none = λ is_zero. absurd (some is_zero);
         long = λ _. long;
-        named = λ i less. one_named header entries.0 entries.1 i n front keep.long less (keep.each i less);
+        named = λ i less. one_named header entries.0 entries.1 i n front keep.long less
+            (keep.each i less);
       }
 
-  by_size : (none short : Bool) (size : ℕ) (before : List (List ℕ)) (fault : Fault) (range : List ℕ × List (List ℕ)) → eqb size 0 ≡ none → IsTable before
-      → cond none (Ok ([], before)) (cond short (Err fault) (header_of order encoding (entry_count encoding size * offset_size encoding.format) >>= λ header. remapped_entries order encoding section bytes (entry_count encoding size) before >>= λ entries. Ok (header ++ entry_bytes order encoding.format entries.0, entries.1))) ≡ Ok range
+  by_size : (none short : Bool) (size : ℕ) (before : List (List ℕ)) (fault : Fault) (range : List ℕ
+      × List (List ℕ)) → eqb size 0 ≡ none → IsTable before
+      → cond none (Ok ([], before)) (cond short (Err fault) (header_of order encoding
+      (entry_count encoding size * offset_size encoding.format) >>= λ header.
+      remapped_entries order encoding section bytes (entry_count encoding size) before >>=
+      λ entries. Ok (header ++ entry_bytes order encoding.format entries.0, entries.1))) ≡ Ok
+      range
       → NamesTheSame order encoding section bytes size before range.0 range.1
   by_size true short size before fault range empty table h =
       let is_zero : size ≡ 0 = eqb-true size 0 empty in
       let whole : ([], before) ≡ range = cc in
       let none : entry_count encoding 0 ≡ 0 = count_none encoding.format (header_size encoding) in
       let no_entry : entry_count encoding size ≡ 0 = ap (entry_count encoding) is_zero ∙ none in
-      subst (λ (r : List ℕ × List (List ℕ)). NamesTheSame order encoding section bytes size before r.0 r.1) whole (record {
+      subst (λ (r : List ℕ × List (List ℕ)). NamesTheSame order encoding section bytes size before
+      r.0 r.1) whole (record {
         table = table;
         kept = take_all (length before) before (omega arith);
         count = none ∙ sym no_entry;
@@ -166,11 +207,19 @@ module _ (order : Endianness) (encoding : Encoding) (section bytes : List ℕ) w
       })
   by_size false true size before fault range some table h = absurd cc
   by_size false false size before fault range some table h =
-      let header = bind_ok (header_of order encoding (entry_count encoding size * offset_size encoding.format)) _ range h in
-      let entries = bind_ok (remapped_entries order encoding section bytes (entry_count encoding size) before) _ range header.2 in
-      let whole : (header.0 ++ entry_bytes order encoding.format entries.0.0, entries.0.1) ≡ range = cc in
-      subst (λ (r : List ℕ × List (List ℕ)). NamesTheSame order encoding section bytes size before r.0 r.1) whole (whole_named size before header.0 entries.0 (eqb-false size 0 some) table header.1 entries.1)
+      let header = bind_ok (header_of order encoding (entry_count encoding size * offset_size
+      encoding.format)) _ range h in
+      let entries = bind_ok (remapped_entries order encoding section bytes
+      (entry_count encoding size) before) _ range header.2 in
+      let whole : (header.0 ++ entry_bytes order encoding.format entries.0.0, entries.0.1) ≡ range =
+      cc in
+      subst (λ (r : List ℕ × List (List ℕ)). NamesTheSame order encoding section bytes size before
+      r.0 r.1) whole (whole_named size before header.0 entries.0 (eqb-false size 0 some) table
+      header.1 entries.1)
 
-  pub range_named : (size : ℕ) (before : List (List ℕ)) (range : List ℕ × List (List ℕ)) → IsTable before → remapped order encoding section bytes size before ≡ Ok range → NamesTheSame order encoding section bytes size before range.0 range.1
+  pub range_named : (size : ℕ) (before : List (List ℕ)) (range : List ℕ × List (List ℕ))
+      → IsTable before → remapped order encoding section bytes size before ≡ Ok range
+      → NamesTheSame order encoding section bytes size before range.0 range.1
   unfolding remapped
-  range_named size before range table h = by_size (eqb size 0) (ltb size (header_size encoding)) size before _ range refl table h
+  range_named size before range table h = by_size (eqb size 0) (ltb size (header_size encoding))
+      size before _ range refl table h

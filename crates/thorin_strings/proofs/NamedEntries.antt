@@ -1,5 +1,7 @@
 -- The strings that rewritten entries name.
-use Rattle.std.proofs.Common.{◌≡◌, ℕ, zero, suc, ◌+◌, ◌*◌, ◌<◌, ◌≤◌, Bool, true, false, cond, ltb, List, [], ◌∷◌, ◌++◌, length, take, drop, get_or, Result, Ok, Err, ap, sym, subst, refl, ◌∙◌, ⊎_elim, arith, length-append}
+use Rattle.std.proofs.Common.{◌≡◌, ℕ, zero, suc, ◌+◌, ◌*◌, ◌<◌, ◌≤◌, Bool, true, false, cond, ltb}
+use Rattle.std.proofs.Common.{List, [], ◌∷◌, ◌++◌, length, take, drop, get_or, Result, Ok, Err, ap}
+use Rattle.std.proofs.Common.{sym, subst, refl, ◌∙◌, ⊎_elim, arith, length-append}
 use Rattle.std.proofs.lemmas.List.{take_all, take-append-drop, get_or_append_left, get_or_at}
 use Rattle.std.proofs.lemmas.Bool.{cases_eq, ltb-false}
 use Rattle.dwp_base.specs.declared.endian.Endianness.{Endianness}
@@ -12,41 +14,52 @@ use Rattle.thorin_faults.specs.Fault.{Fault}
 use Rattle.thorin_faults.specs.Answers.{as_fault}
 use Rattle.dwp_bytes.specs.StringOffsets.{header_size, string_from, string_at}
 use Rattle.thorin_strings.specs.Strings.{offset_of, with_string, IsZeroFree, IsTable}
-use Rattle.thorin_strings.specs.StringOffsets.{offset_limit, offset_at, named_at, fitting_offset, remapped_entry, remapped_entries}
+use Rattle.thorin_strings.specs.StringOffsets.{offset_limit, offset_at, named_at, fitting_offset}
+use Rattle.thorin_strings.specs.StringOffsets.{remapped_entry, remapped_entries}
 use Rattle.thorin_strings.proofs.Named.{has, has_more, offset_kept, read_free, used}
 use Rattle.thorin_strings.proofs.RemapLemmas.{kept_more}
 
-pub bind_ok : {A B E : Type 0} (r : Result A E) (f : A → Result B E) (y : B) → (r >>= f) ≡ Ok y → (x : A) × (r ≡ Ok x) × (f x ≡ Ok y)
+pub bind_ok : {A B E : Type 0} (r : Result A E) (f : A → Result B E) (y : B) → (r >>= f) ≡ Ok y
+    → (x : A) × (r ≡ Ok x) × (f x ≡ Ok y)
 bind_ok (Ok x) f y e = (x, refl, e)
 bind_ok (Err d) f y e = absurd cc
 
-as_fault_ok : {A E : Type 0} (f : E → Fault) (r : Result A E) (x : A) → as_fault f r ≡ Ok x → r ≡ Ok x
+as_fault_ok : {A E : Type 0} (f : E → Fault) (r : Result A E) (x : A)
+    → as_fault f r ≡ Ok x → r ≡ Ok x
 as_fault_ok f (Ok y) x h = cc
 as_fault_ok f (Err e) x h = absurd cc
 
-string_by : (a b : Bool) (s string : List ℕ) → cond a (Err OffsetOutOfRange) (cond b (Ok s) (Err NoTerminator)) ≡ Ok string → s ≡ string
+string_by : (a b : Bool) (s string : List ℕ) → cond a (Err OffsetOutOfRange)
+    (cond b (Ok s) (Err NoTerminator)) ≡ Ok string → s ≡ string
 string_by true b s string h = absurd cc
 string_by false true s string h = cc
 string_by false false s string h = absurd cc
 
 -- a string that is read has no zero
-string_free : (section : List ℕ) (at : ℕ) (string : List ℕ) → string_at section at ≡ Ok string → IsZeroFree string
+string_free : (section : List ℕ) (at : ℕ) (string : List ℕ) → string_at section at ≡ Ok string
+    → IsZeroFree string
 unfolding string_at
-string_free section at string h = subst IsZeroFree (string_by _ _ (string_from section at) string h) (read_free section at)
+string_free section at string h = subst IsZeroFree (string_by _ _ (string_from section at) string h)
+    (read_free section at)
 
-named_free : (order : Endianness) (encoding : Encoding) (section bytes : List ℕ) (index : ℕ) (string : List ℕ) → named_at order encoding section bytes index ≡ Ok string → IsZeroFree string
+named_free : (order : Endianness) (encoding : Encoding) (section bytes : List ℕ) (index : ℕ)
+    (string : List ℕ) → named_at order encoding section bytes index ≡ Ok string → IsZeroFree string
 unfolding named_at
 named_free order encoding section bytes index string h =
-    let offset = bind_ok (as_fault _ (offset_at order encoding.format bytes (header_size encoding + index * offset_size encoding.format))) _ string h in
+    let offset = bind_ok (as_fault _ (offset_at order encoding.format bytes (header_size encoding +
+    index * offset_size encoding.format))) _ string h in
     string_free section offset.0 string (as_fault_ok _ (string_at section offset.0) string offset.2)
 
-fitting_by : (b : Bool) (limit n m : ℕ) (fault : Fault) → ltb limit n ≡ b → cond b (Err fault) (Ok n) ≡ Ok m → (n ≡ m) × (n ≤ limit)
+fitting_by : (b : Bool) (limit n m : ℕ) (fault : Fault) → ltb limit n ≡ b → cond b (Err fault)
+    (Ok n) ≡ Ok m → (n ≡ m) × (n ≤ limit)
 fitting_by true limit n m fault test h = absurd cc
 fitting_by false limit n m fault test h = (cc, ltb-false limit n test)
 
-fitting_is : (format : Format) (n m : ℕ) → fitting_offset format n ≡ Ok m → (n ≡ m) × (n ≤ offset_limit format)
+fitting_is : (format : Format) (n m : ℕ) → fitting_offset format n ≡ Ok m → (n ≡ m)
+    × (n ≤ offset_limit format)
 unfolding fitting_offset
-fitting_is format n m h = fitting_by (ltb (offset_limit format) n) (offset_limit format) n m _ refl h
+fitting_is format n m h = fitting_by (ltb (offset_limit format) n)
+    (offset_limit format) n m _ refl h
 
 module _ (order : Endianness) (encoding : Encoding) (section bytes : List ℕ) where
   -- an entry names a string of these, whose offset it is to have
@@ -59,16 +72,20 @@ module _ (order : Endianness) (encoding : Encoding) (section bytes : List ℕ) w
     pub fits : offset ≤ offset_limit encoding.format
 
   -- the same once more strings have come
-  later : (index : ℕ) (strings new : List (List ℕ)) (offset : ℕ) → take (length strings) new ≡ strings → EntryNames index strings offset → EntryNames index new offset
+  later : (index : ℕ) (strings new : List (List ℕ)) (offset : ℕ) → take (length strings) new ≡
+      strings → EntryNames index strings offset → EntryNames index new offset
   later index strings new offset kept entry =
       let more : List (List ℕ) = drop (length strings) new in
-      let parts : strings ++ more ≡ new = ap (λ l. l ++ more) (sym kept) ∙ take-append-drop (length strings) new in
+      let parts : strings ++ more ≡ new = ap (λ l. l ++ more) (sym kept) ∙ take-append-drop
+      (length strings) new in
       record {
         string = entry.string;
         free = entry.free;
         old = entry.old;
-        there = subst (λ l. has l entry.string ≡ true) parts (has_more strings more entry.string entry.there);
-        place = entry.place ∙ sym (offset_kept strings more entry.string entry.there) ∙ ap (λ l. offset_of l entry.string) parts;
+        there = subst (λ l. has l entry.string ≡ true) parts
+            (has_more strings more entry.string entry.there);
+        place = entry.place ∙ sym (offset_kept strings more entry.string entry.there) ∙ ap (λ l.
+            offset_of l entry.string) parts;
         fits = entry.fits;
       }
 
@@ -77,11 +94,14 @@ module _ (order : Endianness) (encoding : Encoding) (section bytes : List ℕ) w
     pub kept : take (length strings) new ≡ strings
     pub names : EntryNames index new offset
 
-  entry_keeps : (index : ℕ) (strings : List (List ℕ)) (entry : ℕ × List (List ℕ)) → IsTable strings → remapped_entry order encoding section bytes index strings ≡ Ok entry → EntryKeeps index strings entry.1 entry.0
+  entry_keeps : (index : ℕ) (strings : List (List ℕ)) (entry : ℕ × List (List ℕ)) → IsTable strings
+      → remapped_entry order encoding section bytes index strings ≡ Ok entry
+      → EntryKeeps index strings entry.1 entry.0
   unfolding remapped_entry
   entry_keeps index strings entry table h =
       let named = bind_ok (named_at order encoding section bytes index) _ entry h in
-      let fit = bind_ok (fitting_offset encoding.format (offset_of strings named.0)) _ entry named.2 in
+      let fit = bind_ok (fitting_offset encoding.format (offset_of strings named.0)) _
+      entry named.2 in
       let is = fitting_is encoding.format (offset_of strings named.0) fit.0 fit.1 in
       let whole : (fit.0, with_string strings named.0) ≡ entry = cc in
       let free = named_free order encoding section bytes index named.0 named.1 in
@@ -100,13 +120,16 @@ module _ (order : Endianness) (encoding : Encoding) (section bytes : List ℕ) w
       })
 
   -- so many first entries
-  pub record EntriesKeep (n : ℕ) (before : List (List ℕ)) (offsets : List ℕ) (after : List (List ℕ)) : Type 0 where
+  pub record EntriesKeep (n : ℕ) (before : List (List ℕ)) (offsets : List ℕ)
+      (after : List (List ℕ)) : Type 0 where
     pub table : IsTable after
     pub kept : take (length before) after ≡ before
     pub long : length offsets ≡ n
     pub each : (i : ℕ) → i < n → EntryNames i after (get_or offsets i 0)
 
-  pub entries_keep : (n : ℕ) (before : List (List ℕ)) (entries : List ℕ × List (List ℕ)) → IsTable before → remapped_entries order encoding section bytes n before ≡ Ok entries → EntriesKeep n before entries.0 entries.1
+  pub entries_keep : (n : ℕ) (before : List (List ℕ)) (entries : List ℕ × List (List ℕ))
+      → IsTable before → remapped_entries order encoding section bytes n before ≡ Ok entries
+      → EntriesKeep n before entries.0 entries.1
   unfolding remapped_entries
   entries_keep zero before entries table h =
       let none : ([], before) ≡ entries = cc in
@@ -118,7 +141,8 @@ module _ (order : Endianness) (encoding : Encoding) (section bytes : List ℕ) w
       })
   entries_keep (suc n) before entries table h =
       let first = bind_ok (remapped_entries order encoding section bytes n before) _ entries h in
-      let entry = bind_ok (remapped_entry order encoding section bytes n first.0.1) _ entries first.2 in
+      let entry = bind_ok (remapped_entry order encoding section bytes n first.0.1) _
+      entries first.2 in
       let whole : (first.0.0 ++ entry.0.0 ∷ [], entry.0.1) ≡ entries = cc in
       let all = entries_keep n before first.0 table first.1 in
       let one = entry_keeps n first.0.1 entry.0 all.table entry.1 in
@@ -127,9 +151,13 @@ module _ (order : Endianness) (encoding : Encoding) (section bytes : List ℕ) w
         kept = kept_more before first.0.1 entry.0.1 all.kept one.kept;
         long = omega (arith, length-append first.0.0 (entry.0.0 ∷ []), all.long);
         each = λ i less. ⊎_elim
-            (λ last. let at : get_or (first.0.0 ++ entry.0.0 ∷ []) i 0 ≡ entry.0.0 = get_or_at first.0.0 entry.0.0 [] 0 i (all.long ∙ sym last) in
-            subst (λ o. EntryNames i entry.0.1 o) (sym at) (subst (λ j. EntryNames j entry.0.1 entry.0.0) (sym last) one.names))
-            (λ other. let at : get_or (first.0.0 ++ entry.0.0 ∷ []) i 0 ≡ get_or first.0.0 i 0 = get_or_append_left first.0.0 (entry.0.0 ∷ []) 0 i (omega (arith, all.long)) in
-            subst (λ o. EntryNames i entry.0.1 o) (sym at) (later i first.0.1 entry.0.1 (get_or first.0.0 i 0) one.kept (all.each i (omega arith))))
+            (λ last. let at : get_or (first.0.0 ++ entry.0.0 ∷ []) i 0 ≡ entry.0.0 =
+            get_or_at first.0.0 entry.0.0 [] 0 i (all.long ∙ sym last) in
+            subst (λ o. EntryNames i entry.0.1 o) (sym at)
+            (subst (λ j. EntryNames j entry.0.1 entry.0.0) (sym last) one.names))
+            (λ other. let at : get_or (first.0.0 ++ entry.0.0 ∷ []) i 0 ≡ get_or first.0.0 i 0 =
+            get_or_append_left first.0.0 (entry.0.0 ∷ []) 0 i (omega (arith, all.long)) in
+            subst (λ o. EntryNames i entry.0.1 o) (sym at) (later i first.0.1 entry.0.1
+            (get_or first.0.0 i 0) one.kept (all.each i (omega arith))))
             (cases_eq i n);
       })

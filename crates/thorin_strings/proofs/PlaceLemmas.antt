@@ -1,5 +1,7 @@
 -- A place of a section of ended strings at which a string begins.
-use Rattle.std.proofs.Common.{◌≡◌, ◌≢◌, AllPairs, ℕ, zero, suc, ◌+◌, ◌-◌, ◌<◌, ◌≤◌, Bool, true, false, cond, ◌||◌, eqb, List, [], ◌∷◌, ◌++◌, length, take, drop, get_or, All, Contains, ap, sym, subst, refl, ◌∙◌, arith, append_assoc}
+use Rattle.std.proofs.Common.{◌≡◌, ◌≢◌, AllPairs, ℕ, zero, suc, ◌+◌, ◌-◌, ◌<◌, ◌≤◌, Bool, true}
+use Rattle.std.proofs.Common.{false, cond, ◌||◌, eqb, List, [], ◌∷◌, ◌++◌, length, take, drop}
+use Rattle.std.proofs.Common.{get_or, All, Contains, ap, sym, subst, refl, ◌∙◌, arith, append_assoc}
 use Rattle.std.specs.List.{onto_first, list_any}
 use Rattle.std.specs.Str.{bytes_eq}
 use Rattle.std.proofs.lemmas.List.{take-append-drop, length-take-le, length-drop}
@@ -7,33 +9,44 @@ use Rattle.std.proofs.lemmas.List.Elements.{All-head, All-tail, Contains-append_
 use Rattle.std.proofs.lemmas.Bool.{eqb-true}
 use Rattle.std.proofs.lemmas.Slice.Eq.{bytes_eq-Decides}
 use Rattle.dwp_bytes.specs.StringOffsets.{string_from}
-use Rattle.thorin_strings.specs.Strings.{data_of, offset_of, offsets_from, strings_in, IsZeroFree, IsIndexed, BeginsAt}
+use Rattle.thorin_strings.specs.Strings.{data_of, offset_of, offsets_from, strings_in, IsZeroFree}
+use Rattle.thorin_strings.specs.Strings.{IsIndexed, BeginsAt}
 use Rattle.thorin_strings.proofs.StringLemmas.{data_of-cons, strings_in-ended, zero_free-strings_in}
-use Rattle.thorin_strings.proofs.OffsetLemmas.{offsets_from-append, length-data_of-cons, has_Decides}
+use Rattle.thorin_strings.proofs.OffsetLemmas.{offsets_from-append, length-data_of-cons}
+use Rattle.thorin_strings.proofs.OffsetLemmas.{has_Decides}
 use Rattle.thorin_strings.proofs.TableLemmas.{known_offset, known_offset_in}
 
-onto_ended : (b : ℕ) (ss : List (List ℕ)) (rest : List ℕ) → data_of ss ≡ rest → 0 < length rest → data_of (onto_first b ss) ≡ b ∷ rest
+onto_ended : (b : ℕ) (ss : List (List ℕ)) (rest : List ℕ) → data_of ss ≡ rest → 0 < length rest
+    → data_of (onto_first b ss) ≡ b ∷ rest
 onto_ended b [] rest e some = absurd (omega (arith, ap length e))
 onto_ended b (s ∷ ss) rest e some = ap (λ l. b ∷ l) e
 
 -- bytes up to a zero are ended strings
-ended_at : (m : ℕ) (bytes : List ℕ) → m < length bytes → get_or bytes m 0 ≡ 0 → data_of (strings_in (take (suc m) bytes)) ≡ take (suc m) bytes
+ended_at : (m : ℕ) (bytes : List ℕ) → m < length bytes → get_or bytes m 0 ≡ 0
+    → data_of (strings_in (take (suc m) bytes)) ≡ take (suc m) bytes
 ended_at m [] within here = absurd (omega arith)
 ended_at zero (b ∷ bytes) within here = rw here refl
 ended_at (suc m) (b ∷ bytes) within here = by (eqb b 0) refl (ended_at m bytes (omega arith) here)
   where
-    by : (t : Bool) → eqb b 0 ≡ t → data_of (strings_in (take (suc m) bytes)) ≡ take (suc m) bytes → data_of (cond t ([] ∷ strings_in (take (suc m) bytes)) (onto_first b (strings_in (take (suc m) bytes)))) ≡ b ∷ take (suc m) bytes
-    by true zero_here rest = ap (λ l. 0 ∷ l) rest ∙ ap (λ n. n ∷ take (suc m) bytes) (sym (eqb-true b 0 zero_here))
-    by false other rest = onto_ended b (strings_in (take (suc m) bytes)) (take (suc m) bytes) rest (omega (arith, length-take-le (suc m) bytes (omega arith)))
+    by : (t : Bool) → eqb b 0 ≡ t → data_of (strings_in (take (suc m) bytes)) ≡ take (suc m) bytes
+        → data_of (cond t ([] ∷ strings_in (take (suc m) bytes))
+        (onto_first b (strings_in (take (suc m) bytes)))) ≡ b ∷ take (suc m) bytes
+    by true zero_here rest = ap (λ l. 0 ∷ l) rest ∙ ap (λ n. n ∷ take (suc m) bytes)
+        (sym (eqb-true b 0 zero_here))
+    by false other rest = onto_ended b (strings_in (take (suc m) bytes)) (take (suc m) bytes) rest
+        (omega (arith, length-take-le (suc m) bytes (omega arith)))
 
-ended_before : (at : ℕ) (bytes : List ℕ) → BeginsAt bytes at → data_of (strings_in (take at bytes)) ≡ take at bytes
+ended_before : (at : ℕ) (bytes : List ℕ) → BeginsAt bytes at
+    → data_of (strings_in (take at bytes)) ≡ take at bytes
 ended_before zero bytes begins = refl
 ended_before (suc m) bytes begins =
     let e : suc m - 1 ≡ m = omega arith in
-    ended_at m bytes (omega (arith, begins.within)) (ap (λ n. get_or bytes n 0) (sym e) ∙ begins.behind (omega arith))
+    ended_at m bytes (omega (arith, begins.within)) (ap (λ n. get_or bytes n 0) (sym e) ∙
+    begins.behind (omega arith))
 
 -- the strings behind ended ones
-strings_behind : (ss : List (List ℕ)) (rest : List ℕ) → All IsZeroFree ss → strings_in (data_of ss ++ rest) ≡ ss ++ strings_in rest
+strings_behind : (ss : List (List ℕ)) (rest : List ℕ) → All IsZeroFree ss
+    → strings_in (data_of ss ++ rest) ≡ ss ++ strings_in rest
 strings_behind [] rest free = refl
 strings_behind (s ∷ ss) rest free =
     ap strings_in (ap (λ l. l ++ rest) (data_of-cons s ss) ∙ append_assoc s (0 ∷ data_of ss) rest)
@@ -54,33 +67,63 @@ first_offset n [] some = absurd (omega arith)
 first_offset n (s ∷ ss) some = (0, omega arith, refl)
 
 -- it is the offset of a string
-offset_there : (bytes : List ℕ) (at : ℕ) → BeginsAt bytes at → Contains (offsets_from 0 (strings_in bytes)) at
+offset_there : (bytes : List ℕ) (at : ℕ) → BeginsAt bytes at
+    → Contains (offsets_from 0 (strings_in bytes)) at
 offset_there bytes at begins =
     let front = strings_in (take at bytes) in
     let back = strings_in (drop at bytes) in
     let ended : data_of front ≡ take at bytes = ended_before at bytes begins in
     let parts : strings_in bytes ≡ front ++ back =
-    ap strings_in (sym (ap (λ l. l ++ drop at bytes) ended ∙ take-append-drop at bytes)) ∙ strings_behind front (drop at bytes) (zero_free-strings_in (take at bytes)) in
-    let here : 0 + length (data_of front) ≡ at = omega (arith, ap length ended, length-take-le at bytes (omega (arith, begins.within))) in
+    ap strings_in (sym (ap (λ l. l ++ drop at bytes) ended ∙ take-append-drop at bytes)) ∙
+    strings_behind front (drop at bytes) (zero_free-strings_in (take at bytes)) in
+    let here : 0 + length (data_of front) ≡ at = omega (
+      arith,
+      ap length ended,
+      length-take-le at
+          bytes (omega (arith, begins.within)),
+    ) in
     let some = some_string (drop at bytes) (omega (arith, length-drop at bytes, begins.within)) in
     subst (λ l. Contains l at) (sym (ap (offsets_from 0) parts ∙ offsets_from-append 0 front back))
-    (Contains-append_right (offsets_from 0 front) _ at (subst (λ n. Contains (offsets_from n back) at) (sym here) (first_offset at back some)))
+    (Contains-append_right (offsets_from 0 front) _ at
+    (subst (λ n. Contains (offsets_from n back) at) (sym here) (first_offset at back some)))
 
 -- of the string that begins there
-pub known_place : (bytes positions s : List ℕ) (at : ℕ) → IsIndexed bytes positions → BeginsAt bytes at → string_from bytes at ≡ s → Contains (strings_in bytes) s × (at ≡ offset_of (strings_in bytes) s)
-known_place bytes positions s at table begins is = known_offset bytes positions s at table (offset_there bytes at begins) is
+pub known_place : (bytes positions s : List ℕ) (at : ℕ) → IsIndexed bytes positions
+    → BeginsAt bytes at → string_from bytes at ≡ s → Contains (strings_in bytes) s
+    × (at ≡ offset_of (strings_in bytes) s)
+known_place bytes positions s at table begins is = known_offset bytes positions s at table
+    (offset_there bytes at begins) is
 
-pub known_place_in : (bytes s : List ℕ) (at : ℕ) → data_of (strings_in bytes) ≡ bytes → AllPairs (λ s t. s ≢ t) (strings_in bytes) → BeginsAt bytes at → string_from bytes at ≡ s → Contains (strings_in bytes) s × (at ≡ offset_of (strings_in bytes) s)
-known_place_in bytes s at ended distinct begins is = known_offset_in bytes s at ended distinct (offset_there bytes at begins) is
+pub known_place_in : (bytes s : List ℕ) (at : ℕ) → data_of (strings_in bytes) ≡ bytes
+    → AllPairs (λ s t. s ≢ t) (strings_in bytes) → BeginsAt bytes at → string_from bytes at ≡ s
+    → Contains (strings_in bytes) s × (at ≡ offset_of (strings_in bytes) s)
+known_place_in bytes s at ended distinct begins is = known_offset_in bytes s at ended distinct
+    (offset_there bytes at begins) is
 
 -- a string and the zero that ends it are within the section
-ends_by : (ss : List (List ℕ)) (s : List ℕ) → list_any (λ t. bytes_eq t s) ss ≡ true → offset_of ss s + length s + 1 ≤ length (data_of ss)
+ends_by : (ss : List (List ℕ)) (s : List ℕ) → list_any (λ t. bytes_eq t s) ss ≡ true
+    → offset_of ss s + length s + 1 ≤ length (data_of ss)
 ends_by [] s there = cc
 ends_by (t ∷ ss) s there = by (bytes_eq t s) refl there (ends_by ss s)
   where
-    by : (b : Bool) → bytes_eq t s ≡ b → (b || list_any (λ t. bytes_eq t s) ss) ≡ true → (list_any (λ t. bytes_eq t s) ss ≡ true → offset_of ss s + length s + 1 ≤ length (data_of ss)) → cond b 0 (length t + 1 + offset_of ss s) + length s + 1 ≤ length (data_of (t ∷ ss))
-    by true same there rest = omega (arith, length-data_of-cons t ss, ap length ((bytes_eq-Decides t s).0 same))
+    by : (b : Bool) → bytes_eq t s ≡ b → (b || list_any (λ t. bytes_eq t s) ss) ≡ true
+        → (list_any (λ t. bytes_eq t s) ss ≡ true → offset_of ss s + length s + 1 ≤ length
+        (data_of ss)) → cond b 0 (length t + 1 + offset_of ss s) + length s + 1 ≤ length
+        (data_of (t ∷ ss))
+    by true same there rest = omega (
+      arith,
+      length-data_of-cons t ss,
+      ap length
+          ((bytes_eq-Decides t s).0 same),
+    )
     by false other there rest = omega (arith, length-data_of-cons t ss, rest there)
 
-pub ends_within : (bytes positions s : List ℕ) → IsIndexed bytes positions → Contains (strings_in bytes) s → offset_of (strings_in bytes) s + length s + 1 ≤ length bytes
-ends_within bytes positions s table there = omega (arith, ends_by (strings_in bytes) s ((has_Decides (strings_in bytes) s).1 there), ap length table.ended)
+pub ends_within : (bytes positions s : List ℕ) → IsIndexed bytes positions
+    → Contains (strings_in bytes) s → offset_of (strings_in bytes) s + length s + 1 ≤ length bytes
+ends_within bytes positions s table there =
+    omega (
+      arith,
+      ends_by (strings_in bytes) s ((has_Decides (strings_in bytes) s).1 there),
+      ap
+          length table.ended,
+    )

@@ -1,5 +1,7 @@
 -- Rewriting one entry after another.
-use Rattle.std.proofs.Common.{◌≡◌, ℕ, zero, suc, ◌+◌, ◌*◌, ◌<◌, ◌≤◌, false, eqb, ltb, List, [], ◌∷◌, ◌++◌, length, take, Ok, Err, ap, ap₂, sym, subst, refl, ◌∙◌, ⊎_elim, arith, append_assoc, add-one}
+use Rattle.std.proofs.Common.{◌≡◌, ℕ, zero, suc, ◌+◌, ◌*◌, ◌<◌, ◌≤◌, false, eqb, ltb, List, [], ◌∷◌}
+use Rattle.std.proofs.Common.{◌++◌, length, take, Ok, Err, ap, ap₂, sym, subst, refl, ◌∙◌, ⊎_elim}
+use Rattle.std.proofs.Common.{arith, append_assoc, add-one}
 use Rattle.dwp_base.specs.declared.endian.Endianness.{Endianness}
 use Rattle.dwp_base.specs.Numbers.{number_bytes}
 use Rattle.dwp_bytes.specs.Encoding.{offset_size}
@@ -10,52 +12,84 @@ use Rattle.std.proofs.lemmas.List.{take-take, append-nil, length-take}
 use Rattle.std.proofs.lemmas.List.Concat.{flat_map-append}
 use Rattle.std.proofs.lemmas.Bool.{cases_eq, ne_eqb, le-ltb}
 use Rattle.dwp_bytes.specs.StringOffsets.{header_size, entry_count}
-use Rattle.thorin_strings.specs.StringOffsets.{header_of, remapped_entry, remapped_entries, entry_bytes, remapped}
+use Rattle.thorin_strings.specs.StringOffsets.{header_of, remapped_entry, remapped_entries}
+use Rattle.thorin_strings.specs.StringOffsets.{entry_bytes, remapped}
 
 -- one more entry
-pub entries_more : (order : Endianness) (encoding : Encoding) (section bytes : List ℕ) (i : ℕ) (old now new : List (List ℕ)) (before : List ℕ) (offset : ℕ) → remapped_entries order encoding section bytes i old ≡ Ok (before, now) → remapped_entry order encoding section bytes i now ≡ Ok (offset, new) → remapped_entries order encoding section bytes (i + 1) old ≡ Ok (before ++ offset ∷ [], new)
+pub entries_more : (order : Endianness) (encoding : Encoding) (section bytes : List ℕ) (i : ℕ)
+    (old now new : List (List ℕ)) (before : List ℕ) (offset : ℕ) → remapped_entries order encoding
+    section bytes i old ≡ Ok (before, now) → remapped_entry order encoding section bytes i now ≡ Ok
+    (offset, new) → remapped_entries order encoding section bytes (i + 1) old ≡ Ok
+    (before ++ offset ∷ [], new)
 unfolding remapped_entries
 entries_more order encoding section bytes i old now new before offset so_far entry =
     rw add-one (rw (so_far, entry) refl)
 
 -- an entry that refuses, in as many entries as there are
-pub entries_fail : (order : Endianness) (encoding : Encoding) (section bytes : List ℕ) (i n : ℕ) (old now : List (List ℕ)) (before : List ℕ) (fault : Fault) → remapped_entries order encoding section bytes i old ≡ Ok (before, now) → remapped_entry order encoding section bytes i now ≡ Err fault → i < n → remapped_entries order encoding section bytes n old ≡ Err fault
+pub entries_fail : (order : Endianness) (encoding : Encoding) (section bytes : List ℕ) (i n : ℕ)
+    (old now : List (List ℕ)) (before : List ℕ) (fault : Fault) → remapped_entries order encoding
+    section bytes i old ≡ Ok (before, now) → remapped_entry order encoding section bytes i now ≡ Err
+    fault → i < n → remapped_entries order encoding section bytes n old ≡ Err fault
 unfolding remapped_entries
-entries_fail order encoding section bytes i zero old now before fault so_far entry less = absurd (omega arith)
+entries_fail order encoding section bytes i zero old now before fault so_far entry less =
+    absurd (omega arith)
 entries_fail order encoding section bytes i (suc n) old now before fault so_far entry less =
     ⊎_elim
-    (λ same. let here : remapped_entries order encoding section bytes n old ≡ Ok (before, now) = subst (λ m. remapped_entries order encoding section bytes m old ≡ Ok (before, now)) same so_far in
-    let refuses : remapped_entry order encoding section bytes n now ≡ Err fault = subst (λ m. remapped_entry order encoding section bytes m now ≡ Err fault) same entry in
+    (λ same. let here : remapped_entries order encoding section bytes n old ≡ Ok (before, now) =
+    subst (λ m. remapped_entries order encoding section bytes m old ≡ Ok (before, now)) same
+    so_far in
+    let refuses : remapped_entry order encoding section bytes n now ≡ Err fault =
+    subst (λ m. remapped_entry order encoding section bytes m now ≡ Err fault) same entry in
     rw (here, refuses) refl)
-    (λ other. let earlier : remapped_entries order encoding section bytes n old ≡ Err fault = entries_fail order encoding section bytes i n old now before fault so_far entry (omega arith) in
+    (λ other. let earlier : remapped_entries order encoding section bytes n old ≡ Err fault =
+    entries_fail order encoding section bytes i n old now before fault so_far entry
+    (omega arith) in
     rw earlier refl)
     (cases_eq i n)
 
-pub entries_none : (order : Endianness) (encoding : Encoding) (section bytes : List ℕ) (old : List (List ℕ)) → remapped_entries order encoding section bytes 0 old ≡ Ok ([], old)
+pub entries_none : (order : Endianness) (encoding : Encoding) (section bytes : List ℕ)
+    (old : List (List ℕ)) → remapped_entries order encoding section bytes 0 old ≡ Ok ([], old)
 unfolding remapped_entries
 entries_none order encoding section bytes old = refl
 
 -- a range in which an entry refuses
-pub remapped_refuses : (order : Endianness) (encoding : Encoding) (section bytes : List ℕ) (size count width i : ℕ) (old now : List (List ℕ)) (header before : List ℕ) (fault : Fault) → count ≡ entry_count encoding size → width ≡ offset_size encoding.format → (size ≡ 0 → ⊥) → header_size encoding ≤ size → header_of order encoding (count * width) ≡ Ok header → remapped_entries order encoding section bytes i old ≡ Ok (before, now) → remapped_entry order encoding section bytes i now ≡ Err fault → i < count → remapped order encoding section bytes size old ≡ Err fault
+pub remapped_refuses : (order : Endianness) (encoding : Encoding) (section bytes : List ℕ)
+    (size count width i : ℕ) (old now : List (List ℕ)) (header before : List ℕ) (fault : Fault)
+    → count ≡ entry_count encoding size → width ≡ offset_size encoding.format → (size ≡ 0 → ⊥)
+    → header_size encoding ≤ size → header_of order encoding (count * width) ≡ Ok header
+    → remapped_entries order encoding section bytes i old ≡ Ok (before, now) → remapped_entry order
+    encoding section bytes i now ≡ Err fault → i < count → remapped order encoding section bytes
+    size old ≡ Err fault
 unfolding remapped
-remapped_refuses order encoding section bytes size count width i old now header before fault is_count is_width some fits has_header so_far entry less =
+remapped_refuses order encoding section bytes size count width i old now header before fault
+    is_count is_width some fits has_header so_far entry less =
     let some_bytes : eqb size 0 ≡ false = ne_eqb size 0 some in
     let whole : ltb size (header_size encoding) ≡ false = le-ltb size (header_size encoding) fits in
-    let headed : header_of order encoding (entry_count encoding size * offset_size encoding.format) ≡ Ok header = ap₂ (λ n m. header_of order encoding (n * m)) (sym is_count) (sym is_width) ∙ has_header in
-    let refuses : remapped_entries order encoding section bytes (entry_count encoding size) old ≡ Err fault =
-    entries_fail order encoding section bytes i (entry_count encoding size) old now before fault so_far entry (subst (λ n. i < n) is_count less) in
+    let headed : header_of order encoding (entry_count encoding size * offset_size encoding.format)
+    ≡ Ok header = ap₂ (λ n m. header_of order encoding (n * m)) (sym is_count)
+    (sym is_width) ∙ has_header in
+    let refuses : remapped_entries order encoding section bytes (entry_count encoding size)
+    old ≡ Err fault =
+    entries_fail order encoding section bytes i (entry_count encoding size) old now before fault
+    so_far entry (subst (λ n. i < n) is_count less) in
     rw (some_bytes, whole, headed, refuses) refl
 
 -- the bytes of one more entry
-pub bytes_more : (order : Endianness) (format : Format) (first out out' before : List ℕ) (offset : ℕ) → out ≡ first ++ entry_bytes order format before → out' ≡ out ++ number_bytes order (offset_size format) offset → out' ≡ first ++ entry_bytes order format (before ++ offset ∷ [])
+pub bytes_more : (order : Endianness) (format : Format) (first out out' before : List ℕ)
+    (offset : ℕ) → out ≡ first ++ entry_bytes order format before → out' ≡ out ++ number_bytes order
+    (offset_size format) offset → out' ≡ first ++ entry_bytes order format (before ++ offset ∷ [])
 bytes_more order format first out out' before offset so_far more =
     more ∙ ap (λ l. l ++ number_bytes order (offset_size format) offset) so_far
-    ∙ append_assoc first (entry_bytes order format before) (number_bytes order (offset_size format) offset)
-    ∙ ap (λ l. first ++ l) (ap (λ l. entry_bytes order format before ++ l) (sym (append-nil (number_bytes order (offset_size format) offset)))
+    ∙ append_assoc first (entry_bytes order format before)
+    (number_bytes order (offset_size format) offset)
+    ∙ ap (λ l. first ++ l) (ap (λ l. entry_bytes order format before ++ l)
+    (sym (append-nil (number_bytes order (offset_size format) offset)))
     ∙ sym (flat_map-append (number_bytes order (offset_size format)) before (offset ∷ [])))
 
 -- what keeps the strings before it keeps those before them
-pub kept_more : (old now new : List (List ℕ)) → take (length old) now ≡ old → take (length now) new ≡ now → take (length old) new ≡ old
+pub kept_more : (old now new : List (List ℕ)) → take (length old) now ≡ old → take (length now) new
+    ≡ now → take (length old) new ≡ old
 kept_more old now new first second =
-    let short : length old ≤ length now = omega (arith, ap length first, length-take (length old) now) in
+    let short : length old ≤ length now =
+    omega (arith, ap length first, length-take (length old) now) in
     sym (take-take (length old) (length now) new short) ∙ ap (take (length old)) second ∙ first

@@ -1,5 +1,7 @@
 -- The strings of a section in which each is ended by a zero byte.
-use Rattle.std.proofs.Common.{◌≡◌, ◌≢◌, ℕ, ◌-◌, Bool, true, false, cond, eqb, List, [], ◌∷◌, ◌++◌, length, take, drop, Option, Some, None, All, ap, sym, refl, ◌∙◌, arith, append_assoc, length-append}
+use Rattle.std.proofs.Common.{◌≡◌, ◌≢◌, ℕ, ◌-◌, Bool, true, false, cond, eqb, List, [], ◌∷◌, ◌++◌}
+use Rattle.std.proofs.Common.{length, take, drop, Option, Some, None, All, ap, sym, refl, ◌∙◌}
+use Rattle.std.proofs.Common.{arith, append_assoc, length-append}
 use Rattle.std.specs.Option.{is_some}
 use Rattle.std.specs.List.{before_first, onto_first}
 use Rattle.std.proofs.lemmas.List.{take_rest, take_at, drop_at, get_or_at, get_or_append_left}
@@ -14,20 +16,25 @@ use Rattle.thorin_strings.specs.Strings.{data_of, IsZeroFree, strings_in}
 pub drop_whole : (at : ℕ) (xs : List ℕ) → take (length xs - at) (drop at xs) ≡ drop at xs
 drop_whole at xs = take_rest xs at
 
-pub before_first-ended : (s rest : List ℕ) → IsZeroFree s → before_first (λ b. eqb b 0) (s ++ 0 ∷ rest) ≡ s
+pub before_first-ended : (s rest : List ℕ) → IsZeroFree s → before_first (λ b. eqb b 0)
+    (s ++ 0 ∷ rest) ≡ s
 before_first-ended s rest free =
     ap (λ n. take n (s ++ 0 ∷ rest)) (position_or_len_is (λ b. eqb b 0) (s ++ 0 ∷ rest) (length s) 0
     (omega (arith, length-append s (0 ∷ rest)))
-    (λ k below. ne_eqb _ 0 (λ e. free k 0 below (sym (get_or_append_left s (0 ∷ rest) 0 k below) ∙ e)))
+    (λ k below. ne_eqb _ 0 (λ e.
+    free k 0 below (sym (get_or_append_left s (0 ∷ rest) 0 k below) ∙ e)))
     (λ _. eq-eqb _ 0 (get_or_at s 0 rest 0 (length s) refl)))
     ∙ take_at s (0 ∷ rest) (length s) refl
 
 -- the string behind some bytes
-pub string_from-ended : (front s rest : List ℕ) (n : ℕ) → length front ≡ n → IsZeroFree s → string_from (front ++ (s ++ 0 ∷ rest)) n ≡ s
+pub string_from-ended : (front s rest : List ℕ) (n : ℕ) → length front ≡ n → IsZeroFree s
+    → string_from (front ++ (s ++ 0 ∷ rest)) n ≡ s
 string_from-ended front s rest n long free =
-    ap (before_first (λ b. eqb b 0)) (drop_at front (s ++ 0 ∷ rest) n long) ∙ before_first-ended s rest free
+    ap (before_first (λ b. eqb b 0)) (drop_at front (s ++ 0 ∷ rest) n long) ∙
+    before_first-ended s rest free
 
-pub strings_in-ended : (s rest : List ℕ) → IsZeroFree s → strings_in (s ++ 0 ∷ rest) ≡ s ∷ strings_in rest
+pub strings_in-ended : (s rest : List ℕ) → IsZeroFree s → strings_in (s ++ 0 ∷ rest) ≡ s
+    ∷ strings_in rest
 strings_in-ended [] rest free = refl
 strings_in-ended (b ∷ s) rest free =
     let other : eqb b 0 ≡ false = ne_eqb b 0 (All-head (λ b. b ≢ 0) b s free) in
@@ -43,20 +50,26 @@ strings_in-data_of (s ∷ ss) free =
     ∙ strings_in-ended s (data_of ss) (All-head IsZeroFree s ss free)
     ∙ ap (λ l. s ∷ l) (strings_in-data_of ss (All-tail IsZeroFree s ss free))
 
-onto_first-zero_free : (b : ℕ) (ss : List (List ℕ)) → b ≢ 0 → All IsZeroFree ss → All IsZeroFree (onto_first b ss)
-onto_first-zero_free b [] other free = All-cons IsZeroFree (b ∷ []) [] (All-cons (λ c. c ≢ 0) b [] other (All-nil _)) (All-nil _)
+onto_first-zero_free : (b : ℕ) (ss : List (List ℕ)) → b ≢ 0 → All IsZeroFree ss
+    → All IsZeroFree (onto_first b ss)
+onto_first-zero_free b [] other free = All-cons IsZeroFree (b ∷ []) [] (All-cons (λ c. c ≢ 0) b []
+    other (All-nil _)) (All-nil _)
 onto_first-zero_free b (s ∷ ss) other free =
-    All-cons IsZeroFree (b ∷ s) ss (All-cons (λ c. c ≢ 0) b s other (All-head IsZeroFree s ss free)) (All-tail IsZeroFree s ss free)
+    All-cons IsZeroFree (b ∷ s) ss (All-cons (λ c. c ≢ 0) b s other (All-head IsZeroFree s ss free))
+    (All-tail IsZeroFree s ss free)
 
-zero_free-by_byte : (t : Bool) (b : ℕ) (ss : List (List ℕ)) → (t ≡ false → b ≢ 0) → All IsZeroFree ss → All IsZeroFree (cond t ([] ∷ ss) (onto_first b ss))
+zero_free-by_byte : (t : Bool) (b : ℕ) (ss : List (List ℕ)) → (t ≡ false → b ≢ 0)
+    → All IsZeroFree ss → All IsZeroFree (cond t ([] ∷ ss) (onto_first b ss))
 zero_free-by_byte true b ss other free = All-cons IsZeroFree [] ss (All-nil _) free
 zero_free-by_byte false b ss other free = onto_first-zero_free b ss (other refl) free
 
 pub zero_free-strings_in : (bytes : List ℕ) → All IsZeroFree (strings_in bytes)
 zero_free-strings_in [] = All-nil _
-zero_free-strings_in (b ∷ bytes) = zero_free-by_byte (eqb b 0) b (strings_in bytes) (λ e. eqb-false b 0 e) (zero_free-strings_in bytes)
+zero_free-strings_in (b ∷ bytes) = zero_free-by_byte (eqb b 0) b (strings_in bytes) (λ e.
+    eqb-false b 0 e) (zero_free-strings_in bytes)
 
 -- bytes in which one was found aren't a table's string
-pub zero_within : (xs : List ℕ) (r : Option ℕ) → IsFirstByte (is_byte 0) xs r → is_some r ≡ true → IsZeroFree xs → ⊥
+pub zero_within : (xs : List ℕ) (r : Option ℕ) → IsFirstByte (is_byte 0) xs r → is_some r ≡ true
+    → IsZeroFree xs → ⊥
 zero_within xs None h some free = cc
 zero_within xs (Some end) h some free = free end 0 h.0.high (eqb-true _ 0 h.1)

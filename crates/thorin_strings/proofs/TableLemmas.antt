@@ -1,43 +1,66 @@
 -- The positions of a table's strings, in the strings' order.
-use Rattle.std.proofs.Common.{◌≡◌, ◌≢◌, ℕ, ◌+◌, ◌-◌, ◌<◌, ◌≤◌, false, ltb, List, [], ◌∷◌, ◌++◌, length, take, drop, get_or, map, filter, insert, All, AllPairs, Contains, IsPermutation, Less, Equal, Result, Ok, Err, IfOk, IfErr, ap, sym, subst, refl, ◌∙◌, ⊎_elim, arith, append_assoc, length-append}
+use Rattle.std.proofs.Common.{◌≡◌, ◌≢◌, ℕ, ◌+◌, ◌-◌, ◌<◌, ◌≤◌, false, ltb, List, [], ◌∷◌, ◌++◌}
+use Rattle.std.proofs.Common.{length, take, drop, get_or, map, filter, insert, All, AllPairs}
+use Rattle.std.proofs.Common.{Contains, IsPermutation, Less, Equal, Result, Ok, Err, IfOk, IfErr}
+use Rattle.std.proofs.Common.{ap, sym, subst, refl, ◌∙◌, ⊎_elim, arith, append_assoc, length-append}
 use Rattle.std.specs.List.{list_any}
 use Rattle.std.specs.Str.{bytes_eq}
 use Rattle.std.specs.Ordering.{nat_cmp}
 use Rattle.std.specs.Cmp.Lexicographic.{slice_cmp}
-use Rattle.std.proofs.lemmas.List.{append-nil, take-append-drop, get_or-map, get_or_default, take_at, length-map, length-take, get_or-take}
-use Rattle.std.proofs.lemmas.List.Edits.{length-insert, get_or-insert_below, get_or-insert_at, get_or-insert_above}
-use Rattle.std.proofs.lemmas.List.Elements.{All-nil, All-cons, All-weaker, All-take, All-push, Contains-get_or}
+use Rattle.std.proofs.lemmas.List.{append-nil, take-append-drop, get_or-map, get_or_default}
+use Rattle.std.proofs.lemmas.List.{take_at, length-map, length-take, get_or-take}
+use Rattle.std.proofs.lemmas.List.Edits.{length-insert, get_or-insert_below, get_or-insert_at}
+use Rattle.std.proofs.lemmas.List.Edits.{get_or-insert_above}
+use Rattle.std.proofs.lemmas.List.Elements.{All-nil, All-cons, All-weaker, All-take, All-push}
+use Rattle.std.proofs.lemmas.List.Elements.{Contains-get_or}
 use Rattle.std.proofs.lemmas.List.Quantifiers.{all_pairs_push}
 use Rattle.std.proofs.lemmas.List.Kept.{AllPairs-filter}
-use Rattle.std.proofs.lemmas.List.Sorted.{IsPermutation-trans, IsPermutation-sym, IsPermutation-cons, IsPermutation-map, IsPermutation-insert, IsPermutation-to_front, length_permutation, All-permutation, Contains-permutation}
+use Rattle.std.proofs.lemmas.List.Sorted.{IsPermutation-trans, IsPermutation-sym}
+use Rattle.std.proofs.lemmas.List.Sorted.{IsPermutation-cons, IsPermutation-map}
+use Rattle.std.proofs.lemmas.List.Sorted.{IsPermutation-insert, IsPermutation-to_front}
+use Rattle.std.proofs.lemmas.List.Sorted.{length_permutation, All-permutation, Contains-permutation}
 use Rattle.std.proofs.lemmas.Bool.{cases_lt, cases_order, false_from_ne_true, cond-true, cond-false}
 use Rattle.std.proofs.lemmas.Result.{IfOk-at_ok}
 use Rattle.std.proofs.lemmas.Cmp.{nat_list_cmp_total, tied_itself}
 use Rattle.dwp_bytes.specs.StringOffsets.{string_from}
-use Rattle.thorin_strings.specs.Strings.{terminated, data_of, offset_of, IsZeroFree, IsTable, strings_in, offsets_from, with_string, IsWithinDigits, IsBefore, IsIndexed, StandsAt}
-use Rattle.thorin_strings.proofs.StringLemmas.{strings_in-data_of, zero_free-strings_in, string_from-ended}
+use Rattle.thorin_strings.specs.Strings.{terminated, data_of, offset_of, IsZeroFree, IsTable}
+use Rattle.thorin_strings.specs.Strings.{strings_in, offsets_from, with_string, IsWithinDigits}
+use Rattle.thorin_strings.specs.Strings.{IsBefore, IsIndexed, StandsAt}
+use Rattle.thorin_strings.proofs.StringLemmas.{strings_in-data_of, zero_free-strings_in}
+use Rattle.thorin_strings.proofs.StringLemmas.{string_from-ended}
 use Rattle.thorin_strings.proofs.Permutations.{IsPermutation-filter}
-use Rattle.thorin_strings.proofs.OffsetLemmas.{data_of-push, data_of-append, map-string_from, length-offsets_from, offset_of-at, offset_of-absent, has_Decides, length-data_of-cons, offsets_from-append, offsets_from-below, filter-offsets_from}
+use Rattle.thorin_strings.proofs.OffsetLemmas.{data_of-push, data_of-append, map-string_from}
+use Rattle.thorin_strings.proofs.OffsetLemmas.{length-offsets_from, offset_of-at, offset_of-absent}
+use Rattle.thorin_strings.proofs.OffsetLemmas.{has_Decides, length-data_of-cons}
+use Rattle.thorin_strings.proofs.OffsetLemmas.{offsets_from-append, offsets_from-below}
+use Rattle.thorin_strings.proofs.OffsetLemmas.{filter-offsets_from}
 
 -- the strings that begin at the offsets are the section's
-pub strings_at : (bytes rest : List ℕ) → data_of (strings_in bytes) ≡ bytes → map (string_from (bytes ++ rest)) (offsets_from 0 (strings_in bytes)) ≡ strings_in bytes
+pub strings_at : (bytes rest : List ℕ) → data_of (strings_in bytes) ≡ bytes
+    → map (string_from (bytes ++ rest)) (offsets_from 0 (strings_in bytes)) ≡ strings_in bytes
 strings_at bytes rest ended =
     ap (λ l. map (string_from (l ++ rest)) (offsets_from 0 (strings_in bytes))) (sym ended)
     ∙ map-string_from [] (strings_in bytes) rest 0 refl (zero_free-strings_in bytes)
 
-pub strings_here : (bytes : List ℕ) → data_of (strings_in bytes) ≡ bytes → map (string_from bytes) (offsets_from 0 (strings_in bytes)) ≡ strings_in bytes
-strings_here bytes ended = ap (λ l. map (string_from l) (offsets_from 0 (strings_in bytes))) (sym (append-nil bytes)) ∙ strings_at bytes [] ended
+pub strings_here : (bytes : List ℕ) → data_of (strings_in bytes) ≡ bytes → map (string_from bytes)
+    (offsets_from 0 (strings_in bytes)) ≡ strings_in bytes
+strings_here bytes ended = ap (λ l. map (string_from l) (offsets_from 0 (strings_in bytes)))
+    (sym (append-nil bytes)) ∙ strings_at bytes [] ended
 
 -- as many positions as strings
-pub length-positions : (bytes positions : List ℕ) → IsIndexed bytes positions → length positions ≡ length (strings_in bytes)
-length-positions bytes positions table = length_permutation _ _ table.moved ∙ length-offsets_from 0 (strings_in bytes)
+pub length-positions : (bytes positions : List ℕ) → IsIndexed bytes positions → length positions ≡
+    length (strings_in bytes)
+length-positions bytes positions table = length_permutation _ _ table.moved ∙ length-offsets_from 0
+    (strings_in bytes)
 
 -- each position is within the section
-pub positions_within : (bytes positions : List ℕ) → IsIndexed bytes positions → All (λ p. p ≤ length bytes) positions
+pub positions_within : (bytes positions : List ℕ) → IsIndexed bytes positions
+    → All (λ p. p ≤ length bytes) positions
 positions_within bytes positions table =
     let long = ap length table.ended in
     All-permutation (λ p. p ≤ length bytes) _ _ table.moved
-    (All-weaker (λ p. p < 0 + length (data_of (strings_in bytes))) (λ p. p ≤ length bytes) (λ p h. omega arith) _ (offsets_from-below 0 (strings_in bytes)))
+    (All-weaker (λ p. p < 0 + length (data_of (strings_in bytes))) (λ p. p ≤ length bytes) (λ p h.
+    omega arith) _ (offsets_from-below 0 (strings_in bytes)))
 
 -- no string comes before itself
 not_before_itself : (s t : List ℕ) → t ≡ s → IsBefore t s → ⊥
@@ -48,65 +71,95 @@ not_before_itself s t same h =
     cc
 
 -- the string that begins at an offset has that offset
-pub known_offset_in : (bytes s : List ℕ) (p : ℕ) → data_of (strings_in bytes) ≡ bytes → AllPairs (λ s t. s ≢ t) (strings_in bytes) → Contains (offsets_from 0 (strings_in bytes)) p → string_from bytes p ≡ s → Contains (strings_in bytes) s × (p ≡ offset_of (strings_in bytes) s)
+pub known_offset_in : (bytes s : List ℕ) (p : ℕ) → data_of (strings_in bytes) ≡ bytes
+    → AllPairs (λ s t. s ≢ t) (strings_in bytes) → Contains (offsets_from 0 (strings_in bytes)) p
+    → string_from bytes p ≡ s → Contains (strings_in bytes) s × (p ≡ offset_of (strings_in bytes) s)
 known_offset_in bytes s p ended distinct there is =
     let ss = strings_in bytes in
     let i = there.0 in
     let inside : i < length (offsets_from 0 ss) = there.1 in
     let within_ss : i < length ss = omega (arith, length-offsets_from 0 ss) in
     let is_string : get_or ss i [] ≡ s =
-    ap (λ l. get_or l i []) (sym (strings_here bytes ended)) ∙ get_or-map (string_from bytes) (offsets_from 0 ss) i p [] inside ∙ ap (string_from bytes) there.2 ∙ is in
+    ap (λ l. get_or l i []) (sym (strings_here bytes ended)) ∙ get_or-map (string_from bytes)
+    (offsets_from 0 ss) i p [] inside ∙ ap (string_from bytes) there.2 ∙ is in
     let offset = offset_of-at ss 0 i [] p distinct within_ss in (
       subst (Contains ss) is_string (Contains-get_or ss i [] within_ss),
       sym (ap (offset_of ss) (sym is_string) ∙ omega (arith, offset) ∙ there.2),
     )
 
-pub known_offset : (bytes positions s : List ℕ) (p : ℕ) → IsIndexed bytes positions → Contains (offsets_from 0 (strings_in bytes)) p → string_from bytes p ≡ s → Contains (strings_in bytes) s × (p ≡ offset_of (strings_in bytes) s)
-known_offset bytes positions s p table there is = known_offset_in bytes s p table.ended table.distinct there is
+pub known_offset : (bytes positions s : List ℕ) (p : ℕ) → IsIndexed bytes positions
+    → Contains (offsets_from 0 (strings_in bytes)) p → string_from bytes p ≡ s
+    → Contains (strings_in bytes) s × (p ≡ offset_of (strings_in bytes) s)
+known_offset bytes positions s p table there is = known_offset_in bytes s p table.ended
+    table.distinct there is
 
 -- a position is such an offset
-pub known_position : (bytes positions s : List ℕ) (r p : ℕ) → IsIndexed bytes positions → r < length positions → p ≡ get_or positions r 0 → string_from bytes p ≡ s → Contains (strings_in bytes) s × (p ≡ offset_of (strings_in bytes) s)
+pub known_position : (bytes positions s : List ℕ) (r p : ℕ) → IsIndexed bytes positions
+    → r < length positions → p ≡ get_or positions r 0 → string_from bytes p ≡ s
+    → Contains (strings_in bytes) s × (p ≡ offset_of (strings_in bytes) s)
 known_position bytes positions s r p table within is_position is =
-    let there : Contains positions p = subst (Contains positions) (sym is_position) (Contains-get_or positions r 0 within) in
-    known_offset bytes positions s p table (Contains-permutation positions (offsets_from 0 (strings_in bytes)) p (IsPermutation-sym _ _ table.moved) there) is
+    let there : Contains positions p = subst (Contains positions) (sym is_position)
+    (Contains-get_or positions r 0 within) in
+    known_offset bytes positions s p table (Contains-permutation positions
+    (offsets_from 0 (strings_in bytes)) p (IsPermutation-sym _ _ table.moved) there) is
 
 pub not_behind_itself : (s t : List ℕ) → t ≡ s → IsBefore s t → ⊥
 not_behind_itself s t same h = not_before_itself s s refl (subst (λ u. IsBefore s u) same h)
 
 -- a string that would stand at a rank isn't there
-pub stands_absent : (bytes positions s : List ℕ) (r : ℕ) → IsIndexed bytes positions → StandsAt bytes positions s r → Contains (strings_in bytes) s → ⊥
+pub stands_absent : (bytes positions s : List ℕ) (r : ℕ) → IsIndexed bytes positions
+    → StandsAt bytes positions s r → Contains (strings_in bytes) s → ⊥
 stands_absent bytes positions s r table stands there =
     let ss = strings_in bytes in
     let sorted = IsPermutation-map (string_from bytes) _ _ table.moved in
-    let found = Contains-permutation ss (map (string_from bytes) positions) s (subst (λ l. IsPermutation l (map (string_from bytes) positions)) (strings_here bytes table.ended) sorted) there in
+    let found = Contains-permutation ss (map (string_from bytes) positions) s
+    (subst (λ l. IsPermutation l (map (string_from bytes) positions))
+    (strings_here bytes table.ended) sorted) there in
     let k = found.0 in
-    let within : k < length positions = omega (arith, found.1, length-map positions (string_from bytes)) in
-    let same : string_from bytes (get_or positions k 0) ≡ s = sym (get_or-map (string_from bytes) positions k 0 s within) ∙ found.2 in
-    ⊎_elim (λ less. not_before_itself s _ same (stands.before k less)) (λ more. not_behind_itself s _ same (stands.behind k more within)) (cases_lt k r)
+    let within : k < length positions = omega (
+      arith,
+      found.1,
+      length-map positions
+          (string_from bytes),
+    ) in
+    let same : string_from bytes (get_or positions k 0) ≡ s =
+    sym (get_or-map (string_from bytes) positions k 0 s within) ∙ found.2 in
+    ⊎_elim (λ less. not_before_itself s _ same (stands.before k less)) (λ more. not_behind_itself s
+    _ same (stands.behind k more within)) (cases_lt k r)
 
 -- a list stays in order when a number goes between what is before it and what is behind
-pub insert_in_order : (R : ℕ → ℕ → Type 0) (xs : List ℕ) (r y : ℕ) → AllPairs R xs → r ≤ length xs → ((k : ℕ) → k < r → R (get_or xs k 0) y) → ((k : ℕ) → r ≤ k → k < length xs → R y (get_or xs k 0)) → AllPairs R (insert xs r y)
+pub insert_in_order : (R : ℕ → ℕ → Type 0) (xs : List ℕ) (r y : ℕ) → AllPairs R xs → r ≤ length xs
+    → ((k : ℕ) → k < r → R (get_or xs k 0) y) → ((k : ℕ) → r ≤ k → k < length xs
+    → R y (get_or xs k 0)) → AllPairs R (insert xs r y)
 insert_in_order R xs r y apart fits before behind = λ i j d less within.
     let long = length-insert xs r y fits in
-    let at : (u v : ℕ) → get_or (insert xs r y) i d ≡ u → get_or (insert xs r y) j d ≡ v → R u v → R (get_or (insert xs r y) i d) (get_or (insert xs r y) j d) =
-    λ u v e f h. subst (λ n. R n (get_or (insert xs r y) j d)) (sym e) (subst (λ n. R u n) (sym f) h) in
+    let at : (u v : ℕ) → get_or (insert xs r y) i d ≡ u → get_or (insert xs r y) j d ≡ v → R u v
+    → R (get_or (insert xs r y) i d) (get_or (insert xs r y) j d) =
+    λ u v e f h. subst (λ n. R n (get_or (insert xs r y) j d)) (sym e)
+    (subst (λ n. R u n) (sym f) h) in
     let below : (k : ℕ) → k < r → get_or (insert xs r y) k d ≡ get_or xs k 0 =
     λ k h. get_or-insert_below xs r y d k h fits ∙ get_or_default xs k d 0 (omega arith) in
     let here : (k : ℕ) → k ≡ r → get_or (insert xs r y) k d ≡ y =
     λ k e. ap (λ n. get_or (insert xs r y) n d) e ∙ get_or-insert_at xs r y d fits in
-    let above : (k : ℕ) → r < k → k < length xs + 1 → get_or (insert xs r y) k d ≡ get_or xs (k - 1) 0 =
-    λ k h w. (let e : k ≡ k - 1 + 1 = omega arith in ap (λ n. get_or (insert xs r y) n d) e) ∙ get_or-insert_above xs r y d (k - 1) (omega arith) fits ∙ get_or_default xs (k - 1) d 0 (omega arith) in
+    let above : (k : ℕ) → r < k → k < length xs + 1 → get_or (insert xs r y) k d ≡
+    get_or xs (k - 1) 0 =
+    λ k h w. (let e : k ≡ k - 1 + 1 = omega arith in ap (λ n. get_or (insert xs r y) n d) e) ∙
+    get_or-insert_above xs r y d (k - 1) (omega arith) fits ∙ get_or_default xs (k - 1) d 0
+    (omega arith) in
     ⊎_elim
-    (λ same_i. at _ _ (here i same_i) (above j (omega arith) (omega arith)) (behind (j - 1) (omega arith) (omega arith)))
+    (λ same_i. at _ _ (here i same_i) (above j (omega arith) (omega arith))
+    (behind (j - 1) (omega arith) (omega arith)))
     (λ other_i. ⊎_elim
     (λ i_below. ⊎_elim
     (λ same_j. at _ _ (below i i_below) (here j same_j) (before i i_below))
     (λ other_j. ⊎_elim
     (λ j_below. at _ _ (below i i_below) (below j j_below) (apart i j 0 less (omega arith)))
-    (λ j_above. at _ _ (below i i_below) (above j j_above (omega arith)) (apart i (j - 1) 0 (omega arith) (omega arith)))
+    (λ j_above. at _ _ (below i i_below) (above j j_above (omega arith))
+    (apart i (j - 1) 0 (omega arith) (omega arith)))
     other_j)
     (cases_order j r))
-    (λ i_above. at _ _ (above i i_above (omega arith)) (above j (omega arith) (omega arith)) (apart (i - 1) (j - 1) 0 (omega arith) (omega arith)))
+    (λ i_above. at _ _ (above i i_above (omega arith)) (above j (omega arith) (omega arith))
+    (apart (i - 1) (j - 1) 0 (omega arith) (omega arith)))
     other_i)
     (cases_order i r)
 
@@ -118,49 +171,71 @@ maps_agree f g (x ∷ xs) e =
     let tail : map f xs ≡ map g xs = cc in
     All-cons (λ x. f x ≡ g x) x xs head (maps_agree f g xs tail)
 
-pub order_agrees : (f g : ℕ → List ℕ) (xs : List ℕ) → All (λ x. f x ≡ g x) xs → AllPairs (λ p q. IsBefore (f p) (f q)) xs → AllPairs (λ p q. IsBefore (g p) (g q)) xs
+pub order_agrees : (f g : ℕ → List ℕ) (xs : List ℕ) → All (λ x. f x ≡ g x) xs
+    → AllPairs (λ p q. IsBefore (f p) (f q)) xs → AllPairs (λ p q. IsBefore (g p) (g q)) xs
 order_agrees f g xs agree h = λ i j d less within.
     subst (λ u. IsBefore u (g (get_or xs j d))) (agree i d (omega arith))
     (subst (λ u. IsBefore (f (get_or xs i d)) u) (agree j d within) (h i j d less within))
 
 -- a string goes last
-pub strings_push : (bytes s : List ℕ) → data_of (strings_in bytes) ≡ bytes → IsZeroFree s → (strings_in (bytes ++ terminated s) ≡ strings_in bytes ++ s ∷ []) × (data_of (strings_in (bytes ++ terminated s)) ≡ bytes ++ terminated s)
+pub strings_push : (bytes s : List ℕ) → data_of (strings_in bytes) ≡ bytes → IsZeroFree s
+    → (strings_in (bytes ++ terminated s) ≡ strings_in bytes ++ s ∷ [])
+    × (data_of (strings_in (bytes ++ terminated s)) ≡ bytes ++ terminated s)
 strings_push bytes s ended free =
     let ss = strings_in bytes in
-    let all_free : All IsZeroFree (ss ++ s ∷ []) = All-push IsZeroFree ss s (zero_free-strings_in bytes) free in
-    let whole : data_of (ss ++ s ∷ []) ≡ bytes ++ terminated s = data_of-push ss s ∙ ap (λ l. l ++ terminated s) ended in
-    let strings : strings_in (bytes ++ terminated s) ≡ ss ++ s ∷ [] = ap strings_in (sym whole) ∙ strings_in-data_of (ss ++ s ∷ []) all_free in
+    let all_free : All IsZeroFree (ss ++ s ∷ []) = All-push IsZeroFree ss s
+    (zero_free-strings_in bytes) free in
+    let whole : data_of (ss ++ s ∷ []) ≡ bytes ++ terminated s = data_of-push ss s ∙ ap (λ l.
+    l ++ terminated s) ended in
+    let strings : strings_in (bytes ++ terminated s) ≡ ss ++ s ∷ [] = ap strings_in (sym whole) ∙
+    strings_in-data_of (ss ++ s ∷ []) all_free in
     (strings, ap data_of strings ∙ whole)
 
 -- a new string goes last, and its position to its rank
-pub indexed_push : (bytes positions s : List ℕ) (r : ℕ) → IsIndexed bytes positions → IsZeroFree s → StandsAt bytes positions s r → (strings_in (bytes ++ terminated s) ≡ strings_in bytes ++ s ∷ []) × IsIndexed (bytes ++ terminated s) (insert positions r (length bytes))
+pub indexed_push : (bytes positions s : List ℕ) (r : ℕ) → IsIndexed bytes positions → IsZeroFree s
+    → StandsAt bytes positions s r → (strings_in (bytes ++ terminated s) ≡ strings_in bytes ++ s ∷
+    []) × IsIndexed (bytes ++ terminated s) (insert positions r (length bytes))
 indexed_push bytes positions s r table free stands =
     let ss = strings_in bytes in
     let f = string_from bytes in
     let f' = string_from (bytes ++ terminated s) in
-    let all_free : All IsZeroFree (ss ++ s ∷ []) = All-push IsZeroFree ss s (zero_free-strings_in bytes) free in
-    let whole : data_of (ss ++ s ∷ []) ≡ bytes ++ terminated s = data_of-push ss s ∙ ap (λ l. l ++ terminated s) table.ended in
-    let strings : strings_in (bytes ++ terminated s) ≡ ss ++ s ∷ [] = ap strings_in (sym whole) ∙ strings_in-data_of (ss ++ s ∷ []) all_free in
+    let all_free : All IsZeroFree (ss ++ s ∷ []) = All-push IsZeroFree ss s
+    (zero_free-strings_in bytes) free in
+    let whole : data_of (ss ++ s ∷ []) ≡ bytes ++ terminated s = data_of-push ss s ∙ ap (λ l.
+    l ++ terminated s) table.ended in
+    let strings : strings_in (bytes ++ terminated s) ≡ ss ++ s ∷ [] = ap strings_in (sym whole) ∙
+    strings_in-data_of (ss ++ s ∷ []) all_free in
     let long : 0 + length (data_of ss) ≡ length bytes = omega (arith, ap length table.ended) in
     let offsets : offsets_from 0 (ss ++ s ∷ []) ≡ offsets_from 0 ss ++ length bytes ∷ [] =
     offsets_from-append 0 ss (s ∷ []) ∙ ap (λ n. offsets_from 0 ss ++ n ∷ []) long in
     let agree : All (λ p. f p ≡ f' p) positions =
-    All-permutation (λ p. f p ≡ f' p) _ _ table.moved (maps_agree f f' _ (strings_here bytes table.ended ∙ sym (strings_at bytes (terminated s) table.ended))) in
+    All-permutation (λ p. f p ≡ f' p) _ _ table.moved
+    (maps_agree f f' _ (strings_here bytes table.ended ∙ sym (strings_at bytes (terminated s)
+    table.ended))) in
     let last : f' (length bytes) ≡ s = string_from-ended bytes s [] (length bytes) refl free in (
       strings,
       record {
         ended = ap data_of strings ∙ whole;
-        distinct = subst (AllPairs (λ s t. s ≢ t)) (sym strings) (all_pairs_push (λ s t. s ≢ t) ss s table.distinct (λ k d within same. stands_absent bytes positions s r table stands (k, within, get_or_default ss k s d within ∙ same)));
-        moved = subst (λ l. IsPermutation l (insert positions r (length bytes))) (sym (ap (offsets_from 0) strings ∙ offsets))
+        distinct = subst (AllPairs (λ s t. s ≢ t)) (sym strings) (all_pairs_push (λ s t. s ≢ t) ss s
+            table.distinct (λ k d within same. stands_absent bytes positions s r table stands
+            (k, within, get_or_default ss k s d within ∙ same)));
+        moved = subst (λ l. IsPermutation l (insert positions r (length bytes)))
+            (sym (ap (offsets_from 0) strings ∙ offsets))
             (IsPermutation-trans _ _ _ (IsPermutation-to_front (offsets_from 0 ss) (length bytes))
-            (IsPermutation-trans _ _ _ (IsPermutation-cons (length bytes) _ _ table.moved) (IsPermutation-insert positions r (length bytes))));
-        sorted = insert_in_order (λ p q. IsBefore (f' p) (f' q)) positions r (length bytes) (order_agrees f f' positions agree table.sorted) stands.within
-            (λ k below. subst (λ u. IsBefore (f' (get_or positions k 0)) u) (sym last) (subst (λ u. IsBefore u s) (agree k 0 (omega (arith, stands.within))) (stands.before k below)))
-            (λ k above within. subst (λ u. IsBefore u (f' (get_or positions k 0))) (sym last) (subst (λ u. IsBefore s u) (agree k 0 within) (stands.behind k above within)));
+            (IsPermutation-trans _ _ _ (IsPermutation-cons (length bytes) _ _ table.moved)
+            (IsPermutation-insert positions r (length bytes))));
+        sorted = insert_in_order (λ p q. IsBefore (f' p) (f' q)) positions r (length bytes)
+            (order_agrees f f' positions agree table.sorted) stands.within
+            (λ k below. subst (λ u. IsBefore (f' (get_or positions k 0)) u) (sym last)
+            (subst (λ u. IsBefore u s) (agree k 0 (omega (arith, stands.within)))
+            (stands.before k below)))
+            (λ k above within. subst (λ u. IsBefore u (f' (get_or positions k 0))) (sym last)
+            (subst (λ u. IsBefore s u) (agree k 0 within) (stands.behind k above within)));
       },
     )
 
-pub AllPairs-take : {X : Type 0} (R : X → X → Type 0) (n : ℕ) (xs : List X) → AllPairs R xs → AllPairs R (take n xs)
+pub AllPairs-take : {X : Type 0} (R : X → X → Type 0) (n : ℕ) (xs : List X) → AllPairs R xs
+    → AllPairs R (take n xs)
 AllPairs-take R n xs h = λ i j d less within.
     let short = length-take n xs in
     let first : get_or (take n xs) i d ≡ get_or xs i d = get_or-take n xs i d (omega arith) in
@@ -168,94 +243,161 @@ AllPairs-take R n xs h = λ i j d less within.
     rw (first, second) (h i j d less (omega arith))
 
 -- back to the first strings
-pub indexed_take : (bytes positions : List ℕ) (n m : ℕ) → IsIndexed bytes positions → m ≡ length (data_of (take n (strings_in bytes))) → (strings_in (take m bytes) ≡ take n (strings_in bytes)) × IsIndexed (take m bytes) (filter (λ p. ltb p m) positions)
+pub indexed_take : (bytes positions : List ℕ) (n m : ℕ) → IsIndexed bytes positions
+    → m ≡ length (data_of (take n (strings_in bytes)))
+    → (strings_in (take m bytes) ≡ take n (strings_in bytes)) × IsIndexed (take m bytes)
+    (filter (λ p. ltb p m) positions)
 indexed_take bytes positions n m table long =
     let ss = strings_in bytes in
     let front = take n ss in
     let back = drop n ss in
-    let parts : bytes ≡ data_of front ++ data_of back = sym table.ended ∙ ap data_of (sym (take-append-drop n ss)) ∙ data_of-append front back in
-    let kept : take m bytes ≡ data_of front = ap (take m) parts ∙ take_at (data_of front) (data_of back) m (sym long) in
+    let parts : bytes ≡ data_of front ++ data_of back = sym table.ended ∙ ap data_of
+    (sym (take-append-drop n ss)) ∙ data_of-append front back in
+    let kept : take m bytes ≡ data_of front = ap (take m) parts ∙ take_at (data_of front)
+    (data_of back) m (sym long) in
     let free : All IsZeroFree front = All-take IsZeroFree n ss (zero_free-strings_in bytes) in
-    let strings : strings_in (take m bytes) ≡ front = ap strings_in kept ∙ strings_in-data_of front free in
-    let whole : data_of (strings_in (take m bytes)) ≡ take m bytes = ap data_of strings ∙ sym kept in
+    let strings : strings_in (take m bytes) ≡ front = ap strings_in kept ∙
+    strings_in-data_of front free in
+    let whole : data_of (strings_in (take m bytes)) ≡ take m bytes =
+    ap data_of strings ∙ sym kept in
     let f = string_from bytes in
     let f' = string_from (take m bytes) in
-    let offsets : filter (λ p. ltb p m) (offsets_from 0 ss) ≡ offsets_from 0 (strings_in (take m bytes)) =
+    let offsets : filter (λ p. ltb p m) (offsets_from 0 ss) ≡ offsets_from 0
+    (strings_in (take m bytes)) =
     ap (λ l. filter (λ p. ltb p m) (offsets_from 0 l)) (sym (take-append-drop n ss))
     ∙ ap (λ k. filter (λ p. ltb p k) (offsets_from 0 (front ++ back))) long
     ∙ filter-offsets_from front back ∙ ap (offsets_from 0) (sym strings) in
-    let moved : IsPermutation (offsets_from 0 (strings_in (take m bytes))) (filter (λ p. ltb p m) positions) =
-    subst (λ l. IsPermutation l (filter (λ p. ltb p m) positions)) offsets (IsPermutation-filter (λ p. ltb p m) _ _ table.moved) in
+    let moved : IsPermutation (offsets_from 0 (strings_in (take m bytes)))
+    (filter (λ p. ltb p m) positions) =
+    subst (λ l. IsPermutation l (filter (λ p. ltb p m) positions)) offsets
+    (IsPermutation-filter (λ p. ltb p m) _ _ table.moved) in
     let old : map f (offsets_from 0 (strings_in (take m bytes))) ≡ front =
-    ap (λ l. map f (offsets_from 0 l)) strings ∙ ap (λ l. map (string_from l) (offsets_from 0 front)) parts ∙ map-string_from [] front (data_of back) 0 refl free in
-    let new : map f' (offsets_from 0 (strings_in (take m bytes))) ≡ front = strings_here (take m bytes) whole ∙ strings in
-    let agree : All (λ p. f p ≡ f' p) (filter (λ p. ltb p m) positions) = All-permutation (λ p. f p ≡ f' p) _ _ moved (maps_agree f f' _ (old ∙ sym new)) in (
+    ap (λ l. map f (offsets_from 0 l)) strings ∙ ap (λ l.
+    map (string_from l) (offsets_from 0 front)) parts ∙ map-string_from [] front
+    (data_of back) 0 refl free in
+    let new : map f' (offsets_from 0 (strings_in (take m bytes))) ≡ front =
+    strings_here (take m bytes) whole ∙ strings in
+    let agree : All (λ p. f p ≡ f' p) (filter (λ p. ltb p m) positions) =
+    All-permutation (λ p. f p ≡ f' p) _ _ moved (maps_agree f f' _ (old ∙ sym new)) in (
       strings,
       record {
         ended = whole;
-        distinct = subst (AllPairs (λ s t. s ≢ t)) (sym strings) (AllPairs-take (λ s t. s ≢ t) n ss table.distinct);
+        distinct = subst (AllPairs (λ s t. s ≢ t)) (sym strings) (AllPairs-take (λ s t. s ≢ t) n ss
+            table.distinct);
         moved = moved;
-        sorted = order_agrees f f' _ agree (AllPairs-filter (λ p q. IsBefore (f p) (f q)) (λ p. ltb p m) positions table.sorted);
+        sorted = order_agrees f f' _ agree (AllPairs-filter (λ p q. IsBefore (f p) (f q)) (λ p.
+            ltb p m) positions table.sorted);
       },
     )
 
 pub is_table : (bytes positions : List ℕ) → IsIndexed bytes positions → IsTable (strings_in bytes)
-is_table bytes positions table = record { distinct = table.distinct; zero_free = zero_free-strings_in bytes }
+is_table bytes positions table = record {
+  distinct = table.distinct;
+  zero_free =
+      zero_free-strings_in bytes;
+}
 
 -- as many digits as the strings have, as the positions have
-pub count_within : (bytes positions : List ℕ) (count : ℕ) → IsIndexed bytes positions → IsWithinDigits count (length positions) → IsWithinDigits count (length (strings_in bytes))
-count_within bytes positions count table within = λ k few. within k (omega (arith, length-positions bytes positions table))
+pub count_within : (bytes positions : List ℕ) (count : ℕ) → IsIndexed bytes positions
+    → IsWithinDigits count (length positions) → IsWithinDigits count (length (strings_in bytes))
+count_within bytes positions count table within = λ k few.
+    within k (omega (arith, length-positions bytes positions table))
 
 -- what a search that found a string says
-pub found_there : (bytes now s : List ℕ) (p : ℕ) (answer : Result ℕ ℕ) → now ≡ bytes → answer ≡ Ok p → IfOk answer (λ place. Contains (strings_in now) s × (place ≡ offset_of (strings_in now) s)) → Contains (strings_in bytes) s × (p ≡ offset_of (strings_in bytes) s) × (with_string (strings_in bytes) s ≡ strings_in bytes)
+pub found_there : (bytes now s : List ℕ) (p : ℕ) (answer : Result ℕ ℕ) → now ≡ bytes → answer ≡ Ok p
+    → IfOk answer (λ place. Contains (strings_in now) s × (place ≡ offset_of (strings_in now) s))
+    → Contains (strings_in bytes) s × (p ≡ offset_of (strings_in bytes) s)
+    × (with_string (strings_in bytes) s ≡ strings_in bytes)
 found_there bytes now s p answer same is_ok found =
     let at : Contains (strings_in bytes) s × (p ≡ offset_of (strings_in bytes) s) =
-    subst (λ l. Contains (strings_in l) s × (p ≡ offset_of (strings_in l) s)) same (IfOk-at_ok (λ place. Contains (strings_in now) s × (place ≡ offset_of (strings_in now) s)) is_ok found) in
+    subst (λ l. Contains (strings_in l) s × (p ≡ offset_of (strings_in l) s)) same
+    (IfOk-at_ok (λ place. Contains (strings_in now) s × (place ≡ offset_of (strings_in now) s))
+    is_ok found) in
     (at.0, at.1, cond-true _ _ _ ((has_Decides (strings_in bytes) s).1 at.0))
 
 -- what a search that didn't says
-pub absent_there : (bytes now positions s : List ℕ) (r : ℕ) (answer : Result ℕ ℕ) → IsIndexed bytes positions → now ≡ bytes → answer ≡ Err r → IfErr answer (StandsAt now positions s) → StandsAt bytes positions s r
+pub absent_there : (bytes now positions s : List ℕ) (r : ℕ) (answer : Result ℕ ℕ)
+    → IsIndexed bytes positions → now ≡ bytes → answer ≡ Err r
+    → IfErr answer (StandsAt now positions s) → StandsAt bytes positions s r
 absent_there bytes now positions s r answer table same is_err absent =
     let at : StandsAt now positions s r = rw is_err at absent in
     subst (λ l. StandsAt l positions s r) same at
 
-pub stands_new : (bytes positions s : List ℕ) (r n : ℕ) → IsIndexed bytes positions → StandsAt bytes positions s r → n ≡ length bytes → (n ≡ offset_of (strings_in bytes) s) × (with_string (strings_in bytes) s ≡ strings_in bytes ++ s ∷ [])
+pub stands_new : (bytes positions s : List ℕ) (r n : ℕ) → IsIndexed bytes positions
+    → StandsAt bytes positions s r → n ≡ length bytes → (n ≡ offset_of (strings_in bytes) s)
+    × (with_string (strings_in bytes) s ≡ strings_in bytes ++ s ∷ [])
 stands_new bytes positions s r n table stands is_long =
     let none : list_any (λ t. bytes_eq t s) (strings_in bytes) ≡ false =
-    false_from_ne_true _ (λ e. stands_absent bytes positions s r table stands ((has_Decides (strings_in bytes) s).0 e)) in
-    (is_long ∙ ap length (sym table.ended) ∙ sym (offset_of-absent (strings_in bytes) s none), cond-false _ _ _ none)
+    false_from_ne_true _ (λ e. stands_absent bytes positions s r table stands
+    ((has_Decides (strings_in bytes) s).0 e)) in (
+      is_long ∙ ap length (sym table.ended) ∙ sym (offset_of-absent (strings_in bytes) s none),
+      cond-false _ _ _ none,
+    )
 
 -- the parts of a table after a push
-pub table_pushed : (bytes kept longer all positions moved s : List ℕ) (r n : ℕ) → IsIndexed bytes positions → IsZeroFree s → StandsAt bytes positions s r → kept ≡ bytes → longer ≡ kept ++ s → all ≡ longer ++ 0 ∷ [] → n ≡ length bytes → moved ≡ insert positions r n → (strings_in all ≡ strings_in bytes ++ s ∷ []) × IsIndexed all moved
-table_pushed bytes kept longer all positions moved s r n table free stands e1 e2 e3 is_long is_moved =
-    let whole : all ≡ bytes ++ terminated s = e3 ∙ ap (λ l. l ++ 0 ∷ []) (e2 ∙ ap (λ l. l ++ s) e1) ∙ append_assoc bytes s (0 ∷ []) in
-    let inserted : moved ≡ insert positions r (length bytes) = is_moved ∙ ap (λ m. insert positions r m) is_long in
-    let new = indexed_push bytes positions s r table free stands in
-    (ap strings_in whole ∙ new.0, subst (λ l. IsIndexed l moved) (sym whole) (subst (λ l. IsIndexed (bytes ++ terminated s) l) (sym inserted) new.1))
+pub table_pushed : (bytes kept longer all positions moved s : List ℕ) (r n : ℕ)
+    → IsIndexed bytes positions → IsZeroFree s → StandsAt bytes positions s r → kept ≡ bytes
+    → longer ≡ kept ++ s → all ≡ longer ++ 0 ∷ [] → n ≡ length bytes → moved ≡ insert positions r n
+    → (strings_in all ≡ strings_in bytes ++ s ∷ []) × IsIndexed all moved
+table_pushed bytes kept longer all positions moved s r n table free stands e1 e2 e3
+    is_long is_moved =
+    let whole : all ≡ bytes ++ terminated s = e3 ∙ ap (λ l. l ++ 0 ∷ []) (e2 ∙ ap (λ l. l ++ s) e1)
+    ∙ append_assoc bytes s (0 ∷ []) in
+    let inserted : moved ≡ insert positions r (length bytes) =
+    is_moved ∙ ap (λ m. insert positions r m) is_long in
+    let new = indexed_push bytes positions s r table free stands in (
+      ap strings_in whole ∙ new.0,
+      subst (λ l. IsIndexed l moved) (sym whole)
+          (subst (λ l. IsIndexed (bytes ++ terminated s) l) (sym inserted) new.1),
+    )
 
 -- the parts of a table after the way back to a mark
-pub table_taken : (bytes kept positions moved : List ℕ) (strings : List (List ℕ)) (n m : ℕ) → IsIndexed bytes positions → strings_in bytes ≡ strings → m ≡ length (data_of (take n strings)) → kept ≡ take m bytes → moved ≡ filter (λ p. ltb p m) positions → (strings_in kept ≡ take n strings) × IsIndexed kept moved
+pub table_taken : (bytes kept positions moved : List ℕ) (strings : List (List ℕ)) (n m : ℕ)
+    → IsIndexed bytes positions → strings_in bytes ≡ strings → m ≡ length (data_of (take n strings))
+    → kept ≡ take m bytes → moved ≡ filter (λ p. ltb p m) positions
+    → (strings_in kept ≡ take n strings) × IsIndexed kept moved
 table_taken bytes kept positions moved strings n m table is_strings is_mark is_kept is_moved =
-    let mark : m ≡ length (data_of (take n (strings_in bytes))) = is_mark ∙ ap (λ l. length (data_of (take n l))) (sym is_strings) in
-    let new = indexed_take bytes positions n m table mark in
-    (ap strings_in is_kept ∙ new.0 ∙ ap (take n) is_strings, subst (λ l. IsIndexed l moved) (sym is_kept) (subst (λ l. IsIndexed (take m bytes) l) (sym is_moved) new.1))
+    let mark : m ≡ length (data_of (take n (strings_in bytes))) =
+    is_mark ∙ ap (λ l. length (data_of (take n l))) (sym is_strings) in
+    let new = indexed_take bytes positions n m table mark in (
+      ap strings_in is_kept ∙ new.0 ∙ ap (take n) is_strings,
+      subst (λ l. IsIndexed l moved)
+          (sym is_kept) (subst (λ l. IsIndexed (take m bytes) l) (sym is_moved) new.1),
+    )
 
 data_of-none : (ss : List (List ℕ)) → length (data_of ss) ≡ 0 → ss ≡ []
 data_of-none [] none = refl
 data_of-none (s ∷ ss) none = absurd (omega (arith, length-data_of-cons s ss))
 
 -- nothing came after a mark of so many bytes
-pub nothing_after : (bytes positions : List ℕ) (strings : List (List ℕ)) (n m : ℕ) → IsIndexed bytes positions → strings_in bytes ≡ strings → m ≡ length (data_of (take n strings)) → length bytes ≤ m → strings ≡ take n strings
+pub nothing_after : (bytes positions : List ℕ) (strings : List (List ℕ)) (n m : ℕ)
+    → IsIndexed bytes positions → strings_in bytes ≡ strings → m ≡ length (data_of (take n strings))
+    → length bytes ≤ m → strings ≡ take n strings
 nothing_after bytes positions strings n m table is_strings is_mark long =
-    let parts = ap length (ap data_of (sym (take-append-drop n strings)) ∙ data_of-append (take n strings) (drop n strings)) in
+    let parts = ap length (ap data_of (sym (take-append-drop n strings)) ∙ data_of-append
+    (take n strings) (drop n strings)) in
     let whole = ap length (sym table.ended ∙ ap data_of is_strings) in
-    let none : length (data_of (drop n strings)) ≡ 0 = omega (arith, parts, whole, length-append (data_of (take n strings)) (data_of (drop n strings))) in
-    sym (take-append-drop n strings) ∙ ap (λ l. take n strings ++ l) (data_of-none (drop n strings) none) ∙ append-nil (take n strings)
+    let none : length (data_of (drop n strings)) ≡ 0 =
+    omega (
+      arith,
+      parts,
+      whole,
+      length-append (data_of (take n strings))
+          (data_of (drop n strings)),
+    ) in
+    sym (take-append-drop n strings) ∙ ap (λ l. take n strings ++ l) (data_of-none (drop n strings)
+    none) ∙ append-nil (take n strings)
 
 pub strings_few : (ss : List (List ℕ)) → length ss ≤ length (data_of ss)
 strings_few [] = omega arith
 strings_few (s ∷ ss) = omega (arith, strings_few ss, length-data_of-cons s ss)
 
 -- no more positions than bytes
-pub positions_few : (bytes positions : List ℕ) → IsIndexed bytes positions → length positions ≤ length bytes
-positions_few bytes positions table = omega (arith, length-positions bytes positions table, strings_few (strings_in bytes), ap length table.ended)
+pub positions_few : (bytes positions : List ℕ) → IsIndexed bytes positions
+    → length positions ≤ length bytes
+positions_few bytes positions table = omega (
+  arith,
+  length-positions bytes positions table,
+  strings_few (strings_in bytes),
+  ap length table.ended,
+)

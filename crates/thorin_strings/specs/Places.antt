@@ -1,4 +1,5 @@
--- Places of strings by their hashes, in slots: a hash has the first slot that is free then, from its
+-- Places of strings by their hashes, in slots: a hash has the first slot that is free then, from
+-- its
 -- home on.
 use Rattle.std.specs.Prelude.{ℕ, zero, suc, ◌+◌, ◌-◌, ◌/◌, ◌^◌, ◌==◌, if◌then◌else◌, List, Option}
 use Rattle.std.specs.Prelude.{None, Some, slice_index_or}

@@ -11,7 +11,8 @@ pub record Keeps (same : Type 0) (lacking : Type 0) : Type 0 where
 
 abbrev pub invariant-loop-found : goal.invariant-loop-found
 invariant-loop-found g l = Keeps
-    ((other : ℕ) → remembered g.R.Reader.input l.known (g.R.Reader.input l.rest) other ≡ remembered g.R.Reader.input l.initial.known (g.R.Reader.input l.initial.rest) other)
+    ((other : ℕ) → remembered g.R.Reader.input l.known (g.R.Reader.input l.rest) other ≡ remembered
+    g.R.Reader.input l.initial.known (g.R.Reader.input l.initial.rest) other)
     (get nat_cmp l.known l.code ≡ None)
 
 abbrev pub decreases-loop-found : goal.decreases-loop-found

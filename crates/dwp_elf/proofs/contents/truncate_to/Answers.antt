@@ -7,7 +7,8 @@ loop-number-preserved c =
     let now = c.loop-number.invariant in
     let initial = length-contents_of c.truncate.new.self.items in
     record {
-      cut_so_far = cut_more _ _ _ _ _ _ now.cut_so_far (omega (arith, initial, now.as_many_at_first)) (omega (arith, now.sized))
+      cut_so_far = cut_more _ _ _ _ _ _ now.cut_so_far
+          (omega (arith, initial, now.as_many_at_first)) (omega (arith, now.sized))
           c.index_mut-section.ensures.value refl c.truncate-in-loop-number.ensures.items;
       as_many = length-set _ _ _ ∙ now.as_many;
       as_many_at_first = now.as_many_at_first;
@@ -18,5 +19,6 @@ pub returns : goal.returns
 returns c =
     let now = c.loop-number.invariant in
     let initial = length-contents_of c.truncate.new.self.items in
-    now.cut_so_far ∙ cut_all c.loop-number.number _ _ (omega (arith, initial, now.as_many_at_first)) (omega (arith, initial, now.as_many_at_first, now.sized))
+    now.cut_so_far ∙ cut_all c.loop-number.number _ _ (omega (arith, initial, now.as_many_at_first))
+    (omega (arith, initial, now.as_many_at_first, now.sized))
     ∙ truncated-contents_of _ _ _ c.truncate.ensures.items

@@ -6,16 +6,20 @@ use Rattle.dwp_elf.proofs.output.write_contents.Goals as goal
 pub returns-in_err-write_whole-clause-text : goal.returns-in_err-write_whole-clause-text
 returns-in_err-write_whole-clause-text g c =
     let p = err_from_is_err_and c.from_residual.result c.from_residual.ensures.1 in
-    rw p.1 (so_far_part _ _ _ _ c.loop-section.invariant.text (content_bytes-drop _ _ _ c.loop-section-test.true c.section-item.is)
+    rw p.1 (so_far_part _ _ _ _ c.loop-section.invariant.text (content_bytes-drop _ _ _
+    c.loop-section-test.true c.section-item.is)
     (rw c.deref.ensures.value at c.in_err-write_whole.ensures.text))
 
 pub loop-section-preserved : goal.loop-section-preserved
 loop-section-preserved g c =
     record {
-      text = so_far_more _ _ _ _ c.loop-section.invariant.text (content_bytes-drop _ _ _ c.loop-section-test.true c.section-item.is)
+      text = so_far_more _ _ _ _ c.loop-section.invariant.text (content_bytes-drop _ _ _
+          c.loop-section-test.true c.section-item.is)
           (rw c.deref.ensures.value at c.in_ok-write_whole.ensures.text);
-      fault = λ kind f. c.loop-section.invariant.fault kind (c.in_ok-write_whole.ensures.fault kind f);
+      fault = λ kind f. c.loop-section.invariant.fault kind
+          (c.in_ok-write_whole.ensures.fault kind f);
     }
 
 pub returns-clause-text : goal.returns-clause-text
-returns-clause-text g c = so_far_all c.loop-section.invariant.text (content_bytes-end _ _ c.loop-section-test.false)
+returns-clause-text g c = so_far_all c.loop-section.invariant.text
+    (content_bytes-end _ _ c.loop-section-test.false)

@@ -1,56 +1,89 @@
 use Rattle.std.proofs.Common.{◌≡◌, ◌+◌, length, refl, ap, ◌∙◌, arith}
 use Rattle.std.proofs.lemmas.Result.{err_from_is_err_and}
 use Rattle.dwp_elf.specs.FileText.{section_header}
-use Rattle.dwp_elf.proofs.Parts.{length-content_bytes-drop, headers_from-drop, headers_from-end, length-name_of, limit-le}
+use Rattle.dwp_elf.proofs.Parts.{length-content_bytes-drop, headers_from-drop, headers_from-end}
+use Rattle.dwp_elf.proofs.Parts.{length-name_of, limit-le}
 use Rattle.dwp_elf.proofs.SoFar.{so_far_more, so_far_part, Writes-so_far}
 use Rattle.dwp_elf.proofs.output.write_section_headers.Goals as goal
 
-pub section_header-header-requires-clause-place_fits : goal.section_header-header-requires-clause-place_fits
-section_header-header-requires-clause-place_fits g c = omega (arith, c.loop-section.invariant.place_left, c.requires.places_fit)
+pub section_header-header-requires-clause-place_fits :
+    goal.section_header-header-requires-clause-place_fits
+section_header-header-requires-clause-place_fits g c =
+    omega (arith, c.loop-section.invariant.place_left, c.requires.places_fit)
 
-pub section_header-header-requires-clause-size_fits : goal.section_header-header-requires-clause-size_fits
+pub section_header-header-requires-clause-size_fits :
+    goal.section_header-header-requires-clause-size_fits
 section_header-header-requires-clause-size_fits g c =
     let x = c.section-item.result in
     let step = length-content_bytes-drop _ _ _ c.loop-section-test.true c.section-item.is in
-    omega (arith, step, x.1.ok.0, c.len-size.ensures, c.loop-section.invariant.place_left, c.requires.places_fit)
+    omega (
+      arith,
+      step,
+      x.1.ok.0,
+      c.len-size.ensures,
+      c.loop-section.invariant.place_left,
+      c.requires.places_fit,
+    )
 
 pub returns-in_err-write_whole-clause-text : goal.returns-in_err-write_whole-clause-text
 returns-in_err-write_whole-clause-text g c =
     let x = c.section-item.result in
     let size : c.len-size.result ≡ length x.1.items = omega (arith, x.1.ok.0, c.len-size.ensures) in
-    let header : c.as_slice.result.now ≡ section_header c.args.class c.args.endianness c.loop-section.name 1 c.loop-section.place (length x.1.items) =
-    c.as_slice.ensures ∙ c.section_header-header.ensures ∙ ap (section_header c.args.class c.args.endianness c.loop-section.name 1 c.loop-section.place) size in
-    let split = headers_from-drop c.args.class c.args.endianness c.args.names_size c.loop-section.name c.loop-section.place _ _ _ _ _ c.loop-section-test.true c.section-item.is refl refl in
+    let header : c.as_slice.result.now ≡ section_header c.args.class c.args.endianness
+    c.loop-section.name 1 c.loop-section.place (length x.1.items) =
+    c.as_slice.ensures ∙ c.section_header-header.ensures ∙ ap (section_header c.args.class
+    c.args.endianness c.loop-section.name 1 c.loop-section.place) size in
+    let split = headers_from-drop c.args.class c.args.endianness c.args.names_size
+    c.loop-section.name c.loop-section.place _ _ _ _ _ c.loop-section-test.true
+    c.section-item.is refl refl in
     let p = err_from_is_err_and c.from_residual.result c.from_residual.ensures.1 in
-    rw p.1 (so_far_part _ _ _ _ c.loop-section.invariant.written split (rw header at c.in_err-write_whole.ensures.text))
+    rw p.1 (so_far_part _ _ _ _ c.loop-section.invariant.written split
+    (rw header at c.in_err-write_whole.ensures.text))
 
 pub overflow_add-place : goal.overflow_add-place
 overflow_add-place g c =
     let x = c.section-item.result in
     let step = length-content_bytes-drop _ _ _ c.loop-section-test.true c.section-item.is in
-    omega (arith, step, x.1.ok.0, c.len-size.ensures, c.loop-section.invariant.place_left, c.requires.places_fit, limit-le c.args.class)
+    omega (
+      arith,
+      step,
+      x.1.ok.0,
+      c.len-size.ensures,
+      c.loop-section.invariant.place_left,
+      c.requires.places_fit,
+      limit-le c.args.class,
+    )
 
 pub loop-section-preserved : goal.loop-section-preserved
 loop-section-preserved g c =
     let x = c.section-item.result in
     let size : c.len-size.result ≡ length x.1.items = omega (arith, x.1.ok.0, c.len-size.ensures) in
-    let header : c.as_slice.result.now ≡ section_header c.args.class c.args.endianness c.loop-section.name 1 c.loop-section.place (length x.1.items) =
-    c.as_slice.ensures ∙ c.section_header-header.ensures ∙ ap (section_header c.args.class c.args.endianness c.loop-section.name 1 c.loop-section.place) size in
+    let header : c.as_slice.result.now ≡ section_header c.args.class c.args.endianness
+    c.loop-section.name 1 c.loop-section.place (length x.1.items) =
+    c.as_slice.ensures ∙ c.section_header-header.ensures ∙ ap (section_header c.args.class
+    c.args.endianness c.loop-section.name 1 c.loop-section.place) size in
     let name = ap length c.name.ensures in
-    let split = headers_from-drop c.args.class c.args.endianness c.args.names_size c.loop-section.name c.loop-section.place
-    (c.loop-section.name + (length c.name.result.now + 1)) (c.loop-section.place + c.len-size.result) _ _ _
+    let split = headers_from-drop c.args.class c.args.endianness c.args.names_size
+    c.loop-section.name c.loop-section.place
+    (c.loop-section.name + (length c.name.result.now + 1)) (c.loop-section.place +
+    c.len-size.result) _ _ _
     c.loop-section-test.true c.section-item.is (omega (arith, name)) (omega (arith, size)) in
     let step = length-content_bytes-drop _ _ _ c.loop-section-test.true c.section-item.is in
     record {
-      written = so_far_more _ _ _ _ c.loop-section.invariant.written split (rw header at c.in_ok-write_whole.ensures.text);
-      fault = λ kind f. c.loop-section.invariant.fault kind (c.in_ok-write_whole.ensures.fault kind f);
+      written = so_far_more _ _ _ _ c.loop-section.invariant.written split
+          (rw header at c.in_ok-write_whole.ensures.text);
+      fault = λ kind f. c.loop-section.invariant.fault kind
+          (c.in_ok-write_whole.ensures.fault kind f);
       place_left = omega (arith, step, size, c.loop-section.invariant.place_left);
       name_small = omega (arith, name, length-name_of x.0, c.loop-section.invariant.name_small);
     }
 
 pub returns-clause-text : goal.returns-clause-text
 returns-clause-text g c =
-    let header : c.as_slice-2.result.now ≡ section_header c.args.class c.args.endianness c.loop-section.name 3 c.loop-section.place c.args.names_size =
+    let header : c.as_slice-2.result.now ≡ section_header c.args.class c.args.endianness
+    c.loop-section.name 3 c.loop-section.place c.args.names_size =
     c.as_slice-2.ensures ∙ c.section_header-header-2.ensures in
-    let end = headers_from-end c.args.class c.args.endianness c.args.names_size c.loop-section.name c.loop-section.place _ _ c.loop-section-test.false in
-    Writes-so_far _ _ _ _ _ _ c.loop-section.invariant.written (rw (end, ← header) c.write_whole-2.ensures.text)
+    let end = headers_from-end c.args.class c.args.endianness c.args.names_size c.loop-section.name
+    c.loop-section.place _ _ c.loop-section-test.false in
+    Writes-so_far _ _ _ _ _ _ c.loop-section.invariant.written
+    (rw (end, ← header) c.write_whole-2.ensures.text)

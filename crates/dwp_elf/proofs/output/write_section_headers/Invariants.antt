@@ -9,8 +9,10 @@ use Rattle.dwp_elf.proofs.output.write_section_headers.Given as goal
 abbrev pub invariant-loop-section : goal.invariant-loop-section
 invariant-loop-section g l = record {
   written : SoFar (g.O.Output.contents l.initial.out) (g.O.Output.contents l.out)
-      (headers_from l.class l.endianness l.names_size 1 (header_size l.class) (contents_of l.sections))
-      (headers_from l.class l.endianness l.names_size l.name l.place (contents_of (drop l.section-index l.sections)));
+      (headers_from l.class l.endianness l.names_size 1 (header_size l.class)
+      (contents_of l.sections))
+      (headers_from l.class l.endianness l.names_size l.name l.place
+      (contents_of (drop l.section-index l.sections)));
   fault : (kind : ErrorKind) → g.O.Output.failed l.out kind → g.O.Output.failed l.initial.out kind;
   place_left : l.place + length (content_bytes (contents_of (drop l.section-index l.sections)))
       ≡ header_size l.class + length (content_bytes (contents_of l.sections));

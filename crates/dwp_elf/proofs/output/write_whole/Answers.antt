@@ -27,6 +27,7 @@ loop-rest-preserved g c =
     let some : 0 < n = grind (arith, nat_tests) in
     record {
       text = so_far_more _ rest (take n rest) _ c.loop-rest.invariant.text
-          (sym (take-append-drop n rest) ∙ ap (λ l. take n rest ++ l) (sym (take_rest rest n))) c.in_ok-taken.ensures.bytes;
+          (sym (take-append-drop n rest) ∙ ap (λ l. take n rest ++ l) (sym (take_rest rest n)))
+          c.in_ok-taken.ensures.bytes;
       fault = λ kind f. c.loop-rest.invariant.fault kind (c.in_ok-taken.ensures.some some kind f);
     }

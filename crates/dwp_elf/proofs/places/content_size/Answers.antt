@@ -20,5 +20,6 @@ loop-section-preserved c =
 
 pub returns : goal.returns
 returns c =
-    let end = ap length (content_bytes-end c.args.sections.now c.loop-section.section-index c.loop-section-test.false) in
+    let end = ap length (content_bytes-end c.args.sections.now c.loop-section.section-index
+    c.loop-section-test.false) in
     omega (arith, end, c.loop-section.invariant)

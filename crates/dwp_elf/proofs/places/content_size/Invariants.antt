@@ -5,4 +5,5 @@ use Rattle.dwp_elf.proofs.places.content_size.Given as goal
 
 abbrev pub invariant-loop-section : goal.invariant-loop-section
 invariant-loop-section l =
-    l.size + length (content_bytes (contents_of (drop l.section-index l.sections))) ≡ length (content_bytes (contents_of l.sections))
+    l.size + length (content_bytes (contents_of (drop l.section-index l.sections))) ≡ length
+    (content_bytes (contents_of l.sections))

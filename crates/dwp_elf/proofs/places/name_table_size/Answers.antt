@@ -6,10 +6,18 @@ pub loop-section-preserved : goal.loop-section-preserved
 loop-section-preserved c =
     let x = c.section-item.result in
     let step = length-names_of-drop _ _ _ c.loop-section-test.true c.section-item.is in
-    let name = ap length c.name.ensures in
-    (omega (arith, step, name, c.loop-section.invariant.0), omega (arith, name, length-name_of x.0, c.loop-section.invariant.1))
+    let name = ap length c.name.ensures in (
+      omega (arith, step, name, c.loop-section.invariant.0),
+      omega (
+        arith,
+        name,
+        length-name_of x.0,
+        c.loop-section.invariant.1,
+      ),
+    )
 
 pub returns-clause-size : goal.returns-clause-size
 returns-clause-size c =
-    let end = ap length (names_of-end c.args.sections.now c.loop-section.section-index c.loop-section-test.false) in
+    let end = ap length (names_of-end c.args.sections.now c.loop-section.section-index
+    c.loop-section-test.false) in
     omega (arith, end, c.loop-section.invariant.0)

@@ -5,5 +5,6 @@ use Rattle.dwp_elf.proofs.places.name_table_size.Given as goal
 
 abbrev pub invariant-loop-section : goal.invariant-loop-section
 invariant-loop-section l =
-    (l.size + length (names_of (contents_of (drop l.section-index l.sections))) ≡ length (name_table (contents_of l.sections)))
+    (l.size + length (names_of (contents_of (drop l.section-index l.sections))) ≡ length
+    (name_table (contents_of l.sections)))
     × (l.size ≤ 11 + 25 * l.section-index)

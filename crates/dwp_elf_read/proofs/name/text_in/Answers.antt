@@ -5,9 +5,11 @@ use Rattle.dwp_elf_read.proofs.name.text_in.Goals as goal
 
 pub returns-in_err-end : goal.returns-in_err-end
 returns-in_err-end c =
-    rw c.from_residual.ensures (sym (text_at-first c.args.table.now c.split_at.result.1.now c.args.place None c.split_at.ensures.back c.in_err-end.ensures))
+    rw c.from_residual.ensures (sym (text_at-first c.args.table.now c.split_at.result.1.now
+    c.args.place None c.split_at.ensures.back c.in_err-end.ensures))
 
 pub returns : goal.returns
 returns c =
     c.text.ensures ∙ ap text_of c.split_at-2.ensures.front
-    ∙ sym (text_at-first c.args.table.now c.split_at.result.1.now c.args.place (Some c.in_ok-end.end) c.split_at.ensures.back c.in_ok-end.ensures)
+    ∙ sym (text_at-first c.args.table.now c.split_at.result.1.now c.args.place
+    (Some c.in_ok-end.end) c.split_at.ensures.back c.in_ok-end.ensures)

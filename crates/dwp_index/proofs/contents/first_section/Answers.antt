@@ -10,7 +10,8 @@ pub returns-then-is_of_kind : goal.returns-then-is_of_kind
 returns-then-is_of_kind c =
     let xs = (elf c.args.file.now).sections in
     let at = sym c.section.ensures.found ∙ ap (option_map section) c.in-Some.is in
-    sym (find_hit (is_of_kind c.args.kind) xs c.loop-i.i (section c.in-Some.candidate) at (sym c.is_of_kind.ensures ∙ c.if-is_of_kind.true)) ∙ c.loop-i.invariant
+    sym (find_hit (is_of_kind c.args.kind) xs c.loop-i.i (section c.in-Some.candidate) at
+    (sym c.is_of_kind.ensures ∙ c.if-is_of_kind.true)) ∙ c.loop-i.invariant
 
 pub loop-i-preserved : goal.loop-i-preserved
 loop-i-preserved c =
@@ -18,9 +19,12 @@ loop-i-preserved c =
     elim c.match-section.branch [
       | in-Some+else-is_of_kind w ↦
           let at = sym c.section.ensures.found ∙ ap (option_map section) w.in-Some.is in
-          sym (find_miss (is_of_kind c.args.kind) xs c.loop-i.i (section w.in-Some.candidate) at (sym w.is_of_kind.ensures ∙ w.if-is_of_kind.false)) ∙ c.loop-i.invariant
-      | in_default w ↦ absurd (slice_get_none xs c.loop-i.i (omega arith) (sym c.section.ensures.found ∙ ap (option_map section) w.in_default.is))
+          sym (find_miss (is_of_kind c.args.kind) xs c.loop-i.i (section w.in-Some.candidate) at
+          (sym w.is_of_kind.ensures ∙ w.if-is_of_kind.false)) ∙ c.loop-i.invariant
+      | in_default w ↦ absurd (slice_get_none xs c.loop-i.i (omega arith)
+          (sym c.section.ensures.found ∙ ap (option_map section) w.in_default.is))
     ]
 
 pub returns : goal.returns
-returns c = sym (find_end (is_of_kind c.args.kind) (elf c.args.file.now).sections c.loop-i.i (omega arith)) ∙ c.loop-i.invariant
+returns c = sym (find_end (is_of_kind c.args.kind) (elf c.args.file.now).sections c.loop-i.i
+    (omega arith)) ∙ c.loop-i.invariant

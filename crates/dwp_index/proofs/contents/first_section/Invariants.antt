@@ -5,4 +5,5 @@ use Rattle.dwp_index.specs.Contents.{is_of_kind}
 use Rattle.dwp_index.proofs.contents.first_section.Given as goal
 
 abbrev pub invariant-loop-i : goal.invariant-loop-i
-invariant-loop-i l = find (is_of_kind l.kind) (drop l.i (elf l.file).sections) ≡ find (is_of_kind l.kind) (elf l.file).sections
+invariant-loop-i l = find (is_of_kind l.kind) (drop l.i (elf l.file).sections) ≡ find
+    (is_of_kind l.kind) (elf l.file).sections

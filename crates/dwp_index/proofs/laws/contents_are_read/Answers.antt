@@ -1,4 +1,5 @@
-use Rattle.dwp_index.proofs.HeldContents.{package_is, index_there, index_missing, held_in_order, held_content, another_kind, foreign, empty}
+use Rattle.dwp_index.proofs.HeldContents.{package_is, index_there, index_missing, held_in_order}
+use Rattle.dwp_index.proofs.HeldContents.{held_content, another_kind, foreign, empty}
 use Rattle.dwp_index.proofs.laws.contents_are_read.Goals as goal
 
 pub returns-clause-package : goal.returns-clause-package

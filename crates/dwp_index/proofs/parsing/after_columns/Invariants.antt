@@ -5,5 +5,6 @@ use Rattle.dwp_index.proofs.parsing.after_columns.Given as goal
 abbrev pub invariant-loop-i : goal.invariant-loop-i
 invariant-loop-i l = record {
   within : 4 * l.i ≤ length l.bytes;
-  so_far : columns_at l.order l.version (numbers l.order 4 l.i l.bytes) (l.count - l.i) (drop (4 * l.i) l.bytes) ≡ columns_at l.order l.version [] l.count l.bytes;
+  so_far : columns_at l.order l.version (numbers l.order 4 l.i l.bytes) (l.count - l.i)
+      (drop (4 * l.i) l.bytes) ≡ columns_at l.order l.version [] l.count l.bytes;
 }

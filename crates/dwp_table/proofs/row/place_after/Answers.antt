@@ -6,4 +6,5 @@ use Rattle.dwp_table.proofs.row.place_after.Goals as goal
 
 pub returns-clause-next : goal.returns-clause-next
 unfolding step
-returns-clause-next c = λ i e. ap (λ n. bit_and (n + step c.args.size c.args.x) (c.args.size - 1)) e ∙ sym (place-next c.args.size c.args.x i c.requires.power)
+returns-clause-next c = λ i e. ap (λ n. bit_and (n + step c.args.size c.args.x) (c.args.size - 1)) e
+    ∙ sym (place-next c.args.size c.args.x i c.requires.power)

@@ -12,7 +12,9 @@ loop-size-preserved c = let k = c.loop-size.invariant.power in record {
 }
 
 pub returns-clause-slots : goal.returns-clause-slots
-returns-clause-slots c = let k = c.loop-size.invariant.power in has_slots c.args.units c.loop-size.size k.0 k.1 c.loop-size.invariant.least (omega arith)
+returns-clause-slots c = let k = c.loop-size.invariant.power in has_slots c.args.units
+    c.loop-size.size k.0 k.1 c.loop-size.invariant.least (omega arith)
 
 pub returns-clause-power : goal.returns-clause-power
-returns-clause-power c = let k = c.loop-size.invariant.power in subst (λ n. IsTrue (is_power_of_two n)) (sym k.1) (is_power (suc k.0))
+returns-clause-power c = let k = c.loop-size.invariant.power in
+    subst (λ n. IsTrue (is_power_of_two n)) (sym k.1) (is_power (suc k.0))

@@ -1,11 +1,13 @@
-use Rattle.std.proofs.Common.{◌≡◌, ◌∙◌, ℕ, ◌+◌, List, [], ◌∷◌, ◌++◌, take, drop, get_or, Ok, Bor, inl, subst, sym, ap, refl}
+use Rattle.std.proofs.Common.{◌≡◌, ◌∙◌, ℕ, ◌+◌, List, [], ◌∷◌, ◌++◌, take, drop, get_or, Ok, Bor}
+use Rattle.std.proofs.Common.{inl, subst, sym, ap, refl}
 use Rattle.std.proofs.lemmas.List.{take_all}
 use Rattle.std.proofs.lemmas.Result.{err_from_is_err_and}
 use Rattle.thorin_join.specs.Builder.{start, taken}
 use Rattle.thorin_join.specs.Join.{JoinAll, Joins}
 use Rattle.thorin_join.specs.Represents.{units_in}
 use Rattle.thorin.specs.Groups.{taken_each, bytes_in}
-use Rattle.thorin.proofs.Grouping.{taken-more, taken-refused, mapped-next, mapped-around, packs-alone, taken-start}
+use Rattle.thorin.proofs.Grouping.{taken-more, taken-refused, mapped-next, mapped-around}
+use Rattle.thorin.proofs.Grouping.{packs-alone, taken-start}
 use Rattle.thorin.proofs.Running.{join-append}
 use Rattle.thorin.proofs.groups.pack_alone.Goals as goal
 
@@ -13,7 +15,11 @@ abbrev none : Bor (List ℕ)
 none = record { ref_ptr = (0, 0); now = [] }
 
 pub loop-input-init : goal.loop-input-init
-loop-input-init g c = (taken-start ∙ ap Ok (sym c.new-builder.ensures.state), ap units_in c.new-builder.ensures.state)
+loop-input-init g c = (
+  taken-start ∙ ap Ok (sym c.new-builder.ensures.state),
+  ap units_in
+      c.new-builder.ensures.state,
+)
 
 pub loop-input-preserved : goal.loop-input-preserved
 loop-input-preserved g c =
@@ -23,11 +29,16 @@ loop-input-preserved g c =
     let done = bytes_in (take i inputs) in
     let before = c.loop-input.builder.state in
     let after = c.add_object_bytes.new.self.state in
-    let next : bytes_in (take (i + 1) inputs) ≡ done ++ item.now ∷ [] = mapped-next (λ (input : Bor (List ℕ)). input.now) inputs i none c.loop-input-test.true in
+    let next : bytes_in (take (i + 1) inputs) ≡ done ++ item.now ∷ [] =
+    mapped-next (λ (input : Bor (List ℕ)). input.now) inputs i none c.loop-input-test.true in
     let took : taken item.now before ≡ Ok after = c.in_ok-add_object_bytes.ensures.meaning in
-    let joins : Joins item.now (units_in before) (units_in after) = c.in_ok-add_object_bytes.ensures.joins in (
-      ap (λ l. taken_each l start) next ∙ taken-more done item.now start before (Ok after) c.loop-input.invariant.0 took,
-      subst (λ l. JoinAll l [] (units_in after)) (sym next) (join-append done (item.now ∷ []) [] (units_in before) (units_in after) c.loop-input.invariant.1 (units_in after, joins, refl)),
+    let joins : Joins item.now (units_in before) (units_in after) =
+    c.in_ok-add_object_bytes.ensures.joins in (
+      ap (λ l. taken_each l start) next ∙ taken-more done item.now start before (Ok after)
+          c.loop-input.invariant.0 took,
+      subst (λ l. JoinAll l [] (units_in after)) (sym next) (join-append done (item.now ∷ []) []
+          (units_in before) (units_in after) c.loop-input.invariant.1
+          (units_in after, joins, refl)),
     )
 
 pub returns-in_err-add_object_bytes : goal.returns-in_err-add_object_bytes
@@ -35,11 +46,14 @@ returns-in_err-add_object_bytes g c =
     let inputs = c.args.inputs.now in
     let i = c.loop-input.input-index in
     let item = get_or inputs i none in
-    let whole = mapped-around (λ (input : Bor (List ℕ)). input.now) inputs i none c.loop-input-test.true in
+    let whole = mapped-around (λ (input : Bor (List ℕ)). input.now) inputs i none
+    c.loop-input-test.true in
     let p = err_from_is_err_and c.from_residual.result c.from_residual.ensures.1 in
     rw (p.1, p.2) (λ aside. inl (
     ap (λ l. taken_each l start) whole
-    ∙ taken-refused (bytes_in (take i inputs)) item.now (bytes_in (drop (i + 1) inputs)) start c.loop-input.builder.state _ c.loop-input.invariant.0 (c.in_err-add_object_bytes.ensures.meaning aside)
+    ∙ taken-refused (bytes_in (take i inputs)) item.now (bytes_in (drop (i + 1) inputs)) start
+    c.loop-input.builder.state _ c.loop-input.invariant.0
+    (c.in_err-add_object_bytes.ensures.meaning aside)
     ))
 
 pub returns : goal.returns

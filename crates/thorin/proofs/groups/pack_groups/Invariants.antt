@@ -4,4 +4,5 @@ use Rattle.thorin.proofs.groups.pack_groups.Given as goal
 
 -- the groups so far were packed
 abbrev pub invariant-loop-group : goal.invariant-loop-group
-invariant-loop-group g l = ArePackedAlone (groups_in (take l.group-index l.groups)) (bytes_in l.packages.items)
+invariant-loop-group g l = ArePackedAlone (groups_in (take l.group-index l.groups))
+    (bytes_in l.packages.items)

@@ -13,23 +13,32 @@ loop-input-preserved g c =
     let none : Input = Object (record { text = record { ref_ptr = (0, 0); now = [] } }) in
     let input = get_or c.args.inputs.now c.loop-input.input-index none in
     let more = taken-next c.args.inputs.now c.loop-input.input-index none c.loop-input-test.true in
-    let took : Took offer input c.loop-input.builder.state c.take_input-outcome.result c.take_input-outcome.new.builder.state =
+    let took : Took offer input c.loop-input.builder.state c.take_input-outcome.result
+    c.take_input-outcome.new.builder.state =
     c.take_input-outcome.ensures.taken in
-    let pushed : c.push.new.self.items ≡ c.loop-input.outcomes.items ++ c.take_input-outcome.result ∷ [] = search (rules, c.in_ok-push.ensures.items) in
-    let ran = ran-next offer (take c.loop-input.input-index c.args.inputs.now) input start c.loop-input.builder.state c.take_input-outcome.new.builder.state c.loop-input.outcomes.items c.take_input-outcome.result c.loop-input.invariant.0 took.accepted c.loop-input.invariant.1 took.takes in
+    let pushed : c.push.new.self.items ≡ c.loop-input.outcomes.items ++ c.take_input-outcome.result
+    ∷ [] = search (rules, c.in_ok-push.ensures.items) in
+    let ran = ran-next offer (take c.loop-input.input-index c.args.inputs.now) input start
+    c.loop-input.builder.state c.take_input-outcome.new.builder.state
+    c.loop-input.outcomes.items c.take_input-outcome.result c.loop-input.invariant.0
+    took.accepted c.loop-input.invariant.1 took.takes in
     (c.loop-input.invariant.0 ++ took.accepted, rw (more, pushed) ran)
 
 pub returns-clause-packed : goal.returns-clause-packed
 returns-clause-packed g c =
     let offer = g.Sess.Session.offer c.args.session.now in
     let accepted = c.loop-input.invariant.0 in
-    let ran : Ran offer c.args.inputs.now start c.loop-input.outcomes.items c.loop-input.builder.state accepted =
-    subst (λ list. Ran offer list start c.loop-input.outcomes.items c.loop-input.builder.state accepted) (take_all c.loop-input.input-index c.args.inputs.now c.loop-input-test.false) c.loop-input.invariant.1 in
+    let ran : Ran offer c.args.inputs.now start c.loop-input.outcomes.items
+    c.loop-input.builder.state accepted =
+    subst (λ list. Ran offer list start c.loop-input.outcomes.items c.loop-input.builder.state
+    accepted) (take_all c.loop-input.input-index c.args.inputs.now c.loop-input-test.false)
+    c.loop-input.invariant.1 in
     record {
       state = c.loop-input.builder.state;
       accepted = accepted;
       ran = ran;
-      joined = run-joined offer c.args.inputs.now start c.loop-input.builder.state c.loop-input.outcomes.items accepted ran;
+      joined = run-joined offer c.args.inputs.now start c.loop-input.builder.state
+          c.loop-input.outcomes.items accepted ran;
       written = c.written-file.ensures.writes;
       package_of = c.written-file.ensures.packaged;
       differing = c.written-file.ensures.differing;

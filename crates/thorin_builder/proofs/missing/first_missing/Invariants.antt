@@ -6,4 +6,5 @@ use Rattle.thorin_builder.proofs.missing.first_missing.Given as goal
 -- those that were passed over are contained
 abbrev pub invariant-loop-place : goal.invariant-loop-place
 invariant-loop-place l =
-    filter (is_missing l.contained.keys) (drop l.place l.targets.keys) ≡ filter (is_missing l.contained.keys) (drop l.fn.start l.targets.keys)
+    filter (is_missing l.contained.keys) (drop l.place l.targets.keys) ≡ filter
+    (is_missing l.contained.keys) (drop l.fn.start l.targets.keys)

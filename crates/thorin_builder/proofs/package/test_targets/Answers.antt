@@ -7,16 +7,23 @@ use Rattle.thorin_builder.proofs.package.test_targets.Goals as goal
 pub loop-target-preserved : goal.loop-target-preserved
 loop-target-preserved c =
     let there : is_missing c.args.contained.now.keys c.in-Some.target.now ≡ false =
-    ap not (sym (among-is c.in-Some.target.now c.args.contained.now.keys) ∙ sym c.contains.ensures) ∙ search (rules, c.if-not-contains) in
-    let left : c.loop-target.target-iterator ≡ c.in-Some.target.now ∷ c.next.new.self = search (rules, c.in-Some.ensures.steps) in
-    sym (find-next (is_missing c.args.contained.now.keys) c.in-Some.target.now c.next.new.self c.loop-target.target-iterator left there) ∙ c.loop-target.invariant
+    ap not (sym (among-is c.in-Some.target.now c.args.contained.now.keys) ∙ sym c.contains.ensures)
+    ∙ search (rules, c.if-not-contains) in
+    let left : c.loop-target.target-iterator ≡ c.in-Some.target.now ∷ c.next.new.self =
+    search (rules, c.in-Some.ensures.steps) in
+    sym (find-next (is_missing c.args.contained.now.keys) c.in-Some.target.now c.next.new.self
+    c.loop-target.target-iterator left there) ∙ c.loop-target.invariant
 
 pub returns-then-not-contains : goal.returns-then-not-contains
 unfolding targets_test
 returns-then-not-contains c =
     let missing : is_missing c.args.contained.now.keys c.in-Some.target.now ≡ true =
-    ap not (sym (among-is c.in-Some.target.now c.args.contained.now.keys) ∙ sym c.contains.ensures) ∙ search (rules, c.if-not-contains) in
-    let left : c.loop-target.target-iterator ≡ c.in-Some.target.now ∷ c.next.new.self = search (rules, c.in-Some.ensures.steps) in
-    let first : find (is_missing c.args.contained.now.keys) c.args.targets.now.keys ≡ Some c.in-Some.target.now =
-    sym c.loop-target.invariant ∙ find-first (is_missing c.args.contained.now.keys) c.in-Some.target.now c.next.new.self c.loop-target.target-iterator left missing in
+    ap not (sym (among-is c.in-Some.target.now c.args.contained.now.keys) ∙ sym c.contains.ensures)
+    ∙ search (rules, c.if-not-contains) in
+    let left : c.loop-target.target-iterator ≡ c.in-Some.target.now ∷ c.next.new.self =
+    search (rules, c.in-Some.ensures.steps) in
+    let first : find (is_missing c.args.contained.now.keys) c.args.targets.now.keys ≡ Some
+    c.in-Some.target.now =
+    sym c.loop-target.invariant ∙ find-first (is_missing c.args.contained.now.keys)
+    c.in-Some.target.now c.next.new.self c.loop-target.target-iterator left missing in
     λ aside. rw (first, c.index.ensures)

@@ -7,6 +7,8 @@ pub loop-i-preserved : goal.loop-i-preserved
 loop-i-preserved c =
     let within : c.loop-i.i < length c.loop-i.lookups = omega arith in
     record {
-      front = take-set-le c.args.start c.loop-i.lookups c.loop-i.i _ (omega arith) ∙ c.loop-i.invariant.front;
-      same = status_left c.args.file.now c.loop-i.lookups c.loop-i.i _ _ within ∙ c.loop-i.invariant.same;
+      front = take-set-le c.args.start c.loop-i.lookups c.loop-i.i _ (omega arith) ∙
+          c.loop-i.invariant.front;
+      same = status_left c.args.file.now c.loop-i.lookups c.loop-i.i _ _ within ∙
+          c.loop-i.invariant.same;
     }

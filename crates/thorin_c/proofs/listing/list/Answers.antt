@@ -7,19 +7,26 @@ use Rattle.thorin_c.proofs.listing.list.Goals.{then-place-names, else-place-name
 
 pub loop-entry-preserved : goal.loop-entry-preserved
 loop-entry-preserved c = record {
-  left = yields-next c.loop-entry.yielded (units_left c.next.new.self) (units_left c.loop-entry.entry-iterator) _ c.in-Some.entry c.in-Some.ensures.steps c.loop-entry.invariant.left;
-  count = count-next name_of c.loop-entry.yielded c.in-Some.entry _ c.loop-entry.count c.saturating_add-count.result c.loop-entry.invariant.count c.saturating_add-count.ensures;
+  left = yields-next c.loop-entry.yielded (units_left c.next.new.self)
+      (units_left c.loop-entry.entry-iterator) _ c.in-Some.entry c.in-Some.ensures.steps
+      c.loop-entry.invariant.left;
+  count = count-next name_of c.loop-entry.yielded c.in-Some.entry _ c.loop-entry.count
+      c.saturating_add-count.result c.loop-entry.invariant.count c.saturating_add-count.ensures;
   names = elim c.if-place-names.branch [
     | then-place-names w ↦
         let same = c.loop-entry.auto.names in
         let count = c.loop-entry.invariant.count in
         let within : c.loop-entry.count < length c.args.names.now = omega arith in
         let is : c.loop-entry.count ≡ length (map name_of c.loop-entry.yielded) = omega arith in
-        w.names-is ∙ put-next name_of c.args.names.now c.loop-entry.names c.loop-entry.yielded c.in-Some.entry w.name_of.result c.loop-entry.count c.loop-entry.invariant.names within is w.name_of.ensures
+        w.names-is ∙ put-next name_of c.args.names.now c.loop-entry.names c.loop-entry.yielded
+        c.in-Some.entry w.name_of.result c.loop-entry.count c.loop-entry.invariant.names within
+        is w.name_of.ensures
     | else-place-names w ↦
         let same = c.loop-entry.auto.names in
         let count = c.loop-entry.invariant.count in
-        let past : length c.args.names.now ≤ length (map name_of c.loop-entry.yielded) = omega arith in
-        w.names-is ∙ pass-next name_of c.args.names.now c.loop-entry.names c.loop-entry.yielded c.in-Some.entry c.loop-entry.invariant.names past
+        let past : length c.args.names.now ≤ length (map name_of c.loop-entry.yielded) =
+        omega arith in
+        w.names-is ∙ pass-next name_of c.args.names.now c.loop-entry.names c.loop-entry.yielded
+        c.in-Some.entry c.loop-entry.invariant.names past
   ];
 }

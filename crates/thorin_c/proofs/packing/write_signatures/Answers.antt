@@ -9,8 +9,10 @@ loop-i-preserved c =
     elim c.if-i-types.branch [
       | then-i-types w ↦
           let room : c.loop-i.i < length c.args.types.now = omega arith in
-          w.types-is ∙ put-at (λ s. s.0) c.args.types.now c.loop-i.types c.args.signatures.now _ _ c.loop-i.i c.loop-i.invariant c.loop-i-test.true room refl
+          w.types-is ∙ put-at (λ s. s.0) c.args.types.now c.loop-i.types c.args.signatures.now _ _
+          c.loop-i.i c.loop-i.invariant c.loop-i-test.true room refl
       | else-i-types w ↦
           let room : length c.args.types.now ≤ c.loop-i.i = omega arith in
-          w.types-is ∙ pass-at (λ s. s.0) c.args.types.now c.loop-i.types c.args.signatures.now (record { 0 = 0 }) c.loop-i.i c.loop-i.invariant c.loop-i-test.true room
+          w.types-is ∙ pass-at (λ s. s.0) c.args.types.now c.loop-i.types c.args.signatures.now
+          (record { 0 = 0 }) c.loop-i.i c.loop-i.invariant c.loop-i-test.true room
     ]

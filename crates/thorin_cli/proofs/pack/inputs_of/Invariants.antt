@@ -4,7 +4,9 @@ use Rattle.thorin_cli.proofs.pack.inputs_of.Given as goal
 
 -- the paths so far
 abbrev pub invariant-loop-object : goal.invariant-loop-object
-invariant-loop-object l = map asked l.inputs.items ≡ map object_asked (take l.object-index l.objects)
+invariant-loop-object l = map asked l.inputs.items ≡ map object_asked
+    (take l.object-index l.objects)
 
 abbrev pub invariant-loop-executable : goal.invariant-loop-executable
-invariant-loop-executable l = map asked l.inputs.items ≡ map object_asked l.objects ++ map (executable_asked l.missing) (take l.executable-index l.executables)
+invariant-loop-executable l = map asked l.inputs.items ≡ map object_asked l.objects ++ map
+    (executable_asked l.missing) (take l.executable-index l.executables)

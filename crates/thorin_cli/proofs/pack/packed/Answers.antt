@@ -9,12 +9,14 @@ pub returns : goal.returns
 returns g c =
     let state = c.take_all.new.builder.state in
     let outcome : Input → Outcome = λ i. Ok tt in
-    let ran : (accepted : List (List ℕ)) × AreAllAccepted c.args.inputs.now start state accepted = rw c.new-builder.ensures.state at c.in_ok-take_all.ensures in
+    let ran : (accepted : List (List ℕ)) × AreAllAccepted c.args.inputs.now start state accepted =
+    rw c.new-builder.ensures.state at c.in_ok-take_all.ensures in
     record {
       state = state;
       accepted = ran.0;
       ran = ran.1;
-      joined = c.runs_go_on.ensures.joined c.args.inputs.now start state (map outcome c.args.inputs.now) ran.0 ran.1;
+      joined = c.runs_go_on.ensures.joined c.args.inputs.now start state
+          (map outcome c.args.inputs.now) ran.0 ran.1;
       finished = c.in_ok-object.ensures.finished;
       package_of = c.in_ok-object.ensures.packaged;
     }

@@ -13,11 +13,20 @@ loop-input-preserved g c =
     let none : Input = Object (record { text = record { ref_ptr = (0, 0); now = [] } }) in
     let so_far = take c.loop-input.input-index c.args.inputs.now in
     let input = get_or c.args.inputs.now c.loop-input.input-index none in
-    let took : Took anything input c.loop-input.builder.state (Ok tt) c.take.new.builder.state = c.in_ok-take.ensures in
+    let took : Took anything input c.loop-input.builder.state (Ok tt) c.take.new.builder.state =
+    c.in_ok-take.ensures in
     let more = taken-next c.args.inputs.now c.loop-input.input-index none c.loop-input-test.true in
     let outcome : Input → Outcome = λ i. Ok tt in
-    let ran = c.runs_go_on.ensures.next so_far input c.args.builder.now.state c.loop-input.builder.state c.take.new.builder.state (map outcome so_far) (Ok tt) c.loop-input.invariant.0 took.accepted c.loop-input.invariant.1 took.takes in
-    (c.loop-input.invariant.0 ++ took.accepted, rw (more, map-append outcome so_far (input ∷ [])) ran)
+    let ran = c.runs_go_on.ensures.next so_far input c.args.builder.now.state
+    c.loop-input.builder.state c.take.new.builder.state (map outcome so_far) (Ok tt)
+    c.loop-input.invariant.0 took.accepted c.loop-input.invariant.1 took.takes in (
+      c.loop-input.invariant.0 ++ took.accepted,
+      rw (
+        more,
+        map-append outcome so_far
+            (input ∷ []),
+      ) ran,
+    )
 
 pub returns : goal.returns
 returns g c =

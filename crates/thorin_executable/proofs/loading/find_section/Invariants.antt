@@ -5,4 +5,5 @@ use Rattle.thorin_executable.proofs.loading.find_section.Given as goal
 
 -- the first of those that are left is the first of all
 abbrev pub invariant-loop-i : goal.invariant-loop-i
-invariant-loop-i l = find (is_used l.kind) (drop l.i (elf l.file).sections) ≡ find (is_used l.kind) (elf l.file).sections
+invariant-loop-i l = find (is_used l.kind) (drop l.i (elf l.file).sections) ≡ find (is_used l.kind)
+    (elf l.file).sections

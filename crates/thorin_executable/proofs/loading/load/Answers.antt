@@ -8,7 +8,11 @@ use Rattle.thorin_executable.proofs.loading.load.Goals as goal
 
 pub returns : goal.returns
 returns g c =
-    loaded-is (elf c.args.file.now) (file c.args.section.now) c.args.kind (section c.args.section.now) c.in_ok-bytes.bytes.now c.in_ok-found.found.items c.in_ok-relocations.relocations.now
-    c.requires c.in_ok-bytes.ensures c.in_ok-found.ensures.exact (c.in_ok-relocations.ensures ∙ c.deref.ensures.value)
-    ∙ ap (λ (order : Endianness). Ok (relocated_input c.in_ok-relocations.relocations.now 0 (input_section order c.in_ok-bytes.bytes.now))) (sym c.endianness.ensures)
+    loaded-is (elf c.args.file.now) (file c.args.section.now) c.args.kind
+    (section c.args.section.now) c.in_ok-bytes.bytes.now c.in_ok-found.found.items
+    c.in_ok-relocations.relocations.now
+    c.requires c.in_ok-bytes.ensures c.in_ok-found.ensures.exact (c.in_ok-relocations.ensures ∙
+    c.deref.ensures.value)
+    ∙ ap (λ (order : Endianness). Ok (relocated_input c.in_ok-relocations.relocations.now 0
+    (input_section order c.in_ok-bytes.bytes.now))) (sym c.endianness.ensures)
     ∙ ap Ok (sym c.new.ensures)

@@ -6,4 +6,5 @@ use Rattle.thorin_identity.proofs.identity.entry_identifier.Given as goal
 -- the first identifier of those that are left is the first of all
 abbrev pub invariant-loop-attribute : goal.invariant-loop-attribute
 invariant-loop-attribute g l =
-    first_identifier (attributes_left g.R.Reader.input l.attribute-iterator) ≡ first_identifier (attributes_left g.R.Reader.input l.fn.entry.attributes)
+    first_identifier (attributes_left g.R.Reader.input l.attribute-iterator) ≡ first_identifier
+    (attributes_left g.R.Reader.input l.fn.entry.attributes)

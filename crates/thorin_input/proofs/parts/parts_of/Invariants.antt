@@ -4,10 +4,12 @@ use Rattle.thorin_input.specs.Parts.{with_each_part, parts_of}
 use Rattle.thorin_input.specs.View.{part, used, source}
 use Rattle.thorin_input.proofs.parts.parts_of.Given as goal
 
--- what the sections that are left add to the parts so far is what all add; and the strings from before are there
+-- what the sections that are left add to the parts so far is what all add; and the strings from
+-- before are there
 abbrev pub invariant-loop-section : goal.invariant-loop-section
 invariant-loop-section l =
-    (with_each_part (source l.source) (map part l.parts.items, l.strings) (map used (drop l.section-index l.source.object.sections.items))
+    (with_each_part (source l.source) (map part l.parts.items, l.strings)
+    (map used (drop l.section-index l.source.object.sections.items))
     ≡ parts_of (source l.source) l.fn.strings)
     × (take (length l.fn.strings) l.strings ≡ l.fn.strings)
     × AreKnown l.named l.strings l.repeats

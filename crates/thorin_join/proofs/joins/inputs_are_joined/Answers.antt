@@ -8,13 +8,17 @@ returns-clause-sound c bytes begun now sound h =
     let names = c.rewritten_offsets_name_the_same.ensures in
     let packaged = c.packaged_rows_are_read_alike.ensures in
     (input-keeps (parts-kept names packaged)
-    (row-shares names c.rewritten_strings_are_read_alike.ensures c.joined_string_offsets_are_read_in_turn.ensures packaged)
-    c.units_are_read_alone.ensures.alone c.units_are_read_alone.ensures.anywhere c.units_have_all_bytes.ensures.taken bytes begun now sound h).sound
+    (row-shares names c.rewritten_strings_are_read_alike.ensures
+    c.joined_string_offsets_are_read_in_turn.ensures packaged)
+    c.units_are_read_alone.ensures.alone c.units_are_read_alone.ensures.anywhere
+    c.units_have_all_bytes.ensures.taken bytes begun now sound h).sound
 
 pub returns-clause-joins : goal.returns-clause-joins
 returns-clause-joins c bytes begun now sound h =
     let names = c.rewritten_offsets_name_the_same.ensures in
     let packaged = c.packaged_rows_are_read_alike.ensures in
     (input-keeps (parts-kept names packaged)
-    (row-shares names c.rewritten_strings_are_read_alike.ensures c.joined_string_offsets_are_read_in_turn.ensures packaged)
-    c.units_are_read_alone.ensures.alone c.units_are_read_alone.ensures.anywhere c.units_have_all_bytes.ensures.taken bytes begun now sound h).joins
+    (row-shares names c.rewritten_strings_are_read_alike.ensures
+    c.joined_string_offsets_are_read_in_turn.ensures packaged)
+    c.units_are_read_alone.ensures.alone c.units_are_read_alone.ensures.anywhere
+    c.units_have_all_bytes.ensures.taken bytes begun now sound h).joins

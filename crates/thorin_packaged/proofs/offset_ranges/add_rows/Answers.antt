@@ -4,21 +4,32 @@ use Rattle.thorin_packaged.specs.RangeKeys.{range_at}
 use Rattle.thorin_packaged.specs.PackagedOffsets.{with_rows}
 use Rattle.thorin_packaged.proofs.RangeSteps.{row_stored, row_absent, rows_none}
 use Rattle.thorin_packaged.proofs.offset_ranges.add_rows.Goals as goal
-use Rattle.thorin_packaged.proofs.offset_ranges.add_rows.Goals.{in-Some-range_of_row+in_ok-insert, in_default-range_of_row}
+use Rattle.thorin_packaged.proofs.offset_ranges.add_rows.Goals.{in-Some-range_of_row+in_ok-insert}
+use Rattle.thorin_packaged.proofs.offset_ranges.add_rows.Goals.{in_default-range_of_row}
 
 pub loop-number-preserved : goal.loop-number-preserved
 loop-number-preserved c =
     let index = c.in-Some.index.now in
     let n = c.loop-number.number in
-    let less : n < length index.offsets = omega (arith, c.unit_count-number-end.ensures, c.loop-number-test.true) in
+    let less : n < length index.offsets = omega (
+      arith,
+      c.unit_count-number-end.ensures,
+      c.loop-number-test.true,
+    ) in
     elim c.match-range_of_row.branch [
       | in-Some-range_of_row+in_ok-insert w ↦
-          row_stored index n c.loop-number.keys.keys c.match-range_of_row.keys.keys w.in-Some-range_of_row.range less (sym w.in-Some-range_of_row.ensures) (ap (λ s. s.keys) w.keys-is ∙ w.in_ok-insert.ensures.keys) ∙ c.loop-number.invariant
-      | in_default-range_of_row w ↦ row_absent index n c.loop-number.keys.keys c.match-range_of_row.keys.keys less (sym c.range_of_row.ensures ∙ w.in_default-range_of_row.is) (ap (λ s. s.keys) w.keys-is) ∙ c.loop-number.invariant
+          row_stored index n c.loop-number.keys.keys c.match-range_of_row.keys.keys
+          w.in-Some-range_of_row.range less (sym w.in-Some-range_of_row.ensures)
+          (ap (λ s. s.keys) w.keys-is ∙ w.in_ok-insert.ensures.keys) ∙ c.loop-number.invariant
+      | in_default-range_of_row w ↦ row_absent index n c.loop-number.keys.keys
+          c.match-range_of_row.keys.keys less (sym c.range_of_row.ensures ∙
+          w.in_default-range_of_row.is) (ap (λ s. s.keys) w.keys-is) ∙ c.loop-number.invariant
     ]
 
 pub returns : goal.returns
 returns c =
     let ranges = map range_at c.loop-number.keys.keys in
-    sym (rows_none c.in-Some.index.now c.loop-number.number ranges (omega (arith, c.unit_count-number-end.ensures, c.loop-number-test.false)))
-    ∙ c.loop-number.invariant ∙ sym (ap (λ i. with_rows i (map range_at c.args.keys.now.keys)) (ap option_copied c.in-Some.is))
+    sym (rows_none c.in-Some.index.now c.loop-number.number ranges
+    (omega (arith, c.unit_count-number-end.ensures, c.loop-number-test.false)))
+    ∙ c.loop-number.invariant ∙ sym (ap (λ i. with_rows i (map range_at c.args.keys.now.keys))
+    (ap option_copied c.in-Some.is))

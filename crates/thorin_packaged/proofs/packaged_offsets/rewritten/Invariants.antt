@@ -4,6 +4,7 @@ use Rattle.thorin_packaged.proofs.packaged_offsets.rewritten.Given as goal
 
 abbrev pub invariant-loop-range : goal.invariant-loop-range
 invariant-loop-range l = record {
-  so_far : IsSoFar l.endian l.encoding l.debug_str l.debug_str_offsets l.ranges l.initial.strings l.out.items l.at l.range-index l.strings;
+  so_far : IsSoFar l.endian l.encoding l.debug_str l.debug_str_offsets l.ranges l.initial.strings
+      l.out.items l.at l.range-index l.strings;
   known : AreKnown l.debug_str l.strings l.repeats;
 }

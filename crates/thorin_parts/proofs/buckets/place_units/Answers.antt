@@ -16,8 +16,12 @@ loop-i-preserved g c =
     let new = c.place_row.new.slots in
     let id = g.B.Bucketable.identifier in
     record {
-      table = table_next id c.args.units.now i c.index.result unit old new (omega arith) c.index-units-i.is c.index.ensures (omega arith) c.loop-i.invariant.table c.place_row.ensures.table;
-      looked = looks_next id c.args.units.now i c.index.result unit old new c.loop-i.looked.items c.push.new.self.items c.unwrap.result c.place_row.result
-          (omega arith) c.index-units-i.is c.index.ensures c.loop-i.invariant.table c.loop-i.invariant.looked c.unwrap.ensures c.in_ok-push.ensures.items
+      table = table_next id c.args.units.now i c.index.result unit old new (omega arith)
+          c.index-units-i.is c.index.ensures (omega arith) c.loop-i.invariant.table
+          c.place_row.ensures.table;
+      looked = looks_next id c.args.units.now i c.index.result unit old new c.loop-i.looked.items
+          c.push.new.self.items c.unwrap.result c.place_row.result
+          (omega arith) c.index-units-i.is c.index.ensures c.loop-i.invariant.table
+          c.loop-i.invariant.looked c.unwrap.ensures c.in_ok-push.ensures.items
           c.place_row.ensures.kept c.place_row.ensures.last c.place_row.ensures.count;
     }

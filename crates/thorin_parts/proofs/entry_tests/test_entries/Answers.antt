@@ -6,7 +6,11 @@ use Rattle.thorin_parts.proofs.Each.{rows_fit, on_ok}
 use Rattle.thorin_parts.proofs.entry_tests.test_entries.Goals as goal
 
 pub returns-clause-offsets : goal.returns-clause-offsets
-returns-clause-offsets c = on_ok c.test_entries-3.result (rows_fit offset_or_0 (codes "contribution offset") c.args.entries.now refl c.in_ok-test_entries-2.ensures.passed)
+returns-clause-offsets c = on_ok c.test_entries-3.result
+    (rows_fit offset_or_0 (codes "contribution offset") c.args.entries.now refl
+    c.in_ok-test_entries-2.ensures.passed)
 
 pub returns-clause-sizes : goal.returns-clause-sizes
-returns-clause-sizes c = on_ok_weaker c.test_entries-3.result (rows_fit size_or_0 (codes "contribution size") c.args.entries.now refl) c.test_entries-3.ensures.passed
+returns-clause-sizes c = on_ok_weaker c.test_entries-3.result
+    (rows_fit size_or_0 (codes "contribution size") c.args.entries.now refl)
+    c.test_entries-3.ensures.passed

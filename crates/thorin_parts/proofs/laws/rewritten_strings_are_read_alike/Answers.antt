@@ -4,4 +4,6 @@ use Rattle.thorin_parts.proofs.laws.rewritten_strings_are_read_alike.Goals as go
 
 pub returns : goal.returns
 returns c = λ order encoding section bytes before rewritten after final table ok final_table kept i.
-    strings_again order encoding section bytes before rewritten after final (c.rewritten_offsets_name_the_same.ensures order encoding section bytes (length bytes) before rewritten after table ok) final_table kept i
+    strings_again order encoding section bytes before rewritten after final
+    (c.rewritten_offsets_name_the_same.ensures order encoding section bytes (length bytes)
+    before rewritten after table ok) final_table kept i

@@ -7,5 +7,7 @@ use Rattle.thorin_parts.proofs.relocations.found_relocations.Given as goal
 -- those found and those left have the meaning of all
 abbrev pub invariant-loop-raw : goal.invariant-loop-raw
 invariant-loop-raw l =
-    with_relocations (elf l.executable) (section l.target).name (relocations_left l.raw-iterator) l.found.entries
-    ≡ with_relocations (elf l.executable) (section l.target).name (relocations_of (file l.target) (section l.target).number) []
+    with_relocations (elf l.executable) (section l.target).name
+    (relocations_left l.raw-iterator) l.found.entries
+    ≡ with_relocations (elf l.executable) (section l.target).name (relocations_of (file l.target)
+    (section l.target).number) []

@@ -6,5 +6,6 @@ use Rattle.thorin_parts.proofs.relocations.listed.Goals as goal
 
 pub returns-clause-ascends : goal.returns-clause-ascends
 returns-clause-ascends c =
-    let all : map pair_of c.loop-offset.list.items ≡ c.args.found.now.entries = grind (arith, common_steps) in
+    let all : map pair_of c.loop-offset.list.items ≡ c.args.found.now.entries =
+    grind (arith, common_steps) in
     ascends-pairs c.loop-offset.list.items c.args.found.now.entries all c.len.ensures.ordered

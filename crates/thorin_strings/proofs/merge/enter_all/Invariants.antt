@@ -7,5 +7,6 @@ invariant-loop-place l = record {
   moved : IsPermutation (l.initial.positions ++ take l.place-index l.places) l.positions;
   sorted : AreSorted l.bytes l.positions;
   within : All (λ p. p ≤ length l.bytes) l.positions;
-  kept : (limit : ℕ) → All (λ p. limit ≤ p) l.places → filter (λ p. nat_lt p limit) l.positions ≡ filter (λ p. nat_lt p limit) l.initial.positions;
+  kept : (limit : ℕ) → All (λ p. limit ≤ p) l.places → filter (λ p. nat_lt p limit) l.positions ≡
+      filter (λ p. nat_lt p limit) l.initial.positions;
 }

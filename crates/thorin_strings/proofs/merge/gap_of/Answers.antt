@@ -8,7 +8,9 @@ pub loop-low-preserved-then-is_inside-2 : goal.loop-low-preserved-then-is_inside
 loop-low-preserved-then-is_inside-2 c = record {
   ordered = omega arith;
   within = omega arith;
-  before = before_more c.args.bytes.now c.args.positions.now c.args.string.now _ c.requires.sorted (omega arith) (compared c.args.bytes.now c.args.positions.now c.args.string.now _ _ _ _ c.get_near-position.ensures c.compare_at.ensures c.in-Less.is);
+  before = before_more c.args.bytes.now c.args.positions.now c.args.string.now _ c.requires.sorted
+      (omega arith) (compared c.args.bytes.now c.args.positions.now c.args.string.now _ _ _ _
+      c.get_near-position.ensures c.compare_at.ensures c.in-Less.is);
   behind = c.loop-low.invariant.behind;
 }
 
@@ -16,7 +18,9 @@ pub loop-low-preserved-else-is_inside-2 : goal.loop-low-preserved-else-is_inside
 loop-low-preserved-else-is_inside-2 c = record {
   ordered = omega arith;
   within = omega arith;
-  before = before_more c.args.bytes.now c.args.positions.now c.args.string.now _ c.requires.sorted (omega arith) (compared c.args.bytes.now c.args.positions.now c.args.string.now _ _ _ _ c.get_near-position.ensures c.compare_at.ensures c.in-Less.is);
+  before = before_more c.args.bytes.now c.args.positions.now c.args.string.now _ c.requires.sorted
+      (omega arith) (compared c.args.bytes.now c.args.positions.now c.args.string.now _ _ _ _
+      c.get_near-position.ensures c.compare_at.ensures c.in-Less.is);
   behind = c.loop-low.invariant.behind;
 }
 
@@ -25,5 +29,8 @@ loop-low-preserved c = record {
   ordered = omega arith;
   within = omega arith;
   before = c.loop-low.invariant.before;
-  behind = behind_more c.args.bytes.now c.args.positions.now c.args.string.now _ c.requires.sorted (turned c.args.string.now (string_from c.args.bytes.now (get_or c.args.positions.now c.if-is_inside.middle 0)) (compared c.args.bytes.now c.args.positions.now c.args.string.now _ _ _ _ c.get_near-position.ensures c.compare_at.ensures c.in-Greater.is));
+  behind = behind_more c.args.bytes.now c.args.positions.now c.args.string.now _ c.requires.sorted
+      (turned c.args.string.now (string_from c.args.bytes.now (get_or c.args.positions.now
+      c.if-is_inside.middle 0)) (compared c.args.bytes.now c.args.positions.now c.args.string.now _
+      _ _ _ c.get_near-position.ensures c.compare_at.ensures c.in-Greater.is));
 }

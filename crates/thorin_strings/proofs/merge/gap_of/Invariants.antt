@@ -7,8 +7,10 @@ abbrev pub invariant-loop-low : goal.invariant-loop-low
 invariant-loop-low l = record {
   ordered : l.low ≤ l.high;
   within : l.high ≤ length l.positions;
-  before : (k : ℕ) → k < l.low → IsBefore (string_from l.bytes (slice_index l.positions k)) l.string;
-  behind : (k : ℕ) → l.high ≤ k → k < length l.positions → IsBefore l.string (string_from l.bytes (slice_index l.positions k));
+  before : (k : ℕ) → k < l.low
+      → IsBefore (string_from l.bytes (slice_index l.positions k)) l.string;
+  behind : (k : ℕ) → l.high ≤ k → k < length l.positions
+      → IsBefore l.string (string_from l.bytes (slice_index l.positions k));
 }
 
 abbrev pub decreases-loop-low : goal.decreases-loop-low

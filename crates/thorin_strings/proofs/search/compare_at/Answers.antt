@@ -9,16 +9,21 @@ pub returns-then-rest-string : goal.returns-then-rest-string
 returns-then-rest-string c =
     let rest = take (length c.args.bytes.now - c.args.at) (drop c.args.at c.args.bytes.now) in
     c.cmp.ensures ∙ compared_short rest c.args.string.now c.requires.zero_free (omega arith)
-    ∙ ap (λ l. slice_cmp nat_cmp (front_string l) c.args.string.now) (drop_whole c.args.at c.args.bytes.now)
+    ∙ ap (λ l. slice_cmp nat_cmp (front_string l) c.args.string.now)
+    (drop_whole c.args.at c.args.bytes.now)
 
 pub returns-in-Equal : goal.returns-in-Equal
 returns-in-Equal c =
     let rest = take (length c.args.bytes.now - c.args.at) (drop c.args.at c.args.bytes.now) in
-    c.cmp-in-Equal.ensures ∙ equal_so_far rest c.args.string.now c.cmp-2.result c.requires.zero_free (omega arith) c.cmp-2.ensures c.in-Equal.is
-    ∙ ap (λ l. slice_cmp nat_cmp (front_string l) c.args.string.now) (drop_whole c.args.at c.args.bytes.now)
+    c.cmp-in-Equal.ensures ∙ equal_so_far rest c.args.string.now c.cmp-2.result c.requires.zero_free
+    (omega arith) c.cmp-2.ensures c.in-Equal.is
+    ∙ ap (λ l. slice_cmp nat_cmp (front_string l) c.args.string.now)
+    (drop_whole c.args.at c.args.bytes.now)
 
 pub returns-in_default : goal.returns-in_default
 returns-in_default c =
     let rest = take (length c.args.bytes.now - c.args.at) (drop c.args.at c.args.bytes.now) in
-    unequal rest c.args.string.now c.cmp-2.result c.requires.zero_free (omega arith) c.cmp-2.ensures c.in_default.not-Equal
-    ∙ ap (λ l. slice_cmp nat_cmp (front_string l) c.args.string.now) (drop_whole c.args.at c.args.bytes.now)
+    unequal rest c.args.string.now c.cmp-2.result c.requires.zero_free (omega arith) c.cmp-2.ensures
+    c.in_default.not-Equal
+    ∙ ap (λ l. slice_cmp nat_cmp (front_string l) c.args.string.now)
+    (drop_whole c.args.at c.args.bytes.now)

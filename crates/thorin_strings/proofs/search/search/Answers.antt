@@ -16,7 +16,9 @@ loop-low-preserved-in-Less c = record {
   ordered = omega arith;
   within = omega arith;
   halved = halved_more _ _ _ _ c.loop-low.invariant.halved (omega arith) (omega arith);
-  before = before_more c.args.bytes.now c.args.positions.now c.args.string.now _ c.requires.table.sorted (omega arith) (compared c.args.bytes.now c.args.positions.now c.args.string.now _ _ _ _ c.get_near-position.ensures c.compare_at.ensures c.in-Less.is);
+  before = before_more c.args.bytes.now c.args.positions.now c.args.string.now _
+      c.requires.table.sorted (omega arith) (compared c.args.bytes.now c.args.positions.now
+      c.args.string.now _ _ _ _ c.get_near-position.ensures c.compare_at.ensures c.in-Less.is);
   behind = c.loop-low.invariant.behind;
 }
 
@@ -26,11 +28,17 @@ loop-low-preserved c = record {
   within = omega arith;
   halved = halved_more _ _ _ _ c.loop-low.invariant.halved (omega arith) (omega arith);
   before = c.loop-low.invariant.before;
-  behind = behind_more c.args.bytes.now c.args.positions.now c.args.string.now _ c.requires.table.sorted (turned c.args.string.now (string_from c.args.bytes.now (get_or c.args.positions.now (c.loop-low.low + (c.loop-low.high - c.loop-low.low) / 2) 0)) (compared c.args.bytes.now c.args.positions.now c.args.string.now _ _ _ _ c.get_near-position.ensures c.compare_at.ensures c.in-Greater.is));
+  behind = behind_more c.args.bytes.now c.args.positions.now c.args.string.now _
+      c.requires.table.sorted (turned c.args.string.now (string_from c.args.bytes.now
+      (get_or c.args.positions.now (c.loop-low.low + (c.loop-low.high - c.loop-low.low) / 2) 0))
+      (compared c.args.bytes.now c.args.positions.now c.args.string.now _ _ _ _
+      c.get_near-position.ensures c.compare_at.ensures c.in-Greater.is));
 }
 
 pub compare_at-requires-clause-within : goal.compare_at-requires-clause-within
-compare_at-requires-clause-within c = rw c.get_near-position.ensures (positions_within _ _ c.requires.table _ 0 (omega arith))
+compare_at-requires-clause-within c = rw c.get_near-position.ensures
+    (positions_within _ _ c.requires.table _ 0 (omega arith))
 
 pub returns-in-Equal-clause-found : goal.returns-in-Equal-clause-found
-returns-in-Equal-clause-found c = known_position _ _ c.args.string.now _ _ c.requires.table (omega arith) c.get_near-position.ensures (tied _ _ (sym c.compare_at.ensures ∙ c.in-Equal.is))
+returns-in-Equal-clause-found c = known_position _ _ c.args.string.now _ _ c.requires.table
+    (omega arith) c.get_near-position.ensures (tied _ _ (sym c.compare_at.ensures ∙ c.in-Equal.is))

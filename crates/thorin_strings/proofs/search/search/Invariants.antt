@@ -9,8 +9,10 @@ invariant-loop-low l = record {
   ordered : l.low ≤ l.high;
   within : l.high ≤ length l.positions;
   halved : IsHalved (length l.positions) l.compared (l.high - l.low);
-  before : (k : ℕ) → k < l.low → IsBefore (string_from l.bytes (slice_index l.positions k)) l.string;
-  behind : (k : ℕ) → l.high ≤ k → k < length l.positions → IsBefore l.string (string_from l.bytes (slice_index l.positions k));
+  before : (k : ℕ) → k < l.low
+      → IsBefore (string_from l.bytes (slice_index l.positions k)) l.string;
+  behind : (k : ℕ) → l.high ≤ k → k < length l.positions
+      → IsBefore l.string (string_from l.bytes (slice_index l.positions k));
 }
 
 abbrev pub decreases-loop-low : goal.decreases-loop-low

@@ -7,61 +7,86 @@ pub returns-in_err-byte : goal.returns-in_err-byte
 returns-in_err-byte g c =
     let p = err_from_is_err_and c.from_residual.result c.from_residual.ensures.1 in
     let far = c.loop.invariant.1 in
-    rw (p.1, p.2) (uleb_fails _ _ _ _ _ _ far (omega arith) c.in_err-byte.ensures.0, ap g.Self.Reader.input c.loop.invariant.0)
+    rw (p.1, p.2) (
+      uleb_fails _ _ _ _ _ _ far (omega arith) c.in_err-byte.ensures.0,
+      ap
+          g.Self.Reader.input c.loop.invariant.0,
+    )
 
 pub overflow_mul-result : goal.overflow_mul-result
 overflow_mul-result g c =
     let far = c.loop.invariant.1 in
-    let m = bits_fit c.loop.value c.loop.scale c.from.result far.below (small _ _ far.scaled c.loop-test.true) (omega arith) in omega (arith, m)
+    let m = bits_fit c.loop.value c.loop.scale c.from.result far.below
+    (small _ _ far.scaled c.loop-test.true) (omega arith) in omega (arith, m)
 
 pub overflow_add-result : goal.overflow_add-result
 overflow_add-result g c =
     let far = c.loop.invariant.1 in
-    let m = bits_fit c.loop.value c.loop.scale c.from.result far.below (small _ _ far.scaled c.loop-test.true) (omega arith) in omega (arith, m)
+    let m = bits_fit c.loop.value c.loop.scale c.from.result far.below
+    (small _ _ far.scaled c.loop-test.true) (omega arith) in omega (arith, m)
 
 pub returns-then-byte-lt128 : goal.returns-then-byte-lt128
 returns-then-byte-lt128 g c =
     let far = c.loop.invariant.1 in
-    let m = bits_fit c.loop.value c.loop.scale c.in_ok-byte.byte far.below (small _ _ far.scaled c.loop-test.true) (omega arith) in
-    rw c.from.ensures (uleb_ends _ _ _ _ _ _ _ far (omega arith) c.in_ok-byte.ensures (omega arith) (omega (arith, m)))
+    let m = bits_fit c.loop.value c.loop.scale c.in_ok-byte.byte far.below
+    (small _ _ far.scaled c.loop-test.true) (omega arith) in
+    rw c.from.ensures (uleb_ends _ _ _ _ _ _ _ far (omega arith) c.in_ok-byte.ensures (omega arith)
+    (omega (arith, m)))
 
 pub overflow_mul-value : goal.overflow_mul-value
 overflow_mul-value g c =
     let far = c.loop.invariant.1 in
-    let m = bits_fit c.loop.value c.loop.scale c.from-in-loop.result far.below (small _ _ far.scaled c.loop-test.true) (omega arith) in omega (arith, m)
+    let m = bits_fit c.loop.value c.loop.scale c.from-in-loop.result far.below
+    (small _ _ far.scaled c.loop-test.true) (omega arith) in omega (arith, m)
 
 pub overflow_add-value : goal.overflow_add-value
 overflow_add-value g c =
     let far = c.loop.invariant.1 in
-    let m = bits_fit c.loop.value c.loop.scale c.from-in-loop.result far.below (small _ _ far.scaled c.loop-test.true) (omega arith) in omega (arith, m)
+    let m = bits_fit c.loop.value c.loop.scale c.from-in-loop.result far.below
+    (small _ _ far.scaled c.loop-test.true) (omega arith) in omega (arith, m)
 
 pub overflow_mul-scale : goal.overflow_mul-scale
 overflow_mul-scale g c =
     let m = small _ _ c.loop.invariant.1.scaled c.loop-test.true in omega (arith, m)
 
 pub loop-preserved : goal.loop-preserved
-loop-preserved g c = (c.loop.invariant.0, rw c.from-in-loop.ensures (more _ _ _ _ _ _ _ c.loop.invariant.1 c.loop-test.true c.in_ok-byte.ensures (omega arith) (omega arith)))
+loop-preserved g c = (
+  c.loop.invariant.0,
+  rw c.from-in-loop.ensures
+      (more _ _ _ _ _ _ _ c.loop.invariant.1 c.loop-test.true c.in_ok-byte.ensures
+      (omega arith) (omega arith)),
+)
 
 pub returns-in_err-last : goal.returns-in_err-last
 returns-in_err-last g c =
-    let p = err_from_is_err_and c.from_residual-in_err-last.result c.from_residual-in_err-last.ensures.1 in
-    rw (p.1, p.2) (uleb_fails _ _ _ _ _ _ c.loop.invariant.1 (omega arith) c.in_err-last.ensures.0, ap g.Self.Reader.input c.loop.invariant.0)
+    let p = err_from_is_err_and c.from_residual-in_err-last.result
+    c.from_residual-in_err-last.ensures.1 in
+    rw (p.1, p.2) (
+      uleb_fails _ _ _ _ _ _ c.loop.invariant.1 (omega arith) c.in_err-last.ensures.0,
+      ap g.Self.Reader.input c.loop.invariant.0,
+    )
 
 pub returns-then-last-gt1 : goal.returns-then-last-gt1
 returns-then-last-gt1 g c =
     let nine : c.loop.counter ≡ 9 = omega arith in
-    let far = rw nine at c.loop.invariant.1 in
-    (uleb_big _ _ _ _ _ _ far c.in_ok-last.ensures c.if-last-gt1.true, ap g.Self.Reader.input c.loop.invariant.0)
+    let far = rw nine at c.loop.invariant.1 in (
+      uleb_big _ _ _ _ _ _ far c.in_ok-last.ensures c.if-last-gt1.true,
+      ap g.Self.Reader.input
+          c.loop.invariant.0,
+    )
 
 pub overflow_add-result-2 : goal.overflow_add-result-2
 overflow_add-result-2 g c =
     let nine : c.loop.counter ≡ 9 = omega arith in
     let far = rw nine at c.loop.invariant.1 in
-    let m = last_fits c.loop.value c.loop.scale c.from-2.result far.below far.scaled (omega arith) in omega (arith, m)
+    let m = last_fits c.loop.value c.loop.scale c.from-2.result far.below far.scaled
+    (omega arith) in omega (arith, m)
 
 pub returns : goal.returns
 returns g c =
     let nine : c.loop.counter ≡ 9 = omega arith in
     let far = rw nine at c.loop.invariant.1 in
-    let m = last_fits c.loop.value c.loop.scale c.in_ok-last.last far.below far.scaled (omega arith) in
-    rw c.from-2.ensures (uleb_ends _ _ _ _ _ _ _ far (omega arith) c.in_ok-last.ensures (omega arith) m)
+    let m = last_fits c.loop.value c.loop.scale c.in_ok-last.last far.below far.scaled
+    (omega arith) in
+    rw c.from-2.ensures (uleb_ends _ _ _ _ _ _ _ far (omega arith) c.in_ok-last.ensures
+    (omega arith) m)

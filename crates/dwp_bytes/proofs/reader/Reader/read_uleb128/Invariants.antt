@@ -3,4 +3,5 @@ use Rattle.dwp_bytes.proofs.Lebs.{SoFar}
 use Rattle.dwp_bytes.proofs.reader.Reader.read_uleb128.Given as goal
 
 abbrev pub invariant-loop : goal.invariant-loop
-invariant-loop g l = (l.self ≡ l.fn.self) × SoFar (g.Self.Reader.input l.fn.self) (g.Self.Reader.input l.at) l.counter l.value l.scale
+invariant-loop g l = (l.self ≡ l.fn.self) × SoFar (g.Self.Reader.input l.fn.self)
+    (g.Self.Reader.input l.at) l.counter l.value l.scale

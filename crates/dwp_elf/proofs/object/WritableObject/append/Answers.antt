@@ -5,5 +5,7 @@ use Rattle.dwp_elf.proofs.object.WritableObject.append.Goals as goal
 
 pub invariant_of-self-2 : goal.invariant_of-self-2
 invariant_of-self-2 c =
-    let ok : is_ok c.append_to.result ≡ true = sym c.map_err.ensures.variant ∙ ap is_ok c.in_ok-place.was in
-    rw (at_ok c.append_to.result _ ok c.append_to.ensures.contents) (KindsDiffer-appended _ _ _ c.self.invariant)
+    let ok : is_ok c.append_to.result ≡ true = sym c.map_err.ensures.variant ∙ ap is_ok
+    c.in_ok-place.was in
+    rw (at_ok c.append_to.result _ ok c.append_to.ensures.contents) (KindsDiffer-appended _ _ _
+    c.self.invariant)

@@ -15,14 +15,17 @@ places_of-requires c =
 pub returns-clause-fits : goal.returns-clause-fits
 returns-clause-fits c =
     rw (c.ok_or.ensures.value, ← c.self.view_is)
-    (places-fits (object_of c.self.inside) c.places_of.result _ (rw c.deref.ensures.value at c.places_of.ensures))
+    (places-fits (object_of c.self.inside) c.places_of.result _ (rw c.deref.ensures.value at
+    c.places_of.ensures))
 
 pub returns-clause-refused : goal.returns-clause-refused
 returns-clause-refused c =
     rw (c.ok_or.ensures.value, ← c.self.view_is)
-    (places-refused (object_of c.self.inside) c.places_of.result _ (rw c.deref.ensures.value at c.places_of.ensures))
+    (places-refused (object_of c.self.inside) c.places_of.result _ (rw c.deref.ensures.value at
+    c.places_of.ensures))
 
 pub returns-clause-read_back : goal.returns-clause-read_back
 returns-clause-read_back c =
     rw (c.ok_or.ensures.value, ← c.self.view_is)
-    (places-back (object_of c.self.inside) c.places_of.result _ (omega arith) c.self.invariant (rw c.deref.ensures.value at c.places_of.ensures))
+    (places-back (object_of c.self.inside) c.places_of.result _ (omega arith) c.self.invariant
+    (rw c.deref.ensures.value at c.places_of.ensures))

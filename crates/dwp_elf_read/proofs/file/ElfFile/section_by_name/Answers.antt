@@ -9,15 +9,18 @@ unfolding elf
 returns-then-is_called-clause-found c =
     let here = c.section_at-section.ensures.value in
     ap Some here
-    ∙ sym (find-hit (is_named c.args.name.now) c.args.self.now c.loop-i.i c.loop-i-test.true (ap (is_named c.args.name.now) (sym here) ∙ sym c.is_called.ensures ∙ c.if-is_called.true))
+    ∙ sym (find-hit (is_named c.args.name.now) c.args.self.now c.loop-i.i c.loop-i-test.true
+    (ap (is_named c.args.name.now) (sym here) ∙ sym c.is_called.ensures ∙ c.if-is_called.true))
     ∙ c.loop-i.invariant
 
 pub loop-i-preserved : goal.loop-i-preserved
 loop-i-preserved c =
     let here = c.section_at-section.ensures.value in
-    sym (find-miss (is_named c.args.name.now) c.args.self.now c.loop-i.i c.loop-i-test.true (ap (is_named c.args.name.now) (sym here) ∙ sym c.is_called.ensures ∙ c.if-is_called.false))
+    sym (find-miss (is_named c.args.name.now) c.args.self.now c.loop-i.i c.loop-i-test.true
+    (ap (is_named c.args.name.now) (sym here) ∙ sym c.is_called.ensures ∙ c.if-is_called.false))
     ∙ c.loop-i.invariant
 
 pub returns-clause-found : goal.returns-clause-found
 unfolding elf
-returns-clause-found c = sym (find-end (is_named c.args.name.now) c.args.self.now c.loop-i.i c.loop-i-test.false) ∙ c.loop-i.invariant
+returns-clause-found c = sym (find-end (is_named c.args.name.now) c.args.self.now c.loop-i.i
+    c.loop-i-test.false) ∙ c.loop-i.invariant

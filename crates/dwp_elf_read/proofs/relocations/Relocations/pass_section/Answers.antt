@@ -9,20 +9,24 @@ pub returns-then-not-names-clause-ok : goal.returns-then-not-names-clause-ok
 unfolding relocations_left
 returns-then-not-names-clause-ok c =
     let it = c.args.self.now in
-    ap (λ (front : List (Result RawRelocation ReadError)). front ++ others it (it.section + 1)) c.requires.table
-    ∙ sym (left-passed it _ c.requires.table c.requires.next c.section_at-section.ensures.value (sym c.names.ensures ∙ c.if-not-names.true))
+    ap (λ (front : List (Result RawRelocation ReadError)). front ++ others it (it.section + 1))
+    c.requires.table
+    ∙ sym (left-passed it _ c.requires.table c.requires.next c.section_at-section.ensures.value
+    (sym c.names.ensures ∙ c.if-not-names.true))
 
 pub returns-in-Ok-clause-ok : goal.returns-in-Ok-clause-ok
 unfolding relocations_left
 returns-in-Ok-clause-ok c =
     let it = c.args.self.now in
     c.in-Ok.ensures (others it (it.section + 1))
-    ∙ sym (left-entered it _ c.requires.table c.requires.next c.section_at-section.ensures.value (sym c.names.ensures ∙ c.if-not-names.false))
+    ∙ sym (left-entered it _ c.requires.table c.requires.next c.section_at-section.ensures.value
+    (sym c.names.ensures ∙ c.if-not-names.false))
 
 pub returns-in-Err-clause-fault : goal.returns-in-Err-clause-fault
 returns-in-Err-clause-fault c =
     let it = c.args.self.now in
-    left-entered it _ c.requires.table c.requires.next c.section_at-section.ensures.value (sym c.names.ensures ∙ c.if-not-names.false)
+    left-entered it _ c.requires.table c.requires.next c.section_at-section.ensures.value
+    (sym c.names.ensures ∙ c.if-not-names.false)
     ∙ sym (c.in-Err.ensures (others it (it.section + 1)))
 
 pub returns-in-Err-clause-end : goal.returns-in-Err-clause-end

@@ -5,11 +5,13 @@ use Rattle.dwp_elf_read.specs.View.{relocations_left}
 use Rattle.dwp_elf_read.proofs.Places.{others, left-done, left-same}
 use Rattle.dwp_elf_read.proofs.relocations.RelocationsIterator.next.Goals as goal
 
-gives-entry : (c : goal.In-Some) → relocations_left c.args.self.now ≡ Ok c.in-Some.entry ∷ relocations_left (record c.loop-entry.self { table = c.next_entry.new.self })
+gives-entry : (c : goal.In-Some) → relocations_left c.args.self.now ≡ Ok c.in-Some.entry ∷
+    relocations_left (record c.loop-entry.self { table = c.next_entry.new.self })
 unfolding relocations_left
 gives-entry c =
     let it = c.loop-entry.self in
-    sym c.loop-entry.invariant ∙ ap (λ (front : List (Result RawRelocation ReadError)). front ++ others it it.section) c.in-Some.ensures
+    sym c.loop-entry.invariant ∙ ap (λ (front : List (Result RawRelocation ReadError)).
+    front ++ others it it.section) c.in-Some.ensures
 
 pub returns-in-Some-clause-steps : goal.returns-in-Some-clause-steps
 returns-in-Some-clause-steps c = gives-entry c
@@ -27,9 +29,11 @@ returns-then-self-clause-steps c =
       left-done (record it { table = c.next_entry.new.self }) ended.1 c.if-self.true,
     )
 
-gives-fault : (c : goal.In-Err) → relocations_left c.args.self.now ≡ Err c.in-Err.fault ∷ relocations_left c.pass_section.new.self
+gives-fault : (c : goal.In-Err) → relocations_left c.args.self.now ≡ Err c.in-Err.fault ∷
+    relocations_left c.pass_section.new.self
 gives-fault c =
-    let fault : List (Result RawRelocation ReadError) → List (Result RawRelocation ReadError) = λ rest. Err c.in-Err.fault ∷ rest in
+    let fault : List (Result RawRelocation ReadError) → List (Result RawRelocation ReadError) =
+    λ rest. Err c.in-Err.fault ∷ rest in
     let ended = c.in_default.ensures in
     sym c.loop-entry.invariant
     ∙ left-same c.loop-entry.self c.next_entry.new.self ended.0 ended.1

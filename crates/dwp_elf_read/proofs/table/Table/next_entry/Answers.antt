@@ -13,6 +13,10 @@ pub returns : goal.returns
 unfolding entries_left
 returns c =
     let t = c.args.self.now in
-    let rest : List (Result RawRelocation ReadError) = entries_left (record t { next = t.next + 1 }) in
-    let here : c.entry_at-entry.result ≡ relocation_at t.entries.class t.entries.order t.explicit t.link t.entries.bytes.now (t.next * relocation_size t.entries.class t.explicit) = c.entry_at-entry.ensures ∙ ap (λ (n : ℕ). relocation_at t.entries.class t.entries.order t.explicit t.link t.entries.bytes.now (t.next * n)) c.size_of_entry.ensures in
+    let rest : List (Result RawRelocation ReadError) =
+    entries_left (record t { next = t.next + 1 }) in
+    let here : c.entry_at-entry.result ≡ relocation_at t.entries.class t.entries.order t.explicit
+    t.link t.entries.bytes.now (t.next * relocation_size t.entries.class t.explicit) =
+    c.entry_at-entry.ensures ∙ ap (λ (n : ℕ). relocation_at t.entries.class t.entries.order
+    t.explicit t.link t.entries.bytes.now (t.next * n)) c.size_of_entry.ensures in
     entries-more t c.if-self.false ∙ ap (λ (r : RawRelocation). Ok r ∷ rest) (sym here)

@@ -12,7 +12,12 @@ use Rattle.dwp_index.proofs.package.PackageFile.units.Goals as goal
 pub returns-clause-once : goal.returns-clause-once
 returns-clause-once c = λ ids signatures a b.
     let pack = c.args.self.now in
-    let compilations : option_copied c.as_ref.result ≡ pack.compilations = c.as_ref.ensures.value ∙ ap (λ (p : Package). p.compilations) c.self.view_is in
-    let types : option_copied c.as_ref-2.result ≡ pack.types = c.as_ref-2.ensures.value ∙ ap (λ (p : Package). p.types) c.self.view_is in
-    subst (λ (o : Option Index). IsPermutation (entries_of ids signatures) (entries_from o (option_copied c.as_ref-2.result) 0 0)) (sym compilations)
-    (subst (λ (o : Option Index). IsPermutation (entries_of ids signatures) (entries_from pack.compilations o 0 0)) (sym types) (entries_once pack.compilations pack.types ids signatures a b))
+    let compilations : option_copied c.as_ref.result ≡ pack.compilations = c.as_ref.ensures.value ∙
+    ap (λ (p : Package). p.compilations) c.self.view_is in
+    let types : option_copied c.as_ref-2.result ≡ pack.types = c.as_ref-2.ensures.value ∙ ap
+    (λ (p : Package). p.types) c.self.view_is in
+    subst (λ (o : Option Index). IsPermutation (entries_of ids signatures)
+    (entries_from o (option_copied c.as_ref-2.result) 0 0)) (sym compilations)
+    (subst (λ (o : Option Index). IsPermutation (entries_of ids signatures)
+    (entries_from pack.compilations o 0 0)) (sym types) (entries_once pack.compilations
+    pack.types ids signatures a b))

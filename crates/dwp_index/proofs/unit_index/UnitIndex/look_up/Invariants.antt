@@ -7,5 +7,6 @@ abbrev pub invariant-loop-looked : goal.invariant-loop-looked
 invariant-loop-looked l = record {
   at_place : l.at ≡ place (length l.self.rows) l.identifier l.looked;
   within : l.at < length l.self.rows;
-  rest : first_end l.self.signatures l.self.rows l.identifier ≡ end_from l.self.signatures l.self.rows l.identifier l.looked;
+  rest : first_end l.self.signatures l.self.rows l.identifier ≡ end_from l.self.signatures
+      l.self.rows l.identifier l.looked;
 }

@@ -1,7 +1,8 @@
 use Rattle.std.proofs.Common.{◌≡◌, rules, Result, Ok, Err, false, true≢false}
 use Rattle.std.specs.Result.{OnErr, is_err}
 use Rattle.thorin_builder.specs.StateView.{in_progress_of}
-use Rattle.thorin_builder.proofs.in_progress.InProgressDwarfPackage.add.Goals.{then-is_err, else-is_err}
+use Rattle.thorin_builder.proofs.in_progress.InProgressDwarfPackage.add.Goals.{then-is_err}
+use Rattle.thorin_builder.proofs.in_progress.InProgressDwarfPackage.add.Goals.{else-is_err}
 use Rattle.thorin_builder.proofs.in_progress.InProgressDwarfPackage.add.Goals as goal
 
 any_result : {T E : Type 0} (P : Type 0) (r : Result T E) → P → OnErr r P
@@ -16,6 +17,8 @@ pub returns-clause-err : goal.returns-clause-err
 returns-clause-err c = elim c.if-is_err.branch [
   | then-is_err w ↦
       let p = in_progress_of c.args.self.now in
-      any_result _ c.try_add-added.result (rw w.self-is (w.restore.ensures p c.try_add-added.ensures.extends c.in_ok-mark.ensures.mark))
+      any_result _ c.try_add-added.result
+      (rw w.self-is (w.restore.ensures p c.try_add-added.ensures.extends
+      c.in_ok-mark.ensures.mark))
   | else-is_err w ↦ no_err _ c.try_add-added.result (search (rules, c.is_err.ensures, w.if-is_err))
 ]

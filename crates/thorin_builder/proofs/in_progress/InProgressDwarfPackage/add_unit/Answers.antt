@@ -15,6 +15,7 @@ returns-clause-extends c before h =
     record {
       file = c.put.ensures.grown before.file h.file;
       strings = h.strings;
-      rows = rw (c.push.ensures.items, c.in_ok-reserve.ensures.items) (front-either before.rows c.args.self.now.rows.items _ _ h.rows);
+      rows = rw (c.push.ensures.items, c.in_ok-reserve.ensures.items) (front-either before.rows
+          c.args.self.now.rows.items _ _ h.rows);
       differing = h.differing;
     }

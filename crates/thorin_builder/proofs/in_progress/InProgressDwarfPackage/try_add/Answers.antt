@@ -12,65 +12,107 @@ use Rattle.thorin_builder.proofs.Grown.{is_grown-refl}
 use Rattle.thorin_builder.proofs.Extending.{extends-with, front-append, with_source-is, with_all-is}
 use Rattle.thorin_builder.proofs.in_progress.InProgressDwarfPackage.try_add.Goals as goal
 
-signatures : (a b n : List DebugTypeSignature) → n ≡ a ++ b → map (λ (s : DebugTypeSignature). s.0) n ≡ map (λ (s : DebugTypeSignature). s.0) a ++ map (λ (s : DebugTypeSignature). s.0) b
-signatures a b n h = ap (map (λ (s : DebugTypeSignature). s.0)) h ∙ map-append (λ (s : DebugTypeSignature). s.0) a b
+signatures : (a b n : List DebugTypeSignature) → n ≡ a ++ b → map (λ (s : DebugTypeSignature). s.0)
+    n ≡ map (λ (s : DebugTypeSignature). s.0) a ++ map (λ (s : DebugTypeSignature). s.0) b
+signatures a b n h = ap (map (λ (s : DebugTypeSignature). s.0)) h ∙ map-append
+    (λ (s : DebugTypeSignature). s.0) a b
 
 pub returns-in_err-parts-clause-extends : goal.returns-in_err-parts-clause-extends
 returns-in_err-parts-clause-extends c =
     let p = in_progress_of c.args.self.now in
-    extends-with p p p.file c.parts_of.new.strings p.differing (is_grown-refl p.file) c.parts_of.ensures.kept (take-length p.differing) (take-length p.rows)
+    extends-with p p p.file c.parts_of.new.strings p.differing (is_grown-refl p.file)
+    c.parts_of.ensures.kept (take-length p.differing) (take-length p.rows)
 
 pub returns-then-not-source-clause-extends : goal.returns-then-not-source-clause-extends
 returns-then-not-source-clause-extends c =
     let p = in_progress_of c.args.self.now in
-    extends-with p p p.file c.parts_of.new.strings p.differing (is_grown-refl p.file) c.parts_of.ensures.kept (take-length p.differing) (take-length p.rows)
+    extends-with p p p.file c.parts_of.new.strings p.differing (is_grown-refl p.file)
+    c.parts_of.ensures.kept (take-length p.differing) (take-length p.rows)
 
 pub returns-in_err-whole-clause-extends : goal.returns-in_err-whole-clause-extends
 returns-in_err-whole-clause-extends c =
     let p = in_progress_of c.args.self.now in
-    extends-with p p p.file c.parts_of.new.strings p.differing (is_grown-refl p.file) c.parts_of.ensures.kept (take-length p.differing) (take-length p.rows)
+    extends-with p p p.file c.parts_of.new.strings p.differing (is_grown-refl p.file)
+    c.parts_of.ensures.kept (take-length p.differing) (take-length p.rows)
 
 pub returns-in_err-new-clause-extends : goal.returns-in_err-new-clause-extends
 returns-in_err-new-clause-extends c =
     let p = in_progress_of c.args.self.now in
-    extends-with p p p.file c.parts_of.new.strings p.differing (is_grown-refl p.file) c.parts_of.ensures.kept (take-length p.differing) (take-length p.rows)
+    extends-with p p p.file c.parts_of.new.strings p.differing (is_grown-refl p.file)
+    c.parts_of.ensures.kept (take-length p.differing) (take-length p.rows)
 
 pub returns-in_err-put_parts-clause-extends : goal.returns-in_err-put_parts-clause-extends
 returns-in_err-put_parts-clause-extends c =
     let p = in_progress_of c.args.self.now in
-    extends-with p p c.put_parts.new.file c.parts_of.new.strings p.differing (c.put_parts.ensures.grown p.file (is_grown-refl p.file)) c.parts_of.ensures.kept (take-length p.differing) (take-length p.rows)
+    extends-with p p c.put_parts.new.file c.parts_of.new.strings p.differing
+    (c.put_parts.ensures.grown p.file (is_grown-refl p.file)) c.parts_of.ensures.kept
+    (take-length p.differing) (take-length p.rows)
 
-pub returns-in_err-extend_from_slice-clause-extends : goal.returns-in_err-extend_from_slice-clause-extends
+pub returns-in_err-extend_from_slice-clause-extends :
+    goal.returns-in_err-extend_from_slice-clause-extends
 returns-in_err-extend_from_slice-clause-extends c =
     let p = in_progress_of c.args.self.now in
-    let same : c.extend_from_slice.new.self.items ≡ c.args.self.now.differing.items = search (rules, c.in_err-extend_from_slice.ensures.items) in
-    rw same (extends-with p p c.put_parts.new.file c.parts_of.new.strings p.differing (c.put_parts.ensures.grown p.file (is_grown-refl p.file)) c.parts_of.ensures.kept (take-length p.differing) (take-length p.rows))
+    let same : c.extend_from_slice.new.self.items ≡ c.args.self.now.differing.items =
+    search (rules, c.in_err-extend_from_slice.ensures.items) in
+    rw same (extends-with p p c.put_parts.new.file c.parts_of.new.strings p.differing
+    (c.put_parts.ensures.grown p.file (is_grown-refl p.file)) c.parts_of.ensures.kept
+    (take-length p.differing) (take-length p.rows))
 
 pub returns-in_err-add_units-clause-extends : goal.returns-in_err-add_units-clause-extends
 returns-in_err-add_units-clause-extends c =
     let p = in_progress_of c.args.self.now in
-    let more : map (λ (s : DebugTypeSignature). s.0) c.extend_from_slice.new.self.items ≡ p.differing ++ map (λ (s : DebugTypeSignature). s.0) c.in_ok-new.new.differing.items =
-    signatures c.args.self.now.differing.items c.in_ok-new.new.differing.items c.extend_from_slice.new.self.items (search (rules, c.in_ok-extend_from_slice.ensures.items, c.deref.ensures)) in
-    c.add_units.ensures.extends p (extends-with p p c.put_parts.new.file c.parts_of.new.strings _ (c.put_parts.ensures.grown p.file (is_grown-refl p.file)) c.parts_of.ensures.kept (rw more (front-append p.differing p.differing _ (take-length p.differing))) (take-length p.rows))
+    let more : map (λ (s : DebugTypeSignature). s.0) c.extend_from_slice.new.self.items ≡
+    p.differing ++ map (λ (s : DebugTypeSignature). s.0) c.in_ok-new.new.differing.items =
+    signatures c.args.self.now.differing.items c.in_ok-new.new.differing.items
+    c.extend_from_slice.new.self.items (search (
+      rules,
+      c.in_ok-extend_from_slice.ensures.items,
+      c.deref.ensures,
+    )) in
+    c.add_units.ensures.extends p (extends-with p p c.put_parts.new.file c.parts_of.new.strings _
+    (c.put_parts.ensures.grown p.file (is_grown-refl p.file)) c.parts_of.ensures.kept
+    (rw more (front-append p.differing p.differing _ (take-length p.differing)))
+    (take-length p.rows))
 
 pub returns-clause-extends : goal.returns-clause-extends
 returns-clause-extends c =
     let p = in_progress_of c.args.self.now in
-    let more : map (λ (s : DebugTypeSignature). s.0) c.extend_from_slice.new.self.items ≡ p.differing ++ map (λ (s : DebugTypeSignature). s.0) c.in_ok-new.new.differing.items =
-    signatures c.args.self.now.differing.items c.in_ok-new.new.differing.items c.extend_from_slice.new.self.items (search (rules, c.in_ok-extend_from_slice.ensures.items, c.deref.ensures)) in
-    c.add_units.ensures.extends p (extends-with p p c.put_parts.new.file c.parts_of.new.strings _ (c.put_parts.ensures.grown p.file (is_grown-refl p.file)) c.parts_of.ensures.kept (rw more (front-append p.differing p.differing _ (take-length p.differing))) (take-length p.rows))
+    let more : map (λ (s : DebugTypeSignature). s.0) c.extend_from_slice.new.self.items ≡
+    p.differing ++ map (λ (s : DebugTypeSignature). s.0) c.in_ok-new.new.differing.items =
+    signatures c.args.self.now.differing.items c.in_ok-new.new.differing.items
+    c.extend_from_slice.new.self.items (search (
+      rules,
+      c.in_ok-extend_from_slice.ensures.items,
+      c.deref.ensures,
+    )) in
+    c.add_units.ensures.extends p (extends-with p p c.put_parts.new.file c.parts_of.new.strings _
+    (c.put_parts.ensures.grown p.file (is_grown-refl p.file)) c.parts_of.ensures.kept
+    (rw more (front-append p.differing p.differing _ (take-length p.differing)))
+    (take-length p.rows))
 
 pub returns-clause-meaning : goal.returns-clause-meaning
 returns-clause-meaning c =
     let p = in_progress_of c.args.self.now in
     let source = view.source c.args.source.now in
-    let parts : Contents × List (List ℕ) = (map view.part c.in_ok-parts.parts.items, c.parts_of.new.strings) in
+    let parts : Contents × List (List ℕ) =
+    (map view.part c.in_ok-parts.parts.items, c.parts_of.new.strings) in
     let new = new_of c.in_ok-new.new in
-    let more : map (λ (s : DebugTypeSignature). s.0) c.extend_from_slice.new.self.items ≡ p.differing ++ new.differing =
-    signatures c.args.self.now.differing.items c.in_ok-new.new.differing.items c.extend_from_slice.new.self.items (search (rules, c.in_ok-extend_from_slice.ensures.items, c.deref.ensures)) in
-    let file : c.put_parts.new.file ≡ record p.file { contents = with_parts parts.0 p.file.contents } = search (rules, c.in_ok-put_parts.ensures.contents) in
-    let read : new_units (adding source p parts.0) ≡ Ok new = search (rules, c.in_ok-new.ensures, c.in_ok-whole.ensures.row) in
-    let steps = with_source-is source p parts new c.in_ok-parts.ensures.meaning (search (rules)) read in
+    let more : map (λ (s : DebugTypeSignature). s.0) c.extend_from_slice.new.self.items ≡
+    p.differing ++ new.differing =
+    signatures c.args.self.now.differing.items c.in_ok-new.new.differing.items
+    c.extend_from_slice.new.self.items (search (
+      rules,
+      c.in_ok-extend_from_slice.ensures.items,
+      c.deref.ensures,
+    )) in
+    let file : c.put_parts.new.file ≡ record p.file {
+      contents =
+          with_parts parts.0 p.file.contents;
+    } = search (rules, c.in_ok-put_parts.ensures.contents) in
+    let read : new_units (adding source p parts.0) ≡ Ok new =
+    search (rules, c.in_ok-new.ensures, c.in_ok-whole.ensures.row) in
+    let steps = with_source-is source p parts new c.in_ok-parts.ensures.meaning
+    (search (rules)) read in
     let all = with_all-is p parts new _ (in_progress_of c.add_units.new.self)
     (λ i. record p { file = file i; strings = c.parts_of.new.strings; differing = more i })
     c.in_ok-add_units.ensures.meaning in

@@ -13,10 +13,21 @@ returns-in-Ok-clause-taken g c = record {
 pub returns-in-Err-Io-clause-taken : goal.returns-in-Err-Io-clause-taken
 returns-in-Err-Io-clause-taken g c = record {
   read = Err (Io c.in-Err-Io.cause);
-  within = search (rules, c.in-Err-Io.ensures.offered, c.in-Err-Io.cause-is, c.in-Err-Io.field-0-is);
+  within = search (
+    rules,
+    c.in-Err-Io.ensures.offered,
+    c.in-Err-Io.cause-is,
+    c.in-Err-Io.field-0-is,
+  );
   accepted = [];
   taken = (search (rules, c.in-Err-Io.cause-is, c.in-Err-Io.field-0-is), refl, refl);
 }
 
 pub returns-clause-taken : goal.returns-clause-taken
-returns-clause-taken g c = record { read = Err Memory; within = tt; accepted = []; taken = (refl, refl, refl) }
+returns-clause-taken g c = record {
+  read = Err Memory;
+  within = tt;
+  accepted = [];
+  taken =
+      (refl, refl, refl);
+}

@@ -8,7 +8,15 @@ returns-in-Ok-clause-taken g c = record {
   read = Ok c.in-Ok.bytes.now;
   within = c.in-Ok.ensures.offered;
   accepted = accepted_of c.add_object_bytes.result c.in-Ok.bytes.now;
-  taken = (record { meaning = c.add_object_bytes.ensures.meaning; joins = c.add_object_bytes.ensures.joins; unchanged = c.add_object_bytes.ensures.err }, refl);
+  taken = (
+    record {
+      meaning = c.add_object_bytes.ensures.meaning;
+      joins =
+          c.add_object_bytes.ensures.joins;
+      unchanged = c.add_object_bytes.ensures.err;
+    },
+    refl,
+  );
 }
 
 pub returns-in-Err-Io-clause-taken : goal.returns-in-Err-Io-clause-taken
@@ -20,4 +28,9 @@ returns-in-Err-Io-clause-taken g c = record {
 }
 
 pub returns-in-Err-Memory-clause-taken : goal.returns-in-Err-Memory-clause-taken
-returns-in-Err-Memory-clause-taken g c = record { read = Err Memory; within = tt; accepted = []; taken = (refl, refl, refl) }
+returns-in-Err-Memory-clause-taken g c = record {
+  read = Err Memory;
+  within = tt;
+  accepted = [];
+  taken = (refl, refl, refl);
+}

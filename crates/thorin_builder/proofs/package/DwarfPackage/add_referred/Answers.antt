@@ -10,7 +10,15 @@ returns-in-Ok-clause-taken g c = record {
   read = Ok c.in-Ok.bytes.now;
   within = c.in-Ok.ensures.offered;
   accepted = accepted_of c.add_object_bytes.result c.in-Ok.bytes.now;
-  taken = (record { meaning = c.add_object_bytes.ensures.meaning; joins = c.add_object_bytes.ensures.joins; unchanged = c.add_object_bytes.ensures.err }, refl);
+  taken = (
+    record {
+      meaning = c.add_object_bytes.ensures.meaning;
+      joins =
+          c.add_object_bytes.ensures.joins;
+      unchanged = c.add_object_bytes.ensures.err;
+    },
+    refl,
+  );
 }
 
 pub returns-in-Skip-clause-taken : goal.returns-in-Skip-clause-taken
@@ -18,7 +26,12 @@ returns-in-Skip-clause-taken g c = record {
   read = Err (Io c.in-Err-Io.e);
   within = search (rules, c.in-Err-Io.ensures.offered, c.in-Err-Io.e-is, c.in-Err-Io.field-0-is);
   accepted = [];
-  taken = (passed-over c.args.missing c.in-Err-Io.e (Ok tt) (search (rules, c.in-Skip)) refl, refl, refl);
+  taken = (
+    passed-over c.args.missing c.in-Err-Io.e (Ok tt) (search (rules, c.in-Skip))
+        refl,
+    refl,
+    refl,
+  );
 }
 
 pub returns-in-Error-clause-taken : goal.returns-in-Error-clause-taken
@@ -26,8 +39,18 @@ returns-in-Error-clause-taken g c = record {
   read = Err (Io c.in-Err-Io.e);
   within = search (rules, c.in-Err-Io.ensures.offered, c.in-Err-Io.e-is, c.in-Err-Io.field-0-is);
   accepted = [];
-  taken = (not-passed-over c.args.missing c.in-Err-Io.e (Err (error.ReadInput c.in-Err-Io.e)) (search (rules, c.in-Error)) refl, refl, refl);
+  taken = (
+    not-passed-over c.args.missing c.in-Err-Io.e (Err (error.ReadInput c.in-Err-Io.e))
+        (search (rules, c.in-Error)) refl,
+    refl,
+    refl,
+  );
 }
 
 pub returns-in-Err-Memory-clause-taken : goal.returns-in-Err-Memory-clause-taken
-returns-in-Err-Memory-clause-taken g c = record { read = Err Memory; within = tt; accepted = []; taken = (refl, refl, refl) }
+returns-in-Err-Memory-clause-taken g c = record {
+  read = Err Memory;
+  within = tt;
+  accepted = [];
+  taken = (refl, refl, refl);
+}

@@ -6,7 +6,8 @@ use Rattle.thorin_builder.specs.Taking.{TakesReferredFile, with_target, is_there
 use Rattle.thorin_builder.proofs.package.DwarfPackage.add_skeleton.Goals as goal
 
 pub returns-then-is_there-clause-taken : goal.returns-then-is_there-clause-taken
-returns-then-is_there-clause-taken g c = ([], inl (search (rules, c.is_there.ensures, c.if-is_there), refl, refl, refl))
+returns-then-is_there-clause-taken g c =
+    ([], inl (search (rules, c.is_there.ensures, c.if-is_there), refl, refl, refl))
 
 pub returns-in_err-add_target-clause-taken : goal.returns-in_err-add_target-clause-taken
 returns-in_err-add_target-clause-taken g c = (
@@ -21,10 +22,17 @@ returns-in_err-add_target-clause-taken g c = (
 pub returns-clause-taken : goal.returns-clause-taken
 returns-clause-taken g c =
     let offer = g.R.InputReader.offer c.args.reader.now in
-    let absent : is_there (named c.args.skeleton.now).0 c.args.self.now.state ≡ false = search (rules, c.is_there.ensures, c.if-is_there) in
-    let target : c.add_target.new.self.state ≡ with_target (named c.args.skeleton.now).0 c.args.self.now.state = search (rules, c.in_ok-add_target.ensures.target) in
-    let path : path_bytes c.new.result ≡ (named c.args.skeleton.now).1 = search (rules, c.new.ensures, c.as_str.ensures.value) in
-    let file : TakesReferredFile (offer (named c.args.skeleton.now).1) c.args.missing (with_target (named c.args.skeleton.now).0 c.args.self.now.state) c.add_referred.result c.add_referred.new.self.state =
-    subst (λ s. TakesReferredFile (offer (named c.args.skeleton.now).1) c.args.missing s c.add_referred.result c.add_referred.new.self.state) target
-    (subst (λ p. TakesReferredFile (offer p) c.args.missing c.add_target.new.self.state c.add_referred.result c.add_referred.new.self.state) path c.add_referred.ensures.taken) in
+    let absent : is_there (named c.args.skeleton.now).0 c.args.self.now.state ≡ false =
+    search (rules, c.is_there.ensures, c.if-is_there) in
+    let target : c.add_target.new.self.state ≡ with_target (named c.args.skeleton.now).0
+    c.args.self.now.state = search (rules, c.in_ok-add_target.ensures.target) in
+    let path : path_bytes c.new.result ≡ (named c.args.skeleton.now).1 =
+    search (rules, c.new.ensures, c.as_str.ensures.value) in
+    let file : TakesReferredFile (offer (named c.args.skeleton.now).1) c.args.missing
+    (with_target (named c.args.skeleton.now).0 c.args.self.now.state) c.add_referred.result
+    c.add_referred.new.self.state =
+    subst (λ s. TakesReferredFile (offer (named c.args.skeleton.now).1) c.args.missing s
+    c.add_referred.result c.add_referred.new.self.state) target
+    (subst (λ p. TakesReferredFile (offer p) c.args.missing c.add_target.new.self.state
+    c.add_referred.result c.add_referred.new.self.state) path c.add_referred.ensures.taken) in
     (file.accepted, inr (inl (record { absent = absent; file = file; accepted_is = refl })))

@@ -8,7 +8,8 @@ use Rattle.thorin_builder.specs.StateView.{begun_of}
 use Rattle.thorin_builder.proofs.package.DwarfPackage.finish_with_differing.Goals as goal
 
 -- what is so of what was finished, by a law
-by-law : (P : State → File → Type 0) (r : Result File Error) (state : State) → ((file : File) → finish_test state ≡ Ok tt → IsFinishedState state file → P state file)
+by-law : (P : State → File → Type 0) (r : Result File Error) (state : State)
+    → ((file : File) → finish_test state ≡ Ok tt → IsFinishedState state file → P state file)
     → Gives (λ _. tt) r (finish_test state) → IfOk r (IsFinishedState state) → IfOk r (P state)
 by-law P (Ok file) state law tested finished = law file tested finished
 by-law P (Err e) state law tested finished = tt
@@ -16,21 +17,39 @@ by-law P (Err e) state law tested finished = tt
 pub returns-in-Ok-Some-clause-accepted : goal.returns-in-Ok-Some-clause-accepted
 unfolding finish_test
 returns-in-Ok-Some-clause-accepted g c =
-    let state : State = record { begun = begun_of c.self.inside.in_progress; targets = c.self.inside.targets.keys; own = c.self.inside.own } in
-    let tested : Gives (λ _. tt) c.finish.result.0 (finish_test state) = search (rules, c.finish.ensures.refusal) in
-    let finished : IfOk c.finish.result.0 (IsFinishedState state) = search (rules, c.finish.ensures.finished, c.finish.ensures.identifiers) in
+    let state : State = record {
+      begun = begun_of c.self.inside.in_progress;
+      targets =
+          c.self.inside.targets.keys;
+      own = c.self.inside.own;
+    } in
+    let tested : Gives (λ _. tt) c.finish.result.0 (finish_test state) =
+    search (rules, c.finish.ensures.refusal) in
+    let finished : IfOk c.finish.result.0 (IsFinishedState state) =
+    search (rules, c.finish.ensures.finished, c.finish.ensures.identifiers) in
     let same : state ≡ c.args.self.state = search (rules, c.self.view_is) in
-    subst (λ s. IfOk c.finish.result.0 (IsAcceptedOnceWritten s)) same (by-law IsAcceptedOnceWritten c.finish.result.0 state
-    (λ file. c.own_packages_are_accepted.ensures state file c.self.invariant.1 c.self.invariant.2 c.self.invariant.3)
+    subst (λ s. IfOk c.finish.result.0 (IsAcceptedOnceWritten s)) same (by-law IsAcceptedOnceWritten
+    c.finish.result.0 state
+    (λ file. c.own_packages_are_accepted.ensures state file c.self.invariant.1 c.self.invariant.2
+    c.self.invariant.3)
     tested finished)
 
 pub returns-in-Ok-Some-clause-accepted_by_new : goal.returns-in-Ok-Some-clause-accepted_by_new
 unfolding finish_test
 returns-in-Ok-Some-clause-accepted_by_new g c =
-    let state : State = record { begun = begun_of c.self.inside.in_progress; targets = c.self.inside.targets.keys; own = c.self.inside.own } in
-    let tested : Gives (λ _. tt) c.finish.result.0 (finish_test state) = search (rules, c.finish.ensures.refusal) in
-    let finished : IfOk c.finish.result.0 (IsFinishedState state) = search (rules, c.finish.ensures.finished, c.finish.ensures.identifiers) in
+    let state : State = record {
+      begun = begun_of c.self.inside.in_progress;
+      targets =
+          c.self.inside.targets.keys;
+      own = c.self.inside.own;
+    } in
+    let tested : Gives (λ _. tt) c.finish.result.0 (finish_test state) =
+    search (rules, c.finish.ensures.refusal) in
+    let finished : IfOk c.finish.result.0 (IsFinishedState state) =
+    search (rules, c.finish.ensures.finished, c.finish.ensures.identifiers) in
     let same : state ≡ c.args.self.state = search (rules, c.self.view_is) in
-    subst (λ s. IfOk c.finish.result.0 (IsAcceptedByNewOnceWritten s)) same (by-law IsAcceptedByNewOnceWritten c.finish.result.0 state
-    (λ file. c.own_packages_are_accepted_by_a_new_one.ensures state file c.self.invariant.1 c.self.invariant.2 c.self.invariant.3)
+    subst (λ s. IfOk c.finish.result.0 (IsAcceptedByNewOnceWritten s)) same
+    (by-law IsAcceptedByNewOnceWritten c.finish.result.0 state
+    (λ file. c.own_packages_are_accepted_by_a_new_one.ensures state file c.self.invariant.1
+    c.self.invariant.2 c.self.invariant.3)
     tested finished)

@@ -7,12 +7,19 @@ use Rattle.thorin_builder.proofs.units.NewUnits.kept_bytes.Goals as goal
 
 pub returns-in-Some : goal.returns-in-Some
 returns-in-Some c =
-    let found : lookup (same_name c.args.name) c.args.self.now.units.entries ≡ Some c.in-Some.unit.now =
-    ap (λ f. lookup f c.args.self.now.units.entries) (sym (same_name-is c.args.name)) ∙ sym c.in-Some.ensures.value in
+    let found : lookup (same_name c.args.name) c.args.self.now.units.entries ≡ Some
+    c.in-Some.unit.now =
+    ap (λ f. lookup f c.args.self.now.units.entries) (sym (same_name-is c.args.name)) ∙ sym
+    c.in-Some.ensures.value in
     rw (lookup-map (same_name c.args.name) new_unit c.args.self.now.units.entries, found)
 
 pub returns-in-None : goal.returns-in-None
 returns-in-None c =
     let found : lookup (same_name c.args.name) c.args.self.now.units.entries ≡ None =
-    ap (λ f. lookup f c.args.self.now.units.entries) (sym (same_name-is c.args.name)) ∙ sym c.in-None.ensures.value in
-    rw (lookup-map (same_name c.args.name) new_unit c.args.self.now.units.entries, found, c.bytes_of.ensures)
+    ap (λ f. lookup f c.args.self.now.units.entries) (sym (same_name-is c.args.name)) ∙ sym
+    c.in-None.ensures.value in
+    rw (
+      lookup-map (same_name c.args.name) new_unit c.args.self.now.units.entries,
+      found,
+      c.bytes_of.ensures,
+    )

@@ -7,9 +7,14 @@ use Rattle.thorin_executable.proofs.roots.SplitAttributes.of_entry.Goals as goal
 pub loop-attribute-preserved : goal.loop-attribute-preserved
 loop-attribute-preserved g c =
     let input = g.R.Reader.input in
-    let left : attributes_left input c.loop-attribute.attribute-iterator ≡ attribute_seen input c.in-Some.attribute ∷ attributes_left input c.next.new.self = search (rules, c.in-Some.ensures.steps) in
-    let was : c.in-Some.attribute ≡ Ok c.in_ok-attribute.attribute = search (rules, c.in_ok-attribute.ensures.cases) in
+    let left : attributes_left input c.loop-attribute.attribute-iterator ≡ attribute_seen input
+    c.in-Some.attribute ∷ attributes_left input c.next.new.self =
+    search (rules, c.in-Some.ensures.steps) in
+    let was : c.in-Some.attribute ≡ Ok c.in_ok-attribute.attribute =
+    search (rules, c.in_ok-attribute.ensures.cases) in
     ap (λ b. after c.args.format b (attributes_left input c.next.new.self)) c.add.ensures
-    ∙ sym (after-first c.args.format (attributes_of input c.loop-attribute.found) (attribute_of input c.in_ok-attribute.attribute) (attributes_left input c.next.new.self))
-    ∙ sym (ap (after c.args.format (attributes_of input c.loop-attribute.found)) (left ∙ ap (λ read. attribute_seen input read ∷ attributes_left input c.next.new.self) was))
+    ∙ sym (after-first c.args.format (attributes_of input c.loop-attribute.found)
+    (attribute_of input c.in_ok-attribute.attribute) (attributes_left input c.next.new.self))
+    ∙ sym (ap (after c.args.format (attributes_of input c.loop-attribute.found))
+    (left ∙ ap (λ read. attribute_seen input read ∷ attributes_left input c.next.new.self) was))
     ∙ c.loop-attribute.invariant

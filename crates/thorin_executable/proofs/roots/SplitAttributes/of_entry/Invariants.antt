@@ -8,4 +8,5 @@ use Rattle.thorin_executable.proofs.roots.SplitAttributes.of_entry.Given as goal
 -- those found and those left have the meaning of all
 abbrev pub invariant-loop-attribute : goal.invariant-loop-attribute
 invariant-loop-attribute g l =
-    after l.format (attributes_of g.R.Reader.input l.found) (attributes_left g.R.Reader.input l.attribute-iterator) ≡ entry_attributes l.fn.format (entry_of g.R.Reader.input l.fn.root)
+    after l.format (attributes_of g.R.Reader.input l.found) (attributes_left g.R.Reader.input
+    l.attribute-iterator) ≡ entry_attributes l.fn.format (entry_of g.R.Reader.input l.fn.root)

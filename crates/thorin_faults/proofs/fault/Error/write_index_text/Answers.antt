@@ -16,4 +16,5 @@ returns-in-ParseIndex g c =
 pub returns-in-UnitNotInIndex : goal.returns-in-UnitNotInIndex
 returns-in-UnitNotInIndex g c =
     rw c.in-UnitNotInIndex.is
-    (rw hex8_written at (rw c.laid_out-in-UnitNotInIndex.ensures at (rw c.in_radix-in-UnitNotInIndex.ensures at c.write-in-UnitNotInIndex.ensures.writes)))
+    (rw hex8_written at (rw c.laid_out-in-UnitNotInIndex.ensures at
+    (rw c.in_radix-in-UnitNotInIndex.ensures at c.write-in-UnitNotInIndex.ensures.writes)))

@@ -8,11 +8,19 @@ use Rattle.thorin_input.specs.Used.{is_of, used_from}
 use Rattle.thorin_input.proofs.Walking.{GoesOn}
 use Rattle.thorin_input.proofs.walk.Walked.over.Given as goal
 
--- what is there among the sections so far and those that are left is what is there among all; so with what is used
+-- what is there among the sections so far and those that are left is what is there among all; so
+-- with what is used
 abbrev pub invariant-loop-section : goal.invariant-loop-section
 invariant-loop-section l = record {
-  info : (l.present.info || list_any (is_of Info) (map (λ p. p.section) (sections_left l.section-iterator))) ≡ list_any (is_of Info) (elf l.file).sections;
-  strings : (l.present.strings || list_any (is_named (name_of Str)) (map (λ p. p.section) (sections_left l.section-iterator))) ≡ list_any (is_named (name_of Str)) (elf l.file).sections;
-  abbreviations : (l.present.abbreviations || list_any (is_named (name_of Abbrev)) (map (λ p. p.section) (sections_left l.section-iterator))) ≡ list_any (is_named (name_of Abbrev)) (elf l.file).sections;
-  used : GoesOn l.taken (map (λ p. p.section) (sections_left l.section-iterator)) (used_from [] (elf l.file).sections);
+  info : (l.present.info || list_any (is_of Info)
+      (map (λ p. p.section) (sections_left l.section-iterator))) ≡ list_any (is_of Info)
+      (elf l.file).sections;
+  strings : (l.present.strings || list_any (is_named (name_of Str))
+      (map (λ p. p.section) (sections_left l.section-iterator))) ≡ list_any (is_named (name_of Str))
+      (elf l.file).sections;
+  abbreviations : (l.present.abbreviations || list_any (is_named (name_of Abbrev))
+      (map (λ p. p.section) (sections_left l.section-iterator))) ≡ list_any
+      (is_named (name_of Abbrev)) (elf l.file).sections;
+  used : GoesOn l.taken (map (λ p. p.section) (sections_left l.section-iterator))
+      (used_from [] (elf l.file).sections);
 }

@@ -9,7 +9,9 @@ abbrev pub invariant-loop-index : goal.invariant-loop-index
 invariant-loop-index l = record {
   grown : IsGrown l.initial.self.bytes.items l.self.bytes.items l.self.places.items;
   so_far : AreDistinct l.self.bytes.items → (offsets : List ℕ)
-      × (remapped_entries l.endian l.encoding l.debug_str l.debug_str_offsets l.index (strings_in l.initial.self.bytes.items) ≡ Ok (offsets, strings_in l.self.bytes.items))
+      × (remapped_entries l.endian l.encoding l.debug_str l.debug_str_offsets l.index
+      (strings_in l.initial.self.bytes.items) ≡ Ok (offsets, strings_in l.self.bytes.items))
       × (l.out.items ≡ l.initial.out.items ++ entry_bytes l.endian l.encoding.format offsets);
-  known : AreDistinct l.self.bytes.items → AreKnown l.debug_str (strings_in l.self.bytes.items) l.repeats;
+  known : AreDistinct l.self.bytes.items → AreKnown l.debug_str
+      (strings_in l.self.bytes.items) l.repeats;
 }

@@ -10,23 +10,36 @@ use Rattle.thorin_strings.proofs.hashed.HashedStrings.find_counted.Goals as goal
 
 pub returns-then-is_some-clause-found : goal.returns-then-is_some-clause-found
 returns-then-is_some-clause-found c =
-    rw (← c.self.view_is)
-    (λ e. absurd (false≢true e), λ there. absurd (zero_within c.args.string.now c.memchr.result c.memchr.ensures (sym c.is_some.ensures ∙ c.if-is_some.true) (All-contains IsZeroFree (strings_in c.self.inside.bytes.items) c.args.string.now (zero_free-strings_in c.self.inside.bytes.items) there)))
+    rw (← c.self.view_is) (
+      λ e. absurd (false≢true e),
+      λ there. absurd (zero_within c.args.string.now c.memchr.result
+          c.memchr.ensures (sym c.is_some.ensures ∙ c.if-is_some.true) (All-contains IsZeroFree
+          (strings_in c.self.inside.bytes.items) c.args.string.now
+          (zero_free-strings_in c.self.inside.bytes.items) there)),
+    )
 
 pub returns-then-stands_at-clause-found : goal.returns-then-stands_at-clause-found
 returns-then-stands_at-clause-found c =
     let here = rw c.deref.ensures.value at (c.stands_at.ensures.0 c.if-stands_at.true) in
-    let known = known_place_in c.self.inside.bytes.items c.args.string.now c.in-Some.place c.self.invariant.ended c.self.invariant.distinct here.0 here.1 in
+    let known = known_place_in c.self.inside.bytes.items c.args.string.now c.in-Some.place
+    c.self.invariant.ended c.self.invariant.distinct here.0 here.1 in
     rw (← c.self.view_is) (λ _. known.0, λ _. refl)
 
 pub returns-then-stands_at-clause-offset : goal.returns-then-stands_at-clause-offset
 returns-then-stands_at-clause-offset c =
     let here = rw c.deref.ensures.value at (c.stands_at.ensures.0 c.if-stands_at.true) in
-    let known = known_place_in c.self.inside.bytes.items c.args.string.now c.in-Some.place c.self.invariant.ended c.self.invariant.distinct here.0 here.1 in
+    let known = known_place_in c.self.inside.bytes.items c.args.string.now c.in-Some.place
+    c.self.invariant.ended c.self.invariant.distinct here.0 here.1 in
     rw (← c.self.view_is) known.1
 
 pub returns-else-stands_at-clause-found : goal.returns-else-stands_at-clause-found
 returns-else-stands_at-clause-found c =
-    let placed = ap (place_of c.self.inside.places.slots.items c.self.inside.places.mask) (sym c.hash.ensures) ∙ sym c.find.ensures ∙ c.in-Some.is in
-    rw (← c.self.view_is)
-    (λ e. absurd (false≢true e), λ there. absurd (misplaced _ _ _ _ c.args.string.now c.in-Some.place c.self.invariant placed (λ here. false≢true (sym c.if-stands_at.false ∙ c.stands_at.ensures.1 (rw c.deref.ensures.value here))) there))
+    let placed = ap (place_of c.self.inside.places.slots.items c.self.inside.places.mask)
+    (sym c.hash.ensures) ∙ sym c.find.ensures ∙ c.in-Some.is in
+    rw (← c.self.view_is) (
+      λ e. absurd (false≢true e),
+      λ there. absurd (misplaced _ _ _ _ c.args.string.now
+          c.in-Some.place c.self.invariant placed (λ here.
+          false≢true (sym c.if-stands_at.false ∙ c.stands_at.ensures.1
+          (rw c.deref.ensures.value here))) there),
+    )

@@ -5,7 +5,9 @@ use Rattle.thorin_strings.proofs.places.Places.enter.Goals as goal
 
 pub returns-then-put-clause-entered : goal.returns-then-put-clause-entered
 returns-then-put-clause-entered c = λ _.
-    ap (λ l. place_of l c.args.self.now.mask c.args.hash) (taken c.args.self.now.slots.items c.put.new.slots c.args.self.now.slots.len (c.put.ensures.long ∙ ap length c.deref_mut.ensures.value) (omega (arith, c.args.self.now.slots.ok.0)))
+    ap (λ l. place_of l c.args.self.now.mask c.args.hash) (taken c.args.self.now.slots.items
+    c.put.new.slots c.args.self.now.slots.len (c.put.ensures.long ∙ ap length
+    c.deref_mut.ensures.value) (omega (arith, c.args.self.now.slots.ok.0)))
     ∙ c.if-put.ensures.put refl c.args.place refl
 
 pub returns-clause-entered : goal.returns-clause-entered
@@ -14,7 +16,9 @@ returns-clause-entered c = λ is. c.enter_in_more-2.ensures.entered is c.args.pl
 pub returns-clause-kept : goal.returns-clause-kept
 returns-clause-kept c = λ h n is.
     c.enter_in_more-2.ensures.kept h n
-    (ap (λ l. place_of l c.args.self.now.mask h) (taken c.args.self.now.slots.items c.put.new.slots c.args.self.now.slots.len (c.put.ensures.long ∙ ap length c.deref_mut.ensures.value) (omega (arith, c.args.self.now.slots.ok.0)))
+    (ap (λ l. place_of l c.args.self.now.mask h) (taken c.args.self.now.slots.items c.put.new.slots
+    c.args.self.now.slots.len (c.put.ensures.long ∙ ap length c.deref_mut.ensures.value)
+    (omega (arith, c.args.self.now.slots.ok.0)))
     ∙ c.put.ensures.kept h n (rw c.deref_mut.ensures.value is))
 
 pub returns-then-self-clause-entered : goal.returns-then-self-clause-entered

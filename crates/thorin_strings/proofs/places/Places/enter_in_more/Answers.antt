@@ -5,10 +5,14 @@ use Rattle.thorin_strings.proofs.places.Places.enter_in_more.Goals as goal
 
 pub returns-clause-entered : goal.returns-clause-entered
 returns-clause-entered c = λ is n more.
-    ap (λ l. place_of l c.in-Some.more.mask c.args.slot.hash) (taken c.in-Some.more.slots.items c.put.new.slots c.in-Some.more.slots.len (c.put.ensures.long ∙ ap length c.deref_mut.ensures.value) (omega (arith, c.in-Some.more.slots.ok.0)))
+    ap (λ l. place_of l c.in-Some.more.mask c.args.slot.hash) (taken c.in-Some.more.slots.items
+    c.put.new.slots c.in-Some.more.slots.len (c.put.ensures.long ∙ ap length
+    c.deref_mut.ensures.value) (omega (arith, c.in-Some.more.slots.ok.0)))
     ∙ c.put.ensures.put is n more
 
 pub returns-clause-kept : goal.returns-clause-kept
 returns-clause-kept c = λ h n is.
-    ap (λ l. place_of l c.in-Some.more.mask h) (taken c.in-Some.more.slots.items c.put.new.slots c.in-Some.more.slots.len (c.put.ensures.long ∙ ap length c.deref_mut.ensures.value) (omega (arith, c.in-Some.more.slots.ok.0)))
+    ap (λ l. place_of l c.in-Some.more.mask h) (taken c.in-Some.more.slots.items c.put.new.slots
+    c.in-Some.more.slots.len (c.put.ensures.long ∙ ap length c.deref_mut.ensures.value)
+    (omega (arith, c.in-Some.more.slots.ok.0)))
     ∙ c.put.ensures.kept h n (rw c.deref_mut.ensures.value (c.in-Some.ensures h n is))

@@ -5,5 +5,7 @@ use Rattle.thorin_strings.proofs.sorted.SortedStrings.mark.Goals as goal
 
 pub returns : goal.returns
 returns c =
-    let long : c.len-2.result ≡ length (data_of (strings_in c.self.inside.bytes.items)) = omega (arith, ap length c.self.invariant.ended, c.self.inside.bytes.ok.0) in
-    rw (← c.self.view_is) (ap₂ (λ s b. let m : TableMark = record { strings = s; bytes = b } in m) (c.len.ensures ∙ ap length (sym c.self.view_is)) long)
+    let long : c.len-2.result ≡ length (data_of (strings_in c.self.inside.bytes.items)) =
+    omega (arith, ap length c.self.invariant.ended, c.self.inside.bytes.ok.0) in
+    rw (← c.self.view_is) (ap₂ (λ s b. let m : TableMark = record { strings = s; bytes = b } in m)
+    (c.len.ensures ∙ ap length (sym c.self.view_is)) long)
