@@ -1,27 +1,15 @@
 //! The program `thorin`, as a function over its words and two writers.
 #![tactic(auto)]
 
-mod check;
 mod command;
-mod find;
-mod identifier;
-mod input;
-mod list;
-mod output;
-mod pack;
-mod reader;
-mod response;
-mod sizes;
-mod telling;
-mod write;
 
 use clap::error::ErrorKind;
 use clap::{ArgMatches, Error};
-pub use output::Failure;
-use output::{report, show};
-use pack::Packing;
 use std::convert::AsStr;
 use std::io::Write;
+pub use thorin_commands::Failure;
+use thorin_commands::{Packing, check, expanded, find, list, pack, report, show};
+use thorin_faults::MissingReferencedObjectBehaviour;
 
 /// Does what a command line asks for: `words` are the program's name and its arguments, where
 /// `@FILE` stands for the words of a file. What is printed goes to `out`, and a fault as one line
@@ -34,7 +22,7 @@ pub fn run<S: AsStr, O: Write, E: Write>(
     out: &mut O,
     err: &mut E,
 ) -> u8 {
-    match response::expanded(rt, words) {
+    match expanded(rt, words) {
         Ok(words) => run_words(rt, words.as_slice(), out, err),
         Err(failure) => report(err, &failure),
     }
@@ -101,13 +89,49 @@ fn dispatch<O: Write, E: Write>(
     err: &mut E,
 ) -> Result<u8, Failure> {
     if is_peer {
-        return pack::pack(rt, &Packing::of_peer(matches), err);
+        return pack(rt, &packing_of_peer(matches), err);
     }
     match matches.subcommand() {
-        Some(("pack", matches)) => pack::pack(rt, &Packing::of_command(matches), err),
-        Some(("find", matches)) => find::find(rt, matches, out),
-        Some(("list", matches)) => list::list(rt, matches, out),
-        Some(("check", matches)) => check::check(rt, matches, out),
+        Some(("pack", matches)) => pack(rt, &packing_of(matches), err),
+        Some(("find", matches)) => {
+            let kind = matches.get_str("kind").unwrap_or("");
+            let id = matches.get_str("id").unwrap_or("");
+            find(rt, file_of(matches), kind, id, out)
+        }
+        Some(("list", matches)) => list(rt, file_of(matches), matches.get_flag("sizes"), out),
+        Some(("check", matches)) => {
+            let executables = matches.get_strs("exec").unwrap_or(&[]);
+            check(rt, file_of(matches), executables, out)
+        }
         _ => Err(Failure::BadCommand),
+    }
+}
+
+/// The package's file that a command reads.
+fn file_of<'a>(matches: &ArgMatches<'a>) -> &'a str {
+    matches.get_str("file").unwrap_or("")
+}
+
+/// What the command `pack` asks for.
+fn packing_of<'m, 'a>(matches: &'m ArgMatches<'a>) -> Packing<'m, 'a> {
+    let missing = if matches.get_flag("skip-missing") {
+        MissingReferencedObjectBehaviour::Skip
+    } else {
+        MissingReferencedObjectBehaviour::Error
+    };
+    Packing {
+        missing,
+        ..packing_of_peer(matches)
+    }
+}
+
+/// What the command lines of `dwp` and `llvm-dwp` ask for.
+fn packing_of_peer<'m, 'a>(matches: &'m ArgMatches<'a>) -> Packing<'m, 'a> {
+    Packing {
+        output: matches.get_str("output"),
+        inputs: matches.get_strs("input"),
+        executables: matches.get_strs("exec"),
+        missing: MissingReferencedObjectBehaviour::Error,
+        verbose: matches.get_flag("verbose"),
     }
 }

@@ -5,15 +5,14 @@ ghost use Rattle.thorin_join.specs.Builder.{IsFinishedState};
 ghost use Rattle.thorin_join.specs.Join.{IsPackageOnceWritten};
 ghost use Rattle.thorin_join.specs.Represents.{units_in};
 ghost use Rattle.thorin.specs.Run.{Took};
-ghost use Rattle.thorin_cli.specs.Packing.{anything, asked, object_asked, executable_asked};
-ghost use Rattle.thorin_cli.specs.Packing.{AreAllAccepted, IsPackedOf};
+ghost use Rattle.thorin_commands.specs.Packing.{anything, asked, object_asked, executable_asked};
+ghost use Rattle.thorin_commands.specs.Packing.{AreAllAccepted, IsPackedOf};
 
 use crate::output::{Failure, buffer_failure};
 use crate::reader::FileReader;
 use crate::telling::{tell, warn_differing};
 use crate::write::write_package;
 use bumpalo::Bump;
-use clap::ArgMatches;
 use dwp_bytes::RelocationEntry;
 use dwp_elf::WritableObject;
 use dwp_table::DebugTypeSignature;
@@ -26,40 +25,20 @@ use thorin_faults::{ArenaSession, MissingReferencedObjectBehaviour, Session};
 
 /// What is to be packed, and where to.
 #[derive(Drop)]
-pub(crate) struct Packing<'m, 'a> {
-    // Where none is named, the name of the one executable with `.dwp` behind it.
-    output: Option<&'a str>,
-    inputs: Option<&'m [&'a str]>,
-    executables: Option<&'m [&'a str]>,
-    missing: MissingReferencedObjectBehaviour,
-    verbose: bool,
+pub struct Packing<'m, 'a> {
+    /// The package's file. Where none is named, it is that of the one executable with `.dwp` behind.
+    pub output: Option<&'a str>,
+    /// The objects and packages that are inputs.
+    pub inputs: Option<&'m [&'a str]>,
+    /// The executables whose objects are inputs, behind those.
+    pub executables: Option<&'m [&'a str]>,
+    /// What is done where an object that an executable names isn't there.
+    pub missing: MissingReferencedObjectBehaviour,
+    /// Whether a line tells of each input.
+    pub verbose: bool,
 }
 
-impl<'m, 'a> Packing<'m, 'a> {
-    /// As the command `pack` has it.
-    pub(crate) fn of_command(matches: &'m ArgMatches<'a>) -> Packing<'m, 'a> {
-        let missing = if matches.get_flag("skip-missing") {
-            MissingReferencedObjectBehaviour::Skip
-        } else {
-            MissingReferencedObjectBehaviour::Error
-        };
-        Packing {
-            missing,
-            ..Packing::of_peer(matches)
-        }
-    }
-
-    /// As the command lines of `dwp` and `llvm-dwp` have it.
-    pub(crate) fn of_peer(matches: &'m ArgMatches<'a>) -> Packing<'m, 'a> {
-        Packing {
-            output: matches.get_str("output"),
-            inputs: matches.get_strs("input"),
-            executables: matches.get_strs("exec"),
-            missing: MissingReferencedObjectBehaviour::Error,
-            verbose: matches.get_flag("verbose"),
-        }
-    }
-
+impl Packing<'_, '_> {
     /// The name of the package's file.
     fn output_name(&self, rt: &HostRuntime) -> Result<String, Failure> {
         match (self.output, self.executables) {
@@ -72,7 +51,11 @@ impl<'m, 'a> Packing<'m, 'a> {
 
 /// Packs the inputs in order, then what each executable refers to, and writes the package. Stops at
 /// the first refusal, and then writes nothing. Answers the status 0.
-pub(crate) fn pack<E: Write>(
+///
+/// # Errors
+/// `Package` for an input that is refused, or a package that can't be made of them; `Output` where
+/// its file can't be written; `BadCommand` where there is no name for it; `Line` or `Memory`.
+pub fn pack<E: Write>(
     rt: &HostRuntime,
     packing: &Packing<'_, '_>,
     err: &mut E,

@@ -2,8 +2,8 @@ use Rattle.std.proofs.Common.{ℕ, List, Ok, map}
 use Rattle.thorin_join.specs.Builder.{start}
 use Rattle.thorin_builder.specs.Taking.{Outcome}
 use Rattle.thorin.specs.declared.packing.Input.{Input}
-use Rattle.thorin_cli.specs.Packing.{AreAllAccepted}
-use Rattle.thorin_cli.proofs.pack.packed.Goals as goal
+use Rattle.thorin_commands.specs.Packing.{AreAllAccepted}
+use Rattle.thorin_commands.proofs.pack.packed.Goals as goal
 
 pub returns : goal.returns
 returns g c =

@@ -4,25 +4,29 @@ use crate::find::{COLUMNS, short_kind};
 use crate::input::read_file;
 use crate::output::{Failure, buffer_failure};
 use crate::sizes::Sizes;
-use clap::ArgMatches;
 use dwp_index::{PackageFile, PackagedUnit, UnitEntry};
 use dwp_table::{Bucketable, DwarfObject};
 use std::io::{BufWriter, Write};
 
-/// Prints a line for each unit of a package: compilation units by row, then type units by row. With
-/// `--sizes` each line goes on with the unit's sizes, and totals follow. Answers the status 0.
-pub(crate) fn list<O: Write>(
+/// Prints a line for each unit of a package: compilation units by row, then type units by row. Where
+/// sizes are asked for, each line goes on with the unit's, and totals follow. Answers the status 0.
+///
+/// # Errors
+/// `Input` where the file can't be read, `Malformed` where it is no package or a unit can't be looked
+/// up, `Line` or `Memory`.
+pub fn list<O: Write>(
     rt: &HostRuntime,
-    matches: &ArgMatches<'_>,
+    file: &str,
+    has_sizes: bool,
     out: &mut O,
 ) -> Result<u8, Failure> {
     let alloc = rt.alloc();
-    let bytes = read_file(rt, matches.get_str("file").unwrap_or(""))?;
+    let bytes = read_file(rt, file)?;
     let Ok(package) = PackageFile::parse(bytes.as_slice()) else {
         return Err(Failure::Malformed);
     };
     let entries = entries_by_row(rt, &package)?;
-    let mut sizes = if matches.get_flag("sizes") {
+    let mut sizes = if has_sizes {
         Some(Sizes::new(alloc))
     } else {
         None

@@ -39,12 +39,13 @@ fn tell_taken<E: Write>(
     added: usize,
     all: Option<usize>,
 ) -> Result<(), Failure> {
+    let units = Count(added as u64, "unit");
     let told = match all {
         Some(all) => {
             let passed = all.saturating_sub(added);
-            writeln!(err, "{name}: {added} units, {passed} passed over")
+            writeln!(err, "{name}: {units}, {passed} passed over")
         }
-        None => writeln!(err, "{name}: {added} units"),
+        None => writeln!(err, "{name}: {units}"),
     };
     told.map_err(|_| Failure::Line)
 }
@@ -96,6 +97,21 @@ pub(crate) fn warn_differing<E: Write>(
         .map_err(|_| Failure::Line)?;
     }
     Ok(())
+}
+
+/// A number of things of one name: `1 unit`, `2 units`.
+#[derive(Clone, Copy)]
+pub(crate) struct Count(pub u64, pub &'static str);
+
+impl fmt::Display for Count {
+    fn fmt<W: fmt::Write>(&self, f: &mut fmt::Formatter<W>) -> fmt::Result {
+        let Count(number, name) = *self;
+        if number == 1 {
+            write!(f, "1 {name}")
+        } else {
+            write!(f, "{number} {name}s")
+        }
+    }
 }
 
 /// A fault with the causes below it, outermost first.

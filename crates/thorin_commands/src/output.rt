@@ -88,7 +88,7 @@ pub(crate) fn buffer_failure(e: &io::Error) -> Failure {
 }
 
 /// Prints a failure, and answers its status; 1 where it can't be printed.
-pub(crate) fn report<W: Write>(err: &mut W, failure: &Failure) -> u8 {
+pub fn report<W: Write>(err: &mut W, failure: &Failure) -> u8 {
     match writeln!(err, "error: {failure}") {
         Ok(()) => failure.status(),
         Err(_) => 1,
@@ -96,6 +96,6 @@ pub(crate) fn report<W: Write>(err: &mut W, failure: &Failure) -> u8 {
 }
 
 /// Prints a text as it is, and answers whether it could.
-pub(crate) fn show<W: Write, D: fmt::Display>(writer: &mut W, text: &D) -> bool {
+pub fn show<W: Write, D: fmt::Display>(writer: &mut W, text: &D) -> bool {
     write!(writer, "{text}").is_ok()
 }

@@ -4,8 +4,8 @@ use crate::find::short_kind;
 use crate::input::{read_file, test_input};
 use crate::list::{entries_by_row, is_type};
 use crate::output::{Failure, buffer_failure};
+use crate::telling::Count;
 use bumpalo::Bump;
-use clap::ArgMatches;
 use dwp_bytes::{Format, RelocationEntry};
 use dwp_dwarf::{ReadError, SliceReader, UnitHeaders, UnitSection};
 use dwp_elf::{ElfFile, Endianness, SectionKind};
@@ -21,18 +21,24 @@ use thorin_faults::{ArenaSession, Error, InputError, Session};
 
 /// Goes over a package: each unit that a slot of an index names is found under its identifier, its
 /// ranges are inside their sections, its header and all its strings can be read, and the identifier
-/// is its own; and a slot names each row. Prints a line for each fault, and how many units and
-/// faults there are. Answers the status, 1 where there are faults.
-pub(crate) fn check<O: Write>(
+/// is its own; a slot names each row; and the package has each split unit that the executables
+/// name. Prints a line for each fault, and how many units and faults there are. Answers the status,
+/// 1 where there are faults.
+///
+/// # Errors
+/// `Input` where the file can't be read, `Malformed` where it is no package, `Line` or `Memory`.
+pub fn check<O: Write>(
     rt: &HostRuntime,
-    matches: &ArgMatches<'_>,
+    file: &str,
+    executables: &[&str],
     out: &mut O,
 ) -> Result<u8, Failure> {
-    let bytes = read_file(rt, matches.get_str("file").unwrap_or(""))?;
-    let executables = matches.get_strs("exec").unwrap_or(&[]);
+    let bytes = read_file(rt, file)?;
     let mut lines = BufWriter::new(rt.alloc(), out).map_err(|e| buffer_failure(&e))?;
     let (units, faults) = check_package(rt, bytes.as_slice(), executables, &mut lines)?;
-    writeln!(lines, "{units} units, {faults} faults").map_err(|_| Failure::Line)?;
+    let units = Count(units as u64, "unit");
+    let found = Count(faults, "fault");
+    writeln!(lines, "{units}, {found}").map_err(|_| Failure::Line)?;
     lines.flush().map_err(|e| buffer_failure(&e))?;
     Ok(if faults == 0 { 0 } else { 1 })
 }

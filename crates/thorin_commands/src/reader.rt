@@ -2,7 +2,7 @@
 
 ghost use Rattle.std.specs.Prelude.{◌≡◌, ◌≤◌, length, take, IfOk, OnOk, IfSome};
 ghost use Rattle.std.specs.Io.KnownBytes.{Consumes};
-ghost use Rattle.thorin_cli.specs.Packing.{anything};
+ghost use Rattle.thorin_commands.specs.Packing.{anything};
 
 use crate::input::is_device;
 use std::fs::{File, OpenFile};

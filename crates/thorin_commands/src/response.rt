@@ -12,7 +12,11 @@ const MOST_FILES: u32 = 2000;
 /// The words of a command line with the words of its response files in place of each `@FILE`. Those
 /// of a file may name files again. The first word stays, and so does a name for which there is no
 /// file.
-pub(crate) fn expanded<S: AsStr>(rt: &HostRuntime, words: &[S]) -> Result<Vec<String>, Failure> {
+///
+/// # Errors
+/// `Response` where a file can't be read or there are too many, `BadCommand` where a word isn't
+/// UTF-8, `Memory`.
+pub fn expanded<S: AsStr>(rt: &HostRuntime, words: &[S]) -> Result<Vec<String>, Failure> {
     let alloc = rt.alloc();
     let mut all = Vec::with_capacity(alloc, words.len())?;
     let mut waiting: Vec<String> = Vec::new(alloc);

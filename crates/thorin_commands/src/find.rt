@@ -3,7 +3,6 @@
 use crate::identifier::identifier;
 use crate::input::read_file;
 use crate::output::Failure;
-use clap::ArgMatches;
 use dwp_base::SectionKind;
 use dwp_bytes::Format;
 use dwp_index::{PackageFile, PackagedUnit};
@@ -25,14 +24,21 @@ pub(crate) const COLUMNS: [(SectionKind, &'static str); 10] = [
     (SectionKind::Macro, "macro"),
 ];
 
-/// Looks a unit up in a package and prints what belongs to it. Answers the status 0.
-pub(crate) fn find<O: Write>(
+/// Looks a unit up in a package's file and prints what belongs to it. Its kind is `cu` or `tu`, its
+/// identifier 1 to 16 hexadecimal digits, with or without `0x` in front. Answers the status 0.
+///
+/// # Errors
+/// `BadKind`, then `BadIdentifier`; `Input` where the file can't be read, `Malformed` where it is no
+/// package, `NoUnit` where it has no such unit; `Line` or `Memory`.
+pub fn find<O: Write>(
     rt: &HostRuntime,
-    matches: &ArgMatches<'_>,
+    file: &str,
+    kind: &str,
+    id: &str,
     out: &mut O,
 ) -> Result<u8, Failure> {
-    let object = object(matches)?;
-    let bytes = read_file(rt, matches.get_str("file").unwrap_or(""))?;
+    let object = object(kind, id)?;
+    let bytes = read_file(rt, file)?;
     let Ok(package) = PackageFile::parse(bytes.as_slice()) else {
         return Err(Failure::Malformed);
     };
@@ -49,9 +55,8 @@ pub(crate) fn find<O: Write>(
 }
 
 /// The unit that is asked for: first its kind is tested, then its identifier.
-fn object(matches: &ArgMatches<'_>) -> Result<DwarfObject, Failure> {
-    let id = matches.get_str("id").unwrap_or("");
-    match matches.get_str("kind").unwrap_or("") {
+fn object(kind: &str, id: &str) -> Result<DwarfObject, Failure> {
+    match kind {
         "cu" => Ok(DwarfObject::Compilation(DwoId(identifier(id)?))),
         "tu" => Ok(DwarfObject::TypeUnit(DebugTypeSignature(identifier(id)?))),
         _ => Err(Failure::BadKind),
