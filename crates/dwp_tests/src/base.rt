@@ -1,8 +1,8 @@
 //! Numbers in both byte orders, names of sections, and how contributions print.
 
+use crate::asserting::same;
 use dwp_base::{Contribution, ContributionOffset, Endianness, SectionKind};
 use std::test::Fail;
-use thorin_objects::asserting::same;
 
 #[test]
 fn contributions_print_their_place_in_hexadecimal(rt: HostRuntime) -> Result<(), Fail> {

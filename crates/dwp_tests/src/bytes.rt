@@ -2,13 +2,13 @@
 
 ghost use Rattle.std.specs.Prelude.{◌≡◌};
 
+use crate::asserting::same;
 use dwp_base::Endianness;
 use dwp_bytes::{
     Encoding, Format, ReadError, Reader, Relocate, Relocation, RelocationEntry, SliceReader,
     WriteError, string_at,
 };
 use std::test::Fail;
-use thorin_objects::asserting::same;
 
 /// A generic call at each type of reader: what is stored, and what an offset reads as.
 fn stored_and_read<R: Reader>(reader: &R) -> Result<(u32, u64), ReadError> {

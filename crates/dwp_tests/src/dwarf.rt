@@ -6,11 +6,11 @@ ghost use Rattle.dwp_dwarf.specs.Declarations.{table_of};
 ghost use Rattle.dwp_dwarf.specs.Entries.{root_at};
 ghost use Rattle.dwp_dwarf.specs.Units.{unit_of};
 
+use crate::asserting::{same, same_at};
 use Endianness::Little;
 use dwp_dwarf::*;
 use rows::{Answer, ROWS};
 use std::test::Fail;
-use thorin_objects::asserting::{same, same_at};
 
 mod cache;
 mod objects;

@@ -2,6 +2,7 @@
 
 ghost use Rattle.std.specs.Prelude.{Some};
 
+use crate::asserting::same;
 use dwp_elf::{
     Class, Contribution, ContributionOffset, Endianness, SectionKind, Watched, WritableObject,
     WriteError,
@@ -11,7 +12,6 @@ use std::io;
 use std::io::{ErrorKind, Write};
 use std::process::Abort;
 use std::test::Fail;
-use thorin_objects::asserting::same;
 
 /// The machine of x86-64.
 const X86_64: u16 = 62;

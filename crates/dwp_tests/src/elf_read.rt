@@ -1,12 +1,12 @@
 //! Files of both classes and orders, and damaged ones.
 
+use crate::asserting::{same, same_at};
 use dwp_base::{Class, Endianness, SectionKind};
 use dwp_elf_read::{ElfFile, FileKind, RawRelocation, ReadError, WriteError};
 use std::alloc::{AllocError, Global};
 use std::io;
 use std::process::Abort;
 use std::test::Fail;
-use thorin_objects::asserting::{same, same_at};
 
 /// A GNU package of one unit, in ELF of 64 bits: 544 bytes.
 fn package(alloc: Global) -> Result<Vec<u8>, AllocError> {

@@ -1,12 +1,12 @@
 //! Indexes of both versions, and look-ups in them.
 
+use crate::asserting::{same, same_at};
 use dwp_base::{Contribution, ContributionOffset, Endianness, SectionKind};
 use dwp_bytes::{Encoding, Format, ReadError};
 use dwp_elf_read::ReadError as ElfReadError;
 use dwp_index::*;
 use std::alloc::{AllocError, Global};
 use std::test::Fail;
-use thorin_objects::asserting::{same, same_at};
 
 /// The unit 0x5 with 0x20 bytes of info and 0x10 of abbreviations, in the GNU form.
 const GNU: [u8; 64] = [

@@ -1,11 +1,11 @@
 //! Names of units, columns, and numbers of slots.
 
+use crate::asserting::same;
 use dwp_base::SectionKind;
 use dwp_table::{
     Bucketable, DebugTypeSignature, DwarfObject, DwoId, column_of, kind_of_column, slot_count,
 };
 use std::test::Fail;
-use thorin_objects::asserting::same;
 
 #[test]
 fn names_of_units(rt: HostRuntime) -> Result<(), Fail> {

@@ -1,5 +1,6 @@
 //! The texts of faults.
 
+use crate::asserting::same;
 use dwp_bytes::{ReadError as DwarfReadError, WriteError as DwarfWriteError};
 use dwp_elf_read::{ReadError as ElfReadError, WriteError as ElfWriteError};
 use std::alloc::{AllocError, Global};
@@ -7,7 +8,6 @@ use std::io;
 use std::process::Abort;
 use std::test::Fail;
 use thorin_faults::{Error, InputError, MissingReferencedObjectBehaviour};
-use thorin_objects::asserting::same;
 
 fn assert_texts(rt: &impl Abort, alloc: Global, rows: &[(Error, &str)]) -> Result<(), AllocError> {
     for (error, text) in rows {

@@ -1,12 +1,12 @@
 //! Rows by place, and string offsets of packages that are rewritten.
 
+use crate::asserting::same;
 use dwp_base::{Contribution, ContributionOffset, Endianness, SectionKind};
 use dwp_bytes::{Encoding, Format, ReadError};
 use dwp_index::{DwarfObject, DwoId, UnitIndex};
 use std::alloc::Global;
 use std::test::Fail;
 use thorin_faults::Error;
-use thorin_objects::asserting::same;
 use thorin_packaged::laws::{
     every_row_is_found_by_place, packaged_rows_are_read_alike, rows_are_found_by_place,
 };

@@ -1,12 +1,12 @@
 //! Hash tables, entries, written indexes and relocations.
 
+use crate::asserting::same;
 use dwp_base::{Contribution, ContributionOffset, Endianness, SectionKind};
 use dwp_bytes::{Encoding, Format, RelocationEntry};
 use dwp_elf_read::ElfFile;
 use dwp_index::{DwarfObject, DwoId, UnitIndex};
 use std::alloc::Global;
 use std::test::Fail;
-use thorin_objects::asserting::same;
 use thorin_parts::*;
 
 const GNU: Encoding = Encoding {

@@ -1,5 +1,6 @@
 //! What sessions read and place, and what they answer where memory runs out.
 
+use crate::asserting::same;
 use bumpalo::Bump;
 use std::alloc::AllocError;
 use std::borrow::CowSlice;
@@ -10,7 +11,6 @@ use std::rt::Files;
 use std::test::Fail;
 use std::{env, fs, io, process};
 use thorin_faults::{ArenaSession, BytesSession, InputError, MemorySession, Session, read_into};
-use thorin_objects::asserting::same;
 
 /// What was read and what was placed, one after the other.
 #[derive(Drop)]

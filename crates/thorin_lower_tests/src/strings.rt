@@ -1,12 +1,12 @@
 //! Tables of strings, and string offsets that are rewritten.
 
+use crate::asserting::same;
 use dwp_base::Endianness;
 use dwp_bytes::{Encoding, Format, ReadError};
 use std::alloc::{AllocError, Global};
 use std::hash::{FoldHasher, Hasher};
 use std::test::Fail;
 use thorin_faults::Error;
-use thorin_objects::asserting::same;
 use thorin_strings::{PackageStringOffset, PackageStringTable, Repeats};
 
 const GNU: Encoding = Encoding {

@@ -1,8 +1,7 @@
-//! What tests share: assertions, small objects, and what a package says of a unit. The functions
-//! promise nothing, so a test that calls them is proved without their insides.
+//! What the tests of packages share: small objects, and what a package says of a unit. The
+//! functions promise nothing, so a test that calls them is proved without their insides.
 #![tactic(auto)]
 
-pub mod asserting;
 mod objects;
 mod units;
 

@@ -1,5 +1,6 @@
 //! Packages that are cut off, or in which a byte is another, read and added.
 
+use crate::asserting::{same, same_at};
 use crate::packages::{answer, changed, finished};
 use crate::packing::{added, packed};
 use dwp_elf::{Class, Endianness, SectionKind};
@@ -7,7 +8,6 @@ use dwp_elf_read::ReadError;
 use dwp_index::{PackageError, PackageFile};
 use std::alloc::Global;
 use std::test::Fail;
-use thorin_objects::asserting::{same, same_at};
 use thorin_objects::{ABBREVIATIONS, cu, made, part, with_strings};
 
 /// What the builder answers of the beginning of a file that has a header of so many bytes.

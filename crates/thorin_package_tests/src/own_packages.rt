@@ -1,5 +1,6 @@
 //! Packages of the builder's own as inputs, and type units that differ.
 
+use crate::asserting::same;
 use crate::packages::index;
 use crate::packing::{added, packed};
 use dwp_elf::SectionKind;
@@ -7,7 +8,6 @@ use dwp_table::DebugTypeSignature;
 use std::alloc::Global;
 use std::process::Abort;
 use std::test::Fail;
-use thorin_objects::asserting::same;
 use thorin_objects::{
     ABBREVIATIONS, SPLIT_TYPE, TYPE_UNIT, cu, joined, longer_type_unit, object, part, plain,
     slots_read, split, split_unit, tu, unit, unit_bytes, with_strings, with_types,

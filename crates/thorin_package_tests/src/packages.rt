@@ -1,5 +1,6 @@
 //! Finished packages as inputs.
 
+use crate::asserting::{same, same_at};
 use crate::packing::{added, packed};
 use dwp_bytes::ReadError;
 use dwp_elf::{Endianness, SectionKind};
@@ -7,7 +8,6 @@ use dwp_index::{PackageError, PackageFile};
 use std::alloc::Global;
 use std::test::Fail;
 use thorin_faults::Error;
-use thorin_objects::asserting::{same, same_at};
 use thorin_objects::{
     ABBREVIATIONS, SPLIT_TYPE, cu, has_unit, joined, object, plain, slots_read, split_unit, tu,
     unit, unit_count, unit_range,

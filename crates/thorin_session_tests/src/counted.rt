@@ -1,5 +1,6 @@
 //! What is left where a read of the session, or a placing in it, fails, for each in turn.
 
+use crate::asserting::same;
 use crate::building::{Outcome, add_named, added, file_of, push_units};
 use crate::counting::{CountingSession, Refusal, four_objects};
 use crate::executables::{files, relocated};
@@ -12,7 +13,6 @@ use std::path::{AsPath, Path};
 use std::test::Fail;
 use thorin::{DwarfPackage, Input, pack, pack_groups};
 use thorin_faults::{Error, MissingReferencedObjectBehaviour};
-use thorin_objects::asserting::same;
 use thorin_objects::plain;
 
 const SKIP: MissingReferencedObjectBehaviour = MissingReferencedObjectBehaviour::Skip;

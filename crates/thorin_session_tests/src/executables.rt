@@ -1,5 +1,6 @@
 //! Packages of the objects that an executable refers to.
 
+use crate::asserting::same;
 use crate::building::{Outcome, added, push_units};
 use crate::packing::packed;
 use bumpalo::Bump;
@@ -11,7 +12,6 @@ use std::path::{AsPath, Path};
 use std::test::Fail;
 use thorin::{Input, pack};
 use thorin_faults::{Error, MemorySession, MissingReferencedObjectBehaviour};
-use thorin_objects::asserting::same;
 use thorin_objects::{joined, object, part, plain, renamed};
 
 /// An abbreviation 1 of a compile unit: GNU_dwo_name and comp_dir, both strings, and a GNU_dwo_id

@@ -1,6 +1,7 @@
 //! What is left where memory is refused: run with one allocation that fails, for each in turn. The
 //! next try has memory then, and gives the file of a run that met no refusal.
 
+use crate::asserting::same;
 use crate::building::{add, file_of, finished, unit_count, written};
 use crate::packing::packed;
 use bumpalo::Bump;
@@ -12,7 +13,6 @@ use std::process::Abort;
 use std::test::Fail;
 use thorin::{DwarfPackage, Packed};
 use thorin_faults::{Error, MemorySession};
-use thorin_objects::asserting::same;
 use thorin_objects::{
     TYPE_UNIT, cu, part, plain, tu, unit, unit_bytes, unit_string, with_strings, with_types,
 };

@@ -1,6 +1,7 @@
 //! What is left where memory is refused, of packages and executables as inputs and of type units
 //! that differ: run with one allocation that fails, for each in turn.
 
+use crate::asserting::same;
 use crate::building::{add, add_named, finished, unit_count, written};
 use crate::executables::naming_file;
 use crate::refused::{adds, sure, sure_whole, sure_with_types};
@@ -12,7 +13,6 @@ use std::process::Abort;
 use std::test::Fail;
 use thorin::DwarfPackage;
 use thorin_faults::{Error, MemorySession, MissingReferencedObjectBehaviour};
-use thorin_objects::asserting::same;
 use thorin_objects::{cu, longer_type_unit, plain, unit, with_types};
 
 #[test]

@@ -1,5 +1,6 @@
 //! Objects that say the same in rarer forms, the identifier 0, and what a builder prints.
 
+use crate::asserting::{same, same_at};
 use crate::packing::packed;
 use bumpalo::Bump;
 use dwp_elf::SectionKind;
@@ -7,7 +8,6 @@ use std::alloc::Global;
 use std::test::Fail;
 use thorin::DwarfPackage;
 use thorin_faults::BytesSession;
-use thorin_objects::asserting::{same, same_at};
 use thorin_objects::{cu, has_unit, object, plain, slots_read, unit_bytes};
 
 #[test]

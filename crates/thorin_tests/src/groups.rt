@@ -1,5 +1,6 @@
 //! Packing in groups.
 
+use crate::asserting::{same, same_at};
 use crate::packing::packed;
 use bumpalo::Bump;
 use dwp_elf::SectionKind;
@@ -8,7 +9,6 @@ use std::process::Abort;
 use std::test::Fail;
 use thorin::pack_groups;
 use thorin_faults::{BytesSession, Error};
-use thorin_objects::asserting::{same, same_at};
 use thorin_objects::{
     SPLIT_TYPE, cu, has_unit, numbered, plain, split, split_unit, tu, unit_bytes, unit_content,
 };

@@ -1,11 +1,11 @@
 //! Packages of many units and of many strings.
 
+use crate::asserting::same;
 use crate::packing::packed;
 use dwp_elf::{Endianness, SectionKind};
 use std::alloc::Global;
 use std::process::Abort;
 use std::test::Fail;
-use thorin_objects::asserting::same;
 use thorin_objects::{
     ABBREVIATIONS, cu, numbered, object, slots_read, unit, unit_bytes, unit_string,
 };

@@ -2,6 +2,8 @@
 #![tactic(auto)]
 
 #[cfg(test)]
+mod asserting;
+#[cfg(test)]
 mod forms;
 #[cfg(test)]
 mod groups;

@@ -1,5 +1,6 @@
 //! Packages of several objects.
 
+use crate::asserting::{same, same_at};
 use crate::packing::packed;
 use dwp_bytes::ReadError;
 use dwp_elf::{Class, Endianness, SectionKind};
@@ -8,7 +9,6 @@ use std::process::Abort;
 use std::test::Fail;
 use thorin::Packed;
 use thorin_faults::Error;
-use thorin_objects::asserting::{same, same_at};
 use thorin_objects::{
     ABBREVIATIONS, TYPE_UNIT, cu, has_unit, longer_type_unit, made, object, part, plain, renamed,
     slots_read, split_unit, tu, type_unit_count, unit, unit_bytes, unit_range, unit_string,

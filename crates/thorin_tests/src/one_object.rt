@@ -1,12 +1,12 @@
 //! Packages of one object.
 
+use crate::asserting::{same, same_at};
 use crate::packing::packed;
 use dwp_elf::{Class, Endianness, SectionKind};
 use std::alloc::Global;
 use std::process::Abort;
 use std::test::Fail;
 use thorin_faults::Error;
-use thorin_objects::asserting::{same, same_at};
 use thorin_objects::{
     ABBREVIATIONS, cu, made, object, part, plain, renamed, slots_read, split_unit, unit,
     unit_bytes, unit_content, unit_row, unit_string, with_strings,

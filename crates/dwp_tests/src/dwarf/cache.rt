@@ -1,8 +1,8 @@
 //! Abbreviations that are remembered.
 
+use crate::asserting::{same, same_at};
 use dwp_dwarf::*;
 use std::test::Fail;
-use thorin_objects::asserting::{same, same_at};
 
 /// Two tables. The first declares code 5 with tag 0x11, code 1 with tag 0x12, code 5 again and code
 /// 2, and ends at 22. The second begins at 23 with code 3; the declaration of code 4 behind it has

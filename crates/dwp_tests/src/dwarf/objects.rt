@@ -1,10 +1,10 @@
 //! Objects of compilers, and what their root entries say.
 
 use super::{first_unit, table_at};
+use crate::asserting::same;
 use Endianness::Little;
 use dwp_dwarf::*;
 use std::test::Fail;
-use thorin_objects::asserting::same;
 
 /// Sections of an object that a compiler wrote, and what `llvm-dwarfdump -v` prints of its root.
 struct Object {

@@ -1,8 +1,8 @@
 //! How many bytes a value takes.
 
+use crate::asserting::{same, same_at};
 use Endianness::Little;
 use dwp_dwarf::*;
-use thorin_objects::asserting::{same, same_at};
 
 /// How many bytes a value of a form takes from `01` and zero bytes.
 const SIZES: [(u64, usize); 46] = [

@@ -1,12 +1,12 @@
 //! Each fault of an executable.
 
 use super::files::*;
+use crate::asserting::same;
 use dwp_dwarf::ReadError;
 use dwp_elf_read::ReadError as ElfError;
 use std::alloc::Global;
 use std::test::Fail;
 use thorin_faults::Error;
-use thorin_objects::asserting::same;
 
 /// The fault of an executable with these sections, which names no unit.
 fn fault_in(alloc: Global, sections: &[FileSection<'_>]) -> Result<Error, Fail> {
