@@ -15,11 +15,13 @@ step index k h =
     let more : length index.rows - k ≡ suc (length index.rows - (k + 1)) = omega arith in
     ap (λ n. filter (λ s. not (eqb s.1 0)) (map (slot_at index) (range_with_len k n))) more
 
-pub used_here : (index : Index) (k : ℕ) → k < length index.rows → (get_or index.rows k 0 ≡ 0 → ⊥) → used_in index k ≡ slot_at index k ∷ used_in index (k + 1)
+pub used_here : (index : Index) (k : ℕ) → k < length index.rows → (get_or index.rows k 0 ≡ 0 → ⊥)
+    → used_in index k ≡ slot_at index k ∷ used_in index (k + 1)
 used_here index k h ne = step index k h ∙ ap (λ b. cond (not b) (slot_at index k ∷ used_in index
     (k + 1)) (used_in index (k + 1))) (ne_eqb _ _ ne)
 
-pub used_after : (index : Index) (k : ℕ) → k < length index.rows → get_or index.rows k 0 ≡ 0 → used_in index k ≡ used_in index (k + 1)
+pub used_after : (index : Index) (k : ℕ) → k < length index.rows → get_or index.rows k 0 ≡ 0
+    → used_in index k ≡ used_in index (k + 1)
 used_after index k h e = step index k h ∙ ap (λ b. cond (not b) (slot_at index k ∷ used_in index
     (k + 1)) (used_in index (k + 1))) (eq-eqb _ _ e)
 

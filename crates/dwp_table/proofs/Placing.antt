@@ -95,7 +95,8 @@ module _ (ids rows : List ℕ) (x i : ℕ) (table : IsHashTable ids rows) (free 
         let at = table.placed r p in (
           at.0,
           subst (λ y. IsPlacedAfter with_last y (r + 1) at.0)
-              (sym (get_or-append ids (x ∷ []) 0 r p)) (stays rows x i (length ids + 1) free _ (r + 1)
+              (sym (get_or-append ids (x ∷ []) 0 r p))
+              (stays rows x i (length ids + 1) free _ (r + 1)
               at.0 (omega arith) at.1),
         )
     | no p ↦

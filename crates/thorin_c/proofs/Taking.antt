@@ -35,7 +35,8 @@ taken-next [] input old middle new h k =
 taken-next (x ∷ done) input old middle new h k = step (taken x.bytes.now old) (λ s g.
     taken-next done input s middle new g k) h where
       step : (first : Result State Fault) → ((s : State) → all_taken done s ≡ Ok middle
-          → all_taken (done ++ input ∷ []) s ≡ Ok new) → (first >>= λ s. all_taken done s) ≡ Ok middle
+          → all_taken (done ++ input ∷ []) s ≡ Ok new)
+          → (first >>= λ s. all_taken done s) ≡ Ok middle
           → (first >>= λ s. all_taken (done ++ input ∷ []) s) ≡ Ok new
       step (Ok s) next h = next s h
       step (Err e) next h = absurd cc

@@ -380,7 +380,8 @@ info-used file begun now false h = record {
       (sym (same_Some _ _ (ok-eq {E = Fault} _ now h ∙ is))) ∙ new-strings file begun;
 }
 
-pub uses-strings : (bytes : List ℕ) (begun : Option InProgress) (now : InProgress) → IsSound now → with_input bytes begun ≡ Ok (Some now) → UsesStrings bytes begun now
+pub uses-strings : (bytes : List ℕ) (begun : Option InProgress) (now : InProgress) → IsSound now
+    → with_input bytes begun ≡ Ok (Some now) → UsesStrings bytes begun now
 unfolding with_input used_by
 uses-strings bytes begun now fine h =
     let s = bind-inv (opened bytes) _ (Some now) h in

@@ -88,7 +88,8 @@ used-cond : (kind : SectionKind) (r : IndexEntry) (rows : List IndexEntry) (b : 
 used-cond kind r rows true = refl
 used-cond kind r rows false = refl
 
-pub used-chosen : (kind : SectionKind) (rows : List IndexEntry) → is_used rows kind ≡ true → (is_used (rows_of true rows) kind ≡ true) ⊎ (is_used (rows_of false rows) kind ≡ true)
+pub used-chosen : (kind : SectionKind) (rows : List IndexEntry) → is_used rows kind ≡ true
+    → (is_used (rows_of true rows) kind ≡ true) ⊎ (is_used (rows_of false rows) kind ≡ true)
 used-chosen kind [] h = inl h
 used-chosen kind (r ∷ rs) h =
     ⊎_elim

@@ -82,7 +82,9 @@ one_of : (a b : Bool) → (a || b) ≡ true → (a ≡ true) ⊎ (b ≡ true)
 one_of true b e = inl refl
 one_of false b e = inr e
 
-pub used_known : (version : ℕ) (entries : List IndexEntry) → ((i : ℕ) (d : IndexEntry) → i < length entries → parts_test (format_test version) (get_or entries i d) ≡ Ok tt) → (kind : SectionKind) → is_used entries kind ≡ true → has_number version kind ≡ true
+pub used_known : (version : ℕ) (entries : List IndexEntry) → ((i : ℕ) (d : IndexEntry)
+    → i < length entries → parts_test (format_test version) (get_or entries i d) ≡ Ok tt)
+    → (kind : SectionKind) → is_used entries kind ≡ true → has_number version kind ≡ true
 used_known version [] tests kind e = absurd (false≢true e)
 used_known version (x ∷ xs) tests kind e =
     elim (one_of (is_some (contribution_to kind x)) (is_used xs kind) e) [

@@ -59,7 +59,8 @@ grown_more before bytes places new places' s n g free is_new is_long is_places =
     }
 
 -- a string that stands where a guess says
-pub used_there : (bytes s : List ℕ) (at : ℕ) → data_of (strings_in bytes) ≡ bytes → BeginsAt bytes at × (string_from bytes at ≡ s) → IsUsed bytes bytes s at
+pub used_there : (bytes s : List ℕ) (at : ℕ) → data_of (strings_in bytes) ≡ bytes
+    → BeginsAt bytes at × (string_from bytes at ≡ s) → IsUsed bytes bytes s at
 used_there bytes s at ended here = λ distinct.
     let known = known_place_in bytes s at ended distinct here.0 here.1 in
     (known.1, sym (cond-true _ _ _ ((has_Decides (strings_in bytes) s).1 known.0)))
@@ -77,7 +78,8 @@ last_apart ss s distinct there =
     distinct k (length ss) s within (omega arith) (first ∙ sym last)
 
 -- a string that went last
-pub used_last : (bytes new s : List ℕ) (n : ℕ) → data_of (strings_in bytes) ≡ bytes → IsZeroFree s → new ≡ bytes ++ terminated s → n ≡ length bytes → IsUsed bytes new s n
+pub used_last : (bytes new s : List ℕ) (n : ℕ) → data_of (strings_in bytes) ≡ bytes → IsZeroFree s
+    → new ≡ bytes ++ terminated s → n ≡ length bytes → IsUsed bytes new s n
 used_last bytes new s n ended free is_new is_long = λ distinct.
     let strings : strings_in new ≡ strings_in bytes ++ s ∷ [] = ap strings_in is_new ∙
     (strings_push bytes s ended free).0 in

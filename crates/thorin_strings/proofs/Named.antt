@@ -121,7 +121,8 @@ used_by false ss s h table free =
       offset = offset_last ss s h;
     })
 
-pub used : (ss : List (List ℕ)) (s : List ℕ) → IsTable ss → IsZeroFree s → IsUsed ss (with_string ss s) s
+pub used : (ss : List (List ℕ)) (s : List ℕ) → IsTable ss → IsZeroFree s
+    → IsUsed ss (with_string ss s) s
 used ss s = used_by (has ss s) ss s refl
 
 -- a string behind its offset

@@ -25,7 +25,8 @@ module _ {X : Type 0} (p : X → Bool) where
       (filter p xs)))) [
         | true ↦ elim (p y) as (λ b. IsPermutation (x ∷ cond b (y ∷ filter p xs) (filter p xs))
             (cond b (y ∷ x ∷ filter p xs) (x ∷ filter p xs))) [
-              | true ↦ IsPermutation-swap (x ∷ y ∷ filter p xs) (y ∷ x ∷ filter p xs) 0 1 (omega arith)
+              | true ↦ IsPermutation-swap (x ∷ y ∷ filter p xs) (y ∷ x ∷ filter p xs)
+                  0 1 (omega arith)
                   (omega arith) refl
               | false ↦ IsPermutation-refl _
             ]
