@@ -11,7 +11,8 @@ ghost use Rattle.thorin_c.specs.Packing.{Accepts, StopsAt, IsPackage, IsRefusal,
 ghost use Rattle.thorin_c.specs.Packing.{TellsLeft, Packs, Needs, Refuses, TellsUnfinished};
 ghost use Rattle.thorin_c.specs.Packing.{RunsOutAt, RunsOutAfter, Differ, IsPackingStatus};
 ghost use Rattle.thorin_c.specs.Packing.{IsDifferingStatus, TellsAlone, TellsOfPackage};
-ghost use Rattle.thorin_c.specs.Packing.{TellsOfInput, TellsOfFault, TellsOfMemory, TellsOfDiffering};
+ghost use Rattle.thorin_c.specs.Packing.{TellsOfInput, TellsOfFault, TellsOfMemory};
+ghost use Rattle.thorin_c.specs.Packing.{TellsOfDiffering};
 
 use crate::faults::tell;
 use crate::session::NoFiles;
@@ -54,8 +55,8 @@ enum Refusal {
 /// `report.size` is the length that is needed; 11 where an input is refused, the first of them
 /// `report.input`; 12 where the package can't be finished or written; 13 where memory ran out at
 /// the input `report.input`, or, at their number, while the package was finished and written. Under
-/// 11 and 12 the fault's number and text stand in `report`. The other fields of `report` are left as
-/// they are.
+/// 11 and 12 the fault's number and text stand in `report`. The other fields of `report` are left
+/// as they are.
 #[tactic(auto, using(crate::proofs::Taking::refuses, crate::proofs::Taking::unfinished, crate::proofs::Taking::runs_out_at, crate::proofs::Taking::runs_out_after))]
 #[unsafe(no_mangle)]
 pub extern "C" fn thorin_pack(

@@ -28,8 +28,8 @@ pub(crate) const COLUMNS: [(SectionKind, &'static str); 10] = [
 /// identifier 1 to 16 hexadecimal digits, with or without `0x` in front. Answers the status 0.
 ///
 /// # Errors
-/// `BadKind`, then `BadIdentifier`; `Input` where the file can't be read, `Malformed` where it is no
-/// package, `NoUnit` where it has no such unit; `Line` or `Memory`.
+/// `BadKind`, then `BadIdentifier`; `Input` where the file can't be read, `Malformed` where it is
+/// no package, `NoUnit` where it has no such unit; `Line` or `Memory`.
 pub fn find<O: Write>(
     rt: &HostRuntime,
     file: &str,

@@ -8,12 +8,13 @@ use dwp_index::{PackageFile, PackagedUnit, UnitEntry};
 use dwp_table::{Bucketable, DwarfObject};
 use std::io::{BufWriter, Write};
 
-/// Prints a line for each unit of a package: compilation units by row, then type units by row. Where
-/// sizes are asked for, each line goes on with the unit's, and totals follow. Answers the status 0.
+/// Prints a line for each unit of a package: compilation units by row, then type units by row.
+/// Where sizes are asked for, each line goes on with the unit's, and totals follow. Answers the
+/// status 0.
 ///
 /// # Errors
-/// `Input` where the file can't be read, `Malformed` where it is no package or a unit can't be looked
-/// up, `Line` or `Memory`.
+/// `Input` where the file can't be read, `Malformed` where it is no package or a unit can't be
+/// looked up, `Line` or `Memory`.
 pub fn list<O: Write>(
     rt: &HostRuntime,
     file: &str,

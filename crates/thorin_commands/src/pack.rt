@@ -26,7 +26,8 @@ use thorin_faults::{ArenaSession, MissingReferencedObjectBehaviour, Session};
 /// What is to be packed, and where to.
 #[derive(Drop)]
 pub struct Packing<'m, 'a> {
-    /// The package's file. Where none is named, it is that of the one executable with `.dwp` behind.
+    /// The package's file. Where none is named, it is that of the one executable with `.dwp`
+    /// behind.
     pub output: Option<&'a str>,
     /// The objects and packages that are inputs.
     pub inputs: Option<&'m [&'a str]>,

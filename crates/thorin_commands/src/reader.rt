@@ -63,7 +63,8 @@ fn read_whole<F: Read>(file: &mut F, len: u64, room: &mut Vec<u8>) -> Result<(),
 /// One read over what a buffer holds; how many bytes it read, none where it was interrupted.
 fn read_once<F: Read>(file: &mut F, buffer: &mut [u8]) -> Result<usize, InputError>
     ensures within { IfOk result (λ n. n ≤ length buffer.new) }
-    ensures bytes { IfOk result (λ n. Consumes (F.remaining file.old) (F.remaining file.new) (take n buffer.new)) }
+    ensures bytes { IfOk result (λ n. Consumes (F.remaining file.old) (F.remaining file.new)
+        (take n buffer.new)) }
 {
     match file.read(buffer) {
         Ok(count) => Ok(count),

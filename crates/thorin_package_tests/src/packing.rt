@@ -20,8 +20,8 @@ pub fn packed(alloc: Global, objects: &[&[u8]]) -> Result<Packed, Error> {
     pack(alloc, &session, &inputs)
 }
 
-/// What a package says once inputs were added: what the last one answered, whether the package packs
-/// again, and its units.
+/// What a package says once inputs were added: what the last one answered, whether the package
+/// packs again, and its units.
 #[derive(Drop)]
 pub struct Says {
     pub answer: Result<(), Error>,

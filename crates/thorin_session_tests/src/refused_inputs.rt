@@ -43,8 +43,8 @@ fn sure_files(alloc: Global) -> Result<BTreeMap<String, Vec<u8>>, Error> {
     }
 }
 
-// Adds the executable. One that was refused is added by a second try: want of memory is never passed
-// over.
+// Adds the executable. One that was refused is added by a second try: want of memory is never
+// passed over.
 fn add_surely<'o, 's: 'o, 'm>(
     rt: &impl Abort,
     builder: &mut DwarfPackage<'o, 's, MemorySession<'m>>,

@@ -24,8 +24,8 @@ const FREE: usize = 0;
 /// A section names a long string as often as it likes by a few bytes; by this it is read once. The
 /// pairs stand in trees, each under a pair before it, to the left or the right by a bit of its
 /// offset in the section: the pair of an offset is found, or its place, in as many steps as an
-/// offset has bits at most. A short string's pair is found by the cell of its offset, where that was
-/// free. Trees and cells save time and decide nothing: a pair counts for its own offset alone.
+/// offset has bits at most. A short string's pair is found by the cell of its offset, where that
+/// was free. Trees and cells save time and decide nothing: a pair counts for its own offset alone.
 #[derive(Drop)]
 pub struct Repeats {
     alloc: Global,

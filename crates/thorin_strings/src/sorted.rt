@@ -30,10 +30,10 @@ use thorin_faults::Error;
 
 /// Distinct strings, in order of first use, found by their order.
 ///
-/// Beside the data stands where each begins, in the order of the strings, guesses of that by hashes,
-/// and the place behind the string that was found last: inputs that share strings often use them in
-/// the same order, so a string is looked for there first, then where its hash guesses, and then by
-/// the order.
+/// Beside the data stands where each begins, in the order of the strings, guesses of that by
+/// hashes, and the place behind the string that was found last: inputs that share strings often use
+/// them in the same order, so a string is looked for there first, then where its hash guesses, and
+/// then by the order.
 #[derive(Drop)]
 pub(crate) struct SortedStrings {
     alloc: Global,

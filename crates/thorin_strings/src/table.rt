@@ -1,7 +1,8 @@
 //! The table of distinct strings of a package (DWARF 5, 7.26).
 
 ghost use Rattle.std.specs.Prelude.{◌≡◌, ◌↔◌, ◌+◌, ◌*◌, ◌<◌, ◌^◌, ◌++◌, ℕ, List, [], length, take};
-ghost use Rattle.std.specs.Prelude.{Ok, OnOk, IfOk, IfErr, IsSome, IfSome, IsNone, IsTrue, Contains};
+ghost use Rattle.std.specs.Prelude.{Ok, OnOk, IfOk, IfErr};
+ghost use Rattle.std.specs.Prelude.{IsSome, IfSome, IsNone, IsTrue, Contains};
 ghost use Rattle.dwp_bytes.specs.Encoding.{offset_size};
 ghost use Rattle.dwp_bytes.specs.StringOffsets.{header_size};
 ghost use Rattle.thorin_strings.specs.StringOffsets.{remapped_entries, entry_bytes};
