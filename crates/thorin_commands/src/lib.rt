@@ -1,22 +1,22 @@
 //! The commands of the program `thorin`, over the words that each was given.
 #![tactic(auto)]
 
-mod check;
-mod find;
+mod checking;
+mod finding;
 mod identifier;
 mod input;
-mod list;
+mod listing;
 mod output;
-mod pack;
+mod packing;
 mod reader;
 mod response;
 mod sizes;
 mod telling;
 mod write;
 
-pub use check::check;
-pub use find::find;
-pub use list::list;
+pub use checking::check;
+pub use finding::find;
+pub use listing::list;
 pub use output::{Failure, report, show};
-pub use pack::{Packing, pack};
+pub use packing::{Packing, pack};
 pub use response::expanded;

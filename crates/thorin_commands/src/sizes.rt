@@ -2,7 +2,7 @@
 
 ghost use Rattle.std.specs.Prelude.{◌≡◌, ◌-◌, ◌^◌, min, sum_by};
 
-use crate::find::COLUMNS;
+use crate::finding::COLUMNS;
 use crate::output::Failure;
 use dwp_elf::{Contribution, ElfFile, SectionKind};
 use std::alloc::Global;

@@ -3,7 +3,7 @@ use Rattle.thorin_join.specs.Builder.{start}
 use Rattle.thorin_builder.specs.Taking.{Outcome}
 use Rattle.thorin.specs.declared.packing.Input.{Input}
 use Rattle.thorin_commands.specs.Packing.{AreAllAccepted}
-use Rattle.thorin_commands.proofs.pack.packed.Goals as goal
+use Rattle.thorin_commands.proofs.packing.packed.Goals as goal
 
 pub returns : goal.returns
 returns g c =

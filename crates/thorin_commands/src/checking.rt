@@ -1,8 +1,8 @@
 //! `thorin check`.
 
-use crate::find::short_kind;
+use crate::finding::short_kind;
 use crate::input::{read_file, test_input};
-use crate::list::{entries_by_row, is_type};
+use crate::listing::{entries_by_row, is_type};
 use crate::output::{Failure, buffer_failure};
 use crate::telling::Count;
 use bumpalo::Bump;

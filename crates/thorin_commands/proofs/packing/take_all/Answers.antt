@@ -6,7 +6,7 @@ use Rattle.thorin.specs.declared.packing.Input.TheVariants.{Object}
 use Rattle.thorin.specs.Run.{Took}
 use Rattle.thorin_commands.specs.Packing.{anything}
 use Rattle.thorin_commands.proofs.Inputs.{taken-next}
-use Rattle.thorin_commands.proofs.pack.take_all.Goals as goal
+use Rattle.thorin_commands.proofs.packing.take_all.Goals as goal
 
 pub loop-input-preserved : goal.loop-input-preserved
 loop-input-preserved g c =

@@ -1,6 +1,6 @@
 //! `thorin list`.
 
-use crate::find::{COLUMNS, short_kind};
+use crate::finding::{COLUMNS, short_kind};
 use crate::input::read_file;
 use crate::output::{Failure, buffer_failure};
 use crate::sizes::Sizes;
