@@ -4,8 +4,9 @@
 string_inputs.py FOLDER [NAME=COUNT..]: each object is FOLDER/NAME-COUNT.dwo. A NAME is one of
 
     random    distinct strings of 22 bytes, the first 14 of which are the same, in an order that is far from theirs
-    equal     distinct strings of 16 bytes that have one hash in thorin's table, so that it sorts them at once
-    late      those of random, and then two of one hash, so that thorin's table sorts all of them at the end
+    equal     distinct strings of 16 bytes, the first two of one hash in thorin's table, which finds all by their order
+              from then on, and the others of one hash by which it guesses places in that order
+    late      those of random, and then two of one hash, so that thorin's table orders all of them at the end
     long      distinct strings of 1,008 bytes, the first 1,000 of which are the same
     suffixes  all ends of one string of COUNT letters; a package of them has COUNT * (COUNT + 3) / 2 bytes of strings
 
@@ -42,22 +43,34 @@ def random(count):
 
 
 # The hash multiplies what is left of each half of 16 bytes; nothing is left of a second half like this, so it is 0.
-SECOND_HALF = 0x9E37_79B9_7F4A_7C15
+SECOND_HALF = struct.pack("<Q", 0x9E37_79B9_7F4A_7C15)
+
+
+def twins():
+    """Two strings of one hash."""
+    return [b"a" * 8 + SECOND_HALF, b"b" * 8 + SECOND_HALF]
+
+
+def turned(state):
+    return (state << 23 | state >> 41) % 2 ** 64
 
 
 def equal(count):
-    seed = 7
-    while count:
+    yield from twins()
+    seed, left = 7, count - 2
+    while left > 0:
         seed = (seed * 6_364_136_223_846_793_005 + 1_442_695_040_888_963_407) % 2 ** 64
-        string = struct.pack("<QQ", seed | 0x0101_0101_0101_0101, SECOND_HALF)
+        first = seed | 0x0101_0101_0101_0101
+        second = turned((turned(16) ^ first) * 0x9E37_79B9_7F4A_7C15 % 2 ** 64) ^ 0x1234_5678_9ABC_DEF1
+        string = struct.pack("<QQ", first, second)
         if 0 not in string:
-            count -= 1
+            left -= 1
             yield string
 
 
 def late(count):
     yield from random(count)
-    yield from equal(2)
+    yield from twins()
 
 
 def long(count):
