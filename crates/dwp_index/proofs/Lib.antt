@@ -8,6 +8,7 @@ pub mod FirstUnit
 pub mod PackageLookUp
 pub mod Steps
 pub mod TwoPlaces
+pub mod LengthAlone
 pub mod UnitAlone
 pub mod UsedOnce
 pub mod HeldContents

@@ -1,20 +1,16 @@
 -- A unit that was read from a section is read again from its own bytes alone.
-use Rattle.std.proofs.Common.{◌≡◌, ℕ, zero, suc, ◌+◌, ◌-◌, ◌≤◌, Bool, true, false, cond, ltb, leb}
-use Rattle.std.proofs.Common.{eqb, ◌&&◌, List, length, take, drop, Result, Ok, Err, refl, sym, ap}
-use Rattle.std.proofs.Common.{subst, ◌∙◌, inl, inr, arith}
+use Rattle.std.proofs.Common.{◌≡◌, ℕ, zero, suc, ◌+◌, ◌-◌, ◌≤◌, Bool, true, false, cond, leb, eqb}
+use Rattle.std.proofs.Common.{◌&&◌, List, length, take, drop, Result, Ok, Err, refl, sym, ap, subst}
+use Rattle.std.proofs.Common.{◌∙◌, inl, inr, arith}
 use Rattle.std.specs.Prelude.{[], Some, slice_get}
-use Rattle.std.proofs.lemmas.Bool.{le-ltb, ltb-false, eqb-false}
-use Rattle.std.proofs.lemmas.List.{get_or-take, drop-take, drop-drop, length-take-le, length-drop}
+use Rattle.std.proofs.lemmas.Bool.{eqb-false}
+use Rattle.std.proofs.lemmas.List.{drop-take, length-take-le, length-drop}
 use Rattle.std.proofs.Math.Seq.{take-length}
-use Rattle.dwp_base.specs.Numbers.{number}
 use Rattle.dwp_base.specs.Reading.{◌>>=◌}
 use Rattle.dwp_base.specs.declared.endian.Endianness.{Endianness}
-use Rattle.dwp_base.specs.declared.endian.Endianness.TheVariants.{Little, Big}
 use Rattle.dwp_bytes.specs.Input.{Input, section, split_at, number_at, offset_at}
 use Rattle.dwp_bytes.specs.declared.encoding.Format.{Format}
-use Rattle.dwp_bytes.specs.declared.encoding.Format.TheVariants.{Dwarf32, Dwarf64}
 use Rattle.dwp_bytes.specs.declared.fault.ReadError.{ReadError}
-use Rattle.dwp_bytes.specs.declared.fault.ReadError.TheVariants.{UnexpectedEof, ReservedLength}
 use Rattle.dwp_bytes.specs.declared.fault.ReadError.TheVariants.{UnknownVersion}
 use Rattle.dwp_bytes.specs.declared.encoding.Encoding.{Encoding}
 use Rattle.dwp_dwarf.specs.Units.{Unit, initial_length_at, address_size_at, older_type_at, older_at}
@@ -22,217 +18,9 @@ use Rattle.dwp_dwarf.specs.Units.{newer_at, header_at, unit_at, listed, units_wi
 use Rattle.dwp_dwarf.specs.Units.{UnitsAreTaken}
 use Rattle.dwp_dwarf.specs.declared.unit.UnitSection.{UnitSection}
 use Rattle.dwp_index.specs.Package.{encoding_in}
-use Rattle.dwp_index.proofs.Steps.{bind_ok, guard_ok, chosen}
+use Rattle.dwp_index.proofs.LengthAlone.{split_goes, split_inverse, Lengths, length_is}
+use Rattle.dwp_index.proofs.Steps.{bind_ok, chosen}
 use Rattle.dwp_index.proofs.TwoPlaces.{plain, SameEncoding, header_agrees}
-
--- ---- a number at the front of a beginning
-abbrev Reads : Endianness → ℕ → ℕ → List ℕ → Type 0
-Reads order n k bytes = number order n (take k bytes) ≡ number order n bytes
-
-four : (order : Endianness) (k : ℕ) (bytes : List ℕ) → 4 ≤ k → Reads order 4 k bytes
-four Little k bytes h =
-    let a = get_or-take k bytes 0 0 (omega arith) in
-    let b = get_or-take k bytes 1 0 (omega arith) in
-    let c = get_or-take k bytes 2 0 (omega arith) in
-    let d = get_or-take k bytes 3 0 (omega arith) in
-    rw (a, b, c, d) refl
-four Big k bytes h =
-    let a = get_or-take k bytes 0 0 (omega arith) in
-    let b = get_or-take k bytes 1 0 (omega arith) in
-    let c = get_or-take k bytes 2 0 (omega arith) in
-    let d = get_or-take k bytes 3 0 (omega arith) in
-    rw (a, b, c, d) refl
-
-eight : (order : Endianness) (k : ℕ) (bytes : List ℕ) → 8 ≤ k → Reads order 8 k bytes
-eight Little k bytes h =
-    let a = get_or-take k bytes 0 0 (omega arith) in
-    let b = get_or-take k bytes 1 0 (omega arith) in
-    let c = get_or-take k bytes 2 0 (omega arith) in
-    let d = get_or-take k bytes 3 0 (omega arith) in
-    let e = get_or-take k bytes 4 0 (omega arith) in
-    let f = get_or-take k bytes 5 0 (omega arith) in
-    let g = get_or-take k bytes 6 0 (omega arith) in
-    let i = get_or-take k bytes 7 0 (omega arith) in
-    rw (a, b, c, d, e, f, g, i) refl
-eight Big k bytes h =
-    let a = get_or-take k bytes 0 0 (omega arith) in
-    let b = get_or-take k bytes 1 0 (omega arith) in
-    let c = get_or-take k bytes 2 0 (omega arith) in
-    let d = get_or-take k bytes 3 0 (omega arith) in
-    let e = get_or-take k bytes 4 0 (omega arith) in
-    let f = get_or-take k bytes 5 0 (omega arith) in
-    let g = get_or-take k bytes 6 0 (omega arith) in
-    let i = get_or-take k bytes 7 0 (omega arith) in
-    rw (a, b, c, d, e, f, g, i) refl
-
-number_goes : (order : Endianness) (n p : ℕ) (bytes : List ℕ) → n ≤ length bytes
-    → number_at n (plain order p bytes) ≡ Ok (
-      number order n bytes,
-      plain order
-          (p + n) (drop n bytes),
-    )
-unfolding number_at
-number_goes order n p bytes h =
-    ap (λ b. cond b (Err UnexpectedEof) (Ok (
-      number order n bytes,
-      plain order (p + n)
-          (drop n bytes),
-    ))) (le-ltb _ _ h)
-
-split_goes : (order : Endianness) (n p : ℕ) (bytes : List ℕ) → n ≤ length bytes
-    → split_at n (plain order p bytes) ≡ Ok (
-      plain order p (take n bytes),
-      plain order
-          (p + n) (drop n bytes),
-    )
-unfolding split_at
-split_goes order n p bytes h =
-    ap (λ b. cond b (Err UnexpectedEof) (Ok (
-      plain order p (take n bytes),
-      plain order (p + n)
-          (drop n bytes),
-    ))) (le-ltb _ _ h)
-
--- an initial length takes 4 or 12 bytes, and is the same where no others follow than those of its
--- unit
-record IsLength (order : Endianness) (p : ℕ) (bytes : List ℕ) (x : (Format × ℕ)
-    × Input) : Type 0 where
-  taken : ℕ
-  fits : taken ≤ length bytes
-  left : x.1 ≡ plain order (p + taken) (drop taken bytes)
-  alone : (k : ℕ) → taken ≤ k → k ≤ length bytes → initial_length_at (plain order 0 (take k bytes))
-      ≡ Ok (x.0, plain order taken (drop taken (take k bytes)))
-
-number_inverse : (order : Endianness) (n p : ℕ) (bytes : List ℕ) (y : ℕ × Input)
-    → number_at n (plain order p bytes) ≡ Ok y → (n ≤ length bytes)
-    × ((number order n bytes, plain order (p + n) (drop n bytes)) ≡ y)
-unfolding number_at
-number_inverse order n p bytes y e = let g = guard_ok (ltb (length bytes) n) UnexpectedEof
-    (number order n bytes, plain order (p + n) (drop n bytes)) y e in (ltb-false _ _ g.0, g.1)
-
-split_inverse : (order : Endianness) (n p : ℕ) (bytes : List ℕ) (y : Input × Input)
-    → split_at n (plain order p bytes) ≡ Ok y → (n ≤ length bytes)
-    × ((plain order p (take n bytes), plain order (p + n) (drop n bytes)) ≡ y)
-unfolding split_at
-split_inverse order n p bytes y e = let g = guard_ok (ltb (length bytes) n) UnexpectedEof
-    (plain order p (take n bytes), plain order (p + n) (drop n bytes)) y e in
-    (ltb-false _ _ g.0, g.1)
-
-abbrev Lengths : Type 0
-Lengths = Result ((Format × ℕ) × Input) ReadError
-
-abbrev wide : Input → Lengths
-wide i = number_at 8 i >>= λ m. Ok ((Dwarf64, m.0), m.1)
-
-abbrev after_four : ℕ → Input → Lengths
-after_four v i = cond (ltb v 0xfffffff0) (Ok ((Dwarf32, v), i)) (cond (eqb v 0xffffffff) (wide i)
-    (Err ReservedLength))
-
-by_four : (i : Input) → initial_length_at i ≡ (number_at 4 i >>= λ n. after_four n.0 n.1)
-unfolding initial_length_at
-by_four i = refl
-
-narrow_is : (v : ℕ) (i : Input) → ltb v 0xfffffff0 ≡ true → after_four v i ≡ Ok ((Dwarf32, v), i)
-narrow_is v i e = ap (λ b. cond b (Ok ((Dwarf32, v), i)) (cond (eqb v 0xffffffff) (wide i)
-    (Err ReservedLength))) e
-
-wide_is : (v : ℕ) (i : Input) → ltb v 0xfffffff0 ≡ false → eqb v 0xffffffff ≡ true
-    → after_four v i ≡ wide i
-wide_is v i e f = ap (λ b. cond b (Ok ((Dwarf32, v), i)) (cond (eqb v 0xffffffff) (wide i)
-    (Err ReservedLength))) e ∙ ap (λ b. cond b (wide i) (Err ReservedLength)) f
-
--- the length of a beginning, from the number in front
-four_alone : (order : Endianness) (bytes : List ℕ) (k : ℕ) → 4 ≤ k → k ≤ length bytes
-    → initial_length_at (plain order 0 (take k bytes)) ≡ after_four (number order 4 bytes)
-    (plain order 4 (drop 4 (take k bytes)))
-four_alone order bytes k h fits =
-    let len = length-take-le k bytes fits in
-    by_four (plain order 0 (take k bytes))
-    ∙ ap (λ (r : Result (ℕ × Input) ReadError). r >>= λ n. after_four n.0 n.1)
-    (number_goes order 4 0 (take k bytes) (omega (arith, len)))
-    ∙ ap (λ (v : ℕ). after_four v (plain order 4 (drop 4 (take k bytes)))) (four order k bytes h)
-
-wide_alone : (order : Endianness) (bytes : List ℕ) (k : ℕ) → 12 ≤ k → k ≤ length bytes
-    → wide (plain order 4 (drop 4 (take k bytes))) ≡ Ok (
-      (Dwarf64, number order 8 (drop 4 bytes)),
-      plain order 12 (drop 12 (take k bytes)),
-    )
-wide_alone order bytes k h fits =
-    let len = length-take-le k bytes fits in
-    let rest = drop 4 (take k bytes) in
-    let more : k ≡ 4 + (k - 4) = omega arith in
-    let begins : rest ≡ take (k - 4) (drop 4 bytes) = ap (λ n. drop 4 (take n bytes)) more ∙
-    drop-take 4 (k - 4) bytes in
-    let same : number order 8 rest ≡ number order 8 (drop 4 bytes) = ap (λ l. number order 8 l)
-    begins ∙ eight order (k - 4) (drop 4 bytes) (omega arith) in
-    ap (λ (r : Result (ℕ × Input) ReadError). r >>= λ m. Ok ((Dwarf64, m.0), m.1))
-    (number_goes order 8 4 rest (omega (arith, length-drop 4 (take k bytes), len)))
-    ∙ ap (λ (v : ℕ). Ok ((Dwarf64, v), plain order 12 (drop 8 rest))) same
-    ∙ ap (λ (l : List ℕ). Ok ((Dwarf64, number order 8 (drop 4 bytes)), plain order 12 l))
-    (drop-drop 8 4 (take k bytes))
-
-module _ (order : Endianness) (p : ℕ) (bytes : List ℕ) (x : (Format × ℕ) × Input) where
-  narrow_length : 4 ≤ length bytes → ltb (number order 4 bytes) 0xfffffff0 ≡ true
-      → ((Dwarf32, number order 4 bytes), plain order (p + 4) (drop 4 bytes)) ≡ x
-      → IsLength order p bytes x
-  narrow_length fits narrow same = record {
-    taken = 4;
-    fits = fits;
-    left = ap (λ (y : (Format × ℕ) × Input). y.1) (sym same);
-    alone = λ k h within.
-        four_alone order bytes k h within ∙ narrow_is (number order 4 bytes)
-        (plain order 4 (drop 4 (take k bytes))) narrow
-        ∙ ap (λ (y : (Format × ℕ) × Input). Ok (y.0, plain order 4 (drop 4 (take k bytes)))) same;
-  }
-
-  wide_length : 4 ≤ length bytes → ltb (number order 4 bytes) 0xfffffff0 ≡ false
-      → eqb (number order 4 bytes) 0xffffffff ≡ true → wide (plain order (p + 4) (drop 4 bytes)) ≡
-      Ok x → IsLength order p bytes x
-  wide_length fits narrow long e =
-      let m = bind_ok (number_at 8 (plain order (p + 4) (drop 4 bytes))) (λ m.
-      Ok ((Dwarf64, m.0), m.1)) x e in
-      let inverse = number_inverse order 8 (p + 4) (drop 4 bytes) m.0 m.1 in
-      let given : ((Dwarf64, m.0.0), m.0.1) ≡ x = cc in
-      let same : (
-        (Dwarf64, number order 8 (drop 4 bytes)),
-        plain order (p + 4 + 8)
-            (drop 8 (drop 4 bytes)),
-      ) ≡ x = ap (λ (y : ℕ × Input). ((Dwarf64, y.0), y.1))
-      inverse.1 ∙ given in
-      let place : p + 4 + 8 ≡ p + 12 = omega arith in
-      record {
-        taken = 12;
-        fits = omega (arith, inverse.0, length-drop 4 bytes);
-        left = ap (λ (y : (Format × ℕ) × Input). y.1) (sym same) ∙ ap (λ n.
-            plain order n (drop 8 (drop 4 bytes))) place ∙ ap (plain order (p + 12))
-            (drop-drop 8 4 bytes);
-        alone = λ k h within.
-            four_alone order bytes k (omega arith) within ∙ wide_is (number order 4 bytes)
-            (plain order 4 (drop 4 (take k bytes))) narrow long
-            ∙ wide_alone order bytes k h within
-            ∙ ap (λ (y : (Format × ℕ) × Input). Ok (y.0, plain order 12 (drop 12 (take k bytes))))
-            same;
-      }
-
-  length_is : initial_length_at (plain order p bytes) ≡ Ok x → IsLength order p bytes x
-  length_is e =
-      let n = bind_ok (number_at 4 (plain order p bytes)) (λ n. after_four n.0 n.1) x
-      (sym (by_four (plain order p bytes)) ∙ e) in
-      let inverse = number_inverse order 4 p bytes n.0 n.1 in
-      let rest = plain order (p + 4) (drop 4 bytes) in
-      let v = number order 4 bytes in
-      let step : after_four v rest ≡ Ok x = subst (λ (y : ℕ × Input). after_four y.0 y.1 ≡ Ok x)
-      (sym inverse.1) n.2 in
-      elim (chosen (ltb v 0xfffffff0) (Ok ((Dwarf32, v), rest)) (cond (eqb v 0xffffffff) (wide rest)
-      (Err ReservedLength)) (Ok x) step) [
-        | inl narrow ↦ let same : ((Dwarf32, v), rest) ≡ x = cc in
-            narrow_length inverse.0 narrow.0 same
-        | inr other ↦
-            elim (chosen (eqb v 0xffffffff) (wide rest) (Err ReservedLength) (Ok x) other.1) [
-              | inl long ↦ wide_length inverse.0 other.0 long.0 long.1
-              | inr none ↦ absurd cc
-            ]
-      ]
 
 -- ---- a unit
 abbrev Units : Type 0

@@ -27,10 +27,12 @@ pub mod ReadingFile
 pub mod PackageFound
 pub mod Written
 pub mod Shifted
+pub mod ReadingsMoved
 pub mod UnitMoved
 pub mod IdentitySort
 pub mod WrittenSections
 pub mod UnitsSplit
+pub mod RowPlaces
 pub mod RowAgain
 pub mod SectionAgain
 pub mod PackedAgain
@@ -45,8 +47,11 @@ pub mod LongerTables
 pub mod PlainSteps
 pub mod RowsNamed
 pub mod OffsetsAgain
+pub mod WholeOffsets
 pub mod OffsetsTiled
+pub mod PlainNames
 pub mod NamesKept
+pub mod InfoHeaders
 pub mod InfoThere
 pub mod PlainKept
 pub mod OwnRanges

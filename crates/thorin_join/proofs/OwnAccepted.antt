@@ -52,7 +52,7 @@ use Rattle.thorin_join.proofs.OwnUnitsGiven.{own-units}
 use Rattle.thorin_join.proofs.OwnUnitsTaken.{then-foreseen}
 use Rattle.thorin_join.proofs.PartGrowth.{same-kind, is-rewritten}
 use Rattle.thorin_join.proofs.PartLaws.{NamesTheSameLaw, PackagedLaw}
-use Rattle.thorin_join.proofs.RowAgain.{FirstLaw, FindLaw}
+use Rattle.thorin_join.proofs.RowPlaces.{FirstLaw, FindLaw}
 use Rattle.thorin_join.proofs.Steps.{bind-ok}
 use Rattle.thorin_join.proofs.Written.{tested-state, finished-own, finished-strings}
 

@@ -47,7 +47,7 @@ use Rattle.thorin_join.proofs.OwnSections.{first-written}
 use Rattle.thorin_join.proofs.PackedAgain.{index-same, are-indexes, one-there}
 use Rattle.thorin_join.proofs.PartGrowth.{content-with_bytes}
 use Rattle.thorin_join.proofs.PartsMean.{rewritten-package}
-use Rattle.thorin_join.proofs.RowAgain.{IsAgain}
+use Rattle.thorin_join.proofs.RowPlaces.{IsAgain}
 use Rattle.thorin_join.proofs.Written.{Tested, tested-state, finished-order, finished-strings}
 use Rattle.thorin_join.proofs.Written.{finished-compilations, finished-types}
 

@@ -23,9 +23,10 @@ use Rattle.thorin_join.specs.Represents.{IsSound}
 use Rattle.thorin_join.specs.StandApart.{EachRow}
 use Rattle.thorin_join.specs.State.{InProgress, kind_at, unit_bytes}
 use Rattle.thorin_join.proofs.OwnSections.{first-written}
-use Rattle.thorin_join.proofs.RowAgain.{place-eq}
+use Rattle.thorin_join.proofs.RowPlaces.{place-eq}
 use Rattle.thorin_join.proofs.SectionAgain.{part-middle, one-read}
-use Rattle.thorin_join.proofs.UnitMoved.{plain, unit-moves}
+use Rattle.thorin_join.proofs.ReadingsMoved.{plain}
+use Rattle.thorin_join.proofs.UnitMoved.{unit-moves}
 use Rattle.thorin_join.proofs.Written.{finished-order, finished-own}
 
 -- what is read first of a section

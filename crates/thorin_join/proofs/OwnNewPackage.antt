@@ -36,7 +36,7 @@ use Rattle.thorin_join.proofs.OwnAccepted.{abbreviations-tested, parts-alone, ow
 use Rattle.thorin_join.proofs.OwnAlone.{apart-distinct, taken-input, alone-units, alone-answers}
 use Rattle.thorin_join.proofs.OwnUnitsAlone.{own-units-new}
 use Rattle.thorin_join.proofs.PartLaws.{NamesTheSameLaw, PackagedLaw}
-use Rattle.thorin_join.proofs.RowAgain.{FirstLaw, FindLaw}
+use Rattle.thorin_join.proofs.RowPlaces.{FirstLaw, FindLaw}
 use Rattle.thorin_join.proofs.Steps.{bind-ok}
 use Rattle.thorin_join.proofs.UnitsFound.{keys-units}
 

@@ -52,7 +52,7 @@ use Rattle.thorin_join.specs.Plain.{IsWholeRange, Tile, IsAmong}
 use Rattle.thorin_join.specs.StandApart.{EachRow}
 use Rattle.thorin_join.proofs.IndexesRead.{HasRows}
 use Rattle.thorin_join.proofs.OffsetRanges.{count-again}
-use Rattle.thorin_join.proofs.RowAgain.{get-there, non_empty-some, first-row}
+use Rattle.thorin_join.proofs.RowPlaces.{get-there, non_empty-some, first-row}
 use Rattle.thorin_join.proofs.Steps.{ok-eq, bind-ok, bind-inv}
 
 -- ---- ranges in the order of others, of which some may be left out

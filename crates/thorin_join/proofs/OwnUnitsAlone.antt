@@ -38,7 +38,7 @@ use Rattle.thorin_join.proofs.OwnRows.{whole-part}
 use Rattle.thorin_join.proofs.OwnUnitsGiven.{part-long}
 use Rattle.thorin_join.proofs.OwnUnitsNew.{Answers, section-added, new-added}
 use Rattle.thorin_join.proofs.PartLaws.{NamesTheSameLaw, PackagedLaw}
-use Rattle.thorin_join.proofs.RowAgain.{FirstLaw, FindLaw}
+use Rattle.thorin_join.proofs.RowPlaces.{FirstLaw, FindLaw}
 use Rattle.thorin_join.proofs.SectionAgain.{with_names}
 use Rattle.thorin_join.proofs.StandingApart.{sound-inside}
 use Rattle.thorin_join.proofs.Written.{tested-state, finished-order, finished-grows, finished-own}

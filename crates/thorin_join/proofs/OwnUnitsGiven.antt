@@ -39,7 +39,7 @@ use Rattle.thorin_join.proofs.OwnRows.{each-shared, whole-part}
 use Rattle.thorin_join.proofs.OwnUnitsTaken.{section-taken, new-taken}
 use Rattle.thorin_join.proofs.PackagedParts.{parts-first, rows-read}
 use Rattle.thorin_join.proofs.PartLaws.{NamesTheSameLaw, PackagedLaw}
-use Rattle.thorin_join.proofs.RowAgain.{FirstLaw, FindLaw, IsAgain}
+use Rattle.thorin_join.proofs.RowPlaces.{FirstLaw, FindLaw, IsAgain}
 use Rattle.thorin_join.proofs.SectionAgain.{with_names}
 use Rattle.thorin_join.proofs.StandingApart.{sound-inside}
 use Rattle.thorin_join.proofs.Written.{tested-state, finished-order, finished-grows, finished-own}

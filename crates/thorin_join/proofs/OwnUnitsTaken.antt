@@ -50,12 +50,14 @@ use Rattle.thorin_input.specs.Used.{Used}
 use Rattle.thorin_join.proofs.OwnParts.{behind, front}
 use Rattle.thorin_join.proofs.OwnSections.{fewer, rest-differ, last-counts, same-itself, one-there}
 use Rattle.thorin_join.proofs.OwnUnitRows.{row-given}
-use Rattle.thorin_join.proofs.RowAgain.{FirstLaw, FindLaw, IsAgain, Below, place-eq, parts}
+use Rattle.thorin_join.proofs.RowAgain.{parts}
+use Rattle.thorin_join.proofs.RowPlaces.{FirstLaw, FindLaw, IsAgain, Below, place-eq}
 use Rattle.thorin_join.proofs.RowAgain.{found-row, found-range, row-tested, named-again}
 use Rattle.thorin_join.proofs.SectionAgain.{with_names, below-more, part-middle, no-reads, one-read}
 use Rattle.thorin_join.proofs.Shifted.{IsShifted, identity-shifted}
 use Rattle.thorin_join.proofs.Steps.{ok-eq, bind-ok, bind-inv}
-use Rattle.thorin_join.proofs.UnitMoved.{plain, unit-moves}
+use Rattle.thorin_join.proofs.ReadingsMoved.{plain}
+use Rattle.thorin_join.proofs.UnitMoved.{unit-moves}
 use Rattle.thorin_join.proofs.WholeUnits.{kind-place}
 
 -- a step, and then another

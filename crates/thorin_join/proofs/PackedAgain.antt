@@ -58,7 +58,7 @@ use Rattle.thorin_join.proofs.IndexesRead.{NoIndex, index-read, chosen-fit}
 use Rattle.thorin_join.proofs.InputJoined.{meaning-at, object-means}
 use Rattle.thorin_join.proofs.Joining.{units-joined}
 use Rattle.thorin_join.proofs.Keeping.{keep-rows}
-use Rattle.thorin_join.proofs.RowAgain.{FirstLaw, FindLaw, IsAgain}
+use Rattle.thorin_join.proofs.RowPlaces.{FirstLaw, FindLaw, IsAgain}
 use Rattle.thorin_join.proofs.SectionAgain.{Encoded, meant_rows, with_names, section-again}
 use Rattle.thorin_join.proofs.Steps.{err-ok, ok-eq, bind-ok, bind-inv}
 use Rattle.thorin_join.proofs.UnitsSplit.{Reads, AreTested, Split, joined-tested, sections-split}

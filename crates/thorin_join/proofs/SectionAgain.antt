@@ -27,9 +27,11 @@ use Rattle.thorin_input.specs.NewUnits.{name_for}
 use Rattle.thorin_join.specs.Represents.{AreRowsOf}
 use Rattle.thorin_join.specs.State.{kind_at}
 use Rattle.thorin_join.proofs.Keeping.{part-inside}
-use Rattle.thorin_join.proofs.RowAgain.{FirstLaw, FindLaw, IsAgain, Below, row-means-again}
+use Rattle.thorin_join.proofs.RowAgain.{row-means-again}
+use Rattle.thorin_join.proofs.RowPlaces.{FirstLaw, FindLaw, IsAgain, Below}
 use Rattle.thorin_join.proofs.Steps.{ok-eq, bind-inv}
-use Rattle.thorin_join.proofs.UnitMoved.{plain, unit-moves}
+use Rattle.thorin_join.proofs.ReadingsMoved.{plain}
+use Rattle.thorin_join.proofs.UnitMoved.{unit-moves}
 use Rattle.thorin_join.proofs.UnitsSplit.{Reads, AreTested}
 
 -- what rows of one encoding mean

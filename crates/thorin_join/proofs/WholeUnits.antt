@@ -33,7 +33,8 @@ use Rattle.thorin_join.proofs.HeadersRead.{ReadAlone, FiveOrType, types_or_five,
 use Rattle.thorin_join.proofs.IdentitySort.{identity-sort}
 use Rattle.thorin_join.proofs.Shifted.{IsShifted}
 use Rattle.thorin_join.proofs.Steps.{ok-eq, bind-inv}
-use Rattle.thorin_join.proofs.UnitMoved.{plain, unit-moves, unit-anywhere}
+use Rattle.thorin_join.proofs.ReadingsMoved.{plain}
+use Rattle.thorin_join.proofs.UnitMoved.{unit-moves, unit-anywhere}
 
 -- a unit as it is read of its own bytes alone
 pub record ReadsAlone (order : Endianness) (place : UnitSection) (unit : Header) : Type 0 where
