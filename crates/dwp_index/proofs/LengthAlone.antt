@@ -87,12 +87,13 @@ split_goes order n p bytes h =
 
 -- an initial length takes 4 or 12 bytes, and is the same where no others follow than those of its
 -- unit
-record IsLength (order : Endianness) (p : ℕ) (bytes : List ℕ) (x : (Format × ℕ)
+pub record IsLength (order : Endianness) (p : ℕ) (bytes : List ℕ) (x : (Format × ℕ)
     × Input) : Type 0 where
-  taken : ℕ
-  fits : taken ≤ length bytes
-  left : x.1 ≡ plain order (p + taken) (drop taken bytes)
-  alone : (k : ℕ) → taken ≤ k → k ≤ length bytes → initial_length_at (plain order 0 (take k bytes))
+  pub taken : ℕ
+  pub fits : taken ≤ length bytes
+  pub left : x.1 ≡ plain order (p + taken) (drop taken bytes)
+  pub alone : (k : ℕ) → taken ≤ k → k ≤ length bytes
+      → initial_length_at (plain order 0 (take k bytes))
       ≡ Ok (x.0, plain order taken (drop taken (take k bytes)))
 
 number_inverse : (order : Endianness) (n p : ℕ) (bytes : List ℕ) (y : ℕ × Input)

@@ -142,10 +142,10 @@ any-behind test (u ∷ us) vs h = or-right (test u.0) (any-behind test us vs h)
 
 module _ (source : Source) (encoding : Encoding) where
   -- a name is there, of a unit that stands in info
-  record FirstNamed (all : Reads) : Type 0 where
-    name : DwarfObject
-    there : list_any (same_name name) (keys all) ≡ true
-    sort : (encoding.version ≡ 5) ⊎ (name_signature name ≡ None)
+  pub record FirstNamed (all : Reads) : Type 0 where
+    pub name : DwarfObject
+    pub there : list_any (same_name name) (keys all) ≡ true
+    pub sort : (encoding.version ≡ 5) ⊎ (name_signature name ≡ None)
 
   record HeadNamed (u : Header) (us : Reads) : Type 0 where
     read : DwarfObject × UnitRead

@@ -79,13 +79,13 @@ plain-name source kind unit name plain h =
 
 module _ (taken : UnitsAreTaken) (alone : ReadAlone) (source : Source)
     (plain : is_package source.indexes ≡ false) where
-  abbrev so : Endianness
+  abbrev pub so : Endianness
   so = source.object.order
 
-  abbrev se : Encoding
+  abbrev pub se : Encoding
   se = source.encoding
 
-  abbrev st : List ℕ
+  abbrev pub st : List ℕ
   st = first kinds.Abbrev source.object.sections
 
   -- where it goes to it is read alone

@@ -95,10 +95,10 @@ Sized n = (order : Endianness) (a b : List ℕ) → n ≤ length a → number or
 -- ---- readings at two places, of bytes, and of the same with more behind them
 
 pub record Alike (order : Endianness) (d : ℕ) (more : List ℕ) (i j : Input) : Type 0 where
-  bytes : List ℕ
-  p : ℕ
-  left : i ≡ plain order p bytes
-  right : j ≡ plain order (d + p) (bytes ++ more)
+  pub bytes : List ℕ
+  pub p : ℕ
+  pub left : i ≡ plain order p bytes
+  pub right : j ≡ plain order (d + p) (bytes ++ more)
 
 -- what was read of the first is read of the second
 abbrev pub Agree : {A : Type 0} → Endianness → ℕ → List ℕ → Result (A × Input) ReadError

@@ -36,7 +36,7 @@ use Rattle.thorin_join.proofs.Steps.{bind-inv, ok-eq}
 -- ---- the part of string offsets that a plain object makes is whole
 
 -- nothing, or a whole range
-abbrev Fills : Endianness → Encoding → ℕ → Type 0
+abbrev pub Fills : Endianness → Encoding → ℕ → Type 0
 Fills order encoding size = (size ≡ 0) ⊎ IsWholeRange order encoding size
 
 header-by : (order : Endianness) (encoding : Encoding) (section bytes : List ℕ) (size : ℕ)
@@ -87,10 +87,10 @@ old-header order encoding size old =
 
 module _ (names : NamesTheSameLaw) (source : Source) (plain : is_package source.indexes ≡ false)
     (start : List (List ℕ)) where
-  abbrev order : Endianness
+  abbrev pub order : Endianness
   order = source.object.order
 
-  abbrev encoding : Encoding
+  abbrev pub encoding : Encoding
   encoding = source.encoding
 
   abbrev section : List ℕ
@@ -98,7 +98,7 @@ module _ (names : NamesTheSameLaw) (source : Source) (plain : is_package source.
 
   -- rewritten again from the first strings on, it gives those so far, in the section of any that
   -- begin with them
-  abbrev Again : List ℕ → List (List ℕ) → Type 0
+  abbrev pub Again : List ℕ → List (List ℕ) → Type 0
   Again new strings = (final : List (List ℕ)) → IsTable final → take (length strings) final ≡
       strings → Lead order encoding (data_of final) new (entry_count encoding (length new)) start
       strings
