@@ -14,7 +14,7 @@ use Rattle.dwp_base.specs.declared.section.SectionKind.TheVariants as kinds
 use Rattle.dwp_base.specs.Sections.{name_of, same_kind}
 use Rattle.dwp_bytes.specs.declared.encoding.Encoding.{Encoding}
 use Rattle.dwp_bytes.specs.declared.fault.ReadError.{ReadError}
-use Rattle.dwp_dwarf.specs.Units.{Unit as Header, UnitsAreTaken, units}
+use Rattle.dwp_dwarf.specs.Units.{Unit as Header, UnitsAreTaken}
 use Rattle.dwp_dwarf.specs.declared.unit.UnitSection.{UnitSection}
 use Rattle.dwp_dwarf.specs.declared.unit.UnitSection.TheVariants as places
 use Rattle.dwp_elf.specs.Contents.{content_of}

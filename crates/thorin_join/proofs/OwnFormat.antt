@@ -4,7 +4,6 @@ use Rattle.std.proofs.Common.{⊎_elim, List, [], ◌∷◌, length, refl, sym, 
 use Rattle.std.proofs.Common.{Some, None, arith, true≢false}
 use Rattle.std.specs.Prelude.{slice_get, is_some}
 use Rattle.std.proofs.lemmas.Option.{none-some, same_Some}
-use Rattle.dwp_base.specs.Reading.{◌>>=◌}
 use Rattle.dwp_base.specs.Sections.{name_of}
 use Rattle.dwp_base.specs.declared.endian.Endianness.{Endianness}
 use Rattle.dwp_base.specs.declared.section.Contribution.{Contribution}
@@ -13,7 +12,6 @@ use Rattle.dwp_base.specs.declared.section.SectionKind.TheVariants as kinds
 use Rattle.dwp_bytes.specs.Encoding.{index_version_of}
 use Rattle.dwp_bytes.specs.declared.encoding.Encoding.{Encoding}
 use Rattle.dwp_dwarf.specs.declared.unit.UnitSection.{UnitSection}
-use Rattle.dwp_dwarf.specs.declared.unit.UnitSection.TheVariants as places
 use Rattle.dwp_table.specs.Columns.{column_of, contribution_kinds}
 use Rattle.thorin_faults.specs.Fault.{Fault, SectionOutsideFormat}
 use Rattle.thorin_parts.specs.Entries.{contribution_to}

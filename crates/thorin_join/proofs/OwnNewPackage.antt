@@ -2,7 +2,6 @@
 use Rattle.std.proofs.Common.{◌≡◌, ◌∙◌, ℕ, List, true, [], refl, sym, ap, subst, Ok, Option, Some}
 use Rattle.std.proofs.Common.{None}
 use Rattle.std.specs.List.{IsDistinct}
-use Rattle.dwp_base.specs.declared.section.SectionKind.TheVariants as kinds
 use Rattle.dwp_bytes.specs.declared.encoding.Encoding.{Encoding}
 use Rattle.dwp_dwarf.specs.Units.{UnitsAreTaken}
 use Rattle.dwp_elf.specs.FileText.{Object as File, file_text}

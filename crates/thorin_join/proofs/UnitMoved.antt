@@ -14,7 +14,7 @@ use Rattle.dwp_dwarf.specs.Units.{Unit as Header, UnitsAreTaken, initial_length_
 use Rattle.dwp_dwarf.specs.Units.{older_type_at, unit_code_at, unit_type_at, older_at, newer_at}
 use Rattle.dwp_dwarf.specs.Units.{header_at, unit_at}
 use Rattle.dwp_dwarf.specs.declared.unit.UnitSection.{UnitSection}
-use Rattle.thorin_join.proofs.ReadingsMoved.{plain, Alike, Agree, enough, SameHeader, header_agrees}
+use Rattle.thorin_join.proofs.ReadingsMoved.{plain, Alike, Agree, SameHeader, header_agrees}
 use Rattle.thorin_join.proofs.ReadingsMoved.{length_agrees}
 use Rattle.thorin_join.proofs.Shifted.{shifted}
 
