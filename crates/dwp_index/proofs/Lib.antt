@@ -6,6 +6,7 @@ pub mod UsedSlots
 pub mod FirstSection
 pub mod FirstUnit
 pub mod PackageLookUp
+pub mod RowsOfUnits
 pub mod Steps
 pub mod TwoPlaces
 pub mod LengthAlone

@@ -153,6 +153,36 @@ found_by pack object (Some index) =
 unfoldable pub found_counted : Package → DwarfObject → Result (Option FoundUnit × ℕ) PackageError
 found_counted pack object = found_by pack object (index_for pack object)
 
+-- the row of a number, whose ranges lie inside their sections
+abbrev pub row_inside : Package → ℕ → ℕ → Ranges → Result (Option (ℕ × Ranges) × ℕ) PackageError
+row_inside pack number count row =
+    all_inside (first_outside pack.contents row) >>= λ inside. Ok (Some (number, row), count)
+
+abbrev pub row_found : Package → Index → Option ℕ → ℕ
+    → Result (Option (ℕ × Ranges) × ℕ) PackageError
+row_found pack index None count = Ok (None, count)
+row_found pack index (Some number) count =
+    as_fault faults.Index (row_in index number) >>= row_inside pack number count
+
+abbrev pub row_by : Package → DwarfObject → Option Index
+    → Result (Option (ℕ × Ranges) × ℕ) PackageError
+row_by pack object None = Ok (None, 0)
+row_by pack object (Some index) =
+    row_found pack index (found_row index.signatures index.rows (identifier_of object))
+    (look_count index.signatures index.rows (identifier_of object))
+
+-- the row of an identifier's unit with its number, by the same look-up, and how many slots were
+-- looked at; the unit's header isn't read
+unfoldable pub row_counted : Package → DwarfObject → Result (Option (ℕ × Ranges) × ℕ) PackageError
+row_counted pack object = row_by pack object (index_for pack object)
+
+-- the unit of a row that was found
+abbrev pub unit_of_row : Package → DwarfObject → Option (ℕ × Ranges) × ℕ
+    → Result (Option FoundUnit × ℕ) PackageError
+unit_of_row pack object (None, count) = Ok (None, count)
+unit_of_row pack object (Some (number, row), count) =
+    unit_in pack object number row >>= λ unit. Ok (Some unit, count)
+
 -- the map that a package is
 unfoldable pub found : Package → DwarfObject → Result (Option FoundUnit) PackageError
 found pack object = found_counted pack object >>= λ x. Ok x.0

@@ -16,7 +16,7 @@ ghost use Rattle.dwp_index.specs.IndexBytes.{index_of};
 ghost use Rattle.dwp_index.specs.Package.{as_fault, is_outside, package_of, index_in_section};
 ghost use Rattle.dwp_index.specs.Package.{index_for, first_outside, encoding_in, unit_in};
 ghost use Rattle.dwp_index.specs.Package.{unit_at_row, found_counted, found, first_byte};
-ghost use Rattle.dwp_index.specs.Package.{first_byte_of};
+ghost use Rattle.dwp_index.specs.Package.{first_byte_of, row_inside, row_counted};
 ghost use Rattle.dwp_index.specs.declared.fault.PackageError.TheVariants as faults;
 
 use crate::contents::Contents;
@@ -150,6 +150,28 @@ impl<'a> PackageFile<'a> {
         }
     }
 
+    /// The row of an identifier's unit with its number, counted from 1, and how many slots were
+    /// looked at: what `find_counted` answers, but nothing of the unit itself is read.
+    ///
+    /// # Errors
+    /// `Index` where the row is past the rows, `Range` for the first range outside its section.
+    #[tactic(auto, unfolding(crate::specs::Package::row_counted))]
+    pub fn find_row(
+        &self,
+        object: DwarfObject,
+    ) -> Result<(Option<(u32, Row<'a>)>, u32), PackageError>
+        ensures { Answers (λ x. x) result (row_counted self.now object) }
+    {
+        let Some(index) = self.index_for(object) else {
+            return Ok((None, 0));
+        };
+        let (found, count) = index.find_counted(object.index());
+        let Some(number) = found else {
+            return Ok((None, count));
+        };
+        self.row_inside(number, count, read_row(index, number)?)
+    }
+
     /// The first byte of an identifier's unit, none of whose ranges but this one is looked at; None
     /// where the index hasn't the unit, or the byte isn't there. Whoever looks many identifiers up
     /// can ask it of some, and then look these up: the waits for memory go on at once.
@@ -200,6 +222,21 @@ impl<'a> PackageFile<'a> {
         let kind = kind_of(place_of(object, row.range(SectionKind::Types)));
         let range = row.range(kind)?;
         self.contents.of(kind).get(range.offset.0 as usize).copied()
+    }
+
+    /// A row whose ranges lie inside their sections.
+    fn row_inside(
+        &self,
+        number: u32,
+        count: u32,
+        row: Row<'a>,
+    ) -> Result<(Option<(u32, Row<'a>)>, u32), PackageError>
+        ensures { Answers (λ x. x) result (row_inside self.now number count row.entry) }
+    {
+        match first_outside(&self.contents, &row) {
+            None => Ok((Some((number, row)), count)),
+            Some(kind) => Err(PackageError::Range(kind)),
+        }
     }
 
     /// The unit of a row number.
@@ -302,6 +339,7 @@ fn read_encoding(
 
 /// The first section, in the order of columns, that a range of the row isn't inside of.
 #[tactic(auto, unfolding(crate::specs::Package::first_outside))]
+#[inline(always)]
 fn first_outside(contents: &Contents<'_>, row: &Row<'_>) -> Option<SectionKind>
     ensures { result ≡ first_outside (contents_in contents.now) row.now }
 {
@@ -338,6 +376,7 @@ fn first_outside(contents: &Contents<'_>, row: &Row<'_>) -> Option<SectionKind>
     None
 }
 
+#[inline(always)]
 fn is_outside(contents: &Contents<'_>, row: &Row<'_>, kind: SectionKind) -> bool
     ensures { result
         ≡ is_outside (content (contents_in contents.now) kind) (range_in row.now kind) }

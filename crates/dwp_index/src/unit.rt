@@ -62,6 +62,13 @@ impl<'a> PackagedUnit<'a> {
         self.encoding
     }
 
+    /// The unit's row, which has its ranges.
+    pub fn ranges(&self) -> &Row<'a>
+        ensures { result.now ≡ self.now.row }
+    {
+        &self.row
+    }
+
     /// The unit's range in a section; None where it has none, or one of no bytes.
     pub fn range(&self, kind: SectionKind) -> Option<Contribution>
         ensures { result ≡ range_in self.now.row kind }

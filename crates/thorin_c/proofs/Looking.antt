@@ -5,9 +5,10 @@ use Rattle.std.specs.Prelude.{ℤ, Result, Ok, Err}
 use Rattle.std.proofs.lemmas.List.{take_more, take_more_set, map-append, drop_more, drop-set-lt}
 use Rattle.std.proofs.lemmas.List.{drop-map, length-map}
 use Rattle.std.proofs.lemmas.Grind.{drop_more_same}
-use Rattle.dwp_index.specs.Package.{Package, FoundUnit}
-use Rattle.thorin_c.specs.Finding.{with_found, looked, unit_in}
+use Rattle.dwp_index.specs.Package.{Package}
+use Rattle.thorin_c.specs.Finding.{told, looked, unit_found}
 use Rattle.thorin_c.specs.declared.types.ThorinLookup.{ThorinLookup}
+use Rattle.thorin_c.specs.declared.types.ThorinUnit.{ThorinUnit}
 
 module _ {A : Type 0} where
   next_of : {x y : A} {xs ys : List A} → x ∷ xs ≡ y ∷ ys → (x ≡ y) × (xs ≡ ys)
@@ -77,12 +78,12 @@ module _ {A : Type 0} where
 -- a status that was left before makes no difference
 pub any_status : (pack : Package) (asked : ThorinLookup) (s : ℤ)
     → looked pack (record asked { status = s }) ≡ looked pack asked
-any_status pack asked s = told (unit_in pack asked.kind asked.id)
+any_status pack asked s = untold (unit_found (Ok pack) asked.kind asked.id)
   where
-    told : (found : Result (FoundUnit × ℕ) ℤ) → with_found (record asked { status = s }) found ≡
-        with_found asked found
-    told (Ok (unit, slots)) = refl
-    told (Err e) = refl
+    untold : (found : Result ThorinUnit ℤ)
+        → told (record asked { status = s }) found ≡ told asked found
+    untold (Ok unit) = refl
+    untold (Err e) = refl
 
 pub status_left : (pack : Package) (lookups : List ThorinLookup) (i : ℕ) (d : ThorinLookup) (s : ℤ)
     → i < length lookups

@@ -10,8 +10,9 @@ use Rattle.dwp_bytes.specs.declared.fault.ReadError.{ReadError}
 use Rattle.dwp_table.specs.Columns.{contribution_kinds}
 use Rattle.dwp_table.specs.declared.object.DwarfObject.{DwarfObject}
 use Rattle.dwp_table.specs.declared.object.DwarfObject.TheVariants.{Compilation, TypeUnit}
-use Rattle.dwp_index.specs.Index.{range_in}
-use Rattle.dwp_index.specs.Package.{Package, FoundUnit, package_of, found_counted, row_bytes}
+use Rattle.dwp_index.specs.Index.{Ranges, range_in}
+use Rattle.dwp_index.specs.Package.{Package, FoundUnit, package_of, found_counted, row_counted}
+use Rattle.dwp_index.specs.Package.{row_bytes}
 use Rattle.dwp_index.specs.Strings.{string_in}
 use Rattle.dwp_index.specs.declared.fault.PackageError.{PackageError}
 use Rattle.dwp_index.specs.declared.fault.PackageError.TheVariants as faults
@@ -37,10 +38,10 @@ object_of kind id =
     if kind == 1 then Ok (Compilation (record { 0 = id }))
     else (if kind == 2 then Ok (TypeUnit (record { 0 = id })) else Err (pos 2))
 
--- the unit that a look-up gave, with how many slots were looked at; status 1 where it gave none
-abbrev pub present : Option FoundUnit × ℕ → Result (FoundUnit × ℕ) ℤ
+-- what a look-up gave, with how many slots were looked at; status 1 where it gave nothing
+abbrev pub present : {A : Type 0} → Option A × ℕ → Result (A × ℕ) ℤ
 present (None, slots) = Err (pos 1)
-present (Some unit, slots) = Ok (unit, slots)
+present (Some x, slots) = Ok (x, slots)
 
 -- the unit of a name in a package
 unfoldable pub unit_in : Package → ℕ → ℕ → Result (FoundUnit × ℕ) ℤ
@@ -60,21 +61,29 @@ abbrev pub range_of : Option Contribution → ThorinRange
 range_of None = record { offset = 0; size = 0 }
 range_of (Some range) = record { offset = range.offset.0; size = range.size }
 
--- a unit with its ranges
-abbrev pub unit_of : FoundUnit → ℕ → ThorinUnit
-unit_of unit slots = record {
-  info = range_of (range_in unit.row kinds.Info);
-  types = range_of (range_in unit.row kinds.Types);
-  abbreviations = range_of (range_in unit.row kinds.Abbrev);
-  line = range_of (range_in unit.row kinds.Line);
-  loc = range_of (range_in unit.row kinds.Loc);
-  loclists = range_of (range_in unit.row kinds.Loclists);
-  rnglists = range_of (range_in unit.row kinds.Rnglists);
-  str_offsets = range_of (range_in unit.row kinds.StrOffsets);
-  macinfo = range_of (range_in unit.row kinds.Macinfo);
-  macros = range_of (range_in unit.row kinds.Macro);
-  row = unit.number;
+-- a row with its ranges; the encoding is left out, since it stands in the unit's header
+abbrev pub row_of : ℕ → Ranges → ℕ → ThorinUnit
+row_of number row slots = record {
+  info = range_of (range_in row kinds.Info);
+  types = range_of (range_in row kinds.Types);
+  abbreviations = range_of (range_in row kinds.Abbrev);
+  line = range_of (range_in row kinds.Line);
+  loc = range_of (range_in row kinds.Loc);
+  loclists = range_of (range_in row kinds.Loclists);
+  rnglists = range_of (range_in row kinds.Rnglists);
+  str_offsets = range_of (range_in row kinds.StrOffsets);
+  macinfo = range_of (range_in row kinds.Macinfo);
+  macros = range_of (range_in row kinds.Macro);
+  row = number;
   slots = slots;
+  version = 0;
+  offset_size = 0;
+  address_size = 0;
+}
+
+-- a unit with its ranges and its encoding
+abbrev pub unit_of : FoundUnit → ℕ → ThorinUnit
+unit_of unit slots = record (row_of unit.number unit.row slots) {
   version = unit.encoding.version;
   offset_size = offset_size unit.encoding.format;
   address_size = unit.encoding.address_size;
@@ -84,6 +93,14 @@ unit_of unit slots = record {
 abbrev pub unit_found : Result Package ℤ → ℕ → ℕ → Result ThorinUnit ℤ
 unit_found pack kind id =
     pack >>= λ p. (unit_in p kind id >>= λ found. Ok (unit_of found.0 found.1))
+
+-- the row of a name in a package, with its ranges
+unfoldable pub row_found : Package → ℕ → ℕ → Result ThorinUnit ℤ
+row_found pack kind id = do
+  object ← object_of kind id
+  found ← as_status (row_counted pack object)
+  row ← present found
+  Ok (row_of row.0.0 row.0.1 row.1)
 
 -- the section of a number, in the order of columns; status 7 where there is none
 abbrev pub section_of_place : Option SectionKind → Result SectionKind ℤ
@@ -119,14 +136,19 @@ Fills view (Ok x) old new status = (status ≡ pos 0) × (view new ≡ x)
 Fills view (Err s) old new status = (status ≡ s) × (new ≡ old)
 
 -- a look-up with what came of it
-abbrev pub with_found : ThorinLookup → Result (FoundUnit × ℕ) ℤ → ThorinLookup
-with_found asked (Ok (unit, slots)) = record asked { status = pos 0; unit = unit_of unit slots }
-with_found asked (Err s) = record asked { status = s }
+abbrev pub told : ThorinLookup → Result ThorinUnit ℤ → ThorinLookup
+told asked (Ok unit) = record asked { status = pos 0; unit = unit }
+told asked (Err s) = record asked { status = s }
 
 abbrev pub looked : Package → ThorinLookup → ThorinLookup
-looked pack asked = with_found asked (unit_in pack asked.kind asked.id)
+looked pack asked = told asked (unit_found (Ok pack) asked.kind asked.id)
+
+-- the same of a look-up of a row alone
+abbrev pub row_looked : Package → ThorinLookup → ThorinLookup
+row_looked pack asked = told asked (row_found pack asked.kind asked.id)
 
 -- each of many look-ups has what came of it; or the package can't be read, and nothing is written
-abbrev pub FillsEach : Result Package ℤ → (old new : List ThorinLookup) → ℤ → Type 0
-FillsEach (Ok pack) old new status = (status ≡ pos 0) × (new ≡ map (looked pack) old)
-FillsEach (Err s) old new status = (status ≡ s) × (new ≡ old)
+abbrev pub FillsEach : (Package → ThorinLookup → ThorinLookup) → Result Package ℤ
+    → (old new : List ThorinLookup) → ℤ → Type 0
+FillsEach look (Ok pack) old new status = (status ≡ pos 0) × (new ≡ map (look pack) old)
+FillsEach look (Err s) old new status = (status ≡ s) × (new ≡ old)

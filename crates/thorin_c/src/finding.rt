@@ -4,15 +4,15 @@ ghost use Rattle.std.specs.Prelude.{◌≡◌, pos, Ok, map, take};
 ghost use Rattle.dwp_base.specs.Reading.{Answers};
 ghost use Rattle.dwp_index.specs.Package.{package_of, found_counted};
 ghost use Rattle.thorin_c.specs.Finding.{object_of, section_of, as_status, present, range_of};
-ghost use Rattle.thorin_c.specs.Finding.{unit_of, unit_in, looked_up, unit_found, content_found};
-ghost use Rattle.thorin_c.specs.Finding.{string_found, looked, Fills, FillsEach};
+ghost use Rattle.thorin_c.specs.Finding.{row_of, unit_of, unit_in, looked_up, unit_found, looked};
+ghost use Rattle.thorin_c.specs.Finding.{content_found, string_found, Fills, FillsEach};
 
 use crate::status::{
     ABSENT, DONE, MALFORMED_STRING, NO_SUCH_KIND, NO_SUCH_SECTION, NO_SUCH_STRING, status_of,
 };
 use crate::types::{ThorinBytes, ThorinLookup, ThorinRange, ThorinUnit};
 use dwp_base::{Contribution, SectionKind};
-use dwp_index::{PackageFile, PackagedUnit};
+use dwp_index::{PackageFile, PackagedUnit, Row};
 use dwp_table::{CONTRIBUTION_KINDS, DebugTypeSignature, DwarfObject, DwoId};
 
 /// Looks a unit up: `kind` is 1 for a compilation unit and 2 for a type unit. Answers 0 and fills
@@ -34,7 +34,7 @@ pub extern "C" fn thorin_find(bytes: &[u8], kind: u8, id: u64, found: &mut Thori
 /// is 0. Answers 0; or 3 or 4 where the package can't be read, and then leaves all as it is.
 #[unsafe(no_mangle)]
 pub extern "C" fn thorin_find_each(bytes: &[u8], lookups: &mut [ThorinLookup]) -> i32
-    ensures { FillsEach (as_status (package_of bytes.now)) lookups.old lookups.new result }
+    ensures { FillsEach looked (as_status (package_of bytes.now)) lookups.old lookups.new result }
 {
     match open(bytes) {
         Ok(file) => {
@@ -136,7 +136,7 @@ fn find_in<'a>(
 const AHEAD: usize = 32;
 
 fn look_each_up(file: &PackageFile<'_>, lookups: &mut [ThorinLookup])
-    ensures { FillsEach (Ok file.now) lookups.old lookups.new (pos 0) }
+    ensures { FillsEach looked (Ok file.now) lookups.old lookups.new (pos 0) }
 {
     for i in 0..lookups.len() {
         if i % AHEAD == 0 {
@@ -184,7 +184,7 @@ fn fill(file: &PackageFile<'_>, kind: u8, id: u64, found: &mut ThorinUnit) -> i3
     };
     match &file.find_counted(object) {
         Ok((Some(unit), slots)) => {
-            *found = unit_of(unit, *slots);
+            write_unit(unit, *slots, found);
             DONE
         }
         Ok((None, _)) => ABSENT,
@@ -214,7 +214,7 @@ fn string<'a>(bytes: &'a [u8], kind: u8, id: u64, index: u64) -> Result<&'a [u8]
 }
 
 /// The name of a unit.
-fn object_of(kind: u8, id: u64) -> Result<DwarfObject, i32>
+pub(crate) fn object_of(kind: u8, id: u64) -> Result<DwarfObject, i32>
     ensures { result ≡ object_of kind id }
 {
     if kind == 1 {
@@ -236,27 +236,36 @@ fn section_of(number: u8) -> Result<SectionKind, i32>
     }
 }
 
-fn unit_of(unit: &PackagedUnit<'_>, slots: u32) -> ThorinUnit
-    ensures { result ≡ unit_of unit.now slots }
+/// Writes a unit with its ranges and its encoding.
+fn write_unit(unit: &PackagedUnit<'_>, slots: u32, found: &mut ThorinUnit)
+    ensures { found.new ≡ unit_of unit.now slots }
 {
     let encoding = unit.encoding();
-    ThorinUnit {
-        info: range_of(unit.range(SectionKind::Info)),
-        types: range_of(unit.range(SectionKind::Types)),
-        abbreviations: range_of(unit.range(SectionKind::Abbrev)),
-        line: range_of(unit.range(SectionKind::Line)),
-        loc: range_of(unit.range(SectionKind::Loc)),
-        loclists: range_of(unit.range(SectionKind::Loclists)),
-        rnglists: range_of(unit.range(SectionKind::Rnglists)),
-        str_offsets: range_of(unit.range(SectionKind::StrOffsets)),
-        macinfo: range_of(unit.range(SectionKind::Macinfo)),
-        macros: range_of(unit.range(SectionKind::Macro)),
-        row: unit.row(),
-        slots,
-        version: encoding.version,
-        offset_size: encoding.format.offset_size() as u8,
-        address_size: encoding.address_size,
-    }
+    write_row(unit.ranges(), unit.row(), slots, found);
+    found.version = encoding.version;
+    found.offset_size = encoding.format.offset_size() as u8;
+    found.address_size = encoding.address_size;
+}
+
+/// Writes a row with its ranges, and no encoding.
+pub(crate) fn write_row(row: &Row<'_>, number: u32, slots: u32, found: &mut ThorinUnit)
+    ensures { found.new ≡ row_of number row.now slots }
+{
+    found.info = range_of(row.range(SectionKind::Info));
+    found.types = range_of(row.range(SectionKind::Types));
+    found.abbreviations = range_of(row.range(SectionKind::Abbrev));
+    found.line = range_of(row.range(SectionKind::Line));
+    found.loc = range_of(row.range(SectionKind::Loc));
+    found.loclists = range_of(row.range(SectionKind::Loclists));
+    found.rnglists = range_of(row.range(SectionKind::Rnglists));
+    found.str_offsets = range_of(row.range(SectionKind::StrOffsets));
+    found.macinfo = range_of(row.range(SectionKind::Macinfo));
+    found.macros = range_of(row.range(SectionKind::Macro));
+    found.row = number;
+    found.slots = slots;
+    found.version = 0;
+    found.offset_size = 0;
+    found.address_size = 0;
 }
 
 fn range_of(range: Option<Contribution>) -> ThorinRange

@@ -6,6 +6,7 @@ mod faults;
 mod finding;
 mod listing;
 mod packing;
+mod rows;
 mod session;
 mod status;
 mod types;
@@ -14,6 +15,7 @@ mod version;
 pub use finding::{thorin_content, thorin_find, thorin_find_each, thorin_string};
 pub use listing::{thorin_list, thorin_unit_count};
 pub use packing::{thorin_differing_types, thorin_pack};
+pub use rows::thorin_find_rows;
 pub use types::{ThorinBytes, ThorinLookup, ThorinName, ThorinRange, ThorinReport, ThorinUnit};
 pub use version::{thorin_status_text, thorin_version};
 
