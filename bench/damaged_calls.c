@@ -88,6 +88,20 @@ static void look_up(const uint8_t *bytes, size_t size, thorin_lookup *asked) {
   }
 }
 
+/* A row beside the unit that it is of: the same, but for what the unit's header says. */
+static void test_row(const thorin_lookup *row, const thorin_lookup *unit, int32_t answer) {
+  if (answer != THORIN_DONE) {
+    if (memcmp(row, unit, sizeof *row) != 0) fail("a row was written", answer);
+    return;
+  }
+  if (row->status != (unit->status == THORIN_MALFORMED_UNIT ? THORIN_DONE : unit->status))
+    fail("a row and its unit differ", row->status);
+  if (unit->status == THORIN_DONE && memcmp(&row->unit, &unit->unit, offsetof(thorin_unit, version)) != 0)
+    fail("another row", row->status);
+  if (row->status == THORIN_DONE && (row->unit.version != 0 || row->unit.offset_size != 0 || row->unit.address_size != 0))
+    fail("a row has an encoding", row->status);
+}
+
 /* The calls that read a package. */
 static void read_package(const uint8_t *bytes, size_t size) {
   uint64_t units = 7, listed = 7;
@@ -107,10 +121,16 @@ static void read_package(const uint8_t *bytes, size_t size) {
     lookups[i].kind = i < names_room ? names[i].kind : (uint8_t)drawn(4);
     lookups[i].status = 77;
   }
-  int32_t answer = thorin_find_each(bytes, size, lookups, 7);
+  thorin_lookup rows[7];
+  memcpy(rows, lookups, sizeof rows);
+  int32_t answer = thorin_find_rows(bytes, size, rows, 7);
+  count(answer, "find_rows");
+  if (answer != status) fail("rows and count differ", answer);
+  answer = thorin_find_each(bytes, size, lookups, 7);
   count(answer, "find_each");
   if (answer != status) fail("look-ups and count differ", answer);
   for (size_t i = 0; i < 7; i++) {
+    test_row(&rows[i], &lookups[i], answer);
     if (answer != THORIN_DONE) {
       if (lookups[i].status != 77) fail("a look-up was written", answer);
       lookups[i].status = answer;

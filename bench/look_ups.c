@@ -1,5 +1,5 @@
-/* look_ups PACKAGE COUNT: looks COUNT identifiers of a package up, in one call and one by one; prints nanoseconds for each,
- * the least of seven rounds, and a sum of what was found. */
+/* look_ups PACKAGE COUNT: looks COUNT identifiers of a package up, by their rows alone and as units in one call, and one by
+ * one; prints nanoseconds for each, the least of seven rounds, and a sum of what was found. */
 #include "thorin.h"
 #include <fcntl.h>
 #include <inttypes.h>
@@ -15,6 +15,24 @@ static double now(void) {
   return (double)t.tv_sec * 1e9 + (double)t.tv_nsec;
 }
 
+typedef int32_t look_up_t(const uint8_t *bytes, size_t size, thorin_lookup *lookups, size_t count);
+
+/* Nanoseconds for one call that looks many units up, and the sum. */
+static double many(look_up_t *call, const uint8_t *bytes, size_t size, const thorin_name *names, uint64_t units,
+                   thorin_lookup *lookups, size_t count, uint64_t *sum) {
+  for (size_t i = 0; i < count; i++) {
+    lookups[i].id = names[i * 7919 % units].id;
+    lookups[i].kind = names[i * 7919 % units].kind;
+  }
+  double start = now();
+  if (call(bytes, size, lookups, count) != THORIN_DONE) exit(1);
+  double took = now() - start;
+  *sum = 0;
+  for (size_t i = 0; i < count; i++)
+    if (lookups[i].status == THORIN_DONE) *sum += lookups[i].unit.info.size + lookups[i].unit.str_offsets.size;
+  return took;
+}
+
 int main(int argc, char **argv) {
   if (argc != 3) return 2;
   int file = open(argv[1], O_RDONLY);
@@ -28,23 +46,16 @@ int main(int argc, char **argv) {
   thorin_lookup *lookups = calloc(count, sizeof *lookups);
   if (!names || !lookups || thorin_list(bytes, size, names, units, &units) != THORIN_DONE) return 1;
 
-  double each = 1e18, single = 1e18;
-  uint64_t each_sum = 0, single_sum = 0;
+  double rows = 1e18, each = 1e18, single = 1e18;
+  uint64_t rows_sum = 0, each_sum = 0, single_sum = 0;
   for (int round = 0; round < 7; round++) {
-    for (size_t i = 0; i < count; i++) {
-      lookups[i].id = names[i * 7919 % units].id;
-      lookups[i].kind = names[i * 7919 % units].kind;
-    }
-    double start = now();
-    if (thorin_find_each(bytes, size, lookups, count) != THORIN_DONE) return 1;
-    double took = now() - start;
+    double took = many(thorin_find_rows, bytes, size, names, units, lookups, count, &rows_sum);
+    if (took < rows) rows = took;
+    took = many(thorin_find_each, bytes, size, names, units, lookups, count, &each_sum);
     if (took < each) each = took;
-    each_sum = 0;
-    for (size_t i = 0; i < count; i++)
-      if (lookups[i].status == THORIN_DONE) each_sum += lookups[i].unit.info.size + lookups[i].unit.str_offsets.size;
 
     single_sum = 0;
-    start = now();
+    double start = now();
     for (size_t i = 0; i < count; i++) {
       thorin_unit unit;
       const thorin_name *name = &names[i * 7919 % units];
@@ -54,6 +65,7 @@ int main(int argc, char **argv) {
     took = now() - start;
     if (took < single) single = took;
   }
+  printf("thorin_find_rows %.0f ns, sum %" PRIu64 "\n", rows / (double)count, rows_sum);
   printf("thorin_find_each %.0f ns, sum %" PRIu64 "\n", each / (double)count, each_sum);
   printf("thorin_find %.0f ns, sum %" PRIu64 "\n", single / (double)count, single_sum);
   return 0;

@@ -121,6 +121,10 @@ int32_t thorin_find(const uint8_t *bytes, size_t size, uint8_t kind, uint64_t id
  * each unit whose status is THORIN_DONE. THORIN_MALFORMED_FILE or THORIN_MALFORMED_INDEX: all are as they were. */
 int32_t thorin_find_each(const uint8_t *bytes, size_t size, thorin_lookup *lookups, size_t count);
 
+/* The same, but nothing of the units themselves is read, so it takes less time: where a unit's header can't be read its
+ * status is THORIN_DONE all the same, and version, offset_size and address_size of each unit are 0. */
+int32_t thorin_find_rows(const uint8_t *bytes, size_t size, thorin_lookup *lookups, size_t count);
+
 /* Lends a unit's bytes in a section: THORIN_DONE, and *found lies inside the package; of size 0 where the unit has none
  * there. Else *found is as it was: as thorin_find, or THORIN_NO_SUCH_SECTION. */
 int32_t thorin_content(const uint8_t *bytes, size_t size, uint8_t kind, uint64_t id, uint8_t section,

@@ -52,6 +52,7 @@ def _call(name, *types, result=c.c_int32):
 _status_text = _call("thorin_status_text", c.c_int32, c.c_char_p, c.c_size_t, result=c.c_size_t)
 _find = _call("thorin_find", c.c_void_p, c.c_size_t, c.c_uint8, c.c_uint64, c.POINTER(Unit))
 _find_each = _call("thorin_find_each", c.c_void_p, c.c_size_t, c.POINTER(Lookup), c.c_size_t)
+_find_rows = _call("thorin_find_rows", c.c_void_p, c.c_size_t, c.POINTER(Lookup), c.c_size_t)
 _content = _call("thorin_content", c.c_void_p, c.c_size_t, c.c_uint8, c.c_uint64, c.c_uint8, c.POINTER(Bytes))
 _string = _call("thorin_string", c.c_void_p, c.c_size_t, c.c_uint8, c.c_uint64, c.c_uint64, c.POINTER(Bytes))
 _unit_count = _call("thorin_unit_count", c.c_void_p, c.c_size_t, c.POINTER(c.c_uint64))
@@ -112,13 +113,20 @@ class Package:
         _answer(_find(self._at, self._size, kind, identifier, unit))
         return unit
 
-    def find_each(self, names):
-        """What comes of looking each of these names up: `status`, and `unit`."""
+    def _look_up(self, call, names):
         lookups = (Lookup * max(len(names), 1))()
         for lookup, (kind, identifier) in zip(lookups, names):
             lookup.kind, lookup.id = kind, identifier
-        _answer(_find_each(self._at, self._size, lookups, len(names)))
+        _answer(call(self._at, self._size, lookups, len(names)))
         return lookups[:len(names)]
+
+    def find_each(self, names):
+        """What comes of looking each of these names up: `status`, and `unit`."""
+        return self._look_up(_find_each, names)
+
+    def find_rows(self, names):
+        """The same by the indexes alone: no version and no sizes of offsets and addresses."""
+        return self._look_up(_find_rows, names)
 
     def _lent(self, call, *words):
         found = Bytes(self._at, 0)

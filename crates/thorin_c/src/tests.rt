@@ -2,8 +2,8 @@
 
 use crate::{
     ThorinBytes, ThorinLookup, ThorinName, ThorinRange, ThorinReport, ThorinUnit, thorin_content,
-    thorin_differing_types, thorin_find, thorin_find_each, thorin_list, thorin_pack, thorin_string,
-    thorin_unit_count,
+    thorin_differing_types, thorin_find, thorin_find_each, thorin_find_rows, thorin_list,
+    thorin_pack, thorin_string, thorin_unit_count,
 };
 use dwp_elf::{Class, Endianness, SectionKind, WritableObject, WriteError};
 use std::alloc::Global;
@@ -103,5 +103,51 @@ fn a_second_unit_of_a_name_is_refused(rt: HostRuntime) -> Result<(), Fail> {
     assert_eq!(&rt; report.fault, 29);
     let size = report.text_size as usize;
     assert_eq!(&rt; size, 45);
+    Ok(())
+}
+
+#[test]
+fn many_units_are_looked_up_and_listed(rt: HostRuntime) -> Result<(), Fail> {
+    let alloc = rt.alloc();
+    let bytes = object(alloc)?;
+    let inputs = [ThorinBytes {
+        bytes: bytes.as_slice(),
+    }];
+    let mut report = NO_REPORT;
+    let mut out = vec![in alloc; 0u8; 728]?;
+    assert_eq!(&rt;
+        thorin_pack(alloc, &inputs, out.as_mut_slice(), &mut report),
+        0
+    );
+    let package = out.as_slice();
+    let mut lookups = [(5, 1), (5, 2), (6, 1), (5, 3)].map(|(id, kind)| ThorinLookup {
+        id,
+        kind,
+        status: 77,
+        unit: EMPTY,
+    });
+    assert_eq!(&rt; thorin_find_rows(package, lookups.as_mut_slice()), 0);
+    assert_eq!(&rt; lookups.map(|lookup| lookup.status), [0, 1, 1, 2]);
+    assert_eq!(&rt; lookups[0].unit.info.size, 20);
+    assert_eq!(&rt; lookups[0].unit.version, 0);
+    assert_eq!(&rt; thorin_find_each(package, lookups.as_mut_slice()), 0);
+    assert_eq!(&rt; lookups.map(|lookup| lookup.status), [0, 1, 1, 2]);
+    assert_eq!(&rt; lookups[0].unit.info.size, 20);
+    assert_eq!(&rt; lookups[0].unit.version, 4);
+    let mut names = [ThorinName {
+        id: 0,
+        row: 0,
+        kind: 0,
+    }; 2];
+    let mut count = 0;
+    assert_eq!(&rt; thorin_list(package, names.as_mut_slice(), &mut count), 0);
+    assert_eq!(&rt; count, 1);
+    assert_eq!(&rt; names.map(|name| name.id), [5, 0]);
+    assert_eq!(&rt; names.map(|name| name.kind), [1, 0]);
+    assert_eq!(&rt;
+        thorin_differing_types(alloc, &inputs, &mut [], &mut report),
+        0
+    );
+    assert_eq!(&rt; report.differing, 0);
     Ok(())
 }

@@ -77,6 +77,7 @@ extern "C" {
     pub fn thorin_status_text(status: i32, text: *mut u8, room: usize) -> usize;
     pub fn thorin_find(bytes: *const u8, size: usize, kind: u8, id: u64, found: *mut thorin_unit) -> i32;
     pub fn thorin_find_each(bytes: *const u8, size: usize, lookups: *mut thorin_lookup, count: usize) -> i32;
+    pub fn thorin_find_rows(bytes: *const u8, size: usize, lookups: *mut thorin_lookup, count: usize) -> i32;
     pub fn thorin_content(bytes: *const u8, size: usize, kind: u8, id: u64, section: u8, found: *mut thorin_bytes) -> i32;
     pub fn thorin_string(bytes: *const u8, size: usize, kind: u8, id: u64, index: u64, found: *mut thorin_bytes) -> i32;
     pub fn thorin_unit_count(bytes: *const u8, size: usize, count: *mut u64) -> i32;

@@ -61,6 +61,8 @@ impl Name {
     }
 }
 
+type LookUp = unsafe extern "C" fn(*const u8, usize, *mut sys::thorin_lookup, usize) -> i32;
+
 /// The bytes of a package. It is read anew by each call, so calls for many units at once take less time.
 #[derive(Clone, Copy)]
 pub struct Package<'a> {
@@ -116,14 +118,21 @@ impl<'a> Package<'a> {
 
     /// The unit of each of these names.
     pub fn find_each(self, names: &[Name]) -> Result<Vec<Result<Unit, Status>>, Status> {
+        self.look_up(sys::thorin_find_each, names)
+    }
+
+    /// The same by the indexes alone: no version and no sizes of offsets and addresses.
+    pub fn find_rows(self, names: &[Name]) -> Result<Vec<Result<Unit, Status>>, Status> {
+        self.look_up(sys::thorin_find_rows, names)
+    }
+
+    fn look_up(self, call: LookUp, names: &[Name]) -> Result<Vec<Result<Unit, Status>>, Status> {
         let asked = |name: &Name| {
             let (kind, id) = name.kind_and_id();
             sys::thorin_lookup { kind, id, ..Default::default() }
         };
         let mut lookups: Vec<_> = names.iter().map(asked).collect();
-        let status = unsafe {
-            sys::thorin_find_each(self.bytes.as_ptr(), self.bytes.len(), lookups.as_mut_ptr(), lookups.len())
-        };
+        let status = unsafe { call(self.bytes.as_ptr(), self.bytes.len(), lookups.as_mut_ptr(), lookups.len()) };
         answer(status, lookups.iter().map(|l| answer(l.status, l.unit)).collect())
     }
 
