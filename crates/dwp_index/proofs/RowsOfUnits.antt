@@ -1,5 +1,5 @@
 -- A unit is found by its row.
-use Rattle.std.proofs.Common.{◌≡◌, ℕ, refl}
+use Rattle.std.proofs.Common.{◌≡◌, ℕ, refl, sym, ap}
 use Rattle.std.specs.Prelude.{Option, Some, None, Result, Ok, Err}
 use Rattle.dwp_base.specs.Reading.{◌>>=◌}
 use Rattle.dwp_base.specs.declared.section.SectionKind.{SectionKind}
@@ -12,6 +12,7 @@ use Rattle.dwp_index.specs.Index.{Index, Ranges, row_in}
 use Rattle.dwp_index.specs.Package.{Package, as_fault, first_outside, all_inside, unit_in}
 use Rattle.dwp_index.specs.Package.{unit_at_row, unit_found, found_by, index_for, found_counted}
 use Rattle.dwp_index.specs.Package.{row_inside, row_found, row_by, row_counted, unit_of_row}
+use Rattle.dwp_index.specs.Package.{found_by_row}
 
 module _ (pack : Package) (object : DwarfObject) where
   -- a range outside is told by both
@@ -20,7 +21,8 @@ module _ (pack : Package) (object : DwarfObject) where
       → (unit_in pack object number row >>= λ unit. Ok (Some unit, count))
       ≡ (row_inside pack number count row >>= unit_of_row pack object)
   unfolding unit_in
-  ranged number count row None e = rw e refl
+  ranged number count row None e = sym (ap (λ (o : Option SectionKind).
+      (all_inside o >>= λ inside. Ok (Some (number, row), count)) >>= unit_of_row pack object) e)
   ranged number count row (Some kind) e = rw e refl
 
   rowed : (number count : ℕ) (row : Result Ranges ReadError)
@@ -46,6 +48,6 @@ module _ (pack : Package) (object : DwarfObject) where
       (look_count index.signatures index.rows (identifier_of object))
 
 pub by_row : (pack : Package) (object : DwarfObject)
-    → found_counted pack object ≡ (row_counted pack object >>= unit_of_row pack object)
+    → found_counted pack object ≡ found_by_row pack object
 unfolding found_counted row_counted
 by_row pack object = indexed pack object (index_for pack object)

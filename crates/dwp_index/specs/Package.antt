@@ -183,6 +183,10 @@ unit_of_row pack object (None, count) = Ok (None, count)
 unit_of_row pack object (Some (number, row), count) =
     unit_in pack object number row >>= λ unit. Ok (Some unit, count)
 
+-- looking a row up, and then reading the unit of that row
+abbrev pub found_by_row : Package → DwarfObject → Result (Option FoundUnit × ℕ) PackageError
+found_by_row pack object = row_counted pack object >>= unit_of_row pack object
+
 -- the map that a package is
 unfoldable pub found : Package → DwarfObject → Result (Option FoundUnit) PackageError
 found pack object = found_counted pack object >>= λ x. Ok x.0

@@ -3,7 +3,6 @@
 ghost use Rattle.std.specs.Prelude.{◌≡◌, ℕ, ◌+◌, ◌<◌, ◌≤◌, List, [], length, slice_range};
 ghost use Rattle.std.specs.Prelude.{slice_get, Option, Some, None, Ok, false};
 ghost use Rattle.std.specs.List.Sorted.{IsPermutation};
-ghost use Rattle.dwp_base.specs.Reading.{◌>>=◌};
 ghost use Rattle.dwp_base.specs.Sections.{name_of, same_kind, kind_named};
 ghost use Rattle.dwp_base.specs.declared.section.SectionKind.{SectionKind};
 ghost use Rattle.dwp_base.specs.declared.section.SectionKind.TheVariants as kinds;
@@ -20,8 +19,7 @@ ghost use Rattle.dwp_index.specs.Contents.{Sections, content, is_of_kind};
 ghost use Rattle.dwp_index.specs.Index.{Index, Ranges, range_in};
 ghost use Rattle.dwp_index.specs.IndexBytes.{index_of};
 ghost use Rattle.dwp_index.specs.Package.{Package, package_of, index_in_section, row_bytes};
-ghost use Rattle.dwp_index.specs.Package.{encoding_in, index_for, found_counted, row_counted};
-ghost use Rattle.dwp_index.specs.Package.{unit_of_row};
+ghost use Rattle.dwp_index.specs.Package.{encoding_in, index_for, found_counted, found_by_row};
 ghost use Rattle.dwp_index.specs.Entries.{entries_from};
 ghost use Rattle.dwp_index.specs.Used.{used_in};
 ghost use Rattle.dwp_index.specs.Finding.{unit_of, HasIndex, IsUnitOf, IsNotNamed, GivesWithin};
@@ -55,7 +53,7 @@ pub fn packages_find_exactly()
 /// It does nothing.
 pub fn units_are_found_by_their_rows()
     ensures { (pack : Package) (object : DwarfObject) → found_counted pack object
-        ≡ (row_counted pack object >>= unit_of_row pack object) }
+        ≡ found_by_row pack object }
 {}
 
 /// The law of parts: the bytes of a row's range are that part of the section, and none where it has
