@@ -1,4 +1,4 @@
-use Rattle.std.proofs.Common.{◌∙◌, ◌<◌, length, ap, map, arith}
+use Rattle.std.proofs.Common.{◌∙◌, ◌+◌, ◌<◌, length, ap, map, arith}
 use Rattle.std.proofs.lemmas.List.{length-set, drop-set-lt}
 use Rattle.std.proofs.lemmas.Grind.{drop_more_same}
 use Rattle.thorin_c.specs.Finding.{row_looked}
