@@ -248,6 +248,7 @@ fn write_unit(unit: &PackagedUnit<'_>, slots: u32, found: &mut ThorinUnit)
 }
 
 /// Writes a row with its ranges, and no encoding.
+#[inline(always)]
 pub(crate) fn write_row(row: &Row<'_>, number: u32, slots: u32, found: &mut ThorinUnit)
     ensures { found.new ≡ row_of number row.now slots }
 {
