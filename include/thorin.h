@@ -1,12 +1,20 @@
-/* thorin: packages of split DWARF (.dwp), read and packed.
+/* thorin: packages of split DWARF (.dwp), read and packed. For 64-bit machines.
  *
- * Each call is proved to do what is said of it here, on any bytes (crates/thorin_c says it exactly). What C must uphold:
- * no pointer is null, also where the size beside it is 0; each pointer has as many elements behind it as is said; and the
- * memory that a call writes to is nothing that another of its arguments refers to. A call keeps nothing after it
- * returns, needs no setting up, and may run in several threads at once, over one package too.
+ * What each call answers and writes is proved to be what is said of it here, on any bytes (crates/thorin_c says it
+ * exactly). What C must uphold:
+ *
+ * - No pointer is null, also where the size beside it is 0; each has as many elements behind it as is said.
+ * - Structures and arrays are aligned as C aligns their types. Packages and inputs may begin at any address.
+ * - The memory that a call writes to is nothing that another of its arguments refers to.
+ * - What a call reads doesn't change while it runs: a mapped file is neither written nor cut short meanwhile.
+ *
+ * What is only written needs no value before, but for *found of thorin_content and thorin_string, which says so. Bytes
+ * that a call lends lie in the package, are valid as long as its memory is there and unchanged, and are not freed. A
+ * call keeps nothing after it returns, needs no setting up, and may run in several threads at once, over one package too.
  *
  * A call answers a status, 0 where it did what was asked. The calls that read a package take no memory. Those that pack
- * take it by malloc, realloc and free, and give all of it back. */
+ * take it by malloc, realloc and free, and give all of it back. They pack bytes: who has an executable alone, and wants
+ * the objects that it names packed, runs the program (thorin pack -e). */
 #ifndef THORIN_H
 #define THORIN_H
 
@@ -73,7 +81,7 @@ typedef struct {
   size_t size;
 } thorin_bytes;
 
-/* A unit's part of a section, in bytes; of size 0 where it has none there. */
+/* A unit's part of a section, in bytes: offset is from the beginning of the section. Of size 0 where it has none there. */
 typedef struct {
   uint64_t offset;
   uint64_t size;
@@ -100,21 +108,23 @@ typedef struct {
 
 /* A unit that an index names. */
 typedef struct {
-  uint64_t id;  /* the identifier of a compilation unit, or the signature of a type unit */
+  uint64_t id;  /* the DWO id of a compilation unit, or the signature of a type unit */
   uint32_t row; /* its row in the index of its kind, counted from 1 */
   uint8_t kind; /* THORIN_COMPILATION or THORIN_TYPE_UNIT */
 } thorin_name;
 
 /* One of many look-ups: which unit is asked for, and what came of it. */
 typedef struct {
-  uint64_t id;      /* the identifier or signature that is asked for */
+  uint64_t id;      /* the DWO id or type signature that is asked for */
   uint8_t kind;     /* THORIN_COMPILATION or THORIN_TYPE_UNIT */
   int32_t status;   /* what thorin_find answers */
   thorin_unit unit; /* the unit, where the status is THORIN_DONE; else as it was */
 } thorin_lookup;
 
-/* Looks a unit up in a package of size bytes. THORIN_DONE: *found is the unit. Else *found is as it was: THORIN_ABSENT,
- * THORIN_NO_SUCH_KIND, or why the package or the unit can't be read, THORIN_MALFORMED_FILE to THORIN_MALFORMED_UNIT. */
+/* Looks a unit up in a package of size bytes: a compilation unit by its DWO id (DW_AT_GNU_dwo_id of the skeleton, or in
+ * DWARF 5 the id in the unit's header), a type unit by its type signature. THORIN_DONE: *found is the unit. Else *found
+ * is as it was: THORIN_ABSENT, THORIN_NO_SUCH_KIND, or why the package or the unit can't be read, THORIN_MALFORMED_FILE
+ * to THORIN_MALFORMED_UNIT. The package's sections are read anew in each call: for many units use the calls below. */
 int32_t thorin_find(const uint8_t *bytes, size_t size, uint8_t kind, uint64_t id, thorin_unit *found);
 
 /* Looks many units up, and reads the package's indexes once for all of them. THORIN_DONE: each status is filled, and
@@ -126,13 +136,15 @@ int32_t thorin_find_each(const uint8_t *bytes, size_t size, thorin_lookup *looku
 int32_t thorin_find_rows(const uint8_t *bytes, size_t size, thorin_lookup *lookups, size_t count);
 
 /* Lends a unit's bytes in a section: THORIN_DONE, and *found lies inside the package; of size 0 where the unit has none
- * there. Else *found is as it was: as thorin_find, or THORIN_NO_SUCH_SECTION. */
+ * there. Else *found is as it was: as thorin_find, or THORIN_NO_SUCH_SECTION. *found has a pointer that isn't null
+ * before the call, as that of the package. */
 int32_t thorin_content(const uint8_t *bytes, size_t size, uint8_t kind, uint64_t id, uint8_t section,
                        thorin_bytes *found);
 
-/* Lends the string of a number of a unit, by the unit's own encoding: THORIN_DONE, and *found lies inside the package,
- * without the zero byte that ends it. Else *found is as it was: as thorin_find, THORIN_NO_SUCH_STRING past the last
- * string, or THORIN_MALFORMED_STRING. *found has a pointer that isn't null before the call, as that of the package. */
+/* Lends the string of a number of a unit, that is of the operand of DW_FORM_strx or DW_FORM_GNU_str_index, by the unit's
+ * own encoding: THORIN_DONE, and *found lies inside the package, without the zero byte that ends it. Else *found is as
+ * it was: as thorin_find, THORIN_NO_SUCH_STRING past the last string, or THORIN_MALFORMED_STRING. *found has a pointer
+ * that isn't null before the call, as that of the package. */
 int32_t thorin_string(const uint8_t *bytes, size_t size, uint8_t kind, uint64_t id, uint64_t index,
                       thorin_bytes *found);
 
@@ -145,8 +157,10 @@ int32_t thorin_list(const uint8_t *bytes, size_t size, thorin_name *names, size_
 
 /* ---- packing */
 
-/* Why an input was refused, or a package can't be finished. The numbers below that speak of files, relocations and
- * executables aren't met by the calls here, which are given bytes. */
+/* Why an input was refused, or a package can't be finished. The calls here are given bytes and follow no executable: they
+ * never tell 1 and 33 (files that are read or written), 6 to 10 and 30 (relocations and executables), and 38, which is
+ * the status THORIN_NO_MEMORY. Inputs of another byte order are refused with 32. Units of another encoding are found
+ * when the package is finished: THORIN_UNFINISHED with 32, and no input is told. */
 enum {
   THORIN_FAULT_READ_INPUT = 1, /* An input file could not be read. */
   THORIN_FAULT_PARSE_FILE_KIND = 2, /* The kind of an input file could not be told. */
@@ -157,14 +171,14 @@ enum {
   THORIN_FAULT_RELOCATION_WITH_INVALID_SYMBOL = 7, /* A relocation names a symbol that can't be read; the section and the place in it. */
   THORIN_FAULT_MULTIPLE_RELOCATIONS = 8, /* A second relocation stands at one place; the section and the place in it. */
   THORIN_FAULT_UNSUPPORTED_RELOCATION = 9, /* A relocation is of a type that isn't supported; the section and the place in it. */
-  THORIN_FAULT_MISSING_DWO_NAME = 10, /* A skeleton unit names no DWARF object; its identifier. */
+  THORIN_FAULT_MISSING_DWO_NAME = 10, /* A skeleton unit names no DWARF object; its DWO id. */
   THORIN_FAULT_NO_COMPILATION_UNITS = 11, /* An input has no units. */
-  THORIN_FAULT_NO_DIE = 12, /* A unit has no root entry. */
-  THORIN_FAULT_TOP_LEVEL_DIE_NOT_UNIT = 13, /* The root entry of a unit has another tag than a unit's. */
+  THORIN_FAULT_NO_DIE = 12, /* A unit has no unit DIE. */
+  THORIN_FAULT_TOP_LEVEL_DIE_NOT_UNIT = 13, /* A unit's first DIE has another tag than a unit DIE's. */
   THORIN_FAULT_MISSING_REQUIRED_SECTION = 14, /* An input lacks a section that it needs; the section's name. */
   THORIN_FAULT_PARSE_UNIT_ABBREVIATIONS = 15, /* A unit's abbreviations can't be read. */
   THORIN_FAULT_PARSE_UNIT_HEADER = 16, /* A unit's header can't be read. */
-  THORIN_FAULT_PARSE_UNIT = 17, /* A unit's root entry can't be read. */
+  THORIN_FAULT_PARSE_UNIT = 17, /* A unit's unit DIE can't be read. */
   THORIN_FAULT_INCOMPATIBLE_INDEX_VERSION = 18, /* An index has a version that doesn't fit the input's units; the section's name, the version that fits, and the one found. */
   THORIN_FAULT_OFFSET_AT_INDEX = 19, /* An entry of the string offsets can't be read; its number. */
   THORIN_FAULT_STR_AT_OFFSET = 20, /* A string can't be read; its offset. */
@@ -199,7 +213,8 @@ enum {
 typedef struct {
   uint64_t size;        /* THORIN_DONE, THORIN_TOO_SMALL: how many bytes the package has */
   uint64_t input;       /* THORIN_REFUSED: the number of the input, from 0 on; THORIN_NO_MEMORY: that of the input at which
-                           memory ran out, or of all inputs where it was while the package was finished and written */
+                           memory ran out, or how many inputs there are, where it ran out while the package was
+                           finished or written */
   uint64_t differing;   /* THORIN_DONE, THORIN_TOO_SMALL: how many type units were passed over whose bytes differ from
                            those of the unit of their name that is kept */
   uint32_t packs_again; /* THORIN_DONE, THORIN_TOO_SMALL: 1 where the package may be an input again: each input is an
