@@ -30,7 +30,7 @@ extern "C" {
 #define THORIN_VERSION_PATCH 0
 #define THORIN_VERSION (THORIN_VERSION_MAJOR * 65536u + THORIN_VERSION_MINOR * 256u + THORIN_VERSION_PATCH)
 
-/* The version of the library that is linked, as THORIN_VERSION has it. */
+/* The version of the library that is linked, as THORIN_VERSION has it. Calls may be added under one number. */
 uint32_t thorin_version(void);
 
 /* ---- what calls answer */
@@ -167,7 +167,7 @@ enum {
   THORIN_FAULT_PARSE_OBJECT_FILE = 3, /* An input file is no ELF file that can be read. */
   THORIN_FAULT_INVALID_INPUT_KIND = 4, /* An input is an archive. */
   THORIN_FAULT_DECOMPRESS_DATA = 5, /* A section that is used is compressed. */
-  THORIN_FAULT_NAMELESS_SECTION = 6, /* A section with relocations has no name that can be read; its place in the file. */
+  THORIN_FAULT_NAMELESS_SECTION = 6, /* A relocation can't be used, and its section has no name that can be read; the place in it. */
   THORIN_FAULT_RELOCATION_WITH_INVALID_SYMBOL = 7, /* A relocation names a symbol that can't be read; the section and the place in it. */
   THORIN_FAULT_MULTIPLE_RELOCATIONS = 8, /* A second relocation stands at one place; the section and the place in it. */
   THORIN_FAULT_UNSUPPORTED_RELOCATION = 9, /* A relocation is of a type that isn't supported; the section and the place in it. */

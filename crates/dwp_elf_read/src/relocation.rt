@@ -17,7 +17,7 @@ pub struct RawRelocation {
     pub kind: u32,
     /// The symbol's number.
     pub symbol: u32,
-    /// The number of the section with the symbol.
+    /// The number of the section that has the table of symbols (`sh_link`).
     pub table: u32,
     /// What is added to the symbol's value; 0 where the addend is implicit.
     pub addend: i64,

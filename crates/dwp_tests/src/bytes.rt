@@ -202,6 +202,7 @@ fn string_offsets(rt: HostRuntime) {
         format: Format::Dwarf64,
         address_size: 8,
     };
+    assert!(rt; !wide.is_gnu_extension_dwarf_package_format());
     same(&rt, wide.string_offsets_header_size(), 16);
     same(&rt, wide.string_offsets_count(39), 2);
     same(&rt, wide.string_offsets_count(15), 0);

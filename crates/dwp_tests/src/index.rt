@@ -130,6 +130,17 @@ fn look_ups_in_tables_of_identifiers(rt: HostRuntime) -> Result<(), Fail> {
         (0, 0),
     ];
     let four = index(rt.alloc(), 4, &slots)?;
+    let slots = [
+        (0, 0),
+        (0x3_0000_0001, 1),
+        (1, 2),
+        (0, 0),
+        (0x2_0000_0001, 3),
+        (0, 0),
+        (0, 0),
+        (0, 0),
+    ];
+    let three = index(rt.alloc(), 3, &slots)?;
     for (bytes, identifier, want) in [
         (&one, 5, (Some(1), 1)),
         (&none, 5, (None, 1)),
@@ -140,6 +151,11 @@ fn look_ups_in_tables_of_identifiers(rt: HostRuntime) -> Result<(), Fail> {
         (&zero, 2, (None, 2)),
         (&four, 0x31, (Some(4), 4)),
         (&four, 0x41, (None, 5)),
+        (&three, 0x3_0000_0001, (Some(1), 1)),
+        (&three, 1, (Some(2), 2)),
+        (&three, 0x2_0000_0001, (Some(3), 2)),
+        (&three, 0, (None, 1)),
+        (&three, 9, (None, 3)),
     ] {
         let found = counted(bytes, Endianness::Little, identifier)?;
         same_at(&rt, found, want, identifier);

@@ -9,13 +9,13 @@ mod packing;
 
 pub use bumpalo::Bump;
 pub use dwp_base::{Class, Contribution, ContributionOffset, Endianness, SectionKind};
-pub use dwp_bytes::{Encoding, Format, ReadError, RelocationEntry};
-pub use dwp_elf::{Output, WritableObject, WriteError};
-pub use dwp_index::{PackageError, PackageFile, PackagedUnit, UnitEntry, Units};
+pub use dwp_bytes::{Encoding, Format, ReadError, RelocationEntry, WriteError as DwarfWriteError};
+pub use dwp_elf::{Output, ReadError as ElfReadError, WritableObject, WriteError};
+pub use dwp_index::{PackageError, PackageFile, PackagedUnit, Row, UnitEntry, Units};
 pub use dwp_table::{DebugTypeSignature, DwarfObject, DwoId};
 pub use groups::pack_groups;
 pub use packing::{Input, Packed, pack, take_input};
-pub use thorin_builder::{DwarfPackage, InputReader, MissingTargets};
+pub use thorin_builder::{DwarfPackage, InProgressDwarfPackage, InputReader, MissingTargets};
 pub use thorin_executable::{Skeleton, SkeletonList, SkeletonUnits, skeletons};
 pub use thorin_faults::{
     ArenaSession, BytesSession, Error, InputError, MemorySession, MissingReferencedObjectBehaviour,

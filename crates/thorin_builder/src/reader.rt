@@ -1,9 +1,9 @@
 //! What reads the inputs that paths name.
 
-ghost use Rattle.std.specs.Prelude.{ℕ, List, Result};
+ghost use Rattle.std.specs.Prelude.{ℕ, List, Result, IfErr};
 ghost use Rattle.std.specs.Path.{path_bytes};
 ghost use Rattle.std.specs.declared.io.Error.{Error as IoError};
-ghost use Rattle.thorin_faults.specs.Sessions.{IsOffered};
+ghost use Rattle.thorin_faults.specs.Sessions.{IsOffered, IsNoWantOfMemory};
 
 use dwp_bytes::RelocationEntry;
 use std::path::Path;
@@ -18,13 +18,14 @@ pub trait InputReader {
     /// Reads the file at a path, into the room or elsewhere.
     ///
     /// # Errors
-    /// Why it couldn't be read; want of memory is `InputError::Memory`.
+    /// Why it couldn't be read; want of memory is `InputError::Memory` alone.
     fn read_into<'b>(
         &'b self,
         path: Path<'_>,
         room: &'b mut Vec<u8>,
     ) -> Result<&'b [u8], InputError>
-        ensures offered { IsOffered (offer self.now (path_bytes path.entry)) result };
+        ensures offered { IsOffered (offer self.now (path_bytes path.entry)) result }
+        ensures memory { IfErr result IsNoWantOfMemory };
 }
 
 impl<S: Session<RelocationEntry>> InputReader for S {

@@ -18,8 +18,10 @@ const PACK_EXAMPLES: &'static str = "Examples:
   thorin pack -o all.dwp @objects.txt      packs those that objects.txt names
   thorin pack -o app.dwp -e app            packs those that app refers to
 
-Nothing is printed where all went well. At the first input that is refused a
-line `error: ` says why, and OUT isn't written: status 1.";
+Nothing is printed where all went well, but for a line `warning: ` for each type
+unit that was passed over though it differs from the one kept. At the first
+input that is refused a line `error: ` says why, and OUT isn't written:
+status 1.";
 
 const FIND_EXAMPLES: &'static str = "Example:
   thorin find hello.dwp cu 0x084a58cc96339e44

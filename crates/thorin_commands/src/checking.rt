@@ -1,9 +1,11 @@
 //! `thorin check`.
 
+use crate::abbreviations::Remembered;
 use crate::finding::short_kind;
 use crate::input::{read_file, test_input};
 use crate::listing::{entries_by_row, is_type};
 use crate::output::{Failure, buffer_failure};
+use crate::sizes::is_section_of;
 use crate::telling::Count;
 use bumpalo::Bump;
 use dwp_bytes::{Format, RelocationEntry};
@@ -15,7 +17,6 @@ use std::alloc::Global;
 use std::fmt;
 use std::io::{BufWriter, Write};
 use std::path::Path;
-use thorin::dwo_identifier_of_unit;
 use thorin_executable::SkeletonUnits;
 use thorin_faults::{ArenaSession, Error, InputError, Session};
 
@@ -160,8 +161,9 @@ fn check_units<W: Write>(
 ) -> Result<u64, Failure> {
     let mut faults = 0u64;
     let mut strings: Vec<(StringRange, DwarfObject)> = Vec::new(rt.alloc());
+    let mut abbreviations = Remembered::new(rt.alloc(), order);
     for entry in entries {
-        match check_unit(package, order, entry) {
+        match check_unit(package, &mut abbreviations, entry) {
             Ok(unit) => {
                 if let Some(range) = string_range(&unit) {
                     strings.push((range, entry.object))?;
@@ -185,7 +187,7 @@ fn check_units<W: Write>(
 /// The unit that a slot names.
 fn check_unit<'a>(
     package: &PackageFile<'a>,
-    order: Endianness,
+    abbreviations: &mut Remembered<'a>,
     entry: &UnitEntry,
 ) -> Result<PackagedUnit<'a>, Fault> {
     let unit = match package.find(entry.object) {
@@ -196,16 +198,16 @@ fn check_unit<'a>(
     if unit.row() != entry.row {
         return Err(Fault::OtherRow(unit.row()));
     }
-    match own_identifier(&unit, order, entry.object)? {
+    match own_identifier(&unit, abbreviations, entry.object)? {
         Some(object) if object == entry.object => Ok(unit),
         other => Err(Fault::Other(other)),
     }
 }
 
 /// The identifier that a unit's own bytes give.
-fn own_identifier(
-    unit: &PackagedUnit<'_>,
-    order: Endianness,
+fn own_identifier<'a>(
+    unit: &PackagedUnit<'a>,
+    abbreviations: &mut Remembered<'a>,
     object: DwarfObject,
 ) -> Result<Option<DwarfObject>, Fault> {
     let section = if is_type(object) && unit.range(SectionKind::Types).is_some() {
@@ -213,14 +215,16 @@ fn own_identifier(
     } else {
         UnitSection::Info
     };
-    let mut headers = UnitHeaders::new(SliceReader::new(unit.bytes(), order), section);
+    let reader = SliceReader::new(unit.bytes(), abbreviations.order());
+    let mut headers = UnitHeaders::new(reader, section);
     let header = match headers.next() {
         None => return Ok(None),
         Some(Err(fault)) => return Err(Fault::Package(PackageError::Unit(fault))),
         Some(Ok(header)) => header,
     };
-    let abbreviations = SliceReader::new(unit.section(SectionKind::Abbrev), order);
-    dwo_identifier_of_unit(&abbreviations, &header).map_err(Fault::Identity)
+    abbreviations
+        .identifier(unit, &header)
+        .map_err(Fault::Identity)
 }
 
 fn string_range(unit: &PackagedUnit<'_>) -> Option<StringRange> {
@@ -260,8 +264,11 @@ fn check_strings<W: Write>(
 /// How many rows the index of a kind has: the first that isn't empty.
 fn row_count(file: &ElfFile<'_>, kind: SectionKind) -> u32 {
     for section in file.sections() {
-        if let (Ok(name), Ok(bytes)) = (section.name(), section.data()) {
-            if kind.is_named(name) && !bytes.is_empty() {
+        if !is_section_of(&section, kind) {
+            continue;
+        }
+        if let Ok(bytes) = section.data() {
+            if !bytes.is_empty() {
                 let index = UnitIndex::parse(bytes, file.endianness());
                 return index.map_or(0, |index| index.unit_count());
             }

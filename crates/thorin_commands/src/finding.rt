@@ -106,12 +106,8 @@ pub(crate) fn short_kind(object: DwarfObject) -> &'static str {
     }
 }
 
-/// How many strings a unit has: the first number that has none.
+/// How many strings a unit has, whether or not they can be read.
 fn string_count(unit: &PackagedUnit<'_>) -> u64 {
-    for i in 0..u64::MAX {
-        if let Ok(None) = unit.string(i) {
-            return i;
-        }
-    }
-    u64::MAX
+    let offsets = unit.section(SectionKind::StrOffsets);
+    unit.encoding().string_offsets_count(offsets.len() as u64)
 }

@@ -1,6 +1,7 @@
 //! The commands of the program `thorin`, over the words that each was given.
 #![tactic(auto)]
 
+mod abbreviations;
 mod checking;
 mod finding;
 mod identifier;

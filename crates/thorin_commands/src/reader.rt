@@ -1,7 +1,8 @@
 //! Reading inputs, one after the other into the same room.
 
-ghost use Rattle.std.specs.Prelude.{◌≡◌, ◌≤◌, length, take, IfOk, OnOk, IfSome};
+ghost use Rattle.std.specs.Prelude.{◌≡◌, ◌≤◌, length, take, IfOk, IfErr, OnOk, IfSome};
 ghost use Rattle.std.specs.Io.KnownBytes.{Consumes};
+ghost use Rattle.thorin_faults.specs.Sessions.{IsNoWantOfMemory};
 ghost use Rattle.thorin_commands.specs.Packing.{anything};
 
 use crate::input::is_device;
@@ -46,7 +47,8 @@ impl InputReader for FileReader<'_> {
 /// small: a byte more than `len` lets the read that finds the end have room. Bytes that the room
 /// holds are read over, so that they aren't set to zero before.
 fn read_whole<F: Read>(file: &mut F, len: u64, room: &mut Vec<u8>) -> Result<(), InputError>
-    ensures { OnOk result (IfSome (F.remaining file.old) (λ all. room.new.items ≡ all)) }
+    ensures read { OnOk result (IfSome (F.remaining file.old) (λ all. room.new.items ≡ all)) }
+    ensures memory { IfErr result IsNoWantOfMemory }
 {
     let needed = (len as usize).saturating_add(1);
     if room.capacity() < needed {
@@ -65,6 +67,7 @@ fn read_once<F: Read>(file: &mut F, buffer: &mut [u8]) -> Result<usize, InputErr
     ensures within { IfOk result (λ n. n ≤ length buffer.new) }
     ensures bytes { IfOk result (λ n. Consumes (F.remaining file.old) (F.remaining file.new)
         (take n buffer.new)) }
+    ensures memory { IfErr result IsNoWantOfMemory }
 {
     match file.read(buffer) {
         Ok(count) => Ok(count),
@@ -72,7 +75,7 @@ fn read_once<F: Read>(file: &mut F, buffer: &mut [u8]) -> Result<usize, InputErr
             if e.kind() == ErrorKind::Interrupted {
                 return Ok(0);
             }
-            Err(InputError::Io(e))
+            Err(InputError::from(e))
         }
     }
 }

@@ -4,7 +4,7 @@ ghost use Rattle.std.specs.Prelude.{◌≡◌, ◌-◌, ◌^◌, min, sum_by};
 
 use crate::finding::COLUMNS;
 use crate::output::Failure;
-use dwp_elf::{Contribution, ElfFile, SectionKind};
+use dwp_elf::{Contribution, ElfFile, Section, SectionKind};
 use std::alloc::Global;
 use std::io::Write;
 
@@ -102,15 +102,19 @@ fn total(ranges: &[Range]) -> u64
     bytes
 }
 
+/// Whether a section has the name of a kind, in either spelling. No more of a long name is read than
+/// the names of kinds are long.
+pub(crate) fn is_section_of(section: &Section<'_>, kind: SectionKind) -> bool {
+    section.is_called(kind.name()) || section.is_called(kind.compressed_name())
+}
+
 /// How many bytes the section of a kind has: the first that isn't empty.
 fn content_size(file: &ElfFile<'_>, kind: SectionKind) -> usize {
     for section in file.sections() {
-        if let Ok(name) = section.name() {
-            if kind.is_named(name) {
-                let size = section.data().map_or(0, |bytes| bytes.len());
-                if size > 0 {
-                    return size;
-                }
+        if is_section_of(&section, kind) {
+            let size = section.data().map_or(0, |bytes| bytes.len());
+            if size > 0 {
+                return size;
             }
         }
     }

@@ -62,10 +62,10 @@ fn unit_count(rt: &HostRuntime, path: &str) -> Result<Option<usize>, Failure> {
     };
     let mut units = 0usize;
     for section in file.sections() {
-        if let (Ok(name), Ok(bytes)) = (section.name(), section.data()) {
-            let kind = match SectionKind::of_name(name) {
-                Some(SectionKind::Info) => UnitSection::Info,
-                Some(SectionKind::Types) => UnitSection::Types,
+        if let (Some(kind), Ok(bytes)) = (section.section_kind(), section.data()) {
+            let kind = match kind {
+                SectionKind::Info => UnitSection::Info,
+                SectionKind::Types => UnitSection::Types,
                 _ => continue,
             };
             let reader = SliceReader::new(bytes, file.endianness());

@@ -72,11 +72,12 @@ fn replace(
     name: &str,
     output: &str,
 ) -> Result<(), Failure> {
-    let is_written = object.write_to(&mut file).is_ok();
-    drop(file);
+    // Before the contents: who may not read OUT may not read them under the other name.
     if let Ok(metadata) = fs::metadata(rt, output) {
         let _ = fs::set_permissions(rt, name, metadata.permissions());
     }
+    let is_written = object.write_to(&mut file).is_ok();
+    drop(file);
     if is_written && fs::rename(rt, name, output).is_ok() {
         return Ok(());
     }

@@ -1,5 +1,6 @@
 mod Texts
 mod Attributes
+mod Called
 mod Loads
 mod Finds
 mod NamedSteps

@@ -56,28 +56,23 @@ impl DebugSection {
     }
 
     /// Whether a section is of this kind, in either spelling, and isn't empty.
-    #[tactic(auto, unfolding(crate::specs::Sections::is_used))]
+    #[tactic(auto, unfolding(crate::specs::Sections::is_used), using(crate::proofs::Called::called_is_named))]
     fn is_kind_of(self, section: &Section<'_>) -> bool
         ensures { result ≡ spec.is_used self (meaning section.now) }
     {
         if section.is_empty() {
             return false;
         }
-        match section.name() {
-            Ok(name) => name == self.name() || name == self.compressed_name(),
-            Err(_) => false,
-        }
+        section.is_called(self.name()) || section.is_called(self.compressed_name())
     }
 
     /// Whether a section has the older name of this kind.
+    #[tactic(auto, using(crate::proofs::Called::called_is_older))]
     fn is_older_name_of(self, section: &Section<'_>) -> bool
         ensures { result
             ≡ option_map_or (spec.is_older_name self) (meaning section.now).name false }
     {
-        match section.name() {
-            Ok(name) => name == self.compressed_name(),
-            Err(_) => false,
-        }
+        section.is_called(self.compressed_name())
     }
 }
 

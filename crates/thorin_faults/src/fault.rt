@@ -30,7 +30,7 @@ pub enum Error {
     InvalidInputKind,
     /// A section that is used is compressed.
     DecompressData(ElfReadError),
-    /// A section with relocations has no name that can be read; its place in the file.
+    /// A relocation can't be used, and its section has no name that can be read; the place in it.
     NamelessSection(ElfReadError, usize),
     /// A relocation names a symbol that can't be read; the section and the place in it.
     RelocationWithInvalidSymbol(String, usize),

@@ -11,8 +11,10 @@ use dwp_dwarf::{Encoding, Reader, SliceReader, UnitHeaders, UnitSection};
 use thorin_faults::Error;
 
 impl<'a> InputObject<'a> {
-    /// The encoding of the input: that of its first unit. `NoCompilationUnits` where there is none,
-    /// `ParseUnitHeader` where its header can't be read.
+    /// The encoding of the input: that of its first unit.
+    ///
+    /// # Errors
+    /// `NoCompilationUnits` where there is none, `ParseUnitHeader` where its header can't be read.
     #[tactic(auto, unfolding(crate::specs::Encodings::encoding_of))]
     pub fn encoding(&self) -> Result<Encoding, Error>
         ensures { Gives (λ encoding. encoding) result (spec.encoding_of (object self.now)) }

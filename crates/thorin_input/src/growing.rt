@@ -23,8 +23,10 @@ pub fn content(file: &WritableObject, kind: SectionKind) -> &[u8]
     &[]
 }
 
-/// Adds bytes at the end of a section's content, and tells where they lie. It refuses for memory
-/// alone, and then changes nothing.
+/// Adds bytes at the end of a section's content, and tells where they lie.
+///
+/// # Errors
+/// `Memory` alone, and then nothing is changed.
 pub fn put(
     file: &mut WritableObject,
     kind: SectionKind,
@@ -40,6 +42,9 @@ pub fn put(
 }
 
 /// The same of bytes that are moved.
+///
+/// # Errors
+/// Those of `put`.
 pub fn put_moved(
     file: &mut WritableObject,
     kind: SectionKind,
@@ -56,6 +61,9 @@ pub fn put_moved(
 }
 
 /// The length of each section's content, in their order.
+///
+/// # Errors
+/// Want of memory.
 pub fn lengths(alloc: Global, file: &WritableObject) -> Result<Vec<usize>, AllocError>
     ensures { IfOk result (λ lengths. lengths.items ≡ spec.lengths file.now.contents) }
 {

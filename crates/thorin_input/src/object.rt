@@ -41,8 +41,10 @@ pub struct InputObject<'a> {
         || same_kind s.kind kinds.TuIndex) sections.items) },
 }
 
-/// The ELF file that an input is: `ParseFileKind`, `InvalidInputKind` for an archive,
-/// `ParseObjectFile`.
+/// The ELF file that an input is.
+///
+/// # Errors
+/// `ParseFileKind`, `InvalidInputKind` for an archive, `ParseObjectFile`.
 #[tactic(auto, unfolding(crate::specs::Used::opened))]
 pub fn opened(bytes: &[u8]) -> Result<ElfFile<'_>, Error>
     ensures { Gives elf result (spec.opened bytes.now) }

@@ -210,8 +210,12 @@ fn add_part<'a>(
 }
 
 /// What an input adds to sections beside its units, in file order, its string offsets rewritten
-/// over the strings of the package: the first fault of its sections. An `Err` may leave strings
-/// behind those before.
+/// over the strings of the package.
+///
+/// # Errors
+/// The first fault of its sections in file order: `RepeatedSection`, `SectionOutsideFormat`,
+/// `MissingRequiredSection`, and what rewriting string offsets answers; `Memory`. An `Err` may leave
+/// strings behind those before.
 #[tactic(auto, unfolding(crate::specs::Parts::with_each_part))]
 pub fn parts_of<'a>(
     alloc: Global,
@@ -240,8 +244,10 @@ pub fn parts_of<'a>(
     Ok(parts)
 }
 
-/// Adds the parts to the contents of a package, in order. It refuses for memory alone, and may then
-/// leave bytes behind those before.
+/// Adds the parts to the contents of a package, in order.
+///
+/// # Errors
+/// `Memory` alone, which may leave bytes behind those before.
 #[tactic(auto, unfolding(crate::specs::Growing::with_parts))]
 pub fn put_parts(file: &mut WritableObject, parts: &[Part<'_>]) -> Result<(), Error>
     ensures contents { OnOk result (file.new

@@ -80,7 +80,10 @@ fn whole_range(
 
 impl Whole {
     /// Where the whole of each section comes to lie once parts are put behind the contents of a
-    /// file. It refuses for memory alone.
+    /// file.
+    ///
+    /// # Errors
+    /// `Memory` alone.
     #[tactic(auto, unfolding(crate::specs::Rows::whole_row))]
     pub fn of(encoding: Encoding, file: &WritableObject, parts: &[Part<'_>]) -> Result<Whole, Error>
         ensures row { IfOk result (λ whole.
@@ -130,6 +133,9 @@ fn adjusted_part(
 }
 
 /// The row of a unit but for its own bytes: its part of each section that units share.
+///
+/// # Errors
+/// Those of `ContributionAdjustor::adjust`, of the sections in the order of a row.
 #[tactic(auto, unfolding(crate::specs::Rows::unit_row))]
 pub fn unit_row(
     indexes: &Indexes<'_>,
@@ -191,7 +197,10 @@ pub struct Places<'i, 'a> {
 }
 
 impl<'i, 'a> Places<'i, 'a> {
-    /// The rows by place in a section of a kind. It refuses for memory alone.
+    /// The rows by place in a section of a kind.
+    ///
+    /// # Errors
+    /// `Memory` alone.
     pub fn new(
         alloc: Global,
         indexes: &'i Indexes<'a>,
@@ -212,8 +221,10 @@ impl<'i, 'a> Places<'i, 'a> {
     }
 }
 
-/// `UnitNotInIndex` where, in a package, a unit's row by place isn't the one that looking its
-/// identifier up gives.
+/// Whether, in a package, a unit's row by place is the one that looking its identifier up gives.
+///
+/// # Errors
+/// `UnitNotInIndex` where it isn't.
 #[tactic(auto, unfolding(crate::specs::Rows::row_test))]
 pub fn test_row<'a>(
     indexes: &Indexes<'_>,
@@ -294,8 +305,11 @@ fn whole_range_of(bytes: &[u8]) -> Option<Contribution>
 }
 
 /// Where in the first section of abbreviations those stand that a unit's identity is read with: all
-/// of it; for a compile unit of a package those of its row by place (`UnitNotInIndex`,
-/// `BadContribution`).
+/// of it; for a compile unit of a package those of its row by place.
+///
+/// # Errors
+/// `UnitNotInIndex` where there is no such row, `BadContribution` where they are outside the
+/// section.
 #[tactic(auto, unfolding(crate::specs::Rows::abbreviations_for))]
 pub fn abbreviations_for<'a>(
     source: &Source<'a>,

@@ -71,8 +71,10 @@ fn test_version(
 }
 
 impl<'a> Indexes<'a> {
-    /// The indexes of an input: `ParseIndex` of each, then `IncompatibleIndexVersion` of each, the
-    /// compilation index first.
+    /// The indexes of an input.
+    ///
+    /// # Errors
+    /// `ParseIndex` of each, then `IncompatibleIndexVersion` of each, the compilation index first.
     #[tactic(auto, unfolding(crate::specs::Indexes::indexes_of))]
     pub fn read(object: &InputObject<'a>, encoding: Encoding) -> Result<Indexes<'a>, Error>
         ensures { Gives view.indexes result (spec.indexes_of (view.object object.now) encoding) }

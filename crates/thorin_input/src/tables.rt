@@ -81,6 +81,9 @@ impl<'a> Tables<'a> {
 
     /// What `dwo_identifier_of_unit` says of a unit whose abbreviations stand in a part of the
     /// section. Units that use one table in one part, one after the other, read it once.
+    ///
+    /// # Errors
+    /// Those of `dwo_identifier_of_unit`.
     pub fn identifier(
         &mut self,
         range: Option<Contribution>,

@@ -157,6 +157,13 @@ fn index_refusals(rt: HostRuntime) {
             Err(Error::NumberTooLarge("contribution offset", 0x1_0000_0000))
         )
     );
+    let long = entry(GNU, 0x5, part(1, 0x1_0000_0000));
+    assert!(rt;
+        matches!(
+            write_index(rt.alloc(), Endianness::Little, &[long]),
+            Err(Error::NumberTooLarge("contribution size", 0x1_0000_0000))
+        )
+    );
     assert!(rt;
         matches!(
             write_index(

@@ -43,23 +43,20 @@ fn front_search(strings: &[Vec<u8>], string: &[u8]) -> Option<usize> {
 fn strings_are_kept_once(rt: HostRuntime) -> Result<(), Fail> {
     let mut table = PackageStringTable::new(rt.alloc());
     assert!(rt; table.is_empty());
+    assert!(rt; table.find_counted(b"in") == (None, 0));
     same(&rt, table.get_or_insert(b"int")?.0, 0);
     same(&rt, table.get_or_insert(b"char")?.0, 4);
     same(&rt, table.get_or_insert(b"int")?.0, 0);
     same(&rt, table.len(), 2);
-    same(
-        &rt,
-        table.find_counted(b"int").0,
-        Some(PackageStringOffset(0)),
-    );
-    same(
-        &rt,
-        table.find_counted(b"char").0,
-        Some(PackageStringOffset(4)),
-    );
-    let (absent, count) = table.find_counted(b"in");
-    same(&rt, absent, None);
-    assert!(rt; count <= 2);
+    for (string, want) in [
+        (b"int".as_slice(), Some(PackageStringOffset(0))),
+        (b"char".as_slice(), Some(PackageStringOffset(4))),
+        (b"in".as_slice(), None),
+    ] {
+        let (found, count) = table.find_counted(string);
+        same(&rt, found, want);
+        assert!(rt; count <= 2);
+    }
     same(&rt, table.get_or_insert(b"")?.0, 9);
     same(&rt, table.data(), b"int\0char\0\0".as_slice());
     same(&rt, table.finish().as_slice(), b"int\0char\0\0".as_slice());

@@ -10,6 +10,6 @@ pub use objects::{
     part, plain, renamed, split, split_unit, tu, unit, with_strings, with_types,
 };
 pub use units::{
-    has_unit, slots_read, type_unit_count, unit_bytes, unit_content, unit_count, unit_range,
-    unit_row, unit_string,
+    has_unit, slots_read, type_unit_count, unit_bytes, unit_content, unit_count, unit_format,
+    unit_range, unit_row, unit_string,
 };

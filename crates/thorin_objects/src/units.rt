@@ -1,5 +1,6 @@
 //! What a package file says of a unit.
 
+use dwp_bytes::Format;
 use dwp_elf::SectionKind;
 use dwp_index::{PackageFile, PackagedUnit};
 use dwp_table::DwarfObject;
@@ -30,6 +31,11 @@ pub fn slots_read(file: &[u8], name: DwarfObject) -> Result<u32, Fail> {
 /// The bytes of a unit that is there.
 pub fn unit_bytes(file: &[u8], name: DwarfObject) -> Result<&[u8], Fail> {
     Ok(found(file, name)?.bytes())
+}
+
+/// The format of its bytes.
+pub fn unit_format(file: &[u8], name: DwarfObject) -> Result<Format, Fail> {
+    Ok(found(file, name)?.encoding().format)
 }
 
 /// The number of its row, from 1 on.

@@ -18,6 +18,14 @@ pub fn add<'o, 's: 'o, S: Session<RelocationEntry>>(
     builder.add_object_bytes(bytes)
 }
 
+/// Adds the object at a path.
+pub fn add_path<'o, 's: 'o, S: Session<RelocationEntry>>(
+    builder: &mut DwarfPackage<'o, 's, S>,
+    path: &str,
+) -> Result<(), Error> {
+    builder.add_input_object(Path::new(path))
+}
+
 /// Adds the executable at `/e`.
 pub fn add_named<'o, 's: 'o, S: Session<RelocationEntry>>(
     builder: &mut DwarfPackage<'o, 's, S>,
@@ -115,6 +123,17 @@ pub fn added<S: Session<RelocationEntry>>(
 ) -> Result<Outcome, AllocError> {
     let mut builder = DwarfPackage::new(alloc, session);
     let answer = add_named(&mut builder, missing);
+    outcome_of(alloc, builder, answer)
+}
+
+/// Adds the object at a path to a new package.
+pub fn added_by_path<S: Session<RelocationEntry>>(
+    alloc: Global,
+    session: &S,
+    path: &str,
+) -> Result<Outcome, AllocError> {
+    let mut builder = DwarfPackage::new(alloc, session);
+    let answer = add_path(&mut builder, path);
     outcome_of(alloc, builder, answer)
 }
 

@@ -1,7 +1,7 @@
 //! Packages of the objects that an executable refers to.
 
 use crate::asserting::same;
-use crate::building::{Outcome, added, push_units};
+use crate::building::{Outcome, added, added_by_path, push_units};
 use crate::packing::packed;
 use bumpalo::Bump;
 use dwp_elf::{SectionKind, WriteError};
@@ -266,5 +266,21 @@ fn a_path_and_an_executable_are_packed(rt: HostRuntime) -> Result<(), Fail> {
         }
         assert!(rt; packed.file? == expected);
     }
+    Ok(())
+}
+
+#[test]
+fn the_object_at_a_path_is_added(rt: HostRuntime) -> Result<(), Fail> {
+    let alloc = rt.alloc();
+    let x = plain(alloc, 5)?;
+    let expected = packed(alloc, &[x.as_slice()])?.file?;
+    let files = files(alloc, naming(alloc, 5)?, Some(x))?;
+    let bump = Bump::new(alloc);
+    let session = MemorySession::new(&bump, &files);
+    let (missing, file) = accepted(added_by_path(alloc, &session, "/b/a.dwo")?)?;
+    same(&rt, missing, 0);
+    assert!(rt; file == expected);
+    let absent = added_by_path(alloc, &session, "/b/b.dwo")?;
+    same(&rt, name_of(&absent.answer), "NotFound");
     Ok(())
 }

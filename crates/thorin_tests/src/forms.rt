@@ -6,9 +6,9 @@ use bumpalo::Bump;
 use dwp_elf::SectionKind;
 use std::alloc::Global;
 use std::test::Fail;
-use thorin::DwarfPackage;
+use thorin::{DebugTypeSignature, DwarfPackage, DwoId, PackageFile};
 use thorin_faults::BytesSession;
-use thorin_objects::{cu, has_unit, object, plain, slots_read, unit_bytes};
+use thorin_objects::{cu, has_unit, object, plain, slots_read, split, split_unit, unit_bytes};
 
 #[test]
 fn an_indirect_form_carries_the_identifier(rt: HostRuntime) -> Result<(), Fail> {
@@ -57,6 +57,36 @@ fn section_0_has_the_number_of_sections(rt: HostRuntime) -> Result<(), Fail> {
     let five = plain(alloc, 5)?;
     let expected = packed(alloc, &[five.as_slice()])?.file?;
     assert!(rt; packed(alloc, &[input.as_slice()])?.file? == expected);
+    Ok(())
+}
+
+/// The object of the unit 7 of version 5 whose section of string offsets has no bytes.
+fn with_empty_string_offsets(alloc: Global) -> Result<Vec<u8>, Fail> {
+    // The header has 64 bytes, the contents 20, 1 and 1, the names 68: so the section headers stand
+    // at 160, and the third content's size at 384.
+    let mut file = split(
+        alloc,
+        &[split_unit(7).as_slice()],
+        &[(SectionKind::StrOffsets, [0].as_slice())],
+    )?;
+    let size = file.get_mut(384).ok_or("the byte is there")?;
+    if *size != 1 {
+        return Err("the size is there".into());
+    }
+    *size = 0;
+    Ok(file)
+}
+
+#[test]
+fn string_offsets_without_bytes_are_absent(rt: HostRuntime) -> Result<(), Fail> {
+    let alloc = rt.alloc();
+    let input = with_empty_string_offsets(alloc)?;
+    let file = packed(alloc, &[input.as_slice()])?.file?;
+    let package = PackageFile::parse(&file)?;
+    let unit = package.find_cu(DwoId(7))?.ok_or("the unit is there")?;
+    assert!(rt; unit.range(SectionKind::Abbrev).is_some());
+    assert!(rt; unit.range(SectionKind::StrOffsets).is_none());
+    assert!(rt; package.find_tu(DebugTypeSignature(7))?.is_none());
     Ok(())
 }
 

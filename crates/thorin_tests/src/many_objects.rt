@@ -2,7 +2,7 @@
 
 use crate::asserting::{same, same_at};
 use crate::packing::packed;
-use dwp_bytes::ReadError;
+use dwp_bytes::{Format, ReadError};
 use dwp_elf::{Class, Endianness, SectionKind};
 use std::alloc::Global;
 use std::process::Abort;
@@ -11,8 +11,8 @@ use thorin::Packed;
 use thorin_faults::Error;
 use thorin_objects::{
     ABBREVIATIONS, TYPE_UNIT, cu, has_unit, longer_type_unit, made, object, part, plain, renamed,
-    slots_read, split_unit, tu, type_unit_count, unit, unit_bytes, unit_range, unit_string,
-    with_strings, with_types,
+    slots_read, split_unit, tu, type_unit_count, unit, unit_bytes, unit_format, unit_range,
+    unit_string, with_strings, with_types,
 };
 
 /// Asserts that one outcome is the refusal of a unit that comes again.
@@ -33,9 +33,22 @@ fn a_unit_that_comes_again_is_refused(rt: HostRuntime) -> Result<(), Fail> {
     let x = plain(alloc, 5)?;
     let y = plain(alloc, 6)?;
     let packed = packed(alloc, &[x.as_slice(), y.as_slice(), x.as_slice()])?;
+    same(&rt, packed.outcomes.len(), 3);
     refuses_once(&rt, &packed, 5);
+    assert!(rt; packed.outcomes.last().is_some_and(|last| last.is_err()));
     let file = packed.file?;
     same(&rt, file.len(), 608);
+    for (from, to, want) in [
+        (64, 73, ABBREVIATIONS.as_slice()),
+        (73, 82, ABBREVIATIONS.as_slice()),
+        (82, 102, unit(5).as_slice()),
+        (102, 122, unit(6).as_slice()),
+        // The section headers stand at 288, and there are five.
+        (40, 48, [0x20, 1, 0, 0, 0, 0, 0, 0].as_slice()),
+        (60, 62, [5, 0].as_slice()),
+    ] {
+        same_at(&rt, part(&file, from, to), want, (from, to));
+    }
     let six = unit(6);
     same(&rt, unit_bytes(&file, cu(6))?, six.as_slice());
     for (kind, place, size) in [(SectionKind::Info, 0x14, 0x14), (SectionKind::Abbrev, 9, 9)] {
@@ -46,6 +59,25 @@ fn a_unit_that_comes_again_is_refused(rt: HostRuntime) -> Result<(), Fail> {
         &rt,
         part(&file, 170, 186),
         [0u8, 0, 0, 0, 1, 0, 0, 0, 2, 0, 0, 0, 0, 0, 0, 0].as_slice(),
+    );
+    Ok(())
+}
+
+#[test]
+fn three_objects_make_704_bytes(rt: HostRuntime) -> Result<(), Fail> {
+    let alloc = rt.alloc();
+    let (x, y, v) = (plain(alloc, 5)?, plain(alloc, 6)?, plain(alloc, 7)?);
+    let file = packed(alloc, &[x.as_slice(), y.as_slice(), v.as_slice()])?.file?;
+    same(&rt, file.len(), 704);
+    // The index stands at 151: a header of 16 bytes, eight identifiers, and the slots' rows.
+    same(
+        &rt,
+        part(&file, 231, 263),
+        [
+            0u8, 0, 0, 0, 0, 0, 0, 0, 0, 0, 0, 0, 0, 0, 0, 0, 0, 0, 0, 0, 1, 0, 0, 0, 2, 0, 0, 0,
+            3, 0, 0, 0,
+        ]
+        .as_slice(),
     );
     Ok(())
 }
@@ -95,6 +127,8 @@ fn another_byte_order_is_refused(rt: HostRuntime) -> Result<(), Fail> {
         ],
     )?;
     let packed = packed(alloc, &[x.as_slice(), other.as_slice()])?;
+    same(&rt, packed.outcomes.len(), 2);
+    assert!(rt; packed.outcomes.first().is_some_and(|first| first.is_ok()));
     let last = packed.outcomes.last().ok_or("there are outcomes")?;
     assert!(rt; matches!(last, Err(Error::MixedInputEncodings)));
     same(&rt, packed.file?.len(), 544);
@@ -125,6 +159,7 @@ fn a_cut_object_is_passed_over(rt: HostRuntime) -> Result<(), Fail> {
         }
     }
     same(&rt, refused, 1);
+    assert!(rt; packed.outcomes.first().is_some_and(|first| first.is_err()));
     // Neither the class nor the byte order is those of the cut object.
     let file = packed.file?;
     same(&rt, file.len(), 544);
@@ -231,6 +266,13 @@ fn each_class_order_and_format_is_packed(rt: HostRuntime) -> Result<(), Fail> {
                 let input = combination(alloc, class, order, is_wide)?;
                 let file = packed(alloc, &[input.as_slice()])?.file?;
                 assert!(rt; has_unit(&file, cu(5))?, "{class:?} {order:?} {is_wide}");
+                let (format, size) = if is_wide {
+                    (Format::Dwarf64, 32)
+                } else {
+                    (Format::Dwarf32, 20)
+                };
+                same(&rt, unit_format(&file, cu(5))?, format);
+                same(&rt, unit_bytes(&file, cu(5))?.len(), size);
             }
         }
     }

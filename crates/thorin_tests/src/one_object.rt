@@ -70,6 +70,11 @@ fn two_strings_make_728_bytes(rt: HostRuntime) -> Result<(), Fail> {
         (73, 81, [0, 0, 0, 0, 2, 0, 0, 0].as_slice()),
         (81, 101, five.as_slice()),
         (101, 105, b"b\0a\0".as_slice()),
+        // The index of three columns, the names' first byte, and the section headers at 280, seven.
+        (105, 117, [2, 0, 0, 0, 3, 0, 0, 0, 1, 0, 0, 0].as_slice()),
+        (181, 182, [0].as_slice()),
+        (40, 48, [24, 1, 0, 0, 0, 0, 0, 0].as_slice()),
+        (60, 62, [7, 0].as_slice()),
     ] {
         same_at(&rt, part(bytes, from, to), want, (from, to));
     }
