@@ -76,18 +76,6 @@ module _ {R : Type 0} (input : R → Input) where
         known_or input (lookup (is_at (nat_cmp code)) es) (declaration code table)) empty;
   }
 
-  -- a table of which more was read
-  pub more_read : (section : Input) (offset : ℕ) (known more : BTreeMap ℕ (Abbreviation R))
-      (rest left : Input) → RemembersTable input section offset known rest
-      → ((other : ℕ) → remembered input more left other ≡ remembered input known rest other)
-      → RemembersTable input section offset more left
-  more_read section offset known more rest left before kept = record {
-    table = before.table;
-    is =
-        before.is;
-    same = λ code. kept code ∙ before.same code;
-  }
-
   module _ (lebs : LebsTakeBytes) where
     -- a code that is remembered already
     pub passed : (known : BTreeMap ℕ (Abbreviation R)) (i : Input) (x : (ℕ × Declaration) × Input)

@@ -68,8 +68,9 @@ impl<R: Reader> AbbreviationCache<R> {
 
     /// What `Abbreviations::get` says of a code in the table at that offset of the section.
     ///
-    /// While the offset stays the same no declaration is read twice, where there is memory to
-    /// remember it. Another offset forgets the table at hand.
+    /// While the offset stays the same no declaration is read a third time, where there is memory to
+    /// remember it. Another offset forgets the table at hand, and its first code is sought without
+    /// remembering: so units that use two tables by turns cost no more than reading these.
     ///
     /// # Errors
     /// `OffsetOutOfRange` past the section's end, and those of `Abbreviations::get`. Want of memory
@@ -85,6 +86,7 @@ impl<R: Reader> AbbreviationCache<R> {
             self.rest = from_offset(self.section, offset)?;
             self.offset = offset;
             self.known.clear();
+            return Abbreviations { table: self.rest }.get(code);
         }
         if let Some(abbreviation) = self.known.get(&code) {
             return Ok(Some(*abbreviation));
