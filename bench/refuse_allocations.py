@@ -3,7 +3,7 @@
 
     bench/refuse_allocations.py CRATE..
 
-`rt test` in crates/CRATE has built the tests before. Each test whose name begins with `a_refused` or `refused` is run
+`rt test` in crates/CRATE, or `rt ci`, has built the tests before. Each test whose name begins with `a_refused` or `refused` is run
 with its first allocation refused, then with its second, and so on until a run meets no refusal. A test that fails is
 told with the number of the allocation. Wants a C compiler and glibc.
 """
