@@ -1,0 +1,153 @@
+"""The wrong bodies of must-fail/: what each edit changes, in which function, and which of them can be tried together."""
+import os
+import re
+
+FUNCTION = re.compile(r"^(\s*)(?:pub(?:\([^)]*\))?\s+)?(?:const\s+|unsafe\s+|extern \"C\"\s+)*fn\s+(\w+)")
+
+
+class Edit:
+    """A file of must-fail/: pairs of texts, and the functions that must be refused."""
+
+    def __init__(self, crate, name):
+        self.crate, self.name = crate, name
+        self.pairs, self.functions, self.is_alone = [], set(), False
+        with open(f"{crate.folder}/must-fail/{name}", encoding="utf-8") as it:
+            self.text = it.read()
+        file, old = "", None
+        for line in self.text.split("\n"):
+            if line.startswith("file: "):
+                file = line[6:].strip()
+            elif line.startswith("old: "):
+                old = line[5:]
+            elif line.startswith("new:") and old is not None:
+                self.pairs.append((file, old, line[4:].removeprefix(" ")))
+                old = None
+            elif line.startswith("# refused: "):
+                self.functions.add(line[11:].strip())
+        self.find_functions()
+
+    def find_functions(self):
+        """Without lines that name them, the functions that hold the changed texts."""
+        is_named = bool(self.functions)
+        for file, old, _new in self.pairs:
+            text = text_of(self.crate, file)
+            if text.count(old) != 1:
+                # A pair after the first may change what an earlier one made.
+                continue
+            name = function_at(text, file, text.index(old))
+            if name is None or not file.startswith("src/"):
+                self.is_alone = True
+            elif not is_named:
+                self.functions.add(name)
+
+    def applied(self, texts):
+        """The texts of the files with the edit applied to these, or why it can't be."""
+        changed = dict(texts)
+        for file, old, new in self.pairs:
+            text = changed.get(file) or text_of(self.crate, file)
+            if text.count(old) != 1:
+                return None, f"an 'old:' text is in {file} {text.count(old)} times, and not once"
+            changed[file] = text.replace(old, new)
+        if not self.pairs:
+            return None, "it has no 'old:' and 'new:' pair"
+        if all(text == (texts.get(file) or text_of(self.crate, file)) for file, text in changed.items()):
+            return None, "it changes nothing"
+        return changed, None
+
+
+def text_of(crate, file):
+    with open(f"{crate.folder}/{file}", encoding="utf-8") as it:
+        return it.read()
+
+
+def edits_of(crate):
+    """The edits of a crate, by name."""
+    folder = f"{crate.folder}/must-fail"
+    names = sorted(os.listdir(folder)) if os.path.isdir(folder) else []
+    return [Edit(crate, name) for name in names if name.endswith(".edit")]
+
+
+def functions_in(lines):
+    """The first line, the last line and the name of each function, as rt fmt lays them out."""
+    found = []
+    for first, line in enumerate(lines):
+        head = FUNCTION.match(line)
+        if head:
+            ends = (at for at in range(first, len(lines)) if lines[at] == f"{head[1]}}}")
+            is_short = line.rstrip().endswith((";", "}"))
+            found.append((first, first if is_short else next(ends, first), head[2]))
+    return found
+
+
+def function_at(text, file, place):
+    """The end of the name of the outermost function that holds a place, as a check tells it."""
+    lines, line = text.split("\n"), text.count("\n", 0, place)
+    inside = next((it for it in functions_in(lines) if it[0] <= line <= it[1]), None)
+    if inside is None:
+        return None
+    first, _last, name = inside
+    if lines[first].startswith(" "):
+        return f"{type_above(lines, first)}::{name}"
+    module = re.sub(r"^src/|\.rt$", "", file).split("/")[-1]
+    return name if module in ("lib", "main", "mod") else f"{module}::{name}"
+
+
+def type_above(lines, line):
+    """The type of the `impl` or the trait that a line stands in, with the trait behind it that it implements."""
+    for at in range(line - 1, -1, -1):
+        trait = re.match(r"(?:pub(?:\([^)]*\))? )?trait (\w+)", lines[at])
+        if trait:
+            return trait[1]
+        if re.match(r"(?:unsafe )?impl\b", lines[at]):
+            head = " ".join(lines[at:line]).split("{")[0].split(" where ")[0]
+            head = head.split("impl", 1)[1]
+            generics, head = split_generics(head)
+            of, _, name = head.rpartition(" for ")
+            plain = lambda it: re.sub(r"<.*", "", it.strip().lstrip("&")).split("::")[-1].strip()
+            subject = "Any" if re.search(rf"\b{re.escape(plain(name))}\b\s*[:,>]", generics) else plain(name)
+            return subject + (plain(of) if of else "")
+    return ""
+
+
+def split_generics(head):
+    """The parameters in angle brackets that a text begins with, and the rest."""
+    if not head.startswith("<"):
+        return "", head
+    depth = 0
+    for at, letter in enumerate(head):
+        depth += (letter == "<") - (letter == ">" and head[at - 1] != "-")
+        if depth == 0:
+            return head[: at + 1], head[at + 1 :]
+    return "", head
+
+
+class Group:
+    """Edits of different functions, which one check tries."""
+
+    def __init__(self):
+        self.edits, self.functions, self.texts, self.is_alone = [], set(), {}, False
+        # Whether a function that is meant was found among several of one name.
+        self.is_renamed = False
+
+    def takes(self, edit):
+        """Adds the edit where it changes other functions than those that are here, and its texts still stand once."""
+        if self.edits and (self.is_alone or edit.is_alone and not edit.functions or self.functions & edit.functions):
+            return False
+        changed, _why = edit.applied(self.texts)
+        if changed is None:
+            return False
+        self.texts, self.is_alone = changed, edit.is_alone and not edit.functions
+        self.edits.append(edit)
+        self.functions |= edit.functions
+        return True
+
+
+def grouped(edits):
+    """The edits in as few groups as have different functions."""
+    groups = []
+    for edit in edits:
+        if not any(it.takes(edit) for it in groups):
+            groups.append(Group())
+            if not groups[-1].takes(edit):
+                raise ValueError(edit.applied({})[1])
+    return groups
