@@ -25,6 +25,8 @@ class Edit:
             elif line.startswith("# refused: "):
                 self.functions.add(line[11:].strip())
         self.find_functions()
+        # The function by the words of the source, also where a check has another name for it.
+        self.meant = min(self.functions, default="")
 
     def find_functions(self):
         """Without lines that name them, the functions that hold the changed texts."""

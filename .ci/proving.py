@@ -109,15 +109,18 @@ class Meter(threading.Thread):
                     with open(f"/proc/{name}/stat", encoding="utf-8", errors="replace") as it:
                         fields = it.read().rpartition(")")[2].split()
                     parents[int(name)] = int(fields[1])
-                    found[int(name)] = (fields[19], (int(fields[11]) + int(fields[12])) / self.tick)
+                    # (that of its copies, which it has waited for, is counted in)
+                    found[int(name)] = (fields[19], sum(int(it) for it in fields[11:15]) / self.tick)
                 except (OSError, IndexError, ValueError):
                     continue
         for process, (start, seconds) in found.items():
-            if self.is_ours(process, parents):
-                known = self.seen.get((process, start))
-                crate = known[0] if known else self.crate_of(process)
-                if crate:
-                    self.seen[process, start] = crate, seconds
+            known = self.seen.get((process, start))
+            if not known and self.is_ours(process, parents):
+                crate = self.crate_of(process)
+                is_copy = crate and self.crate_of(parents[process]) == crate
+                known = (crate, 0) if crate and not is_copy else None
+            if known:
+                self.seen[process, start] = known[0], seconds
 
     def is_ours(self, process, parents):
         while process and process != self.root:
