@@ -16,6 +16,7 @@ import struct
 import subprocess
 import sys
 import tempfile
+import textwrap
 from pathlib import Path
 
 SECONDS = 20
@@ -327,21 +328,39 @@ def main():
     compare(folder, packers, rounds, note)
 
 
+def wrapped(text, begin=""):
+    """A paragraph of at most 100 columns, or an item of a list; code stays whole."""
+    text = re.sub(r"`[^`]*`", lambda code: code[0].replace(" ", "\0"), text)
+    lines = textwrap.wrap(text, 100, initial_indent=begin, subsequent_indent=" " * len(begin), break_on_hyphens=False)
+    return "\n".join(lines).replace("\0", " ")
+
+
+def head(commands, compilers, note):
+    """What stands above the tables."""
+    return "\n\n".join([
+        "# Beside the other packers",
+        wrapped("For whoever wonders what another packer does with the same input. After it you know which of them packs it "
+                "whole, and which refuses it, loses units, crashes or never returns."),
+        wrapped("`bench/compare_packers.py` writes this page; its head says how to run it. Each cell is what one command did: "
+                + ", ".join(f"`{c}`" for c in commands) + ". For an executable `-e app` stands in the place of INPUT. "
+                f"A run had {SECONDS} seconds and 4 GiB. The inputs were made by {compilers}. Time and memory are in "
+                f"[bench/README.md](../bench/README.md).{note}"),
+        "\n".join([
+            wrapped("**All N**: llvm-dwarfdump reads all N units of the inputs from the package, by their DWO ids and type "
+                    "signatures, each with just the names and other strings that it reads from the objects. **K of N**: it "
+                    "does so of K units alone.", "- "),
+            wrapped("**Wrong lengths of string offsets**: a header of DWARF 5 string offsets doesn't have the length of what "
+                    "follows it (DWARF 5, 7.26).", "- "),
+            wrapped("A warning of `thorin` names a type unit that was passed over though its bytes differ from those that "
+                    "were kept.", "- "),
+            wrapped("A number in brackets is the exit status. **No word**: it failed without a message. **Leaves a file**: one "
+                    "that was begun and is no package.", "- ")])])
+
+
 def compare(folder, packers, rounds, note):
     numbers = r"([0-9]+[.][0-9]+[.][0-9]+)"
     compilers = ", ".join(f"{c} {version(c, numbers)}" for c in ("gcc", "clang", "rustc") if shutil.which(c))
-    print("# Beside the other packers\n")
-    print("Written by `bench/compare_packers.py`, which anyone can run; its head says how. Each cell is what one command did: "
-          + ", ".join(f"`{p.command}`" for p in packers) + ", for an executable `-e app` in the place of INPUT. "
-          f"A run had {SECONDS} seconds and 4 GiB. The inputs were made by {compilers}. "
-          f"Time and memory are in [bench/README.md](../bench/README.md).{note}\n")
-    print("- \"All N\": llvm-dwarfdump reads from the package all N units of the inputs by their DWO ids and type signatures, "
-          "each with just the names and other strings that it reads from the objects. \"**K of N**\": it does so of K units alone.\n"
-          "- \"Wrong lengths of string offsets\": a header of DWARF 5 string offsets doesn't have the length of what follows it "
-          "(DWARF 5, 7.26).\n"
-          "- A warning of `thorin` names a type unit that was passed over though its bytes differ from those that were kept.\n"
-          "- A number in brackets is the exit status. \"No word\" is a failure without a message. \"Leaves a file\": one that was "
-          "begun and is no package.")
+    print(head([p.command for p in packers], compilers, note))
     found, objects = list(groups(folder)), {}
     rows, again, linked = [], [], []
     for title, where, inputs in found:
