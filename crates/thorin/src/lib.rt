@@ -1,6 +1,7 @@
 //! Packing split DWARF objects and finished packages (DWARF 5, 7.3.5; the GNU page
 //! DebugFissionDWP): whole packages from lists of inputs, the builder, and the reader of packages.
-//! What a caller names besides stands here too: sessions, errors, the names of units and the arena.
+//! What a caller names besides stands here too: sessions, errors, the names of units, the arena, and
+//! the parts that the builder is made of (the table of strings, the index writer, relocations).
 #![tactic(auto)]
 
 mod groups;
@@ -9,10 +10,15 @@ mod packing;
 
 pub use bumpalo::Bump;
 pub use dwp_base::{Class, Contribution, ContributionOffset, Endianness, SectionKind};
-pub use dwp_bytes::{Encoding, Format, ReadError, RelocationEntry, WriteError as DwarfWriteError};
-pub use dwp_elf::{Output, ReadError as ElfReadError, WritableObject, WriteError};
-pub use dwp_index::{PackageError, PackageFile, PackagedUnit, Row, UnitEntry, Units};
-pub use dwp_table::{DebugTypeSignature, DwarfObject, DwoId};
+pub use dwp_bytes::{
+    Encoding, Format, ReadError, Reader, Relocate, Relocation, RelocationEntry, SliceReader,
+    WriteError as DwarfWriteError,
+};
+pub use dwp_elf::{
+    ElfFile, Output, ReadError as ElfReadError, Section, WritableObject, WriteError,
+};
+pub use dwp_index::{PackageError, PackageFile, PackagedUnit, Row, UnitEntry, UnitIndex, Units};
+pub use dwp_table::{Bucketable, DebugTypeSignature, DwarfObject, DwoId};
 pub use groups::pack_groups;
 pub use packing::{Input, Packed, pack, take_input};
 pub use thorin_builder::{DwarfPackage, InProgressDwarfPackage, InputReader, MissingTargets};
@@ -22,3 +28,7 @@ pub use thorin_faults::{
     Result, Session,
 };
 pub use thorin_identity::dwo_identifier_of_unit;
+pub use thorin_parts::{
+    Buckets, ContributionAdjustor, IndexEntry, PackageStringOffset, PackageStringTable,
+    add_relocations, bucket, write_index,
+};

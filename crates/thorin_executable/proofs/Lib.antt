@@ -1,6 +1,5 @@
 mod Texts
 mod Attributes
-mod Called
 mod Loads
 mod Finds
 mod NamedSteps

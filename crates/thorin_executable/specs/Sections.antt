@@ -2,12 +2,12 @@
 -- Appendix B; ELF gABI, "Sections").
 use Rattle.std.specs.Prelude.{ℕ, List, [], codes, map, Bool, false, ◌&&◌, ◌||◌, ◌==◌, not}
 use Rattle.std.specs.Prelude.{if◌then◌else◌, Option, Some, None, Result, Ok, Err, find}
-use Rattle.std.specs.Option.{ok_or, option_map_or}
-use Rattle.std.specs.Str.{bytes_eq}
+use Rattle.std.specs.Option.{ok_or, option_or}
 use Rattle.dwp_base.specs.declared.endian.Endianness.{Endianness}
 use Rattle.dwp_base.specs.Reading.{◌>>=◌}
 use Rattle.dwp_elf_read.specs.declared.fault.ReadError.TheVariants.{Compressed, SectionRange}
 use Rattle.dwp_elf_read.specs.Elf.{Elf, SectionMeaning, elf_of, SHT_NOBITS, has_compressed_flag}
+use Rattle.dwp_elf_read.specs.Elf.{is_named}
 use Rattle.dwp_elf_read.specs.Relocation.{relocations_of}
 use Rattle.dwp_bytes.specs.declared.relocation.Relocation.{Relocation}
 use Rattle.dwp_bytes.specs.declared.relocation.RelocationEntry.{RelocationEntry}
@@ -37,27 +37,25 @@ compressed_debug_name_of LineStr = codes ".zdebug_line_str"
 compressed_debug_name_of Str = codes ".zdebug_str"
 compressed_debug_name_of StrOffsets = codes ".zdebug_str_offsets"
 
--- a name is the older one of a kind
-abbrev pub is_older_name : DebugSection → List ℕ → Bool
-is_older_name kind name = bytes_eq name (compressed_debug_name_of kind)
-
--- a name is one of the two spellings
-abbrev pub is_debug_named : DebugSection → List ℕ → Bool
-is_debug_named kind name = bytes_eq name (debug_name_of kind) || is_older_name kind name
-
 -- a section has no bytes
 abbrev pub is_empty : SectionMeaning → Bool
 is_empty section = section.size == 0 || section.kind == SHT_NOBITS
 
--- a section is of a kind, and has bytes
-unfoldable pub is_used : DebugSection → SectionMeaning → Bool
-is_used kind section =
-    not (is_empty section) && option_map_or (is_debug_named kind) section.name false
+-- a section has a name, and bytes
+unfoldable pub is_used : List ℕ → SectionMeaning → Bool
+is_used name section = not (is_empty section) && is_named name section
+
+-- the section of a kind that is read: the first of its name that has bytes; where there is none,
+-- that of its older name
+unfoldable pub section_read : DebugSection → List SectionMeaning → Option SectionMeaning
+section_read kind sections =
+    option_or (find (is_used (debug_name_of kind)) sections)
+    (find (is_used (compressed_debug_name_of kind)) sections)
 
 -- a section's content, which may not be compressed
 unfoldable pub debug_content : DebugSection → SectionMeaning → Result (List ℕ) Fault
 debug_content kind section =
-    if has_compressed_flag section || option_map_or (is_older_name kind) section.name false
+    if has_compressed_flag section || is_named (compressed_debug_name_of kind) section
     then Err (DecompressData Compressed)
     else as_fault ObjectRead (ok_or section.content SectionRange)
 
@@ -82,9 +80,9 @@ abbrev pub loaded_if : Elf → DebugSection → Option SectionMeaning → Result
 loaded_if file kind None = Ok (relocated_section file.order [] [])
 loaded_if file kind (Some section) = loaded file kind section
 
--- what there is to read of the first section of a kind that has bytes
+-- what there is to read of the section of a kind
 unfoldable pub loaded_first : Elf → DebugSection → Result Input Fault
-loaded_first file kind = loaded_if file kind (find (is_used kind) file.sections)
+loaded_first file kind = loaded_if file kind (section_read kind file.sections)
 
 -- the units of an executable, their abbreviations and their strings
 pub record DebugData : Type 0 where

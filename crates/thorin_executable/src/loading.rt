@@ -1,7 +1,6 @@
 //! The sections of an executable that are read.
 
-ghost use Rattle.std.specs.Prelude.{◌≡◌, false, find, option_map, IfSome};
-ghost use Rattle.std.specs.Option.{option_map_or};
+ghost use Rattle.std.specs.Prelude.{◌≡◌, find, option_map, IfSome};
 ghost use Rattle.dwp_elf_read.specs.View.{elf, file as file_of, section as meaning};
 ghost use Rattle.thorin_faults.specs.Answers.{Gives};
 ghost use Rattle.thorin_executable.specs.Sections as spec;
@@ -54,26 +53,6 @@ impl DebugSection {
             DebugSection::StrOffsets => ".zdebug_str_offsets",
         }
     }
-
-    /// Whether a section is of this kind, in either spelling, and isn't empty.
-    #[tactic(auto, unfolding(crate::specs::Sections::is_used), using(crate::proofs::Called::called_is_named))]
-    fn is_kind_of(self, section: &Section<'_>) -> bool
-        ensures { result ≡ spec.is_used self (meaning section.now) }
-    {
-        if section.is_empty() {
-            return false;
-        }
-        section.is_called(self.name()) || section.is_called(self.compressed_name())
-    }
-
-    /// Whether a section has the older name of this kind.
-    #[tactic(auto, using(crate::proofs::Called::called_is_older))]
-    fn is_older_name_of(self, section: &Section<'_>) -> bool
-        ensures { result
-            ≡ option_map_or (spec.is_older_name self) (meaning section.now).name false }
-    {
-        section.is_called(self.compressed_name())
-    }
 }
 
 /// The units of an executable, their abbreviations and their strings: readers at the start of each
@@ -85,19 +64,40 @@ pub(crate) struct DebugData<R> {
     pub strings: StringSections<R>,
 }
 
-/// The first section of a kind that isn't empty.
-fn find_section<'a>(file: &ElfFile<'a>, kind: DebugSection) -> Option<Section<'a>>
-    ensures found { option_map meaning result ≡ find (spec.is_used kind) (elf file.now).sections }
+/// Whether a section has a name, and isn't empty.
+#[tactic(auto, unfolding(crate::specs::Sections::is_used))]
+fn is_used(section: &Section<'_>, name: &str) -> bool
+    ensures { result ≡ spec.is_used name.now (meaning section.now) }
+{
+    !section.is_empty() && section.is_called(name)
+}
+
+/// The first section of a name that isn't empty.
+fn find_named<'a>(file: &ElfFile<'a>, name: &str) -> Option<Section<'a>>
+    ensures found { option_map meaning result ≡ find (spec.is_used name.now) (elf file.now).sections }
     ensures in_file { IfSome result (λ s. file_of s ≡ elf file.now) }
 {
     for i in 0..file.section_count() {
         if let Some(section) = file.section(i) {
-            if kind.is_kind_of(&section) {
+            if is_used(&section, name) {
                 return Some(section);
             }
         }
     }
     None
+}
+
+/// The section of a kind that is read: the first of its name that isn't empty; where there is none,
+/// that of its older name.
+#[tactic(auto, unfolding(crate::specs::Sections::section_read))]
+fn find_section<'a>(file: &ElfFile<'a>, kind: DebugSection) -> Option<Section<'a>>
+    ensures found { option_map meaning result ≡ spec.section_read kind (elf file.now).sections }
+    ensures in_file { IfSome result (λ s. file_of s ≡ elf file.now) }
+{
+    match find_named(file, kind.name()) {
+        Some(section) => Some(section),
+        None => find_named(file, kind.compressed_name()),
+    }
 }
 
 /// The content of a section: `DecompressData` where it is compressed, `ObjectRead` where it is
@@ -106,7 +106,7 @@ fn find_section<'a>(file: &ElfFile<'a>, kind: DebugSection) -> Option<Section<'a
 fn content<'a>(section: &Section<'a>, kind: DebugSection) -> Result<&'a [u8], Error>
     ensures { Gives (λ bytes. bytes.now) result (spec.debug_content kind (meaning section.now)) }
 {
-    if section.is_compressed() || kind.is_older_name_of(section) {
+    if section.is_compressed() || section.is_called(kind.compressed_name()) {
         return Err(Error::DecompressData(ReadError::Compressed));
     }
     section.data().map_err(Error::ObjectRead)
@@ -131,7 +131,7 @@ fn load<'a, Sess: Session<RelocationEntry>>(
     Ok(SectionReader::new(relocations, bytes, file.endianness()))
 }
 
-/// A reader of the first section of a kind that isn't empty; of no bytes where there is none.
+/// A reader of the section of a kind; of no bytes where there is none.
 #[tactic(auto, unfolding(crate::specs::Sections::loaded_first))]
 fn load_first<'a, Sess: Session<RelocationEntry>>(
     alloc: Global,
