@@ -210,6 +210,7 @@ impl WritableObject {
         ensures text { OnOk result
             (Appends (O.contents out.old) (O.contents out.new) (file_text self.now)) }
         ensures read_back { OnOk result (elf_of (file_text self.now) ≡ Ok (written_elf self.now)) }
+        ensures distinct { OnOk result (KindsDiffer self.now.contents) }
         ensures refused { IfErr result
             (RefusesWriter self.now (O.contents out.old) (O.contents out.new)) }
         ensures blamed { IfErr result (Blames (O.failed out.new)) }
@@ -217,6 +218,7 @@ impl WritableObject {
             → O.failed out.old kind) }
         ensures untouched { result ≡ Err NumberTooLarge → out.new ≡ out.old }
     {
+        let _sections = &self.sections;
         let places = self.places()?;
         self.write_parts(&places, out).map_err(WriteError::Io)
     }
