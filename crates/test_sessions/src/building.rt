@@ -1,37 +1,54 @@
-//! Calls of a builder whose promises a test doesn't need.
+//! Calls of a builder and of packing, each met here alone: they promise nothing, and tell faults by
+//! their names.
 
+use bumpalo::Bump;
 use dwp_bytes::RelocationEntry;
 use dwp_elf::{WritableObject, WriteError};
-use dwp_table::{Bucketable, DwarfObject};
+use dwp_table::DwarfObject;
 use std::alloc::{AllocError, Global};
+use std::collections::BTreeMap;
+use std::io;
 use std::path::{AsPath, Path};
-use std::process::Abort;
-use std::test::Fail;
-use thorin::DwarfPackage;
-use thorin_faults::{Error, MissingReferencedObjectBehaviour, Session};
+use thorin::{DwarfPackage, Input, Packed, pack};
+use thorin_faults::{Error, MemorySession, MissingReferencedObjectBehaviour, Session};
+
+/// What a call answered, where a read that fails is one that may not be made or finds nothing.
+pub fn name_of(answer: &Result<(), Error>) -> &'static str {
+    match answer {
+        Ok(()) => "Ok",
+        Err(Error::Memory) => "Memory",
+        Err(Error::ReadInput(cause)) => match cause.kind() {
+            io::ErrorKind::NotFound => "NotFound",
+            io::ErrorKind::PermissionDenied => "ReadInput",
+            _ => "another cause",
+        },
+        Err(Error::ParseFileKind(_)) => "ParseFileKind",
+        Err(_) => "another fault",
+    }
+}
 
 /// Adds an object.
 pub fn add<'o, 's: 'o, S: Session<RelocationEntry>>(
     builder: &mut DwarfPackage<'o, 's, S>,
     bytes: &[u8],
-) -> Result<(), Error> {
-    builder.add_object_bytes(bytes)
+) -> &'static str {
+    name_of(&builder.add_object_bytes(bytes))
 }
 
 /// Adds the object at a path.
 pub fn add_path<'o, 's: 'o, S: Session<RelocationEntry>>(
     builder: &mut DwarfPackage<'o, 's, S>,
     path: &str,
-) -> Result<(), Error> {
-    builder.add_input_object(Path::new(path))
+) -> &'static str {
+    name_of(&builder.add_input_object(Path::new(path)))
 }
 
 /// Adds the executable at `/e`.
 pub fn add_named<'o, 's: 'o, S: Session<RelocationEntry>>(
     builder: &mut DwarfPackage<'o, 's, S>,
     missing: MissingReferencedObjectBehaviour,
-) -> Result<(), Error> {
-    builder.add_executable(Path::new("/e"), missing)
+) -> &'static str {
+    name_of(&builder.add_executable(Path::new("/e"), missing))
 }
 
 /// How many units the package has.
@@ -41,7 +58,15 @@ pub fn unit_count<'o, 's: 'o, S: Session<RelocationEntry>>(
     builder.contained_units().len()
 }
 
-/// Those units.
+/// Whether it has a unit.
+pub fn has<'o, 's: 'o, S: Session<RelocationEntry>>(
+    builder: &DwarfPackage<'o, 's, S>,
+    name: &DwarfObject,
+) -> bool {
+    builder.contained_units().contains(name)
+}
+
+/// Its units.
 pub fn units<'o, 's: 'o, S: Session<RelocationEntry>>(
     alloc: Global,
     builder: &DwarfPackage<'o, 's, S>,
@@ -64,83 +89,46 @@ pub fn finished<'o, 's: 'o, S: Session<RelocationEntry>>(
     builder.finish()
 }
 
-/// The file of an object, by a second try where the first was refused.
-pub fn written(rt: &impl Abort, object: &WritableObject) -> Result<Vec<u8>, Error> {
-    match object.write() {
-        Ok(file) => Ok(file),
-        Err(fault) => {
-            assert!(rt; matches!(fault, WriteError::Memory));
-            Ok(object.write()?)
+/// Its file.
+pub fn written(object: &WritableObject) -> Result<Vec<u8>, WriteError> {
+    object.write()
+}
+
+/// What packing these objects gives.
+pub fn packed(alloc: Global, objects: &[&[u8]]) -> Result<Packed, Error> {
+    let bump = Bump::new(alloc);
+    let files = BTreeMap::new(alloc);
+    let session = MemorySession::new(&bump, &files);
+    let mut inputs = Vec::new(alloc);
+    for bytes in objects {
+        inputs.push(Input::Bytes(bytes))?;
+    }
+    packed_by(alloc, &session, &inputs)
+}
+
+/// What packing these inputs gives.
+pub fn packed_by<'s, S: Session<RelocationEntry>>(
+    alloc: Global,
+    session: &'s S,
+    inputs: &[Input<'s>],
+) -> Result<Packed, Error> {
+    pack(alloc, session, inputs)
+}
+
+/// The file of these objects, where each is accepted and it can be written.
+pub fn whole(alloc: Global, objects: &[&[u8]]) -> Option<Vec<u8>> {
+    match packed(alloc, objects) {
+        Ok(packed) => file_of(packed),
+        Err(_) => None,
+    }
+}
+
+/// Its file, where each input was accepted.
+pub fn file_of(packed: Packed) -> Option<Vec<u8>> {
+    for outcome in &packed.outcomes {
+        if outcome.is_err() {
+            return None;
         }
     }
-}
-
-/// The file of the package.
-pub fn file_of<'o, 's: 'o, S: Session<RelocationEntry>>(
-    builder: DwarfPackage<'o, 's, S>,
-) -> Result<Vec<u8>, Error> {
-    Ok(finished(builder)?.write()?)
-}
-
-/// What came of adding an executable: the answer, the units that the package has then, those that
-/// are missing, and the file.
-#[derive(Drop)]
-pub struct Outcome {
-    pub answer: Result<(), Error>,
-    pub has: Vec<DwarfObject>,
-    pub lacks: Vec<DwarfObject>,
-    pub file: Result<Vec<u8>, Error>,
-}
-
-fn told<'o, 's: 'o, S: Session<RelocationEntry>>(
-    alloc: Global,
-    builder: &DwarfPackage<'o, 's, S>,
-) -> Result<(Vec<DwarfObject>, Vec<DwarfObject>), AllocError> {
-    Ok((units(alloc, builder)?, missing_units(alloc, builder)?))
-}
-
-fn outcome_of<'o, 's: 'o, S: Session<RelocationEntry>>(
-    alloc: Global,
-    builder: DwarfPackage<'o, 's, S>,
-    answer: Result<(), Error>,
-) -> Result<Outcome, AllocError> {
-    let told = told(alloc, &builder);
-    let file = file_of(builder);
-    let (has, lacks) = told?;
-    Ok(Outcome {
-        answer,
-        has,
-        lacks,
-        file,
-    })
-}
-
-/// Adds the executable at `/e` to a new package.
-pub fn added<S: Session<RelocationEntry>>(
-    alloc: Global,
-    session: &S,
-    missing: MissingReferencedObjectBehaviour,
-) -> Result<Outcome, AllocError> {
-    let mut builder = DwarfPackage::new(alloc, session);
-    let answer = add_named(&mut builder, missing);
-    outcome_of(alloc, builder, answer)
-}
-
-/// Adds the object at a path to a new package.
-pub fn added_by_path<S: Session<RelocationEntry>>(
-    alloc: Global,
-    session: &S,
-    path: &str,
-) -> Result<Outcome, AllocError> {
-    let mut builder = DwarfPackage::new(alloc, session);
-    let answer = add_path(&mut builder, path);
-    outcome_of(alloc, builder, answer)
-}
-
-/// Writes the numbers of units behind a text.
-pub fn push_units(alloc: Global, text: &mut String, units: &[DwarfObject]) -> Result<(), Fail> {
-    for unit in units {
-        text.push_str(format!(in alloc; " {}", unit.index())?.as_str())?;
-    }
-    Ok(())
+    packed.file.ok()
 }

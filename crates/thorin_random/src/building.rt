@@ -65,7 +65,7 @@ fn build_of<'s>(
     for input in inputs {
         all.push(input.as_slice())?;
     }
-    let built = built(alloc, session, &all, tally)?;
+    let built = build_each(alloc, session, &all, tally)?;
     let count = built.accepted.len();
     pack_all(alloc, session, &all, count, built.file(), tally)?;
     pack_all(alloc, session, &built.accepted, count, built.file(), tally)?;
@@ -91,7 +91,7 @@ impl<'s> Built<'s> {
     }
 }
 
-fn built<'s>(
+fn build_each<'s>(
     alloc: Global,
     session: &'s BytesSession<'s>,
     inputs: &[&'s [u8]],
