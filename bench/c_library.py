@@ -12,7 +12,7 @@ import tempfile
 from pathlib import Path
 
 ROOT = Path(__file__).resolve().parent.parent
-DATA = ROOT / "crates/thorin_cli_tests/data"
+DATA = ROOT / "crates/test_command_lines/data"
 CC = os.environ.get("CC", "gcc")
 PLAIN = ["-O2"]
 SANITIZED = ["-g", "-O1", "-fno-omit-frame-pointer", "-fsanitize=address,undefined", "-fno-sanitize-recover=all"]

@@ -18,6 +18,3 @@ pub use packing::{thorin_differing_types, thorin_pack};
 pub use rows::thorin_find_rows;
 pub use types::{ThorinBytes, ThorinLookup, ThorinName, ThorinRange, ThorinReport, ThorinUnit};
 pub use version::{thorin_status_text, thorin_version};
-
-#[cfg(test)]
-mod tests;

@@ -1,40 +1,15 @@
 //! Damaged inputs for the builder: objects and packages.
 
+use crate::builders::{Fault, Shown, add, file_of, grouped, packed_alone, showing};
 use crate::damage::damage;
 use crate::generator::Generator;
+use crate::reading::read_packaged;
 use crate::tally::Tally;
 use dwp_index::PackageFile;
 use std::alloc::{AllocError, Global};
 use thorin::{
-    Bump, BytesSession, DebugTypeSignature, DwarfObject, DwarfPackage, Error, Input, Packed,
-    RelocationEntry, Session, pack, pack_groups,
+    Bump, BytesSession, DwarfObject, DwarfPackage, Input, Packed, RelocationEntry, Session, pack,
 };
-
-/// What a builder shows of itself.
-#[derive(Debug, Drop, PartialEq)]
-pub struct Shown {
-    pub units: Vec<DwarfObject>,
-    pub differing: Vec<DebugTypeSignature>,
-    pub missing: Vec<DwarfObject>,
-    pub again: bool,
-}
-
-/// What a builder shows of itself.
-pub fn showing<'o, 's: 'o, Sess: Session<RelocationEntry>>(
-    alloc: Global,
-    builder: &DwarfPackage<'o, 's, Sess>,
-) -> Result<Shown, AllocError> {
-    let mut units = Vec::new(alloc);
-    for unit in builder.contained_units().iter() {
-        units.push(*unit)?;
-    }
-    Ok(Shown {
-        units,
-        differing: builder.differing_types().to_vec(alloc)?,
-        missing: builder.missing_targets().collect(alloc)?,
-        again: builder.packs_again(),
-    })
-}
 
 /// Gives a few samples, some of them damaged, to the builder, to `pack` and to `pack_groups`, and
 /// holds what they answer against one another.
@@ -90,25 +65,51 @@ fn build_of<'s>(
     for input in inputs {
         all.push(input.as_slice())?;
     }
-    let mut builder = DwarfPackage::new(alloc, session);
-    let accepted = add_each(alloc, &mut builder, &all, tally)?;
-    let end = showing(alloc, &builder)?;
-    let file = file_of(builder);
-    tally.finish.note(file.is_ok());
-    pack_all(alloc, session, &all, accepted.len(), &file, tally)?;
-    pack_all(alloc, session, &accepted, accepted.len(), &file, tally)?;
-    if let Ok(file) = &file {
-        read_back(file, &end.units, tally);
-        if end.again {
-            pack_again(alloc, session, file, &end.units, tally);
-        }
-    }
-    group(alloc, session, &accepted, &end.units, tally);
+    let built = build_each(alloc, session, &all, tally)?;
+    let count = built.accepted.len();
+    pack_all(alloc, session, &all, count, built.file(), tally)?;
+    pack_all(alloc, session, &built.accepted, count, built.file(), tally)?;
+    compare_again(alloc, session, &built, tally);
+    compare_groups(alloc, session, &built, tally);
     Ok(())
 }
 
-/// Adds inputs in order, and gives those that were accepted. A refusal leaves what the builder
-/// shows as it was, and an answer keeps the units that were there.
+/// What came of a few inputs: those that were accepted, what the builder shows, and the file.
+#[derive(Drop)]
+struct Built<'s> {
+    accepted: Vec<&'s [u8]>,
+    end: Shown,
+    file: Option<Vec<u8>>,
+}
+
+impl<'s> Built<'s> {
+    fn file(&self) -> Option<&[u8]> {
+        match &self.file {
+            Some(file) => Some(file.as_slice()),
+            None => None,
+        }
+    }
+}
+
+fn build_each<'s>(
+    alloc: Global,
+    session: &'s BytesSession<'s>,
+    inputs: &[&'s [u8]],
+    tally: &mut Tally,
+) -> Result<Built<'s>, AllocError> {
+    let mut builder = DwarfPackage::new(alloc, session);
+    let accepted = add_each(alloc, &mut builder, inputs, tally);
+    let end = showing(alloc, &builder);
+    let file = file_of(builder);
+    tally.finish.note(file.is_ok());
+    Ok(Built {
+        accepted: accepted?,
+        end: end?,
+        file: file.ok(),
+    })
+}
+
+/// Adds inputs in order, and gives those that were accepted.
 fn add_each<'o, 's: 'o, 'i, Sess: Session<RelocationEntry>>(
     alloc: Global,
     builder: &mut DwarfPackage<'o, 's, Sess>,
@@ -117,39 +118,31 @@ fn add_each<'o, 's: 'o, 'i, Sess: Session<RelocationEntry>>(
 ) -> Result<Vec<&'i [u8]>, AllocError> {
     let mut accepted = Vec::new(alloc);
     for input in inputs {
-        let before = showing(alloc, builder)?;
-        let outcome = builder.add_object_bytes(input);
-        let after = showing(alloc, builder)?;
-        tally.object.note(outcome.is_ok());
-        match outcome {
-            Ok(()) => {
-                accepted.push(*input)?;
-                tally.expect(after.units.starts_with(&before.units));
-            }
-            Err(fault) => {
-                tally.expect(!matches!(fault, Error::Memory));
-                tally.expect(after == before);
-            }
+        if add_one(alloc, builder, input, tally)? {
+            accepted.push(*input)?;
         }
     }
     Ok(accepted)
 }
 
-/// The file of a finished package.
-pub fn file_of<'o, 's: 'o, Sess: Session<RelocationEntry>>(
-    builder: DwarfPackage<'o, 's, Sess>,
-) -> Result<Vec<u8>, Error> {
-    let file = builder.finish()?;
-    Ok(file.write()?)
-}
-
-/// Whether two calls gave one file, or both none.
-fn are_alike(one: &Result<Vec<u8>, Error>, other: &Result<Vec<u8>, Error>) -> bool {
-    match (one, other) {
-        (Ok(one), Ok(other)) => one == other,
-        (Err(_), Err(_)) => true,
-        _ => false,
-    }
+/// Adds an input, and tells whether it was accepted. A refusal leaves what the builder shows as it
+/// was, and an answer keeps the units that were there.
+fn add_one<'o, 's: 'o, Sess: Session<RelocationEntry>>(
+    alloc: Global,
+    builder: &mut DwarfPackage<'o, 's, Sess>,
+    input: &[u8],
+    tally: &mut Tally,
+) -> Result<bool, AllocError> {
+    let before = showing(alloc, builder)?;
+    let fault = add(builder, input);
+    let after = showing(alloc, builder)?;
+    tally.object.note(fault.is_none());
+    tally.expect(fault != Some(Fault::Memory));
+    tally.expect(match fault {
+        None => after.units.starts_with(&before.units),
+        Some(_) => after == before,
+    });
+    Ok(fault.is_none())
 }
 
 /// Packs inputs at once: so many are accepted, and the file is this one.
@@ -158,39 +151,54 @@ fn pack_all<'s>(
     session: &'s BytesSession<'s>,
     inputs: &[&'s [u8]],
     accepted: usize,
-    file: &Result<Vec<u8>, Error>,
+    file: Option<&[u8]>,
     tally: &mut Tally,
 ) -> Result<(), AllocError> {
     let mut list = Vec::new(alloc);
     for input in inputs {
         list.push(Input::Bytes(*input))?;
     }
-    let packed = pack(alloc, session, &list);
-    match &packed {
-        Ok(packed) => compare(packed, inputs.len(), accepted, file, tally),
-        Err(_) => tally.expect(false),
-    }
+    let is_packed = is_packed(alloc, session, &list, accepted, file, tally);
+    tally.expect(is_packed);
     Ok(())
 }
 
-/// So many outcomes, so many inputs accepted, and this file.
-fn compare(
-    packed: &Packed,
-    inputs: usize,
+fn is_packed<'s>(
+    alloc: Global,
+    session: &'s BytesSession<'s>,
+    list: &[Input<'s>],
     accepted: usize,
-    file: &Result<Vec<u8>, Error>,
+    file: Option<&[u8]>,
     tally: &mut Tally,
-) {
-    let mut taken: usize = 0;
+) -> bool {
+    match pack(alloc, session, list) {
+        Ok(packed) => {
+            packed.outcomes.len() == list.len()
+                && accepted_count(&packed, tally) == accepted
+                && is_file(&packed, file)
+        }
+        Err(_) => false,
+    }
+}
+
+/// How many inputs were accepted.
+fn accepted_count(packed: &Packed, tally: &mut Tally) -> usize {
+    let mut count = 0usize;
     for outcome in &packed.outcomes {
         tally.packed.note(outcome.is_ok());
         if outcome.is_ok() {
-            taken = taken.saturating_add(1);
+            count = count.saturating_add(1);
         }
     }
-    tally.expect(packed.outcomes.len() == inputs);
-    tally.expect(taken == accepted);
-    tally.expect(are_alike(file, &packed.file));
+    count
+}
+
+/// Whether the packed file is this one, or there is none.
+fn is_file(packed: &Packed, file: Option<&[u8]>) -> bool {
+    match &packed.file {
+        Ok(packed) => file == Some(packed.as_slice()),
+        Err(_) => file.is_none(),
+    }
 }
 
 /// Reads a written package: it has these units and no others.
@@ -199,60 +207,47 @@ pub fn read_back(file: &[u8], units: &[DwarfObject], tally: &mut Tally) {
     tally.expect(package.is_ok());
     let Ok(package) = package else { return };
     for unit in units {
-        let found = package.find(*unit);
-        tally.expect(matches!(found, Ok(Some(_))));
-        if let Ok(Some(found)) = found {
-            for i in 0..8 {
-                tally.expect(found.string(i).is_ok());
-            }
-        }
+        let is_whole = read_packaged(&package, *unit, tally);
+        tally.expect(is_whole);
     }
     for entry in package.units() {
         tally.expect(units.contains(&entry.object));
     }
 }
 
-/// The file of a package of one input.
-fn packed_alone<'s>(
+/// Reads the file back, and packs it alone where it may be an input again: it is taken, and has
+/// the same units, unless a section is in no row of it.
+fn compare_again<'s>(
     alloc: Global,
     session: &'s BytesSession<'s>,
-    input: &[u8],
-) -> Result<Vec<u8>, Error> {
-    let mut builder = DwarfPackage::new(alloc, session);
-    builder.add_object_bytes(input)?;
-    file_of(builder)
-}
-
-/// Packs a package of the builder's own alone: it is taken, and has the same units, unless a
-/// section is in no row of it.
-fn pack_again<'s>(
-    alloc: Global,
-    session: &'s BytesSession<'s>,
-    file: &[u8],
-    units: &[DwarfObject],
+    built: &Built<'s>,
     tally: &mut Tally,
 ) {
-    let again = packed_alone(alloc, session, file);
-    tally.object.note(again.is_ok());
-    match &again {
-        Ok(again) => read_back(again, units, tally),
-        Err(fault) => tally.expect(matches!(fault, Error::SectionNotInRow)),
+    let Some(file) = built.file() else { return };
+    read_back(file, &built.end.units, tally);
+    if built.end.again {
+        let again = packed_alone(alloc, session, file);
+        tally.object.note(again.is_ok());
+        match &again {
+            Ok(again) => read_back(again, &built.end.units, tally),
+            Err(fault) => tally.expect(*fault == Fault::SectionNotInRow),
+        }
     }
 }
 
-/// Packs inputs in two groups: where there is a file, it has these units.
-fn group<'s>(
+/// Packs the accepted inputs in two groups: where there is a file, it has these units.
+fn compare_groups<'s>(
     alloc: Global,
     session: &'s BytesSession<'s>,
-    inputs: &[&'s [u8]],
-    units: &[DwarfObject],
+    built: &Built<'s>,
     tally: &mut Tally,
 ) {
+    let inputs = built.accepted.as_slice();
     let (first, second) = inputs.split_at(inputs.len() / 2);
-    let file = pack_groups(alloc, session, &[first, second]);
+    let file = grouped(alloc, session, &[first, second]);
     tally.groups.note(file.is_ok());
     match &file {
-        Ok(file) => read_back(file, units, tally),
-        Err(fault) => tally.expect(!matches!(fault, Error::Memory)),
+        Ok(file) => read_back(file, &built.end.units, tally),
+        Err(fault) => tally.expect(*fault != Fault::Memory),
     }
 }

@@ -117,8 +117,10 @@ fn raise(generator: &mut Generator, bytes: &mut Vec<u8>) {
         number.to_be_bytes()
     };
     if let Some(at) = place(generator, bytes.len()) {
-        for (place, part) in bytes.iter_mut().skip(at).zip(parts.iter()) {
-            *place = *part;
+        for i in 0..4 {
+            if at + i < bytes.len() {
+                bytes[at + i] = parts[i];
+            }
         }
     }
 }

@@ -1,14 +1,14 @@
 //! Damaged inputs for the builder: executables, and the objects that they name.
 
-use crate::building::{Shown, file_of, maybe_damaged, read_back, showing};
+use crate::builders::{Fault, Shown, add, add_named, file_of, showing};
+use crate::building::{maybe_damaged, read_back};
 use crate::generator::Generator;
 use crate::tally::Tally;
 use std::alloc::{AllocError, Global};
 use std::collections::BTreeMap;
-use std::path::{AsPath, Path};
 use thorin::{
-    Bump, BytesSession, DwarfPackage, Error, MemorySession, MissingReferencedObjectBehaviour,
-    skeletons,
+    Bump, BytesSession, DwarfPackage, MemorySession, MissingReferencedObjectBehaviour,
+    RelocationEntry, Session, Skeleton, skeletons,
 };
 
 /// Where the executable is.
@@ -23,25 +23,51 @@ pub fn refer(
     samples: &[Vec<u8>],
     tally: &mut Tally,
 ) -> Result<(), AllocError> {
-    let Some(executable) = maybe_damaged(generator, executables)? else {
-        return Ok(());
-    };
-    let mut files = BTreeMap::new(alloc);
-    for path in paths_in(alloc, &executable, tally)? {
-        if let Some(object) = maybe_damaged(generator, samples)? {
-            files.insert(path, object)?;
-        }
-    }
-    files.insert(String::from_str(alloc, EXECUTABLE)?, executable)?;
     let missing = if generator.below(2) == 0 {
         MissingReferencedObjectBehaviour::Skip
     } else {
         MissingReferencedObjectBehaviour::Error
     };
+    let Some(first) = maybe_damaged(generator, samples)? else {
+        return Ok(());
+    };
+    let Some(executable) = maybe_damaged(generator, executables)? else {
+        return Ok(());
+    };
+    let files = files_of(alloc, generator, executable, samples, tally)?;
     let arena = Bump::new(alloc);
     let session = MemorySession::new(&arena, &files);
-    let first = maybe_damaged(generator, samples)?;
-    build_of(alloc, &session, first, missing, tally)
+    give(alloc, &session, &first, missing, tally)
+}
+
+/// The executable, and samples at the paths that it names.
+fn files_of(
+    alloc: Global,
+    generator: &mut Generator,
+    executable: Vec<u8>,
+    samples: &[Vec<u8>],
+    tally: &mut Tally,
+) -> Result<BTreeMap<String, Vec<u8>>, AllocError> {
+    let paths = paths_in(alloc, &executable, tally)?;
+    let mut files = BTreeMap::new(alloc);
+    for path in &paths {
+        if let Some(object) = maybe_damaged(generator, samples)? {
+            put(alloc, &mut files, path, object)?;
+        }
+    }
+    put(alloc, &mut files, EXECUTABLE, executable)?;
+    Ok(files)
+}
+
+fn put(
+    alloc: Global,
+    files: &mut BTreeMap<String, Vec<u8>>,
+    path: &str,
+    bytes: Vec<u8>,
+) -> Result<(), AllocError> {
+    let path = String::from_str(alloc, path)?;
+    files.insert(path, bytes)?;
+    Ok(())
 }
 
 /// The paths that an executable names, up to its first fault.
@@ -50,38 +76,53 @@ fn paths_in(alloc: Global, bytes: &[u8], tally: &mut Tally) -> Result<Vec<String
     let session = BytesSession::new(&arena);
     let list = skeletons(alloc, &session, bytes);
     tally.skeletons.note(list.fault.is_none());
+    paths_of(alloc, &list.units)
+}
+
+fn paths_of(alloc: Global, units: &[Skeleton]) -> Result<Vec<String>, AllocError> {
     let mut paths = Vec::new(alloc);
-    for skeleton in list.units {
-        paths.push(skeleton.path)?;
+    for unit in units {
+        paths.push(unit.path.clone()?)?;
     }
     Ok(paths)
 }
 
-fn build_of<'s>(
+fn give<'s>(
     alloc: Global,
     session: &'s MemorySession<'s>,
-    first: Option<Vec<u8>>,
+    first: &[u8],
     missing: MissingReferencedObjectBehaviour,
     tally: &mut Tally,
 ) -> Result<(), AllocError> {
     let mut builder = DwarfPackage::new(alloc, session);
-    if let Some(object) = first {
-        tally.object.note(builder.add_object_bytes(&object).is_ok());
-    }
-    let before = showing(alloc, &builder)?;
-    let outcome = builder.add_executable(Path::new(EXECUTABLE), missing);
-    tally.executable.note(outcome.is_ok());
-    tally.expect(!matches!(outcome, Err(Error::Memory)));
-    let after = showing(alloc, &builder)?;
-    tally.expect(after.units.starts_with(&before.units));
-    end(&file_of(builder), &after, tally);
+    let after = add_both(alloc, &mut builder, first, missing, tally);
+    let file = file_of(builder);
+    end(&file, &after?, tally);
     Ok(())
 }
 
+/// Adds an object and the executable, and gives what the builder shows then.
+fn add_both<'o, 's: 'o, Sess: Session<RelocationEntry>>(
+    alloc: Global,
+    builder: &mut DwarfPackage<'o, 's, Sess>,
+    first: &[u8],
+    missing: MissingReferencedObjectBehaviour,
+    tally: &mut Tally,
+) -> Result<Shown, AllocError> {
+    tally.object.note(add(builder, first).is_none());
+    let before = showing(alloc, builder)?;
+    let fault = add_named(builder, EXECUTABLE, missing);
+    tally.executable.note(fault.is_none());
+    tally.expect(fault != Some(Fault::Memory));
+    let after = showing(alloc, builder)?;
+    tally.expect(after.units.starts_with(&before.units));
+    Ok(after)
+}
+
 /// What finishing answers: of a builder that lacks units, that the first is missing.
-fn end(file: &Result<Vec<u8>, Error>, after: &Shown, tally: &mut Tally) {
+fn end(file: &Result<Vec<u8>, Fault>, after: &Shown, tally: &mut Tally) {
     tally.finish.note(file.is_ok());
-    let is_missing = matches!(file, Err(Error::MissingReferencedUnit(_)));
+    let is_missing = matches!(file, Err(Fault::MissingUnit));
     tally.expect(is_missing != after.missing.is_empty());
     if let Ok(file) = file {
         read_back(file, &after.units, tally);

@@ -6,6 +6,7 @@
 //! were. For the gate, and by hand for longer runs.
 #![tactic(auto)]
 
+mod builders;
 mod building;
 mod damage;
 mod executables;
@@ -57,7 +58,7 @@ fn main(rt: HostRuntime) -> io::Result<()> {
         building::build(alloc, &mut generator, &samples, &mut tally)?;
         executables::refer(alloc, &mut generator, &executables, &samples, &mut tally)?;
     }
-    for (name, count) in tally.counts() {
+    for (name, count) in &tally.counts() {
         println!(rt; "{name}: {count}")?;
         calls = calls.saturating_add(count.calls());
     }
@@ -81,8 +82,14 @@ fn read_files(rt: &HostRuntime, folder: &str, names: &[&str]) -> io::Result<Vec<
 
 /// The number of a word; 0 where it is none.
 fn number(word: Option<&String>) -> u64 {
-    match word {
-        None => 0,
-        Some(word) => word.as_str().parse::<u64>().unwrap_or(0),
+    let Some(word) = word else { return 0 };
+    let mut number = 0u64;
+    for byte in word.as_bytes() {
+        let digit = byte.wrapping_sub(b'0');
+        if digit > 9 {
+            return 0;
+        }
+        number = number.saturating_mul(10).saturating_add(digit as u64);
     }
+    number
 }

@@ -11,6 +11,7 @@ use dwp_dwarf::{
 };
 use dwp_elf_read::{ElfFile, FileKind};
 use dwp_index::{CONTRIBUTION_KINDS, PackageFile, UnitIndex};
+use dwp_table::DwarfObject;
 use std::alloc::Global;
 
 /// Relocations of a section of units: at its first unit's offset of abbreviations, and behind its
@@ -48,9 +49,7 @@ fn read_sections(file: &ElfFile<'_>, tally: &mut Tally) {
     for section in file.sections() {
         tally.name.note(section.name().is_ok());
         let kind = section.name().ok().and_then(SectionKind::of_name);
-        if kind != section.section_kind() {
-            tally.contradictions = tally.contradictions.saturating_add(1);
-        }
+        tally.expect(kind == section.section_kind());
         let content = section.data();
         tally.content.note(content.is_ok());
         if let Ok(content) = content {
@@ -68,36 +67,60 @@ fn read_sections(file: &ElfFile<'_>, tally: &mut Tally) {
 
 /// A reader of the first section of a name; of no bytes where there is none.
 fn reader_of<'a>(file: &ElfFile<'a>, name: &str) -> SliceReader<'a> {
-    let content = match file.section_by_name(name) {
-        None => None,
-        Some(section) => section.data().ok(),
-    };
-    SliceReader::new(content.unwrap_or(&[]), file.endianness())
+    let mut content: &[u8] = &[];
+    if let Some(section) = file.section_by_name(name) {
+        if let Ok(bytes) = section.data() {
+            content = bytes;
+        }
+    }
+    SliceReader::new(content, file.endianness())
 }
 
 fn read_dwarf(alloc: Global, file: &ElfFile<'_>, tally: &mut Tally) {
-    for (units, abbreviations, section) in [
-        (".debug_info.dwo", ".debug_abbrev.dwo", UnitSection::Info),
-        (".debug_types.dwo", ".debug_abbrev.dwo", UnitSection::Types),
-        (".debug_info", ".debug_abbrev", UnitSection::Info),
-    ] {
-        let units = reader_of(file, units);
-        let abbreviations = reader_of(file, abbreviations);
-        let strings = StringSections {
-            debug_str: reader_of(file, ".debug_str.dwo"),
-            debug_line_str: reader_of(file, ".debug_line_str"),
-            debug_str_offsets: reader_of(file, ".debug_str_offsets.dwo"),
-        };
-        read_units(alloc, units, section, abbreviations, &strings, tally);
-        let relocated = StringSections {
-            debug_str: Relocate::new(&RELOCATIONS, strings.debug_str),
-            debug_line_str: Relocate::new(&RELOCATIONS, strings.debug_line_str),
-            debug_str_offsets: Relocate::new(&RELOCATIONS, strings.debug_str_offsets),
-        };
-        let units = Relocate::new(&RELOCATIONS, units);
-        let abbreviations = Relocate::new(&[], abbreviations);
-        read_units(alloc, units, section, abbreviations, &relocated, tally);
+    let split = reader_of(file, ".debug_abbrev.dwo");
+    let info = reader_of(file, ".debug_info.dwo");
+    let types = reader_of(file, ".debug_types.dwo");
+    let strings = strings_of(file);
+    read_twice(alloc, info, UnitSection::Info, split, &strings, tally);
+    read_twice(alloc, types, UnitSection::Types, split, &strings, tally);
+    let info = reader_of(file, ".debug_info");
+    let abbreviations = reader_of(file, ".debug_abbrev");
+    read_twice(
+        alloc,
+        info,
+        UnitSection::Info,
+        abbreviations,
+        &strings,
+        tally,
+    );
+}
+
+fn strings_of<'a>(file: &ElfFile<'a>) -> StringSections<SliceReader<'a>> {
+    StringSections {
+        debug_str: reader_of(file, ".debug_str.dwo"),
+        debug_line_str: reader_of(file, ".debug_line_str"),
+        debug_str_offsets: reader_of(file, ".debug_str_offsets.dwo"),
     }
+}
+
+/// Reads units as they are and with relocations.
+fn read_twice<'a>(
+    alloc: Global,
+    units: SliceReader<'a>,
+    section: UnitSection,
+    abbreviations: SliceReader<'a>,
+    strings: &StringSections<SliceReader<'a>>,
+    tally: &mut Tally,
+) {
+    read_units(alloc, units, section, abbreviations, strings, tally);
+    let relocated = StringSections {
+        debug_str: Relocate::new(&RELOCATIONS, strings.debug_str),
+        debug_line_str: Relocate::new(&RELOCATIONS, strings.debug_line_str),
+        debug_str_offsets: Relocate::new(&RELOCATIONS, strings.debug_str_offsets),
+    };
+    let units = Relocate::new(&RELOCATIONS, units);
+    let abbreviations = Relocate::new(&[], abbreviations);
+    read_units(alloc, units, section, abbreviations, &relocated, tally);
 }
 
 fn read_units<R: Reader>(
@@ -121,15 +144,17 @@ fn read_units<R: Reader>(
             Err(_) => whole = false,
         }
     }
-    if whole && read != units.len() {
-        tally.contradictions = tally.contradictions.saturating_add(1);
-    }
+    tally.expect(!whole || read == units.len());
 }
 
 fn tag_of<R: Reader>(
     found: Result<Option<Abbreviation<R>>, ReadError>,
 ) -> Result<Option<u64>, ReadError> {
-    Ok(found?.map(|abbreviation| abbreviation.tag()))
+    match found {
+        Ok(Some(abbreviation)) => Ok(Some(abbreviation.tag())),
+        Ok(None) => Ok(None),
+        Err(fault) => Err(fault),
+    }
 }
 
 fn read_root<R: Reader>(
@@ -143,9 +168,7 @@ fn read_root<R: Reader>(
     tally.table.note(table.is_ok());
     let Ok(table) = table else { return };
     if let Ok(Some((code, _))) = header.root_code() {
-        if tag_of(table.get(code)) != tag_of(cache.get(offset, code)) {
-            tally.contradictions = tally.contradictions.saturating_add(1);
-        }
+        tally.expect(tag_of(table.get(code)) == tag_of(cache.get(offset, code)));
     }
     let entry = root(header, &table);
     tally.root.note(entry.is_ok());
@@ -167,18 +190,21 @@ fn read_index(content: &[u8], order: Endianness, tally: &mut Tally) {
     let index = UnitIndex::parse(content, order);
     tally.index.note(index.is_ok());
     let Ok(index) = index else { return };
-    for identifier in [0, 5, u64::MAX] {
-        let _ = index.find_counted(identifier);
+    for identifier in &[0, 5, u64::MAX] {
+        let _ = index.find_counted(*identifier);
     }
     for number in 0..8 {
-        let row = index.row(number);
-        tally.row.note(row.is_ok());
-        if let Ok(row) = row {
-            for kind in CONTRIBUTION_KINDS {
-                if row.range(kind).is_some() && !index.has_column(kind) {
-                    tally.contradictions = tally.contradictions.saturating_add(1);
-                }
-            }
+        read_row(&index, number, tally);
+    }
+}
+
+fn read_row(index: &UnitIndex<'_>, number: u32, tally: &mut Tally) {
+    let row = index.row(number);
+    tally.row.note(row.is_ok());
+    let Ok(row) = row else { return };
+    for kind in &CONTRIBUTION_KINDS {
+        if row.range(*kind).is_some() && !index.has_column(*kind) {
+            tally.expect(false);
         }
     }
 }
@@ -188,14 +214,25 @@ fn read_package(bytes: &[u8], tally: &mut Tally) {
     tally.package.note(package.is_ok());
     let Ok(package) = package else { return };
     for entry in package.units() {
-        let found = package.find_counted(entry.object);
-        tally.found.note(found.is_ok());
-        if let Ok((Some(unit), _)) = found {
-            for i in 0..8 {
-                tally.string.note(unit.string(i).is_ok());
-            }
-            let _ = unit.section(SectionKind::Line);
-            let _ = unit.encoding();
-        }
+        let _ = read_packaged(&package, entry.object, tally);
     }
+}
+
+/// Reads what a package has of a unit, and tells whether the unit is there and its first strings
+/// are.
+pub fn read_packaged(package: &PackageFile<'_>, object: DwarfObject, tally: &mut Tally) -> bool {
+    let found = package.find_counted(object);
+    tally.found.note(found.is_ok());
+    let Ok((Some(unit), _)) = found else {
+        return false;
+    };
+    let mut is_whole = true;
+    for i in 0..8 {
+        let is_read = unit.string(i).is_ok();
+        tally.string.note(is_read);
+        is_whole = is_whole && is_read;
+    }
+    let _ = unit.section(SectionKind::Line);
+    let _ = unit.encoding();
+    is_whole
 }

@@ -3,14 +3,14 @@
 use std::fmt::{Display, Formatter, Write};
 
 /// How often a call answered, and how often it named a fault.
-#[derive(Clone, Copy, Debug, Default)]
+#[derive(Clone, Copy, Default)]
 pub struct Count {
     answers: u64,
     faults: u64,
 }
 
 /// What the calls did.
-#[derive(Clone, Copy, Debug, Default)]
+#[derive(Default, Drop)]
 pub struct Tally {
     pub kind: Count,
     pub file: Count,

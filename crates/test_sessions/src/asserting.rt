@@ -9,12 +9,7 @@ pub fn same<T: PartialEq + Debug + Drop>(rt: &impl Abort, found: T, want: T) {
     assert_eq!(rt; found, want);
 }
 
-/// The same of a row of a table, which the message names.
-pub fn same_at<T: PartialEq + Debug + Drop, Row: Debug + Drop>(
-    rt: &impl Abort,
-    found: T,
-    want: T,
-    row: Row,
-) {
-    assert_eq!(rt; found, want, "at {row:?}");
+/// Asserts that something holds.
+pub fn holds(rt: &impl Abort, is_so: bool) {
+    assert!(rt; is_so);
 }

@@ -7,14 +7,12 @@ mod asserting;
 #[cfg(test)]
 mod building;
 #[cfg(test)]
-mod counted;
-#[cfg(test)]
 mod counting;
 #[cfg(test)]
-mod executables;
-#[cfg(test)]
-mod packing;
+mod objects;
 #[cfg(test)]
 mod refused;
 #[cfg(test)]
-mod refused_inputs;
+mod rows;
+#[cfg(test)]
+mod running;

@@ -1,24 +1,21 @@
-//! A session that counts its calls and refuses one of them, and the files that it has.
+//! A session that counts its calls and refuses one of them.
 
 ghost use Rattle.std.specs.Prelude.{IfErr, IfOk};
 ghost use Rattle.thorin_faults.specs.Sessions.{IsNoWantOfMemory, IsOffered};
 
-use crate::executables::{NAMING, executable, naming_unit};
+use crate::objects::Files;
 use bumpalo::Bump;
 use dwp_bytes::RelocationEntry;
-use dwp_elf::SectionKind;
 use std::alloc::{AllocError, Global};
 use std::cell::Cell;
-use std::collections::BTreeMap;
 use std::io;
 use std::path::Path;
-use std::test::Fail;
 use thorin_faults::{InputError, MemorySession, Session};
-use thorin_objects::plain;
 
 /// Which call a session refuses, by its number among those of its sort, from 0 on.
 #[derive(Clone, Copy)]
 pub enum Refusal {
+    None,
     /// A read, as one of a file that may not be read.
     Read(u32),
     /// A read, for want of memory.
@@ -37,11 +34,7 @@ pub struct CountingSession<'a> {
 }
 
 impl<'a> CountingSession<'a> {
-    pub fn new(
-        bump: &'a Bump,
-        files: &'a BTreeMap<String, Vec<u8>>,
-        refusal: Refusal,
-    ) -> CountingSession<'a> {
+    pub fn new(bump: &'a Bump, files: &'a Files, refusal: Refusal) -> CountingSession<'a> {
         CountingSession {
             files: MemorySession::new(bump, files),
             reads: Cell::new(0),
@@ -101,38 +94,4 @@ impl<'a> Session<RelocationEntry> for CountingSession<'a> {
             _ => Session::<RelocationEntry>::read_input(&self.files, path),
         }
     }
-}
-
-/// The unit of an identifier of an executable, whose object's name is the letter of that number.
-fn lettered_unit(id: u8) -> [u8; 29] {
-    let mut unit = naming_unit(id, 0);
-    unit[12] = 0x60u8.saturating_add(id);
-    unit
-}
-
-/// The executable that names the objects 1 to 3 in the folder `/b`.
-fn naming_three(alloc: Global) -> Result<Vec<u8>, Fail> {
-    let mut units = Vec::new(alloc);
-    units.extend_from_slice(&lettered_unit(1))?;
-    units.extend_from_slice(&lettered_unit(2))?;
-    units.extend_from_slice(&lettered_unit(3))?;
-    executable(
-        alloc,
-        &[
-            (SectionKind::Abbrev, NAMING.as_slice()),
-            (SectionKind::Info, units.as_slice()),
-        ],
-    )
-}
-
-/// That executable at `/e`, the three objects, and the object 4 at `/b/d.dwo`.
-pub fn four_objects(alloc: Global) -> Result<BTreeMap<String, Vec<u8>>, Fail> {
-    let mut files = BTreeMap::new(alloc);
-    files.insert(String::from_str(alloc, "/e")?, naming_three(alloc)?)?;
-    let mut id = 0u8;
-    for path in ["/b/a.dwo", "/b/b.dwo", "/b/c.dwo", "/b/d.dwo"] {
-        id = id.saturating_add(1);
-        files.insert(String::from_str(alloc, path)?, plain(alloc, id)?)?;
-    }
-    Ok(files)
 }

@@ -1,0 +1,218 @@
+//! Small objects and executables, and the files of a session.
+
+use dwp_elf::{Class, Endianness, SectionKind, WritableObject};
+use std::alloc::{AllocError, Global};
+use std::collections::BTreeMap;
+
+/// The files of a session, by their paths.
+pub type Files = BTreeMap<String, Vec<u8>>;
+
+/// An abbreviation 1 of a compile unit with a GNU_dwo_id of 8 bytes.
+const ABBREVIATIONS: [u8; 9] = [0x01, 0x11, 0x00, 0xb1, 0x42, 0x07, 0x00, 0x00, 0x00];
+
+/// A compilation unit of version 4 with the root entry 1, and its identifier.
+pub fn unit(id: u8) -> [u8; 20] {
+    [
+        0x10, 0, 0, 0, 4, 0, 0, 0, 0, 0, 8, 1, id, 0, 0, 0, 0, 0, 0, 0,
+    ]
+}
+
+/// A type unit of version 4 with the signature 0x11 and no entry.
+pub const TYPE_UNIT: [u8; 23] = [
+    0x13, 0, 0, 0, 4, 0, 0, 0, 0, 0, 8, 0x11, 0, 0, 0, 0, 0, 0, 0, 0, 0, 0, 0,
+];
+
+/// A type unit of the same signature with one byte more.
+const LONGER_TYPE_UNIT: [u8; 24] = [
+    0x14, 0, 0, 0, 4, 0, 0, 0, 0, 0, 8, 0x11, 0, 0, 0, 0, 0, 0, 0, 0, 0, 0, 0, 0,
+];
+
+/// A file of 64 bits, little endian, for x86-64, with these sections; whatever fails is told as
+/// want of memory.
+fn object(alloc: Global, sections: &[(SectionKind, &[u8])]) -> Result<Vec<u8>, AllocError> {
+    let mut object = WritableObject::new(alloc, Class::Elf64, 62, Endianness::Little);
+    for section in sections {
+        if object.append(section.0, section.1).is_err() {
+            return Err(AllocError);
+        }
+    }
+    match object.write() {
+        Ok(file) => Ok(file),
+        Err(_) => Err(AllocError),
+    }
+}
+
+/// What an object has beside the compilation unit of an identifier.
+#[derive(Clone, Copy)]
+pub enum Kind {
+    Plain,
+    /// Two strings, `b` and `a`.
+    Strings,
+    Types,
+    LongerTypes,
+}
+
+/// The object of a kind with the compilation unit of an identifier.
+pub fn object_of(alloc: Global, kind: Kind, id: u8) -> Result<Vec<u8>, AllocError> {
+    let unit = unit(id);
+    let info = (SectionKind::Info, unit.as_slice());
+    let abbreviations = (SectionKind::Abbrev, ABBREVIATIONS.as_slice());
+    let strings = (SectionKind::Str, b"a\0b\0".as_slice());
+    let offsets = (SectionKind::StrOffsets, [2, 0, 0, 0, 0, 0, 0, 0].as_slice());
+    let types = (SectionKind::Types, TYPE_UNIT.as_slice());
+    let longer = (SectionKind::Types, LONGER_TYPE_UNIT.as_slice());
+    match kind {
+        Kind::Plain => object(alloc, &[info, abbreviations]),
+        Kind::Strings => object(alloc, &[info, abbreviations, strings, offsets]),
+        Kind::Types => object(alloc, &[info, types, abbreviations]),
+        Kind::LongerTypes => object(alloc, &[info, longer, abbreviations]),
+    }
+}
+
+/// An abbreviation 1 of a compile unit: GNU_dwo_name and comp_dir, both strings, and a GNU_dwo_id
+/// of 8 bytes; and an abbreviation 2 of a type unit.
+const NAMING: [u8; 19] = [
+    0x01, 0x11, 0x00, 0xb0, 0x42, 0x08, 0x1b, 0x08, 0xb1, 0x42, 0x07, 0, 0, 0x02, 0x41, 0, 0, 0, 0,
+];
+
+/// Its first abbreviation alone.
+const NAMING_ONE: [u8; 14] = [
+    0x01, 0x11, 0x00, 0xb0, 0x42, 0x08, 0x1b, 0x08, 0xb1, 0x42, 0x07, 0, 0, 0,
+];
+
+/// The type unit 0x11 of version 5, with the abbreviation 2.
+const NAMELESS_TYPE: [u8; 25] = [
+    0x15, 0, 0, 0, 5, 0, 2, 8, 0, 0, 0, 0, 0x11, 0, 0, 0, 0, 0, 0, 0, 0, 0, 0, 0, 2,
+];
+
+/// A relocation at offset 6, of type 10 and of symbol 0, with the addend 0.
+const RELOCATION: [u8; 24] = [
+    6, 0, 0, 0, 0, 0, 0, 0, 10, 0, 0, 0, 0, 0, 0, 0, 0, 0, 0, 0, 0, 0, 0, 0,
+];
+
+/// The unit of an identifier that names an object of this letter, as `a.dwo` in the directory `/b`,
+/// whose place of abbreviations is this byte twice.
+fn naming_unit(id: u8, letter: u8, place: u8) -> [u8; 29] {
+    [
+        0x19, 0, 0, 0, 4, 0, place, place, 0, 0, 8, 1, letter, 0x2e, 0x64, 0x77, 0x6f, 0, 0x2f,
+        0x62, 0, id, 0, 0, 0, 0, 0, 0, 0,
+    ]
+}
+
+/// Which executable stands at `/e`.
+#[derive(Clone, Copy)]
+pub enum Naming {
+    /// The unit of an identifier, of the object `/b/a.dwo`.
+    Unit(u8),
+    /// The same with an abbreviation more.
+    Whole(u8),
+    /// The unit 5 has its place of abbreviations by a relocation.
+    Relocated,
+    /// A type unit that has no name stands before the unit 5.
+    WithType,
+    /// The units 1 to 3, of the objects `/b/a.dwo` to `/b/c.dwo`.
+    Three,
+}
+
+/// That executable.
+pub fn executable(alloc: Global, naming: Naming) -> Result<Vec<u8>, AllocError> {
+    match naming {
+        Naming::Unit(id) => with_units(alloc, &NAMING_ONE, &naming_unit(id, 0x61, 0), &[]),
+        Naming::Whole(id) => with_units(alloc, &NAMING, &naming_unit(id, 0x61, 0), &[]),
+        Naming::Relocated => relocated(alloc),
+        Naming::WithType => {
+            let units = joined(alloc, &[&NAMELESS_TYPE, &naming_unit(5, 0x61, 0)])?;
+            with_units(alloc, &NAMING, &units, &[])
+        }
+        Naming::Three => {
+            let (one, two) = (naming_unit(1, 0x61, 0), naming_unit(2, 0x62, 0));
+            let units = joined(alloc, &[&one, &two, &naming_unit(3, 0x63, 0)])?;
+            with_units(alloc, &NAMING, &units, &[])
+        }
+    }
+}
+
+/// The executable with these abbreviations and units, and with lines where there are some: the
+/// names of its sections lose their end `.dwo`.
+fn with_units(
+    alloc: Global,
+    abbreviations: &[u8],
+    units: &[u8],
+    lines: &[u8],
+) -> Result<Vec<u8>, AllocError> {
+    let mut file = object(
+        alloc,
+        &[
+            (SectionKind::Abbrev, abbreviations),
+            (SectionKind::Info, units),
+            (SectionKind::Line, lines),
+        ],
+    )?;
+    put_name(&mut file, b".debug_abbrev.dwo", b".debug_abbrev\0");
+    put_name(&mut file, b".debug_info.dwo", b".debug_info\0");
+    Ok(file)
+}
+
+fn relocated(alloc: Global) -> Result<Vec<u8>, AllocError> {
+    let mut file = with_units(alloc, &NAMING, &naming_unit(5, 0x61, 0x77), &RELOCATION)?;
+    // Contents and names end at 197, so the section headers stand at 200. The third one becomes a
+    // RELA section (ELF gABI, sh_type 4) of the second one (sh_info).
+    put(&mut file, 396, &[4]);
+    put(&mut file, 436, &[2]);
+    Ok(file)
+}
+
+/// Writes a name over the first place where another one stands.
+fn put_name(file: &mut Vec<u8>, from: &[u8], to: &[u8]) {
+    for place in 0..file.len() {
+        if part(file, place, from.len()) == from {
+            put(file, place, to);
+            return;
+        }
+    }
+}
+
+/// Writes bytes at a place, as far as the file goes.
+fn put(file: &mut Vec<u8>, place: usize, bytes: &[u8]) {
+    for i in 0..bytes.len() {
+        let at = place.saturating_add(i);
+        if at < file.len() {
+            file[at] = bytes[i];
+        }
+    }
+}
+
+/// So many bytes from a place on; none where they aren't there.
+pub fn part(bytes: &[u8], place: usize, length: usize) -> &[u8] {
+    match bytes.get(place..place.saturating_add(length)) {
+        Some(part) => part,
+        None => &[],
+    }
+}
+
+/// These bytes joined.
+fn joined(alloc: Global, parts: &[&[u8]]) -> Result<Vec<u8>, AllocError> {
+    let mut bytes = Vec::new(alloc);
+    for part in parts {
+        bytes.extend_from_slice(part)?;
+    }
+    Ok(bytes)
+}
+
+/// Puts a file at a path.
+pub fn put_file(
+    alloc: Global,
+    files: &mut Files,
+    path: &str,
+    bytes: Vec<u8>,
+) -> Result<(), AllocError> {
+    let path = String::from_str(alloc, path)?;
+    files.insert(path, bytes)?;
+    Ok(())
+}
+
+/// Puts the object of a unit at a path.
+pub fn put_object(alloc: Global, files: &mut Files, path: &str, id: u8) -> Result<(), AllocError> {
+    let bytes = object_of(alloc, Kind::Plain, id)?;
+    put_file(alloc, files, path, bytes)
+}

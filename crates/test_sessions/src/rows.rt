@@ -1,0 +1,371 @@
+//! Executables and paths as inputs, and what is left where a read of the session, or a placing in
+//! it, fails, for each in turn. The text of a row ends with the file's size, where it is that of
+//! its units, or with why there is none.
+
+use crate::asserting::same;
+use crate::building::name_of;
+use crate::counting::{CountingSession, Refusal};
+use crate::objects::{Files, Kind, Naming, object_of};
+use crate::running::{Objects, Step, is_made_of, told};
+use bumpalo::Bump;
+use dwp_table::{DwarfObject, DwoId};
+use std::alloc::{AllocError, Global};
+use std::collections::BTreeMap;
+use std::process::Abort;
+use thorin::pack_groups;
+use thorin_faults::MissingReferencedObjectBehaviour;
+
+const SKIP: Step = Step::Named(MissingReferencedObjectBehaviour::Skip);
+
+const STOP: Step = Step::Named(MissingReferencedObjectBehaviour::Error);
+
+/// Asserts what the executable of the units 1 to 3 gives: which call is refused, by what number;
+/// the inputs; and what is told.
+fn hold_of_three(
+    rt: &impl Abort,
+    alloc: Global,
+    rows: &[(Refusal, &[Step], &str)],
+) -> Result<(), AllocError> {
+    for row in rows {
+        let told = told(alloc, Naming::Three, Objects::Four, row.0, row.1)?;
+        same(rt, told.as_str(), row.2);
+    }
+    Ok(())
+}
+
+/// The same of an executable, the objects that there are, and the inputs.
+fn hold(
+    rt: &impl Abort,
+    alloc: Global,
+    rows: &[(Naming, Objects, &[Step], &str)],
+) -> Result<(), AllocError> {
+    for row in rows {
+        let told = told(alloc, row.0, row.1, Refusal::None, row.2)?;
+        same(rt, told.as_str(), row.3);
+    }
+    Ok(())
+}
+
+/// The executable is read first, and then its objects 1 to 3.
+const READS: [(Refusal, &'static [Step], &'static str); 10] = [
+    (
+        Refusal::Read(0),
+        &[SKIP],
+        "ReadInput 1, has, lacks: No output object was created from inputs",
+    ),
+    (
+        Refusal::Read(1),
+        &[SKIP],
+        "Ok 4, has 2 3, lacks 1: Unit 0x00000001 referenced by executable was not found",
+    ),
+    (
+        Refusal::Read(2),
+        &[SKIP],
+        "Ok 4, has 1 3, lacks 2: Unit 0x00000002 referenced by executable was not found",
+    ),
+    (
+        Refusal::Read(3),
+        &[SKIP],
+        "Ok 4, has 1 2, lacks 3: Unit 0x00000003 referenced by executable was not found",
+    ),
+    (
+        Refusal::Read(4),
+        &[SKIP],
+        "Ok 4, has 1 2 3, lacks: 704 bytes, theirs",
+    ),
+    (
+        Refusal::Read(0),
+        &[STOP],
+        "ReadInput 1, has, lacks: No output object was created from inputs",
+    ),
+    (
+        Refusal::Read(1),
+        &[STOP],
+        "ReadInput 2, has, lacks 1: Unit 0x00000001 referenced by executable was not found",
+    ),
+    (
+        Refusal::Read(2),
+        &[STOP],
+        "ReadInput 3, has 1, lacks 2: Unit 0x00000002 referenced by executable was not found",
+    ),
+    (
+        Refusal::Read(3),
+        &[STOP],
+        "ReadInput 4, has 1 2, lacks 3: Unit 0x00000003 referenced by executable was not found",
+    ),
+    (
+        Refusal::Read(4),
+        &[STOP],
+        "Ok 4, has 1 2 3, lacks: 704 bytes, theirs",
+    ),
+];
+
+#[test]
+fn each_read_fails_in_turn(rt: HostRuntime) -> Result<(), AllocError> {
+    hold_of_three(&rt, rt.alloc(), &READS)
+}
+
+/// The same where the session wants memory for a read, whatever is done where one can't be read.
+const WANTS: [(Refusal, &'static [Step], &'static str); 10] = [
+    (
+        Refusal::ReadForMemory(0),
+        &[SKIP],
+        "Memory 1, has, lacks: No output object was created from inputs",
+    ),
+    (
+        Refusal::ReadForMemory(1),
+        &[SKIP],
+        "Memory 2, has, lacks 1: Unit 0x00000001 referenced by executable was not found",
+    ),
+    (
+        Refusal::ReadForMemory(2),
+        &[SKIP],
+        "Memory 3, has 1, lacks 2: Unit 0x00000002 referenced by executable was not found",
+    ),
+    (
+        Refusal::ReadForMemory(3),
+        &[SKIP],
+        "Memory 4, has 1 2, lacks 3: Unit 0x00000003 referenced by executable was not found",
+    ),
+    (
+        Refusal::ReadForMemory(4),
+        &[SKIP],
+        "Ok 4, has 1 2 3, lacks: 704 bytes, theirs",
+    ),
+    (
+        Refusal::ReadForMemory(0),
+        &[STOP],
+        "Memory 1, has, lacks: No output object was created from inputs",
+    ),
+    (
+        Refusal::ReadForMemory(1),
+        &[STOP],
+        "Memory 2, has, lacks 1: Unit 0x00000001 referenced by executable was not found",
+    ),
+    (
+        Refusal::ReadForMemory(2),
+        &[STOP],
+        "Memory 3, has 1, lacks 2: Unit 0x00000002 referenced by executable was not found",
+    ),
+    (
+        Refusal::ReadForMemory(3),
+        &[STOP],
+        "Memory 4, has 1 2, lacks 3: Unit 0x00000003 referenced by executable was not found",
+    ),
+    (
+        Refusal::ReadForMemory(4),
+        &[STOP],
+        "Ok 4, has 1 2 3, lacks: 704 bytes, theirs",
+    ),
+];
+
+#[test]
+fn want_of_memory_is_never_passed_over(rt: HostRuntime) -> Result<(), AllocError> {
+    hold_of_three(&rt, rt.alloc(), &WANTS)
+}
+
+const D: Step = Step::Object("/b/d.dwo");
+
+/// An object behind the executable, and the executable a second time, which adds what a read kept
+/// away.
+const IN_TURN: [(Refusal, &'static [Step], &'static str); 8] = [
+    (
+        Refusal::Read(0),
+        &[SKIP, D],
+        "ReadInput Ok 2, has 4, lacks: 544 bytes, theirs",
+    ),
+    (
+        Refusal::Read(2),
+        &[SKIP, D],
+        "Ok Ok 5, has 1 3 4, lacks 2: Unit 0x00000002 referenced by executable was not found",
+    ),
+    (
+        Refusal::Read(4),
+        &[SKIP, D],
+        "Ok ReadInput 5, has 1 2 3, lacks: 704 bytes, theirs",
+    ),
+    (
+        Refusal::ReadForMemory(4),
+        &[SKIP, D],
+        "Ok Memory 5, has 1 2 3, lacks: 704 bytes, theirs",
+    ),
+    (
+        Refusal::Read(1),
+        &[SKIP, SKIP],
+        "Ok Ok 6, has 2 3 1, lacks: 704 bytes, theirs",
+    ),
+    (
+        Refusal::Read(2),
+        &[SKIP, SKIP],
+        "Ok Ok 6, has 1 3 2, lacks: 704 bytes, theirs",
+    ),
+    (
+        Refusal::Read(2),
+        &[STOP, STOP],
+        "ReadInput Ok 6, has 1 2 3, lacks: 704 bytes, theirs",
+    ),
+    (
+        Refusal::ReadForMemory(3),
+        &[SKIP, SKIP],
+        "Memory Ok 6, has 1 2 3, lacks: 704 bytes, theirs",
+    ),
+];
+
+#[test]
+fn what_a_read_kept_away_is_added_by_a_second_try(rt: HostRuntime) -> Result<(), AllocError> {
+    hold_of_three(&rt, rt.alloc(), &IN_TURN)
+}
+
+const OBJECT: Step = Step::Object("/b/a.dwo");
+
+const NO_OBJECT: Step = Step::Object("/b/b.dwo");
+
+/// Executables with their objects and without them, and objects at paths.
+const EXECUTABLES: [(Naming, Objects, &'static [Step], &'static str); 11] = [
+    (
+        Naming::Unit(5),
+        Objects::Five,
+        &[STOP],
+        "Ok 2, has 5, lacks: 544 bytes, theirs",
+    ),
+    (
+        Naming::Relocated,
+        Objects::Five,
+        &[STOP],
+        "Ok 2, has 5, lacks: 544 bytes, theirs",
+    ),
+    (
+        Naming::WithType,
+        Objects::Five,
+        &[STOP],
+        "Ok 2, has 5, lacks: 544 bytes, theirs",
+    ),
+    (
+        Naming::Unit(5),
+        Objects::None,
+        &[SKIP],
+        "Ok 2, has, lacks 5: Unit 0x00000005 referenced by executable was not found",
+    ),
+    (
+        Naming::Unit(5),
+        Objects::None,
+        &[STOP],
+        "NotFound 2, has, lacks 5: Unit 0x00000005 referenced by executable was not found",
+    ),
+    (
+        Naming::Unit(1),
+        Objects::None,
+        &[SKIP],
+        "Ok 2, has, lacks 1: Unit 0x00000001 referenced by executable was not found",
+    ),
+    (
+        Naming::Unit(5),
+        Objects::Cut,
+        &[SKIP],
+        "ParseFileKind 2, has, lacks 5: Unit 0x00000005 referenced by executable was not found",
+    ),
+    (
+        Naming::Unit(5),
+        Objects::Cut,
+        &[STOP],
+        "ParseFileKind 2, has, lacks 5: Unit 0x00000005 referenced by executable was not found",
+    ),
+    (
+        Naming::Unit(5),
+        Objects::Five,
+        &[OBJECT],
+        "Ok 1, has 5, lacks: 544 bytes, theirs",
+    ),
+    (
+        Naming::Unit(5),
+        Objects::Five,
+        &[NO_OBJECT],
+        "NotFound 1, has, lacks: No output object was created from inputs",
+    ),
+    (
+        Naming::Unit(5),
+        Objects::Five,
+        &[OBJECT, STOP],
+        "Ok Ok 2, has 5, lacks: 544 bytes, theirs",
+    ),
+];
+
+#[test]
+fn an_executable_brings_its_object(rt: HostRuntime) -> Result<(), AllocError> {
+    hold(&rt, rt.alloc(), &EXECUTABLES)
+}
+
+/// Which placing is refused: of the relocations of the abbreviations, which are none, or of those
+/// of the units.
+const PLACINGS: [(u32, &'static str, &'static str); 3] = [
+    (
+        0,
+        "Memory 1 refused, has, lacks: No output object was created from inputs",
+        "Memory refused",
+    ),
+    (
+        1,
+        "Memory 1 refused, has, lacks: No output object was created from inputs",
+        "Memory refused",
+    ),
+    (2, "Ok 2, has 5, lacks: 544 bytes, theirs", "Ok"),
+];
+
+#[test]
+fn relocations_and_packages_that_cannot_be_placed(rt: HostRuntime) -> Result<(), AllocError> {
+    for row in &PLACINGS {
+        let refusal = Refusal::Placing(row.0);
+        let told = told(
+            rt.alloc(),
+            Naming::Relocated,
+            Objects::Five,
+            refusal,
+            &[SKIP],
+        )?;
+        same(&rt, told.as_str(), row.1);
+        let grouped = grouped(rt.alloc(), refusal)?;
+        same(&rt, grouped, row.2);
+    }
+    Ok(())
+}
+
+/// What packing two groups answers, where the session refuses a placing.
+fn grouped(alloc: Global, refusal: Refusal) -> Result<&'static str, AllocError> {
+    let five = object_of(alloc, Kind::Plain, 5)?;
+    let six = object_of(alloc, Kind::Plain, 6)?;
+    let files: Files = BTreeMap::new(alloc);
+    let bump = Bump::new(alloc);
+    let session = CountingSession::new(&bump, &files, refusal);
+    let file = file_of_groups(alloc, &session, &[&[&five], &[&six]]);
+    let is_refused = session.has_refused_placing();
+    match file {
+        Ok(file) => {
+            let units = [
+                DwarfObject::Compilation(DwoId(5)),
+                DwarfObject::Compilation(DwoId(6)),
+            ];
+            let is_whole = is_made_of(alloc, &file, &units)?;
+            Ok(if is_whole && !is_refused {
+                "Ok"
+            } else {
+                "another file"
+            })
+        }
+        Err(name) => Ok(if is_refused && name == "Memory" {
+            "Memory refused"
+        } else {
+            name
+        }),
+    }
+}
+
+fn file_of_groups<'s>(
+    alloc: Global,
+    session: &'s CountingSession<'s>,
+    groups: &[&[&'s [u8]]],
+) -> Result<Vec<u8>, &'static str> {
+    match pack_groups(alloc, session, groups) {
+        Ok(file) => Ok(file),
+        Err(fault) => Err(name_of(&Err(fault))),
+    }
+}

@@ -1,0 +1,150 @@
+/* check: what the calls answer of a small object, value for value. The object has the compilation unit 5 of DWARF 4, an
+ * abbreviation, and two strings, `b` and `a`. */
+#include "thorin.h"
+#include <inttypes.h>
+#include <stdio.h>
+#include <string.h>
+
+_Static_assert(THORIN_NO_SUCH_STRING == 8 && THORIN_TOO_SMALL == 10 && THORIN_REFUSED == 11, "statuses");
+_Static_assert(THORIN_FAULT_DUPLICATE_UNIT == 29 && THORIN_ABBREVIATIONS == 2, "a fault and a section");
+
+static unsigned calls, failed;
+
+/* Counts a value that isn't the one that is wanted, and tells it. */
+static void same(int line, const char *what, uint64_t found, uint64_t want) {
+  if (found == want) return;
+  failed++;
+  fprintf(stderr, "check.c:%d: %s is %" PRIu64 ", wanted %" PRIu64 "\n", line, what, found, want);
+}
+
+#define SAME(found, want) same(__LINE__, #found, (uint64_t)(found), (uint64_t)(want))
+#define CALL(call, want) (calls++, SAME(call, want))
+#define BYTES(found, want, length) \
+  (SAME((found).size, length), SAME((found).size == (length) && memcmp((found).at, want, length) == 0, 1))
+
+/* The sections of the object, as they stand in the file: the unit, its abbreviations, the strings, and their offsets. */
+static const uint8_t unit_bytes[20] = {0x10, 0, 0, 0, 4, 0, 0, 0, 0, 0, 8, 1, 5, 0, 0, 0, 0, 0, 0, 0};
+static const uint8_t abbreviations[9] = {0x01, 0x11, 0x00, 0xb1, 0x42, 0x07, 0x00, 0x00, 0x00};
+static const uint8_t strings[4] = {'a', 0, 'b', 0};
+static const uint8_t string_offsets[8] = {2, 0, 0, 0, 0, 0, 0, 0};
+
+static const char names[] = "\0.debug_info.dwo\0.debug_abbrev.dwo\0.debug_str.dwo\0.debug_str_offsets.dwo\0.shstrtab";
+
+#define HEADERS 192
+#define SECTIONS 6
+static uint8_t object[HEADERS + SECTIONS * 64];
+
+static void put(size_t at, uint64_t value, size_t size) {
+  for (size_t i = 0; i < size; i++) object[at + i] = (uint8_t)(value >> (8 * i));
+}
+
+/* Puts a section's content and its header: its number, the place of its name, its type and its place in the file. */
+static size_t put_section(size_t number, size_t name, uint32_t type, size_t at, const void *content, size_t size) {
+  size_t header = HEADERS + number * 64;
+  memcpy(object + at, content, size);
+  put(header, name, 4);
+  put(header + 4, type, 4);
+  put(header + 24, at, 8);
+  put(header + 32, size, 8);
+  put(header + 48, 1, 8);
+  return at + size;
+}
+
+/* Makes the object: a file of 64 bits, little endian, for x86-64 (ELF gABI, chapter 4). */
+static void make_object(void) {
+  static const uint8_t ident[7] = {0x7f, 'E', 'L', 'F', 2, 1, 1};
+  memcpy(object, ident, sizeof ident);
+  put(16, 1, 2);        /* e_type: a relocatable file */
+  put(18, 62, 2);       /* e_machine */
+  put(20, 1, 4);        /* e_version */
+  put(40, HEADERS, 8);  /* e_shoff */
+  put(52, 64, 2);       /* e_ehsize */
+  put(58, 64, 2);       /* e_shentsize */
+  put(60, SECTIONS, 2); /* e_shnum */
+  put(62, 5, 2);        /* e_shstrndx */
+  size_t at = 64;
+  at = put_section(1, 1, 1, at, unit_bytes, sizeof unit_bytes);
+  at = put_section(2, 17, 1, at, abbreviations, sizeof abbreviations);
+  at = put_section(3, 35, 1, at, strings, sizeof strings);
+  at = put_section(4, 50, 1, at, string_offsets, sizeof string_offsets);
+  at = put_section(5, 73, 3, at, names, sizeof names);
+  SAME(at <= HEADERS, 1);
+}
+
+static void an_object_is_packed_and_found(void) {
+  thorin_bytes input = {object, sizeof object};
+  static uint8_t out[1000];
+  thorin_report report = {0};
+  CALL(thorin_pack(&input, 1, out, 727, &report), THORIN_TOO_SMALL);
+  SAME(report.size, 728);
+  CALL(thorin_pack(&input, 1, out, sizeof out, &report), THORIN_DONE);
+  SAME(report.size, 728);
+  SAME(report.packs_again, 1);
+  uint64_t count = 0;
+  CALL(thorin_unit_count(out, 728, &count), THORIN_DONE);
+  SAME(count, 1);
+  thorin_unit unit = {0};
+  CALL(thorin_find(out, 728, THORIN_COMPILATION, 5, &unit), THORIN_DONE);
+  SAME(unit.info.size, 20);
+  SAME(unit.str_offsets.size, 8);
+  SAME(unit.row, 1);
+  thorin_bytes lent = {out, 728};
+  CALL(thorin_string(out, 728, THORIN_COMPILATION, 5, 0, &lent), THORIN_DONE);
+  BYTES(lent, "b", 1);
+  CALL(thorin_string(out, 728, THORIN_COMPILATION, 5, 2, &lent), THORIN_NO_SUCH_STRING);
+  CALL(thorin_content(out, 728, THORIN_COMPILATION, 5, THORIN_ABBREVIATIONS, &lent), THORIN_DONE);
+  BYTES(lent, abbreviations, sizeof abbreviations);
+}
+
+static void a_second_unit_of_a_name_is_refused(void) {
+  thorin_bytes inputs[2] = {{object, sizeof object}, {object, sizeof object}};
+  static uint8_t none[1];
+  thorin_report report = {0};
+  CALL(thorin_pack(inputs, 2, none, 0, &report), THORIN_REFUSED);
+  SAME(report.input, 1);
+  SAME(report.fault, THORIN_FAULT_DUPLICATE_UNIT);
+  SAME(report.text_size, 45);
+  SAME(strcmp(report.text, "Duplicate split compilation unit (0x00000005)"), 0);
+}
+
+/* The statuses of look-ups of the unit, of a type unit, of a unit that isn't there, and of no kind; and the unit's
+ * version. */
+static void looked_up(const thorin_lookup *lookups, uint16_t version) {
+  static const int32_t want[4] = {THORIN_DONE, THORIN_ABSENT, THORIN_ABSENT, THORIN_NO_SUCH_KIND};
+  for (size_t i = 0; i < 4; i++) SAME(lookups[i].status, want[i]);
+  SAME(lookups[0].unit.info.size, 20);
+  SAME(lookups[0].unit.version, version);
+}
+
+static void many_units_are_looked_up_and_listed(void) {
+  thorin_bytes input = {object, sizeof object};
+  static uint8_t out[728];
+  thorin_report report = {0};
+  CALL(thorin_pack(&input, 1, out, sizeof out, &report), THORIN_DONE);
+  thorin_lookup lookups[4] = {{.id = 5, .kind = 1}, {.id = 5, .kind = 2}, {.id = 6, .kind = 1}, {.id = 5, .kind = 3}};
+  for (size_t i = 0; i < 4; i++) lookups[i].status = 77;
+  CALL(thorin_find_rows(out, sizeof out, lookups, 4), THORIN_DONE);
+  looked_up(lookups, 0);
+  CALL(thorin_find_each(out, sizeof out, lookups, 4), THORIN_DONE);
+  looked_up(lookups, 4);
+  thorin_name listed[2] = {{0}, {0}};
+  uint64_t count = 0, type = 0;
+  CALL(thorin_list(out, sizeof out, listed, 2, &count), THORIN_DONE);
+  SAME(count, 1);
+  SAME(listed[0].id, 5);
+  SAME(listed[1].id, 0);
+  SAME(listed[0].kind, THORIN_COMPILATION);
+  SAME(listed[1].kind, 0);
+  CALL(thorin_differing_types(&input, 1, &type, 0, &report), THORIN_DONE);
+  SAME(report.differing, 0);
+}
+
+int main(void) {
+  make_object();
+  an_object_is_packed_and_found();
+  a_second_unit_of_a_name_is_refused();
+  many_units_are_looked_up_and_listed();
+  if (failed) return 1;
+  printf("check: %u calls as expected\n", calls);
+  return 0;
+}
