@@ -1,0 +1,110 @@
+//! Hash tables, indexes and relocations.
+
+use crate::asserting::same;
+use dwp_base::{Contribution, ContributionOffset, Endianness};
+use dwp_bytes::{Encoding, Format};
+use dwp_elf_read::ElfFile;
+use dwp_index::{DwarfObject, DwoId};
+use std::alloc::{AllocError, Global};
+use std::process::Abort;
+use thorin_faults::Error;
+use thorin_parts::{IndexEntry, add_relocations, bucket, write_index};
+
+fn is_memory<T>(answer: &Result<T, Error>) -> bool {
+    matches!(answer, Ok(_) | Err(Error::Memory))
+}
+
+/// Whether three units have been looked at in as many slots as they have to be.
+fn looked(alloc: Global) -> Result<bool, Error> {
+    let units = [DwoId(0x3_0000_0001), DwoId(0x1), DwoId(0x2_0000_0001)];
+    Ok(bucket(alloc, &units)?.looked.as_slice() == [1, 2, 2].as_slice())
+}
+
+/// How many bytes the index of one unit has.
+fn index_size(alloc: Global) -> Result<usize, Error> {
+    let entry = IndexEntry {
+        encoding: Encoding {
+            version: 4,
+            format: Format::Dwarf32,
+            address_size: 8,
+        },
+        id: DwarfObject::Compilation(DwoId(0x5)),
+        debug_info: None,
+        debug_types: None,
+        debug_abbrev: Some(Contribution {
+            offset: ContributionOffset(0),
+            size: 0x10,
+        }),
+        debug_line: None,
+        debug_loc: None,
+        debug_loclists: None,
+        debug_rnglists: None,
+        debug_str_offsets: None,
+        debug_macinfo: None,
+        debug_macro: None,
+    };
+    Ok(write_index(alloc, Endianness::Little, &[entry])?.len())
+}
+
+fn put(bytes: &mut Vec<u8>, words: &[u64]) -> Result<(), AllocError> {
+    for word in words {
+        bytes.extend_from_slice(&word.to_le_bytes())?;
+    }
+    Ok(())
+}
+
+/// An executable for x86-64 with relocations of `.debug_info`, whose symbol 1 has the value 0x1000.
+fn executable(alloc: Global, relocations: &[u64; 6]) -> Result<Vec<u8>, AllocError> {
+    let mut bytes = Vec::new(alloc);
+    bytes.extend_from_slice(b"\x7fELF\x02\x01\x01\0\0\0\0\0\0\0\0\0\x02\0\x3e\0\x01\0\0\0")?;
+    put(&mut bytes, &[0, 0, 0xb0])?;
+    bytes.extend_from_slice(&[0, 0, 0, 0, 64, 0, 0, 0, 0, 0, 64, 0, 5, 0, 4, 0])?;
+    bytes.extend_from_slice(b"\0.debug_info\0\0\0\0")?;
+    put(&mut bytes, &[0, 0, 0, 0, 0x1000, 0])?;
+    put(&mut bytes, relocations)?;
+    put(&mut bytes, &[0, 0, 0, 0, 0, 0, 0, 0])?;
+    put(&mut bytes, &[0x1_0000_0001, 0, 0, 0x40, 0, 0, 0, 0])?;
+    put(&mut bytes, &[0x2_0000_0000, 0, 0, 0x50, 48, 0, 0, 0])?;
+    put(
+        &mut bytes,
+        &[0x4_0000_0000, 0, 0, 0x80, 48, 0x1_0000_0002, 0, 0],
+    )?;
+    put(&mut bytes, &[0x3_0000_0000, 0, 0, 0x40, 13, 0, 0, 0])?;
+    Ok(bytes)
+}
+
+/// How many places are relocated in `.debug_info`.
+fn count_of(alloc: Global, bytes: &[u8]) -> Result<usize, Error> {
+    let file = ElfFile::parse(bytes)?;
+    match file.section_by_name(".debug_info") {
+        Some(section) => Ok(add_relocations(alloc, &file, &section)?.len()),
+        None => Ok(0),
+    }
+}
+
+/// The first time memory may be refused, and then no more.
+fn relocate_twice(rt: &impl Abort, alloc: Global, bytes: &[u8], twice: &[u8]) {
+    assert!(rt; is_memory(&count_of(alloc, bytes)));
+    same(rt, count_of(alloc, bytes).ok(), Some(2));
+    let refused = count_of(alloc, twice);
+    assert!(rt;
+        matches!(
+            refused,
+            Err(Error::MultipleRelocations(_, 8) | Error::Memory)
+        )
+    );
+}
+
+#[test]
+fn a_refused_allocation_is_want_of_memory(rt: HostRuntime) {
+    let alloc = rt.alloc();
+    assert!(rt; is_memory(&looked(alloc)));
+    same(&rt, looked(alloc).ok(), Some(true));
+    assert!(rt; is_memory(&index_size(alloc)));
+    same(&rt, index_size(alloc).ok(), Some(52));
+    let bytes = executable(alloc, &[8, 0x1_0000_0001, 0x100, 0, 10, 5]);
+    let twice = executable(alloc, &[8, 1, 0, 8, 1, 0]);
+    if let (Ok(bytes), Ok(twice)) = (bytes, twice) {
+        relocate_twice(&rt, alloc, &bytes, &twice);
+    }
+}

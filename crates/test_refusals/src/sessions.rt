@@ -1,0 +1,85 @@
+//! What sessions read and place.
+
+use crate::asserting::same;
+use bumpalo::Bump;
+use std::alloc::{AllocError, Global};
+use std::borrow::CowSlice;
+use std::collections::BTreeMap;
+use std::path::{AsPath, Path, PathBuf};
+use std::process::Abort;
+use std::rt::Files;
+use std::{env, fs, io, process};
+use thorin_faults::{ArenaSession, InputError, MemorySession, Session};
+
+/// The numbers that are placed, where they are. The first time memory may be refused.
+fn numbers_placed<S: Session<u64>>(session: &S) -> Option<usize> {
+    let numbers = [7u64; 100];
+    match session.alloc_relocation(&numbers) {
+        Ok(placed) => Some(placed.len()),
+        Err(AllocError) => Some(session.alloc_relocation(&numbers).ok()?.len()),
+    }
+}
+
+/// Whether bytes are what is placed. The first time memory may be refused.
+fn is_placed<S: Session<u64>>(session: &S, bytes: &[u8], owned: Vec<u8>, again: Vec<u8>) -> bool {
+    match session.alloc_owned_cow(CowSlice::Owned(owned)) {
+        Ok(placed) => placed == bytes,
+        Err(AllocError) => session.alloc_data(again).ok() == Some(bytes),
+    }
+}
+
+/// Whether the file of any runtime's file system has these bytes.
+fn has_bytes<R: Files>(
+    files: &R,
+    bump: &Bump,
+    path: Path<'_>,
+    bytes: &[u8],
+) -> Result<bool, InputError> {
+    let session = ArenaSession::new(files, bump);
+    let read = Session::<u64>::read_input(&session, path)?;
+    Ok(read == bytes)
+}
+
+const BYTES: &[u8] = b"a few bytes";
+
+fn place(rt: &impl Abort, alloc: Global) {
+    let bump = Bump::new(alloc);
+    let files = BTreeMap::new(alloc);
+    let session = MemorySession::new(&bump, &files);
+    same(rt, numbers_placed(&session), Some(100));
+    if let (Ok(owned), Ok(again)) = (BYTES.to_vec(alloc), BYTES.to_vec(alloc)) {
+        same(rt, is_placed(&session, BYTES, owned, again), true);
+    }
+}
+
+/// A file of its own for each process.
+fn path_of(rt: &HostRuntime) -> io::Result<PathBuf> {
+    let mut path = env::temp_dir(rt)?;
+    path.push(format!(in rt.alloc(); "thorin_refused_{}", process::id(rt.process()))?)?;
+    Ok(path)
+}
+
+/// Reads a file twice; whether it has its bytes then. The first time memory may be refused.
+fn read_twice(rt: &HostRuntime, path: Path<'_>) -> io::Result<(bool, bool)> {
+    fs::write(rt, path, BYTES)?;
+    let bump = Bump::new(rt.alloc());
+    let refused = has_bytes(rt, &bump, path, BYTES);
+    let again = has_bytes(rt, &bump, path, BYTES);
+    fs::remove_file(rt, path)?;
+    let is_answered = matches!(refused, Ok(true) | Err(InputError::Memory));
+    Ok((is_answered, matches!(again, Ok(true))))
+}
+
+fn read(rt: &HostRuntime) -> io::Result<(bool, bool)> {
+    let path = path_of(rt)?;
+    read_twice(rt, path.as_path())
+}
+
+#[test]
+fn a_refused_allocation_is_want_of_memory(rt: HostRuntime) {
+    place(&rt, rt.alloc());
+    match read(&rt) {
+        Ok(answers) => same(&rt, answers, (true, true)),
+        Err(fault) => same(&rt, fault.kind(), io::ErrorKind::OutOfMemory),
+    }
+}
