@@ -30,13 +30,17 @@ class Edit:
 
     def find_functions(self):
         """Without lines that name them, the functions that hold the changed texts."""
-        is_named = bool(self.functions)
-        for file, old, _new in self.pairs:
-            text = text_of(self.crate, file)
+        is_named, texts = bool(self.functions), {}
+        for file, old, new in self.pairs:
+            text = texts.get(file) or text_of(self.crate, file)
             if text.count(old) != 1:
-                # A pair after the first may change what an earlier one made.
+                # (applied() says so)
                 continue
             name = function_at(text, file, text.index(old))
+            texts[file] = text.replace(old, new)
+            if "".join(old.split()) == "".join(new.split()):
+                # A mark, by which a later pair finds its place.
+                continue
             if name is None or not file.startswith("src/"):
                 self.is_alone = True
             elif not is_named:
@@ -75,10 +79,18 @@ def functions_in(lines):
     for first, line in enumerate(lines):
         head = FUNCTION.match(line)
         if head:
-            ends = (at for at in range(first, len(lines)) if lines[at] == f"{head[1]}}}")
-            is_short = line.rstrip().endswith((";", "}"))
-            found.append((first, first if is_short else next(ends, first), head[2]))
+            found.append((first, last_line(lines, first, head[1]), head[2]))
     return found
+
+
+def last_line(lines, first, indent):
+    """The last line of the function that begins in a line: its closing brace, or the end of a method without a body."""
+    for at in range(first, len(lines)):
+        if lines[at].rstrip().endswith(";") or at == first and lines[at].rstrip().endswith("}"):
+            return at
+        if lines[at].rstrip().endswith("{"):
+            return next((it for it in range(at, len(lines)) if lines[it] == f"{indent}}}"), at)
+    return first
 
 
 def function_at(text, file, place):
@@ -105,10 +117,22 @@ def type_above(lines, line):
             head = head.split("impl", 1)[1]
             generics, head = split_generics(head)
             of, _, name = head.rpartition(" for ")
-            plain = lambda it: re.sub(r"<.*", "", it.strip().lstrip("&")).split("::")[-1].strip()
-            subject = "Any" if re.search(rf"\b{re.escape(plain(name))}\b\s*[:,>]", generics) else plain(name)
-            return subject + (plain(of) if of else "")
+            subject, arguments = plain(name, generics)
+            if not of:
+                return "+".join([subject, *arguments])
+            trait, of_what = plain(of, generics)
+            return subject + trait + "".join(of_what)
     return ""
+
+
+def plain(text, generics):
+    """The last name of a type or a trait, `Any` for a parameter, and the types that it is of, as a check writes them."""
+    name, arguments = re.match(r"\s*&?(?:'\w+ )?([\w:]+)\s*(?:<(.*)>)?", text).groups()
+    is_parameter = lambda it: re.search(rf"[<,]\s*{re.escape(it)}\s*[:,>]", generics)
+    given = [re.sub(r"<.*", "", it).strip() for it in re.split(r",(?![^<]*>)", arguments or "")]
+    types = [it for it in given if it and it[0] != "'" and not is_parameter(it)]
+    camel = lambda it: "".join(part[:1].upper() + part[1:] for part in it.split("::"))
+    return "Any" if is_parameter(name) else name.split("::")[-1], [camel(it) for it in types]
 
 
 def split_generics(head):
