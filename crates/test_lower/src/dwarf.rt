@@ -1,5 +1,8 @@
 //! Calls of `dwp_dwarf`: units and their root entries, read from bytes.
 
+ghost use Rattle.std.specs.Prelude.{IsTrue};
+ghost use Rattle.dwp_bytes.specs.Relocation.{ascends};
+
 use crate::row::{Row, Said, Text, number, put, put_word};
 use Endianness::Little;
 use dwp_dwarf::*;
@@ -77,8 +80,23 @@ fn unit(row: Row<'_>, said: &mut String) -> Said {
     let units = SliceReader::new(row.bytes(3), row.order(2));
     let abbreviations = SliceReader::new(row.bytes(4), row.order(2));
     put(said, &first_unit(units, section(row), abbreviations))?;
-    let (units, abbreviations) = (Relocate::new(&[], units), Relocate::new(&[], abbreviations));
-    put(said, &first_unit(units, section(row), abbreviations))
+    put_relocated(&[], units, section(row), abbreviations, said)
+}
+
+fn put_relocated<'a>(
+    relocations: &'a [RelocationEntry],
+    units: SliceReader<'a>,
+    section: UnitSection,
+    abbreviations: SliceReader<'a>,
+    said: &mut String,
+) -> Said
+    requires { IsTrue (ascends relocations.now) }
+{
+    let units = Relocate::new(relocations, units);
+    put(
+        said,
+        &first_unit(units, section, Relocate::new(&[], abbreviations)),
+    )
 }
 
 /// What is relocated at the place of a unit's abbreviation offset.
@@ -91,9 +109,9 @@ static ROOT: [RelocationEntry; 1] = [RelocationEntry {
 }];
 
 fn relocated_unit(units: &[u8], abbreviations: &[u8], said: &mut String) -> Said {
-    let units = Relocate::new(&ROOT, SliceReader::new(units, Little));
-    let abbreviations = Relocate::new(&[], SliceReader::new(abbreviations, Little));
-    put(said, &first_unit(units, UnitSection::Info, abbreviations))
+    let units = SliceReader::new(units, Little);
+    let abbreviations = SliceReader::new(abbreviations, Little);
+    put_relocated(&ROOT, units, UnitSection::Info, abbreviations, said)
 }
 
 /// What is relocated at the places of a type unit's length, abbreviation offset, signature and type
@@ -130,9 +148,9 @@ static TYPE_UNIT: [RelocationEntry; 4] = [
 ];
 
 fn relocated_type_unit(units: &[u8], abbreviations: &[u8], said: &mut String) -> Said {
-    let units = Relocate::new(&TYPE_UNIT, SliceReader::new(units, Little));
-    let abbreviations = Relocate::new(&[], SliceReader::new(abbreviations, Little));
-    put(said, &first_unit(units, UnitSection::Types, abbreviations))
+    let units = SliceReader::new(units, Little);
+    let abbreviations = SliceReader::new(abbreviations, Little);
+    put_relocated(&TYPE_UNIT, units, UnitSection::Types, abbreviations, said)
 }
 
 /// The string of a form and a value, by sections of strings that are always the same.

@@ -2,7 +2,7 @@
 
 use crate::row::{Hex, Row, Said, Text, bytes_of, number, order, put};
 use dwp_base::Endianness;
-use dwp_bytes::{Encoding, Format};
+use dwp_bytes::{Encoding, Format, string_at};
 use std::alloc::{AllocError, Global};
 use std::hash::{FoldHasher, Hasher};
 use thorin_faults::Error;
@@ -53,7 +53,9 @@ fn remap(alloc: Global, table: &mut PackageStringTable, argument: &str) -> Resul
     table.remap_str_offsets_section(&strings, &offsets, size, order, encoding)
 }
 
-fn inserted(table: &mut PackageStringTable, string: &[u8]) -> Result<usize, Error> {
+/// The offset of the string before a zero byte.
+fn inserted(table: &mut PackageStringTable, bytes: &[u8]) -> Result<usize, Error> {
+    let string = string_at(bytes, 0)?;
     Ok(table.get_or_insert(string)?.0)
 }
 
@@ -107,7 +109,7 @@ fn front_search(strings: &[Vec<u8>], string: &[u8]) -> Option<usize> {
 }
 
 /// The string at a place of a section, up to a zero byte.
-fn string_at(section: &[u8], place: usize) -> &[u8] {
+fn plain_string(section: &[u8], place: usize) -> &[u8] {
     let rest = section.get(place..).unwrap_or(&[]);
     let end = rest.iter().position(|b| *b == 0).unwrap_or(rest.len());
     rest.get(..end).unwrap_or(rest)
@@ -127,7 +129,7 @@ fn plain_form(alloc: Global, section: &[u8], offsets: &[u8]) -> Result<Rewritten
     let mut data = Vec::new(alloc);
     for entry in offsets.chunks_exact(4) {
         let place = u32::from_le_bytes([entry[0], entry[1], entry[2], entry[3]]) as usize;
-        let string = string_at(section, place);
+        let string = plain_string(section, place);
         let offset = match front_search(strings.as_slice(), string) {
             Some(offset) => offset,
             None => {
@@ -248,7 +250,7 @@ fn ranges(
 ) -> ([Result<Vec<u8>, Error>; 4], Vec<u8>) {
     let (little, gnu) = (Endianness::Little, encoding("gnu"));
     let mut table = PackageStringTable::new(alloc);
-    let _offset = table.get_or_insert(first);
+    let _offset = inserted(&mut table, first);
     let mut repeats = Repeats::of_ranges(alloc, section);
     let [a, b, c, d] = offsets;
     let found = [
@@ -381,7 +383,7 @@ fn put_crowd(
     )?;
     put(said, &found(table, section.get(8..11).unwrap_or(&[])))?;
     put(said, &found(table, b"none"))?;
-    put(said, &inserted(table, b"none"))
+    put(said, &inserted(table, b"none\0"))
 }
 
 /// `guesses` or `places`: of more than sixteen such strings some have no guess, or no place by their
