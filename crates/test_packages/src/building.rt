@@ -14,21 +14,24 @@ pub fn build(alloc: Global, table: &mut Table, words: &[&str]) -> Result<String,
         return Err(Mistake::Words);
     };
     let mut text = String::new(alloc);
-    let bytes = built(alloc, names, &table.all(names)?, &mut text)?;
+    let bytes = {
+        let arena = Bump::new(alloc);
+        let session = BytesSession::new(&arena);
+        built(alloc, &session, names, &table.all(names)?, &mut text)?
+    };
     keep(table, file, bytes, &mut text)?;
     Ok(text)
 }
 
 /// The file of a builder that is given these inputs.
-fn built(
+fn built<'s>(
     alloc: Global,
+    session: &'s BytesSession<'s>,
     names: &[&str],
     inputs: &[&[u8]],
     text: &mut String,
 ) -> Result<Result<Vec<u8>, Error>, Mistake> {
-    let arena = Bump::new(alloc);
-    let session = BytesSession::new(&arena);
-    let mut builder = DwarfPackage::new(alloc, &session);
+    let mut builder = DwarfPackage::new(alloc, session);
     let told = add_each(&mut builder, names, inputs, text);
     let file = finished(builder);
     match told {
@@ -79,23 +82,4 @@ fn tell_state<'o, 's: 'o>(
     }
     writeln!(text, " ]")?;
     Ok(())
-}
-
-/// What a new builder answers of these bytes.
-pub fn added(alloc: Global, bytes: &[u8]) -> Result<(), Error> {
-    let arena = Bump::new(alloc);
-    let session = BytesSession::new(&arena);
-    let mut builder = DwarfPackage::new(alloc, &session);
-    builder.add_object_bytes(bytes)
-}
-
-/// `text INPUT`: the text of what a new builder answers.
-pub fn text(alloc: Global, table: &Table, words: &[&str]) -> Result<String, Mistake> {
-    let [input] = words else {
-        return Err(Mistake::Words);
-    };
-    match added(alloc, table.get(input)?) {
-        Ok(()) => Ok(String::from_str(alloc, "Ok\n")?),
-        Err(fault) => Ok(format!(in alloc; "{fault}\n")?),
-    }
 }

@@ -1,16 +1,16 @@
 //! Files that are cut off, or in which bytes are others.
 
-use crate::building::added;
 use crate::mistake::{Mistake, number};
+use crate::packing::answer;
 use crate::reading::found;
 use crate::table::{Table, part, patched};
 use std::alloc::{AllocError, Global};
 use thorin::{DwarfObject, DwoId};
 
-/// What a new builder answers of a file, and the reader that looks for its unit 5.
+/// What a builder answers of a file, and the reader that looks for its unit 5.
 fn answers(alloc: Global, file: &[u8]) -> Result<String, AllocError> {
     let mut text = String::new(alloc);
-    match added(alloc, file) {
+    match answer(alloc, file) {
         Ok(()) => write!(text, "builder Ok, ")?,
         Err(fault) => write!(text, "builder {fault:?}, ")?,
     }

@@ -1,11 +1,11 @@
 //! Packages of many objects and of many strings.
 
 use crate::mistake::{Mistake, number};
-use crate::packing::{grouped, packed};
+use crate::packing::{grouped, packed, slices};
 use crate::reading::found;
 use crate::table::{Table, part, patched};
 use std::alloc::Global;
-use thorin::{DwarfObject, DwoId, Endianness, Error};
+use thorin::{Bump, BytesSession, DwarfObject, DwoId, Endianness, Packed};
 
 /// `many FILE OBJECT FROM TO COUNT`: packs that many objects, at once and each in a group of its
 /// own. They are copies of one whose unit stands at a place and ends with its identifier of 8
@@ -21,33 +21,44 @@ pub fn many(alloc: Global, table: &mut Table, words: &[&str]) -> Result<String, 
         to.saturating_sub(8),
         number(count)?,
     )?;
-    let inputs: Vec<&[u8]> = copies.iter().map(|copy| copy.as_slice()).collect(alloc)?;
-    let Ok(packed) = packed(alloc, &inputs) else {
-        return Err(Mistake::Memory);
-    };
-    let accepted = packed
-        .outcomes
-        .iter()
-        .filter(|outcome| outcome.is_ok())
-        .count();
-    let Ok(bytes) = packed.file else {
-        return Err(Mistake::Object);
-    };
-    let groups: Vec<&[&[u8]]> = inputs.chunks(1).collect(alloc)?;
-    let alike = is_file(&bytes, grouped(alloc, &groups));
-    let units = found_at_once(&bytes, &inputs, from, to);
-    let length = bytes.len();
+    let mut text = String::new(alloc);
+    let bytes = packed_copies(alloc, &copies, &mut text)?;
+    let units = found_at_once(&bytes, &copies, from, to);
+    let alike = is_grouped(alloc, &copies, &bytes)?;
+    writeln!(text, "{units} found in the first slot\ngroups {alike}")?;
     table.keep(file, bytes)?;
-    Ok(format!(in alloc;
-        "{accepted} accepted, {length} bytes\n{units} found in the first slot\ngroups {alike}\n"
-    )?)
+    Ok(text)
 }
 
-/// Whether packing gave this file.
-fn is_file(file: &[u8], other: Result<Vec<u8>, Error>) -> bool {
-    match other {
-        Ok(other) => other.as_slice() == file,
-        Err(_) => false,
+/// The package of these inputs, with how many are accepted and its length.
+fn packed_copies(alloc: Global, copies: &[Vec<u8>], text: &mut String) -> Result<Vec<u8>, Mistake> {
+    let Ok(packed) = packed(alloc, &slices(alloc, copies)?) else {
+        return Err(Mistake::Memory);
+    };
+    let Packed {
+        outcomes,
+        file,
+        differing: _differing,
+    } = packed;
+    let accepted = outcomes.iter().filter(|outcome| outcome.is_ok()).count();
+    match file {
+        Ok(file) => {
+            writeln!(text, "{accepted} accepted, {} bytes", file.len())?;
+            Ok(file)
+        }
+        Err(_fault) => Err(Mistake::Object),
+    }
+}
+
+/// Whether packing each input in a group of its own gives this file.
+fn is_grouped(alloc: Global, copies: &[Vec<u8>], file: &[u8]) -> Result<bool, Mistake> {
+    let inputs = slices(alloc, copies)?;
+    let groups: Vec<&[&[u8]]> = inputs.chunks(1).collect(alloc)?;
+    let arena = Bump::new(alloc);
+    let session = BytesSession::new(&arena);
+    match grouped(alloc, &session, groups.as_slice()) {
+        Ok(other) => Ok(other.as_slice() == file),
+        Err(_fault) => Ok(false),
     }
 }
 
@@ -68,7 +79,7 @@ fn copies(
 
 /// How many of these inputs have their units in the file, each of its own bytes and in the slot
 /// that is looked at first.
-fn found_at_once(file: &[u8], inputs: &[&[u8]], from: usize, to: usize) -> usize {
+fn found_at_once(file: &[u8], inputs: &[Vec<u8>], from: usize, to: usize) -> usize {
     let mut count: usize = 0;
     for (id, input) in inputs.iter().enumerate() {
         let name = DwarfObject::Compilation(DwoId((id as u64).saturating_add(1)));

@@ -89,7 +89,7 @@ fn ask(alloc: Global, table: &mut Table, command: &str, words: &[&str]) -> Resul
         "pack" => packing::pack_named(alloc, table, words),
         "groups" => packing::pack_grouped(alloc, table, words),
         "builder" => building::build(alloc, table, words),
-        "text" => building::text(alloc, table, words),
+        "text" => packing::text(alloc, table, words),
         "unit" => reading::unit(alloc, table, words),
         "string" => reading::string(alloc, table, words),
         "units" => reading::units(alloc, table, words),

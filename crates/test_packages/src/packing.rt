@@ -17,10 +17,12 @@ pub fn packed(alloc: Global, inputs: &[&[u8]]) -> Result<Packed, Error> {
 }
 
 /// What packing these groups gives.
-pub fn grouped(alloc: Global, groups: &[&[&[u8]]]) -> Result<Vec<u8>, Error> {
-    let arena = Bump::new(alloc);
-    let session = BytesSession::new(&arena);
-    pack_groups(alloc, &session, groups)
+pub fn grouped<'s>(
+    alloc: Global,
+    session: &'s BytesSession<'s>,
+    groups: &[&[&'s [u8]]],
+) -> Result<Vec<u8>, Error> {
+    pack_groups(alloc, session, groups)
 }
 
 /// `pack FILE INPUT..`: what each input answers, the type units that differ, and the file, which is
@@ -42,6 +44,23 @@ pub fn pack_named(alloc: Global, table: &mut Table, words: &[&str]) -> Result<St
     }
     keep(table, file, packed.file, &mut text)?;
     Ok(text)
+}
+
+/// What packing one input answers of it.
+pub fn answer(alloc: Global, input: &[u8]) -> Result<(), Error> {
+    let mut packed = packed(alloc, &[input])?;
+    packed.outcomes.pop().unwrap_or(Err(Error::Memory))
+}
+
+/// `text INPUT`: the text of what packing one input answers of it.
+pub fn text(alloc: Global, table: &Table, words: &[&str]) -> Result<String, Mistake> {
+    let [input] = words else {
+        return Err(Mistake::Words);
+    };
+    match answer(alloc, table.get(input)?) {
+        Ok(()) => Ok(String::from_str(alloc, "Ok\n")?),
+        Err(fault) => Ok(format!(in alloc; "{fault}\n")?),
+    }
 }
 
 /// Adds a line of an input with its answer to a text.
@@ -83,28 +102,40 @@ pub fn pack_grouped(alloc: Global, table: &mut Table, words: &[&str]) -> Result<
         return Err(Mistake::Words);
     };
     let mut text = String::new(alloc);
-    let bytes = grouped_words(alloc, table, words)?;
+    let bytes = grouped_inputs(alloc, &groups_of(alloc, table, words)?)?;
     keep(table, file, bytes, &mut text)?;
     Ok(text)
 }
 
-/// What packing the groups of these words gives.
-fn grouped_words(
+/// The bytes of each of these.
+pub fn slices(alloc: Global, inputs: &[Vec<u8>]) -> Result<Vec<&[u8]>, Mistake> {
+    let mut slices = Vec::new(alloc);
+    for input in inputs {
+        slices.push(input.as_slice())?;
+    }
+    Ok(slices)
+}
+
+/// What packing these groups of inputs gives.
+fn grouped_inputs(
     alloc: Global,
-    table: &Table,
-    words: &[&str],
+    groups: &[Vec<Vec<u8>>],
 ) -> Result<Result<Vec<u8>, Error>, Mistake> {
-    let groups = groups_of(alloc, table, words)?;
-    let slices: Vec<&[&[u8]]> = groups.iter().map(|group| group.as_slice()).collect(alloc)?;
-    Ok(grouped(alloc, &slices))
+    let mut inputs: Vec<Vec<&[u8]>> = Vec::new(alloc);
+    for group in groups {
+        inputs.push(slices(alloc, group)?)?;
+    }
+    let mut slices: Vec<&[&[u8]]> = Vec::new(alloc);
+    for group in &inputs {
+        slices.push(group.as_slice())?;
+    }
+    let arena = Bump::new(alloc);
+    let session = BytesSession::new(&arena);
+    Ok(grouped(alloc, &session, slices.as_slice()))
 }
 
 /// The groups of these words, of which the first begins with `[` and the last ends with `]`.
-fn groups_of<'t>(
-    alloc: Global,
-    table: &'t Table,
-    words: &[&str],
-) -> Result<Vec<Vec<&'t [u8]>>, Mistake> {
+fn groups_of(alloc: Global, table: &Table, words: &[&str]) -> Result<Vec<Vec<Vec<u8>>>, Mistake> {
     let mut groups = Vec::new(alloc);
     for word in words {
         let word = match word.strip_prefix("[") {
@@ -117,7 +148,7 @@ fn groups_of<'t>(
         let word = word.strip_suffix("]").unwrap_or(word);
         if let Some(group) = groups.last_mut() {
             if !word.is_empty() {
-                group.push(table.get(word)?)?;
+                group.push(table.get(word)?.to_vec(alloc)?)?;
             }
         }
     }

@@ -42,14 +42,22 @@ pub fn unit(alloc: Global, table: &Table, words: &[&str]) -> Result<String, Mist
     let mut text = String::new(alloc);
     match found(table.get(file)?, named(kind, id)?) {
         Err(fault) => writeln!(text, "{fault:?}")?,
-        Ok((None, slots)) => writeln!(text, "absent, slots {slots}")?,
-        Ok((Some(unit), slots)) => {
-            tell_head(&mut text, &unit, slots)?;
-            tell_ranges(&mut text, &unit)?;
-            tell_strings(&mut text, &unit)?;
+        Ok(answer) => {
+            let (unit, slots) = answer;
+            match unit {
+                None => writeln!(text, "absent, slots {slots}")?,
+                Some(unit) => tell_unit(&mut text, &unit, slots)?,
+            }
         }
     }
     Ok(text)
+}
+
+/// All that is said of a unit.
+fn tell_unit(text: &mut String, unit: &PackagedUnit<'_>, slots: u32) -> Result<(), Mistake> {
+    tell_head(text, unit, slots)?;
+    tell_ranges(text, unit)?;
+    tell_strings(text, unit)
 }
 
 fn tell_head(text: &mut String, unit: &PackagedUnit<'_>, slots: u32) -> Result<(), Mistake> {

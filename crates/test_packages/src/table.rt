@@ -5,13 +5,19 @@
 
 use crate::mistake::{Mistake, number};
 use std::alloc::Global;
-use std::collections::BTreeMap;
 
-/// Bytes by their names.
+/// Bytes with their name.
+#[derive(Drop)]
+struct Named {
+    name: String,
+    bytes: Vec<u8>,
+}
+
+/// Bytes by their names. There are few, so they are looked for one after another.
 #[derive(Drop)]
 pub struct Table {
     alloc: Global,
-    names: BTreeMap<String, Vec<u8>>,
+    all: Vec<Named>,
 }
 
 /// The bytes from one place to another; none where they aren't there.
@@ -24,15 +30,14 @@ impl Table {
     pub fn new(alloc: Global) -> Table {
         Table {
             alloc,
-            names: BTreeMap::new(alloc),
+            all: Vec::new(alloc),
         }
     }
 
     /// Gives bytes a name, which may have had others.
     pub fn keep(&mut self, name: &str, bytes: Vec<u8>) -> Result<(), Mistake> {
         let name = String::from_str(self.alloc, name)?;
-        self.names.insert(name, bytes)?;
-        Ok(())
+        Ok(self.all.push(Named { name, bytes })?)
     }
 
     /// The bytes of a name, or the part of them that the word says.
@@ -48,11 +53,14 @@ impl Table {
         bytes.get(number(from)?..number(to)?).ok_or(Mistake::Place)
     }
 
+    /// The bytes that a name has got last.
     fn named(&self, name: &str) -> Result<&[u8], Mistake> {
-        match self.names.get(name) {
-            Some(bytes) => Ok(bytes.as_slice()),
-            None => Err(Mistake::Name),
+        for named in self.all.iter().rev() {
+            if named.name.as_str() == name {
+                return Ok(named.bytes.as_slice());
+            }
         }
+        Err(Mistake::Name)
     }
 
     /// What each of these words has.
