@@ -4,7 +4,7 @@ use crate::builders::{Fault, Shown, add, file_of, grouped, packed_alone, showing
 use crate::damage::damage;
 use crate::generator::Generator;
 use crate::reading::read_packaged;
-use crate::tally::Tally;
+use crate::tally::{self, Tally};
 use dwp_index::PackageFile;
 use std::alloc::{AllocError, Global};
 use thorin::{
@@ -98,15 +98,26 @@ fn build_each<'s>(
     tally: &mut Tally,
 ) -> Result<Built<'s>, AllocError> {
     let mut builder = DwarfPackage::new(alloc, session);
-    let accepted = add_each(alloc, &mut builder, inputs, tally);
-    let end = showing(alloc, &builder);
+    let added = add_all(alloc, &mut builder, inputs, tally);
     let file = file_of(builder);
-    tally.finish.note(file.is_ok());
+    tally.note(tally::FINISH, file.is_ok());
+    let (accepted, end) = added?;
     Ok(Built {
-        accepted: accepted?,
-        end: end?,
+        accepted,
+        end,
         file: file.ok(),
     })
+}
+
+/// Adds inputs in order, and gives those that were accepted, and what the builder shows then.
+fn add_all<'o, 's: 'o, 'i, Sess: Session<RelocationEntry>>(
+    alloc: Global,
+    builder: &mut DwarfPackage<'o, 's, Sess>,
+    inputs: &[&'i [u8]],
+    tally: &mut Tally,
+) -> Result<(Vec<&'i [u8]>, Shown), AllocError> {
+    let accepted = add_each(alloc, builder, inputs, tally)?;
+    Ok((accepted, showing(alloc, builder)?))
 }
 
 /// Adds inputs in order, and gives those that were accepted.
@@ -136,7 +147,7 @@ fn add_one<'o, 's: 'o, Sess: Session<RelocationEntry>>(
     let before = showing(alloc, builder)?;
     let fault = add(builder, input);
     let after = showing(alloc, builder)?;
-    tally.object.note(fault.is_none());
+    tally.note(tally::OBJECT, fault.is_none());
     tally.expect(fault != Some(Fault::Memory));
     tally.expect(match fault {
         None => after.units.starts_with(&before.units),
@@ -185,7 +196,7 @@ fn is_packed<'s>(
 fn accepted_count(packed: &Packed, tally: &mut Tally) -> usize {
     let mut count = 0usize;
     for outcome in &packed.outcomes {
-        tally.packed.note(outcome.is_ok());
+        tally.note(tally::PACKED, outcome.is_ok());
         if outcome.is_ok() {
             count = count.saturating_add(1);
         }
@@ -195,9 +206,10 @@ fn accepted_count(packed: &Packed, tally: &mut Tally) -> usize {
 
 /// Whether the packed file is this one, or there is none.
 fn is_file(packed: &Packed, file: Option<&[u8]>) -> bool {
-    match &packed.file {
-        Ok(packed) => file == Some(packed.as_slice()),
-        Err(_) => file.is_none(),
+    match (&packed.file, file) {
+        (Ok(packed), Some(file)) => packed.as_slice() == file,
+        (Err(_), None) => true,
+        _ => false,
     }
 }
 
@@ -227,7 +239,7 @@ fn compare_again<'s>(
     read_back(file, &built.end.units, tally);
     if built.end.again {
         let again = packed_alone(alloc, session, file);
-        tally.object.note(again.is_ok());
+        tally.note(tally::OBJECT, again.is_ok());
         match &again {
             Ok(again) => read_back(again, &built.end.units, tally),
             Err(fault) => tally.expect(*fault == Fault::SectionNotInRow),
@@ -245,7 +257,7 @@ fn compare_groups<'s>(
     let inputs = built.accepted.as_slice();
     let (first, second) = inputs.split_at(inputs.len() / 2);
     let file = grouped(alloc, session, &[first, second]);
-    tally.groups.note(file.is_ok());
+    tally.note(tally::GROUPS, file.is_ok());
     match &file {
         Ok(file) => read_back(file, &built.end.units, tally),
         Err(fault) => tally.expect(*fault != Fault::Memory),

@@ -3,7 +3,7 @@
 use crate::builders::{Fault, Shown, add, add_named, file_of, showing};
 use crate::building::{maybe_damaged, read_back};
 use crate::generator::Generator;
-use crate::tally::Tally;
+use crate::tally::{self, Tally};
 use std::alloc::{AllocError, Global};
 use std::collections::BTreeMap;
 use thorin::{
@@ -75,16 +75,28 @@ fn paths_in(alloc: Global, bytes: &[u8], tally: &mut Tally) -> Result<Vec<String
     let arena = Bump::new(alloc);
     let session = BytesSession::new(&arena);
     let list = skeletons(alloc, &session, bytes);
-    tally.skeletons.note(list.fault.is_none());
+    tally.note(tally::SKELETONS, list.fault.is_none());
     paths_of(alloc, &list.units)
 }
 
 fn paths_of(alloc: Global, units: &[Skeleton]) -> Result<Vec<String>, AllocError> {
     let mut paths = Vec::new(alloc);
-    for unit in units {
-        paths.push(unit.path.clone()?)?;
+    let mut outcome = Ok(());
+    for i in 0..units.len() {
+        if outcome.is_ok() {
+            outcome = push_path(alloc, &mut paths, units[i].path.as_str());
+        }
     }
-    Ok(paths)
+    match outcome {
+        Ok(()) => Ok(paths),
+        Err(fault) => Err(fault),
+    }
+}
+
+fn push_path(alloc: Global, paths: &mut Vec<String>, path: &str) -> Result<(), AllocError> {
+    let path = String::from_str(alloc, path)?;
+    paths.push(path)?;
+    Ok(())
 }
 
 fn give<'s>(
@@ -109,10 +121,10 @@ fn add_both<'o, 's: 'o, Sess: Session<RelocationEntry>>(
     missing: MissingReferencedObjectBehaviour,
     tally: &mut Tally,
 ) -> Result<Shown, AllocError> {
-    tally.object.note(add(builder, first).is_none());
+    tally.note(tally::OBJECT, add(builder, first).is_none());
     let before = showing(alloc, builder)?;
     let fault = add_named(builder, EXECUTABLE, missing);
-    tally.executable.note(fault.is_none());
+    tally.note(tally::EXECUTABLE, fault.is_none());
     tally.expect(fault != Some(Fault::Memory));
     let after = showing(alloc, builder)?;
     tally.expect(after.units.starts_with(&before.units));
@@ -121,7 +133,7 @@ fn add_both<'o, 's: 'o, Sess: Session<RelocationEntry>>(
 
 /// What finishing answers: of a builder that lacks units, that the first is missing.
 fn end(file: &Result<Vec<u8>, Fault>, after: &Shown, tally: &mut Tally) {
-    tally.finish.note(file.is_ok());
+    tally.note(tally::FINISH, file.is_ok());
     let is_missing = matches!(file, Err(Fault::MissingUnit));
     tally.expect(is_missing != after.missing.is_empty());
     if let Ok(file) = file {

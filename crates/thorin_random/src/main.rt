@@ -15,7 +15,7 @@ mod reading;
 mod tally;
 
 use crate::generator::Generator;
-use crate::tally::Tally;
+use crate::tally::{CALLS, Tally};
 use std::{env, fs, io};
 
 /// Objects and packages of compilers, and of both classes and byte orders.
@@ -44,7 +44,7 @@ fn main(rt: HostRuntime) -> io::Result<()> {
     let samples = read_files(&rt, folder, &SAMPLES)?;
     let executables = read_files(&rt, folder, &EXECUTABLES)?;
     let mut generator = Generator::new(seed);
-    let mut tally = Tally::default();
+    let mut tally = Tally::new();
     for _ in 0..rounds {
         let Some(sample) = generator.one_of(&samples) else {
             continue
@@ -58,7 +58,8 @@ fn main(rt: HostRuntime) -> io::Result<()> {
         building::build(alloc, &mut generator, &samples, &mut tally)?;
         executables::refer(alloc, &mut generator, &executables, &samples, &mut tally)?;
     }
-    for (name, count) in &tally.counts() {
+    for call in 0..CALLS.len() {
+        let (name, count) = (CALLS[call], tally.count(call));
         println!(rt; "{name}: {count}")?;
         calls = calls.saturating_add(count.calls());
     }
@@ -82,14 +83,21 @@ fn read_files(rt: &HostRuntime, folder: &str, names: &[&str]) -> io::Result<Vec<
 
 /// The number of a word; 0 where it is none.
 fn number(word: Option<&String>) -> u64 {
-    let Some(word) = word else { return 0 };
+    match word {
+        Some(word) => number_of(word.as_bytes()),
+        None => 0,
+    }
+}
+
+fn number_of(digits: &[u8]) -> u64 {
     let mut number = 0u64;
-    for byte in word.as_bytes() {
-        let digit = byte.wrapping_sub(b'0');
+    let mut is_number = true;
+    for i in 0..digits.len() {
+        let digit = digits[i].wrapping_sub(b'0');
         if digit > 9 {
-            return 0;
+            is_number = false;
         }
         number = number.saturating_mul(10).saturating_add(digit as u64);
     }
-    number
+    if is_number { number } else { 0 }
 }

@@ -2,7 +2,7 @@
 
 ghost use Rattle.std.specs.Prelude.{◌≡◌};
 
-use crate::tally::Tally;
+use crate::tally::{self, Tally};
 use dwp_base::{Endianness, SectionKind};
 use dwp_dwarf::{
     Abbreviation, AbbreviationCache, Abbreviations, ReadError, Reader, Relocate, Relocation,
@@ -35,9 +35,9 @@ const RELOCATIONS: [RelocationEntry; 2] = [
 
 /// Reads bytes by each reader.
 pub fn read_all(alloc: Global, bytes: &[u8], tally: &mut Tally) {
-    tally.kind.note(FileKind::parse(bytes).is_ok());
+    tally.note(tally::KIND, FileKind::parse(bytes).is_ok());
     let file = ElfFile::parse(bytes);
-    tally.file.note(file.is_ok());
+    tally.note(tally::FILE, file.is_ok());
     if let Ok(file) = file {
         read_sections(&file, tally);
         read_dwarf(alloc, &file, tally);
@@ -47,19 +47,19 @@ pub fn read_all(alloc: Global, bytes: &[u8], tally: &mut Tally) {
 
 fn read_sections(file: &ElfFile<'_>, tally: &mut Tally) {
     for section in file.sections() {
-        tally.name.note(section.name().is_ok());
+        tally.note(tally::NAME, section.name().is_ok());
         let kind = section.name().ok().and_then(SectionKind::of_name);
         tally.expect(kind == section.section_kind());
         let content = section.data();
-        tally.content.note(content.is_ok());
+        tally.note(tally::CONTENT, content.is_ok());
         if let Ok(content) = content {
             read_index(content, file.endianness(), tally);
         }
         for relocation in section.relocations() {
-            tally.relocation.note(relocation.is_ok());
+            tally.note(tally::RELOCATION, relocation.is_ok());
             if let Ok(relocation) = relocation {
                 let value = file.symbol_value(relocation.table, relocation.symbol);
-                tally.symbol.note(value.is_ok());
+                tally.note(tally::SYMBOL, value.is_ok());
             }
         }
     }
@@ -135,7 +135,7 @@ fn read_units<R: Reader>(
     let mut read: usize = 0;
     let mut whole = true;
     for header in UnitHeaders::new(units, section) {
-        tally.unit.note(header.is_ok());
+        tally.note(tally::UNIT, header.is_ok());
         match header {
             Ok(header) => {
                 read = read.saturating_add(header.bytes().len());
@@ -165,30 +165,31 @@ fn read_root<R: Reader>(
 ) {
     let offset = header.abbrev_offset();
     let table = Abbreviations::new(cache.section(), offset);
-    tally.table.note(table.is_ok());
+    tally.note(tally::TABLE, table.is_ok());
     let Ok(table) = table else { return };
     if let Ok(Some((code, _))) = header.root_code() {
         tally.expect(tag_of(table.get(code)) == tag_of(cache.get(offset, code)));
     }
     let entry = root(header, &table);
-    tally.root.note(entry.is_ok());
+    tally.note(tally::ROOT, entry.is_ok());
     let Ok(Some(entry)) = entry else { return };
     let format = header.encoding().format;
     for attribute in entry.attributes {
-        tally.attribute.note(attribute.is_ok());
+        tally.note(tally::ATTRIBUTE, attribute.is_ok());
         if let Ok(attribute) = attribute {
             let _ = attribute.number();
             let _ = attribute.section_offset(format);
-            tally
-                .text
-                .note(attr_string(strings, format, 8, &attribute).is_ok());
+            tally.note(
+                tally::TEXT,
+                attr_string(strings, format, 8, &attribute).is_ok(),
+            );
         }
     }
 }
 
 fn read_index(content: &[u8], order: Endianness, tally: &mut Tally) {
     let index = UnitIndex::parse(content, order);
-    tally.index.note(index.is_ok());
+    tally.note(tally::INDEX, index.is_ok());
     let Ok(index) = index else { return };
     for identifier in &[0, 5, u64::MAX] {
         let _ = index.find_counted(*identifier);
@@ -200,18 +201,17 @@ fn read_index(content: &[u8], order: Endianness, tally: &mut Tally) {
 
 fn read_row(index: &UnitIndex<'_>, number: u32, tally: &mut Tally) {
     let row = index.row(number);
-    tally.row.note(row.is_ok());
+    tally.note(tally::ROW, row.is_ok());
     let Ok(row) = row else { return };
     for kind in &CONTRIBUTION_KINDS {
-        if row.range(*kind).is_some() && !index.has_column(*kind) {
-            tally.expect(false);
-        }
+        let has_range = row.range(*kind).is_some();
+        tally.expect(!has_range || index.has_column(*kind));
     }
 }
 
 fn read_package(bytes: &[u8], tally: &mut Tally) {
     let package = PackageFile::parse(bytes);
-    tally.package.note(package.is_ok());
+    tally.note(tally::PACKAGE, package.is_ok());
     let Ok(package) = package else { return };
     for entry in package.units() {
         let _ = read_packaged(&package, entry.object, tally);
@@ -222,14 +222,14 @@ fn read_package(bytes: &[u8], tally: &mut Tally) {
 /// are.
 pub fn read_packaged(package: &PackageFile<'_>, object: DwarfObject, tally: &mut Tally) -> bool {
     let found = package.find_counted(object);
-    tally.found.note(found.is_ok());
+    tally.note(tally::FOUND, found.is_ok());
     let Ok((Some(unit), _)) = found else {
         return false;
     };
     let mut is_whole = true;
     for i in 0..8 {
         let is_read = unit.string(i).is_ok();
-        tally.string.note(is_read);
+        tally.note(tally::STRING, is_read);
         is_whole = is_whole && is_read;
     }
     let _ = unit.section(SectionKind::Line);

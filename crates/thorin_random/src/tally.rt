@@ -9,31 +9,80 @@ pub struct Count {
     faults: u64,
 }
 
+/// The names of the calls, and the number of each.
+pub const CALLS: [&str; 22] = [
+    "FileKind::parse",
+    "ElfFile::parse",
+    "Section::name",
+    "Section::data",
+    "Relocations",
+    "ElfFile::symbol_value",
+    "UnitHeaders",
+    "Abbreviations::new",
+    "root",
+    "Attributes",
+    "attr_string",
+    "UnitIndex::parse",
+    "UnitIndex::row",
+    "PackageFile::parse",
+    "PackageFile::find_counted",
+    "PackagedUnit::string",
+    "DwarfPackage::add_object_bytes",
+    "skeletons",
+    "DwarfPackage::add_executable",
+    "DwarfPackage::finish",
+    "pack",
+    "pack_groups",
+];
+
+pub const KIND: usize = 0;
+
+pub const FILE: usize = 1;
+
+pub const NAME: usize = 2;
+
+pub const CONTENT: usize = 3;
+
+pub const RELOCATION: usize = 4;
+
+pub const SYMBOL: usize = 5;
+
+pub const UNIT: usize = 6;
+
+pub const TABLE: usize = 7;
+
+pub const ROOT: usize = 8;
+
+pub const ATTRIBUTE: usize = 9;
+
+pub const TEXT: usize = 10;
+
+pub const INDEX: usize = 11;
+
+pub const ROW: usize = 12;
+
+pub const PACKAGE: usize = 13;
+
+pub const FOUND: usize = 14;
+
+pub const STRING: usize = 15;
+
+pub const OBJECT: usize = 16;
+
+pub const SKELETONS: usize = 17;
+
+pub const EXECUTABLE: usize = 18;
+
+pub const FINISH: usize = 19;
+
+pub const PACKED: usize = 20;
+
+pub const GROUPS: usize = 21;
+
 /// What the calls did.
-#[derive(Default, Drop)]
+#[derive(Drop)]
 pub struct Tally {
-    pub kind: Count,
-    pub file: Count,
-    pub name: Count,
-    pub content: Count,
-    pub relocation: Count,
-    pub symbol: Count,
-    pub unit: Count,
-    pub table: Count,
-    pub root: Count,
-    pub attribute: Count,
-    pub text: Count,
-    pub index: Count,
-    pub row: Count,
-    pub package: Count,
-    pub found: Count,
-    pub string: Count,
-    pub object: Count,
-    pub skeletons: Count,
-    pub executable: Count,
-    pub finish: Count,
-    pub packed: Count,
-    pub groups: Count,
+    counts: [Count; 22],
     /// How often two calls that say the same said something else.
     pub contradictions: u64,
 }
@@ -55,39 +104,34 @@ impl Count {
 }
 
 impl Tally {
+    pub fn new() -> Tally {
+        Tally {
+            counts: [Count::default(); 22],
+            contradictions: 0,
+        }
+    }
+
+    /// Counts a call by its number.
+    pub fn note(&mut self, call: usize, answered: bool) {
+        if call < 22 {
+            self.counts[call].note(answered);
+        }
+    }
+
+    /// The count of a number.
+    pub fn count(&self, call: usize) -> Count {
+        if call < 22 {
+            self.counts[call]
+        } else {
+            Count::default()
+        }
+    }
+
     /// Counts a contradiction where something doesn't hold.
     pub fn expect(&mut self, holds: bool) {
         if !holds {
             self.contradictions = self.contradictions.saturating_add(1);
         }
-    }
-
-    /// The counts and the names of their calls.
-    pub fn counts(&self) -> [(&'static str, Count); 22] {
-        [
-            ("FileKind::parse", self.kind),
-            ("ElfFile::parse", self.file),
-            ("Section::name", self.name),
-            ("Section::data", self.content),
-            ("Relocations", self.relocation),
-            ("ElfFile::symbol_value", self.symbol),
-            ("UnitHeaders", self.unit),
-            ("Abbreviations::new", self.table),
-            ("root", self.root),
-            ("Attributes", self.attribute),
-            ("attr_string", self.text),
-            ("UnitIndex::parse", self.index),
-            ("UnitIndex::row", self.row),
-            ("PackageFile::parse", self.package),
-            ("PackageFile::find_counted", self.found),
-            ("PackagedUnit::string", self.string),
-            ("DwarfPackage::add_object_bytes", self.object),
-            ("skeletons", self.skeletons),
-            ("DwarfPackage::add_executable", self.executable),
-            ("DwarfPackage::finish", self.finish),
-            ("pack", self.packed),
-            ("pack_groups", self.groups),
-        ]
     }
 }
 
