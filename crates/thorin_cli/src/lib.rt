@@ -1,12 +1,10 @@
 //! The program `thorin`, as a function over its words and two writers.
 #![tactic(auto)]
 
-mod command;
-
-use clap::error::ErrorKind;
-use clap::{ArgMatches, Error};
 use std::convert::AsStr;
+use std::fmt;
 use std::io::Write;
+use thorin_arguments::{Commands, PackArguments};
 pub use thorin_commands::Failure;
 use thorin_commands::{Packing, check, expanded, find, list, pack, report, show};
 use thorin_faults::MissingReferencedObjectBehaviour;
@@ -23,7 +21,10 @@ pub fn run<S: AsStr, O: Write, E: Write>(
     err: &mut E,
 ) -> u8 {
     match expanded(rt, words) {
-        Ok(words) => run_words(rt, words.as_slice(), out, err),
+        Ok(words) => {
+            let mut program = Program { rt, out, err };
+            thorin_arguments::run(rt.alloc(), words.as_slice(), &mut program)
+        }
         Err(failure) => report(err, &failure),
     }
 }
@@ -33,105 +34,78 @@ pub fn refuse_words<E: Write>(err: &mut E) -> u8 {
     report(err, &Failure::BadCommand)
 }
 
-fn run_words<O: Write, E: Write>(
-    rt: &HostRuntime,
-    words: &[String],
-    out: &mut O,
-    err: &mut E,
-) -> u8 {
-    let peer = peer_name(words);
-    let command = match peer {
-        Some(name) => command::peer(rt.alloc(), name),
-        None => command::command(rt.alloc()),
-    };
-    match command {
-        Ok(command) => match command.try_get_matches_from(words) {
-            Ok(matches) => match dispatch(rt, &matches, peer.is_some(), out, err) {
-                Ok(status) => status,
-                Err(failure) => report(err, &failure),
-            },
-            Err(error) => refuse(&error, out, err),
-        },
-        Err(_) => report(err, &Failure::Memory),
-    }
+/// The program: what it uses of the system, and where it prints.
+#[derive(Drop)]
+struct Program<'r, O, E> {
+    rt: &'r HostRuntime,
+    out: &'r mut O,
+    err: &'r mut E,
 }
 
-/// Prints what is said of a command line that asks for nothing to be done, help among it, and
-/// answers the status.
-fn refuse<O: Write, E: Write>(error: &Error, out: &mut O, err: &mut E) -> u8 {
-    if error.kind() == ErrorKind::OutOfMemory {
-        report(err, &Failure::Memory)
-    } else if error.use_stderr() {
-        if show(err, error) { 2 } else { 1 }
-    } else if show(out, error) {
-        0
-    } else {
-        report(err, &Failure::Line)
-    }
-}
-
-/// The program's name where it is that of a peer, whose command lines it then takes.
-fn peer_name(words: &[String]) -> Option<&str> {
-    let path = words.first()?.as_str();
-    let name = path.rsplit('/').next()?;
-    match name {
-        "dwp" | "llvm-dwp" => Some(name),
-        _ => None,
-    }
-}
-
-/// Does what the words ask for, and answers the status.
-fn dispatch<O: Write, E: Write>(
-    rt: &HostRuntime,
-    matches: &ArgMatches<'_>,
-    is_peer: bool,
-    out: &mut O,
-    err: &mut E,
-) -> Result<u8, Failure> {
-    if is_peer {
-        return pack(rt, &packing_of_peer(matches), err);
-    }
-    match matches.subcommand() {
-        Some(("pack", matches)) => pack(rt, &packing_of(matches), err),
-        Some(("find", matches)) => {
-            let kind = matches.get_str("kind").unwrap_or("");
-            let id = matches.get_str("id").unwrap_or("");
-            find(rt, file_of(matches), kind, id, out)
+impl<O: Write, E: Write> Program<'_, O, E> {
+    /// The status of a command that answered one, or was refused: that is printed.
+    fn status(&mut self, answer: Result<u8, Failure>) -> u8 {
+        match answer {
+            Ok(status) => status,
+            Err(failure) => report(self.err, &failure),
         }
-        Some(("list", matches)) => list(rt, file_of(matches), matches.get_flag("sizes"), out),
-        Some(("check", matches)) => {
-            let executables = matches.get_strs("exec").unwrap_or(&[]);
-            check(rt, file_of(matches), executables, out)
-        }
-        _ => Err(Failure::BadCommand),
     }
 }
 
-/// The package's file that a command reads.
-fn file_of<'a>(matches: &ArgMatches<'a>) -> &'a str {
-    matches.get_str("file").unwrap_or("")
+impl<O: Write, E: Write> Commands for Program<'_, O, E> {
+    fn pack(&mut self, arguments: PackArguments<'_, '_>) -> u8 {
+        let answer = pack(self.rt, &packing_of(arguments), self.err);
+        self.status(answer)
+    }
+
+    fn find(&mut self, file: &str, kind: &str, id: &str) -> u8 {
+        let answer = find(self.rt, file, kind, id, self.out);
+        self.status(answer)
+    }
+
+    fn list(&mut self, file: &str, has_sizes: bool) -> u8 {
+        let answer = list(self.rt, file, has_sizes, self.out);
+        self.status(answer)
+    }
+
+    fn check(&mut self, file: &str, executables: &[&str]) -> u8 {
+        let answer = check(self.rt, file, executables, self.out);
+        self.status(answer)
+    }
+
+    fn show<D: fmt::Display>(&mut self, text: &D) -> u8 {
+        if show(self.out, text) {
+            0
+        } else {
+            report(self.err, &Failure::Line)
+        }
+    }
+
+    fn refuse<D: fmt::Display>(&mut self, text: &D) -> u8 {
+        if show(self.err, text) { 2 } else { 1 }
+    }
+
+    fn refuse_words(&mut self) -> u8 {
+        refuse_words(self.err)
+    }
+
+    fn lack_memory(&mut self) -> u8 {
+        report(self.err, &Failure::Memory)
+    }
 }
 
-/// What the command `pack` asks for.
-fn packing_of<'m, 'a>(matches: &'m ArgMatches<'a>) -> Packing<'m, 'a> {
-    let missing = if matches.get_flag("skip-missing") {
+/// What is to be packed, in the packer's terms.
+fn packing_of<'m, 'a>(arguments: PackArguments<'m, 'a>) -> Packing<'m, 'a> {
+    let missing = if arguments.skips_missing {
         MissingReferencedObjectBehaviour::Skip
     } else {
         MissingReferencedObjectBehaviour::Error
     };
     Packing {
+        output: arguments.output,
+        inputs: arguments.inputs,
+        executables: arguments.executables,
         missing,
-        ..packing_of_peer(matches)
-    }
-}
-
-/// What the command lines of `dwp` and `llvm-dwp` ask for.
-fn packing_of_peer<'m, 'a>(matches: &'m ArgMatches<'a>) -> Packing<'m, 'a> {
-    Packing {
-        output: matches.get_str("output"),
-        inputs: matches.get_strs("input"),
-        executables: matches.get_strs("exec"),
-        missing: MissingReferencedObjectBehaviour::Error,
-        verbose: matches.get_flag("verbose"),
+        verbose: arguments.verbose,
     }
 }

@@ -1,101 +1,34 @@
-//! What the program prints of faults.
+//! Writing the package's file.
 
-use std::alloc::{AllocError, AllocFailed};
-use std::fmt;
-use std::io::{self, Write};
+use dwp_elf::WritableObject;
+use std::io::Write;
 use thorin_faults::Error;
+use thorin_files::{Contents, WriteError};
+use thorin_queries::Failure;
 
-/// Why a command was refused.
-#[derive(Debug, Drop)]
-pub enum Failure {
-    /// An input was refused, or the package could not be finished.
-    Package(Error),
-    /// The output file can't be written.
-    Output,
-    /// The package file can't be read.
-    Input,
-    /// The package file is malformed.
-    Malformed,
-    /// No unit of this kind has this identifier.
-    NoUnit(u64),
-    /// The kind of unit is neither `cu` nor `tu`.
-    BadKind,
-    /// The identifier isn't 1 to 16 hexadecimal digits.
-    BadIdentifier,
-    /// There is no such command, or a word isn't UTF-8.
-    BadCommand,
-    /// A response file can't be read, or there are too many.
-    Response,
-    /// A line can't be written.
-    Line,
-    /// Memory ran out.
-    Memory,
-}
+/// A package, as what its file is to hold.
+#[derive(Drop)]
+struct PackageFile<'o>(&'o WritableObject);
 
-impl Failure {
-    /// The status that the program ends with.
-    pub fn status(&self) -> u8 {
-        match self {
-            Failure::BadKind | Failure::BadIdentifier | Failure::BadCommand => 2,
-            _ => 1,
-        }
+impl Contents for PackageFile<'_> {
+    fn is_written<W: Write>(&self, file: &mut W) -> bool {
+        self.0.write_to(file).is_ok()
     }
 }
 
-impl fmt::Display for Failure {
-    fn fmt<W: fmt::Write>(&self, f: &mut fmt::Formatter<W>) -> fmt::Result {
-        match self {
-            Failure::Package(fault) => write!(f, "{fault}"),
-            Failure::Output => f.write_str("Failed to write output file"),
-            Failure::Response => f.write_str("Failed to read response file"),
-            Failure::Line => f.write_str("Failed to write standard output"),
-            Failure::Input => f.write_str("Failed to read input file"),
-            Failure::Malformed => f.write_str("Malformed package"),
-            Failure::NoUnit(id) => write!(f, "Unit 0x{id:08x} is not in the package"),
-            Failure::BadKind => f.write_str("Bad unit kind"),
-            Failure::BadIdentifier => f.write_str("Bad identifier"),
-            Failure::BadCommand => f.write_str("Bad command line"),
-            Failure::Memory => f.write_str("Out of memory"),
-        }
+/// Writes a package to OUT. Where OUT is a regular file, or isn't there, a write that fails leaves
+/// OUT as it was. The size is tested first.
+pub(crate) fn write_package(
+    rt: &HostRuntime,
+    object: &WritableObject,
+    output: &str,
+) -> Result<(), Failure> {
+    if let Err(e) = object.file_size() {
+        return Err(Failure::Package(Error::from(e)));
     }
-}
-
-impl From<AllocError> for Failure {
-    fn from(_e: AllocError) -> Failure {
-        Failure::Memory
+    match thorin_files::write(rt, &PackageFile(object), output) {
+        Ok(()) => Ok(()),
+        Err(WriteError::Output) => Err(Failure::Output),
+        Err(WriteError::Memory) => Err(Failure::Memory),
     }
-}
-
-impl<T: Drop> From<AllocFailed<T>> for Failure {
-    fn from(_e: AllocFailed<T>) -> Failure {
-        Failure::Memory
-    }
-}
-
-impl From<Error> for Failure {
-    fn from(fault: Error) -> Failure {
-        Failure::Package(fault)
-    }
-}
-
-/// What prints through a buffer can't be written, or there is no memory for the buffer.
-pub(crate) fn buffer_failure(e: &io::Error) -> Failure {
-    if e.kind() == io::ErrorKind::OutOfMemory {
-        Failure::Memory
-    } else {
-        Failure::Line
-    }
-}
-
-/// Prints a failure, and answers its status; 1 where it can't be printed.
-pub fn report<W: Write>(err: &mut W, failure: &Failure) -> u8 {
-    match writeln!(err, "error: {failure}") {
-        Ok(()) => failure.status(),
-        Err(_) => 1,
-    }
-}
-
-/// Prints a text as it is, and answers whether it could.
-pub fn show<W: Write, D: fmt::Display>(writer: &mut W, text: &D) -> bool {
-    write!(writer, "{text}").is_ok()
 }

@@ -8,20 +8,20 @@ ghost use Rattle.thorin.specs.Run.{Took};
 ghost use Rattle.thorin_commands.specs.Packing.{anything, asked, object_asked, executable_asked};
 ghost use Rattle.thorin_commands.specs.Packing.{AreAllAccepted, IsPackedOf};
 
-use crate::output::{Failure, buffer_failure};
+use crate::output::write_package;
 use crate::reader::FileReader;
-use crate::telling::{tell, warn_differing};
-use crate::write::write_package;
+use crate::telling::tell;
 use bumpalo::Bump;
 use dwp_bytes::RelocationEntry;
 use dwp_elf::WritableObject;
 use dwp_table::DebugTypeSignature;
 use std::alloc::{AllocError, Global};
-use std::io::{BufWriter, Write};
+use std::io::Write;
 use std::path::Path;
 use thorin::laws::runs_go_on;
 use thorin::{DwarfPackage, Input, take_input};
 use thorin_faults::{ArenaSession, MissingReferencedObjectBehaviour, Session};
+use thorin_queries::{Failure, buffer, flush, warn_differing};
 
 /// What is to be packed, and where to.
 #[derive(Drop)]
@@ -66,10 +66,10 @@ pub fn pack<E: Write>(
     let executables = packing.executables.unwrap_or(&[]);
     let inputs = inputs_of(rt.alloc(), objects, executables, packing.missing)?;
     let (object, differing) = packed(rt, inputs.as_slice(), packing.verbose, err)?;
-    let mut lines = BufWriter::new(rt.alloc(), err).map_err(|e| buffer_failure(&e))?;
+    let mut lines = buffer(rt.alloc(), err)?;
     write_package(rt, &object, output.as_str())?;
     warn_differing(&mut lines, differing.as_slice())?;
-    lines.flush().map_err(|e| buffer_failure(&e))?;
+    flush(&mut lines)?;
     Ok(0)
 }
 

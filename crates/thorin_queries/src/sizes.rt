@@ -3,7 +3,7 @@
 ghost use Rattle.std.specs.Prelude.{◌≡◌, ◌-◌, ◌^◌, min, sum_by};
 
 use crate::finding::COLUMNS;
-use crate::output::Failure;
+use crate::output::{Failure, written};
 use dwp_elf::{Contribution, ElfFile, Section, SectionKind};
 use std::alloc::Global;
 use std::io::Write;
@@ -50,29 +50,35 @@ impl Sizes {
     /// Prints a line `total` for each section of a package: its bytes in the file; for a section
     /// that units have ranges of, also the bytes of its distinct ranges, and how many more all
     /// ranges have together. Then the file's bytes.
-    pub(crate) fn print<W: Write>(mut self, bytes: &[u8], lines: &mut W) -> Result<(), Failure> {
+    pub(crate) fn print<W: Write>(&mut self, bytes: &[u8], lines: &mut W) -> Result<(), Failure> {
         let Ok(file) = ElfFile::parse(bytes) else {
             return Err(Failure::Malformed);
         };
         self.ranges.sort_unstable();
         for (kind, name) in COLUMNS {
-            let content = content_size(&file, kind);
-            if content > 0 {
-                let (all, once) = self.of(kind)?;
-                let shared = all.saturating_sub(once);
-                writeln!(lines, "total {name} {content} units {once} shared {shared}").map_err(
-                    |_| Failure::Line,
-                )?;
-            }
+            self.print_column(kind, name, content_size(&file, kind), lines)?;
         }
         for (kind, name) in WHOLE {
-            let content = content_size(&file, kind);
-            if content > 0 {
-                writeln!(lines, "total {name} {content}").map_err(|_| Failure::Line)?;
-            }
+            print_whole(name, content_size(&file, kind), lines)?;
         }
         let size = bytes.len();
-        writeln!(lines, "total file {size}").map_err(|_| Failure::Line)
+        written(writeln!(lines, "total file {size}"))
+    }
+
+    /// The total of a section that units have ranges of, where it isn't empty.
+    fn print_column<W: Write>(
+        &self,
+        kind: SectionKind,
+        name: &str,
+        content: usize,
+        lines: &mut W,
+    ) -> Result<(), Failure> {
+        if content == 0 {
+            return Ok(());
+        }
+        let (all, once) = self.of(kind)?;
+        let shared = all.saturating_sub(once);
+        written(writeln!(lines, "total {name} {content} units {once} shared {shared}"))
     }
 
     /// The bytes of all ranges of a section together, and those of its distinct ranges.
@@ -89,6 +95,14 @@ impl Sizes {
         ranges.dedup();
         Ok((all, total(ranges.as_slice())))
     }
+}
+
+/// The total of a section that no unit has a range of, where it isn't empty.
+fn print_whole<W: Write>(name: &str, content: usize, lines: &mut W) -> Result<(), Failure> {
+    if content == 0 {
+        return Ok(());
+    }
+    written(writeln!(lines, "total {name} {content}"))
 }
 
 /// The bytes of ranges together, as far as 64 bits go.

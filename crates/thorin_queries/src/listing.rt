@@ -2,11 +2,11 @@
 
 use crate::finding::{COLUMNS, short_kind};
 use crate::input::read_file;
-use crate::output::{Failure, buffer_failure};
+use crate::output::{Failure, buffer, flush, written};
 use crate::sizes::Sizes;
 use dwp_index::{PackageFile, PackagedUnit, UnitEntry};
 use dwp_table::{Bucketable, DwarfObject};
-use std::io::{BufWriter, Write};
+use std::io::Write;
 
 /// Prints a line for each unit of a package: compilation units by row, then type units by row.
 /// Where sizes are asked for, each line goes on with the unit's, and totals follow. Answers the
@@ -21,34 +21,59 @@ pub fn list<O: Write>(
     has_sizes: bool,
     out: &mut O,
 ) -> Result<u8, Failure> {
-    let alloc = rt.alloc();
     let bytes = read_file(rt, file)?;
     let Ok(package) = PackageFile::parse(bytes.as_slice()) else {
         return Err(Failure::Malformed);
     };
     let entries = entries_by_row(rt, &package)?;
     let mut sizes = if has_sizes {
-        Some(Sizes::new(alloc))
+        Some(Sizes::new(rt.alloc()))
     } else {
         None
     };
-    let mut lines = BufWriter::new(alloc, out).map_err(|e| buffer_failure(&e))?;
-    for entry in &entries {
+    let mut lines = buffer(rt.alloc(), out)?;
+    let listed = print_units(&package, entries.as_slice(), &mut sizes, &mut lines)?;
+    if listed {
+        print_sizes(&mut sizes, bytes.as_slice(), &mut lines)?;
+    }
+    flush(&mut lines)?;
+    if listed {
+        Ok(0)
+    } else {
+        Err(Failure::Malformed)
+    }
+}
+
+/// Prints the lines of units, up to one that can't be looked up: then it answers false.
+fn print_units<W: Write>(
+    package: &PackageFile<'_>,
+    entries: &[UnitEntry],
+    sizes: &mut Option<Sizes>,
+    lines: &mut W,
+) -> Result<bool, Failure> {
+    for entry in entries {
         let Ok(found) = package.find(entry.object) else {
-            lines.flush().map_err(|e| buffer_failure(&e))?;
-            return Err(Failure::Malformed);
+            return Ok(false);
         };
         if let Some(unit) = found {
             if unit.row() == entry.row {
-                line(entry.object, &unit, &mut sizes, &mut lines)?;
+                line(entry.object, &unit, sizes, lines)?;
             }
         }
     }
-    if let Some(sizes) = sizes {
-        sizes.print(bytes.as_slice(), &mut lines)?;
+    Ok(true)
+}
+
+/// Prints the totals, where sizes are asked for.
+fn print_sizes<W: Write>(
+    sizes: &mut Option<Sizes>,
+    bytes: &[u8],
+    lines: &mut W,
+) -> Result<(), Failure> {
+    match sizes {
+        Some(sizes) => sizes.print(bytes, lines),
+        None => Ok(()),
     }
-    lines.flush().map_err(|e| buffer_failure(&e))?;
-    Ok(0)
 }
 
 /// The units that the slots of a package name: compilation units by row, then type units by row.
@@ -76,15 +101,25 @@ fn line<W: Write>(
     let kind = short_kind(object);
     let id = object.index();
     let size = unit.bytes().len();
-    write!(lines, "{kind} 0x{id:016x} {size}").map_err(|_| Failure::Line)?;
+    written(write!(lines, "{kind} 0x{id:016x} {size}"))?;
     if let Some(sizes) = sizes {
-        for (column, name) in COLUMNS {
-            if let Some(range) = unit.range(column) {
-                sizes.add(column, range)?;
-                let size = range.size;
-                write!(lines, " {name} {size}").map_err(|_| Failure::Line)?;
-            }
+        line_sizes(unit, sizes, lines)?;
+    }
+    written(writeln!(lines))
+}
+
+/// The sizes on the line of a unit.
+fn line_sizes<W: Write>(
+    unit: &PackagedUnit<'_>,
+    sizes: &mut Sizes,
+    lines: &mut W,
+) -> Result<(), Failure> {
+    for (column, name) in COLUMNS {
+        if let Some(range) = unit.range(column) {
+            sizes.add(column, range)?;
+            let size = range.size;
+            written(write!(lines, " {name} {size}"))?;
         }
     }
-    writeln!(lines).map_err(|_| Failure::Line)
+    Ok(())
 }

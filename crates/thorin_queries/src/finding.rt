@@ -2,7 +2,7 @@
 
 use crate::identifier::identifier;
 use crate::input::read_file;
-use crate::output::Failure;
+use crate::output::{Failure, written};
 use dwp_base::SectionKind;
 use dwp_bytes::Format;
 use dwp_index::{PackageFile, PackagedUnit};
@@ -39,7 +39,17 @@ pub fn find<O: Write>(
 ) -> Result<u8, Failure> {
     let object = object(kind, id)?;
     let bytes = read_file(rt, file)?;
-    let Ok(package) = PackageFile::parse(bytes.as_slice()) else {
+    find_in(rt, bytes.as_slice(), object, out)
+}
+
+/// Looks a unit up in a package's bytes and prints it.
+fn find_in<O: Write>(
+    rt: &HostRuntime,
+    bytes: &[u8],
+    object: DwarfObject,
+    out: &mut O,
+) -> Result<u8, Failure> {
+    let Ok(package) = PackageFile::parse(bytes) else {
         return Err(Failure::Malformed);
     };
     let Ok((found, slots)) = package.find_counted(object) else {
@@ -47,10 +57,7 @@ pub fn find<O: Write>(
     };
     match found {
         None => Err(Failure::NoUnit(object.index())),
-        Some(unit) => {
-            print(rt, out, object, &unit, slots)?;
-            Ok(0)
-        }
+        Some(unit) => print(rt, out, object, &unit, slots),
     }
 }
 
@@ -63,15 +70,28 @@ fn object(kind: &str, id: &str) -> Result<DwarfObject, Failure> {
     }
 }
 
+/// Prints what belongs to a unit, in one write. Answers the status 0.
 fn print<O: Write>(
     rt: &HostRuntime,
     out: &mut O,
     object: DwarfObject,
     unit: &PackagedUnit<'_>,
     slots: u32,
+) -> Result<u8, Failure> {
+    let mut text = String::new(rt.alloc());
+    put_encoding(object, unit, &mut text)?;
+    put_ranges(unit, &mut text)?;
+    put_counts(unit, slots, &mut text)?;
+    written(out.write_all(text.as_bytes()))?;
+    Ok(0)
+}
+
+/// Adds the line of a unit's encoding.
+fn put_encoding(
+    object: DwarfObject,
+    unit: &PackagedUnit<'_>,
+    text: &mut String,
 ) -> Result<(), Failure> {
-    let alloc = rt.alloc();
-    let mut text = String::new(alloc);
     let encoding = unit.encoding();
     let kind = short_kind(object);
     let id = object.index();
@@ -85,6 +105,11 @@ fn print<O: Write>(
         text,
         "{kind} 0x{id:016x} version {version} format {width} address {address}"
     )?;
+    Ok(())
+}
+
+/// Adds a line for each range that a unit has of a section.
+fn put_ranges(unit: &PackagedUnit<'_>, text: &mut String) -> Result<(), Failure> {
     for (column, name) in COLUMNS {
         if let Some(range) = unit.range(column) {
             let offset = range.offset.0;
@@ -92,10 +117,15 @@ fn print<O: Write>(
             writeln!(text, "{name} {offset:#x} {size:#x}")?;
         }
     }
+    Ok(())
+}
+
+/// Adds the lines of the numbers of a unit's strings, and of slots.
+fn put_counts(unit: &PackagedUnit<'_>, slots: u32, text: &mut String) -> Result<(), Failure> {
     let strings = string_count(unit);
     writeln!(text, "strings {strings}")?;
     writeln!(text, "slots {slots}")?;
-    out.write_all(text.as_bytes()).map_err(|_| Failure::Line)
+    Ok(())
 }
 
 /// `cu` or `tu`.

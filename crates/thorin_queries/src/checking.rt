@@ -2,9 +2,9 @@
 
 use crate::abbreviations::Remembered;
 use crate::finding::short_kind;
-use crate::input::{read_file, test_input};
+use crate::input::read_file;
 use crate::listing::{entries_by_row, is_type};
-use crate::output::{Failure, buffer_failure};
+use crate::output::{Failure, buffer, flush, written};
 use crate::sizes::is_section_of;
 use crate::telling::Count;
 use bumpalo::Bump;
@@ -15,7 +15,7 @@ use dwp_index::{PackageError, PackageFile, PackagedUnit, UnitEntry, UnitIndex};
 use dwp_table::{Bucketable, DwarfObject};
 use std::alloc::Global;
 use std::fmt;
-use std::io::{BufWriter, Write};
+use std::io::Write;
 use std::path::Path;
 use thorin_executable::SkeletonUnits;
 use thorin_faults::{ArenaSession, Error, InputError, Session};
@@ -35,13 +35,28 @@ pub fn check<O: Write>(
     out: &mut O,
 ) -> Result<u8, Failure> {
     let bytes = read_file(rt, file)?;
-    let mut lines = BufWriter::new(rt.alloc(), out).map_err(|e| buffer_failure(&e))?;
-    let (units, faults) = check_package(rt, bytes.as_slice(), executables, &mut lines)?;
+    let mut lines = buffer(rt.alloc(), out)?;
+    check_bytes(rt, bytes.as_slice(), executables, &mut lines)
+}
+
+/// Checks a package's bytes, and prints all of it. Answers the status.
+fn check_bytes<W: Write>(
+    rt: &HostRuntime,
+    bytes: &[u8],
+    executables: &[&str],
+    lines: &mut W,
+) -> Result<u8, Failure> {
+    let (units, faults) = check_package(rt, bytes, executables, lines)?;
+    tell_counts(units, faults, lines)?;
+    flush(lines)?;
+    Ok(if faults == 0 { 0 } else { 1 })
+}
+
+/// Prints how many units and faults there are.
+fn tell_counts<W: Write>(units: usize, faults: u64, lines: &mut W) -> Result<(), Failure> {
     let units = Count(units as u64, "unit");
     let found = Count(faults, "fault");
-    writeln!(lines, "{units}, {found}").map_err(|_| Failure::Line)?;
-    lines.flush().map_err(|e| buffer_failure(&e))?;
-    Ok(if faults == 0 { 0 } else { 1 })
+    written(writeln!(lines, "{units}, {found}"))
 }
 
 /// Checks a package's bytes. Answers the numbers of units and of faults.
@@ -138,7 +153,7 @@ impl fmt::Display for Fault {
 fn tell<W: Write>(object: DwarfObject, fault: &Fault, lines: &mut W) -> Result<(), Failure> {
     let kind = short_kind(object);
     let id = object.index();
-    writeln!(lines, "{kind} 0x{id:016x}: {fault}").map_err(|_| Failure::Line)
+    written(writeln!(lines, "{kind} 0x{id:016x}: {fault}"))
 }
 
 /// The string offsets of a unit: units that have the same ones have the same strings.
@@ -301,7 +316,7 @@ fn check_rows<W: Write>(
             is_named = true;
         }
         if !is_named {
-            writeln!(lines, "{kind} row {row}: no slot names it").map_err(|_| Failure::Line)?;
+            written(writeln!(lines, "{kind} row {row}: no slot names it"))?;
             faults = faults.saturating_add(1);
         }
     }
@@ -315,7 +330,9 @@ fn check_executable<W: Write>(
     executable: &str,
     lines: &mut W,
 ) -> Result<u64, Failure> {
-    test_input(rt, executable)?;
+    if thorin_files::is_device(rt, executable) {
+        return Err(Failure::Input);
+    }
     let bump = Bump::new(rt.alloc());
     let session = ArenaSession::new(rt, &bump);
     check_named(rt.alloc(), &session, package, executable, lines)
@@ -374,11 +391,10 @@ fn tell_missing<W: Write>(
 ) -> Result<(), Failure> {
     let kind = short_kind(object);
     let id = object.index();
-    writeln!(
+    written(writeln!(
         lines,
         "{kind} 0x{id:016x}: not in the package, {executable} names {path}"
-    )
-    .map_err(|_| Failure::Line)
+    ))
 }
 
 /// Prints why an executable can't be read to its end. Answers the number of faults, 1.
@@ -386,6 +402,6 @@ fn tell_fault<W: Write>(executable: &str, fault: &Error, lines: &mut W) -> Resul
     if matches!(fault, Error::Memory) {
         return Err(Failure::Memory);
     }
-    writeln!(lines, "{executable}: {fault}").map_err(|_| Failure::Line)?;
+    written(writeln!(lines, "{executable}: {fault}"))?;
     Ok(1)
 }

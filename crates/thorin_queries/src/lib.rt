@@ -1,0 +1,21 @@
+//! What the program reads and prints: the commands `find`, `list` and `check`, response files, and
+//! the texts of failures.
+#![tactic(auto)]
+
+mod abbreviations;
+mod checking;
+mod finding;
+mod identifier;
+mod input;
+mod listing;
+mod output;
+mod response;
+mod sizes;
+mod telling;
+
+pub use checking::check;
+pub use finding::find;
+pub use listing::list;
+pub use output::{Failure, buffer, flush, report, show};
+pub use response::expanded;
+pub use telling::{tell_refused, tell_taken, unit_count, warn_differing};
