@@ -6,12 +6,25 @@ use dwp_bytes::{Encoding, Format};
 use dwp_elf_read::ElfFile;
 use dwp_index::{DwarfObject, DwoId};
 use std::alloc::{AllocError, Global};
+use std::fmt::Debug;
 use std::process::Abort;
 use thorin_faults::Error;
 use thorin_parts::{IndexEntry, add_relocations, bucket, write_index};
 
-fn is_memory<T>(answer: &Result<T, Error>) -> bool {
-    matches!(answer, Ok(_) | Err(Error::Memory))
+/// Asserts what a call answers; where memory was refused, the same of `again`, of which none is.
+fn answers<T: PartialEq + Debug + Drop>(
+    rt: &impl Abort,
+    first: Result<T, Error>,
+    again: Option<T>,
+    want: T,
+) {
+    match first {
+        Ok(found) => same(rt, found, want),
+        Err(fault) => {
+            assert!(rt; matches!(fault, Error::Memory));
+            same(rt, again, Some(want));
+        }
+    }
 }
 
 /// Whether three units have been looked at in as many slots as they have to be.
@@ -82,10 +95,14 @@ fn count_of(alloc: Global, bytes: &[u8]) -> Result<usize, Error> {
     }
 }
 
-/// The first time memory may be refused, and then no more.
-fn relocate_twice(rt: &impl Abort, alloc: Global, bytes: &[u8], twice: &[u8]) {
-    assert!(rt; is_memory(&count_of(alloc, bytes)));
-    same(rt, count_of(alloc, bytes).ok(), Some(2));
+fn relocate(rt: &impl Abort, alloc: Global, bytes: &[u8], twice: &[u8]) {
+    let first = count_of(alloc, bytes);
+    let again = if first.is_err() {
+        count_of(alloc, bytes).ok()
+    } else {
+        None
+    };
+    answers(rt, first, again, 2);
     let refused = count_of(alloc, twice);
     assert!(rt;
         matches!(
@@ -95,16 +112,34 @@ fn relocate_twice(rt: &impl Abort, alloc: Global, bytes: &[u8], twice: &[u8]) {
     );
 }
 
+fn look(rt: &impl Abort, alloc: Global) {
+    let first = looked(alloc);
+    let again = if first.is_err() {
+        looked(alloc).ok()
+    } else {
+        None
+    };
+    answers(rt, first, again, true);
+}
+
+fn write(rt: &impl Abort, alloc: Global) {
+    let first = index_size(alloc);
+    let again = if first.is_err() {
+        index_size(alloc).ok()
+    } else {
+        None
+    };
+    answers(rt, first, again, 52);
+}
+
 #[test]
 fn a_refused_allocation_is_want_of_memory(rt: HostRuntime) {
     let alloc = rt.alloc();
-    assert!(rt; is_memory(&looked(alloc)));
-    same(&rt, looked(alloc).ok(), Some(true));
-    assert!(rt; is_memory(&index_size(alloc)));
-    same(&rt, index_size(alloc).ok(), Some(52));
+    look(&rt, alloc);
+    write(&rt, alloc);
     let bytes = executable(alloc, &[8, 0x1_0000_0001, 0x100, 0, 10, 5]);
     let twice = executable(alloc, &[8, 1, 0, 8, 1, 0]);
     if let (Ok(bytes), Ok(twice)) = (bytes, twice) {
-        relocate_twice(&rt, alloc, &bytes, &twice);
+        relocate(&rt, alloc, &bytes, &twice);
     }
 }

@@ -59,27 +59,28 @@ fn path_of(rt: &HostRuntime) -> io::Result<PathBuf> {
     Ok(path)
 }
 
-/// Reads a file twice; whether it has its bytes then. The first time memory may be refused.
-fn read_twice(rt: &HostRuntime, path: Path<'_>) -> io::Result<(bool, bool)> {
+/// Whether a file that is read has its bytes. Where memory is refused, it is read again.
+fn is_read(rt: &HostRuntime, path: Path<'_>) -> io::Result<bool> {
     fs::write(rt, path, BYTES)?;
     let bump = Bump::new(rt.alloc());
-    let refused = has_bytes(rt, &bump, path, BYTES);
-    let again = has_bytes(rt, &bump, path, BYTES);
+    let found = match has_bytes(rt, &bump, path, BYTES) {
+        Err(InputError::Memory) => has_bytes(rt, &bump, path, BYTES),
+        found => found,
+    };
     fs::remove_file(rt, path)?;
-    let is_answered = matches!(refused, Ok(true) | Err(InputError::Memory));
-    Ok((is_answered, matches!(again, Ok(true))))
+    Ok(matches!(found, Ok(true)))
 }
 
-fn read(rt: &HostRuntime) -> io::Result<(bool, bool)> {
+fn read(rt: &HostRuntime) -> io::Result<bool> {
     let path = path_of(rt)?;
-    read_twice(rt, path.as_path())
+    is_read(rt, path.as_path())
 }
 
 #[test]
 fn a_refused_allocation_is_want_of_memory(rt: HostRuntime) {
     place(&rt, rt.alloc());
     match read(&rt) {
-        Ok(answers) => same(&rt, answers, (true, true)),
+        Ok(is_read) => same(&rt, is_read, true),
         Err(fault) => same(&rt, fault.kind(), io::ErrorKind::OutOfMemory),
     }
 }

@@ -31,20 +31,31 @@ fn remap(table: &mut PackageStringTable, section: &[u8], offsets: &[u8]) -> Resu
     table.remap_str_offsets_section(section, offsets, 4800, Endianness::Little, GNU)
 }
 
-/// Rewrites a range; where memory is refused, the table has what it had.
-fn remap_twice(rt: &impl Abort, table: &mut PackageStringTable, section: &[u8], offsets: &[u8]) {
-    if let Err(fault) = remap(table, section, offsets) {
-        assert!(rt; matches!(fault, Error::Memory));
-        same(rt, table.data(), b"int\0".as_slice());
-        same(rt, table.find_counted(b"\x01\x01").0, None);
+/// The first two offsets of a range that is rewritten.
+fn rewritten(
+    table: &mut PackageStringTable,
+    section: &[u8],
+    offsets: &[u8],
+) -> Result<[u8; 8], Error> {
+    let range = remap(table, section, offsets)?;
+    let mut first = [0; 8];
+    for (to, from) in first.iter_mut().zip(range.iter()) {
+        *to = *from;
     }
-    match remap(table, section, offsets) {
-        Ok(range) => same(
-            rt,
-            range.get(..8),
-            Some([4, 0, 0, 0, 7, 0, 0, 0].as_slice()),
-        ),
-        Err(_) => panic!(rt; "no more memory is refused"),
+    Ok(first)
+}
+
+/// Rewrites a range; where memory is refused, the table has what it had, and then it is again.
+fn remap_again(rt: &impl Abort, table: &mut PackageStringTable, section: &[u8], offsets: &[u8]) {
+    let want = [4, 0, 0, 0, 7, 0, 0, 0];
+    match rewritten(table, section, offsets) {
+        Ok(found) => same(rt, found, want),
+        Err(fault) => {
+            assert!(rt; matches!(fault, Error::Memory));
+            same(rt, table.data(), b"int\0".as_slice());
+            same(rt, table.find_counted(b"\x01\x01").0, None);
+            same(rt, rewritten(table, section, offsets).ok(), Some(want));
+        }
     }
     same(rt, table.len(), 1201);
     same(rt, table.data().get(4..), Some(section));
@@ -63,5 +74,5 @@ fn a_refused_allocation_leaves_the_table_as_it_was(rt: HostRuntime) {
     }
     let mut table = PackageStringTable::new(rt.alloc());
     insert(&rt, &mut table);
-    remap_twice(&rt, &mut table, &section, &offsets);
+    remap_again(&rt, &mut table, &section, &offsets);
 }
