@@ -28,7 +28,7 @@ fn built<'s>(
     alloc: Global,
     session: &'s BytesSession<'s>,
     names: &[&str],
-    inputs: &[&[u8]],
+    inputs: &[Vec<u8>],
     text: &mut String,
 ) -> Result<Result<Vec<u8>, Error>, Mistake> {
     let mut builder = DwarfPackage::new(alloc, session);
@@ -50,7 +50,7 @@ fn finished<'o, 's: 'o>(builder: DwarfPackage<'o, 's, BytesSession<'s>>) -> Resu
 fn add_each<'o, 's: 'o>(
     builder: &mut DwarfPackage<'o, 's, BytesSession<'s>>,
     names: &[&str],
-    inputs: &[&[u8]],
+    inputs: &[Vec<u8>],
     text: &mut String,
 ) -> Result<(), Mistake> {
     tell_state(builder, text)?;

@@ -5,21 +5,19 @@ use crate::packing::answer;
 use crate::reading::found;
 use crate::table::{Table, part, patched};
 use std::alloc::{AllocError, Global};
-use thorin::{DwarfObject, DwoId};
+use thorin::{DwarfObject, DwoId, PackageError};
 
-/// What a builder answers of a file, and the reader that looks for its unit 5.
+/// Whether the reader finds the unit 5 of a file.
+fn finds(file: &[u8]) -> Result<bool, PackageError> {
+    let answer = found(file, DwarfObject::Compilation(DwoId(5)))?;
+    Ok(answer.0.is_some())
+}
+
+/// What a builder answers of a file, and whether the reader finds its unit 5.
 fn answers(alloc: Global, file: &[u8]) -> Result<String, AllocError> {
-    let mut text = String::new(alloc);
-    match answer(alloc, file) {
-        Ok(()) => write!(text, "builder Ok, ")?,
-        Err(fault) => write!(text, "builder {fault:?}, ")?,
-    }
-    match found(file, DwarfObject::Compilation(DwoId(5))) {
-        Ok((Some(_), _)) => writeln!(text, "reader finds")?,
-        Ok((None, _)) => writeln!(text, "reader absent")?,
-        Err(fault) => writeln!(text, "reader {fault:?}")?,
-    }
-    Ok(text)
+    let built = answer(alloc, file);
+    let found = finds(file);
+    format!(in alloc; "builder {built:?}, reader {found:?}\n")
 }
 
 /// `damage FILE PLACE WORD..`: what is answered of a file with other bytes from a place on.

@@ -1,11 +1,11 @@
 //! Packages of many objects and of many strings.
 
 use crate::mistake::{Mistake, number};
-use crate::packing::{grouped, packed, slices};
+use crate::packing::{grouped_inputs, packed};
 use crate::reading::found;
 use crate::table::{Table, part, patched};
 use std::alloc::Global;
-use thorin::{Bump, BytesSession, DwarfObject, DwoId, Endianness, Packed};
+use thorin::{DwarfObject, DwoId, Endianness, Packed};
 
 /// `many FILE OBJECT FROM TO COUNT`: packs that many objects, at once and each in a group of its
 /// own. They are copies of one whose unit stands at a place and ends with its identifier of 8
@@ -15,16 +15,12 @@ pub fn many(alloc: Global, table: &mut Table, words: &[&str]) -> Result<String, 
         return Err(Mistake::Words);
     };
     let (from, to) = (number(from)?, number(to)?);
-    let copies = copies(
-        alloc,
-        table.get(object)?,
-        to.saturating_sub(8),
-        number(count)?,
-    )?;
+    let place = to.saturating_sub(8);
+    let copies = copies(alloc, table.get(object)?, place, number(count)?)?;
     let mut text = String::new(alloc);
     let bytes = packed_copies(alloc, &copies, &mut text)?;
     let units = found_at_once(&bytes, &copies, from, to);
-    let alike = is_grouped(alloc, &copies, &bytes)?;
+    let alike = is_grouped(alloc, copies, &bytes)?;
     writeln!(text, "{units} found in the first slot\ngroups {alike}")?;
     table.keep(file, bytes)?;
     Ok(text)
@@ -32,7 +28,7 @@ pub fn many(alloc: Global, table: &mut Table, words: &[&str]) -> Result<String, 
 
 /// The package of these inputs, with how many are accepted and its length.
 fn packed_copies(alloc: Global, copies: &[Vec<u8>], text: &mut String) -> Result<Vec<u8>, Mistake> {
-    let Ok(packed) = packed(alloc, &slices(alloc, copies)?) else {
+    let Ok(packed) = packed(alloc, copies) else {
         return Err(Mistake::Memory);
     };
     let Packed {
@@ -40,7 +36,12 @@ fn packed_copies(alloc: Global, copies: &[Vec<u8>], text: &mut String) -> Result
         file,
         differing: _differing,
     } = packed;
-    let accepted = outcomes.iter().filter(|outcome| outcome.is_ok()).count();
+    let mut accepted: usize = 0;
+    for outcome in &outcomes {
+        if outcome.is_ok() {
+            accepted = accepted.saturating_add(1);
+        }
+    }
     match file {
         Ok(file) => {
             writeln!(text, "{accepted} accepted, {} bytes", file.len())?;
@@ -51,12 +52,14 @@ fn packed_copies(alloc: Global, copies: &[Vec<u8>], text: &mut String) -> Result
 }
 
 /// Whether packing each input in a group of its own gives this file.
-fn is_grouped(alloc: Global, copies: &[Vec<u8>], file: &[u8]) -> Result<bool, Mistake> {
-    let inputs = slices(alloc, copies)?;
-    let groups: Vec<&[&[u8]]> = inputs.chunks(1).collect(alloc)?;
-    let arena = Bump::new(alloc);
-    let session = BytesSession::new(&arena);
-    match grouped(alloc, &session, groups.as_slice()) {
+fn is_grouped(alloc: Global, copies: Vec<Vec<u8>>, file: &[u8]) -> Result<bool, Mistake> {
+    let mut groups = Vec::new(alloc);
+    for copy in copies {
+        let mut group = Vec::new(alloc);
+        group.push(copy)?;
+        groups.push(group)?;
+    }
+    match grouped_inputs(alloc, &groups)? {
         Ok(other) => Ok(other.as_slice() == file),
         Err(_fault) => Ok(false),
     }
@@ -92,25 +95,19 @@ fn found_at_once(file: &[u8], inputs: &[Vec<u8>], from: usize, to: usize) -> usi
     count
 }
 
-/// `numbers NAME COUNT`: names the strings `0`, `1` and so on, and their offsets, NAME.strings and
-/// NAME.offsets.
-pub fn numbers(alloc: Global, table: &mut Table, words: &[&str]) -> Result<String, Mistake> {
-    let [name, count] = words else {
+/// `numbers STRINGS OFFSETS COUNT`: names the strings `0`, `1` and so on, and their offsets.
+pub fn numbers(alloc: Global, table: &mut Table, words: &[&str]) -> Result<(), Mistake> {
+    let [strings_name, offsets_name, count] = words else {
         return Err(Mistake::Words);
     };
     let mut strings = Vec::new(alloc);
     let mut offsets = Vec::new(alloc);
     for number in 0..number(count)? {
-        let offset = u32::try_from(strings.len()).map_err(|_| Mistake::Number)?;
-        offsets.extend_from_slice(&Endianness::Little.bytes_of_u32(offset))?;
-        let text = number.to_string(alloc)?;
-        strings.extend_from_slice(text.as_bytes())?;
+        let offset = strings.len() as u64;
+        offsets.extend_from_slice(part(&Endianness::Little.bytes_of_u64(offset), 0, 4))?;
+        strings.extend_from_slice(number.to_string(alloc)?.as_bytes())?;
         strings.push(0)?;
     }
-    let lengths = format!(in alloc; "{} and {} bytes\n", strings.len(), offsets.len())?;
-    let strings_name = format!(in alloc; "{name}.strings")?;
-    table.keep(&strings_name, strings)?;
-    let offsets_name = format!(in alloc; "{name}.offsets")?;
-    table.keep(&offsets_name, offsets)?;
-    Ok(lengths)
+    table.keep(strings_name, strings)?;
+    table.keep(offsets_name, offsets)
 }

@@ -75,6 +75,7 @@ fn run_line(alloc: Global, table: &mut Table, words: &[&str]) -> Result<Option<S
         "patch" => table.patch(words)?,
         "replace" => table.replace(words)?,
         "object" => objects::object(alloc, table, words)?,
+        "numbers" => large::numbers(alloc, table, words)?,
         _ => return Ok(Some(ask(alloc, table, command, words)?)),
     }
     Ok(None)
@@ -91,12 +92,10 @@ fn ask(alloc: Global, table: &mut Table, command: &str, words: &[&str]) -> Resul
         "builder" => building::build(alloc, table, words),
         "text" => packing::text(alloc, table, words),
         "unit" => reading::unit(alloc, table, words),
-        "string" => reading::string(alloc, table, words),
         "units" => reading::units(alloc, table, words),
         "damage" => cutting::damage(alloc, table, words),
         "every_cut" => cutting::every_cut(alloc, table, words),
         "many" => large::many(alloc, table, words),
-        "numbers" => large::numbers(alloc, table, words),
         _ => Err(Mistake::Command),
     }
 }

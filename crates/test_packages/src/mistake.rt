@@ -37,10 +37,8 @@ impl<T: Drop> From<AllocFailed<T>> for Mistake {
 
 /// The number that decimal digits write.
 pub fn number(word: &str) -> Result<usize, Mistake> {
-    word.parse::<usize>().map_err(|_| Mistake::Number)
-}
-
-/// The identifier that hexadecimal digits write.
-pub fn identifier(word: &str) -> Result<u64, Mistake> {
-    u64::from_str_radix(word, 16).map_err(|_| Mistake::Number)
+    match word.parse::<usize>() {
+        Ok(number) => Ok(number),
+        Err(_fault) => Err(Mistake::Number),
+    }
 }

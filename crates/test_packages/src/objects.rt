@@ -11,7 +11,9 @@ pub fn object(alloc: Global, table: &mut Table, words: &[&str]) -> Result<(), Mi
     let [name, class, order, machine, sections @ ..] = words else {
         return Err(Mistake::Words);
     };
-    let machine = u16::try_from(number(machine)?).map_err(|_| Mistake::Number)?;
+    let Ok(machine) = u16::try_from(number(machine)?) else {
+        return Err(Mistake::Number);
+    };
     let file = WritableObject::new(alloc, class_of(class)?, machine, order_of(order)?);
     let bytes = written(alloc, table, file, sections)?;
     table.keep(name, bytes)
@@ -44,11 +46,15 @@ fn written(
         let Some((kind, word)) = section.split_once('=') else {
             return Err(Mistake::Words);
         };
-        let bytes = table.joined(&[word])?;
         let kind = kind_of(alloc, kind)?;
-        file.append(kind, &bytes).map_err(|_| Mistake::Object)?;
+        if file.append(kind, &table.joined(&[word])?).is_err() {
+            return Err(Mistake::Object);
+        }
     }
-    file.write().map_err(|_| Mistake::Object)
+    match file.write() {
+        Ok(bytes) => Ok(bytes),
+        Err(_fault) => Err(Mistake::Object),
+    }
 }
 
 /// The kind of the section `.debug_NAME.dwo`, or of the index `.debug_NAME`.

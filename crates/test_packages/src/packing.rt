@@ -6,18 +6,18 @@ use std::alloc::Global;
 use thorin::{Bump, BytesSession, Error, Input, Packed, pack, pack_groups};
 
 /// What packing these inputs gives.
-pub fn packed(alloc: Global, inputs: &[&[u8]]) -> Result<Packed, Error> {
+pub fn packed(alloc: Global, inputs: &[Vec<u8>]) -> Result<Packed, Error> {
     let arena = Bump::new(alloc);
     let session = BytesSession::new(&arena);
     let mut list = Vec::new(alloc);
-    for bytes in inputs {
-        list.push(Input::Bytes(bytes))?;
+    for input in inputs {
+        list.push(Input::Bytes(input.as_slice()))?;
     }
     pack(alloc, &session, &list)
 }
 
 /// What packing these groups gives.
-pub fn grouped<'s>(
+fn grouped<'s>(
     alloc: Global,
     session: &'s BytesSession<'s>,
     groups: &[&[&'s [u8]]],
@@ -48,7 +48,9 @@ pub fn pack_named(alloc: Global, table: &mut Table, words: &[&str]) -> Result<St
 
 /// What packing one input answers of it.
 pub fn answer(alloc: Global, input: &[u8]) -> Result<(), Error> {
-    let mut packed = packed(alloc, &[input])?;
+    let arena = Bump::new(alloc);
+    let session = BytesSession::new(&arena);
+    let mut packed = pack(alloc, &session, &[Input::Bytes(input)])?;
     packed.outcomes.pop().unwrap_or(Err(Error::Memory))
 }
 
@@ -107,23 +109,18 @@ pub fn pack_grouped(alloc: Global, table: &mut Table, words: &[&str]) -> Result<
     Ok(text)
 }
 
-/// The bytes of each of these.
-pub fn slices(alloc: Global, inputs: &[Vec<u8>]) -> Result<Vec<&[u8]>, Mistake> {
-    let mut slices = Vec::new(alloc);
-    for input in inputs {
-        slices.push(input.as_slice())?;
-    }
-    Ok(slices)
-}
-
 /// What packing these groups of inputs gives.
-fn grouped_inputs(
+pub fn grouped_inputs(
     alloc: Global,
     groups: &[Vec<Vec<u8>>],
 ) -> Result<Result<Vec<u8>, Error>, Mistake> {
     let mut inputs: Vec<Vec<&[u8]>> = Vec::new(alloc);
     for group in groups {
-        inputs.push(slices(alloc, group)?)?;
+        let mut slices: Vec<&[u8]> = Vec::new(alloc);
+        for input in group {
+            slices.push(input.as_slice())?;
+        }
+        inputs.push(slices)?;
     }
     let mut slices: Vec<&[&[u8]]> = Vec::new(alloc);
     for group in &inputs {

@@ -1,6 +1,6 @@
 //! What the reader of packages says of a file.
 
-use crate::mistake::{Mistake, identifier, number};
+use crate::mistake::{Mistake, number};
 use crate::table::{Table, tell_bytes};
 use std::alloc::Global;
 use thorin::{
@@ -9,7 +9,7 @@ use thorin::{
 
 /// The name that `cu` or `tu` and an identifier write.
 fn named(kind: &str, id: &str) -> Result<DwarfObject, Mistake> {
-    let id = identifier(id)?;
+    let id = number(id)? as u64;
     match kind {
         "cu" => Ok(DwarfObject::Compilation(DwoId(id))),
         "tu" => Ok(DwarfObject::TypeUnit(DebugTypeSignature(id))),
@@ -20,8 +20,8 @@ fn named(kind: &str, id: &str) -> Result<DwarfObject, Mistake> {
 /// Adds a unit's name to a text.
 pub fn tell_name(text: &mut String, unit: DwarfObject) -> Result<(), Mistake> {
     match unit {
-        DwarfObject::Compilation(id) => write!(text, " cu {:x}", id.0)?,
-        DwarfObject::TypeUnit(signature) => write!(text, " tu {:x}", signature.0)?,
+        DwarfObject::Compilation(id) => write!(text, " cu {}", id.0)?,
+        DwarfObject::TypeUnit(signature) => write!(text, " tu {}", signature.0)?,
     }
     Ok(())
 }
@@ -34,10 +34,15 @@ pub fn found<'a>(
     PackageFile::parse(file)?.find_counted(name)
 }
 
-/// `unit FILE KIND ID`: all that the file says of a unit, or that it is absent, or the fault.
+/// `unit FILE KIND ID [FIRST]`: all that the file says of a unit, with its strings from a number
+/// on, or that it is absent, or the fault.
 pub fn unit(alloc: Global, table: &Table, words: &[&str]) -> Result<String, Mistake> {
-    let [file, kind, id] = words else {
+    let [file, kind, id, rest @ ..] = words else {
         return Err(Mistake::Words);
+    };
+    let first = match rest {
+        [first, ..] => number(first)? as u64,
+        [] => 0,
     };
     let mut text = String::new(alloc);
     match found(table.get(file)?, named(kind, id)?) {
@@ -46,18 +51,15 @@ pub fn unit(alloc: Global, table: &Table, words: &[&str]) -> Result<String, Mist
             let (unit, slots) = answer;
             match unit {
                 None => writeln!(text, "absent, slots {slots}")?,
-                Some(unit) => tell_unit(&mut text, &unit, slots)?,
+                Some(unit) => {
+                    tell_head(&mut text, &unit, slots)?;
+                    tell_ranges(&mut text, &unit)?;
+                    tell_strings(&mut text, &unit, first)?;
+                }
             }
         }
     }
     Ok(text)
-}
-
-/// All that is said of a unit.
-fn tell_unit(text: &mut String, unit: &PackagedUnit<'_>, slots: u32) -> Result<(), Mistake> {
-    tell_head(text, unit, slots)?;
-    tell_ranges(text, unit)?;
-    tell_strings(text, unit)
 }
 
 fn tell_head(text: &mut String, unit: &PackagedUnit<'_>, slots: u32) -> Result<(), Mistake> {
@@ -76,22 +78,31 @@ fn tell_head(text: &mut String, unit: &PackagedUnit<'_>, slots: u32) -> Result<(
     Ok(())
 }
 
-/// Each contribution: its place, its size and its bytes.
+/// Each contribution: its place, its size and its bytes, of many bytes the first 64.
 fn tell_ranges(text: &mut String, unit: &PackagedUnit<'_>) -> Result<(), Mistake> {
     for kind in SectionKind::ALL {
         if let Some(range) = unit.range(kind) {
             write!(text, "{kind:?} {:#x} {:#x} ", range.offset.0, range.size)?;
-            tell_bytes(text, unit.section(kind))?;
-            writeln!(text)?;
+            let bytes = unit.section(kind);
+            match bytes.get(..64) {
+                Some(front) => {
+                    tell_bytes(text, front)?;
+                    writeln!(text, "..")?;
+                }
+                None => {
+                    tell_bytes(text, bytes)?;
+                    writeln!(text)?;
+                }
+            }
         }
     }
     Ok(())
 }
 
-/// The first strings, up to the one that isn't there.
-fn tell_strings(text: &mut String, unit: &PackagedUnit<'_>) -> Result<(), Mistake> {
+/// Strings from a number on, up to the one that isn't there, or eight.
+fn tell_strings(text: &mut String, unit: &PackagedUnit<'_>, first: u64) -> Result<(), Mistake> {
     write!(text, "strings")?;
-    for i in 0..8 {
+    for i in first..first.saturating_add(8) {
         match unit.string(i) {
             Ok(Some(string)) => write!(text, " \"{}\"", string.escape_ascii())?,
             Ok(None) => {
@@ -103,21 +114,6 @@ fn tell_strings(text: &mut String, unit: &PackagedUnit<'_>) -> Result<(), Mistak
     }
     writeln!(text, " ..")?;
     Ok(())
-}
-
-/// `string FILE KIND ID NUMBER`: one string of a unit.
-pub fn string(alloc: Global, table: &Table, words: &[&str]) -> Result<String, Mistake> {
-    let [file, kind, id, place] = words else {
-        return Err(Mistake::Words);
-    };
-    let Ok((Some(unit), _)) = found(table.get(file)?, named(kind, id)?) else {
-        return Err(Mistake::Place);
-    };
-    match unit.string(number(place)? as u64) {
-        Ok(Some(string)) => Ok(format!(in alloc; "\"{}\"\n", string.escape_ascii())?),
-        Ok(None) => Ok(String::from_str(alloc, "none\n")?),
-        Err(fault) => Ok(format!(in alloc; "{fault:?}\n")?),
-    }
 }
 
 /// `units FILE`: the units that the slots of both indexes name.

@@ -63,11 +63,11 @@ impl Table {
         Err(Mistake::Name)
     }
 
-    /// What each of these words has.
-    pub fn all(&self, words: &[&str]) -> Result<Vec<&[u8]>, Mistake> {
+    /// Copies of what each of these words has.
+    pub fn all(&self, words: &[&str]) -> Result<Vec<Vec<u8>>, Mistake> {
         let mut all = Vec::new(self.alloc);
         for word in words {
-            all.push(self.get(word)?)?;
+            all.push(self.get(word)?.to_vec(self.alloc)?)?;
         }
         Ok(all)
     }
