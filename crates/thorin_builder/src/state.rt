@@ -5,6 +5,8 @@ ghost use Rattle.std.specs.Prelude.{IfErr, OnOk, OnErr};
 ghost use Rattle.std.specs.Map.{lookup};
 ghost use Rattle.dwp_index.specs.Package.{part_of};
 ghost use Rattle.thorin_faults.specs.Answers.{Gives};
+ghost use Rattle.thorin_parts.specs.EntryTests.{index_tests};
+ghost use Rattle.thorin_parts.specs.IndexText.{IsIndexOf};
 ghost use Rattle.thorin_strings.specs.Marks.{mark_of};
 ghost use Rattle.thorin_join.specs.Builder.{IsFinished, indexes_test, IdentifiersFit, rows_of};
 ghost use Rattle.thorin_input.specs.Encodings.{are_alike};
@@ -278,6 +280,21 @@ impl InProgressDwarfPackage {
     }
 }
 
+/// The index of the compilation units, or that of the type units. Refuses as `write_index` does.
+fn index_of(
+    alloc: Global,
+    order: Endianness,
+    rows: &[IndexEntry],
+    compilations: bool,
+) -> Result<Vec<u8>, Error>
+    ensures refusal { Gives (λ _. tt) result (index_tests (rows_of compilations rows.now)) }
+    ensures written { IfOk result (λ bytes.
+        IsIndexOf order (rows_of compilations rows.now) bytes.items) }
+{
+    let chosen = rows_of(alloc, rows, compilations)?;
+    write_index(alloc, order, &chosen)
+}
+
 /// The sections with the strings and both indexes, each where it isn't empty. Refuses as
 /// `write_index` does.
 #[tactic(auto, unfolding(thorin_join::specs::Builder::indexes_test))]
@@ -298,8 +315,8 @@ fn finished(
 {
     let mut object = object;
     let order = object.endianness();
-    let compilations = write_index(alloc, order, &rows_of(alloc, rows, true)?)?;
-    let types = write_index(alloc, order, &rows_of(alloc, rows, false)?)?;
+    let compilations = index_of(alloc, order, rows, true)?;
+    let types = index_of(alloc, order, rows, false)?;
     put_moved(&mut object, SectionKind::Str, strings.finish())?;
     put_moved(&mut object, SectionKind::CuIndex, compilations)?;
     put_moved(&mut object, SectionKind::TuIndex, types)?;
