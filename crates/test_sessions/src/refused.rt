@@ -27,10 +27,7 @@ const TU: DwarfObject = DwarfObject::TypeUnit(DebugTypeSignature(0x11));
 fn sure(alloc: Global, kind: Kind, id: u8) -> Vec<u8> {
     match object_of(alloc, kind, id) {
         Ok(file) => file,
-        Err(_) => match object_of(alloc, kind, id) {
-            Ok(file) => file,
-            Err(_) => Vec::new(alloc),
-        },
+        Err(_) => object_of(alloc, kind, id).unwrap_or(Vec::new(alloc)),
     }
 }
 
@@ -78,7 +75,7 @@ fn differing_count<'o, 's: 'o, 'm>(
 ) -> usize {
     let differing = builder.differing_types();
     for signature in differing {
-        holds(rt, signature.0 == 0x11);
+        same(rt, signature.0, 0x11);
     }
     differing.len()
 }
@@ -236,14 +233,14 @@ fn a_refused_allocation_leaves_the_differing_types(rt: HostRuntime) {
 // The executable that names the object of the unit 5, and that object.
 fn named_files(alloc: Global) -> Result<Files, AllocError> {
     let mut files = BTreeMap::new(alloc);
-    put_named(alloc, &mut files)?;
+    put_file(
+        alloc,
+        &mut files,
+        "/e",
+        executable(alloc, Naming::Whole(5))?,
+    )?;
+    put_object(alloc, &mut files, "/b/a.dwo", 5)?;
     Ok(files)
-}
-
-fn put_named(alloc: Global, files: &mut Files) -> Result<(), AllocError> {
-    let executable = executable(alloc, Naming::Whole(5))?;
-    put_file(alloc, files, "/e", executable)?;
-    put_object(alloc, files, "/b/a.dwo", 5)
 }
 
 fn sure_files(alloc: Global) -> Files {
@@ -274,20 +271,15 @@ fn added_once<'s, 'm>(
     second: &[u8],
 ) -> Option<(Vec<u8>, bool)> {
     let mut builder = DwarfPackage::new(alloc, session);
-    let has_first = is_added(rt, add(&mut builder, first));
-    let has_second = is_added(rt, add(&mut builder, second));
-    match file_of(rt, finished(builder)) {
-        Some(file) if has_first => Some((file, !has_second)),
+    let one = add(&mut builder, first);
+    let two = add(&mut builder, second);
+    let file = file_of(rt, finished(builder));
+    holds(rt, one == "Ok" || one == "Memory");
+    holds(rt, two == "Ok" || two == "Memory");
+    match file {
+        Some(file) if one == "Ok" => Some((file, two != "Ok")),
         _ => None,
     }
-}
-
-// Whether an object was added, that is else refused for want of memory.
-fn is_added(rt: &impl Abort, name: &str) -> bool {
-    if name != "Ok" {
-        same(rt, name, "Memory");
-    }
-    name == "Ok"
 }
 
 fn added_once_surely(
@@ -329,8 +321,7 @@ fn tells(rt: &impl Abort, packed: &Packed, sizes: [usize; 2]) {
         }
     }
     match &packed.file {
-        Ok(file) if refused < 2 => same(rt, file.len(), sizes[refused]),
-        Ok(_) => holds(rt, false),
+        Ok(file) => same(rt, Some(&file.len()), sizes.get(refused)),
         Err(fault) => {
             same(rt, refused, 0);
             holds(rt, matches!(fault, Error::Memory));

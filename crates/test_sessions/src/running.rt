@@ -47,10 +47,12 @@ fn files_of(alloc: Global, naming: Naming, objects: Objects) -> Result<Files, Al
 }
 
 fn put_four(alloc: Global, files: &mut Files) -> Result<(), AllocError> {
-    put_object(alloc, files, "/b/a.dwo", 1)?;
-    put_object(alloc, files, "/b/b.dwo", 2)?;
-    put_object(alloc, files, "/b/c.dwo", 3)?;
-    put_object(alloc, files, "/b/d.dwo", 4)
+    let mut id = 0u8;
+    for path in &["/b/a.dwo", "/b/b.dwo", "/b/c.dwo", "/b/d.dwo"] {
+        id = id.saturating_add(1);
+        put_object(alloc, files, path, id)?;
+    }
+    Ok(())
 }
 
 /// What inputs give where the session refuses a call: what is answered of each, after how many
@@ -161,15 +163,10 @@ fn is_packed_so<'s>(
 
 fn is_so(alloc: Global, packed: Packed, ran: &Ran) -> Result<bool, AllocError> {
     let mut text = String::new(alloc);
-    push_names(&mut text, &packed.outcomes)?;
-    Ok(text.as_str() == ran.answers.as_str() && packed.file.ok() == ran.file)
-}
-
-fn push_names(text: &mut String, outcomes: &[Result<(), Error>]) -> Result<(), AllocError> {
-    for outcome in outcomes {
-        push(text, name_of(outcome), " ")?;
+    for outcome in &packed.outcomes {
+        push(&mut text, name_of(outcome), " ")?;
     }
-    Ok(())
+    Ok(text.as_str() == ran.answers.as_str() && packed.file.ok() == ran.file)
 }
 
 fn text_of(
@@ -198,14 +195,9 @@ fn text_of(
 /// Writes the numbers of units behind a text.
 fn push_units(alloc: Global, text: &mut String, units: &[DwarfObject]) -> Result<(), AllocError> {
     for unit in units {
-        push_number(alloc, text, unit.index())?;
+        text.push_str(format!(in alloc; " {}", unit.index())?.as_str())?;
     }
     Ok(())
-}
-
-fn push_number(alloc: Global, text: &mut String, number: u64) -> Result<(), AllocError> {
-    let number = format!(in alloc; " {number}")?;
-    text.push_str(number.as_str())
 }
 
 /// Writes the size of the file of these units, or why there is none.
@@ -231,8 +223,5 @@ pub fn is_made_of(alloc: Global, file: &[u8], units: &[DwarfObject]) -> Result<b
     for object in &objects {
         parts.push(object.as_slice())?;
     }
-    match whole(alloc, &parts) {
-        Some(whole) => Ok(whole.as_slice() == file),
-        None => Ok(false),
-    }
+    Ok(whole(alloc, &parts).is_some_and(|whole| whole.as_slice() == file))
 }
