@@ -14,9 +14,15 @@ pub fn object(alloc: Global, table: &mut Table, words: &[&str]) -> Result<(), Mi
     let Ok(machine) = u16::try_from(number(machine)?) else {
         return Err(Mistake::Number);
     };
-    let file = WritableObject::new(alloc, class_of(class)?, machine, order_of(order)?);
-    let bytes = written(alloc, table, file, sections)?;
-    table.keep(name, bytes)
+    let (class, order) = (class_of(class)?, order_of(order)?);
+    let mut file = WritableObject::new(alloc, class, machine, order);
+    let told = append_each(alloc, table, &mut file, sections);
+    let bytes = file.write();
+    told?;
+    match bytes {
+        Ok(bytes) => table.keep(name, bytes),
+        Err(_fault) => Err(Mistake::Object),
+    }
 }
 
 fn class_of(word: &str) -> Result<Class, Mistake> {
@@ -35,13 +41,13 @@ fn order_of(word: &str) -> Result<Endianness, Mistake> {
     }
 }
 
-/// The file with these sections.
-fn written(
+/// Appends these sections to a file.
+fn append_each(
     alloc: Global,
     table: &Table,
-    mut file: WritableObject,
+    file: &mut WritableObject,
     sections: &[&str],
-) -> Result<Vec<u8>, Mistake> {
+) -> Result<(), Mistake> {
     for section in sections {
         let Some((kind, word)) = section.split_once('=') else {
             return Err(Mistake::Words);
@@ -51,10 +57,7 @@ fn written(
             return Err(Mistake::Object);
         }
     }
-    match file.write() {
-        Ok(bytes) => Ok(bytes),
-        Err(_fault) => Err(Mistake::Object),
-    }
+    Ok(())
 }
 
 /// The kind of the section `.debug_NAME.dwo`, or of the index `.debug_NAME`.
