@@ -14,12 +14,35 @@ COSTS = os.path.join(os.path.dirname(os.path.realpath(__file__)), "costs")
 FIXED_WORK, REFERENCE_SECONDS = "s = 0\nfor i in range(10**7): s += i", 1.9
 
 
+CODE = f"import time\nt = time.process_time()\n{FIXED_WORK}\nprint(time.process_time() - t)"
+
+
+def fixed_work(number):
+    """The processor seconds that so many runs of the fixed work side by side take, each."""
+    every = [subprocess.Popen([sys.executable, "-c", CODE], stdout=subprocess.PIPE, text=True) for _ in range(number)]
+    return [float(it.communicate()[0]) for it in every]
+
+
 def speed():
-    """How many times as long as on the reference machine the cores take for a fixed piece of work, when all are at it."""
-    code = f"import time\nt = time.process_time()\n{FIXED_WORK}\nprint(time.process_time() - t)"
-    every = [subprocess.Popen([sys.executable, "-c", code], stdout=subprocess.PIPE, text=True) for _ in os.sched_getaffinity(0)]
-    seconds = sorted(float(it.communicate()[0]) for it in every)
+    """How many times as long as on the reference machine the cores take for the fixed work, when all are at it."""
+    seconds = sorted(fixed_work(len(os.sched_getaffinity(0))))
     return seconds[len(seconds) // 2] / REFERENCE_SECONDS
+
+
+class Gauge(threading.Thread):
+    """How fast the cores are while a run goes on: the fixed work once a minute, since they may be shared and differ by the hour."""
+
+    def __init__(self):
+        super().__init__(daemon=True)
+        self.seconds, self.ended = fixed_work(len(os.sched_getaffinity(0))), threading.Event()
+
+    def run(self):
+        while not self.ended.wait(60):
+            self.seconds += fixed_work(1)
+
+    def speed(self):
+        """How many times as long as on the reference machine the work took, in the mean."""
+        return sum(self.seconds) / len(self.seconds) / REFERENCE_SECONDS
 
 
 def costs():
