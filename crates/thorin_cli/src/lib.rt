@@ -36,13 +36,13 @@ pub fn refuse_words<E: Write>(err: &mut E) -> u8 {
 
 /// The program: what it uses of the system, and where it prints.
 #[derive(Drop)]
-struct Program<'r, O, E> {
+struct Program<'r, 'o, 'e, O, E> {
     rt: &'r HostRuntime,
-    out: &'r mut O,
-    err: &'r mut E,
+    out: &'o mut O,
+    err: &'e mut E,
 }
 
-impl<O: Write, E: Write> Program<'_, O, E> {
+impl<O: Write, E: Write> Program<'_, '_, '_, O, E> {
     /// The status of a command that answered one, or was refused: that is printed.
     fn status(&mut self, answer: Result<u8, Failure>) -> u8 {
         match answer {
@@ -52,7 +52,7 @@ impl<O: Write, E: Write> Program<'_, O, E> {
     }
 }
 
-impl<O: Write, E: Write> Commands for Program<'_, O, E> {
+impl<O: Write, E: Write> Commands for Program<'_, '_, '_, O, E> {
     fn pack(&mut self, arguments: PackArguments<'_, '_>) -> u8 {
         let answer = pack(self.rt, &packing_of(arguments), self.err);
         self.status(answer)
