@@ -173,17 +173,20 @@ class Meter(threading.Thread):
         return total
 
 
-def prove(copy, say, on_proved=lambda name: None, shown=lambda line: False):
-    """Runs `rt ci` in the copy; its status, its last line, and the seconds of one core by crate and part."""
+def prove(copy, say, on_proved=lambda name: None, shown=lambda line: False, anew=False):
+    """Runs `rt ci` in the copy, over what earlier runs on this machine proved or anew; its status, its last line, and the seconds of one core by crate and part."""
     listed, start = crates_listed(copy.at), time.time()
     left, known = set(listed), costs()
-    ran = subprocess.Popen(["rt", "ci"], cwd=copy.at, stdin=subprocess.DEVNULL, stdout=subprocess.PIPE, stderr=subprocess.STDOUT, text=True, errors="replace")
+    words = ["rt", "ci", *["--anew"] * anew]
+    ran = subprocess.Popen(words, cwd=copy.at, stdin=subprocess.DEVNULL, stdout=subprocess.PIPE, stderr=subprocess.STDOUT, text=True, errors="replace")
     meter = Meter(ran.pid)
     meter.start()
-    last, log = "", []
+    last, log, about = "", [], 0
     for line in ran.stdout:
         line = line.rstrip("\n")
         log.append(line)
+        # (what is said of a crate begins with such a line, and ends with whether it is proved)
+        about = len(log) if line.startswith("== ") else about
         last = line if re.match(r"\d+ passed, \d+ failed$", line) else last
         done = re.match(r"rt: (\S+) (proved|NOT PROVED|is kept)", line)
         tests = re.match(r"rt: (\S+): its tests are (proved|NOT PROVED)", line)
@@ -194,6 +197,8 @@ def prove(copy, say, on_proved=lambda name: None, shown=lambda line: False):
             say(f"{minutes:5.1f} min: {done[1]} {state}; {len(left)} crates left, about {rest:.0f} minutes of one core of the reference machine")
             if done[2] != "NOT PROVED":
                 on_proved(done[1])
+            else:
+                say("\n".join(it for it in log[about:] if not it.endswith(": proved") and not it.startswith("statements ")))
         elif tests:
             say(f"{(time.time() - start) / 60:5.1f} min: {tests[1]}: its tests {tests[2]}")
         elif shown(line):
