@@ -1,4 +1,4 @@
-//! The examples of docs/LIBRARY.md, run: packs the sample, and prints the first strings of its unit.
+//! The examples of docs/LIBRARY.md, run: packs the sample and prints the first strings of its unit.
 #![tactic(auto)]
 
 mod find_string;
