@@ -173,12 +173,20 @@ class Meter(threading.Thread):
         return total
 
 
+def lanes():
+    """How many crates are proved at once, each by one job: several jobs load the same things. A check holds up to 3 GB."""
+    with open("/proc/meminfo", encoding="utf-8") as it:
+        free = 1024 * int(re.search(r"MemAvailable:\s+(\d+)", it.read())[1])
+    return max(1, min(len(os.sched_getaffinity(0)), free // 3_000_000_000))
+
+
 def prove(copy, say, on_proved=lambda name: None, shown=lambda line: False, anew=False):
     """Runs `rt ci` in the copy, over what earlier runs on this machine proved or anew; its status, its last line, and the seconds of one core by crate and part."""
     listed, start = crates_listed(copy.at), time.time()
     left, known = set(listed), costs()
     words = ["rt", "ci", *["--anew"] * anew]
-    ran = subprocess.Popen(words, cwd=copy.at, stdin=subprocess.DEVNULL, stdout=subprocess.PIPE, stderr=subprocess.STDOUT, text=True, errors="replace")
+    asked = {**os.environ, "RT_JOBS": os.environ.get("RT_JOBS") or str(lanes())}
+    ran = subprocess.Popen(words, cwd=copy.at, env=asked, stdin=subprocess.DEVNULL, stdout=subprocess.PIPE, stderr=subprocess.STDOUT, text=True, errors="replace")
     meter = Meter(ran.pid)
     meter.start()
     last, log, about = "", [], 0

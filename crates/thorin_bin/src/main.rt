@@ -5,18 +5,19 @@ use std::process::ExitCode;
 use std::{env, io};
 
 /// Hands the words and the standard streams to `thorin_cli::run`, and ends with its status.
-fn main(rt: HostRuntime) -> io::Result<ExitCode> {
-    let alloc = rt.alloc();
+fn main(rt: HostRuntime) -> ExitCode {
     let mut out = rt.stdout();
     let mut err = rt.stderr();
-    let words = match env::args(&rt) {
-        Ok(words) => words,
-        Err(e) if e.kind() == io::ErrorKind::InvalidData => {
-            return Ok(ExitCode::from(thorin_cli::refuse_words(&mut err)));
-        }
-        Err(e) => return Err(e),
+    let status = match words_of(&rt) {
+        Ok(words) => thorin_cli::run(&rt, words.as_slice(), &mut out, &mut err),
+        Err(cause) => thorin_cli::refuse_words(&mut err, &cause),
     };
-    let words: Vec<String> = words.collect(alloc)?;
-    let status = thorin_cli::run(&rt, words.as_slice(), &mut out, &mut err);
-    Ok(ExitCode::from(status))
+    ExitCode::from(status)
+}
+
+/// The words of the command line, the program's name among them.
+fn words_of(rt: &HostRuntime) -> io::Result<Vec<String>> {
+    let words = env::args(rt)?;
+    let words: Vec<String> = words.collect(rt.alloc())?;
+    Ok(words)
 }

@@ -3,7 +3,7 @@
 
 use std::convert::AsStr;
 use std::fmt;
-use std::io::Write;
+use std::io::{self, Write};
 use thorin_arguments::{Commands, PackArguments};
 pub use thorin_commands::Failure;
 use thorin_commands::{Packing, check, expanded, find, list, pack, report, show};
@@ -29,9 +29,13 @@ pub fn run<S: AsStr, O: Write, E: Write>(
     }
 }
 
-/// What the program answers where a word of its command line isn't UTF-8.
-pub fn refuse_words<E: Write>(err: &mut E) -> u8 {
-    report(err, &Failure::BadCommand)
+/// What the program answers where its command line can't be taken: a word isn't UTF-8, or memory
+/// ran out.
+pub fn refuse_words<E: Write>(err: &mut E, cause: &io::Error) -> u8 {
+    match cause.kind() {
+        io::ErrorKind::OutOfMemory => report(err, &Failure::Memory),
+        _ => report(err, &Failure::BadCommand),
+    }
 }
 
 /// The program: what it uses of the system, and where it prints.
@@ -86,7 +90,7 @@ impl<O: Write, E: Write> Commands for Program<'_, '_, '_, O, E> {
     }
 
     fn refuse_words(&mut self) -> u8 {
-        refuse_words(self.err)
+        report(self.err, &Failure::BadCommand)
     }
 
     fn lack_memory(&mut self) -> u8 {
