@@ -1,5 +1,6 @@
 -- What is remembered of strings that were read.
-use Rattle.std.proofs.Common.{◌≡◌, ℕ, ◌<◌, ◌≤◌, true, ltb, List, ◌++◌, length, take, drop, codes}
+use Rattle.std.proofs.Common.{◌≡◌, ℕ, ◌+◌, ◌<◌, ◌≤◌, Bool, true, false, cond, ltb, List, [], ◌∷◌}
+use Rattle.std.proofs.Common.{◌++◌, length, take, drop, codes, arith}
 use Rattle.std.proofs.Common.{Result, Ok, Err, ap, ap₂, sym, subst, refl, ◌∙◌}
 use Rattle.std.proofs.lemmas.List.{take-append-drop}
 use Rattle.std.proofs.lemmas.List.Elements.{All-weaker}
@@ -8,13 +9,15 @@ use Rattle.dwp_base.specs.declared.endian.Endianness.{Endianness}
 use Rattle.dwp_base.specs.Reading.{◌>>=◌}
 use Rattle.dwp_bytes.specs.declared.encoding.Encoding.{Encoding}
 use Rattle.thorin_faults.specs.Fault.{Fault, NumberTooLarge}
-use Rattle.thorin_strings.specs.Strings.{offset_of, with_string}
+use Rattle.std.specs.Str.{bytes_eq}
+use Rattle.thorin_strings.specs.Strings.{data_of, offset_of, with_string}
 use Rattle.thorin_strings.specs.StringOffsets.{offset_limit, entry_at, string_read, named_at}
 use Rattle.thorin_strings.specs.StringOffsets.{fitting_offset, remapped_entry}
 use Rattle.thorin_strings.specs.Known.{offset_read, IsKnown, AreKnown}
 use Rattle.thorin_strings.proofs.Named.{has, has_more, offset_kept, there_once_used, there_if_same}
 use Rattle.thorin_strings.proofs.NamedEntries.{bind_ok}
 use Rattle.thorin_strings.proofs.GrownLemmas.{entry_used}
+use Rattle.thorin_strings.proofs.OffsetLemmas.{length-data_of-cons}
 
 -- a string that was read and used
 pub record WasRead (section : List ℕ) (at place : ℕ) (old new : List (List ℕ)) : Type 0 where
@@ -127,3 +130,14 @@ pub entry_none : (order : Endianness) (encoding : Encoding) (section bytes : Lis
     → remapped_entry order encoding section bytes index old ≡ Err fault
 unfolding named_at remapped_entry
 entry_none order encoding section bytes index old fault entry = rw entry refl
+
+-- no string has its offset past the section's end
+pub offset_within : (strings : List (List ℕ)) (string : List ℕ) → offset_of strings string ≤ length
+    (data_of strings)
+offset_within [] string = omega arith
+offset_within (t ∷ strings) string = by (bytes_eq t string) (offset_within strings string)
+  where
+    by : (b : Bool) → offset_of strings string ≤ length (data_of strings) → cond b 0 (length t + 1 +
+        offset_of strings string) ≤ length (data_of (t ∷ strings))
+    by true rest = omega arith
+    by false rest = omega (arith, length-data_of-cons t strings, rest)

@@ -1,5 +1,5 @@
 -- Strings that are found by their hashes.
-use Rattle.std.specs.Prelude.{◌≡◌, ◌≢◌, ℕ, List, Option, None, Some, AllPairs, Contains}
+use Rattle.std.specs.Prelude.{◌≡◌, ◌≢◌, ℕ, List, Some, AllPairs, Contains}
 use Rattle.thorin_strings.specs.declared.places.Slot.{Slot}
 use Rattle.thorin_strings.specs.Places.{hash, place_of}
 use Rattle.thorin_strings.specs.Strings.{data_of, offset_of, with_string, strings_in, offsets_from}
@@ -13,7 +13,6 @@ pub record IsHashed (bytes begins : List ℕ) (slots : List Slot) (mask : ℕ) :
   pub placed : (s : List ℕ) → Contains (strings_in bytes) s
       → place_of slots mask (hash s) ≡ Some (offset_of (strings_in bytes) s)
 
--- a string was used and has this offset; or it can't be told by its hash, and nothing changed
-abbrev pub IsPlaced : List (List ℕ) → List (List ℕ) → List ℕ → Option ℕ → Type 0
-IsPlaced old new s None = new ≡ old
-IsPlaced old new s (Some place) = (place ≡ offset_of old s) × (new ≡ with_string old s)
+-- a string was used and has this offset
+abbrev pub IsPlaced : List (List ℕ) → List (List ℕ) → List ℕ → ℕ → Type 0
+IsPlaced old new s place = (place ≡ offset_of old s) × (new ≡ with_string old s)

@@ -31,7 +31,7 @@ fn mixed(state: u64, word: u64) -> u64 {
     (state.rotate_left(23) ^ word).wrapping_mul(FACTOR)
 }
 
-/// A hash of a string, made of eight bytes at a time. `thorin_lower_tests/src/strings.rt` chooses
+/// A hash of a string, made of eight bytes at a time. `test_lower/src/strings.rt` chooses
 /// strings by it.
 pub(crate) fn hash_of(string: &[u8]) -> u32 {
     let little = Endianness::Little;

@@ -1,7 +1,7 @@
 //! Strings that are found by their hashes.
 
 ghost use Rattle.std.specs.Prelude.{◌≡◌, ◌↔◌, ◌+◌, ◌<◌, ◌^◌, ℕ, List, [], length, take};
-ghost use Rattle.std.specs.Prelude.{OnOk, IfOk, IfErr, IsSome, IfSome, IsNone, Contains};
+ghost use Rattle.std.specs.Prelude.{OnOk, OnErr, IfOk, IsSome, IfSome, IsNone, Contains};
 ghost use Rattle.thorin_strings.specs.Strings.{data_of, offset_of, with_string, IsZeroFree};
 ghost use Rattle.thorin_strings.specs.Strings.{IsTable, IsWithinDigits};
 ghost use Rattle.thorin_strings.specs.Marks.{mark_of};
@@ -12,10 +12,9 @@ use crate::search::stands_at;
 use crate::sorted::{SortedStrings, positions_of};
 use crate::table::{PackageStringOffset, TableMark};
 use memchr::memchr;
-use std::alloc::Global;
+use std::alloc::{AllocError, Global};
 use std::marker::Model;
 use std::mem::replace;
-use thorin_faults::Error;
 
 /// Distinct strings, in order of first use, each of which is found by its hash: that has the
 /// string's place. So no two have one hash, and one string at most is compared with another.
@@ -29,6 +28,21 @@ pub(crate) struct HashedStrings {
     begins: Vec<u64>,
     places: Places,
     next: usize,
+}
+
+/// Why a string has no place by its hash.
+#[derive(Clone, Copy)]
+pub(crate) enum Unplaced {
+    /// Another string has its hash, or its hash has no place among few.
+    Clash,
+    /// Memory ran out.
+    Memory,
+}
+
+impl From<AllocError> for Unplaced {
+    fn from(_e: AllocError) -> Unplaced {
+        Unplaced::Memory
+    }
 }
 
 impl Model for HashedStrings {
@@ -95,40 +109,39 @@ impl HashedStrings {
         }
     }
 
-    /// The offset of a string, which goes last where it is new. None where a new one can't be told
-    /// by its hash; then nothing changed.
+    /// The offset of a string, which goes last where it is new.
     ///
     /// # Errors
-    /// `Memory` alone, and then nothing changed.
-    pub fn place(&mut self, string: &[u8]) -> Result<Option<usize>, Error>
+    /// Why it has no place. Nothing changed then.
+    pub fn place(&mut self, string: &[u8]) -> Result<usize, Unplaced>
         requires { IsZeroFree string.now }
         ensures placed { IfOk result (λ offset. IsPlaced self.old self.new string.now offset) }
         ensures kept { take (length self.old) self.new ≡ self.old }
-        ensures err { IfErr result (λ e. (e ≡ Error.Memory) × (self.new ≡ self.old)) }
+        ensures err { OnErr result (self.new ≡ self.old) }
     {
         if stands_at(&self.bytes, self.next, string) {
             let place = self.next;
             self.next = place.saturating_add(string.len() + 1);
-            return Ok(Some(place));
+            return Ok(place);
         }
         let hash = hash(string);
         if let Some(place) = self.places.find(hash) {
             if stands_at(&self.bytes, place, string) {
                 self.next = place.saturating_add(string.len() + 1);
-                return Ok(Some(place));
+                return Ok(place);
             }
-            return Ok(None);
+            return Err(Unplaced::Clash);
         }
         let place = self.bytes.len();
         self.bytes.reserve(string.len() + 1)?;
         self.begins.reserve(1)?;
         if !self.places.enter(hash, place) {
-            return Ok(None);
+            return Err(Unplaced::Clash);
         }
         self.begins.push(place as u64).unwrap();
         self.bytes.extend_from_slice(string).unwrap();
         self.bytes.push(0).unwrap();
-        Ok(Some(place))
+        Ok(place)
     }
 
     /// The same strings, found by their order; none are left here then. None for want of memory,

@@ -292,17 +292,67 @@ impl PackageStringTable {
         let mut out = header(alloc, endian, encoding, count * entry_size)?;
         out.reserve(debug_str_offsets.len())?;
         for index in 0..count {
-            let offset = self.remapped_entry(
+            // (nearly every entry is told here, without room for an error)
+            let known = self.entry_by_hash(
                 repeats,
                 debug_str,
                 debug_str_offsets,
                 endian,
                 encoding,
                 index,
-            )?;
+            );
+            let offset = match known {
+                Some(offset) => offset,
+                None => self.remapped_entry(
+                    repeats,
+                    debug_str,
+                    debug_str_offsets,
+                    endian,
+                    encoding,
+                    index,
+                )?,
+            };
             push_offset(&mut out, endian, encoding.format, offset)?;
         }
         Ok(out)
+    }
+
+    /// The offset of the string that an entry names, where that is remembered or its hash tells it.
+    /// None else, where it can't be read and for want of memory; the table is then as it was.
+    #[tactic(auto, using(crate::proofs::KnownLemmas::entry_read, crate::proofs::KnownLemmas::read_used, crate::proofs::KnownLemmas::offset_within))]
+    fn entry_by_hash(
+        &mut self,
+        repeats: &mut Repeats,
+        debug_str: &[u8],
+        debug_str_offsets: &[u8],
+        endian: Endianness,
+        encoding: Encoding,
+        index: u64,
+    ) -> Option<u64>
+        requires small { header_size encoding + index * offset_size encoding.format < 2 ^ 64 }
+        requires known { AreKnown debug_str.now self.old repeats.old }
+        ensures meaning { IfSome result (λ offset.
+            remapped_entry endian encoding debug_str.now debug_str_offsets.now index self.old
+            ≡ Ok (offset, self.new)) }
+        ensures fits { IfSome result (λ offset. offset ≤ offset_limit encoding.format) }
+        ensures kept { take (length self.old) self.new ≡ self.old }
+        ensures none { IsNone result → self.new ≡ self.old }
+        ensures known { AreKnown debug_str.now self.new repeats.new }
+    {
+        let limit = offset_limit(encoding.format);
+        let header = encoding.string_offsets_header_size() as u64;
+        let at = header + index * encoding.format.offset_size() as u64;
+        let named = offset_at(debug_str_offsets, endian, encoding.format, at).ok()?;
+        if let Some(known) = repeats.find(named) {
+            return if known <= limit { Some(known) } else { None };
+        }
+        let string = string_at(debug_str, named).ok()?;
+        if limit < self.data().len() as u64 {
+            return None;
+        }
+        let offset = self.place_by_hash(string)?;
+        let _remembered = repeats.enter(string, named, offset);
+        Some(offset)
     }
 
     /// The offset of the string that an entry names, which is added where it is new.

@@ -11,7 +11,7 @@ ghost use Rattle.thorin_strings.specs.Strings.{IsTable, IsWithinDigits};
 ghost use Rattle.thorin_strings.specs.Marks.{mark_of};
 ghost use Rattle.thorin_strings.specs.Known.{AreKnown};
 
-use crate::hashed::HashedStrings;
+use crate::hashed::{HashedStrings, Unplaced};
 use crate::repeats::Repeats;
 use crate::sorted::SortedStrings;
 use dwp_base::Endianness;
@@ -141,8 +141,10 @@ impl PackageStringTable {
             Strings::Hashed(strings) => strings,
             Strings::Sorted(strings) => return strings.get_or_insert(string),
         };
-        if let Some(offset) = hashed.place(string)? {
-            return Ok(PackageStringOffset(offset));
+        match hashed.place(string) {
+            Ok(offset) => return Ok(PackageStringOffset(offset)),
+            Err(Unplaced::Memory) => return Err(Error::Memory),
+            Err(Unplaced::Clash) => {}
         }
         let Some(mut sorted) = hashed.sorted() else {
             return Err(Error::Memory);
@@ -150,6 +152,24 @@ impl PackageStringTable {
         let result = sorted.get_or_insert(string);
         self.strings = Strings::Sorted(sorted);
         result
+    }
+
+    /// The same where a string's hash tells it. None else, and for want of memory; the table is then
+    /// as it was.
+    pub(crate) fn place_by_hash(&mut self, string: &[u8]) -> Option<u64>
+        requires { IsZeroFree string.now }
+        ensures offset { IfSome result (λ o. o ≡ offset_of self.old string.now) }
+        ensures placed { IfSome result (λ _. self.new ≡ with_string self.old string.now) }
+        ensures kept { take (length self.old) self.new ≡ self.old }
+        ensures none { IsNone result → self.new ≡ self.old }
+    {
+        match &mut self.strings {
+            Strings::Hashed(strings) => match strings.place(string) {
+                Ok(offset) => Some(offset as u64),
+                Err(_) => None,
+            },
+            Strings::Sorted(_) => None,
+        }
     }
 
     /// Appends the offsets of the strings that the first entries name to some bytes, where new
