@@ -12,9 +12,9 @@ use std::alloc::Global;
 use thorin_builder::DwarfPackage;
 use thorin_faults::{Error, Session};
 
-/// Packs each group of inputs, given by their bytes, into a package of its own, places these
-/// packages in the session, and packs them, in order, into the one that it answers (DWARF 5,
-/// 7.3.5). No input is passed over: the first refusal ends it.
+/// Packs each group of inputs, given by their bytes, into a package of its own, and then these
+/// packages, in order, into the one that it answers (DWARF 5, 7.3.5). The session holds the groups'
+/// packages. No input is passed over: the first refusal ends it.
 ///
 /// # Errors
 /// The first of: for each group in order what `DwarfPackage::add_object_bytes` answers of its
@@ -27,8 +27,8 @@ pub fn pack_groups<'s, Sess: Session<RelocationEntry>>(
 ) -> Result<Vec<u8>, Error>
     ensures packed { PacksInGroups (λ file. file.items) (groups_in groups.now) result }
 
-    // Where each unit of each group's package has the encoding of that package's first unit: the
-    // file is a package of the units that all inputs of all groups at once join.
+    // Where each unit of each group's package has the encoding of that package's first unit, the
+    // file is a package of the units that all inputs of all groups join at once.
     ensures joined { IfOk result (λ file.
         (packed : IsPackedInGroups (groups_in groups.now) file.items)
         → HaveTheirEncodings (groups_in groups.now) packed.packages packed.each

@@ -16,9 +16,9 @@ ghost use Rattle.thorin.specs.Run.{Ran, TakesInput};
 use thorin_builder::InputReader;
 use thorin_join::{inputs_are_joined, written_packages_mean_their_units};
 
-/// The law of joining in groups, on lists of units alone: where each group is joined to nothing,
-/// and what came of the groups, each in any order, is joined then, that is defined where joining
-/// all units at once is, and gives the same units, perhaps in another order. It does nothing.
+/// The law of joining in groups, on lists of units alone. Join each group by itself, put each
+/// result into any order, and join the results: this is defined exactly where joining all units at
+/// once is, and gives the same units, perhaps in another order. It does nothing.
 pub fn groups_are_joined_alike()
     ensures defined { (groups results : List (List (DwarfObject × Option Meaning)))
         → AreJoined groups results
@@ -32,10 +32,10 @@ pub fn groups_are_joined_alike()
 
 /// The law of packing in groups: where groups were packed, and each unit of each group's package
 /// has the encoding of that package's first unit, the file is a package of the units that all
-/// inputs of all groups at once join: under each name the same unit, whichever row it has (DWARF 5,
+/// inputs of all groups join at once: under each name the same unit, whichever row it has (DWARF 5,
 /// 7.3.5). It does nothing.
 pub fn groups_are_packed_alike()
-    ensures { (groups : List (List (List ℕ))) (file : List ℕ)
+    ensures joined { (groups : List (List (List ℕ))) (file : List ℕ)
         (packed : IsPackedInGroups groups file)
         → HaveTheirEncodings groups packed.packages packed.each
         → IsPackageOfAll (inputs_of groups) file }
@@ -44,8 +44,8 @@ pub fn groups_are_packed_alike()
     written_packages_mean_their_units();
 }
 
-/// The laws that a run goes on with what came of one more input, and that what a run accepted is
-/// joined. It does nothing: its contract is the laws, about every run with this reader.
+/// The laws of runs: a run and one more input are a run again, and the units of the accepted inputs
+/// are joined. It does nothing: its contract is the laws, about every run with this reader.
 pub fn runs_go_on<R: InputReader>(reader: &R)
     ensures next { (done : List Input) (input : Input) (old middle new : State)
         (outcomes : List Outcome) (outcome : Outcome) (before here : List (List ℕ))

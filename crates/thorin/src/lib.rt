@@ -1,7 +1,7 @@
 //! Packing split DWARF objects and finished packages (DWARF 5, 7.3.5; the GNU page
 //! DebugFissionDWP): whole packages from lists of inputs, the builder, and the reader of packages.
-//! What a caller names besides stands here too: sessions, errors, the names of units, the arena, and
-//! the parts that the builder is made of (the table of strings, the index writer, relocations).
+//! It re-exports what else a caller names: sessions, errors, the names of units, the arena, and the
+//! parts that the builder is made of (the table of strings, the index writer, relocations).
 #![tactic(auto)]
 
 mod groups;

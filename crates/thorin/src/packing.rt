@@ -25,23 +25,23 @@ pub enum Input<'a> {
     Executable(Path<'a>, MissingReferencedObjectBehaviour),
 }
 
-/// What came of packing: an outcome for each input, in order, and the package's bytes.
+/// What packing gave: an outcome for each input, in order, and the package's bytes.
 #[derive(Debug, Drop)]
 pub struct Packed {
-    /// For each input, whether it was accepted, or its first fault or `Memory`.
+    /// For each input, whether it was accepted, or its first error or `Memory`.
     pub outcomes: Vec<Result<(), Error>>,
-    /// The written package, or the first fault of finishing or writing it or `Memory`.
+    /// The written package, or the first error of finishing or writing it or `Memory`.
     pub file: Result<Vec<u8>, Error>,
-    /// The signatures of type units that were passed over and whose bytes differ from those of the
-    /// unit of their name that is kept, as `DwarfPackage::differing_types` gives them.
+    /// The signatures of type units that were passed over though their bytes differ from those of
+    /// the kept unit of that signature, as `DwarfPackage::differing_types` gives them.
     pub differing: Vec<DebugTypeSignature>,
 }
 
 /// Packs inputs in order, passing over those that are refused, and writes the package.
 ///
 /// # Errors
-/// `Memory` for the list of outcomes, and nothing else: refused inputs and a package that can't be
-/// written are told in what is packed.
+/// `Memory` where there is none for the list of outcomes, and nothing else: the errors of refused
+/// inputs, and of a package that can't be written, stand in `Packed`.
 pub fn pack<'s, Sess: Session<RelocationEntry>>(
     alloc: Global,
     session: &'s Sess,
@@ -65,11 +65,11 @@ pub fn pack<'s, Sess: Session<RelocationEntry>>(
     })
 }
 
-/// Takes an input of a list; what paths name is read by a reader, into room that is free again
+/// Adds one input to a builder. A reader reads what paths name, into room that is free again
 /// afterwards.
 ///
 /// # Errors
-/// Those of the builder's call for such an input.
+/// Those of `DwarfPackage::add_input_by`, `add_object_bytes` or `add_executable_by`, by the input.
 pub fn take_input<'o, 's: 'o, Sess: Session<RelocationEntry>, R: InputReader>(
     builder: &mut DwarfPackage<'o, 's, Sess>,
     reader: &R,

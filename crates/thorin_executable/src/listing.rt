@@ -1,4 +1,4 @@
-//! The split units of an executable, up to the first fault.
+//! The split units of an executable, up to the first error.
 
 ghost use Rattle.std.specs.Prelude.{◌≡◌, [], None, Ok, map, option_map, OnErr};
 ghost use Rattle.dwp_dwarf.specs.Units.{unit_of, unit_seen, units_left};
@@ -29,12 +29,12 @@ pub struct Skeleton {
     pub path: String,
 }
 
-/// The split units that an executable names, in order, up to the first fault.
+/// The split units that an executable names, in order, up to the first error.
 #[derive(Debug, Drop)]
 pub struct SkeletonList {
     /// The units, and the paths of their objects.
     pub units: Vec<Skeleton>,
-    /// The fault that ended the list.
+    /// The error that ended the list.
     pub fault: Option<Error>,
 }
 
@@ -181,8 +181,8 @@ impl<R: Reader> UnitsLeft<R> {
     }
 }
 
-/// The split units that an executable names, one after another: of no more than one of them the
-/// path is held. It ends after the first fault.
+/// The split units that an executable names, one after another; it holds the path of no more than
+/// one. It ends after the first error.
 #[derive(Drop)]
 pub struct SkeletonUnits<'a> {
     left: UnitsLeft<SectionReader<'a>>,
@@ -232,7 +232,7 @@ impl<'a> SkeletonUnits<'a> {
     }
 }
 
-/// Adds all that are left to a list, up to the first fault.
+/// Adds all that are left to a list, up to the first error.
 fn push_all(left: &mut SkeletonUnits<'_>, units: &mut Vec<Skeleton>) -> Result<(), Error>
     requires { units.old.items ≡ [] }
     ensures { IsPushed left.old result units.new.items }
@@ -243,16 +243,16 @@ fn push_all(left: &mut SkeletonUnits<'_>, units: &mut Vec<Skeleton>) -> Result<(
     Ok(())
 }
 
-/// The split units that an executable names: of each of its units with an identity the identity and
-/// the path of the object, in order, up to the first fault, and that fault. A type unit that names
+/// The split units that an executable names, in order, up to the first error, and that error. Of
+/// each unit with an identity it gives the identity and the object's path. A type unit that names
 /// no object is passed over. The relocations are placed in the session. All paths are held;
 /// `SkeletonUnits` gives one after another.
 ///
-/// The faults: `ParseObjectFile`; of a section that is used `DecompressData`, `ObjectRead`,
+/// The errors: `ParseObjectFile`; of a section that is used `DecompressData`, `ObjectRead`,
 /// `NamelessSection`, `RelocationWithInvalidSymbol`, `MultipleRelocations` and
 /// `UnsupportedRelocation`; of a unit `ParseUnitHeader`, those of `dwo_identifier_of_unit`,
 /// `NoDie`, `ParseUnit`, `MissingDwoName` and, for strings, `GimliRead`. Where memory ran out the
-/// fault is `Memory`, and the units are the first of the list.
+/// error is `Memory`, and the units are the first of the list.
 pub fn skeletons<'a, Sess: Session<RelocationEntry>>(
     alloc: Global,
     session: &'a Sess,

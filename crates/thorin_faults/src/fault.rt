@@ -1,4 +1,4 @@
-//! The faults of packaging.
+//! The errors of packaging.
 
 ghost use Rattle.std.specs.Prelude.{◌≡◌, ◌↔◌, IsTrue};
 ghost use Rattle.thorin_faults.specs.declared.fault.Error.TheVariants.{Io, ObjectRead, GimliRead};
@@ -14,7 +14,7 @@ use std::io;
 
 mod text;
 
-/// What a call of the package builder answers, where no other fault is named.
+/// What a call of the package builder answers, where no other error is named.
 pub type Result<T, E = Error> = std::result::Result<T, E>;
 
 /// Why an input could not be packed, or a package could not be written.
@@ -185,7 +185,7 @@ pub enum InputError {
 pub enum MissingReferencedObjectBehaviour {
     /// It is passed over.
     Skip,
-    /// It is a fault.
+    /// It is an error.
     Error,
 }
 

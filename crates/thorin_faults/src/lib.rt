@@ -1,4 +1,4 @@
-//! The faults of packaging, and sessions, which hold what was read.
+//! The errors of packaging, and sessions, which hold what was read.
 #![tactic(auto)]
 
 mod fault;

@@ -26,8 +26,8 @@ const DW_AT_GNU_DWO_ID: u64 = 0x2131;
 /// in.
 ///
 /// # Errors
-/// For a compile unit alone: `ParseUnitAbbreviations` (the offset is past the end, or the table has
-/// a fault), `NoDie`, `TopLevelDieNotUnit` and `GimliRead` (the root entry can't be read).
+/// For a compile unit alone: `ParseUnitAbbreviations` (the offset is past the end, or the table is
+/// malformed), `NoDie`, `TopLevelDieNotUnit` and `GimliRead` (the root entry can't be read).
 #[tactic(auto, unfolding(crate::specs::Identity::identity))]
 pub fn dwo_identifier_of_unit<R: Reader>(
     debug_abbrev: &R,

@@ -1,4 +1,4 @@
-//! The texts of faults.
+//! The texts of errors.
 
 ghost use Rattle.thorin_faults.specs.Text.{fault_text};
 
@@ -45,7 +45,7 @@ impl Error {
     ghost use Rattle.thorin_faults.specs.Fault.{fault_of};
     ghost use Rattle.thorin_faults.specs.Text.{unit_text, index_text, section_text};
 
-    /// The texts of faults of units.
+    /// The texts of errors of units.
     fn write_unit_text<W: fmt::Write>(&self, f: &mut fmt::Formatter<W>) -> fmt::Result
         ensures { DisplaysOnOk W.write_str_gives f.old result
             (unit_text (fault_of self.now)) f.new }
@@ -84,7 +84,7 @@ impl Error {
         }
     }
 
-    /// The texts of faults of indexes and string offsets.
+    /// The texts of errors of indexes and string offsets.
     fn write_index_text<W: fmt::Write>(&self, f: &mut fmt::Formatter<W>) -> fmt::Result
         ensures { DisplaysOnOk W.write_str_gives f.old result
             (index_text (fault_of self.now)) f.new }
@@ -125,7 +125,7 @@ impl Error {
         }
     }
 
-    /// The texts of faults of sections and of what a package is made of, and of causes; the other
+    /// The texts of errors of sections and of what a package is made of, and of causes; the other
     /// kinds have theirs above.
     fn write_section_text<W: fmt::Write>(&self, f: &mut fmt::Formatter<W>) -> fmt::Result
         ensures { DisplaysOnOk W.write_str_gives f.old result

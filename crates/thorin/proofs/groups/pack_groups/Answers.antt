@@ -51,7 +51,7 @@ returns-in_err-package g c =
         refused = c.in_err-package.ensures aside;
       }));
       joined = if-joined (λ file. file.items) (groups_in groups)
-          c.from_residual-in_err-package.result (c.groups_are_packed_alike.ensures
+          c.from_residual-in_err-package.result (c.groups_are_packed_alike.ensures.joined
           (groups_in groups));
     }
 
@@ -70,5 +70,5 @@ returns g c =
           (bytes_in c.deref.result.now) c.pack_alone-2.result lent c.pack_alone-2.ensures;
       joined =
           if-joined (λ file. file.items) (groups_in groups) c.pack_alone-2.result
-          (c.groups_are_packed_alike.ensures (groups_in groups));
+          (c.groups_are_packed_alike.ensures.joined (groups_in groups));
     }

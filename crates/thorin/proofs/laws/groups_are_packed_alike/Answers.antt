@@ -2,5 +2,7 @@ use Rattle.thorin.proofs.GroupMeaning.{means-all}
 use Rattle.thorin.proofs.laws.groups_are_packed_alike.Goals as goal
 
 pub returns : goal.returns
-returns c groups file packed have = means-all c.inputs_are_joined.ensures.sound
-    c.written_packages_mean_their_units.ensures groups file packed have
+returns c = record {
+  joined = λ groups file packed have. means-all c.inputs_are_joined.ensures.sound
+      c.written_packages_mean_their_units.ensures groups file packed have;
+}
