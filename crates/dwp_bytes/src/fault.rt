@@ -47,7 +47,8 @@ pub enum ReadError {
     /// An index of a version other than 2 and 5.
     #[error("Unknown index version")]
     IndexVersion,
-    /// A number of slots that is no power of two above the number of units.
+    /// A number of slots that is neither a power of two above the number of units, nor 0 with no
+    /// units.
     #[error("Bad number of slots in an index")]
     SlotCount,
     /// A column that the index's version lacks.

@@ -31,7 +31,7 @@ pub struct Attribute<R> {
     pub value: R,
 }
 
-/// The attributes of an entry, in order. It ends after the first fault.
+/// The attributes of an entry, in order. It ends after the first error.
 #[derive(Clone, Copy, Debug)]
 pub struct Attributes<R> {
     pub(crate) encoding: Encoding,

@@ -55,7 +55,7 @@ pub struct UnitHeader<R> {
     pub(crate) entries: R,
 }
 
-/// The units of a section, in order. It ends after the first fault.
+/// The units of a section, in order. It ends after the first error.
 #[derive(Clone, Copy, Debug)]
 pub struct UnitHeaders<R> {
     pub(crate) reader: R,

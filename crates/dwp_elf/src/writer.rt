@@ -9,7 +9,7 @@ ghost use Rattle.std.specs.declared.io.ErrorKind.{ErrorKind};
 use std::io;
 use std::io::{ErrorKind, Write};
 
-/// What a file is handed to. Each writer is one.
+/// What takes a file's bytes. Every `Write` is one.
 pub trait Output {
     /// The bytes that it has, where they are known.
     ghost contents: { Self → Option (List ℕ) };

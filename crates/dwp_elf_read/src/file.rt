@@ -32,7 +32,7 @@ impl<'a> ElfFile<'a> {
     /// The file that the bytes are.
     ///
     /// # Errors
-    /// The first fault, in this order: `TooShort` below 16 bytes, `NotElf`, `TooShort` below a
+    /// The first error, in this order: `TooShort` below 16 bytes, `NotElf`, `TooShort` below a
     /// header of the class, `ByteOrder`, `Version`, `SectionEntrySize`, `SectionTable` and
     /// `NameTable`.
     #[tactic(auto, unfolding(crate::specs::Elf::elf_of, crate::specs::View::elf, crate::specs::View::sections_after))]

@@ -172,9 +172,9 @@ impl<'a> PackageFile<'a> {
         self.row_inside(number, count, read_row(index, number)?)
     }
 
-    /// The first byte of an identifier's unit, none of whose ranges but this one is looked at; None
-    /// where the index hasn't the unit, or the byte isn't there. Whoever looks many identifiers up
-    /// can ask it of some, and then look these up: the waits for memory go on at once.
+    /// The first byte of an identifier's unit; only that range is looked at. None where the index
+    /// doesn't have the unit, or the byte isn't there. Ask it of some identifiers and then look
+    /// these up: the waits for memory overlap.
     #[tactic(auto, unfolding(crate::specs::Package::first_byte))]
     pub fn first_byte(&self, object: DwarfObject) -> Option<u8>
         ensures { result ≡ first_byte self.now object }

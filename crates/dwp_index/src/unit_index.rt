@@ -79,7 +79,7 @@ impl<'a> UnitIndex<'a> {
     /// Reads an index. Bytes after the index are passed over.
     ///
     /// # Errors
-    /// The first fault in order of place: `UnexpectedEof`, `IndexVersion`, `SlotCount`,
+    /// The first error in order of place: `UnexpectedEof`, `IndexVersion`, `SlotCount`,
     /// `UnknownColumn` or `RepeatedColumn`.
     #[tactic(auto, unfolding(crate::specs::IndexBytes::index_of))]
     pub fn parse(bytes: &'a [u8], order: Endianness) -> Result<UnitIndex<'a>, ReadError>

@@ -104,7 +104,7 @@ fn add_units(
 
 /// Adds an input: its units that aren't there, with all that belongs to them; without an info
 /// section it only begins the package. Gives the one encoding of all its units, where it is a plain
-/// object and there is one. The first fault from left to right: of the file's kind, the ELF file,
+/// object and there is one. The first error from left to right: of the file's kind, the ELF file,
 /// the used sections, the first unit, the byte order, the indexes, the kinds of sections and the
 /// string offsets, the abbreviations, the units. An `Err` leaves the package as it was.
 #[tactic(auto, unfolding(thorin_join::specs::Builder::with_input, thorin_join::specs::Builder::with_units, thorin_input::specs::Encodings::own_encoding))]

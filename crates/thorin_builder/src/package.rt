@@ -149,7 +149,7 @@ impl<'output, 'session: 'output, Sess: Session<RelocationEntry>> DwarfPackage<
     /// begins the package.
     ///
     /// # Errors
-    /// An `Err` leaves the package as it was; it is `Memory`, or the first fault from left to
+    /// An `Err` leaves the package as it was; it is `Memory`, or the first error from left to
     /// right: of the file's kind (`ParseFileKind`, `InvalidInputKind`), the ELF file
     /// (`ParseObjectFile`), the used sections (`DecompressData`, `ObjectRead`), the first unit
     /// (`ParseUnitHeader`, `NoCompilationUnits`), the byte order (`MixedInputEncodings`), both
@@ -194,8 +194,8 @@ impl<'output, 'session: 'output, Sess: Session<RelocationEntry>> DwarfPackage<
     /// # Errors
     /// `ReadInput` where the executable, or with `Error` an object, can't be read; what `skeletons`
     /// answers, at its place in the list; what `add_object_bytes` answers of an object; `Memory`.
-    /// An `Err` leaves the objects that were accepted before and the targets, that of the refused
-    /// object among them.
+    /// An `Err` keeps the objects that were accepted before, and all targets so far, that of the
+    /// refused object included.
     pub fn add_executable(
         &mut self,
         path: Path<'_>,
@@ -253,7 +253,7 @@ impl<'output, 'session: 'output, Sess: Session<RelocationEntry>> DwarfPackage<
     }
 
     /// Adds the objects of the units that are left of those that an executable refers to, up to the
-    /// first refusal or fault.
+    /// first refusal or error.
     fn add_each<R: InputReader>(
         &mut self,
         reader: &R,
@@ -340,10 +340,10 @@ impl<'output, 'session: 'output, Sess: Session<RelocationEntry>> DwarfPackage<
         }
     }
 
-    /// The object to be written. Where `packs_again` was true, the written bytes are an input of a
-    /// new package, which has the same units then, and of any package of their byte order, unless a
-    /// compilation unit is there already (`DuplicateUnit`) or the offset of a string doesn't fit
-    /// (`NumberTooLarge`).
+    /// The object to be written. Where `packs_again` was true, its written bytes can be an input
+    /// again, memory aside: a new package accepts them, and has the same units then; any package of
+    /// their byte order accepts them, unless a compilation unit is there already (`DuplicateUnit`)
+    /// or the offset of a string doesn't fit (`NumberTooLarge`).
     ///
     /// # Errors
     /// `MissingReferencedUnit` for the first unit that an executable refers to and that isn't

@@ -9,8 +9,8 @@ use dwp_bytes::RelocationEntry;
 use std::path::Path;
 use thorin_faults::{InputError, Session};
 
-/// Reads the inputs that paths name, into room that is used again for each. A session is one that
-/// needs no room, since it keeps what it reads.
+/// Reads the inputs that paths name, into room that is used again for each. Each session is one;
+/// it needs no room, since it keeps what it reads.
 pub trait InputReader {
     // What a read of the file at a path may answer.
     ghost offer: { Self → List ℕ → Result (List ℕ) IoError → Type 0 };

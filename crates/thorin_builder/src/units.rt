@@ -124,7 +124,7 @@ fn name_for<'a>(
 }
 
 impl<'a> NewUnits<'a> {
-    /// The units that an input adds to what is there, or its first fault: of a package a second
+    /// The units that an input adds to what is there, or its first error: of a package a second
     /// section of units (`MultipleDebugInfoSection`, `MultipleDebugTypesSection`); unit by unit
     /// `ParseUnitHeader`, of a package `UnitNotInIndex` and `BadContribution` of a compile unit's
     /// row, what `dwo_identifier_of_unit` answers, `NotSplitUnit`, `DuplicateUnit`, `EmptyUnit`,

@@ -170,7 +170,7 @@ fn add_offsets<'a>(
 }
 
 /// Adds what a section adds: `RepeatedSection`, `SectionOutsideFormat`, `MissingRequiredSection`,
-/// and the faults of string offsets.
+/// and the errors of string offsets.
 #[tactic(auto, unfolding(crate::specs::Parts::with_part))]
 fn add_part<'a>(
     alloc: Global,
@@ -213,7 +213,7 @@ fn add_part<'a>(
 /// over the strings of the package.
 ///
 /// # Errors
-/// The first fault of its sections in file order: `RepeatedSection`, `SectionOutsideFormat`,
+/// The first error of its sections in file order: `RepeatedSection`, `SectionOutsideFormat`,
 /// `MissingRequiredSection`, and what rewriting string offsets answers; `Memory`. An `Err` may leave
 /// strings behind those before.
 #[tactic(auto, unfolding(crate::specs::Parts::with_each_part))]

@@ -112,7 +112,7 @@ impl PartTest {
 /// Whether an index of this encoding can be written of the entries.
 ///
 /// # Errors
-/// The first fault, in the order of the tests: `NumberTooLarge`, `MixedInputEncodings`,
+/// The first error, in the order of the tests: `NumberTooLarge`, `MixedInputEncodings`,
 /// `SectionOutsideFormat`, `NumberTooLarge`.
 #[tactic(auto, unfolding(crate::specs::EntryTests::tests_under))]
 pub fn test_entries(encoding: Encoding, entries: &[IndexEntry]) -> Result<(), Error>

@@ -58,7 +58,7 @@ enum Flaw {
 /// of the symbol is added to each addend.
 ///
 /// # Errors
-/// The first fault in file order: `ObjectRead` where a table of relocations can't be read;
+/// The first error in file order: `ObjectRead` where a table of relocations can't be read;
 /// `UnsupportedRelocation` of a type that isn't an absolute one of x86-64, i386 or AArch64;
 /// `RelocationWithInvalidSymbol` of a symbol that can't be read; `MultipleRelocations` of a second
 /// one at a place; in place of the last three `NamelessSection` where the section's name can't be
@@ -77,7 +77,7 @@ pub fn add_relocations(
     Ok(listed(alloc, &found)?)
 }
 
-/// The relocations of a section by their places, or the first fault in file order.
+/// The relocations of a section by their places, or the first error in file order.
 #[tactic(auto, unfolding(crate::specs::Relocations::with_relocations))]
 fn found_relocations(
     alloc: Global,
@@ -95,7 +95,7 @@ fn found_relocations(
     Ok(found)
 }
 
-/// Adds a relocation to those found; a second at a place is a fault.
+/// Adds a relocation to those found; a second at a place is an error.
 #[tactic(auto, unfolding(crate::specs::Relocations::with_relocation))]
 fn add_relocation(
     alloc: Global,
@@ -154,7 +154,7 @@ fn is_absolute(machine: u16, kind: u32) -> bool
     }
 }
 
-/// The fault of a relocation, with the section's name.
+/// The error of a relocation, with the section's name.
 fn flawed(alloc: Global, target: &Section, flaw: Flaw, place: usize) -> Error
     ensures { MemoryAside result (fault_of result
         ≡ at_place (flaw_fault flaw) (section target.now).name place) }

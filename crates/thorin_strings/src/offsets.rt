@@ -132,6 +132,36 @@ pub(crate) fn string_read(debug_str: &[u8], offset: u64) -> Result<&[u8], Error>
     }
 }
 
+/// The offset that the entry of a number has, where it can be read.
+fn known_entry(
+    debug_str_offsets: &[u8],
+    endian: Endianness,
+    encoding: Encoding,
+    index: u64,
+) -> Option<u64>
+    requires { header_size encoding + index * offset_size encoding.format < 2 ^ 64 }
+    ensures { IfSome result (λ offset.
+        entry_at endian encoding debug_str_offsets.now index ≡ Ok offset) }
+{
+    let header = encoding.string_offsets_header_size() as u64;
+    let at = header + index * encoding.format.offset_size() as u64;
+    match offset_at(debug_str_offsets, endian, encoding.format, at) {
+        Ok(offset) => Some(offset),
+        Err(_) => None,
+    }
+}
+
+/// The string at an offset, where it can be read.
+fn known_string(debug_str: &[u8], offset: u64) -> Option<&[u8]>
+    ensures meaning { IfSome result (λ string. string_read debug_str.now offset ≡ Ok string.now) }
+    ensures zero_free { IfSome result (λ string. IsZeroFree string.now) }
+{
+    match string_at(debug_str, offset) {
+        Ok(string) => Some(string),
+        Err(_) => None,
+    }
+}
+
 impl PackageStringTable {
     /// A range of string offsets, rewritten to the same strings in this table, under the same
     /// encoding. Strings that are new go last. A refusal leaves the table as it was.
@@ -340,13 +370,11 @@ impl PackageStringTable {
         ensures known { AreKnown debug_str.now self.new repeats.new }
     {
         let limit = offset_limit(encoding.format);
-        let header = encoding.string_offsets_header_size() as u64;
-        let at = header + index * encoding.format.offset_size() as u64;
-        let named = offset_at(debug_str_offsets, endian, encoding.format, at).ok()?;
+        let named = known_entry(debug_str_offsets, endian, encoding, index)?;
         if let Some(known) = repeats.find(named) {
             return if known <= limit { Some(known) } else { None };
         }
-        let string = string_at(debug_str, named).ok()?;
+        let string = known_string(debug_str, named)?;
         if limit < self.data().len() as u64 {
             return None;
         }

@@ -1,9 +1,13 @@
-use Rattle.std.proofs.Common.{[], ◌∷◌, ◌++◌, sym, arith}
+use Rattle.std.proofs.Common.{◌≡◌, [], ◌∷◌, ◌++◌, Ok, sym, ap₂, subst, take, length, ◌∙◌, arith}
 use Rattle.std.proofs.lemmas.List.{append-nil, take_all}
 use Rattle.std.proofs.lemmas.Result.{err_from_is_err_and}
+use Rattle.thorin_strings.specs.StringOffsets.{remapped_entry}
+use Rattle.thorin_strings.specs.Known.{AreKnown}
 use Rattle.thorin_strings.proofs.RemapLemmas.{entries_none, entries_more, bytes_more, kept_more}
 use Rattle.thorin_strings.proofs.RemapLemmas.{remapped_refuses}
 use Rattle.thorin_strings.proofs.table.PackageStringTable.remapped.Goals as goal
+use Rattle.thorin_strings.proofs.table.PackageStringTable.remapped.Goals.{in-Some}
+use Rattle.thorin_strings.proofs.table.PackageStringTable.remapped.Goals.{in-None+in_ok-offset-in-None}
 
 pub loop-index-init : goal.loop-index-init
 loop-index-init c = record {
@@ -12,27 +16,46 @@ loop-index-init c = record {
   known = c.requires.known;
 }
 
-pub returns-in_err-offset-clause-meaning : goal.returns-in_err-offset-clause-meaning
-returns-in_err-offset-clause-meaning c =
-    let p = err_from_is_err_and c.from_residual-in_err-offset.result
-    c.from_residual-in_err-offset.ensures.1 in
+pub returns-in_err-offset-in-None-clause-meaning : goal.returns-in_err-offset-in-None-clause-meaning
+returns-in_err-offset-in-None-clause-meaning c =
+    let p = err_from_is_err_and c.from_residual-in_err-offset-in-None.result
+    c.from_residual-in_err-offset-in-None.ensures.1 in
     rw (p.1, p.2) (λ other. remapped_refuses c.args.endian c.args.encoding c.args.debug_str.now
     c.args.debug_str_offsets.now c.args.section_size c.string_offsets_count-count.result
     c.offset_size-entry_size.result c.loop-index.index c.args.self.now c.loop-index.self _ _ _
     c.string_offsets_count-count.ensures c.offset_size-entry_size.ensures (omega arith)
     (omega arith) c.in_ok-out.ensures c.loop-index.invariant.so_far.1
-    (c.in_err-offset.ensures.meaning other) (omega arith))
+    (rw c.in-None.ensures.none at (c.in_err-offset-in-None.ensures.meaning other)) (omega arith))
 
 pub loop-index-preserved : goal.loop-index-preserved
-loop-index-preserved c = record {
-  kept = kept_more _ _ _ c.loop-index.invariant.kept c.remapped_entry.ensures.kept;
-  so_far = (
-    c.loop-index.invariant.so_far.0 ++ c.in_ok-offset.offset ∷ [],
-    entries_more c.args.endian c.args.encoding c.args.debug_str.now c.args.debug_str_offsets.now
-        c.loop-index.index _ c.loop-index.self _ _ _ c.loop-index.invariant.so_far.1
-        c.in_ok-offset.ensures.meaning,
-    bytes_more c.args.endian c.args.encoding.format _ c.loop-index.out.items _ _ _
-        c.loop-index.invariant.so_far.2 c.in_ok-push_offset.ensures,
-  );
-  known = c.remapped_entry.ensures.known;
-}
+loop-index-preserved c =
+    let entry : remapped_entry c.args.endian c.args.encoding c.args.debug_str.now
+    c.args.debug_str_offsets.now c.loop-index.index c.loop-index.self ≡ Ok
+    (c.match-known.offset, c.match-known.self) = elim c.match-known.branch [
+      | in-Some w ↦ w.in-Some.ensures.meaning ∙ ap₂ (λ n l. Ok (n, l)) (sym w.offset-is)
+          (sym w.self-is)
+      | in-None+in_ok-offset-in-None w ↦ (rw w.in-None.ensures.none at
+          w.in_ok-offset-in-None.ensures.meaning) ∙ ap₂ (λ n l. Ok (n, l)) (sym w.offset-is)
+          (sym w.self-is)
+    ] in
+    let kept : take (length c.loop-index.self) c.match-known.self ≡ c.loop-index.self =
+    elim c.match-known.branch [
+      | in-Some w ↦ rw w.self-is c.entry_by_hash-known.ensures.kept
+      | in-None+in_ok-offset-in-None w ↦ rw w.self-is (rw w.in-None.ensures.none at
+          w.remapped_entry.ensures.kept)
+    ] in
+    record {
+      kept = kept_more _ _ _ c.loop-index.invariant.kept kept;
+      so_far = (
+        c.loop-index.invariant.so_far.0 ++ c.match-known.offset ∷ [],
+        entries_more c.args.endian c.args.encoding c.args.debug_str.now c.args.debug_str_offsets.now
+            c.loop-index.index _ c.loop-index.self _ _ _ c.loop-index.invariant.so_far.1 entry,
+        bytes_more c.args.endian c.args.encoding.format _ c.loop-index.out.items _ _ _
+            c.loop-index.invariant.so_far.2 c.in_ok-push_offset.ensures,
+      );
+      known = elim c.match-known.branch [
+        | in-Some w ↦ rw (w.self-is, w.repeats-is) c.entry_by_hash-known.ensures.known
+        | in-None+in_ok-offset-in-None w ↦ rw (w.self-is, w.repeats-is)
+            w.remapped_entry.ensures.known
+      ];
+    }
