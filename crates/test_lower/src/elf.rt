@@ -3,18 +3,18 @@
 
 ghost use Rattle.std.specs.Prelude.{Some};
 
-use crate::row::{Hex, Row, Said, bytes_of, kind, place, put, put_word};
+use crate::row::{Hex, Row, Said, bytes_of, kind, place, split};
 use dwp_elf::{Class, Contribution, Watched, WritableObject, WriteError};
 use std::alloc::{AllocError, Global};
 use std::io;
 use std::io::{ErrorKind, Write};
 
 /// Makes the call of a row.
-pub fn call(row: Row<'_>, said: &mut String) -> Said {
+pub fn call(row: Row<'_>, said: &mut Said) {
     match row.word(0) {
         "appended" => appended(row, said),
-        "file_size" => put(said, &file_size(row)),
-        "written" => put_written(written(row), said),
+        "file_size" => file_size(row, said),
+        "written" => written(row, said),
         "written_to" => written_to(row, said),
         "watched" => watched(row, said),
         _ => crate::reading::call(row, said),
@@ -36,62 +36,76 @@ fn append(
     object: &mut WritableObject,
     word: &str,
 ) -> Result<Option<Contribution>, WriteError> {
-    let (name, digits) = word.split_once('=').unwrap_or((word, ""));
+    let (name, digits) = split(word, "=");
     match bytes_of(alloc, digits) {
         Ok(bytes) => object.append(kind(name), &bytes),
         Err(AllocError) => Err(WriteError::Memory),
     }
 }
 
-/// The same, without what it answers.
-fn add(alloc: Global, object: &mut WritableObject, words: &[&str]) -> Result<(), WriteError> {
-    for word in words {
-        append(alloc, object, word)?;
+/// The same, and says what it answers.
+fn put_append(object: &mut WritableObject, row: Row<'_>, word: &str, said: &mut Said) {
+    said.put(&append(row.alloc, object, word));
+}
+
+/// The same, and says only why it is refused.
+fn add(object: &mut WritableObject, row: Row<'_>, word: &str, said: &mut Said) {
+    if let Err(fault) = append(row.alloc, object, word) {
+        said.put(&fault);
     }
-    Ok(())
+}
+
+/// An object, and from a place on what is added to it.
+fn filled(row: Row<'_>, from: usize, said: &mut Said) -> WritableObject {
+    let mut object = object(row);
+    for word in row.rest(from) {
+        add(&mut object, row, word, said);
+    }
+    object
 }
 
 /// An object, and what is added to it, each a kind, `=` and digits, or `cut` and the size that the
 /// first section is cut to, when the others are gone.
-fn appended(row: Row<'_>, said: &mut String) -> Said {
+fn appended(row: Row<'_>, said: &mut Said) {
     let mut object = object(row);
-    put_appended(&mut object, row, said)
-}
-
-fn put_appended(object: &mut WritableObject, row: Row<'_>, said: &mut String) -> Said {
     for word in row.rest(4) {
-        match word.strip_prefix("cut=") {
-            Some(size) => object.truncate(&[place(size)]),
-            None => put(said, &append(row.alloc, object, word))?,
-        }
+        append_or_cut(&mut object, row, word, said);
     }
-    put(
-        said,
-        &(object.class(), object.machine(), object.endianness()),
-    )?;
+    put_object(&object, said);
+}
+
+fn append_or_cut(object: &mut WritableObject, row: Row<'_>, word: &str, said: &mut Said) {
+    let (name, size) = split(word, "=");
+    if name == "cut" {
+        object.truncate(&[place(size)]);
+    } else {
+        put_append(object, row, word, said);
+    }
+}
+
+fn put_object(object: &WritableObject, said: &mut Said) {
+    said.put(&(object.class(), object.machine(), object.endianness()));
     for (kind, bytes) in object.sections() {
-        put(said, &(*kind, Hex(bytes)))?;
+        said.put(&(*kind, Hex(bytes)));
     }
-    Ok(())
 }
 
-fn file_size(row: Row<'_>) -> Result<u64, WriteError> {
-    let mut object = object(row);
-    add(row.alloc, &mut object, row.rest(4))?;
-    object.file_size()
+/// An object and its contents: the size of the file.
+fn file_size(row: Row<'_>, said: &mut Said) {
+    let object = filled(row, 4, said);
+    said.put(&object.file_size());
 }
 
-/// An object and its contents: the size of the file, and the file.
-fn written(row: Row<'_>) -> Result<(u64, Vec<u8>), WriteError> {
-    let mut object = object(row);
-    add(row.alloc, &mut object, row.rest(4))?;
-    Ok((object.file_size()?, object.write()?))
+/// An object and its contents: the size of the file that is told, that of the file, and the file.
+fn written(row: Row<'_>, said: &mut Said) {
+    let object = filled(row, 4, said);
+    put_file(object.file_size(), object.write(), said);
 }
 
-fn put_written(written: Result<(u64, Vec<u8>), WriteError>, said: &mut String) -> Said {
-    match written {
-        Ok((size, file)) => put(said, &(size, file.len(), Hex(&file))),
-        Err(fault) => put(said, &fault),
+fn put_file(size: Result<u64, WriteError>, file: Result<Vec<u8>, WriteError>, said: &mut Said) {
+    match (size, file) {
+        (Ok(size), Ok(file)) => said.put(&(size, file.len(), Hex(&file))),
+        (size, _file) => said.put(&size),
     }
 }
 
@@ -125,57 +139,44 @@ impl Write for Limited {
 
 /// With memory for a whole package, so that no write is refused for want of it. Words 4 to 6 are
 /// how much it takes at once, how much in all, and `fails` where it fails then.
-fn make_writer(row: Row<'_>) -> Result<Limited, AllocError> {
-    Ok(Limited {
-        bytes: Vec::with_capacity(row.alloc, 544)?,
+fn make_writer(row: Row<'_>, said: &mut Said) -> Limited {
+    Limited {
+        bytes: said.made(Vec::with_capacity(row.alloc, 544), Vec::new(row.alloc)),
         at_once: place(row.word(4)),
         room: place(row.word(5)),
         fails: row.word(6) == "fails",
-    })
+    }
 }
 
 /// An object, a writer and the contents: what came of it, and what the writer has.
-fn written_to(row: Row<'_>, said: &mut String) -> Said {
-    let mut writer = make_writer(row)?;
-    put_done(write_to(row, &mut writer), &writer, said)
+fn written_to(row: Row<'_>, said: &mut Said) {
+    let mut writer = make_writer(row, said);
+    let object = filled(row, 7, said);
+    put_done(object.write_to(&mut writer), said);
+    put_written(&writer, said);
 }
 
-fn write_to(row: Row<'_>, writer: &mut Limited) -> Result<(), WriteError> {
-    let mut object = object(row);
-    add(row.alloc, &mut object, row.rest(7))?;
-    object.write_to(writer)
-}
-
-fn put_done(done: Result<(), WriteError>, writer: &Limited, said: &mut String) -> Said {
+fn put_done(done: Result<(), WriteError>, said: &mut Said) {
     match done {
-        Ok(()) => put_word(said, "written")?,
-        Err(WriteError::Io(fault)) => put(said, &fault.kind())?,
-        Err(fault) => put(said, &fault)?,
+        Ok(()) => said.word("written"),
+        Err(WriteError::Io(fault)) => said.put(&fault.kind()),
+        Err(fault) => said.put(&fault),
     }
-    put(said, &(writer.bytes.len(), Hex(&writer.bytes)))
 }
 
-/// The same of a writer that is watched, and the fault that was seen.
-fn watched(row: Row<'_>, said: &mut String) -> Said {
+fn put_written(writer: &Limited, said: &mut Said) {
+    said.put(&(writer.bytes.len(), Hex(&writer.bytes)));
+}
+
+/// The same of a writer that is watched, behind the fault that was seen.
+fn watched(row: Row<'_>, said: &mut Said) {
     let mut watched = Watched {
-        writer: make_writer(row)?,
+        writer: make_writer(row, said),
         fault: None,
     };
-    let done = write_watched(row, &mut watched);
-    put_watched(done, &watched, said)
-}
-
-fn write_watched(row: Row<'_>, watched: &mut Watched<Limited>) -> Result<(), WriteError> {
-    let mut object = object(row);
-    add(row.alloc, &mut object, row.rest(7))?;
-    object.write_to(watched)
-}
-
-fn put_watched(
-    done: Result<(), WriteError>,
-    watched: &Watched<Limited>,
-    said: &mut String,
-) -> Said {
-    put(said, &watched.fault)?;
-    put_done(done, &watched.writer, said)
+    let object = filled(row, 7, said);
+    let done = object.write_to(&mut watched);
+    said.put(&watched.fault);
+    put_done(done, said);
+    put_written(&watched.writer, said);
 }

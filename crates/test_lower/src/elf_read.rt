@@ -1,72 +1,98 @@
 //! Calls of `dwp_elf_read`: files of both classes and orders, and damaged ones.
 
-use crate::row::{Hex, Row, Said, place, put, put_fault, put_word};
-use dwp_base::{Class, Endianness, SectionKind};
-use dwp_elf_read::{ElfFile, FileKind, RawRelocation, ReadError, Section, WriteError};
+use crate::row::{Hex, Row, Said, place};
+use dwp_base::SectionKind;
+use dwp_elf_read::{ElfFile, FileKind, ReadError, Section, WriteError};
 use std::io;
 
 /// Makes the call of a row.
-pub fn call(row: Row<'_>, said: &mut String) -> Said {
+pub fn call(row: Row<'_>, said: &mut Said) {
     match row.word(0) {
-        "file_kind" => put(said, &FileKind::parse(row.bytes(1))),
-        "file" => file(row.bytes(1), said),
-        "section" => section(row, said),
-        "section_named" => put(said, &section_named(row.bytes(1), row.word(2))),
-        "is_called" => put(
-            said,
-            &is_called(row.bytes(1), place(row.word(2)), row.word(3)),
-        ),
-        "relocations" => put_relocations(row, said),
-        "symbol" => put(said, &symbol(row.bytes(1), row.small(2), row.small(3))),
+        "file" | "symbol" | "section_named" | "section" | "is_called" | "relocations" => {
+            of_file(row, said)
+        }
+        "file_kind" => said.put(&FileKind::parse(row.bytes(1))),
         "cuts" => cuts(row.bytes(1), said),
         "texts_of_elf" => texts(said),
         _ => crate::formats::call(row, said),
     }
 }
 
-/// Class, byte order, machine and number of sections; and of the sections that the iterator gives
-/// the type of the first and the number of the others.
-fn file(bytes: &[u8], said: &mut String) -> Said {
-    put(said, &header(bytes))?;
-    put(said, &types(bytes))
+/// Bytes, and what is asked of their file.
+fn of_file(row: Row<'_>, said: &mut Said) {
+    match ElfFile::parse(row.bytes(1)) {
+        Ok(file) => in_file(&file, row, said),
+        Err(fault) => put_refused(row, fault, said),
+    }
 }
 
-fn header(bytes: &[u8]) -> Result<(Class, Endianness, u16, usize), ReadError> {
-    let file = ElfFile::parse(bytes)?;
-    Ok((
+/// Why a file is none, to each of the two questions that `file` is.
+fn put_refused(row: Row<'_>, fault: ReadError, said: &mut Said) {
+    said.err(&fault);
+    if row.word(0) == "file" {
+        said.err(&fault);
+    }
+}
+
+/// By the number of a table and that of a symbol its value, or by a name the number of a section.
+fn in_file(file: &ElfFile<'_>, row: Row<'_>, said: &mut Said) {
+    match row.word(0) {
+        "file" => put_file(file, said),
+        "symbol" => said.put(&file.symbol_value(row.small(2), row.small(3))),
+        "section_named" => said.ok(&number_of(file.section_by_name(row.word(2)))),
+        _ => of_section(file.section(place(row.word(2))), row, said),
+    }
+}
+
+fn number_of(section: Option<Section<'_>>) -> Option<usize> {
+    match section {
+        Some(section) => Some(section.number()),
+        None => None,
+    }
+}
+
+/// Class, byte order, machine and number of sections; and of the sections that the iterator gives
+/// the type of the first and the number of the others.
+fn put_file(file: &ElfFile<'_>, said: &mut Said) {
+    said.ok(&(
         file.class(),
         file.endianness(),
         file.machine(),
         file.section_count(),
-    ))
+    ));
+    let mut sections = file.sections();
+    let first = type_of(sections.next());
+    said.ok(&(first, sections.count()));
 }
 
-fn types(bytes: &[u8]) -> Result<(Option<u32>, usize), ReadError> {
-    let mut sections = ElfFile::parse(bytes)?.sections();
-    let first = match sections.next() {
+fn type_of(section: Option<Section<'_>>) -> Option<u32> {
+    match section {
         Some(section) => Some(section.kind()),
         None => None,
-    };
-    Ok((first, sections.count()))
-}
-
-fn section_at(bytes: &[u8], number: usize) -> Result<Option<Section<'_>>, ReadError> {
-    Ok(ElfFile::parse(bytes)?.section(number))
-}
-
-/// Bytes, and the number of a section: all that it says.
-fn section(row: Row<'_>, said: &mut String) -> Said {
-    match section_at(row.bytes(1), place(row.word(2))) {
-        Ok(Some(section)) => put_section(section, said),
-        Ok(None) => put_word(said, "no section"),
-        Err(fault) => put(said, &fault),
     }
 }
 
-fn put_section(section: Section<'_>, said: &mut String) -> Said {
-    put(said, &names(section))?;
-    put(said, &numbers(section))?;
-    put(said, &content(section))
+/// What is asked of a section.
+fn of_section(section: Option<Section<'_>>, row: Row<'_>, said: &mut Said) {
+    match section {
+        Some(section) => in_section(section, row, said),
+        None => said.word("no section"),
+    }
+}
+
+/// All that a section says, whether it has a name, or its relocations.
+fn in_section(section: Section<'_>, row: Row<'_>, said: &mut Said) {
+    match row.word(0) {
+        "section" => put_section(section, said),
+        "is_called" => said.ok(&Some(section.is_called(row.word(3)))),
+        _ => put_relocations(section, said),
+    }
+}
+
+fn put_section(section: Section<'_>, said: &mut Said) {
+    said.put(&names(section));
+    said.put(&numbers(section));
+    said.put(&content(section));
 }
 
 /// A section's number, name, and kind in a package.
@@ -92,54 +118,18 @@ fn content(section: Section<'_>) -> (bool, bool, Result<Hex<'_>, ReadError>) {
 }
 
 fn data(section: Section<'_>) -> Result<Hex<'_>, ReadError> {
-    Ok(Hex(section.data()?))
-}
-
-/// The number of a section by its name.
-fn section_named(bytes: &[u8], name: &str) -> Result<Option<usize>, ReadError> {
-    match ElfFile::parse(bytes)?.section_by_name(name) {
-        Some(section) => Ok(Some(section.number())),
-        None => Ok(None),
+    match section.data() {
+        Ok(data) => Ok(Hex(data)),
+        Err(fault) => Err(fault),
     }
 }
 
-fn is_called(bytes: &[u8], number: usize, name: &str) -> Result<Option<bool>, ReadError> {
-    match ElfFile::parse(bytes)?.section(number) {
-        Some(section) => Ok(Some(section.is_called(name))),
-        None => Ok(None),
+/// What the iterator of a section's relocations gives at first, or None at its end.
+fn put_relocations(section: Section<'_>, said: &mut Said) {
+    let mut found = section.relocations();
+    for _ in 0..4 {
+        said.put(&found.next());
     }
-}
-
-/// What the iterator of relocations gives, or None at its end.
-type Found = Option<Result<RawRelocation, ReadError>>;
-
-/// What the iterator of a section's relocations gives at first.
-fn relocations(bytes: &[u8], number: usize) -> Result<[Found; 4], ReadError> {
-    match ElfFile::parse(bytes)?.section(number) {
-        Some(section) => {
-            let mut found = section.relocations();
-            Ok([found.next(), found.next(), found.next(), found.next()])
-        }
-        None => Ok([None; 4]),
-    }
-}
-
-/// Bytes, and the number of a section.
-fn put_relocations(row: Row<'_>, said: &mut String) -> Said {
-    match relocations(row.bytes(1), place(row.word(2))) {
-        Ok(found) => {
-            for relocation in &found {
-                put(said, relocation)?;
-            }
-            Ok(())
-        }
-        Err(fault) => put(said, &fault),
-    }
-}
-
-/// The value of a symbol of a table.
-fn symbol(bytes: &[u8], table: u32, number: u32) -> Result<u64, ReadError> {
-    ElfFile::parse(bytes)?.symbol_value(table, number)
 }
 
 /// Why bytes are no file that can be read, and whether their kind can be.
@@ -149,19 +139,18 @@ fn faults(bytes: &[u8]) -> (Option<ReadError>, bool) {
 
 /// Each beginning of a file whose answer is not that of the one before: how many bytes it has, why
 /// it can't be read, and whether its kind can be.
-fn cuts(bytes: &[u8], said: &mut String) -> Said {
+fn cuts(bytes: &[u8], said: &mut Said) {
     let mut before = None;
     for size in 0..=bytes.len() {
         let (fault, is_known) = faults(&bytes[..size]);
         if before != Some((fault, is_known)) {
-            put(said, &(size, fault, is_known))?;
+            said.put(&(size, fault, is_known));
         }
         before = Some((fault, is_known));
     }
-    Ok(())
 }
 
-fn texts(said: &mut String) -> Said {
+fn texts(said: &mut Said) {
     for fault in [
         ReadError::TooShort,
         ReadError::NotElf,
@@ -177,14 +166,9 @@ fn texts(said: &mut String) -> Said {
         ReadError::RelocationTable,
         ReadError::Compressed,
     ] {
-        put_fault(said, &fault)?;
+        said.fault(&fault);
     }
-    for fault in [
-        WriteError::NumberTooLarge,
-        WriteError::Memory,
-        WriteError::Io(io::Error::from(io::ErrorKind::Other)),
-    ] {
-        put_fault(said, &fault)?;
-    }
-    Ok(())
+    said.fault(&WriteError::NumberTooLarge);
+    said.fault(&WriteError::Memory);
+    said.fault(&WriteError::Io(io::Error::from(io::ErrorKind::Other)));
 }

@@ -1,32 +1,31 @@
 //! Calls of `thorin_executable`: executables that name split units, and those that are refused.
 
-use crate::row::{Row, Said, bytes_of, change, number, put, put_word};
+use crate::row::{Row, Said, change, number, split};
 use bumpalo::Bump;
 use dwp_dwarf::RelocationEntry;
-use std::alloc::{AllocError, Global};
+use std::alloc::Global;
 use std::collections::BTreeMap;
 use std::path::Path;
 use thorin_executable::{SkeletonList, SkeletonUnits, skeletons};
 use thorin_faults::{ArenaSession, Error, MemorySession, Session};
 
 /// Makes the call of a row.
-pub fn call(row: Row<'_>, said: &mut String) -> Said {
+pub fn call(row: Row<'_>, said: &mut Said) {
     match row.word(0) {
-        "skeletons_of" => put_list(&listed(row.alloc, row.bytes(1)), said),
+        "skeletons_of" => put_listed(row.alloc, row.bytes(1), said),
         "skeletons_in" => skeletons_in(row, said),
         "one_by_one" => one_by_one(row, said),
         _ => crate::elf::call(row, said),
     }
 }
 
-fn put_words(out: &mut Vec<u8>, words: &[u64]) -> Result<(), AllocError> {
+fn add_words(out: &mut Vec<u8>, words: &[u64], said: &mut Said) {
     for word in words {
-        out.extend_from_slice(&word.to_le_bytes())?;
+        said.extend(out, &word.to_le_bytes());
     }
-    Ok(())
 }
 
-/// The contents of a file's sections behind its header, their names, and their headers.
+/// The contents of a file's sections behind its header, then their names, and their headers.
 #[derive(Drop)]
 struct Layout {
     contents: Vec<u8>,
@@ -35,28 +34,20 @@ struct Layout {
 }
 
 impl Layout {
-    /// Adds a section's content and its header: its type (ELF gABI, `sh_type`), its flags, and of
-    /// relocations the number of the section that they are of.
-    fn add(
-        &mut self,
-        name: &str,
-        (kind, flags, of): (u64, u64, u64),
-        bytes: &[u8],
-    ) -> Result<(), AllocError> {
+    /// Adds the header of a section with so many bytes: its type (ELF gABI, `sh_type`), its flags,
+    /// and of relocations the number of the section that they are of.
+    fn add_header(&mut self, (kind, flags, of): (u64, u64, u64), size: usize, said: &mut Said) {
         let words = [
             ((kind & 15) << 32) | self.names.len() as u64,
             flags,
             0,
             64 + self.contents.len() as u64,
-            bytes.len() as u64,
+            size as u64,
             (of & 15) << 32,
             1,
             0,
         ];
-        put_words(&mut self.headers, &words)?;
-        self.contents.extend_from_slice(bytes)?;
-        self.names.extend_from_slice(name.as_bytes())?;
-        Ok(self.names.push(0)?)
+        add_words(&mut self.headers, &words, said);
     }
 
     /// The header of a file for x86-64; section `last` has the names.
@@ -65,7 +56,7 @@ impl Layout {
             (1 << 32) | (62 << 16) | 2,
             0,
             0,
-            64 + self.contents.len() as u64,
+            (64 + self.contents.len() as u64).wrapping_add(self.names.len() as u64),
             64 << 32,
             (last << 48) | (((last & 0xff) + 1) << 32) | (64 << 16),
         ]
@@ -73,115 +64,137 @@ impl Layout {
 
     /// Adds the section of a word: its name, `=` and its bytes. Before the `=` may stand `:` and `c`
     /// of a compressed section, or the number of the section that these relocations are of.
-    fn add_word(&mut self, alloc: Global, word: &str) -> Result<(), AllocError> {
-        let (name, digits) = word.split_once('=').unwrap_or((word, ""));
-        let bytes = bytes_of(alloc, digits)?;
-        match name.split_once(':') {
-            None => self.add(name, (1, 0, 0), &bytes),
-            Some((name, "c")) => self.add(name, (1, 0x800, 0), &bytes),
-            Some((name, of)) => self.add(name, (4, 0, number(of)), &bytes),
-        }
+    fn add(&mut self, row: Row<'_>, word: &str, said: &mut Said) {
+        let (name, digits) = split(word, "=");
+        let (name, of) = split(name, ":");
+        let bytes = said.bytes_of(row.alloc, digits);
+        self.add_header(kind_of(of), bytes.len(), said);
+        said.extend(&mut self.contents, &bytes);
+        said.extend(&mut self.names, name.as_bytes());
+        said.extend(&mut self.names, b"\0");
     }
 }
 
-fn laid_out(alloc: Global, words: &[&str]) -> Result<Layout, AllocError> {
+/// Type, flags, and the section that relocations are of.
+fn kind_of(word: &str) -> (u64, u64, u64) {
+    match word {
+        "" => (1, 0, 0),
+        "c" => (1, 0x800, 0),
+        _ => (4, 0, number(word)),
+    }
+}
+
+fn laid_out(row: Row<'_>, said: &mut Said) -> Layout {
     let mut layout = Layout {
-        contents: Vec::new(alloc),
-        names: Vec::from_slice(alloc, b"\0")?,
-        headers: Vec::from_slice(alloc, &[0; 64])?,
+        contents: Vec::new(row.alloc),
+        names: Vec::new(row.alloc),
+        headers: Vec::new(row.alloc),
     };
-    for word in words {
-        layout.add_word(alloc, word)?;
+    said.extend(&mut layout.names, b"\0");
+    said.extend(&mut layout.headers, &[0; 64]);
+    for word in row.rest(2) {
+        layout.add(row, word, said);
     }
-    let names = Vec::from_slice(alloc, &layout.names)?;
-    layout.add(".end", (1, 0, 0), &names)?;
-    Ok(layout)
+    let size = layout.names.len();
+    layout.add_header((1, 0, 0), size, said);
+    layout
 }
 
-/// A file of 64 bits, little endian, of these sections, which are numbered from 1 on.
-fn file(alloc: Global, words: &[&str]) -> Result<Vec<u8>, AllocError> {
-    let layout = laid_out(alloc, words)?;
-    let mut file = Vec::from_slice(alloc, b"\x7fELF\x02\x01\x01\0\0\0\0\0\0\0\0\0")?;
-    let header = layout.header((words.len() as u64 & 0xff) + 1);
-    put_words(&mut file, &header)?;
-    file.extend_from_slice(&layout.contents)?;
-    file.extend_from_slice(&layout.headers)?;
-    Ok(file)
+/// A file of 64 bits, little endian, of the sections of words 2 on, which are numbered from 1 on.
+fn file(row: Row<'_>, said: &mut Said) -> Vec<u8> {
+    let layout = laid_out(row, said);
+    let mut file = Vec::new(row.alloc);
+    said.extend(&mut file, b"\x7fELF\x02\x01\x01\0\0\0\0\0\0\0\0\0");
+    let header = layout.header((row.rest(2).len() as u64 & 0xff) + 1);
+    add_words(&mut file, &header, said);
+    said.extend(&mut file, &layout.contents);
+    said.extend(&mut file, &layout.names);
+    said.extend(&mut file, &layout.headers);
+    file
 }
 
 /// The units that a list has, and its fault.
-fn put_list(list: &SkeletonList, said: &mut String) -> Said {
+fn put_list(list: &SkeletonList, said: &mut Said) {
     for unit in &list.units {
-        put(said, &(unit.target, unit.path.as_str()))?;
+        said.put(&(unit.target, unit.path.as_str()));
     }
-    put(said, &list.fault)
+    said.put(&list.fault);
 }
 
 /// What a file names.
-fn listed(alloc: Global, bytes: &[u8]) -> SkeletonList {
+fn put_listed(alloc: Global, bytes: &[u8], said: &mut Said) {
     let bump = Bump::new(alloc);
     let files = BTreeMap::new(alloc);
-    let session = MemorySession::new(&bump, &files);
-    skeletons(alloc, &session, bytes)
+    put_skeletons(alloc, &MemorySession::new(&bump, &files), bytes, said);
+}
+
+fn put_skeletons<Sess: Session<RelocationEntry>>(
+    alloc: Global,
+    session: &Sess,
+    bytes: &[u8],
+    said: &mut Said,
+) {
+    put_list(&skeletons(alloc, session, bytes), said);
 }
 
 /// Bytes that are changed, or `-`, and the sections of an executable: what it names.
-fn skeletons_in(row: Row<'_>, said: &mut String) -> Said {
-    let mut bytes = file(row.alloc, row.rest(2))?;
+fn skeletons_in(row: Row<'_>, said: &mut Said) {
+    let mut bytes = file(row, said);
     change(&mut bytes, row.word(1));
-    put_list(&listed(row.alloc, &bytes), said)
+    put_listed(row.alloc, &bytes, said);
 }
 
-fn put_next(left: &mut SkeletonUnits<'_>, said: &mut String) -> Said {
+fn put_next(left: &mut SkeletonUnits<'_>, said: &mut Said) {
     match left.next() {
-        Ok(Some(unit)) => put(said, &(unit.target, unit.path.as_str())),
-        Ok(None) => put_word(said, "none"),
-        Err(fault) => put(said, &fault),
+        Ok(Some(unit)) => said.put(&(unit.target, unit.path.as_str())),
+        Ok(None) => said.word("none"),
+        Err(fault) => said.put(&fault),
     }
 }
 
 /// Four units, one after the other.
-fn put_four(left: &mut SkeletonUnits<'_>, said: &mut String) -> Said {
-    put_next(left, said)?;
-    put_next(left, said)?;
-    put_next(left, said)?;
-    put_next(left, said)
+fn put_units(left: Result<SkeletonUnits<'_>, Error>, said: &mut Said) {
+    match left {
+        Ok(mut left) => {
+            for _ in 0..4 {
+                put_next(&mut left, said);
+            }
+        }
+        Err(fault) => said.put(&fault),
+    }
 }
 
-fn put_units(alloc: Global, bytes: &[u8], said: &mut String) -> Said {
+fn put_one_by_one(alloc: Global, bytes: &[u8], said: &mut Said) {
     let bump = Bump::new(alloc);
     let files = BTreeMap::new(alloc);
     let session = MemorySession::new(&bump, &files);
-    match SkeletonUnits::read(alloc, &session, bytes) {
-        Ok(mut left) => put_four(&mut left, said),
-        Err(fault) => put(said, &fault),
-    }
+    put_units(SkeletonUnits::read(alloc, &session, bytes), said);
 }
 
 /// `-` and the sections of an executable, or the bytes of a file: what it names, one after the other.
-fn one_by_one(row: Row<'_>, said: &mut String) -> Said {
+fn one_by_one(row: Row<'_>, said: &mut Said) {
     if row.word(1) == "-" {
-        return put_units(row.alloc, &file(row.alloc, row.rest(2))?, said);
+        let bytes = file(row, said);
+        put_one_by_one(row.alloc, &bytes, said);
+    } else {
+        put_one_by_one(row.alloc, row.bytes(1), said);
     }
-    put_units(row.alloc, row.bytes(1), said)
 }
 
 /// Reads a file from a session and asks what it names, as a builder does.
-fn named_at<Sess: Session<RelocationEntry>>(
-    alloc: Global,
-    session: &Sess,
-    path: Path<'_>,
-) -> Result<SkeletonList, Error> {
-    let bytes = session.read_input(path)?;
-    Ok(skeletons(alloc, session, bytes))
+fn put_named_at<Sess: Session<RelocationEntry>>(session: &Sess, row: Row<'_>, said: &mut Said) {
+    match session.read_input(Path::new(row.word(1))) {
+        Ok(bytes) => put_skeletons(row.alloc, session, bytes, said),
+        Err(fault) => put_fault(&Error::from(fault), said),
+    }
+}
+
+fn put_fault(fault: &Error, said: &mut Said) {
+    said.put(fault);
 }
 
 /// The path of a file: what it names.
-pub fn skeletons_at(rt: &HostRuntime, row: Row<'_>, said: &mut String) -> Said {
+pub fn skeletons_at(rt: &HostRuntime, row: Row<'_>, said: &mut Said) {
     let bump = Bump::new(row.alloc);
-    let session = ArenaSession::new(rt, &bump);
-    match named_at(row.alloc, &session, Path::new(row.word(1))) {
-        Ok(list) => put_list(&list, said),
-        Err(fault) => put(said, &fault),
-    }
+    put_named_at(&ArenaSession::new(rt, &bump), row, said);
 }

@@ -1,14 +1,14 @@
 //! Calls of `thorin_faults`: the texts of faults.
 
-use crate::row::{Row, Said, put, put_fault, put_word};
+use crate::row::{Row, Said};
 use dwp_bytes::{ReadError as DwarfReadError, WriteError as DwarfWriteError};
 use dwp_elf_read::{ReadError as ElfReadError, WriteError as ElfWriteError};
-use std::alloc::{AllocError, Global};
+use std::alloc::AllocError;
 use std::io;
 use thorin_faults::{Error, InputError, MissingReferencedObjectBehaviour};
 
 /// Makes the call of a row.
-pub fn call(row: Row<'_>, said: &mut String) -> Said {
+pub fn call(row: Row<'_>, said: &mut Said) {
     match row.word(0) {
         "text" => text(row, said),
         "behaviours" => behaviours(said),
@@ -32,7 +32,7 @@ fn of_inputs(name: &str) -> Option<Error> {
         "MixedInputEncodings" => Error::MixedInputEncodings,
         "SectionOutsideFormat" => Error::SectionOutsideFormat(".debug_loc.dwo"),
         "RepeatedSection" => Error::RepeatedSection(".debug_abbrev.dwo"),
-        _ => return None,
+        _ => return of_units(name),
     })
 }
 
@@ -61,7 +61,7 @@ fn of_units(name: &str) -> Option<Error> {
         "NotSplitUnit" => Error::NotSplitUnit,
         "DuplicateUnit" => Error::DuplicateUnit(0x2a),
         "MissingReferencedUnit" => Error::MissingReferencedUnit(1),
-        _ => return None,
+        _ => return of_indexes(name),
     })
 }
 
@@ -80,7 +80,7 @@ fn of_indexes(name: &str) -> Option<Error> {
         "BadStringOffsets" => Error::BadStringOffsets(0),
         "OverlappingStringOffsets" => Error::OverlappingStringOffsets(8),
         "NumberTooLarge" => Error::NumberTooLarge("string offset", 0x1_0000_0000),
-        _ => return None,
+        _ => return of_causes(name),
     })
 }
 
@@ -101,37 +101,32 @@ fn of_causes(name: &str) -> Option<Error> {
     })
 }
 
-fn error(alloc: Global, name: &str) -> Result<Option<Error>, AllocError> {
-    if let Some(fault) = of_inputs(name) {
-        return Ok(Some(fault));
+/// The name of a fault: how it is printed by `{:?}`, and its text.
+fn text(row: Row<'_>, said: &mut Said) {
+    match of_inputs(row.word(1)) {
+        Some(fault) => said.fault(&fault),
+        None => text_of_relocation(row, said),
     }
-    if let Some(fault) = of_units(name) {
-        return Ok(Some(fault));
-    }
-    if let Some(fault) = of_indexes(name) {
-        return Ok(Some(fault));
-    }
-    if let Some(fault) = of_causes(name) {
-        return Ok(Some(fault));
-    }
-    Ok(of_relocations(name, String::from_str(alloc, ".debug_info")?))
 }
 
-/// The name of a fault: how it is printed by `{:?}`, and its text.
-fn text(row: Row<'_>, said: &mut String) -> Said {
-    match error(row.alloc, row.word(1))? {
-        Some(fault) => put_fault(said, &fault),
-        None => put_word(said, "no such fault"),
+fn text_of_relocation(row: Row<'_>, said: &mut Said) {
+    let section = said.made(
+        String::from_str(row.alloc, ".debug_info"),
+        String::new(row.alloc),
+    );
+    match of_relocations(row.word(1), section) {
+        Some(fault) => said.fault(&fault),
+        None => said.word("no such fault"),
     }
 }
 
 /// What is done about objects that are missing, whether these are skipped, and want of memory.
-fn behaviours(said: &mut String) -> Said {
+fn behaviours(said: &mut Said) {
     for behaviour in [
         MissingReferencedObjectBehaviour::Skip,
         MissingReferencedObjectBehaviour::Error,
     ] {
-        put(said, &(behaviour, behaviour.skip_missing()))?;
+        said.put(&(behaviour, behaviour.skip_missing()));
     }
-    put(said, &InputError::Memory)
+    said.put(&InputError::Memory);
 }

@@ -1,40 +1,39 @@
-//! Calls of `dwp_base`, `dwp_bytes`, `dwp_table` and `dwp_index`.
+//! Calls of `dwp_base`, `dwp_bytes` and `dwp_table`.
 
-use crate::row::{Hex, Row, Said, Text, put, put_fault, put_word};
+use crate::row::{Row, Said, Text};
 use dwp_base::{Contribution, ContributionOffset, Endianness, SectionKind};
 use dwp_bytes::{Encoding, Format, ReadError, WriteError, string_at};
-use dwp_elf_read::ReadError as ElfReadError;
-use dwp_index::*;
+use dwp_index::{Bucketable, DebugTypeSignature, DwarfObject, DwoId};
 use dwp_table::{column_of, kind_of_column, slot_count};
 
 /// Makes the call of a row.
-pub fn call(row: Row<'_>, said: &mut String) -> Said {
+pub fn call(row: Row<'_>, said: &mut Said) {
     match row.word(0) {
-        "contribution" => put(said, &contribution(row.number(1), row.number(2))),
-        "stored" => put(said, &stored(row.order(1))),
-        "bytes_of" => put(said, &bytes_of(row.order(1), row.number(2))),
-        "of_name" => put(said, &SectionKind::of_name(row.word(1))),
-        "kind" => put(said, &kind(row.kind(1), row.word(2), row.kind(3))),
-        "string_offsets" => put(
-            said,
-            &string_offsets(row.half(1), row.word(2), row.number(3)),
-        ),
-        "string_at" => put(said, &text_at(row.bytes(1), row.number(2))),
+        "contribution" => said.put(&contribution(row.number(1), row.number(2))),
+        "stored" => said.put(&stored(row.order(1))),
+        "bytes_of" => said.put(&bytes_of(row.order(1), row.number(2))),
+        "of_name" => said.put(&SectionKind::of_name(row.word(1))),
+        "kind" => said.put(&kind(row.kind(1), row.word(2), row.kind(3))),
+        _ => call_of_bytes(row, said),
+    }
+}
+
+fn call_of_bytes(row: Row<'_>, said: &mut Said) {
+    match row.word(0) {
+        "string_offsets" => said.put(&string_offsets(row)),
+        "string_at" => said.put(&text_at(row.bytes(1), row.number(2))),
         "texts_of_bytes" => texts_of_bytes(said),
-        "identifier" => put(said, &identifier(row.number(1))),
-        "columns" => put(said, &columns(row.kind(1))),
-        "kind_of_column" => put(said, &kind_of_column(row.half(1), row.small(2))),
-        "slot_count" => put(said, &slot_count(u32::from(row.half(1)))),
-        "index" => put(said, &numbers(row.bytes(2), row.order(1))),
-        "column" => put(said, &has_column(row.bytes(2), row.order(1), row.kind(3))),
-        "look_up" => look_up(row, said),
-        "range" => put(said, &range(row)),
-        "package" => put(said, &looked_up(row.bytes(1), unit(row))),
-        "packaged" => packaged(row, said),
-        "units" => put(said, &units(row.bytes(1))),
-        "first_byte" => put(said, &first_byte(row.bytes(1), unit(row))),
-        "texts_of_index" => texts_of_index(said),
-        _ => put_word(said, "no such call"),
+        _ => call_of_tables(row, said),
+    }
+}
+
+fn call_of_tables(row: Row<'_>, said: &mut Said) {
+    match row.word(0) {
+        "identifier" => said.put(&identifier(row.number(1))),
+        "columns" => said.put(&columns(row.kind(1))),
+        "kind_of_column" => said.put(&kind_of_column(row.half(1), row.small(2))),
+        "slot_count" => said.put(&slot_count(u32::from(row.half(1)))),
+        _ => crate::index::call(row, said),
     }
 }
 
@@ -77,22 +76,18 @@ fn kind(
     )
 }
 
-/// Of an encoding, `narrow` or `wide`: whether it is GNU's, and of string offsets of so many bytes
-/// the size of the header, and how many there are.
-fn string_offsets(version: u16, format: &str, size: u64) -> (bool, usize, u64) {
-    let format = match format {
-        "wide" => Format::Dwarf64,
-        _ => Format::Dwarf32,
-    };
+/// Of an encoding, its version and `narrow` or `wide`: whether it is GNU's, and of string offsets of
+/// so many bytes the size of the header, and how many there are.
+fn string_offsets(row: Row<'_>) -> (bool, usize, u64) {
     let encoding = Encoding {
-        version,
-        format,
+        version: row.half(1),
+        format: row.format(2),
         address_size: 8,
     };
     (
         encoding.is_gnu_extension_dwarf_package_format(),
         encoding.string_offsets_header_size(),
-        encoding.string_offsets_count(size),
+        encoding.string_offsets_count(row.number(3)),
     )
 }
 
@@ -100,7 +95,7 @@ fn text_at(section: &[u8], offset: u64) -> Result<Text<'_>, ReadError> {
     Ok(Text(string_at(section, offset)?))
 }
 
-fn texts_of_bytes(said: &mut String) -> Said {
+fn texts_of_bytes(said: &mut Said) {
     for fault in [
         ReadError::UnexpectedEof,
         ReadError::ReservedLength,
@@ -122,9 +117,9 @@ fn texts_of_bytes(said: &mut String) -> Said {
         ReadError::RowOutOfRange,
         ReadError::NotAString,
     ] {
-        put_fault(said, &fault)?;
+        said.fault(&fault);
     }
-    put_fault(said, &WriteError::ValueTooLarge)
+    said.fault(&WriteError::ValueTooLarge);
 }
 
 /// The two names that a number may be, what of each is sought in an index, and whether they are the
@@ -154,104 +149,4 @@ fn column(version: u16, kind: SectionKind) -> (Option<u32>, Option<SectionKind>)
         Some(column) => (Some(column), kind_of_column(version, column)),
         None => (None, None),
     }
-}
-
-/// An index's version, and its numbers of units and of slots.
-fn numbers(bytes: &[u8], order: Endianness) -> Result<(u16, u32, u32), ReadError> {
-    let index = UnitIndex::parse(bytes, order)?;
-    Ok((index.version(), index.unit_count(), index.slot_count()))
-}
-
-/// Whether an index has a column.
-fn has_column(bytes: &[u8], order: Endianness, kind: SectionKind) -> Result<bool, ReadError> {
-    Ok(UnitIndex::parse(bytes, order)?.has_column(kind))
-}
-
-/// The row of a unit, and how many slots are read for it.
-fn counted(bytes: &[u8], order: Endianness, id: u64) -> Result<(Option<u32>, u32), ReadError> {
-    Ok(UnitIndex::parse(bytes, order)?.find_counted(id))
-}
-
-/// The row of a unit alone.
-fn row_of(bytes: &[u8], order: Endianness, id: u64) -> Result<Option<u32>, ReadError> {
-    Ok(UnitIndex::parse(bytes, order)?.find(id))
-}
-
-/// A byte order, an index, and an identifier.
-fn look_up(row: Row<'_>, said: &mut String) -> Said {
-    put(said, &row_of(row.bytes(2), row.order(1), row.number(3)))?;
-    put(said, &counted(row.bytes(2), row.order(1), row.number(3)))
-}
-
-/// A byte order, an index, a row and a kind: what the row has of the section.
-fn range(row: Row<'_>) -> Result<Option<Contribution>, ReadError> {
-    let index = UnitIndex::parse(row.bytes(2), row.order(1))?;
-    Ok(index.row(row.small(3))?.range(row.kind(4)))
-}
-
-/// The unit of words 2 and 3, `cu` or `tu` and an identifier.
-fn unit(row: Row<'_>) -> DwarfObject {
-    match row.word(2) {
-        "tu" => DwarfObject::TypeUnit(DebugTypeSignature(row.number(3))),
-        _ => DwarfObject::Compilation(DwoId(row.number(3))),
-    }
-}
-
-/// How many slots are read for a unit, and its row where the package has it.
-fn looked_up(file: &[u8], object: DwarfObject) -> Result<(Option<u32>, u32), PackageError> {
-    let (unit, slots) = PackageFile::parse(file)?.find_counted(object)?;
-    match unit {
-        Some(unit) => Ok((Some(unit.row()), slots)),
-        None => Ok((None, slots)),
-    }
-}
-
-/// A unit of a package.
-fn found(file: &[u8], object: DwarfObject) -> Result<Option<PackagedUnit<'_>>, PackageError> {
-    PackageFile::parse(file)?.find(object)
-}
-
-/// A package, a unit and a kind: its encoding, its first string, its bytes, its contribution to the
-/// section and the bytes of that.
-fn packaged(row: Row<'_>, said: &mut String) -> Said {
-    match found(row.bytes(1), unit(row)) {
-        Ok(Some(unit)) => put_unit(&unit, row.kind(4), said),
-        Ok(None) => put_word(said, "no unit"),
-        Err(fault) => put(said, &fault),
-    }
-}
-
-fn put_unit(unit: &PackagedUnit<'_>, kind: SectionKind, said: &mut String) -> Said {
-    put(said, &(unit.encoding(), unit.string(0), Hex(unit.bytes())))?;
-    put(said, &(unit.range(kind), Hex(unit.section(kind))))
-}
-
-/// The first units that the indexes name.
-fn units(file: &[u8]) -> Result<[Option<(DwarfObject, u32)>; 2], PackageError> {
-    let package = PackageFile::parse(file)?;
-    let mut units = package.units();
-    Ok([told(units.next()), told(units.next())])
-}
-
-fn told(entry: Option<UnitEntry>) -> Option<(DwarfObject, u32)> {
-    match entry {
-        Some(entry) => Some((entry.object, entry.row)),
-        None => None,
-    }
-}
-
-fn first_byte(file: &[u8], object: DwarfObject) -> Result<Option<u8>, PackageError> {
-    Ok(PackageFile::parse(file)?.first_byte(object))
-}
-
-fn texts_of_index(said: &mut String) -> Said {
-    for fault in [
-        PackageError::Elf(ElfReadError::TooShort),
-        PackageError::Index(ReadError::SlotCount),
-        PackageError::Range(SectionKind::Info),
-        PackageError::Unit(ReadError::UnknownVersion),
-    ] {
-        put_fault(said, &fault)?;
-    }
-    Ok(())
 }

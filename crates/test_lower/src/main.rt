@@ -8,6 +8,8 @@ mod elf_read;
 mod executable;
 mod faults;
 mod formats;
+mod index;
+mod inflated;
 mod packaged;
 mod parts;
 mod reading;
@@ -20,7 +22,7 @@ use std::alloc::AllocError;
 use std::{fs, io};
 
 /// The files of rows, one for each crate.
-const FILES: [&str; 13] = [
+const FILES: [&str; 14] = [
     "base.rows",
     "bytes.rows",
     "elf.rows",
@@ -28,6 +30,7 @@ const FILES: [&str; 13] = [
     "dwarf.rows",
     "table.rows",
     "index.rows",
+    "inflate.rows",
     "faults.rows",
     "sessions.rows",
     "strings.rows",
@@ -37,39 +40,64 @@ const FILES: [&str; 13] = [
 ];
 
 fn main(rt: HostRuntime) -> io::Result<()> {
-    let named = fs::read_to_string(&rt, "named")?;
+    let named = text_of(&rt, "named")?;
     for file in FILES {
-        let rows = fs::read_to_string(&rt, file)?;
-        println!(rt; "{file}")?;
-        for line in rows.lines() {
-            if !line.is_empty() && !line.starts_with('#') {
-                let said = answer(&rt, &named, line)?;
-                println!(rt; "{line}\n    {said}")?;
-            }
-        }
+        print_rows(&rt, &named, file)?;
     }
     Ok(())
 }
 
-/// What the call of a row answers.
-fn answer(rt: &HostRuntime, named: &str, line: &str) -> Result<String, AllocError> {
-    let words: Vec<&str> = line.split_whitespace().collect(rt.alloc())?;
-    let mut data = Vec::new(rt.alloc());
-    for word in &words {
-        data.push(bytes_of_word(rt.alloc(), named, word)?)?;
+fn text_of(rt: &HostRuntime, file: &str) -> io::Result<String> {
+    fs::read_to_string(rt, file)
+}
+
+/// Prints the name of a file of rows, and the answers of these.
+fn print_rows(rt: &HostRuntime, named: &str, file: &str) -> io::Result<()> {
+    let rows = text_of(rt, file)?;
+    let answers = answers(rt, named, &rows)?;
+    print_line(rt, file, &answers)
+}
+
+fn print_line(rt: &HostRuntime, file: &str, answers: &str) -> io::Result<()> {
+    println!(rt; "{file}{answers}")
+}
+
+/// Each row in a line, and what it answers in the next.
+fn answers(rt: &HostRuntime, named: &str, rows: &str) -> Result<String, AllocError> {
+    let mut said = Said::new(rt.alloc());
+    for line in rows.lines() {
+        if !line.is_empty() && !line.starts_with('#') {
+            said.begin(line);
+            answer(rt, named, line, &mut said);
+        }
     }
-    let mut said = String::new(rt.alloc());
+    said.finish()
+}
+
+/// What the call of a row answers.
+fn answer(rt: &HostRuntime, named: &str, line: &str, said: &mut Said) {
+    let alloc = rt.alloc();
+    let words: Vec<&str> = said.made(line.split_whitespace().collect(alloc), Vec::new(alloc));
+    let mut data = Vec::new(alloc);
+    for word in &words {
+        let bytes = said.made(bytes_of_word(alloc, named, word), Vec::new(alloc));
+        add_bytes(&mut data, bytes, said);
+    }
     let row = Row {
-        alloc: rt.alloc(),
+        alloc,
         words: &words,
         data: &data,
     };
-    call(rt, row, &mut said)?;
-    Ok(said)
+    call(rt, row, said);
+}
+
+fn add_bytes(data: &mut Vec<Vec<u8>>, bytes: Vec<u8>, said: &mut Said) {
+    let is_done = data.push(bytes).is_ok();
+    said.note_that(is_done);
 }
 
 /// Makes the call of a row.
-fn call(rt: &HostRuntime, row: Row<'_>, said: &mut String) -> Said {
+fn call(rt: &HostRuntime, row: Row<'_>, said: &mut Said) {
     match row.word(0) {
         "arena_session" => sessions::arena(rt, row, said),
         "skeletons_at" => executable::skeletons_at(rt, row, said),

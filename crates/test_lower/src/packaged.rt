@@ -1,12 +1,10 @@
 //! Calls of `thorin_packaged`: rows by place, and string offsets of packages that are rewritten.
 
-use crate::parts::{contribution, indexed, ranges};
-use crate::row::{Hex, Row, Said, Text, put, put_word};
-use crate::strings::{encoding, put_range};
+use crate::parts::{contribution, indexed};
+use crate::row::{Hex, Row, Said, Text, encoding};
 use dwp_base::{Contribution, Endianness, SectionKind};
-use dwp_bytes::Encoding;
+use dwp_bytes::ReadError;
 use dwp_index::UnitIndex;
-use std::alloc::Global;
 use thorin_faults::Error;
 use thorin_packaged::laws::{
     every_row_is_found_by_place, packaged_rows_are_read_alike, rows_are_found_by_place,
@@ -15,10 +13,10 @@ use thorin_packaged::{RowPlaces, remap_packaged_offsets};
 use thorin_strings::PackageStringTable;
 
 /// Makes the call of a row.
-pub fn call(row: Row<'_>, said: &mut String) -> Said {
+pub fn call(row: Row<'_>, said: &mut Said) {
     match row.word(0) {
         "rewritten" => rewritten(row, said),
-        "without_indexes" => without_indexes(row.alloc, row.bytes(1), said),
+        "without_indexes" => without_indexes(row, said),
         "row_at" => row_at(row, said),
         "row_nowhere" => row_nowhere(row, said),
         "laws" => laws(said),
@@ -26,129 +24,115 @@ pub fn call(row: Row<'_>, said: &mut String) -> Said {
     }
 }
 
-/// What is rewritten: the offsets, and the indexes of the compilation units and of the type units.
-#[derive(Drop)]
-struct Packaged<'a> {
-    encoding: Encoding,
-    offsets: &'a [u8],
-    compilations: Vec<u8>,
-    types: Vec<u8>,
-}
-
-/// By words 1 to 4: an encoding, the offsets, and the ranges of compilation units and of type units,
-/// each a place and a size.
-fn read_packaged(row: Row<'_>) -> Result<Packaged<'_>, Error> {
-    let encoding = encoding(row.word(1));
-    Ok(Packaged {
-        encoding,
-        offsets: row.bytes(2),
-        compilations: indexed(row.alloc, encoding, &ranges(row.alloc, row.word(3))?)?,
-        types: indexed(row.alloc, encoding, &ranges(row.alloc, row.word(4))?)?,
-    })
-}
-
-/// The offsets, rewritten into a table that gets `b` first.
-fn remap(
-    alloc: Global,
-    strings: &mut PackageStringTable,
-    packaged: &Packaged<'_>,
-) -> Result<Vec<u8>, Error> {
-    let compilations = UnitIndex::parse(&packaged.compilations, Endianness::Little)?;
-    let types = UnitIndex::parse(&packaged.types, Endianness::Little)?;
-    strings.get_or_insert(b"b")?;
-    remap_packaged_offsets(
-        alloc,
-        strings,
-        Some(&compilations),
-        Some(&types),
-        b"a\0b\0",
-        packaged.offsets,
-        Endianness::Little,
-        packaged.encoding,
-    )
+fn parsed(index: &[u8]) -> Result<UnitIndex<'_>, ReadError> {
+    UnitIndex::parse(index, Endianness::Little)
 }
 
 /// An encoding, string offsets, and the ranges that compilation units and type units have of them:
-/// the offsets rewritten, and the strings behind that.
-fn rewritten(row: Row<'_>, said: &mut String) -> Said {
-    match read_packaged(row) {
-        Ok(packaged) => put_rewritten(row.alloc, &packaged, said),
-        Err(fault) => put(said, &fault),
+/// the offsets rewritten into a table that gets `b` first, and the strings behind that.
+fn rewritten(row: Row<'_>, said: &mut Said) {
+    let compilations = indexed(row.alloc, encoding(row.word(1)), row.word(3), said);
+    let types = indexed(row.alloc, encoding(row.word(1)), row.word(4), said);
+    match parsed(&compilations) {
+        Ok(compilations) => rewrite(row, &compilations, parsed(&types), said),
+        Err(fault) => said.err(&fault),
     }
 }
 
-fn put_rewritten(alloc: Global, packaged: &Packaged<'_>, said: &mut String) -> Said {
-    let mut strings = PackageStringTable::new(alloc);
-    let range = remap(alloc, &mut strings, packaged);
-    let data = strings.finish();
+fn rewrite(
+    row: Row<'_>,
+    compilations: &UnitIndex<'_>,
+    types: Result<UnitIndex<'_>, ReadError>,
+    said: &mut Said,
+) {
+    match types {
+        Ok(types) => put_rewritten(row, compilations, &types, said),
+        Err(fault) => said.err(&fault),
+    }
+}
+
+fn put_rewritten(
+    row: Row<'_>,
+    compilations: &UnitIndex<'_>,
+    types: &UnitIndex<'_>,
+    said: &mut Said,
+) {
+    let mut strings = PackageStringTable::new(row.alloc);
+    said.note_that(strings.get_or_insert(b"b").is_ok());
+    let range = remap_packaged_offsets(
+        row.alloc,
+        &mut strings,
+        Some(compilations),
+        Some(types),
+        b"a\0b\0",
+        row.bytes(2),
+        Endianness::Little,
+        encoding(row.word(1)),
+    );
+    put_range(&range, &strings.finish(), said);
+}
+
+fn put_range(range: &Result<Vec<u8>, Error>, data: &[u8], said: &mut Said) {
     match range {
-        Ok(range) => put(said, &(Hex(&range), Text(&data))),
-        Err(fault) => put(said, &fault),
+        Ok(range) => said.put(&(Hex(range), Text(data))),
+        Err(fault) => said.put(fault),
     }
 }
 
 /// String offsets of a package without indexes, and whether there is no string then.
-fn without_indexes(alloc: Global, offsets: &[u8], said: &mut String) -> Said {
-    let mut strings = PackageStringTable::new(alloc);
-    let range = remap_packaged_offsets(
-        alloc,
+fn without_indexes(row: Row<'_>, said: &mut Said) {
+    let mut strings = PackageStringTable::new(row.alloc);
+    said.bytes(&remap_packaged_offsets(
+        row.alloc,
         &mut strings,
         None,
         None,
         b"",
-        offsets,
+        row.bytes(1),
         Endianness::Big,
         encoding("dwarf5"),
-    );
-    let is_empty = strings.is_empty();
-    put_range(&range, said)?;
-    put(said, &is_empty)
+    ));
+    said.put(&strings.is_empty());
 }
 
 /// The row of an index that has a range in a section.
-fn row_with(
-    alloc: Global,
-    index: Option<&UnitIndex>,
+fn put_row(
+    row: Row<'_>,
+    index: Option<&UnitIndex<'_>>,
     section: SectionKind,
     range: Contribution,
-) -> Result<Option<u32>, Error> {
-    Ok(RowPlaces::new(alloc, index, section)?.find(range))
-}
-
-fn row_in(
-    alloc: Global,
-    index: &[u8],
-    section: SectionKind,
-    range: Contribution,
-) -> Result<Option<u32>, Error> {
-    let index = UnitIndex::parse(index, Endianness::Little)?;
-    row_with(alloc, Some(&index), section, range)
+    said: &mut Said,
+) {
+    match RowPlaces::new(row.alloc, index, section) {
+        Ok(places) => said.ok(&places.find(range)),
+        Err(fault) => said.err(&fault),
+    }
 }
 
 /// Ranges of abbreviations and of string offsets, a section, and a range of it: the row that has it.
-fn row_at(row: Row<'_>, said: &mut String) -> Said {
-    let entries = ranges(row.alloc, row.word(1))?;
-    match indexed(row.alloc, encoding("gnu"), &entries) {
-        Ok(index) => put(
+fn row_at(row: Row<'_>, said: &mut Said) {
+    let index = indexed(row.alloc, encoding("gnu"), row.word(1), said);
+    match parsed(&index) {
+        Ok(index) => put_row(
+            row,
+            Some(&index),
+            row.kind(2),
+            contribution(row.word(3)),
             said,
-            &row_in(row.alloc, &index, row.kind(2), contribution(row.word(3))),
         ),
-        Err(fault) => put(said, &fault),
+        Err(fault) => said.err(&fault),
     }
 }
 
 /// A section and a range of it, where there is no index.
-fn row_nowhere(row: Row<'_>, said: &mut String) -> Said {
-    put(
-        said,
-        &row_with(row.alloc, None, row.kind(1), contribution(row.word(2))),
-    )
+fn row_nowhere(row: Row<'_>, said: &mut Said) {
+    put_row(row, None, row.kind(1), contribution(row.word(2)), said);
 }
 
 /// The laws are called for their contracts.
-fn laws(said: &mut String) -> Said {
+fn laws(said: &mut Said) {
     rows_are_found_by_place();
     every_row_is_found_by_place();
     packaged_rows_are_read_alike();
-    put_word(said, "called")
+    said.word("called");
 }

@@ -1,9 +1,8 @@
 //! Calls of `thorin_parts`: hash tables, entries, written indexes and relocations.
 
-use crate::row::{Hex, Row, Said, number, put, put_fault};
-use crate::strings::encoding;
+use crate::row::{Row, Said, encoding, number, place, split};
 use dwp_base::{Contribution, ContributionOffset, Endianness, SectionKind};
-use dwp_bytes::{Encoding, RelocationEntry};
+use dwp_bytes::{Encoding, ReadError, RelocationEntry};
 use dwp_elf_read::ElfFile;
 use dwp_index::{DwarfObject, DwoId, UnitIndex};
 use std::alloc::{AllocError, Global};
@@ -13,37 +12,40 @@ use thorin_parts::{
 };
 
 /// Makes the call of a row.
-pub fn call(row: Row<'_>, said: &mut String) -> Said {
+pub fn call(row: Row<'_>, said: &mut Said) {
     match row.word(0) {
         "slots" => slots(row, said),
-        "slots_of" => put(said, &slots_of(row.alloc, row.number(1))),
+        "slots_of" => slots_of(row, said),
         "index_of" => index_of(row, said),
         "moved" => moved(row, said),
-        "relocations_of" => relocations(row.alloc, row.bytes(1), said),
+        "moved_by" => moved_by(row, said),
+        "relocations_of" | "relocations_in" => relocations_of(row, said),
         _ => crate::faults::call(row, said),
     }
 }
 
 /// The contribution of a word: a place, `+` and a size; none without them.
 fn part(word: &str) -> Option<Contribution> {
-    let (offset, size) = word.split_once('+')?;
+    let (offset, size) = split(word, "+");
+    if size.is_empty() {
+        return None;
+    }
     Some(Contribution {
         offset: ContributionOffset(number(offset)),
         size: number(size),
     })
 }
 
-/// The entry of a compilation unit, with these contributions.
+/// The entry of compilation unit 0, with these contributions.
 fn entry(
     encoding: Encoding,
-    id: u64,
     info: Option<Contribution>,
     abbrev: Option<Contribution>,
     str_offsets: Option<Contribution>,
 ) -> IndexEntry {
     IndexEntry {
         encoding,
-        id: DwarfObject::Compilation(DwoId(id)),
+        id: DwarfObject::Compilation(DwoId(0)),
         debug_info: info,
         debug_types: None,
         debug_abbrev: abbrev,
@@ -57,9 +59,6 @@ fn entry(
     }
 }
 
-/// A range of abbreviations and one of string offsets.
-pub type Ranges = (Contribution, Contribution);
-
 pub fn contribution(word: &str) -> Contribution {
     part(word).unwrap_or(Contribution {
         offset: ContributionOffset(0),
@@ -67,126 +66,180 @@ pub fn contribution(word: &str) -> Contribution {
     })
 }
 
-/// The ranges of a word, with a comma between: each of string offsets, or of abbreviations and,
-/// behind `/`, of string offsets.
-pub fn ranges(alloc: Global, word: &str) -> Result<Vec<Ranges>, AllocError> {
-    let mut ranges = Vec::new(alloc);
-    for range in word.split(',') {
-        let (abbrev, offsets) = range.split_once('/').unwrap_or(("", range));
-        ranges.push((contribution(abbrev), contribution(offsets)))?;
-    }
-    Ok(ranges)
+/// Adds an entry to others.
+fn add(entries: &mut Vec<IndexEntry>, entry: IndexEntry, said: &mut Said) {
+    said.note_that(entries.push(entry).is_ok());
 }
 
-/// An index whose rows have these ranges.
-pub fn indexed(alloc: Global, encoding: Encoding, rows: &[Ranges]) -> Result<Vec<u8>, Error> {
+/// The entry of a row that has the ranges of a word: one of string offsets, or one of abbreviations
+/// and, behind `/`, one of string offsets.
+fn ranged(encoding: Encoding, word: &str) -> IndexEntry {
+    let (abbrev, offsets) = match word.split_once('/') {
+        Some(ranges) => ranges,
+        None => ("", word),
+    };
+    entry(
+        encoding,
+        None,
+        Some(contribution(abbrev)),
+        Some(contribution(offsets)),
+    )
+}
+
+/// An index whose rows have the ranges of a word, with a comma between.
+pub fn indexed(alloc: Global, encoding: Encoding, word: &str, said: &mut Said) -> Vec<u8> {
     let mut entries = Vec::new(alloc);
-    for (number, (abbrev, offsets)) in rows.iter().enumerate() {
-        entries.push(entry(encoding, number as u64, None, Some(*abbrev), Some(*offsets)))?;
+    for range in word.split(',') {
+        let mut entry = ranged(encoding, range);
+        entry.id = DwarfObject::Compilation(DwoId(entries.len() as u64));
+        add(&mut entries, entry, said);
     }
-    write_index(alloc, Endianness::Little, &entries)
+    match write_index(alloc, Endianness::Little, &entries) {
+        Ok(index) => index,
+        Err(fault) => {
+            said.err(&fault);
+            Vec::new(alloc)
+        }
+    }
 }
 
 /// The entry of a word: an encoding, an identifier, and contributions to abbreviations and to info,
 /// with a colon between.
 fn entry_of(word: &str) -> IndexEntry {
-    let mut words = word.split(':');
-    let encoding = encoding(words.next().unwrap_or(""));
-    let id = number(words.next().unwrap_or(""));
-    let abbrev = part(words.next().unwrap_or(""));
-    let info = part(words.next().unwrap_or(""));
-    entry(encoding, id, info, abbrev, None)
+    let (format, rest) = split(word, ":");
+    let (id, rest) = split(rest, ":");
+    let (abbrev, info) = split(rest, ":");
+    let mut entry = entry(encoding(format), part(info), part(abbrev), None);
+    entry.id = DwarfObject::Compilation(DwoId(number(id)));
+    entry
 }
 
-fn entries(row: Row<'_>, place: usize) -> Result<Vec<IndexEntry>, AllocError> {
+/// The entries of the words 2 on.
+fn entries(row: Row<'_>, said: &mut Said) -> Vec<IndexEntry> {
     let mut entries = Vec::new(row.alloc);
-    for word in row.rest(place) {
-        entries.push(entry_of(word))?;
+    for word in row.rest(2) {
+        add(&mut entries, entry_of(word), said);
     }
-    Ok(entries)
+    entries
 }
 
 /// A byte order, and entries: the bytes of their index.
-fn index_of(row: Row<'_>, said: &mut String) -> Said {
-    let entries = entries(row, 2)?;
-    match write_index(row.alloc, row.order(1), &entries) {
-        Ok(index) => put(said, &(index.len(), Hex(&index))),
-        Err(fault) => put(said, &fault),
-    }
-}
-
-/// The hash table of these identifiers.
-fn table(alloc: Global, words: &[&str]) -> Result<Buckets, Error> {
-    let mut units = Vec::new(alloc);
-    for word in words {
-        units.push(DwoId(number(word)))?;
-    }
-    bucket(alloc, &units)
+fn index_of(row: Row<'_>, said: &mut Said) {
+    let entries = entries(row, said);
+    said.sized(&write_index(row.alloc, row.order(1), &entries));
 }
 
 /// Identifiers: the slots of their hash table, and how many were looked at for each.
-fn slots(row: Row<'_>, said: &mut String) -> Said {
-    match table(row.alloc, row.rest(1)) {
+fn slots(row: Row<'_>, said: &mut Said) {
+    let mut units = Vec::new(row.alloc);
+    for word in row.rest(1) {
+        said.note_that(units.push(DwoId(number(word))).is_ok());
+    }
+    put_table(bucket(row.alloc, &units), said);
+}
+
+fn put_table(table: Result<Buckets, Error>, said: &mut Said) {
+    match table {
         Ok(Buckets { slots, looked }) => {
-            put(said, &slots)?;
-            put(said, &looked)
+            said.put(&slots);
+            said.put(&looked);
         }
-        Err(fault) => put(said, &fault),
+        Err(fault) => said.put(&fault),
     }
 }
 
 /// How many slots the table of so many units has.
-fn slots_of(alloc: Global, count: u64) -> Result<usize, Error> {
-    let mut units = Vec::new(alloc);
-    for id in 0..count {
-        units.push(DwoId(id))?;
+fn slots_of(row: Row<'_>, said: &mut Said) {
+    let mut units = Vec::new(row.alloc);
+    for id in 0..row.number(1) {
+        said.note_that(units.push(DwoId(id)).is_ok());
     }
-    Ok(bucket(alloc, &units)?.slots.len())
+    put_size(bucket(row.alloc, &units), said);
+}
+
+fn put_size(table: Result<Buckets, Error>, said: &mut Said) {
+    match table {
+        Ok(table) => said.ok(&table.slots.len()),
+        Err(fault) => said.err(&fault),
+    }
+}
+
+/// An identifier, and the entries of an index, if there is one: the unit's abbreviations in an output
+/// that has the section's 0x18 bytes from 0x20 on.
+fn moved(row: Row<'_>, said: &mut Said) {
+    if row.rest(2).is_empty() {
+        put_abbreviations(None, row.number(1), said);
+        return;
+    }
+    let entries = entries(row, said);
+    put_moved(
+        write_index(row.alloc, Endianness::Little, &entries),
+        row.number(1),
+        said,
+    );
+}
+
+/// An index and an identifier: the same.
+fn moved_by(row: Row<'_>, said: &mut Said) {
+    put_indexed(
+        UnitIndex::parse(row.bytes(1), Endianness::Little),
+        row.number(2),
+        said,
+    );
+}
+
+fn put_moved(index: Result<Vec<u8>, Error>, id: u64, said: &mut Said) {
+    match index {
+        Ok(index) => put_indexed(UnitIndex::parse(&index, Endianness::Little), id, said),
+        Err(fault) => said.err(&fault),
+    }
+}
+
+fn put_indexed(index: Result<UnitIndex<'_>, ReadError>, id: u64, said: &mut Said) {
+    match index {
+        Ok(index) => put_abbreviations(Some(&index), id, said),
+        Err(fault) => said.err(&fault),
+    }
 }
 
 /// Where a unit's abbreviations lie in an output that has the section from 0x20 on.
-fn abbreviations_of(index: Option<&UnitIndex>, id: u64) -> Result<Option<Contribution>, Error> {
+fn put_abbreviations(index: Option<&UnitIndex<'_>>, id: u64, said: &mut Said) {
     let adjustor = ContributionAdjustor::new(index, None, SectionKind::Abbrev);
     let whole = Contribution {
         offset: ContributionOffset(0x20),
         size: 0x18,
     };
-    adjustor.adjust(DwarfObject::Compilation(DwoId(id)), Some(whole))
+    said.put(&adjustor.adjust(DwarfObject::Compilation(DwoId(id)), Some(whole)));
 }
 
-fn moved_in(alloc: Global, entries: &[IndexEntry], id: u64) -> Result<Option<Contribution>, Error> {
-    if entries.is_empty() {
-        return abbreviations_of(None, id);
-    }
-    let bytes = write_index(alloc, Endianness::Little, entries)?;
-    abbreviations_of(Some(&UnitIndex::parse(&bytes, Endianness::Little)?), id)
-}
-
-/// An identifier, and the entries of an index, if there is one: the unit's abbreviations in an output
-/// that has the section's 0x18 bytes from 0x20 on.
-fn moved(row: Row<'_>, said: &mut String) -> Said {
-    let entries = entries(row, 2)?;
-    put(said, &moved_in(row.alloc, &entries, row.number(1)))
-}
-
-fn relocations_of(alloc: Global, bytes: &[u8]) -> Result<Vec<RelocationEntry>, Error> {
-    let file = ElfFile::parse(bytes)?;
-    match file.section_by_name(".debug_info") {
-        Some(section) => add_relocations(alloc, &file, &section),
-        None => Ok(Vec::new(alloc)),
+/// An executable: the places that are relocated in `.debug_info`, or in the section of a number, and
+/// what they read as where 0x10 is stored.
+fn relocations_of(row: Row<'_>, said: &mut Said) {
+    match ElfFile::parse(row.bytes(1)) {
+        Ok(file) => put_section(&file, row, said),
+        Err(fault) => said.put(&fault),
     }
 }
 
-/// An executable: the places that are relocated in `.debug_info`, and what they read as where 0x10
-/// is stored.
-fn relocations(alloc: Global, bytes: &[u8], said: &mut String) -> Said {
-    match relocations_of(alloc, bytes) {
+fn put_section(file: &ElfFile<'_>, row: Row<'_>, said: &mut Said) {
+    let section = if row.word(2).is_empty() {
+        file.section_by_name(".debug_info")
+    } else {
+        file.section(place(row.word(2)))
+    };
+    match section {
+        Some(section) => put_relocations(&add_relocations(row.alloc, file, &section), said),
+        None => said.word("no section"),
+    }
+}
+
+fn put_relocations(found: &Result<Vec<RelocationEntry>, Error>, said: &mut Said) {
+    match found {
         Ok(found) => {
-            for entry in &found {
-                put(said, &(entry.offset, entry.relocation.value(0x10)))?;
+            for entry in found {
+                said.put(&(entry.offset, entry.relocation.value(0x10)));
             }
-            Ok(())
         }
-        Err(fault) => put_fault(said, &fault),
+        Err(fault) => said.fault(fault),
     }
 }

@@ -1,37 +1,35 @@
 //! Calls of the readers of `dwp_bytes`: numbers of each size and order, relocated or not.
 
-ghost use Rattle.std.specs.Prelude.{◌≡◌};
-
-use crate::row::{Row, Said, Text, number, put, put_word};
+use crate::row::{Row, Said, Text, number, split};
+use Endianness::Little;
 use dwp_base::Endianness;
 use dwp_bytes::{Format, ReadError, Reader, Relocate, Relocation, RelocationEntry, SliceReader};
 
 /// Makes the call of a row.
-pub fn call(row: Row<'_>, said: &mut String) -> Said {
+pub fn call(row: Row<'_>, said: &mut Said) {
     match row.word(0) {
         "read" => steps(
             SliceReader::new(row.bytes(2), row.order(1)),
             row.rest(3),
             said,
         ),
-        "relocated" => once(row.bytes(1), row.rest(2), said),
-        "relocated_twice" => twice(row.bytes(1), row.rest(2), said),
+        "relocated" => once(SliceReader::new(row.bytes(1), Little), row.rest(2), said),
+        "relocated_twice" => twice(SliceReader::new(row.bytes(1), Little), row.rest(2), said),
         _ => crate::dwarf::call(row, said),
     }
 }
 
 /// Takes steps with a reader one after the other.
-fn steps<R: Reader>(mut at: R, calls: &[&str], said: &mut String) -> Said {
+fn steps<R: Reader>(mut at: R, calls: &[&str], said: &mut Said) {
     let base = at;
     for call in calls {
-        let (call, argument) = call.split_once(':').unwrap_or((*call, ""));
+        let (call, argument) = split(call, ":");
         let argument = (number(argument) & 0xff) as u8;
         match number_read(&mut at, call, argument) {
-            Some(number) => put(said, &number)?,
-            None => step(&mut at, &base, call, argument, said)?,
+            Some(number) => said.put(&number),
+            None => step(&mut at, &base, call, argument, said),
         }
     }
-    Ok(())
 }
 
 /// A number that is read, by its kind and its size.
@@ -49,27 +47,48 @@ fn number_read<R: Reader>(at: &mut R, call: &str, size: u8) -> Option<Result<u64
 }
 
 /// What else is done to a reader, and what it answers; `base` stands at the section's beginning.
-fn step<R: Reader>(at: &mut R, base: &R, call: &str, argument: u8, said: &mut String) -> Said {
-    let size = usize::from(argument);
+fn step<R: Reader>(at: &mut R, base: &R, call: &str, argument: u8, said: &mut Said) {
     match call {
-        "u8" => put(said, &at.read_u8()),
-        "u16" => put(said, &at.read_u16()),
-        "u24" => put(said, &at.read_u24()),
-        "u32" => put(said, &at.read_u32()),
-        "sleb" => put(said, &at.read_sleb128()),
-        "endian" => put(said, &at.endian()),
-        "find" => put(said, &at.find(argument)),
-        "from_start" => put(said, &at.offset_from(base)),
-        "piece" => put(said, &take_piece(at, size)),
-        "skip" => put(said, &at.skip(size)),
-        "truncate" => put(said, &at.truncate(size)),
-        "fill" => put(said, &filled(at)),
-        "text" => put(said, &at.to_string()),
-        "bytes" => put(said, &Text(at.to_slice())),
-        "len" => put(said, &(at.len(), at.is_empty())),
+        "u8" => said.put(&at.read_u8()),
+        "u16" => said.put(&at.read_u16()),
+        "u24" => said.put(&at.read_u24()),
+        "u32" => said.put(&at.read_u32()),
+        "sleb" => said.put(&at.read_sleb128()),
+        _ => cut(at, base, call, argument, said),
+    }
+}
+
+/// Where a reader goes, and what it finds.
+fn cut<R: Reader>(at: &mut R, base: &R, call: &str, argument: u8, said: &mut Said) {
+    match shortened(at, call, usize::from(argument)) {
+        Some(done) => said.put(&done),
+        None => ask(at, base, call, argument, said),
+    }
+}
+
+/// Goes on in the next so many bytes, behind them, or up to them.
+fn shortened<R: Reader>(at: &mut R, call: &str, size: usize) -> Option<Result<(), ReadError>> {
+    match call {
+        "piece" => Some(take_piece(at, size)),
+        "skip" => Some(at.skip(size)),
+        "truncate" => Some(at.truncate(size)),
+        _ => None,
+    }
+}
+
+/// What a reader has left.
+fn ask<R: Reader>(at: &mut R, base: &R, call: &str, byte: u8, said: &mut Said) {
+    match call {
+        "find" => said.put(&at.find(byte)),
+        "from_start" => said.put(&at.offset_from(base)),
+        "endian" => said.put(&at.endian()),
+        "fill" => said.put(&filled(at)),
+        "text" => said.put(&at.to_string()),
+        "bytes" => said.put(&Text(at.to_slice())),
+        "len" => said.put(&(at.len(), at.is_empty())),
         _ => {
             at.empty();
-            put_word(said, "empty")
+            said.word("empty");
         }
     }
 }
@@ -87,39 +106,45 @@ fn filled<R: Reader>(at: &mut R) -> Result<[u8; 2], ReadError> {
     Ok(buffer)
 }
 
-fn entry(offset: usize, addend: u64, implicit_addend: bool) -> RelocationEntry
-    ensures { result ≡ record {
-      offset = offset;
-      relocation = record { addend = addend; implicit_addend = implicit_addend };
-    } }
-{
+/// To 0x1100 itself at 0, and by 0x1000 beside what is stored at 8.
+static TWO: [RelocationEntry; 2] = [
     RelocationEntry {
-        offset,
+        offset: 0,
         relocation: Relocation {
-            addend,
-            implicit_addend,
+            addend: 0x1100,
+            implicit_addend: false,
         },
-    }
-}
+    },
+    RelocationEntry {
+        offset: 8,
+        relocation: Relocation {
+            addend: 0x1000,
+            implicit_addend: true,
+        },
+    },
+];
+
+/// By 1 beside what is stored at 8.
+static AGAIN: [RelocationEntry; 1] = [RelocationEntry {
+    offset: 8,
+    relocation: Relocation {
+        addend: 1,
+        implicit_addend: true,
+    },
+}];
 
 /// Relocated to 0x1100 itself at 0, and by 0x1000 beside what is stored at 8.
-fn once(section: &[u8], calls: &[&str], said: &mut String) -> Said {
-    let relocations = [entry(0, 0x1100, false), entry(8, 0x1000, true)];
-    let section = SliceReader::new(section, Endianness::Little);
-    steps(Relocate::new(&relocations, section), calls, said)
+fn once<R: Reader>(section: R, calls: &[&str], said: &mut Said) {
+    steps(Relocate::new(&TWO, section), calls, said);
 }
 
 /// The same, and by 1 beside what was read so at 8. The reader stands there.
-fn twice(section: &[u8], calls: &[&str], said: &mut String) -> Said {
-    let relocations = [entry(0, 0x1100, false), entry(8, 0x1000, true)];
-    let again = [entry(8, 1, true)];
-    let section = Relocate::new(&relocations, SliceReader::new(section, Endianness::Little));
-    let twice = Relocate {
-        relocations: &again,
-        section,
-        reader: behind(section),
-    };
-    steps(twice, calls, said)
+fn twice<R: Reader>(section: R, calls: &[&str], said: &mut Said) {
+    again(Relocate::new(&TWO, section), calls, said);
+}
+
+fn again<R: Reader>(section: R, calls: &[&str], said: &mut Said) {
+    steps(behind(Relocate::new(&AGAIN, section)), calls, said);
 }
 
 /// The reader behind the next eight bytes.

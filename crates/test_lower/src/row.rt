@@ -1,12 +1,10 @@
 //! The words of a row, what they stand for, and how answers are printed.
 
 use dwp_base::{Endianness, SectionKind};
+use dwp_bytes::{Encoding, Format};
 use std::alloc::{AllocError, Global};
 use std::fmt;
 use std::fmt::{Debug, Display};
-
-/// An answer that is printed fails only for want of memory.
-pub type Said = Result<(), AllocError>;
 
 /// A row: a call and its arguments.
 #[derive(Clone, Copy)]
@@ -59,6 +57,14 @@ impl<'a> Row<'a> {
         order(self.word(place))
     }
 
+    /// The format of a word.
+    pub fn format(self, place: usize) -> Format {
+        match self.word(place) {
+            "wide" => Format::Dwarf64,
+            _ => Format::Dwarf32,
+        }
+    }
+
     /// The section of a name of the enum's.
     pub fn kind(self, place: usize) -> SectionKind {
         kind(self.word(place))
@@ -92,6 +98,20 @@ pub fn kind(word: &str) -> SectionKind {
     }
 }
 
+/// The encoding of a word: `gnu`, `dwarf5` or `wide`, which is DWARF 5 of 64 bits.
+pub fn encoding(word: &str) -> Encoding {
+    let (version, format) = match word {
+        "gnu" => (4, Format::Dwarf32),
+        "wide" => (5, Format::Dwarf64),
+        _ => (5, Format::Dwarf32),
+    };
+    Encoding {
+        version,
+        format,
+        address_size: 8,
+    }
+}
+
 fn digit(c: u8) -> u8 {
     match c {
         b'0'..=b'9' => c - b'0',
@@ -120,47 +140,52 @@ pub fn place(word: &str) -> usize {
 
 /// The bytes of hexadecimal digits, two each.
 pub fn bytes_of(alloc: Global, digits: &str) -> Result<Vec<u8>, AllocError> {
-    let mut bytes = Vec::new(alloc);
-    for pair in digits.as_bytes().chunks_exact(2) {
-        if let [high, low] = pair {
-            bytes.push((digit(*high) & 15) << 4 | digit(*low) & 15)?;
-        }
+    let digits = digits.as_bytes();
+    let mut bytes = Vec::from_elem(alloc, 0, digits.len() / 2)?;
+    for i in 0..digits.len() / 2 {
+        let byte = (digit(digits[2 * i]) & 15) << 4 | digit(digits[2 * i + 1]) & 15;
+        set(&mut bytes, i, byte);
     }
     Ok(bytes)
 }
 
-/// The bytes of a word of hexadecimal digits, or of a name behind `@`, which stands with its digits
-/// in a line of `named`; changes may follow, each a comma, a place, `=` and a byte.
+/// Puts another byte at a place, where there is one.
+fn set(bytes: &mut [u8], place: usize, byte: u8) {
+    if place < bytes.len() {
+        bytes[place] = byte;
+    }
+}
+
+/// The bytes of a word of hexadecimal digits, or of a name with `@` before it, which stands with its
+/// digits in a line of `named`; changes may follow, each a comma, a place, `=` and a byte.
 pub fn bytes_of_word(alloc: Global, named: &str, word: &str) -> Result<Vec<u8>, AllocError> {
-    let (digits, changes) = word.split_once(',').unwrap_or((word, ""));
-    let digits = match digits.strip_prefix('@') {
-        Some(name) => digits_of(named, name),
-        None => digits,
-    };
-    let mut bytes = bytes_of(alloc, digits)?;
+    let (digits, changes) = split(word, ",");
+    let mut bytes = bytes_of(alloc, digits_of(named, digits))?;
     change(&mut bytes, changes);
     Ok(bytes)
 }
 
-/// The digits of a name.
-fn digits_of<'a>(named: &'a str, name: &str) -> &'a str {
-    for line in named.lines() {
-        if let Some((found, digits)) = line.split_once(' ') {
-            if found == name {
-                return digits;
-            }
-        }
+/// The digits behind a name, or those that the word has itself.
+fn digits_of<'a>(named: &'a str, word: &'a str) -> &'a str {
+    if !word.starts_with('@') {
+        return word;
     }
-    ""
+    let (_before, found) = split(named, word);
+    let (line, _behind) = split(found, "\n");
+    line.trim_start()
+}
+
+/// What stands before a part of a text and behind it; the text and nothing, where it hasn't the part.
+pub fn split<'a>(text: &'a str, part: &str) -> (&'a str, &'a str) {
+    text.split_once(part).unwrap_or((text, ""))
 }
 
 /// Puts other bytes at some places.
 pub fn change(bytes: &mut [u8], changes: &str) {
     for change in changes.split(',') {
-        if let Some((at, byte)) = change.split_once('=') {
-            if let Some(old) = bytes.get_mut(place(at)) {
-                *old = (number(byte) & 0xff) as u8;
-            }
+        let (at, byte) = split(change, "=");
+        if !byte.is_empty() {
+            set(bytes, place(at), (number(byte) & 0xff) as u8);
         }
     }
 }
@@ -171,17 +196,20 @@ pub struct Hex<'a>(pub &'a [u8]);
 
 impl Debug for Hex<'_> {
     fn fmt<W: fmt::Write>(&self, f: &mut fmt::Formatter<W>) -> fmt::Result {
-        let is_long = self.0.len() > 48;
-        for line in self.0.chunks(48) {
-            if is_long {
-                f.write_str("\n    ")?;
-            }
-            for byte in line {
-                write!(f, "{byte:02x}")?;
-            }
+        let bytes = self.0;
+        for i in 0..bytes.len() {
+            put_byte(f, bytes.len() > 48 && i % 48 == 0, bytes[i])?;
         }
         Ok(())
     }
+}
+
+/// Prints the digits of a byte, in a new line if it begins one.
+fn put_byte<W: fmt::Write>(f: &mut fmt::Formatter<W>, begins: bool, byte: u8) -> fmt::Result {
+    if begins {
+        f.write_str("\n    ")?;
+    }
+    write!(f, "{byte:02x}")
 }
 
 /// Bytes, which print as text in quotes, or else as hexadecimal digits.
@@ -197,26 +225,139 @@ impl Debug for Text<'_> {
     }
 }
 
-/// Adds an answer, behind `; ` where there is one before it.
-pub fn put<T: Debug>(said: &mut String, answer: &T) -> Said {
-    if !said.is_empty() {
-        said.push_str("; ")?;
-    }
-    write!(said, "{answer:?}")
+/// What is answered. Where memory was refused nothing more is added, and the program fails.
+#[derive(Drop)]
+pub struct Said {
+    text: String,
+    is_begun: bool,
+    is_refused: bool,
 }
 
-/// Adds a word in place of an answer.
-pub fn put_word(said: &mut String, word: &str) -> Said {
-    if !said.is_empty() {
-        said.push_str("; ")?;
+impl Said {
+    /// Nothing yet.
+    pub fn new(alloc: Global) -> Said {
+        Said {
+            text: String::new(alloc),
+            is_begun: false,
+            is_refused: false,
+        }
     }
-    said.push_str(word)
-}
 
-/// Adds a fault and its text, in a line of their own behind the first.
-pub fn put_fault<T: Debug + Display>(said: &mut String, fault: &T) -> Said {
-    if !said.is_empty() {
-        said.push_str("\n    ")?;
+    /// The answers.
+    pub fn finish(self) -> Result<String, AllocError> {
+        if self.is_refused {
+            return Err(AllocError);
+        }
+        Ok(self.text)
     }
-    write!(said, "{fault:?}: {fault}")
+
+    /// Notes that memory was refused, if it isn't so.
+    pub fn note_that(&mut self, is_done: bool) {
+        if !is_done {
+            self.is_refused = true;
+        }
+    }
+
+    fn add(&mut self, text: &str) {
+        let is_done = self.text.push_str(text).is_ok();
+        self.note_that(is_done);
+    }
+
+    /// Begins with the answers of a row.
+    pub fn begin(&mut self, line: &str) {
+        self.add("\n");
+        self.add(line);
+        self.add("\n    ");
+        self.is_begun = false;
+    }
+
+    fn separate(&mut self, separator: &str) {
+        if self.is_begun {
+            self.add(separator);
+        }
+        self.is_begun = true;
+    }
+
+    /// Adds an answer, behind `; ` where there is one before it.
+    pub fn put<T: Debug>(&mut self, answer: &T) {
+        self.separate("; ");
+        let is_done = write!(self.text, "{answer:?}").is_ok();
+        self.note_that(is_done);
+    }
+
+    /// Adds the answer of a call that may be refused and isn't.
+    pub fn ok<T: Debug>(&mut self, answer: &T) {
+        self.separate("; ");
+        let is_done = write!(self.text, "Ok({answer:?})").is_ok();
+        self.note_that(is_done);
+    }
+
+    /// Adds why such a call is refused.
+    pub fn err<T: Debug>(&mut self, fault: &T) {
+        self.separate("; ");
+        let is_done = write!(self.text, "Err({fault:?})").is_ok();
+        self.note_that(is_done);
+    }
+
+    /// Adds a word in place of an answer.
+    pub fn word(&mut self, word: &str) {
+        self.separate("; ");
+        self.add(word);
+    }
+
+    /// Adds a fault and its text, in a line of their own behind the first.
+    pub fn fault<T: Debug + Display>(&mut self, fault: &T) {
+        self.separate("\n    ");
+        let is_done = write!(self.text, "{fault:?}: {fault}").is_ok();
+        self.note_that(is_done);
+    }
+
+    /// Adds bytes, or why there are none.
+    pub fn bytes<E: Debug>(&mut self, bytes: &Result<Vec<u8>, E>) {
+        match bytes {
+            Ok(bytes) => self.put(&Hex(bytes)),
+            Err(fault) => self.put(fault),
+        }
+    }
+
+    /// Adds how many bytes there are, and these, or why there are none.
+    pub fn sized<E: Debug>(&mut self, bytes: &Result<Vec<u8>, E>) {
+        match bytes {
+            Ok(bytes) => self.put(&(bytes.len(), Hex(bytes))),
+            Err(fault) => self.put(fault),
+        }
+    }
+
+    /// What was made, or the other where memory was refused.
+    pub fn made<T: Drop>(&mut self, made: Result<T, AllocError>, other: T) -> T {
+        match made {
+            Ok(made) => made,
+            Err(AllocError) => {
+                self.is_refused = true;
+                other
+            }
+        }
+    }
+
+    /// What was placed, or nothing where memory was refused.
+    pub fn placed<'a, T>(&mut self, placed: Result<&'a [T], AllocError>) -> &'a [T] {
+        match placed {
+            Ok(placed) => placed,
+            Err(AllocError) => {
+                self.is_refused = true;
+                &[]
+            }
+        }
+    }
+
+    /// Adds bytes to others.
+    pub fn extend(&mut self, out: &mut Vec<u8>, bytes: &[u8]) {
+        let is_done = out.extend_from_slice(bytes).is_ok();
+        self.note_that(is_done);
+    }
+
+    /// The bytes of hexadecimal digits.
+    pub fn bytes_of(&mut self, alloc: Global, digits: &str) -> Vec<u8> {
+        self.made(bytes_of(alloc, digits), Vec::new(alloc))
+    }
 }

@@ -1,6 +1,6 @@
 //! Calls of the sessions of `thorin_faults`: what they read and place.
 
-use crate::row::{Row, Said, Text, put};
+use crate::row::{Row, Said, Text};
 use bumpalo::Bump;
 use std::alloc::{AllocError, Global};
 use std::borrow::CowSlice;
@@ -12,7 +12,7 @@ use std::rt::Files;
 use thorin_faults::{ArenaSession, BytesSession, InputError, MemorySession, Session, read_into};
 
 /// Makes the call of a row.
-pub fn call(row: Row<'_>, said: &mut String) -> Said {
+pub fn call(row: Row<'_>, said: &mut Said) {
     match row.word(0) {
         "memory_session" => memory(row, said),
         "bytes_session" => bytes(row, said),
@@ -21,95 +21,82 @@ pub fn call(row: Row<'_>, said: &mut String) -> Said {
     }
 }
 
-/// What was read and what was placed, one after the other.
-#[derive(Drop)]
-struct Placed<'s> {
-    read: &'s [u8],
-    owned: &'s [u8],
-    borrowed: &'s [u8],
-    numbers: &'s [u64],
+/// A copy of the bytes of word 2.
+fn owned(row: Row<'_>, said: &mut Said) -> Vec<u8> {
+    said.made(row.bytes(2).to_vec(row.alloc), Vec::new(row.alloc))
 }
 
-/// Reads a file, and places bytes and numbers beside it.
-fn read_and_place<'s, S: Session<u64>>(
-    session: &'s S,
-    path: Path<'_>,
-    bytes: Vec<u8>,
-) -> Result<Placed<'s>, InputError> {
-    let read = session.read_input(path)?;
-    let owned = session.alloc_owned_cow(CowSlice::Owned(bytes))?;
-    let borrowed = session.alloc_owned_cow(CowSlice::Borrowed(read))?;
-    let numbers = session.alloc_relocation(&[3, 5])?;
-    Ok(Placed {
-        read,
-        owned,
-        borrowed,
-        numbers,
-    })
+/// A path and bytes: what a session reads at the path, and places beside it.
+fn put_session<S: Session<u64>>(session: &S, row: Row<'_>, said: &mut Said) {
+    let bytes = owned(row, said);
+    put_input(
+        session,
+        session.read_input(Path::new(row.word(1))),
+        bytes,
+        said,
+    );
 }
 
-fn put_placed(placed: &Placed<'_>, said: &mut String) -> Said {
-    put(said, &(Text(placed.read), Text(placed.owned)))?;
-    put(said, &(Text(placed.borrowed), placed.numbers))
-}
-
-/// What a session reads of a file, and places beside it.
-fn put_session<S: Session<u64>>(
+fn put_input<S: Session<u64>>(
     session: &S,
-    path: &str,
+    read: Result<&[u8], InputError>,
     bytes: Vec<u8>,
-    said: &mut String,
-) -> Said {
-    match read_and_place(session, Path::new(path), bytes) {
-        Ok(placed) => put_placed(&placed, said),
-        Err(fault) => put(said, &fault),
+    said: &mut Said,
+) {
+    match read {
+        Ok(read) => put_placed(session, read, bytes, said),
+        Err(fault) => said.put(&fault),
     }
 }
 
-/// What a session places without a file.
-fn put_session_alone<S: Session<u64>>(session: &S, bytes: Vec<u8>, said: &mut String) -> Said {
-    put(said, &Text(session.alloc_data(bytes)?))?;
-    put(said, &session.alloc_relocation(&[3u64, 5])?)
+/// What was read and what is placed, one after the other: own bytes, borrowed ones, and numbers.
+fn put_placed<S: Session<u64>>(session: &S, read: &[u8], bytes: Vec<u8>, said: &mut Said) {
+    let owned = said.placed(session.alloc_owned_cow(CowSlice::Owned(bytes)));
+    let borrowed = said.placed(session.alloc_owned_cow(CowSlice::Borrowed(read)));
+    let numbers = said.placed(session.alloc_relocation(&[3, 5]));
+    said.put(&(Text(read), Text(owned)));
+    said.put(&(Text(borrowed), numbers));
 }
 
-/// The file `a.dwo` with some bytes.
-fn files(alloc: Global, bytes: Vec<u8>) -> Result<BTreeMap<String, Vec<u8>>, AllocError> {
+/// What a session places without a file.
+fn put_session_alone<S: Session<u64>>(session: &S, bytes: Vec<u8>, said: &mut Said) {
+    let data = said.placed(session.alloc_data(bytes));
+    let numbers = said.placed(session.alloc_relocation(&[3, 5]));
+    said.put(&Text(data));
+    said.put(&numbers);
+}
+
+/// The file `a.dwo` with the bytes `abc`.
+fn files(alloc: Global) -> Result<BTreeMap<String, Vec<u8>>, AllocError> {
     let mut files = BTreeMap::new(alloc);
-    files.insert(String::from_str(alloc, "a.dwo")?, bytes)?;
+    files.insert(String::from_str(alloc, "a.dwo")?, b"abc".to_vec(alloc)?)?;
     Ok(files)
 }
 
 /// A path, and bytes: what a session with the bytes `abc` as `a.dwo` reads at the path, and places
-/// beside it.
-fn memory(row: Row<'_>, said: &mut String) -> Said {
-    let bytes = row.bytes(2).to_vec(row.alloc)?;
-    let files = files(row.alloc, b"abc".to_vec(row.alloc)?)?;
+/// beside it; and whether its arena is emptied then.
+fn memory(row: Row<'_>, said: &mut Said) {
+    let files = said.made(files(row.alloc), BTreeMap::new(row.alloc));
     let mut bump = Bump::new(row.alloc);
-    let session = MemorySession::new(&bump, &files);
-    let done = put_session(&session, row.word(1), bytes, said);
+    put_session(&MemorySession::new(&bump, &files), row, said);
     // Before the last use of what was placed this doesn't compile: the arena is still borrowed
     // (E0502).
-    let is_emptied = bump.reset().is_ok();
-    done?;
-    put(said, &is_emptied)
+    said.put(&bump.reset().is_ok());
 }
 
 /// A path, and bytes: what a session without files reads, and what it places without a file.
-fn bytes(row: Row<'_>, said: &mut String) -> Said {
-    let bytes = row.bytes(2).to_vec(row.alloc)?;
-    let again = row.bytes(2).to_vec(row.alloc)?;
+fn bytes(row: Row<'_>, said: &mut Said) {
     let bump = Bump::new(row.alloc);
     let session = BytesSession::new(&bump);
-    put_session(&session, row.word(1), bytes, said)?;
-    put_session_alone(&session, again, said)
+    put_session(&session, row, said);
+    let bytes = owned(row, said);
+    put_session_alone(&session, bytes, said);
 }
 
 /// The same of a session that reads the files of the system, or of any other.
-pub fn arena<R: Files>(files: &R, row: Row<'_>, said: &mut String) -> Said {
-    let bytes = row.bytes(2).to_vec(row.alloc)?;
+pub fn arena<R: Files>(files: &R, row: Row<'_>, said: &mut Said) {
     let bump = Bump::new(row.alloc);
-    let session = ArenaSession::new(files, &bump);
-    put_session(&session, row.word(1), bytes, said)
+    put_session(&ArenaSession::new(files, &bump), row, said);
 }
 
 /// Gives bytes one at a time, and then an error of the kind.
@@ -137,7 +124,7 @@ impl Read for Failing {
 
 /// How many bytes a reader gives before it fails, and the kind of its fault, `OutOfMemory` or
 /// another: what is answered.
-fn read_failing(row: Row<'_>, said: &mut String) -> Said {
+fn read_failing(row: Row<'_>, said: &mut Said) {
     let bump = Bump::new(row.alloc);
     let mut file = Failing {
         left: (row.number(1) & 0xff) as u8,
@@ -146,8 +133,12 @@ fn read_failing(row: Row<'_>, said: &mut String) -> Said {
             _ => io::ErrorKind::ConnectionReset,
         },
     };
-    match read_into(&bump, &mut file, 2) {
-        Ok(bytes) => put(said, &Text(bytes)),
-        Err(fault) => put(said, &fault),
+    put_read(read_into(&bump, &mut file, 2), said);
+}
+
+fn put_read(read: Result<&[u8], InputError>, said: &mut Said) {
+    match read {
+        Ok(bytes) => said.put(&Text(bytes)),
+        Err(fault) => said.put(&fault),
     }
 }

@@ -1,0 +1,129 @@
+//! Calls of `dwp_index`.
+
+use crate::row::{Hex, Row, Said};
+use dwp_base::SectionKind;
+use dwp_bytes::ReadError;
+use dwp_elf_read::ReadError as ElfReadError;
+use dwp_index::*;
+
+/// Makes the call of a row.
+pub fn call(row: Row<'_>, said: &mut Said) {
+    match row.word(0) {
+        "index" | "column" | "look_up" | "range" => of_index(row, said),
+        "package" | "packaged" | "units" | "first_byte" => of_package(row, said),
+        "texts_of_index" => texts_of_index(said),
+        "inflate" => crate::inflated::inflated(row, said),
+        _ => said.word("no such call"),
+    }
+}
+
+/// A byte order and an index.
+fn of_index(row: Row<'_>, said: &mut Said) {
+    match UnitIndex::parse(row.bytes(2), row.order(1)) {
+        Ok(index) => in_index(&index, row, said),
+        Err(fault) => said.err(&fault),
+    }
+}
+
+/// An index's version, and its numbers of units and of slots; whether it has a column; the row of an
+/// identifier; or what a row has of a section.
+fn in_index(index: &UnitIndex<'_>, row: Row<'_>, said: &mut Said) {
+    match row.word(0) {
+        "index" => said.ok(&(index.version(), index.unit_count(), index.slot_count())),
+        "column" => said.ok(&index.has_column(row.kind(3))),
+        "look_up" => look_up(index, row.number(3), said),
+        _ => range(index, row, said),
+    }
+}
+
+/// The row of a unit, alone and with how many slots are read for it.
+fn look_up(index: &UnitIndex<'_>, id: u64, said: &mut Said) {
+    said.ok(&index.find(id));
+    said.ok(&index.find_counted(id));
+}
+
+fn range(index: &UnitIndex<'_>, row: Row<'_>, said: &mut Said) {
+    match index.row(row.small(3)) {
+        Ok(found) => said.ok(&found.range(row.kind(4))),
+        Err(fault) => said.err(&fault),
+    }
+}
+
+/// A package, and a unit of it.
+fn of_package(row: Row<'_>, said: &mut Said) {
+    match PackageFile::parse(row.bytes(1)) {
+        Ok(package) => in_package(&package, row, said),
+        Err(fault) => said.err(&fault),
+    }
+}
+
+fn in_package(package: &PackageFile<'_>, row: Row<'_>, said: &mut Said) {
+    match row.word(0) {
+        "package" => look_up_unit(package, unit(row), said),
+        "packaged" => packaged(package, row, said),
+        "units" => units(package, said),
+        _ => said.ok(&package.first_byte(unit(row))),
+    }
+}
+
+/// The unit of words 2 and 3, `cu` or `tu` and an identifier.
+fn unit(row: Row<'_>) -> DwarfObject {
+    match row.word(2) {
+        "tu" => DwarfObject::TypeUnit(DebugTypeSignature(row.number(3))),
+        _ => DwarfObject::Compilation(DwoId(row.number(3))),
+    }
+}
+
+/// How many slots are read for a unit, and its row where the package has it.
+fn look_up_unit(package: &PackageFile<'_>, object: DwarfObject, said: &mut Said) {
+    match package.find_counted(object) {
+        Ok(found) => put_counted(found, said),
+        Err(fault) => said.err(&fault),
+    }
+}
+
+fn put_counted((unit, slots): (Option<PackagedUnit<'_>>, u32), said: &mut Said) {
+    match unit {
+        Some(unit) => said.ok(&(Some(unit.row()), slots)),
+        None => said.ok(&(None::<u32>, slots)),
+    }
+}
+
+/// A unit and a kind: its encoding, its first string, its bytes, its contribution to the section and
+/// the bytes of that.
+fn packaged(package: &PackageFile<'_>, row: Row<'_>, said: &mut Said) {
+    match package.find(unit(row)) {
+        Ok(Some(unit)) => put_unit(&unit, row.kind(4), said),
+        Ok(None) => said.word("no unit"),
+        Err(fault) => said.err(&fault),
+    }
+}
+
+fn put_unit(unit: &PackagedUnit<'_>, kind: SectionKind, said: &mut Said) {
+    said.put(&(unit.encoding(), unit.string(0), Hex(unit.bytes())));
+    said.put(&(unit.range(kind), Hex(unit.section(kind))));
+}
+
+/// The first units that the indexes name.
+fn units(package: &PackageFile<'_>, said: &mut Said) {
+    let mut units = package.units();
+    said.ok(&[told(units.next()), told(units.next())]);
+}
+
+fn told(entry: Option<UnitEntry>) -> Option<(DwarfObject, u32)> {
+    match entry {
+        Some(entry) => Some((entry.object, entry.row)),
+        None => None,
+    }
+}
+
+fn texts_of_index(said: &mut Said) {
+    for fault in [
+        PackageError::Elf(ElfReadError::TooShort),
+        PackageError::Index(ReadError::SlotCount),
+        PackageError::Range(SectionKind::Info),
+        PackageError::Unit(ReadError::UnknownVersion),
+    ] {
+        said.fault(&fault);
+    }
+}

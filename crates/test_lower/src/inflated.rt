@@ -1,0 +1,9 @@
+//! Calls of `dwp_inflate`: streams that Python's zlib wrote, and each fault of a stream.
+
+use crate::row::{Row, Said, place};
+use dwp_inflate::inflate;
+
+/// A stream and how many bytes it gives: these bytes, or its fault.
+pub fn inflated(row: Row<'_>, said: &mut Said) {
+    said.bytes(&inflate(row.alloc, row.bytes(1), place(row.word(2))));
+}
