@@ -3,7 +3,7 @@
 
 It compiles OBJECTS small sources (60) by gcc, clang, g++ and clang++ with split debug information, versions 4 and 5, packs
 them by samples/c/pack.c and by the program, and compares the packages; packs the packages again by both; looks all their
-units up by samples/c/lookup.c. All of it once plain and once with AddressSanitizer and LeakSanitizer, as the compiler CC has them
+units up by samples/c/lookup.c, which opens a package. All of it once plain and once with AddressSanitizer and LeakSanitizer, as the compiler CC has them
 (gcc). Then damaged_calls.c calls each export over FILES damaged files (5000), plain and with the sanitizers."""
 import os
 import subprocess
