@@ -17,7 +17,7 @@ CC = os.environ.get("CC", "gcc")
 PLAIN = ["-O2"]
 SANITIZED = ["-g", "-O1", "-fno-omit-frame-pointer", "-fsanitize=address,undefined", "-fno-sanitize-recover=all"]
 DAMAGED = ["hello.dwo", "five.dwo", "loclists.dwo", "strings.dwo", "tx.dwo", "ty.dwo", "tv.dwo", "v.dwo", "big32.dwo",
-           "llvm4.dwp", "llvm5.dwp", "x.dwp", "shared.dwp"]
+           "llvm4.dwp", "llvm5.dwp", "x.dwp", "shared.dwp", "app"]
 
 SOURCE = """
 struct node_{n} {{ int value; struct node_{n} *next; char name[{n} + 8]; }};

@@ -202,6 +202,28 @@ static void read_package(const uint8_t *bytes, size_t size) {
   }
 }
 
+/* The objects that a file names: what is told of them fits together, and nothing is written past the room. */
+static void list_skeletons(const uint8_t *bytes, size_t size) {
+  thorin_skeleton names[4];
+  uint8_t paths[100];
+  thorin_report report;
+  uint64_t units = 7, sum = 0;
+  memset(names, 0x5a, sizeof names);
+  memset(paths, 0x5a, sizeof paths);
+  memset(&report, 0x5a, sizeof report);
+  int32_t status = thorin_skeletons(bytes, size, names, 3, paths, 99, &units, &report);
+  count(status, "skeletons");
+  if (status != THORIN_DONE && status != THORIN_REFUSED) fail("no status of skeletons", status);
+  test_report(&report, status == THORIN_REFUSED ? THORIN_UNFINISHED : status, 0);
+  if (names[3].id != 0x5a5a5a5a5a5a5a5a || paths[99] != 0x5a) fail("written past the room", status);
+  for (uint64_t i = 0; i < units && i < 3; i++) {
+    if (names[i].kind != THORIN_COMPILATION && names[i].kind != THORIN_TYPE_UNIT) fail("no such kind", status);
+    sum += names[i].path_size + 1;
+    if (sum <= 99 && paths[sum - 1] != 0) fail("a path has no end", status);
+  }
+  if (units <= 3 && sum != report.size) fail("paths of another size", status);
+}
+
 static void overwrite(room_t room) { memset(room.begin, 0xee, (size_t)(room.end - room.begin)); }
 
 /* The calls that pack, over inputs in two rooms that are overwritten in the end. */
@@ -290,6 +312,7 @@ int main(int argc, char **argv) {
     size_t size = damage(one.begin, chosen);
     memmove(last(one, size), one.begin, size);
     read_package(last(one, size), size);
+    list_skeletons(last(one, size), size);
     /* Two inputs, the second as it is or damaged too. */
     thorin_bytes inputs[2] = {{last(one, size), size}, {both.end, 0}};
     const thorin_bytes *other = &whole[drawn(files)];

@@ -12,8 +12,8 @@
  * - The memory that a call writes to is nothing that another of its arguments refers to.
  * - What a call reads doesn't change while it runs: a mapped file is neither written nor cut short.
  *
- * Compiled with -DTHORIN_CHECK, each call of this header asserts what of this a program can see: the
- * pointers, their alignment, and that nothing that is written overlaps anything else.
+ * Compiled with -DTHORIN_CHECK, each call of this header asserts what of this a program can see:
+ * the pointers, their alignment, and that nothing that is written overlaps anything else.
  *
  * What is only written needs no value before. Bytes that a call lends lie in the package, are valid
  * as long as its memory is there and unchanged, and aren't freed. A call keeps nothing after it
@@ -245,8 +245,8 @@ int32_t thorin_list(const uint8_t *bytes, size_t size, thorin_name *names, size_
 
 /**
  * Where the sections of a package lie among its bytes: plain numbers, in memory of yours, and
- * nothing to close. The calls that take it are safe for any numbers: they then answer what the bytes
- * at these places mean, or a status, and read nothing outside of the package.
+ * nothing to close. The calls that take it are safe for any numbers: they then answer what the
+ * bytes at these places mean, or a status, and read nothing outside of the package.
  */
 typedef struct {
   thorin_range info;          /**< .debug_info.dwo */
@@ -346,11 +346,12 @@ int32_t thorin_list_in(const thorin_package *package, const uint8_t *bytes, size
 /* ---- packing */
 
 /**
- * Why an input was refused, or a package can't be finished. The calls here are given bytes and
- * follow no executable: they never tell 1 and 33 (files that are read or written), 6 to 10 and 30
- * (relocations and executables), and 38, which is the status THORIN_NO_MEMORY. Inputs of another
- * byte order are refused with 32. Units of another encoding are found when the package is finished:
- * THORIN_UNFINISHED with 32, and no input is told.
+ * Why an input was refused, a package can't be finished, or a list of skeletons ended. The calls
+ * here are given bytes and follow no executable: they never tell 1 and 33 (files that are read or
+ * written), 30 (an executable's units that are missing), and 38, which is the status
+ * THORIN_NO_MEMORY; 6 to 10 (relocations and skeletons) are told by thorin_skeletons() alone.
+ * Inputs of another byte order are refused with 32. Units of another encoding are found when the
+ * package is finished: THORIN_UNFINISHED with 32, and no input is told.
  */
 enum thorin_fault {
   THORIN_FAULT_READ_INPUT = 1,         /**< An input file could not be read. */
@@ -486,6 +487,36 @@ int32_t thorin_pack(const thorin_bytes *inputs, size_t count, uint8_t *out, size
 int32_t thorin_differing_types(const thorin_bytes *inputs, size_t count, uint64_t *types,
                                size_t room, thorin_report *report);
 
+/* ---- executables */
+
+/** A split unit that an executable names: a skeleton unit, or a type unit's. */
+typedef struct {
+  uint64_t id;        /**< the DWO id of a compilation unit, or the signature of a type unit */
+  uint64_t path_size; /**< how many bytes the path of its object has */
+  uint8_t kind;       /**< THORIN_COMPILATION or THORIN_TYPE_UNIT */
+} thorin_skeleton;
+
+/**
+ * Lists the split units that an executable (or a .o file) names, in order, and the paths of their
+ * objects: read these files, and pack what they hold. A path that isn't whole stands behind the
+ * folder in which the unit was compiled, as DWARF has it.
+ * @param bytes The executable.
+ * @param size How many bytes it has.
+ * @param[out] names As many units as there is room for.
+ * @param room How many there is room for.
+ * @param[out] paths The paths in the same order, each with a zero byte behind it, as far as there
+ *   is room; the last one may be cut.
+ * @param paths_room How many bytes there is room for.
+ * @param[out] count How many units there are.
+ * @param[out] report In report->size, how many bytes the paths have, the zero bytes with them; at
+ *   THORIN_REFUSED the fault that ends the list. Its other fields are left as they were.
+ * @return THORIN_DONE; THORIN_REFUSED where a fault ends the list, and then all is written of the
+ *   units before it; THORIN_NO_MEMORY, and then nothing is.
+ */
+int32_t thorin_skeletons(const uint8_t *bytes, size_t size, thorin_skeleton *names, size_t room,
+                         uint8_t *paths, size_t paths_room, uint64_t *count,
+                         thorin_report *report);
+
 /* ---- the layouts that the library was built with */
 /** @cond */
 
@@ -538,6 +569,9 @@ THORIN_IS(lookup_id, offsetof(thorin_lookup, id) == 0);
 THORIN_IS(lookup_kind, offsetof(thorin_lookup, kind) == 8);
 THORIN_IS(lookup_status, offsetof(thorin_lookup, status) == 12);
 THORIN_IS(lookup_unit, offsetof(thorin_lookup, unit) == 16);
+THORIN_IS(skeleton_size, sizeof(thorin_skeleton) == 24);
+THORIN_IS(skeleton_path_size, offsetof(thorin_skeleton, path_size) == 8);
+THORIN_IS(skeleton_kind, offsetof(thorin_skeleton, kind) == 16);
 THORIN_IS(report_size, sizeof(thorin_report) == 296);
 THORIN_IS(report_length, offsetof(thorin_report, size) == 0);
 THORIN_IS(report_input, offsetof(thorin_report, input) == 8);

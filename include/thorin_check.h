@@ -133,6 +133,21 @@ static inline int32_t thorin_checked_list_in(const thorin_package *package, cons
   return thorin_list_in(package, bytes, size, names, room, count);
 }
 
+static inline int32_t thorin_checked_skeletons(const uint8_t *bytes, size_t size, thorin_skeleton *names, size_t room,
+                                               uint8_t *paths, size_t paths_room, uint64_t *count,
+                                               thorin_report *report) {
+  THORIN_CHECK_BYTES, THORIN_CHECK_ARRAY(names, room), THORIN_CHECK_ONE(count), THORIN_CHECK_ONE(report);
+  thorin_check_some(paths, paths_room, 1, 1);
+  thorin_check_apart(paths, paths_room, bytes, size);
+  thorin_check_apart(paths, paths_room, names, room * sizeof *names);
+  thorin_check_apart(paths, paths_room, count, sizeof *count);
+  thorin_check_apart(paths, paths_room, report, sizeof *report);
+  thorin_check_apart(names, room * sizeof *names, count, sizeof *count);
+  thorin_check_apart(names, room * sizeof *names, report, sizeof *report);
+  thorin_check_apart(count, sizeof *count, report, sizeof *report);
+  return thorin_skeletons(bytes, size, names, room, paths, paths_room, count, report);
+}
+
 static inline int32_t thorin_checked_pack(const thorin_bytes *inputs, size_t count, uint8_t *out, size_t room,
                                           thorin_report *report) {
   thorin_check_some(out, room, 1, 1);
@@ -161,6 +176,7 @@ static inline int32_t thorin_checked_differing_types(const thorin_bytes *inputs,
 #define thorin_content_in thorin_checked_content_in
 #define thorin_string_in thorin_checked_string_in
 #define thorin_list_in thorin_checked_list_in
+#define thorin_skeletons thorin_checked_skeletons
 #define thorin_pack thorin_checked_pack
 #define thorin_differing_types thorin_checked_differing_types
 

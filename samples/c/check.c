@@ -205,6 +205,21 @@ static void null_is_a_place_of_nothing(void) {
   CALL(thorin_pack(inputs + 1, 1, NULL, 0, &report), THORIN_TOO_SMALL);
   SAME(report.size, 728);
   CALL(thorin_differing_types(inputs + 1, 1, NULL, 0, &report), THORIN_DONE);
+  CALL(thorin_skeletons(NULL, 0, NULL, 0, NULL, 0, &count, &report), THORIN_REFUSED);
+  SAME(report.fault, THORIN_FAULT_PARSE_OBJECT_FILE);
+}
+
+/* An object that was split names no other: no unit of it is in `.debug_info`. */
+static void a_split_object_names_no_other(void) {
+  thorin_report report = {0};
+  thorin_skeleton skeleton = {7, 7, 7};
+  uint8_t path[1] = {7};
+  uint64_t count = 7;
+  CALL(thorin_skeletons(object, sizeof object, &skeleton, 1, path, 1, &count, &report), THORIN_DONE);
+  SAME(count, 0);
+  SAME(report.size, 0);
+  SAME(skeleton.id, 7);
+  SAME(path[0], 7);
 }
 
 int main(void) {
@@ -215,6 +230,7 @@ int main(void) {
   many_units_are_looked_up_and_listed();
   a_package_stays_open();
   null_is_a_place_of_nothing();
+  a_split_object_names_no_other();
   if (failed) return 1;
   printf("check: %u calls as expected\n", calls);
   return 0;

@@ -1,6 +1,7 @@
 -- Sections and their headers.
 use Rattle.std.proofs.Common.{◌≡◌, ◌∙◌, ℕ, zero, suc, ◌+◌, ◌*◌, ◌<◌, ◌≤◌, Bool, true, false, cond}
-use Rattle.std.proofs.Common.{not, ◌||◌, ◌&&◌, List, [], length, Some, None, Result, Ok, Err, Option}
+use Rattle.std.proofs.Common.{not, ◌||◌, ◌&&◌, List, [], length, Some, None, Result, Ok, Err}
+use Rattle.std.proofs.Common.{Option}
 use Rattle.std.proofs.Common.{refl, sym, ap, subst, arith, map, IsTrue}
 use Rattle.std.specs.Prelude.{slice_get, slice_range, ◌==◌}
 use Rattle.std.specs.List.{range_with_len}
@@ -48,7 +49,7 @@ counted class order bytes n e =
     let header = file_header_of (word_size class) order bytes in
     let named = bind_ok (named_count class order bytes header) _ n e in
     let both = inside_of (is_inside bytes header.table (named.0 * entry_size class)) named.0 n _
-        named.2 in
+    named.2 in
     subst (λ m. header.table + m * entry_size class ≤ length bytes) both.1
     (leb-true (header.table + named.0 * entry_size class) (length bytes) both.0)
 
@@ -133,7 +134,7 @@ section_there bytes elf r i s at =
     let within : i < length elf.sections = slice_get_within elf.sections i s at in
     let inside : i < r.count = omega (arith, count_of bytes elf r, within) in
     let same = sym (slice_get-range _ 0 r.count i inside) ∙ ap (λ l. slice_get l i)
-        (sym r.sections) ∙ at in
+    (sym r.sections) ∙ at in
     let zero_more : 0 + i ≡ i = omega arith in
     subst (λ k. section_of bytes r.names k
     (section_header_at elf.class elf.order bytes (table_in elf bytes) k) ≡ s) zero_more
@@ -168,7 +169,7 @@ content_there bytes elf i s kind e at filled =
     let h = section_header_at elf.class elf.order bytes (table_in elf bytes) i in
     let is = section_there bytes elf r i s at in
     let of_kind : IsTrue (is_of_kind kind (section_of bytes r.names i h)) =
-        subst (λ t. IsTrue (is_of_kind kind t)) (sym is) filled in
+    subst (λ t. IsTrue (is_of_kind kind t)) (sym is) filled in
     subst (λ (t : SectionMeaning). ok_or t.content SectionRange
     ≡ cond (is_inside bytes h.offset t.size)
     (Ok (bytes_at bytes (record { offset = h.offset; size = t.size }))) (Err SectionRange)) is

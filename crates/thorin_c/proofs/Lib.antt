@@ -7,3 +7,4 @@ pub mod FirstSection
 pub mod FirstUnit
 pub mod Headers
 pub mod ByPlaces
+pub mod SkeletonLists

@@ -5,4 +5,5 @@ pub mod Listing
 pub mod OpenedFields
 pub mod Opening
 pub mod Packing
+pub mod Skeletons
 pub mod Statuses

@@ -191,11 +191,7 @@ fn look_up<'p, 'a>(
 }
 
 #[tactic(auto, unfolding(crate::specs::Finding::unit_in))]
-fn look_up_in<'p, 'a>(
-    pack: &Opened<'p, 'a>,
-    kind: u8,
-    id: u64,
-) -> Result<(Found<'p, 'a>, u32), i32>
+fn look_up_in<'p, 'a>(pack: &Opened<'p, 'a>, kind: u8, id: u64) -> Result<(Found<'p, 'a>, u32), i32>
     ensures { Answers (λ x. x) result (unit_in pack.now kind id) }
 {
     let object = object_of(kind, id)?;

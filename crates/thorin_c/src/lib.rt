@@ -13,6 +13,7 @@ mod packing;
 mod rows;
 mod sections;
 mod session;
+mod skeletons;
 mod status;
 mod types;
 mod unit;
@@ -26,7 +27,9 @@ pub use listing::{thorin_list, thorin_unit_count};
 pub use opening::thorin_open;
 pub use packing::{thorin_differing_types, thorin_pack};
 pub use rows::thorin_find_rows;
+pub use skeletons::thorin_skeletons;
 pub use types::{
-    ThorinBytes, ThorinLookup, ThorinName, ThorinPackage, ThorinRange, ThorinReport, ThorinUnit,
+    ThorinBytes, ThorinLookup, ThorinName, ThorinPackage, ThorinRange, ThorinReport,
+    ThorinSkeleton, ThorinUnit,
 };
 pub use version::{thorin_status_text, thorin_version};

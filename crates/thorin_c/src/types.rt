@@ -100,6 +100,18 @@ pub struct ThorinName {
     pub kind: u8,
 }
 
+/// A split unit that an executable names.
+#[repr(C)]
+#[derive(Clone, Copy)]
+pub struct ThorinSkeleton {
+    /// The identifier of a compilation unit, or the signature of a type unit.
+    pub id: u64,
+    /// How many bytes the path of its object has, without the zero byte behind it.
+    pub path_size: u64,
+    /// 1 for a compilation unit, 2 for a type unit.
+    pub kind: u8,
+}
+
 /// One of many look-ups: which unit, and what came of it.
 #[repr(C)]
 #[derive(Clone, Copy)]

@@ -16,12 +16,12 @@ overflow_mul-header c =
     let word = c.word_size_of-word.ensures ∙ ap word_size c.class.ensures in
     let entry = c.entry_size_of-entry.ensures ∙ ap entry_size c.class-2.ensures in
     let table = table_read c.args.bytes.now file c.class-3.result c.endianness.result
-        c.word_size_of-word.result c.word_at-table.result c.class-3.ensures c.endianness.ensures
-        word c.word_at-table.ensures in
+    c.word_size_of-word.result c.word_at-table.result c.class-3.ensures c.endianness.ensures
+    word c.word_at-table.ensures in
     let inside = all_inside c.args.bytes.now file c.args.number c.word_size_of-word.result
-        c.entry_size_of-entry.result c.word_at-table.result c.requires.whole c.requires.there
-        word entry table in
-    omega (arith, inside.product, c.type_inv.bytes)
+    c.entry_size_of-entry.result c.word_at-table.result c.requires.whole c.requires.there
+    word entry table in
+    omega (arith, inside.product)
 
 pub overflow_add-header : goal.overflow_add-header
 overflow_add-header c =
@@ -29,12 +29,12 @@ overflow_add-header c =
     let word = c.word_size_of-word.ensures ∙ ap word_size c.class.ensures in
     let entry = c.entry_size_of-entry.ensures ∙ ap entry_size c.class-2.ensures in
     let table = table_read c.args.bytes.now file c.class-3.result c.endianness.result
-        c.word_size_of-word.result c.word_at-table.result c.class-3.ensures c.endianness.ensures
-        word c.word_at-table.ensures in
+    c.word_size_of-word.result c.word_at-table.result c.class-3.ensures c.endianness.ensures
+    word c.word_at-table.ensures in
     let inside = all_inside c.args.bytes.now file c.args.number c.word_size_of-word.result
-        c.entry_size_of-entry.result c.word_at-table.result c.requires.whole c.requires.there
-        word entry table in
-    omega (arith, inside.header, c.type_inv.bytes)
+    c.entry_size_of-entry.result c.word_at-table.result c.requires.whole c.requires.there
+    word entry table in
+    omega (arith, inside.header)
 
 pub overflow_add-place-2 : goal.overflow_add-place-2
 overflow_add-place-2 c =
@@ -42,12 +42,12 @@ overflow_add-place-2 c =
     let word = c.word_size_of-word.ensures ∙ ap word_size c.class.ensures in
     let entry = c.entry_size_of-entry.ensures ∙ ap entry_size c.class-2.ensures in
     let table = table_read c.args.bytes.now file c.class-3.result c.endianness.result
-        c.word_size_of-word.result c.word_at-table.result c.class-3.ensures c.endianness.ensures
-        word c.word_at-table.ensures in
+    c.word_size_of-word.result c.word_at-table.result c.class-3.ensures c.endianness.ensures
+    word c.word_at-table.ensures in
     let inside = all_inside c.args.bytes.now file c.args.number c.word_size_of-word.result
-        c.entry_size_of-entry.result c.word_at-table.result c.requires.whole c.requires.there
-        word entry table in
-    omega (arith, inside.place, c.type_inv.bytes)
+    c.entry_size_of-entry.result c.word_at-table.result c.requires.whole c.requires.there
+    word entry table in
+    omega (arith, inside.place)
 
 pub word_at-requires : goal.word_at-requires
 word_at-requires c =
@@ -55,11 +55,11 @@ word_at-requires c =
     let word = c.word_size_of-word.ensures ∙ ap word_size c.class.ensures in
     let entry = c.entry_size_of-entry.ensures ∙ ap entry_size c.class-2.ensures in
     let table = table_read c.args.bytes.now file c.class-3.result c.endianness.result
-        c.word_size_of-word.result c.word_at-table.result c.class-3.ensures c.endianness.ensures
-        word c.word_at-table.ensures in
+    c.word_size_of-word.result c.word_at-table.result c.class-3.ensures c.endianness.ensures
+    word c.word_at-table.ensures in
     let inside = all_inside c.args.bytes.now file c.args.number c.word_size_of-word.result
-        c.entry_size_of-entry.result c.word_at-table.result c.requires.whole c.requires.there
-        word entry table in
+    c.entry_size_of-entry.result c.word_at-table.result c.requires.whole c.requires.there
+    word entry table in
     let same = ap word_size c.class-4.ensures in
     omega (arith, inside.place, same, word)
 
@@ -69,8 +69,8 @@ returns c =
     let word = c.word_size_of-word.ensures ∙ ap word_size c.class.ensures in
     let entry = c.entry_size_of-entry.ensures ∙ ap entry_size c.class-2.ensures in
     let table = table_read c.args.bytes.now file c.class-3.result c.endianness.result
-        c.word_size_of-word.result c.word_at-table.result c.class-3.ensures c.endianness.ensures
-        word c.word_at-table.ensures in
+    c.word_size_of-word.result c.word_at-table.result c.class-3.ensures c.endianness.ensures
+    word c.word_at-table.ensures in
     offset_read c.args.bytes.now file c.args.number c.class-4.result c.endianness-2.result
     c.word_size_of-word.result c.entry_size_of-entry.result c.word_at-table.result
     c.word_at.result c.class-4.ensures c.endianness-2.ensures word entry table c.word_at.ensures
