@@ -2,13 +2,16 @@
 use Rattle.std.proofs.Common.{◌≡◌, ◌∙◌, ℕ, ◌+◌, ◌<◌, List, [], ◌∷◌, ◌++◌, refl, sym, ap, map, take}
 use Rattle.std.proofs.Common.{get_or, length, Option, Some, None}
 use Rattle.std.specs.Prelude.{string_bytes}
-use Rattle.std.proofs.lemmas.List.{append_assoc, map-append, take_more}
-use Rattle.thorin_executable.specs.Skeletons.{Named, Listed}
+use Rattle.std.proofs.lemmas.List.{append_assoc, map-append, take_more, length-map}
+use Rattle.thorin_executable.specs.Skeletons.{Named}
 use Rattle.thorin_executable.specs.View.{named, listed, UnlessMemory}
 use Rattle.thorin_executable.specs.declared.listing.Skeleton.{Skeleton}
 use Rattle.thorin_executable.specs.declared.listing.SkeletonList.{SkeletonList}
 use Rattle.thorin_faults.specs.declared.fault.Error.{Error}
 use Rattle.thorin_c.specs.Skeletons.{paths_of, skeleton_of, skeleton_named}
+use Rattle.thorin_c.specs.Skeletons.{ListsUnits}
+use Rattle.thorin_c.specs.Listing.{written_over}
+use Rattle.thorin_c.specs.declared.types.ThorinReport.{ThorinReport}
 use Rattle.thorin_c.specs.Skeletons.{IsNoWantOfMemory}
 use Rattle.thorin_c.specs.declared.types.ThorinSkeleton.{ThorinSkeleton}
 
@@ -42,15 +45,27 @@ name_next units i unit size name is count said =
     said ∙ ap (λ n. skeleton_of unit.target n) count ∙ ap (λ s. skeleton_named (named s)) is
 
 pub text_next : (units : List Skeleton) (i : ℕ) (unit : Skeleton)
-    (text bytes extended pushed : List ℕ) → i < length units → unit ≡ get_or units i unit
-    → text ≡ paths_of (map named (take i units)) → bytes ≡ string_bytes unit.path
+    (text bytes extended pushed : List ℕ) → i < length units
+    → text ≡ paths_of (map named (take i units)) → bytes ≡ string_bytes (get_or units i unit).path
     → extended ≡ text ++ bytes → pushed ≡ extended ++ 0 ∷ []
     → pushed ≡ paths_of (map named (take (i + 1) units))
-text_next units i unit text bytes extended pushed h is before path extends pushes =
+text_next units i unit text bytes extended pushed h before path extends pushes =
     pushes
     ∙ ap (λ l. l ++ 0 ∷ []) (extends ∙ ap (λ l. l ++ bytes) before ∙ ap (λ l. paths_of (map named
-    (take i units)) ++ l) (path ∙ ap (λ (s : Skeleton). string_bytes s.path) is))
+    (take i units)) ++ l) path)
     ∙ paths-next units i unit h
+
+pub lists : (l : SkeletonList) (old new : List ThorinSkeleton) (before after text : List ℕ)
+    (count : ℕ) (report : ThorinReport) → new ≡ written_over old
+    (map (λ s. skeleton_named (named s)) l.units.items) → after ≡ written_over before text
+    → text ≡ paths_of (listed l).0 → count ≡ length l.units.items → report.size ≡ length text
+    → ListsUnits (listed l).0 old new before after count report
+lists l old new before after text count report names paths is number size = record {
+  names = names ∙ ap (written_over old) (names_named l.units.items);
+  paths = paths ∙ ap (written_over before) is;
+  number = number ∙ sym (length-map l.units.items named);
+  size = size ∙ ap length is;
+}
 
 -- what holds unless memory ran out
 pub unless_memory : (fault : Option Error) (P : Type 0) → UnlessMemory fault P

@@ -58,7 +58,7 @@ fn lacks_memory(fault: &Option<Error>) -> bool
 }
 
 /// Tells of a list whose paths are this text.
-#[tactic(auto, using(crate::proofs::SkeletonLists::names_named))]
+#[tactic(auto, using(crate::proofs::SkeletonLists::lists))]
 fn told(
     list: SkeletonList,
     text: &[u8],

@@ -20,5 +20,6 @@ loop-i-preserved c =
       | else-i-names w ↦
           let room : length c.args.names.now ≤ c.loop-i.i = omega arith in
           w.names-is ∙ pass-at (λ s. skeleton_named (named s)) c.args.names.now c.loop-i.names
-          c.args.units.now c.index-units-i.result c.loop-i.i c.loop-i.invariant c.loop-i-test.true room
+          c.args.units.now c.index-units-i.result c.loop-i.i c.loop-i.invariant
+          c.loop-i-test.true room
     ]
