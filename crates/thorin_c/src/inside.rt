@@ -117,6 +117,7 @@ pub extern "C" fn thorin_list_in(
 }
 
 /// The package whose sections are at these places.
+#[inline(always)]
 fn opened<'p, 'a>(places: &'p ThorinPackage, bytes: &'a [u8]) -> Result<Opened<'p, 'a>, i32>
     ensures { Answers (λ x. x) result (as_status (package_in places.now bytes.now)) }
 {
@@ -148,6 +149,7 @@ fn fill(pack: &Opened<'_, '_>, kind: u8, id: u64, found: &mut ThorinUnit) -> i32
 
 /// Fills in the row of a name.
 #[tactic(auto, unfolding(crate::specs::Finding::row_found))]
+#[inline(always)]
 fn fill_row(pack: &Opened<'_, '_>, kind: u8, id: u64, found: &mut ThorinUnit) -> i32
     ensures { Fills (λ unit. unit) (row_found pack.now kind id) found.old found.new result }
 {

@@ -42,6 +42,7 @@ impl<'p, 'a> Model for Opened<'p, 'a> {
 impl<'p, 'a> Opened<'p, 'a> {
     /// The package whose sections are at these places.
     #[tactic(auto, unfolding(crate::specs::Opening::package_in))]
+    #[inline(always)]
     pub(crate) fn at(
         places: &'p ThorinPackage,
         bytes: &'a [u8],
@@ -81,6 +82,7 @@ impl<'p, 'a> Opened<'p, 'a> {
 
     /// The row of an identifier's unit, and how many slots were looked at.
     #[tactic(auto, unfolding(dwp_index::specs::Package::row_counted))]
+    #[inline(always)]
     pub(crate) fn find_row(
         &self,
         object: DwarfObject,
@@ -98,6 +100,7 @@ impl<'p, 'a> Opened<'p, 'a> {
     }
 
     /// The index of the units of a kind.
+    #[inline(always)]
     fn index_for(&self, object: DwarfObject) -> Option<&UnitIndex<'a>>
         ensures { option_copied result ≡ index_for self.now object }
     {
@@ -108,6 +111,7 @@ impl<'p, 'a> Opened<'p, 'a> {
     }
 
     /// A row whose ranges lie inside their sections.
+    #[inline(always)]
     fn row_inside(
         &self,
         number: u32,
@@ -177,6 +181,7 @@ fn order_of(big_endian: u64) -> Endianness
 
 /// The index in a section's content; none in an empty one.
 #[tactic(auto, unfolding(dwp_index::specs::Package::index_in_section))]
+#[inline(always)]
 fn read_index<'a>(bytes: &'a [u8], order: Endianness) -> Result<Option<UnitIndex<'a>>, PackageError>
     ensures { Answers (λ x. x) result (index_in_section order bytes.now) }
 {

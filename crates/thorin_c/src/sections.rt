@@ -40,6 +40,7 @@ pub(crate) fn bytes_at(bytes: &[u8], place: ThorinRange) -> &[u8]
 
 impl<'p, 'a> PlacedSections<'p, 'a> {
     /// The content of a kind.
+    #[inline(always)]
     pub(crate) fn of(&self, kind: SectionKind) -> &'a [u8]
         ensures { result.now ≡ content (sections_at self.now.places.now self.now.bytes.now) kind }
     {
@@ -73,6 +74,7 @@ impl<'p, 'a> PlacedSections<'p, 'a> {
 
     /// The first section, in the order of columns, that a range of the row isn't inside of.
     #[tactic(auto, unfolding(dwp_index::specs::Package::first_outside))]
+    #[inline(always)]
     pub(crate) fn first_outside(&self, row: &Row<'_>) -> Option<SectionKind>
         ensures { result
             ≡ first_outside (sections_at self.now.places.now self.now.bytes.now) row.now }
@@ -110,6 +112,7 @@ impl<'p, 'a> PlacedSections<'p, 'a> {
         None
     }
 
+    #[inline(always)]
     fn is_outside(&self, row: &Row<'_>, kind: SectionKind) -> bool
         ensures { result ≡ is_outside
             (content (sections_at self.now.places.now self.now.bytes.now) kind)
