@@ -3,7 +3,7 @@
 
 It compiles OBJECTS small sources (60) by gcc, clang, g++ and clang++ with split debug information, versions 4 and 5, packs
 them by samples/c/pack.c and by the program, and compares the packages; packs the packages again by both; looks all their
-units up by samples/c/lookup.c. All of it once plain and once with AddressSanitizer and LeakSanitizer, as the compiler CC has them
+units up by samples/c/lookup.c, which opens a package. All of it once plain and once with AddressSanitizer and LeakSanitizer, as the compiler CC has them
 (gcc). Then damaged_calls.c calls each export over FILES damaged files (5000), plain and with the sanitizers."""
 import os
 import subprocess
@@ -17,7 +17,7 @@ CC = os.environ.get("CC", "gcc")
 PLAIN = ["-O2"]
 SANITIZED = ["-g", "-O1", "-fno-omit-frame-pointer", "-fsanitize=address,undefined", "-fno-sanitize-recover=all"]
 DAMAGED = ["hello.dwo", "five.dwo", "loclists.dwo", "strings.dwo", "tx.dwo", "ty.dwo", "tv.dwo", "v.dwo", "big32.dwo",
-           "llvm4.dwp", "llvm5.dwp", "x.dwp", "shared.dwp"]
+           "llvm4.dwp", "llvm5.dwp", "x.dwp", "shared.dwp", "app"]
 
 SOURCE = """
 struct node_{n} {{ int value; struct node_{n} *next; char name[{n} + 8]; }};

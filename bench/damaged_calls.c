@@ -88,6 +88,54 @@ static void look_up(const uint8_t *bytes, size_t size, thorin_lookup *asked) {
   }
 }
 
+/* The calls over an open package beside those that read it anew: of the same bytes the same; and over numbers that were
+ * changed, an answer inside the package, or a status. */
+static void look_up_in(const thorin_package *package, const uint8_t *bytes, size_t size, const thorin_lookup *asked,
+                       const thorin_lookup *row, int is_opened) {
+  thorin_unit found, alone;
+  memset(&found, 0x5a, sizeof found);
+  alone = found;
+  size_t fields = offsetof(thorin_unit, address_size) + 1;
+  int32_t status = thorin_find_in(package, bytes, size, asked->kind, asked->id, &found);
+  count(status, "find_in");
+  int32_t answer = thorin_find_row_in(package, bytes, size, asked->kind, asked->id, &alone);
+  count(answer, "find_row_in");
+  if (is_opened && (status != asked->status || answer != row->status)) fail("an open package answers otherwise", status);
+  if (is_opened && status == THORIN_DONE && memcmp(&found, &asked->unit, fields) != 0) fail("another unit", status);
+  if (is_opened && answer == THORIN_DONE && memcmp(&alone, &row->unit, fields) != 0) fail("another row", answer);
+  for (unsigned section = 0; section < 11; section++) {
+    thorin_bytes lent = {bytes, 0}, other = {bytes, 0};
+    answer = thorin_content_in(package, bytes, size, asked->kind, asked->id, (uint8_t)section, &lent);
+    count(answer, "content_in");
+    if (answer == THORIN_DONE && lent.size > 0 && !is_inside(lent, bytes, size)) fail("content outside", answer);
+    if (!is_opened) continue;
+    if (thorin_content(bytes, size, asked->kind, asked->id, (uint8_t)section, &other) != answer || other.size != lent.size
+        || (other.size > 0 && other.at != lent.at))
+      fail("other content", answer);
+  }
+  for (uint64_t i = 0; i < 4; i++) {
+    thorin_bytes lent = {bytes, 0}, other = {bytes, 0};
+    answer = thorin_string_in(package, bytes, size, asked->kind, asked->id, i, &lent);
+    count(answer, "string_in");
+    if (answer == THORIN_DONE && (!is_inside(lent, bytes, size) || lent.at[lent.size] != 0)) fail("string outside", answer);
+    if (!is_opened) continue;
+    if (thorin_string(bytes, size, asked->kind, asked->id, i, &other) != answer || other.size != lent.size
+        || (answer == THORIN_DONE && other.at != lent.at))
+      fail("another string", answer);
+  }
+}
+
+/* One of the numbers of an open package, changed. */
+static void change(thorin_package *package, size_t size) {
+  uint64_t *number = (uint64_t *)package + drawn(sizeof *package / sizeof *number);
+  switch (drawn(4)) {
+    case 0: *number = drawn(size + 2); break;
+    case 1: *number ^= (uint64_t)1 << drawn(64); break;
+    case 2: *number = UINT64_MAX - drawn(size + 2); break;
+    default: *number += drawn(5) - 2;
+  }
+}
+
 /* A row beside the unit that it is of: the same, but for what the unit's header says. */
 static void test_row(const thorin_lookup *row, const thorin_lookup *unit, int32_t answer) {
   if (answer != THORIN_DONE) {
@@ -129,6 +177,21 @@ static void read_package(const uint8_t *bytes, size_t size) {
   answer = thorin_find_each(bytes, size, lookups, 7);
   count(answer, "find_each");
   if (answer != status) fail("look-ups and count differ", answer);
+  thorin_package package;
+  memset(&package, 0x5a, sizeof package);
+  thorin_package before = package;
+  int32_t opened = thorin_open(bytes, size, &package);
+  count(opened, "open");
+  if (opened != status) fail("open and count differ", opened);
+  if (opened != THORIN_DONE && memcmp(&package, &before, sizeof package) != 0) fail("an open package was written", opened);
+  for (size_t i = 0; opened == THORIN_DONE && i < 7; i++)
+    look_up_in(&package, bytes, size, &lookups[i], &rows[i], 1);
+  uint64_t again = 7;
+  if (thorin_list_in(&package, bytes, size, NULL, 0, &again) != status || again != units) fail("another list", status);
+  for (size_t i = 0; i < 4; i++) {
+    change(&package, size);
+    look_up_in(&package, bytes, size, &lookups[i], &rows[i], 0);
+  }
   for (size_t i = 0; i < 7; i++) {
     test_row(&rows[i], &lookups[i], answer);
     if (answer != THORIN_DONE) {
@@ -137,6 +200,28 @@ static void read_package(const uint8_t *bytes, size_t size) {
     }
     look_up(bytes, size, &lookups[i]);
   }
+}
+
+/* The objects that a file names: what is told of them fits together, and nothing is written past the room. */
+static void list_skeletons(const uint8_t *bytes, size_t size) {
+  thorin_skeleton names[4];
+  uint8_t paths[100];
+  thorin_report report;
+  uint64_t units = 7, sum = 0;
+  memset(names, 0x5a, sizeof names);
+  memset(paths, 0x5a, sizeof paths);
+  memset(&report, 0x5a, sizeof report);
+  int32_t status = thorin_skeletons(bytes, size, names, 3, paths, 99, &units, &report);
+  count(status, "skeletons");
+  if (status != THORIN_DONE && status != THORIN_REFUSED) fail("no status of skeletons", status);
+  test_report(&report, status == THORIN_REFUSED ? THORIN_UNFINISHED : status, 0);
+  if (names[3].id != 0x5a5a5a5a5a5a5a5a || paths[99] != 0x5a) fail("written past the room", status);
+  for (uint64_t i = 0; i < units && i < 3; i++) {
+    if (names[i].kind != THORIN_COMPILATION && names[i].kind != THORIN_TYPE_UNIT) fail("no such kind", status);
+    sum += names[i].path_size + 1;
+    if (sum <= 99 && paths[sum - 1] != 0) fail("a path has no end", status);
+  }
+  if (units <= 3 && sum != report.size) fail("paths of another size", status);
 }
 
 static void overwrite(room_t room) { memset(room.begin, 0xee, (size_t)(room.end - room.begin)); }
@@ -227,6 +312,7 @@ int main(int argc, char **argv) {
     size_t size = damage(one.begin, chosen);
     memmove(last(one, size), one.begin, size);
     read_package(last(one, size), size);
+    list_skeletons(last(one, size), size);
     /* Two inputs, the second as it is or damaged too. */
     thorin_bytes inputs[2] = {{last(one, size), size}, {both.end, 0}};
     const thorin_bytes *other = &whole[drawn(files)];

@@ -1,6 +1,6 @@
 #!/usr/bin/env python3
 """look_ups.py [FOLDER [TIMES]]: looks 100,000 identifiers up in a package of 100,000 units and about 40 MB that it writes
-into the folder, by lib/libthorin.a (what build-library leaves) and by Debian's gimli (librust-gimli-dev,
+into the folder, by lib/libthorin.a (what build-library leaves), opened and not, and by Debian's gimli (librust-gimli-dev,
 librust-object-dev). Both programs run TIMES times (5) in turn, seven rounds each; it prints the least time that each
 call took, in nanoseconds for one identifier."""
 import random

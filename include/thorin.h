@@ -5,22 +5,30 @@
  * What each call answers and writes is proved to be what is said of it here, on any bytes, as long
  * as C upholds this (crates/thorin_c says it exactly):
  *
- * - No pointer is null, also where the size beside it is 0; each has as many elements behind it as
- *   you say.
+ * - Each pointer has as many elements behind it as you say. Where the size beside it is 0 it may be
+ *   null, also in a thorin_bytes. No other pointer is null.
  * - Structures and arrays are aligned as C aligns their types. Packages and inputs may begin at any
  *   address.
  * - The memory that a call writes to is nothing that another of its arguments refers to.
  * - What a call reads doesn't change while it runs: a mapped file is neither written nor cut short.
  *
- * What is only written needs no value before, but for *found of thorin_content() and
- * thorin_string(), which say so. Bytes that a call lends lie in the package, are valid as long as
- * its memory is there and unchanged, and aren't freed. A call keeps nothing after it returns, needs
- * no setting up, and may run in several threads at once, over one package too.
+ * Compiled with -DTHORIN_CHECK, each call of this header asserts what of this a program can see:
+ * the pointers, their alignment, and that nothing that is written overlaps anything else.
+ *
+ * What is only written needs no value before. Bytes that a call lends lie in the package, are valid
+ * as long as its memory is there and unchanged, and aren't freed. A call keeps nothing after it
+ * returns, needs no setting up, and may run in several threads at once, over one package too.
  *
  * A call answers a status, 0 (THORIN_DONE) where it did what was asked. The calls that read a
  * package take no memory. Those that pack take it by malloc, realloc and free, and give all of it
  * back. They pack bytes: if you have an executable and want the objects that it names packed, run
- * the program (thorin pack -e).
+ * the program (thorin pack -e), or ask thorin_skeletons() for their paths and read them yourself.
+ *
+ * The soname of the shared library has the first number of the version, as libthorin.so.1. Under
+ * one first number a program that was built with an earlier version runs with a later one: calls,
+ * statuses and faults may be added, and no call, structure or number changes or goes. A new second
+ * number has new calls, a new third number none. A program that tests THORIN_VERSION against
+ * thorin_version() learns whether the library that is linked has the calls of its header.
  */
 #ifndef THORIN_H
 #define THORIN_H
@@ -33,9 +41,9 @@ extern "C" {
 #endif
 
 /** The first number of the version. */
-#define THORIN_VERSION_MAJOR 0
+#define THORIN_VERSION_MAJOR 1
 /** The second. */
-#define THORIN_VERSION_MINOR 10
+#define THORIN_VERSION_MINOR 0
 /** The third. */
 #define THORIN_VERSION_PATCH 0
 /** The version of this header as one number. */
@@ -44,7 +52,7 @@ extern "C" {
 
 /**
  * The version of the library that is linked.
- * @return It, as THORIN_VERSION has it. Calls may be added under one number.
+ * @return It, as THORIN_VERSION has it.
  */
 uint32_t thorin_version(void);
 
@@ -101,7 +109,7 @@ enum thorin_section {
 
 /** Bytes. */
 typedef struct {
-  const uint8_t *at; /**< where they begin, never null */
+  const uint8_t *at; /**< where they begin; null only where there are none */
   size_t size;       /**< how many there are */
 } thorin_bytes;
 
@@ -191,7 +199,7 @@ int32_t thorin_find_rows(const uint8_t *bytes, size_t size, thorin_lookup *looku
  * @param id The DWO id or type signature.
  * @param section One of thorin_section.
  * @param[in,out] found The bytes at THORIN_DONE, inside the package, of size 0 where the unit has
- *   none there; else as it was. Its pointer isn't null before the call: take that of the package.
+ *   none there; else as it was.
  * @return As thorin_find(), or THORIN_NO_SUCH_SECTION.
  */
 int32_t thorin_content(const uint8_t *bytes, size_t size, uint8_t kind, uint64_t id,
@@ -206,7 +214,7 @@ int32_t thorin_content(const uint8_t *bytes, size_t size, uint8_t kind, uint64_t
  * @param index Its number: the operand of DW_FORM_strx or DW_FORM_GNU_str_index, by the unit's own
  *   encoding.
  * @param[in,out] found The string at THORIN_DONE, inside the package, without the zero byte that
- *   ends it; else as it was. Its pointer isn't null before the call: take that of the package.
+ *   ends it; else as it was.
  * @return As thorin_find(), THORIN_NO_SUCH_STRING past the last string, or THORIN_MALFORMED_STRING.
  */
 int32_t thorin_string(const uint8_t *bytes, size_t size, uint8_t kind, uint64_t id, uint64_t index,
@@ -233,14 +241,117 @@ int32_t thorin_unit_count(const uint8_t *bytes, size_t size, uint64_t *count);
 int32_t thorin_list(const uint8_t *bytes, size_t size, thorin_name *names, size_t room,
                     uint64_t *count);
 
+/* ---- a package that stays open */
+
+/**
+ * Where the sections of a package lie among its bytes: plain numbers, in memory of yours, and
+ * nothing to close. The calls that take it are safe for any numbers: they then answer what the
+ * bytes at these places mean, or a status, and read nothing outside of the package.
+ */
+typedef struct {
+  thorin_range info;          /**< .debug_info.dwo */
+  thorin_range types;         /**< .debug_types.dwo */
+  thorin_range abbreviations; /**< .debug_abbrev.dwo */
+  thorin_range line;          /**< .debug_line.dwo */
+  thorin_range loc;           /**< .debug_loc.dwo */
+  thorin_range loclists;      /**< .debug_loclists.dwo */
+  thorin_range rnglists;      /**< .debug_rnglists.dwo */
+  thorin_range str_offsets;   /**< .debug_str_offsets.dwo */
+  thorin_range macinfo;       /**< .debug_macinfo.dwo */
+  thorin_range macros;        /**< .debug_macro.dwo */
+  thorin_range strings;       /**< .debug_str.dwo */
+  thorin_range cu_index;      /**< .debug_cu_index */
+  thorin_range tu_index;      /**< .debug_tu_index */
+  uint64_t big_endian;        /**< 0 where numbers have their lowest byte first */
+} thorin_package;
+
+/**
+ * Opens a package: finds its sections, and reads its indexes.
+ * @param bytes The package.
+ * @param size How many bytes it has.
+ * @param[out] package Where its sections lie, at THORIN_DONE; else as it was.
+ * @return THORIN_DONE, THORIN_MALFORMED_FILE or THORIN_MALFORMED_INDEX.
+ */
+int32_t thorin_open(const uint8_t *bytes, size_t size, thorin_package *package);
+
+/**
+ * thorin_find() in a package that is open: the same answer, without reading the file's sections.
+ * @param package What thorin_open() wrote.
+ * @param bytes The same bytes.
+ * @param size How many there are.
+ * @param kind THORIN_COMPILATION or THORIN_TYPE_UNIT.
+ * @param id The DWO id or type signature.
+ * @param[out] found The unit at THORIN_DONE; else as it was.
+ * @return As thorin_find().
+ */
+int32_t thorin_find_in(const thorin_package *package, const uint8_t *bytes, size_t size,
+                       uint8_t kind, uint64_t id, thorin_unit *found);
+
+/**
+ * The row of a unit alone, as thorin_find_rows() looks it up: nothing of the unit is read, and
+ * version, offset_size and address_size are 0.
+ * @param package What thorin_open() wrote.
+ * @param bytes The same bytes.
+ * @param size How many there are.
+ * @param kind THORIN_COMPILATION or THORIN_TYPE_UNIT.
+ * @param id The DWO id or type signature.
+ * @param[out] found The unit at THORIN_DONE; else as it was.
+ * @return As thorin_find(), but never THORIN_MALFORMED_UNIT.
+ */
+int32_t thorin_find_row_in(const thorin_package *package, const uint8_t *bytes, size_t size,
+                           uint8_t kind, uint64_t id, thorin_unit *found);
+
+/**
+ * thorin_content() in a package that is open.
+ * @param package What thorin_open() wrote.
+ * @param bytes The same bytes.
+ * @param size How many there are.
+ * @param kind THORIN_COMPILATION or THORIN_TYPE_UNIT.
+ * @param id The DWO id or type signature.
+ * @param section One of thorin_section.
+ * @param[out] found As of thorin_content().
+ * @return As thorin_content().
+ */
+int32_t thorin_content_in(const thorin_package *package, const uint8_t *bytes, size_t size,
+                          uint8_t kind, uint64_t id, uint8_t section, thorin_bytes *found);
+
+/**
+ * thorin_string() in a package that is open.
+ * @param package What thorin_open() wrote.
+ * @param bytes The same bytes.
+ * @param size How many there are.
+ * @param kind THORIN_COMPILATION or THORIN_TYPE_UNIT.
+ * @param id The DWO id or type signature.
+ * @param index Its number.
+ * @param[out] found As of thorin_string().
+ * @return As thorin_string().
+ */
+int32_t thorin_string_in(const thorin_package *package, const uint8_t *bytes, size_t size,
+                         uint8_t kind, uint64_t id, uint64_t index, thorin_bytes *found);
+
+/**
+ * thorin_list() of a package that is open. A list takes far longer than finding the sections does,
+ * so that is done anew, and the numbers in *package are not looked at.
+ * @param package What thorin_open() wrote.
+ * @param bytes The same bytes.
+ * @param size How many there are.
+ * @param[out] names As of thorin_list().
+ * @param room How many there is room for.
+ * @param[out] count How many units there are, at THORIN_DONE.
+ * @return As thorin_list().
+ */
+int32_t thorin_list_in(const thorin_package *package, const uint8_t *bytes, size_t size,
+                       thorin_name *names, size_t room, uint64_t *count);
+
 /* ---- packing */
 
 /**
- * Why an input was refused, or a package can't be finished. The calls here are given bytes and
- * follow no executable: they never tell 1 and 33 (files that are read or written), 6 to 10 and 30
- * (relocations and executables), and 38, which is the status THORIN_NO_MEMORY. Inputs of another
- * byte order are refused with 32. Units of another encoding are found when the package is finished:
- * THORIN_UNFINISHED with 32, and no input is told.
+ * Why an input was refused, a package can't be finished, or a list of skeletons ended. The calls
+ * here are given bytes and follow no executable: they never tell 1 and 33 (files that are read or
+ * written), 30 (an executable's units that are missing), and 38, which is the status
+ * THORIN_NO_MEMORY; 6 to 10 (relocations and skeletons) are told by thorin_skeletons() alone.
+ * Inputs of another byte order are refused with 32. Units of another encoding are found when the
+ * package is finished: THORIN_UNFINISHED with 32, and no input is told.
  */
 enum thorin_fault {
   THORIN_FAULT_READ_INPUT = 1,         /**< An input file could not be read. */
@@ -376,6 +487,36 @@ int32_t thorin_pack(const thorin_bytes *inputs, size_t count, uint8_t *out, size
 int32_t thorin_differing_types(const thorin_bytes *inputs, size_t count, uint64_t *types,
                                size_t room, thorin_report *report);
 
+/* ---- executables */
+
+/** A split unit that an executable names: a skeleton unit, or a type unit's. */
+typedef struct {
+  uint64_t id;        /**< the DWO id of a compilation unit, or the signature of a type unit */
+  uint64_t path_size; /**< how many bytes the path of its object has */
+  uint8_t kind;       /**< THORIN_COMPILATION or THORIN_TYPE_UNIT */
+} thorin_skeleton;
+
+/**
+ * Lists the split units that an executable (or a .o file) names, in order, and the paths of their
+ * objects: read these files, and pack what they hold. A path that isn't whole stands behind the
+ * folder in which the unit was compiled, as DWARF has it.
+ * @param bytes The executable.
+ * @param size How many bytes it has.
+ * @param[out] names As many units as there is room for.
+ * @param room How many there is room for.
+ * @param[out] paths The paths in the same order, each with a zero byte behind it, as far as there
+ *   is room; the last one may be cut.
+ * @param paths_room How many bytes there is room for.
+ * @param[out] count How many units there are.
+ * @param[out] report In report->size, how many bytes the paths have, the zero bytes with them; at
+ *   THORIN_REFUSED the fault that ends the list. Its other fields are left as they were.
+ * @return THORIN_DONE; THORIN_REFUSED where a fault ends the list, and then all is written of the
+ *   units before it; THORIN_NO_MEMORY, and then nothing is.
+ */
+int32_t thorin_skeletons(const uint8_t *bytes, size_t size, thorin_skeleton *names, size_t room,
+                         uint8_t *paths, size_t paths_room, uint64_t *count,
+                         thorin_report *report);
+
 /* ---- the layouts that the library was built with */
 /** @cond */
 
@@ -412,6 +553,13 @@ THORIN_IS(unit_slots, offsetof(thorin_unit, slots) == 164);
 THORIN_IS(unit_version, offsetof(thorin_unit, version) == 168);
 THORIN_IS(unit_offset_size, offsetof(thorin_unit, offset_size) == 170);
 THORIN_IS(unit_address_size, offsetof(thorin_unit, address_size) == 171);
+THORIN_IS(package_size, sizeof(thorin_package) == 216);
+THORIN_IS(package_info, offsetof(thorin_package, info) == 0);
+THORIN_IS(package_macros, offsetof(thorin_package, macros) == 144);
+THORIN_IS(package_strings, offsetof(thorin_package, strings) == 160);
+THORIN_IS(package_cu_index, offsetof(thorin_package, cu_index) == 176);
+THORIN_IS(package_tu_index, offsetof(thorin_package, tu_index) == 192);
+THORIN_IS(package_big_endian, offsetof(thorin_package, big_endian) == 208);
 THORIN_IS(name_size, sizeof(thorin_name) == 16);
 THORIN_IS(name_id, offsetof(thorin_name, id) == 0);
 THORIN_IS(name_row, offsetof(thorin_name, row) == 8);
@@ -421,6 +569,9 @@ THORIN_IS(lookup_id, offsetof(thorin_lookup, id) == 0);
 THORIN_IS(lookup_kind, offsetof(thorin_lookup, kind) == 8);
 THORIN_IS(lookup_status, offsetof(thorin_lookup, status) == 12);
 THORIN_IS(lookup_unit, offsetof(thorin_lookup, unit) == 16);
+THORIN_IS(skeleton_size, sizeof(thorin_skeleton) == 24);
+THORIN_IS(skeleton_path_size, offsetof(thorin_skeleton, path_size) == 8);
+THORIN_IS(skeleton_kind, offsetof(thorin_skeleton, kind) == 16);
 THORIN_IS(report_size, sizeof(thorin_report) == 296);
 THORIN_IS(report_length, offsetof(thorin_report, size) == 0);
 THORIN_IS(report_input, offsetof(thorin_report, input) == 8);
@@ -435,5 +586,9 @@ THORIN_IS(report_text, offsetof(thorin_report, text) == 36);
 
 #ifdef __cplusplus
 }
+#endif
+
+#ifdef THORIN_CHECK
+#include "thorin_check.h"
 #endif
 #endif

@@ -88,7 +88,7 @@ static void an_object_is_packed_and_found(void) {
   SAME(unit.info.size, 20);
   SAME(unit.str_offsets.size, 8);
   SAME(unit.row, 1);
-  thorin_bytes lent = {out, 728};
+  thorin_bytes lent;
   CALL(thorin_string(out, 728, THORIN_COMPILATION, 5, 0, &lent), THORIN_DONE);
   BYTES(lent, "b", 1);
   CALL(thorin_string(out, 728, THORIN_COMPILATION, 5, 2, &lent), THORIN_NO_SUCH_STRING);
@@ -139,11 +139,98 @@ static void many_units_are_looked_up_and_listed(void) {
   SAME(report.differing, 0);
 }
 
+static void a_package_stays_open(void) {
+  thorin_bytes input = {object, sizeof object}, lent;
+  static uint8_t out[728];
+  thorin_report report = {0};
+  CALL(thorin_pack(&input, 1, out, sizeof out, &report), THORIN_DONE);
+  thorin_package package = {.big_endian = 0};
+  CALL(thorin_open(out, sizeof out, &package), THORIN_DONE);
+  /* Of a package of one object: a file's header, and the sections in the order in which they were begun. */
+  SAME(package.info.size, 20);
+  SAME(package.strings.size, 4);
+  SAME(package.types.size, 0);
+  SAME(package.big_endian, 0);
+  SAME(memcmp(out + package.info.offset, unit_bytes, sizeof unit_bytes), 0);
+  thorin_unit unit = {0}, row = {0};
+  CALL(thorin_find_in(&package, out, sizeof out, THORIN_COMPILATION, 5, &unit), THORIN_DONE);
+  SAME(unit.info.size, 20);
+  SAME(unit.version, 4);
+  CALL(thorin_find_row_in(&package, out, sizeof out, THORIN_COMPILATION, 5, &row), THORIN_DONE);
+  SAME(row.info.size, 20);
+  SAME(row.version, 0);
+  CALL(thorin_find_in(&package, out, sizeof out, THORIN_TYPE_UNIT, 5, &unit), THORIN_ABSENT);
+  CALL(thorin_string_in(&package, out, sizeof out, THORIN_COMPILATION, 5, 1, &lent), THORIN_DONE);
+  BYTES(lent, "a", 1);
+  CALL(thorin_string_in(&package, out, sizeof out, THORIN_COMPILATION, 5, 2, &lent), THORIN_NO_SUCH_STRING);
+  CALL(thorin_content_in(&package, out, sizeof out, THORIN_COMPILATION, 5, THORIN_ABBREVIATIONS, &lent), THORIN_DONE);
+  BYTES(lent, abbreviations, sizeof abbreviations);
+  thorin_name listed = {0};
+  uint64_t count = 0;
+  CALL(thorin_list_in(&package, out, sizeof out, &listed, 1, &count), THORIN_DONE);
+  SAME(count, 1);
+  SAME(listed.id, 5);
+  /* Numbers that are wrong are no danger. */
+  package.cu_index.offset = UINT64_MAX;
+  CALL(thorin_find_in(&package, out, sizeof out, THORIN_COMPILATION, 5, &unit), THORIN_ABSENT);
+  CALL(thorin_open(object, 100, &package), THORIN_MALFORMED_FILE);
+}
+
+/* Null with size 0, wherever a pointer has a size. */
+static void null_is_a_place_of_nothing(void) {
+  thorin_bytes inputs[2] = {{NULL, 0}, {object, sizeof object}}, lent;
+  thorin_report report = {0};
+  thorin_package package = {.big_endian = 0};
+  thorin_unit unit = {0};
+  uint64_t count = 0;
+  CALL(thorin_open(NULL, 0, &package), THORIN_MALFORMED_FILE);
+  CALL(thorin_find(NULL, 0, THORIN_COMPILATION, 5, &unit), THORIN_MALFORMED_FILE);
+  CALL(thorin_find_in(&package, NULL, 0, THORIN_COMPILATION, 5, &unit), THORIN_ABSENT);
+  CALL(thorin_find_row_in(&package, NULL, 0, THORIN_COMPILATION, 5, &unit), THORIN_ABSENT);
+  CALL(thorin_find_each(NULL, 0, NULL, 0), THORIN_MALFORMED_FILE);
+  CALL(thorin_find_rows(NULL, 0, NULL, 0), THORIN_MALFORMED_FILE);
+  CALL(thorin_content(NULL, 0, THORIN_COMPILATION, 5, THORIN_INFO, &lent), THORIN_MALFORMED_FILE);
+  CALL(thorin_string(NULL, 0, THORIN_COMPILATION, 5, 0, &lent), THORIN_MALFORMED_FILE);
+  CALL(thorin_content_in(&package, NULL, 0, THORIN_COMPILATION, 5, THORIN_INFO, &lent), THORIN_ABSENT);
+  CALL(thorin_string_in(&package, NULL, 0, THORIN_COMPILATION, 5, 0, &lent), THORIN_ABSENT);
+  CALL(thorin_unit_count(NULL, 0, &count), THORIN_MALFORMED_FILE);
+  CALL(thorin_list(NULL, 0, NULL, 0, &count), THORIN_MALFORMED_FILE);
+  CALL(thorin_list_in(&package, NULL, 0, NULL, 0, &count), THORIN_MALFORMED_FILE);
+  CALL(thorin_status_text(THORIN_DONE, NULL, 0), 4);
+  CALL(thorin_pack(NULL, 0, NULL, 0, &report), THORIN_UNFINISHED);
+  SAME(report.fault, THORIN_FAULT_NO_OUTPUT_OBJECT_CREATED);
+  CALL(thorin_pack(inputs, 2, NULL, 0, &report), THORIN_REFUSED);
+  SAME(report.input, 0);
+  SAME(report.fault, THORIN_FAULT_PARSE_FILE_KIND);
+  CALL(thorin_pack(inputs + 1, 1, NULL, 0, &report), THORIN_TOO_SMALL);
+  SAME(report.size, 728);
+  CALL(thorin_differing_types(inputs + 1, 1, NULL, 0, &report), THORIN_DONE);
+  CALL(thorin_skeletons(NULL, 0, NULL, 0, NULL, 0, &count, &report), THORIN_REFUSED);
+  SAME(report.fault, THORIN_FAULT_PARSE_OBJECT_FILE);
+}
+
+/* An object that was split names no other: no unit of it is in `.debug_info`. */
+static void a_split_object_names_no_other(void) {
+  thorin_report report = {0};
+  thorin_skeleton skeleton = {7, 7, 7};
+  uint8_t path[1] = {7};
+  uint64_t count = 7;
+  CALL(thorin_skeletons(object, sizeof object, &skeleton, 1, path, 1, &count, &report), THORIN_DONE);
+  SAME(count, 0);
+  SAME(report.size, 0);
+  SAME(skeleton.id, 7);
+  SAME(path[0], 7);
+}
+
 int main(void) {
+  SAME(thorin_version(), THORIN_VERSION);
   make_object();
   an_object_is_packed_and_found();
   a_second_unit_of_a_name_is_refused();
   many_units_are_looked_up_and_listed();
+  a_package_stays_open();
+  null_is_a_place_of_nothing();
+  a_split_object_names_no_other();
   if (failed) return 1;
   printf("check: %u calls as expected\n", calls);
   return 0;

@@ -5,13 +5,14 @@ import sys
 import thorin
 
 
-def print_unit(out, package, kind, identifier, found):
+def print_unit(out, package, kind, identifier):
     word = "tu" if kind == thorin.TYPE_UNIT else "cu"
     out.write(f"{word} {identifier:#018x}: ".encode())
-    if found.status != thorin.DONE:
-        out.write(f"{thorin.Error(found.status)}\n".encode())
+    try:
+        unit = package.find(kind, identifier)
+    except thorin.Error as error:
+        out.write(f"{error}\n".encode())
         return
-    unit = found.unit
     out.write(f"row {unit.row}, {unit.slots} slots, version {unit.version}, offsets of {unit.offset_size} bytes, "
               f"addresses of {unit.address_size}\n".encode())
     for section in thorin.SECTIONS:
@@ -29,8 +30,8 @@ def main(words):
     try:
         with thorin.Package(words[0]) as package:
             names = [(thorin.COMPILATION, int(word, 16)) for word in words[1:]] or package.names()
-            for (kind, identifier), found in zip(names, package.find_each(names)):
-                print_unit(sys.stdout.buffer, package, kind, identifier, found)
+            for kind, identifier in names:
+                print_unit(sys.stdout.buffer, package, kind, identifier)
     except thorin.Error as error:
         print(f"error: {error}", file=sys.stderr)
         return 1

@@ -1,3 +1,10 @@
 pub mod Writing
 pub mod Looking
 pub mod Taking
+pub mod Steps
+pub mod Called
+pub mod FirstSection
+pub mod FirstUnit
+pub mod Headers
+pub mod ByPlaces
+pub mod SkeletonLists

@@ -11,7 +11,7 @@ use Rattle.dwp_table.specs.Columns.{contribution_kinds}
 use Rattle.dwp_table.specs.declared.object.DwarfObject.{DwarfObject}
 use Rattle.dwp_table.specs.declared.object.DwarfObject.TheVariants.{Compilation, TypeUnit}
 use Rattle.dwp_index.specs.Index.{Ranges, range_in}
-use Rattle.dwp_index.specs.Package.{Package, FoundUnit, package_of, found_counted, row_counted}
+use Rattle.dwp_index.specs.Package.{Package, FoundUnit, found_counted, row_counted}
 use Rattle.dwp_index.specs.Package.{row_bytes}
 use Rattle.dwp_index.specs.Strings.{string_in}
 use Rattle.dwp_index.specs.declared.fault.PackageError.{PackageError}
@@ -50,10 +50,10 @@ unit_in pack kind id = do
   found ← as_status (found_counted pack object)
   present found
 
--- the same in the package of these bytes
-unfoldable pub looked_up : List ℕ → ℕ → ℕ → Result (FoundUnit × ℕ) ℤ
-looked_up bytes kind id = do
-  pack ← as_status (package_of bytes)
+-- the same where the package could be read
+unfoldable pub looked_up : Result Package ℤ → ℕ → ℕ → Result (FoundUnit × ℕ) ℤ
+looked_up read kind id = do
+  pack ← read
   unit_in pack kind id
 
 -- a range; of no bytes where it is absent
@@ -102,6 +102,10 @@ row_found pack kind id = do
   row ← present found
   Ok (row_of row.0.0 row.0.1 row.1)
 
+-- what a call that looks a row up gives
+abbrev pub row_found_in : Result Package ℤ → ℕ → ℕ → Result ThorinUnit ℤ
+row_found_in read kind id = read >>= λ pack. row_found pack kind id
+
 -- the section of a number, in the order of columns; status 7 where there is none
 abbrev pub section_of_place : Option SectionKind → Result SectionKind ℤ
 section_of_place (Some kind) = Ok kind
@@ -111,9 +115,9 @@ abbrev pub section_of : ℕ → Result SectionKind ℤ
 section_of number = section_of_place (slice_get contribution_kinds number)
 
 -- a unit's bytes in a section
-unfoldable pub content_found : List ℕ → ℕ → ℕ → ℕ → Result (List ℕ) ℤ
-content_found bytes kind id section = do
-  found ← looked_up bytes kind id
+unfoldable pub content_found : Result Package ℤ → ℕ → ℕ → ℕ → Result (List ℕ) ℤ
+content_found read kind id section = do
+  found ← looked_up read kind id
   place ← section_of section
   Ok (row_bytes found.0.contents found.0.row place)
 
@@ -124,9 +128,9 @@ string_or_status (Ok None) = Err (pos 8)
 string_or_status (Err fault) = Err (pos 9)
 
 -- a unit's string of a number
-unfoldable pub string_found : List ℕ → ℕ → ℕ → ℕ → Result (List ℕ) ℤ
-string_found bytes kind id i = do
-  found ← looked_up bytes kind id
+unfoldable pub string_found : Result Package ℤ → ℕ → ℕ → ℕ → Result (List ℕ) ℤ
+string_found read kind id i = do
+  found ← looked_up read kind id
   string_or_status (string_in found.0.order found.0.encoding found.0.contents.strings
       (row_bytes found.0.contents found.0.row kinds.StrOffsets) i)
 

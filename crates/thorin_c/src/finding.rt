@@ -55,8 +55,8 @@ pub extern "C" fn thorin_content<'a>(
     section: u8,
     found: &mut ThorinBytes<'a>,
 ) -> i32
-    ensures { Fills (λ lent. lent.bytes.now) (content_found bytes.now kind id section) found.old
-        found.new result }
+    ensures { Fills (λ lent. lent.bytes.now) (content_found (as_status (package_of bytes.now)) kind id
+        section) found.old found.new result }
 {
     match content(bytes, kind, id, section) {
         Ok(content) => {
@@ -77,8 +77,8 @@ pub extern "C" fn thorin_string<'a>(
     index: u64,
     found: &mut ThorinBytes<'a>,
 ) -> i32
-    ensures { Fills (λ lent. lent.bytes.now) (string_found bytes.now kind id index) found.old
-        found.new result }
+    ensures { Fills (λ lent. lent.bytes.now) (string_found (as_status (package_of bytes.now)) kind id
+        index) found.old found.new result }
 {
     match string(bytes, kind, id, index) {
         Ok(string) => {
@@ -102,7 +102,7 @@ pub(crate) fn open(bytes: &[u8]) -> Result<PackageFile<'_>, i32>
 /// The unit of a name, and how many slots were looked at.
 #[tactic(auto, unfolding(crate::specs::Finding::looked_up))]
 fn look_up<'a>(bytes: &'a [u8], kind: u8, id: u64) -> Result<(PackagedUnit<'a>, u32), i32>
-    ensures { Answers (λ x. x) result (looked_up bytes.now kind id) }
+    ensures { Answers (λ x. x) result (looked_up (as_status (package_of bytes.now)) kind id) }
 {
     let file = open(bytes)?;
     look_up_in(&file, kind, id)
@@ -194,7 +194,8 @@ fn fill(file: &PackageFile<'_>, kind: u8, id: u64, found: &mut ThorinUnit) -> i3
 
 #[tactic(auto, unfolding(crate::specs::Finding::content_found))]
 fn content<'a>(bytes: &'a [u8], kind: u8, id: u64, section: u8) -> Result<&'a [u8], i32>
-    ensures { Answers (λ lent. lent.now) result (content_found bytes.now kind id section) }
+    ensures { Answers (λ lent. lent.now) result (content_found (as_status (package_of bytes.now)) kind id
+        section) }
 {
     let (unit, _) = look_up(bytes, kind, id)?;
     let section = section_of(section)?;
@@ -203,7 +204,8 @@ fn content<'a>(bytes: &'a [u8], kind: u8, id: u64, section: u8) -> Result<&'a [u
 
 #[tactic(auto, unfolding(crate::specs::Finding::string_found))]
 fn string<'a>(bytes: &'a [u8], kind: u8, id: u64, index: u64) -> Result<&'a [u8], i32>
-    ensures { Answers (λ lent. lent.now) result (string_found bytes.now kind id index) }
+    ensures { Answers (λ lent. lent.now) result (string_found (as_status (package_of bytes.now)) kind id
+        index) }
 {
     let (unit, _) = look_up(bytes, kind, id)?;
     match unit.string(index) {
@@ -227,7 +229,7 @@ pub(crate) fn object_of(kind: u8, id: u64) -> Result<DwarfObject, i32>
 }
 
 /// The section of a number.
-fn section_of(number: u8) -> Result<SectionKind, i32>
+pub(crate) fn section_of(number: u8) -> Result<SectionKind, i32>
     ensures { result ≡ section_of number }
 {
     match CONTRIBUTION_KINDS.get(number as usize) {

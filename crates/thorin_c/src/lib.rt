@@ -4,17 +4,32 @@
 
 mod faults;
 mod finding;
+mod header;
+mod inside;
 mod listing;
+mod opened;
+mod opening;
 mod packing;
 mod rows;
+mod sections;
 mod session;
+mod skeletons;
 mod status;
 mod types;
+mod unit;
 mod version;
 
 pub use finding::{thorin_content, thorin_find, thorin_find_each, thorin_string};
+pub use inside::{
+    thorin_content_in, thorin_find_in, thorin_find_row_in, thorin_list_in, thorin_string_in,
+};
 pub use listing::{thorin_list, thorin_unit_count};
+pub use opening::thorin_open;
 pub use packing::{thorin_differing_types, thorin_pack};
 pub use rows::thorin_find_rows;
-pub use types::{ThorinBytes, ThorinLookup, ThorinName, ThorinRange, ThorinReport, ThorinUnit};
+pub use skeletons::thorin_skeletons;
+pub use types::{
+    ThorinBytes, ThorinLookup, ThorinName, ThorinPackage, ThorinRange, ThorinReport,
+    ThorinSkeleton, ThorinUnit,
+};
 pub use version::{thorin_status_text, thorin_version};

@@ -54,6 +54,40 @@ pub struct ThorinUnit {
     pub address_size: u8,
 }
 
+/// Where the sections of a package lie among its bytes: plain numbers, of which any are safe.
+#[repr(C)]
+#[derive(Clone, Copy)]
+pub struct ThorinPackage {
+    /// `.debug_info.dwo`.
+    pub info: ThorinRange,
+    /// `.debug_types.dwo`.
+    pub types: ThorinRange,
+    /// `.debug_abbrev.dwo`.
+    pub abbreviations: ThorinRange,
+    /// `.debug_line.dwo`.
+    pub line: ThorinRange,
+    /// `.debug_loc.dwo`.
+    pub loc: ThorinRange,
+    /// `.debug_loclists.dwo`.
+    pub loclists: ThorinRange,
+    /// `.debug_rnglists.dwo`.
+    pub rnglists: ThorinRange,
+    /// `.debug_str_offsets.dwo`.
+    pub str_offsets: ThorinRange,
+    /// `.debug_macinfo.dwo`.
+    pub macinfo: ThorinRange,
+    /// `.debug_macro.dwo`.
+    pub macros: ThorinRange,
+    /// `.debug_str.dwo`.
+    pub strings: ThorinRange,
+    /// `.debug_cu_index`.
+    pub cu_index: ThorinRange,
+    /// `.debug_tu_index`.
+    pub tu_index: ThorinRange,
+    /// 0 where numbers have their lowest byte first.
+    pub big_endian: u64,
+}
+
 /// A unit that an index names.
 #[repr(C)]
 #[derive(Clone, Copy)]
@@ -62,6 +96,18 @@ pub struct ThorinName {
     pub id: u64,
     /// Its row in the index of its kind, counted from 1.
     pub row: u32,
+    /// 1 for a compilation unit, 2 for a type unit.
+    pub kind: u8,
+}
+
+/// A split unit that an executable names.
+#[repr(C)]
+#[derive(Clone, Copy)]
+pub struct ThorinSkeleton {
+    /// The identifier of a compilation unit, or the signature of a type unit.
+    pub id: u64,
+    /// How many bytes the path of its object has, without the zero byte behind it.
+    pub path_size: u64,
     /// 1 for a compilation unit, 2 for a type unit.
     pub kind: u8,
 }

@@ -1,6 +1,6 @@
 //! What the library is, and what its statuses mean.
 
-ghost use Rattle.std.specs.Prelude.{◌≡◌, ◌*◌, length};
+ghost use Rattle.std.specs.Prelude.{◌≡◌, length};
 ghost use Rattle.thorin_c.specs.Listing.{written_over};
 ghost use Rattle.thorin_c.specs.Statuses.{status_text};
 
@@ -9,12 +9,12 @@ use crate::status::{
     NO_SUCH_KIND, NO_SUCH_SECTION, NO_SUCH_STRING, RANGE_OUTSIDE, REFUSED, TOO_SMALL, UNFINISHED,
 };
 
-/// The version, 0.10.0: 65,536 times its first number, 256 times its second, and its third.
+/// The version, 1.0.0: 65,536 times its first number, 256 times its second, and its third.
 #[unsafe(no_mangle)]
 pub extern "C" fn thorin_version() -> u32
-    ensures { result ≡ 10 * 256 }
+    ensures { result ≡ 65536 }
 {
-    10 << 8
+    1 << 16
 }
 
 /// What a status means: its text, as far as there is room in `text`. Answers how many bytes the

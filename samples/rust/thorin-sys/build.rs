@@ -1,11 +1,21 @@
-//! Links `lib/libthorin.a`, which `build-library` leaves; `THORIN_LIB` names another folder.
+//! Links the library for C: that of the folder `THORIN_LIB`, else of the checkout that this crate lies in, both statically;
+//! else the one that is installed.
 use std::{env, path::Path};
 
 fn main() {
-    let built = Path::new(&env::var("CARGO_MANIFEST_DIR").unwrap()).join("../../../lib");
-    let folder = env::var("THORIN_LIB").unwrap_or_else(|_| built.display().to_string());
     println!("cargo:rerun-if-env-changed=THORIN_LIB");
-    println!("cargo:rerun-if-changed={folder}/libthorin.a");
-    println!("cargo:rustc-link-search=native={folder}");
-    println!("cargo:rustc-link-lib=static=thorin");
+    let built = Path::new(&env::var("CARGO_MANIFEST_DIR").unwrap()).join("../../../lib");
+    let named = env::var("THORIN_LIB").ok();
+    let folder = named.or_else(|| built.join("libthorin.a").exists().then(|| built.display().to_string()));
+    match folder {
+        Some(folder) => {
+            println!("cargo:rerun-if-changed={folder}/libthorin.a");
+            println!("cargo:rustc-link-search=native={folder}");
+            println!("cargo:rustc-link-lib=static=thorin");
+        }
+        None => {
+            println!("cargo:rustc-link-search=native=/usr/local/lib");
+            println!("cargo:rustc-link-lib=dylib=thorin");
+        }
+    }
 }

@@ -1,4 +1,4 @@
-//! The C calls of thorin, as `include/thorin.h` declares them; it says what each of them does.
+#![doc = include_str!("../README.md")]
 #![no_std]
 #![allow(non_camel_case_types)]
 
@@ -45,6 +45,25 @@ pub struct thorin_unit {
 
 #[repr(C)]
 #[derive(Clone, Copy, Debug, Default, PartialEq, Eq)]
+pub struct thorin_package {
+    pub info: thorin_range,
+    pub types: thorin_range,
+    pub abbreviations: thorin_range,
+    pub line: thorin_range,
+    pub loc: thorin_range,
+    pub loclists: thorin_range,
+    pub rnglists: thorin_range,
+    pub str_offsets: thorin_range,
+    pub macinfo: thorin_range,
+    pub macros: thorin_range,
+    pub strings: thorin_range,
+    pub cu_index: thorin_range,
+    pub tu_index: thorin_range,
+    pub big_endian: u64,
+}
+
+#[repr(C)]
+#[derive(Clone, Copy, Debug, Default, PartialEq, Eq)]
 pub struct thorin_name {
     pub id: u64,
     pub row: u32,
@@ -82,6 +101,12 @@ extern "C" {
     pub fn thorin_string(bytes: *const u8, size: usize, kind: u8, id: u64, index: u64, found: *mut thorin_bytes) -> i32;
     pub fn thorin_unit_count(bytes: *const u8, size: usize, count: *mut u64) -> i32;
     pub fn thorin_list(bytes: *const u8, size: usize, names: *mut thorin_name, room: usize, count: *mut u64) -> i32;
+    pub fn thorin_open(bytes: *const u8, size: usize, package: *mut thorin_package) -> i32;
+    pub fn thorin_find_in(package: *const thorin_package, bytes: *const u8, size: usize, kind: u8, id: u64, found: *mut thorin_unit) -> i32;
+    pub fn thorin_find_row_in(package: *const thorin_package, bytes: *const u8, size: usize, kind: u8, id: u64, found: *mut thorin_unit) -> i32;
+    pub fn thorin_content_in(package: *const thorin_package, bytes: *const u8, size: usize, kind: u8, id: u64, section: u8, found: *mut thorin_bytes) -> i32;
+    pub fn thorin_string_in(package: *const thorin_package, bytes: *const u8, size: usize, kind: u8, id: u64, index: u64, found: *mut thorin_bytes) -> i32;
+    pub fn thorin_list_in(package: *const thorin_package, bytes: *const u8, size: usize, names: *mut thorin_name, room: usize, count: *mut u64) -> i32;
     pub fn thorin_pack(inputs: *const thorin_bytes, count: usize, out: *mut u8, room: usize, report: *mut thorin_report) -> i32;
     pub fn thorin_differing_types(inputs: *const thorin_bytes, count: usize, types: *mut u64, room: usize, report: *mut thorin_report) -> i32;
 }
@@ -90,6 +115,7 @@ const _: () = {
     use core::mem::{offset_of, size_of};
     assert!(size_of::<thorin_bytes>() == 16);
     assert!(size_of::<thorin_unit>() == 176);
+    assert!(size_of::<thorin_package>() == 216);
     assert!(size_of::<thorin_name>() == 16);
     assert!(size_of::<thorin_lookup>() == 192);
     assert!(offset_of!(thorin_lookup, unit) == 16);

@@ -28,13 +28,13 @@ fn look_up(file: &str, identifiers: &[String]) -> Result<(), Box<dyn Error>> {
         identifiers.iter().map(named).collect::<Result<_, _>>()?
     };
     let mut out = io::stdout().lock();
-    for (name, found) in names.iter().zip(package.find_each(&names)?) {
-        print_unit(&mut out, package, *name, found)?;
+    for name in names {
+        print_unit(&mut out, &package, name, package.find(name))?;
     }
     Ok(())
 }
 
-fn print_unit(out: &mut impl Write, package: Package<'_>, name: Name, found: Result<Unit, Status>) -> io::Result<()> {
+fn print_unit(out: &mut impl Write, package: &Package<'_>, name: Name, found: Result<Unit, Status>) -> io::Result<()> {
     match name {
         Name::Compilation(id) => write!(out, "cu {id:#018x}: ")?,
         Name::TypeUnit(id) => write!(out, "tu {id:#018x}: ")?,

@@ -1,4 +1,4 @@
-//! Packages of split DWARF, with safe types over the C calls of thorin.
+#![doc = include_str!("../README.md")]
 use std::fmt;
 use std::os::raw::c_int;
 use thorin_sys as sys;
@@ -63,10 +63,11 @@ impl Name {
 
 type LookUp = unsafe extern "C" fn(*const u8, usize, *mut sys::thorin_lookup, usize) -> i32;
 
-/// The bytes of a package. It is read anew by each call, so calls for many units at once take less time.
+/// A package that is open: its bytes, and where its sections lie among them.
 #[derive(Clone, Copy)]
 pub struct Package<'a> {
     bytes: &'a [u8],
+    places: sys::thorin_package,
 }
 
 fn answer<T>(status: i32, value: T) -> Result<T, Status> {
@@ -80,53 +81,69 @@ fn answer<T>(status: i32, value: T) -> Result<T, Status> {
 // Each `unsafe` block below passes pointers from slices and references, with the lengths of the slices, and the calls
 // write to nothing else; a slice's pointer is never null. What is lent lies inside the package.
 impl<'a> Package<'a> {
-    /// A package, if its indexes can be read.
+    /// Opens a package, if its indexes can be read.
     pub fn new(bytes: &'a [u8]) -> Result<Package<'a>, Status> {
-        let package = Package { bytes };
-        package.len()?;
-        Ok(package)
+        let mut places = sys::thorin_package::default();
+        let status = unsafe { sys::thorin_open(bytes.as_ptr(), bytes.len(), &mut places) };
+        answer(status, Package { bytes, places })
     }
 
-    /// How many units the indexes name.
-    pub fn len(self) -> Result<usize, Status> {
+    fn list(&self, names: &mut [sys::thorin_name]) -> Result<usize, Status> {
         let mut count = 0;
-        let status = unsafe { sys::thorin_unit_count(self.bytes.as_ptr(), self.bytes.len(), &mut count) };
+        let status = unsafe {
+            sys::thorin_list_in(
+                &self.places, self.bytes.as_ptr(), self.bytes.len(), names.as_mut_ptr(), names.len(), &mut count)
+        };
         answer(status, count as usize)
     }
 
+    /// How many units the indexes name.
+    pub fn unit_count(&self) -> Result<usize, Status> {
+        self.list(&mut [])
+    }
+
     /// The units that the indexes name.
-    pub fn names(self) -> Result<Vec<Name>, Status> {
-        let mut count = 0;
-        let mut names = vec![sys::thorin_name::default(); self.len()?];
-        let status = unsafe {
-            sys::thorin_list(self.bytes.as_ptr(), self.bytes.len(), names.as_mut_ptr(), names.len(), &mut count)
-        };
+    pub fn names(&self) -> Result<Vec<Name>, Status> {
+        let mut names = vec![sys::thorin_name::default(); self.unit_count()?];
+        self.list(&mut names)?;
         let named = |n: &sys::thorin_name| match n.kind {
             sys::THORIN_TYPE_UNIT => Name::TypeUnit(n.id),
             _ => Name::Compilation(n.id),
         };
-        answer(status, names.iter().map(named).collect())
+        Ok(names.iter().map(named).collect())
     }
 
     /// The unit of a name.
-    pub fn find(self, name: Name) -> Result<Unit, Status> {
+    pub fn find(&self, name: Name) -> Result<Unit, Status> {
         let (kind, id) = name.kind_and_id();
         let mut unit = Unit::default();
-        let status = unsafe { sys::thorin_find(self.bytes.as_ptr(), self.bytes.len(), kind, id, &mut unit) };
+        let status = unsafe {
+            sys::thorin_find_in(&self.places, self.bytes.as_ptr(), self.bytes.len(), kind, id, &mut unit)
+        };
+        answer(status, unit)
+    }
+
+    /// The same by the indexes alone: no version and no sizes of offsets and addresses.
+    pub fn find_row(&self, name: Name) -> Result<Unit, Status> {
+        let (kind, id) = name.kind_and_id();
+        let mut unit = Unit::default();
+        let status = unsafe {
+            sys::thorin_find_row_in(&self.places, self.bytes.as_ptr(), self.bytes.len(), kind, id, &mut unit)
+        };
         answer(status, unit)
     }
 
     /// The unit of each of these names.
-    pub fn find_each(self, names: &[Name]) -> Result<Vec<Result<Unit, Status>>, Status> {
+    pub fn find_each(&self, names: &[Name]) -> Result<Vec<Result<Unit, Status>>, Status> {
         self.look_up(sys::thorin_find_each, names)
     }
 
     /// The same by the indexes alone: no version and no sizes of offsets and addresses.
-    pub fn find_rows(self, names: &[Name]) -> Result<Vec<Result<Unit, Status>>, Status> {
+    pub fn find_rows(&self, names: &[Name]) -> Result<Vec<Result<Unit, Status>>, Status> {
         self.look_up(sys::thorin_find_rows, names)
     }
 
-    fn look_up(self, call: LookUp, names: &[Name]) -> Result<Vec<Result<Unit, Status>>, Status> {
+    fn look_up(&self, call: LookUp, names: &[Name]) -> Result<Vec<Result<Unit, Status>>, Status> {
         let asked = |name: &Name| {
             let (kind, id) = name.kind_and_id();
             sys::thorin_lookup { kind, id, ..Default::default() }
@@ -137,22 +154,24 @@ impl<'a> Package<'a> {
     }
 
     /// A unit's bytes in a section, in the order of the fields of `Unit`.
-    pub fn content(self, name: Name, section: u8) -> Result<&'a [u8], Status> {
+    pub fn content(&self, name: Name, section: u8) -> Result<&'a [u8], Status> {
         let (kind, id) = name.kind_and_id();
         self.lent(|found| unsafe {
-            sys::thorin_content(self.bytes.as_ptr(), self.bytes.len(), kind, id, section, found)
+            sys::thorin_content_in(
+                &self.places, self.bytes.as_ptr(), self.bytes.len(), kind, id, section, found)
         })
     }
 
     /// A unit's string of a number.
-    pub fn string(self, name: Name, index: u64) -> Result<&'a [u8], Status> {
+    pub fn string(&self, name: Name, index: u64) -> Result<&'a [u8], Status> {
         let (kind, id) = name.kind_and_id();
         self.lent(|found| unsafe {
-            sys::thorin_string(self.bytes.as_ptr(), self.bytes.len(), kind, id, index, found)
+            sys::thorin_string_in(
+                &self.places, self.bytes.as_ptr(), self.bytes.len(), kind, id, index, found)
         })
     }
 
-    fn lent(self, call: impl FnOnce(*mut sys::thorin_bytes) -> i32) -> Result<&'a [u8], Status> {
+    fn lent(&self, call: impl FnOnce(*mut sys::thorin_bytes) -> i32) -> Result<&'a [u8], Status> {
         let mut found = sys::thorin_bytes { at: self.bytes.as_ptr(), size: 0 };
         let status = call(&mut found);
         answer(status, unsafe { std::slice::from_raw_parts(found.at, found.size) })

@@ -1,0 +1,261 @@
+-- Sections and their headers.
+use Rattle.std.proofs.Common.{◌≡◌, ◌∙◌, ℕ, zero, suc, ◌+◌, ◌*◌, ◌<◌, ◌≤◌, Bool, true, false, cond}
+use Rattle.std.proofs.Common.{not, ◌||◌, ◌&&◌, List, [], length, Some, None, Result, Ok, Err}
+use Rattle.std.proofs.Common.{Option}
+use Rattle.std.proofs.Common.{refl, sym, ap, subst, arith, map, IsTrue}
+use Rattle.std.specs.Prelude.{slice_get, slice_range, ◌==◌}
+use Rattle.std.specs.List.{range_with_len}
+use Rattle.std.specs.Option.{ok_or}
+use Rattle.std.proofs.lemmas.Bool.{leb-true}
+use Rattle.std.proofs.lemmas.List.{drop-drop}
+use Rattle.std.proofs.lemmas.List.FromFn.{length-map-range_with_len}
+use Rattle.std.proofs.lemmas.Option.{slice_get_within}
+use Rattle.dwp_base.specs.Numbers.{number}
+use Rattle.dwp_base.specs.declared.class.Class.{Class}
+use Rattle.dwp_base.specs.declared.class.Class.TheVariants.{Elf32, Elf64}
+use Rattle.dwp_base.specs.declared.endian.Endianness.{Endianness}
+use Rattle.dwp_base.specs.declared.section.SectionKind.{SectionKind}
+use Rattle.dwp_elf_read.specs.Elf.{Elf, SectionMeaning, elf_of, sections_from, section_of}
+use Rattle.dwp_elf_read.specs.Elf.{section_count, named_count, name_table, section_content}
+use Rattle.dwp_elf_read.specs.Elf.{SHT_NOBITS, section_header_at, has_compressed_flag}
+use Rattle.dwp_elf_read.specs.Identification.{identity_of}
+use Rattle.dwp_elf_read.specs.Layout.{word_size, entry_size, file_header_of, is_inside, number_at}
+use Rattle.dwp_elf_read.specs.Layout.{section_header_of}
+use Rattle.dwp_elf_read.specs.declared.fault.ReadError.{ReadError}
+use Rattle.dwp_elf_read.specs.declared.fault.ReadError.TheVariants.{SectionRange, Compressed}
+use Rattle.dwp_index.specs.Contents.{is_of_kind, has_older_name, used_bytes}
+use Rattle.thorin_c.specs.Headers.{table_in, offset_in}
+use Rattle.thorin_c.specs.Opening.{bytes_at}
+use Rattle.thorin_c.proofs.Steps.{bind_ok}
+
+-- a file that could be read: its sections are those that the headers describe, and these lie in it
+pub record IsRead (bytes : List ℕ) (elf : Elf) : Type 0 where
+  pub names : Option (List ℕ)
+  pub count : ℕ
+  pub sections : elf.sections ≡ sections_from elf.class elf.order bytes (table_in elf bytes) names 0
+      count
+  pub inside : table_in elf bytes + count * entry_size elf.class ≤ length bytes
+
+inside_of : {A E : Type 0} (b : Bool) (m n : A) (d : E) → cond b (Ok m) (Err d) ≡ Ok n
+    → (b ≡ true) × (m ≡ n)
+inside_of true m n d e = (refl, cc)
+inside_of false m n d e = absurd cc
+
+counted : (class : Class) (order : Endianness) (bytes : List ℕ) (n : ℕ)
+    → section_count class order bytes (file_header_of (word_size class) order bytes) ≡ Ok n
+    → (file_header_of (word_size class) order bytes).table + n * entry_size class ≤ length bytes
+unfolding section_count
+counted class order bytes n e =
+    let header = file_header_of (word_size class) order bytes in
+    let named = bind_ok (named_count class order bytes header) _ n e in
+    let both = inside_of (is_inside bytes header.table (named.0 * entry_size class)) named.0 n _
+    named.2 in
+    subst (λ m. header.table + m * entry_size class ≤ length bytes) both.1
+    (leb-true (header.table + named.0 * entry_size class) (length bytes) both.0)
+
+abbrev read_as : Elf → Result Elf ReadError
+read_as elf = Ok elf
+
+value_of : (x y : Elf) → read_as x ≡ read_as y → x ≡ y
+value_of x y e = cc
+
+pub read_of : (bytes : List ℕ) (elf : Elf) → elf_of bytes ≡ Ok elf → IsRead bytes elf
+unfolding elf_of
+read_of bytes elf e =
+    let a = bind_ok (identity_of bytes) _ elf e in
+    let header = file_header_of (word_size a.0.0) a.0.1 bytes in
+    let b = bind_ok (section_count a.0.0 a.0.1 bytes header) _ elf a.2 in
+    let c = bind_ok (name_table a.0.0 a.0.1 bytes header b.0) _ elf b.2 in
+    subst (IsRead bytes) (value_of _ elf c.2) (record {
+      names = c.0;
+      count = b.0;
+      sections = refl;
+      inside = counted a.0.0 a.0.1 bytes b.0 b.1;
+    })
+
+pub slice_get-range : {X : Type 0} (f : ℕ → X) (a n i : ℕ) → i < n
+    → slice_get (map f (range_with_len a n)) i ≡ Some (f (a + i))
+slice_get-range f a zero i h = absurd (omega arith)
+slice_get-range f a (suc n) zero h =
+    let e : a ≡ a + 0 = omega arith in
+    ap (λ (k : ℕ). Some (f k)) e
+slice_get-range f a (suc n) (suc i) h =
+    let below : i < n = omega arith in
+    let e : (a + 1) + i ≡ a + suc i = omega arith in
+    slice_get-range f (a + 1) n i below ∙ ap (λ (k : ℕ). Some (f k)) e
+
+count_of : (bytes : List ℕ) (elf : Elf) (r : IsRead bytes elf) → length elf.sections ≡ r.count
+unfolding sections_from
+count_of bytes elf r = ap length r.sections ∙ length-map-range_with_len _ 0 r.count
+
+times_more : (class : Class) (i n : ℕ) → i < n
+    → i * entry_size class + entry_size class ≤ n * entry_size class
+times_more Elf32 i n h = omega arith
+times_more Elf64 i n h = omega arith
+
+-- the header of a section lies in the file
+pub table_inside : (bytes : List ℕ) (elf : Elf) (i : ℕ) → elf_of bytes ≡ Ok elf
+    → i < length elf.sections
+    → table_in elf bytes + (i * entry_size elf.class + entry_size elf.class) ≤ length bytes
+table_inside bytes elf i e h =
+    let r = read_of bytes elf e in
+    let within : i < r.count = subst (λ n. i < n) (count_of bytes elf r) h in
+    sum_below (table_in elf bytes) (i * entry_size elf.class + entry_size elf.class)
+    (r.count * entry_size elf.class) (length bytes) (times_more elf.class i r.count within) r.inside
+  where
+    sum_below : (a b c len : ℕ) → b ≤ c → a + c ≤ len → a + b ≤ len
+    sum_below a b c len h k = omega (arith, h, k)
+
+-- and in it, where the section's bytes begin; as in the file's header, where the table does
+pub room : (class : Class) → 24 + 3 * word_size class ≤ entry_size class
+room Elf32 = omega arith
+room Elf64 = omega arith
+
+pub table_there : (bytes : List ℕ) (elf : Elf) → number_at elf.order (word_size elf.class) bytes
+    (24 + 2 * word_size elf.class) ≡ table_in elf bytes
+unfolding file_header_of
+table_there bytes elf = refl
+
+pub offset_there : (bytes : List ℕ) (elf : Elf) (i : ℕ) → offset_in elf bytes i
+    ≡ number_at elf.order (word_size elf.class) bytes (table_in elf bytes
+    + i * entry_size elf.class + (8 + 2 * word_size elf.class))
+unfolding section_header_of
+offset_there bytes elf i = ap (number elf.order (word_size elf.class))
+    (drop-drop (8 + 2 * word_size elf.class) (table_in elf bytes + i * entry_size elf.class) bytes)
+
+some_of : {A : Type 0} (x y : A) → Some x ≡ Some y → x ≡ y
+some_of x y e = cc
+
+section_there : (bytes : List ℕ) (elf : Elf) (r : IsRead bytes elf) (i : ℕ) (s : SectionMeaning)
+    → slice_get elf.sections i ≡ Some s → section_of bytes r.names i
+    (section_header_at elf.class elf.order bytes (table_in elf bytes) i) ≡ s
+unfolding sections_from
+section_there bytes elf r i s at =
+    let within : i < length elf.sections = slice_get_within elf.sections i s at in
+    let inside : i < r.count = omega (arith, count_of bytes elf r, within) in
+    let same = sym (slice_get-range _ 0 r.count i inside) ∙ ap (λ l. slice_get l i)
+    (sym r.sections) ∙ at in
+    let zero_more : 0 + i ≡ i = omega arith in
+    subst (λ k. section_of bytes r.names k
+    (section_header_at elf.class elf.order bytes (table_in elf bytes) k) ≡ s) zero_more
+    (some_of _ s same)
+
+content_by : (nobits inside : Bool) (xs : List ℕ) → nobits ≡ false
+    → ok_or (cond nobits (Some []) (cond inside (Some xs) None)) SectionRange
+    ≡ cond inside (Ok (cond inside xs [])) (Err SectionRange)
+content_by true inside xs e = absurd cc
+content_by false true xs e = refl
+content_by false false xs e = refl
+
+kind_apart : (empty nobits named : Bool) → (not (empty || nobits) && named) ≡ true
+    → nobits ≡ false
+kind_apart empty true named e = absurd (by_cases empty e)
+  where
+    by_cases : (empty : Bool) → (not (empty || true) && named) ≡ true → ⊥
+    by_cases true e = cc
+    by_cases false e = cc
+kind_apart empty false named e = refl
+
+-- its bytes are those at that place
+pub content_there : (bytes : List ℕ) (elf : Elf) (i : ℕ) (s : SectionMeaning) (kind : SectionKind)
+    → elf_of bytes ≡ Ok elf → slice_get elf.sections i ≡ Some s → IsTrue (is_of_kind kind s)
+    → ok_or s.content SectionRange
+    ≡ cond (is_inside bytes (offset_in elf bytes i) s.size)
+    (Ok (bytes_at bytes (record { offset = offset_in elf bytes i; size = s.size })))
+    (Err SectionRange)
+unfolding section_of section_content is_of_kind
+content_there bytes elf i s kind e at filled =
+    let r = read_of bytes elf e in
+    let h = section_header_at elf.class elf.order bytes (table_in elf bytes) i in
+    let is = section_there bytes elf r i s at in
+    let of_kind : IsTrue (is_of_kind kind (section_of bytes r.names i h)) =
+    subst (λ t. IsTrue (is_of_kind kind t)) (sym is) filled in
+    subst (λ (t : SectionMeaning). ok_or t.content SectionRange
+    ≡ cond (is_inside bytes h.offset t.size)
+    (Ok (bytes_at bytes (record { offset = h.offset; size = t.size }))) (Err SectionRange)) is
+    (content_by (h.kind == SHT_NOBITS) (is_inside bytes h.offset h.size)
+    (slice_range bytes h.offset (h.offset + h.size))
+    (kind_apart (h.size == 0) (h.kind == SHT_NOBITS) _ of_kind))
+
+-- a section that is used, by its place
+pub used_there : (bytes : List ℕ) (elf : Elf) (i : ℕ) (s : SectionMeaning) (kind : SectionKind)
+    (offset size : ℕ) → elf_of bytes ≡ Ok elf → slice_get elf.sections i ≡ Some s
+    → IsTrue (is_of_kind kind s) → has_compressed_flag s ≡ false
+    → has_older_name kind s.name ≡ false → offset ≡ offset_in elf bytes i → size ≡ s.size
+    → used_bytes kind s ≡ cond (is_inside bytes offset size)
+    (Ok (bytes_at bytes (record { offset = offset; size = size }))) (Err SectionRange)
+unfolding used_bytes
+used_there bytes elf i s kind offset size e at filled plain newer is_offset is_size =
+    ap (λ b. cond (b || has_older_name kind s.name) (Err Compressed)
+    (ok_or s.content SectionRange)) plain
+    ∙ ap (λ b. cond b (Err Compressed) (ok_or s.content SectionRange)) newer
+    ∙ content_there bytes elf i s kind e at filled
+    ∙ ap (λ n. cond (is_inside bytes n s.size)
+    (Ok (bytes_at bytes (record { offset = n; size = s.size }))) (Err SectionRange)) (sym is_offset)
+    ∙ ap (λ n. cond (is_inside bytes offset n)
+    (Ok (bytes_at bytes (record { offset = offset; size = n }))) (Err SectionRange)) (sym is_size)
+
+-- what is read for these numbers
+pub table_read : (bytes : List ℕ) (elf : Elf) (class : Class) (order : Endianness) (word table : ℕ)
+    → class ≡ elf.class → order ≡ elf.order → word ≡ word_size elf.class
+    → table ≡ number_at order (word_size class) bytes (24 + 2 * word) → table ≡ table_in elf bytes
+table_read bytes elf class order word table a b w read =
+    read
+    ∙ ap (λ o. number_at o (word_size class) bytes (24 + 2 * word)) b
+    ∙ ap (λ k. number_at elf.order (word_size k) bytes (24 + 2 * word)) a
+    ∙ ap (λ n. number_at elf.order (word_size elf.class) bytes (24 + 2 * n)) w
+    ∙ table_there bytes elf
+
+pub offset_read : (bytes : List ℕ) (elf : Elf) (i : ℕ) (class : Class) (order : Endianness)
+    (word entry table offset : ℕ) → class ≡ elf.class → order ≡ elf.order
+    → word ≡ word_size elf.class → entry ≡ entry_size elf.class → table ≡ table_in elf bytes
+    → offset ≡ number_at order (word_size class) bytes (table + i * entry + (8 + 2 * word))
+    → offset ≡ offset_in elf bytes i
+offset_read bytes elf i class order word entry table offset a b w s t read =
+    read
+    ∙ ap (λ o. number_at o (word_size class) bytes (table + i * entry + (8 + 2 * word))) b
+    ∙ ap (λ k. number_at elf.order (word_size k) bytes (table + i * entry + (8 + 2 * word))) a
+    ∙ ap (λ n. number_at elf.order (word_size elf.class) bytes (n + i * entry + (8 + 2 * word))) t
+    ∙ ap (λ n. number_at elf.order (word_size elf.class) bytes
+    (table_in elf bytes + i * n + (8 + 2 * word))) s
+    ∙ ap (λ n. number_at elf.order (word_size elf.class) bytes
+    (table_in elf bytes + i * entry_size elf.class + (8 + 2 * n))) w
+    ∙ sym (offset_there bytes elf i)
+
+-- where these numbers are read, all lies in the file
+pub record IsInside (len table i entry word : ℕ) : Type 0 where
+  pub product : i * entry ≤ len
+  pub header : table + i * entry ≤ len
+  pub place : table + i * entry + (8 + 2 * word) + word ≤ len
+
+inside_by : (len table i entry word product : ℕ) → i * entry ≡ product
+    → table + (product + entry) ≤ len → 24 + 3 * word ≤ entry → IsInside len table i entry word
+inside_by len table i entry word product e h room = record {
+  product = subst (λ n. n ≤ len) (sym e) (omega (arith, h));
+  header = subst (λ n. table + n ≤ len) (sym e) (omega (arith, h));
+  place = subst (λ n. table + n + (8 + 2 * word) + word ≤ len) (sym e) (omega (arith, h, room));
+}
+
+pub all_inside : (bytes : List ℕ) (elf : Elf) (i word entry table : ℕ) → elf_of bytes ≡ Ok elf
+    → i < length elf.sections → word ≡ word_size elf.class → entry ≡ entry_size elf.class
+    → table ≡ table_in elf bytes → IsInside (length bytes) table i entry word
+all_inside bytes elf i word entry table e h w s t =
+    subst (λ n. IsInside (length bytes) n i entry word) (sym t)
+    (subst (λ n. IsInside (length bytes) (table_in elf bytes) i n word) (sym s)
+    (subst (λ n. IsInside (length bytes) (table_in elf bytes) i (entry_size elf.class) n) (sym w)
+    (inside_by (length bytes) (table_in elf bytes) i (entry_size elf.class) (word_size elf.class)
+    (i * entry_size elf.class) refl (table_inside bytes elf i e h) (room elf.class))))
+
+-- the header itself has room for where the table is
+pub first_inside : (bytes : List ℕ) (elf : Elf) (i : ℕ) (class : Class) (word : ℕ)
+    → elf_of bytes ≡ Ok elf → i < length elf.sections → class ≡ elf.class
+    → word ≡ word_size elf.class → 24 + 2 * word + word_size class ≤ length bytes
+first_inside bytes elf i class word e h a w =
+    subst (λ n. 24 + 2 * n + word_size class ≤ length bytes) (sym w)
+    (subst (λ k. 24 + 2 * word_size elf.class + word_size k ≤ length bytes) (sym a)
+    (first_by (length bytes) (table_in elf bytes) (i * entry_size elf.class)
+    (entry_size elf.class) (word_size elf.class) (table_inside bytes elf i e h) (room elf.class)))
+  where
+    first_by : (len table product entry word : ℕ) → table + (product + entry) ≤ len
+        → 24 + 3 * word ≤ entry → 24 + 2 * word + word ≤ len
+    first_by len table product entry word h room = omega (arith, h, room)

@@ -1,0 +1,19 @@
+use Rattle.std.proofs.Common.{◌∙◌, sym, ap, Ok, Result}
+use Rattle.dwp_elf_read.specs.View.{elf}
+use Rattle.dwp_index.specs.Package.{Package}
+use Rattle.dwp_index.specs.declared.fault.PackageError.{PackageError}
+use Rattle.thorin_c.specs.Opening.{opened}
+use Rattle.thorin_c.proofs.ByPlaces.{package_by}
+use Rattle.thorin_c.proofs.opening.places_of.Goals as goal
+
+pub returns-in-Ok : goal.returns-in-Ok
+returns-in-Ok c =
+    ap opened (package_by c.args.bytes.now c.in_ok-places.places (elf c.in_ok-file.file)
+    c.in_ok-file.ensures.exact c.in_ok-places.ensures.contents c.in_ok-places.ensures.order ∙
+    c.in-Ok.ensures) ∙ ap (λ (read : Result Package PackageError). Ok read) (sym c.in-Ok.ensures)
+
+pub returns-in-Err : goal.returns-in-Err
+returns-in-Err c =
+    ap opened (package_by c.args.bytes.now c.in_ok-places.places (elf c.in_ok-file.file)
+    c.in_ok-file.ensures.exact c.in_ok-places.ensures.contents c.in_ok-places.ensures.order ∙
+    c.in-Err.ensures)

@@ -1,0 +1,43 @@
+-- What the export that lists the objects of an executable answers.
+use Rattle.std.specs.Prelude.{◌≡◌, ◌≢◌, ℕ, List, [], ◌∷◌, ◌++◌, length, map, Option, Some, None}
+use Rattle.dwp_table.specs.declared.object.DwarfObject.{DwarfObject}
+use Rattle.dwp_table.specs.declared.object.DwarfObject.TheVariants.{Compilation, TypeUnit}
+use Rattle.thorin_faults.specs.Fault.{Fault}
+use Rattle.thorin_faults.specs.declared.fault.Error.{Error}
+use Rattle.thorin_faults.specs.declared.fault.Error.TheVariants as error
+use Rattle.thorin_executable.specs.Skeletons.{Named}
+use Rattle.thorin_c.specs.Faults.{Tells}
+use Rattle.thorin_c.specs.Listing.{written_over}
+use Rattle.thorin_c.specs.declared.types.ThorinReport.{ThorinReport}
+use Rattle.thorin_c.specs.declared.types.ThorinSkeleton.{ThorinSkeleton}
+
+-- a unit by its kind and identifier, and how long the path of its object is
+abbrev pub skeleton_of : DwarfObject → ℕ → ThorinSkeleton
+skeleton_of (Compilation id) size = record { id = id.0; path_size = size; kind = 1 }
+skeleton_of (TypeUnit signature) size = record { id = signature.0; path_size = size; kind = 2 }
+
+abbrev pub skeleton_named : Named → ThorinSkeleton
+skeleton_named unit = skeleton_of unit.0 (length unit.1)
+
+-- the paths one behind the other, each with a zero byte behind it
+abbrev pub paths_of : List Named → List ℕ
+paths_of [] = []
+paths_of (unit ∷ rest) = unit.1 ++ 0 ∷ paths_of rest
+
+-- units and their paths are written as far as there is room, and their numbers are told
+pub record ListsUnits (units : List Named) (old new : List ThorinSkeleton) (before after : List ℕ)
+    (count : ℕ) (report : ThorinReport) : Type 0 where
+  pub names : new ≡ written_over old (map skeleton_named units)
+  pub paths : after ≡ written_over before (paths_of units)
+  pub number : count ≡ length units
+  pub size : report.size ≡ length (paths_of units)
+
+-- the fault that ended a list is told
+abbrev pub TellsEnd : Option Fault → ThorinReport → Type 0
+TellsEnd None report = ⊥
+TellsEnd (Some fault) report = Tells fault report
+
+-- nothing was lacking
+abbrev pub IsNoWantOfMemory : Option Error → Type 0
+IsNoWantOfMemory None = Unit {0}
+IsNoWantOfMemory (Some fault) = fault ≢ error.Memory

@@ -1,0 +1,252 @@
+//! The calls over a package that is open.
+
+ghost use Rattle.std.specs.Prelude.{◌≡◌, Ok};
+ghost use Rattle.dwp_base.specs.Reading.{Answers};
+ghost use Rattle.dwp_index.specs.Package.{package_of, found_counted};
+ghost use Rattle.thorin_c.specs.Finding.{as_status, unit_in, unit_of, unit_found, looked_up};
+ghost use Rattle.thorin_c.specs.Finding.{row_found, row_found_in, content_found, string_found};
+ghost use Rattle.thorin_c.specs.Finding.{Fills};
+ghost use Rattle.thorin_c.specs.Listing.{count_in, Lists};
+ghost use Rattle.thorin_c.specs.Opening.{package_in};
+
+use crate::finding::{object_of, section_of, write_row};
+use crate::listing::thorin_list;
+use crate::opened::Opened;
+use crate::status::{ABSENT, DONE, MALFORMED_STRING, NO_SUCH_STRING, status_of};
+use crate::types::{ThorinBytes, ThorinName, ThorinPackage, ThorinUnit};
+use crate::unit::Found;
+use dwp_table::DwarfObject;
+
+/// `thorin_find` in a package that is open: its sections are where `places` says, whatever that
+/// says. So after `thorin_open` of the same bytes the answer is that of `thorin_find`; any other
+/// `places` gives an answer or a status too.
+#[unsafe(no_mangle)]
+pub extern "C" fn thorin_find_in(
+    places: &ThorinPackage,
+    bytes: &[u8],
+    kind: u8,
+    id: u64,
+    found: &mut ThorinUnit,
+) -> i32
+    ensures { Fills (λ unit. unit) (unit_found (as_status (package_in places.now bytes.now)) kind
+        id) found.old found.new result }
+{
+    match opened(places, bytes) {
+        Ok(pack) => fill(&pack, kind, id, found),
+        Err(status) => status,
+    }
+}
+
+/// The row of a unit alone, as `thorin_find_rows` looks it up, in a package that is open.
+#[unsafe(no_mangle)]
+pub extern "C" fn thorin_find_row_in(
+    places: &ThorinPackage,
+    bytes: &[u8],
+    kind: u8,
+    id: u64,
+    found: &mut ThorinUnit,
+) -> i32
+    ensures { Fills (λ unit. unit) (row_found_in (as_status (package_in places.now bytes.now)) kind
+        id) found.old found.new result }
+{
+    match opened(places, bytes) {
+        Ok(pack) => fill_row(&pack, kind, id, found),
+        Err(status) => status,
+    }
+}
+
+/// `thorin_content` in a package that is open.
+#[unsafe(no_mangle)]
+pub extern "C" fn thorin_content_in<'a>(
+    places: &ThorinPackage,
+    bytes: &'a [u8],
+    kind: u8,
+    id: u64,
+    section: u8,
+    found: &mut ThorinBytes<'a>,
+) -> i32
+    ensures { Fills (λ lent. lent.bytes.now) (content_found
+        (as_status (package_in places.now bytes.now)) kind id section) found.old found.new
+        result }
+{
+    match content(places, bytes, kind, id, section) {
+        Ok(content) => {
+            found.bytes = content;
+            DONE
+        }
+        Err(status) => status,
+    }
+}
+
+/// `thorin_string` in a package that is open.
+#[unsafe(no_mangle)]
+pub extern "C" fn thorin_string_in<'a>(
+    places: &ThorinPackage,
+    bytes: &'a [u8],
+    kind: u8,
+    id: u64,
+    index: u64,
+    found: &mut ThorinBytes<'a>,
+) -> i32
+    ensures { Fills (λ lent. lent.bytes.now) (string_found
+        (as_status (package_in places.now bytes.now)) kind id index) found.old found.new result }
+{
+    match string(places, bytes, kind, id, index) {
+        Ok(string) => {
+            found.bytes = string;
+            DONE
+        }
+        Err(status) => status,
+    }
+}
+
+/// `thorin_list` of a package that is open. Next to the list, reading where the sections lie takes
+/// no time: it is read anew, and `places` isn't looked at.
+#[unsafe(no_mangle)]
+pub extern "C" fn thorin_list_in(
+    places: &ThorinPackage,
+    bytes: &[u8],
+    names: &mut [ThorinName],
+    count: &mut u64,
+) -> i32
+    ensures count { Fills (λ count. count) (count_in bytes.now) count.old count.new result }
+    ensures names { Lists (as_status (package_of bytes.now)) names.old names.new }
+{
+    let _places = places;
+    thorin_list(bytes, names, count)
+}
+
+/// The package whose sections are at these places.
+#[inline(always)]
+fn opened<'p, 'a>(places: &'p ThorinPackage, bytes: &'a [u8]) -> Result<Opened<'p, 'a>, i32>
+    ensures { Answers (λ x. x) result (as_status (package_in places.now bytes.now)) }
+{
+    match Opened::at(places, bytes) {
+        Ok(pack) => Ok(pack),
+        Err(fault) => Err(status_of(fault)),
+    }
+}
+
+/// Fills in the unit of a name.
+#[tactic(auto, unfolding(crate::specs::Finding::unit_in))]
+fn fill(pack: &Opened<'_, '_>, kind: u8, id: u64, found: &mut ThorinUnit) -> i32
+    ensures { Fills (λ unit. unit) (unit_found (Ok pack.now) kind id) found.old found.new
+        result }
+{
+    let object = match object_of(kind, id) {
+        Ok(object) => object,
+        Err(status) => return status,
+    };
+    match &pack.find_counted(object) {
+        Ok((Some(unit), slots)) => {
+            write_found(unit, *slots, found);
+            DONE
+        }
+        Ok((None, _)) => ABSENT,
+        Err(fault) => status_of(*fault),
+    }
+}
+
+/// Fills in the row of a name.
+#[tactic(auto, unfolding(crate::specs::Finding::row_found))]
+#[inline(always)]
+fn fill_row(pack: &Opened<'_, '_>, kind: u8, id: u64, found: &mut ThorinUnit) -> i32
+    ensures { Fills (λ unit. unit) (row_found pack.now kind id) found.old found.new result }
+{
+    let object = match object_of(kind, id) {
+        Ok(object) => object,
+        Err(status) => return status,
+    };
+    match &pack.find_row(object) {
+        Ok((Some((number, row)), slots)) => {
+            write_row(row, *number, *slots, found);
+            DONE
+        }
+        Ok((None, _)) => ABSENT,
+        Err(fault) => status_of(*fault),
+    }
+}
+
+/// Writes a unit with its ranges and its encoding.
+fn write_found(unit: &Found<'_, '_>, slots: u32, found: &mut ThorinUnit)
+    ensures { found.new ≡ unit_of unit.now slots }
+{
+    write_row(&unit.row, unit.number, slots, found);
+    found.version = unit.encoding.version;
+    found.offset_size = unit.encoding.format.offset_size() as u8;
+    found.address_size = unit.encoding.address_size;
+}
+
+/// The unit of a name, and how many slots were looked at.
+#[tactic(auto, unfolding(crate::specs::Finding::looked_up))]
+fn look_up<'p, 'a>(
+    places: &'p ThorinPackage,
+    bytes: &'a [u8],
+    kind: u8,
+    id: u64,
+) -> Result<(Found<'p, 'a>, u32), i32>
+    ensures { Answers (λ x. x) result (looked_up (as_status (package_in places.now bytes.now)) kind
+        id) }
+{
+    let pack = opened(places, bytes)?;
+    look_up_in(&pack, kind, id)
+}
+
+#[tactic(auto, unfolding(crate::specs::Finding::unit_in))]
+fn look_up_in<'p, 'a>(pack: &Opened<'p, 'a>, kind: u8, id: u64) -> Result<(Found<'p, 'a>, u32), i32>
+    ensures { Answers (λ x. x) result (unit_in pack.now kind id) }
+{
+    let object = object_of(kind, id)?;
+    let (unit, slots) = find(pack, object)?;
+    match unit {
+        Some(unit) => Ok((unit, slots)),
+        None => Err(ABSENT),
+    }
+}
+
+fn find<'p, 'a>(
+    pack: &Opened<'p, 'a>,
+    object: DwarfObject,
+) -> Result<(Option<Found<'p, 'a>>, u32), i32>
+    ensures { Answers (λ x. x) result (as_status (found_counted pack.now object)) }
+{
+    match pack.find_counted(object) {
+        Ok(found) => Ok(found),
+        Err(fault) => Err(status_of(fault)),
+    }
+}
+
+#[tactic(auto, unfolding(crate::specs::Finding::content_found))]
+fn content<'a>(
+    places: &ThorinPackage,
+    bytes: &'a [u8],
+    kind: u8,
+    id: u64,
+    section: u8,
+) -> Result<&'a [u8], i32>
+    ensures { Answers (λ lent. lent.now) result (content_found
+        (as_status (package_in places.now bytes.now)) kind id section) }
+{
+    let (unit, _) = look_up(places, bytes, kind, id)?;
+    let section = section_of(section)?;
+    Ok(unit.section(section))
+}
+
+#[tactic(auto, unfolding(crate::specs::Finding::string_found))]
+fn string<'a>(
+    places: &ThorinPackage,
+    bytes: &'a [u8],
+    kind: u8,
+    id: u64,
+    index: u64,
+) -> Result<&'a [u8], i32>
+    ensures { Answers (λ lent. lent.now) result (string_found
+        (as_status (package_in places.now bytes.now)) kind id index) }
+{
+    let (unit, _) = look_up(places, bytes, kind, id)?;
+    match unit.string(index) {
+        Ok(Some(string)) => Ok(string),
+        Ok(None) => Err(NO_SUCH_STRING),
+        Err(_) => Err(MALFORMED_STRING),
+    }
+}

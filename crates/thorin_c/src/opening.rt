@@ -1,0 +1,199 @@
+//! Where the sections of a package lie among its bytes.
+
+ghost use Rattle.std.specs.Prelude.{◌≡◌, Ok, Some, IsTrue, IfSome, IfOk, slice_get, option_map};
+ghost use Rattle.std.specs.List.{find};
+ghost use Rattle.dwp_base.specs.Reading.{Answers};
+ghost use Rattle.dwp_elf_read.specs.Elf.{elf_of};
+ghost use Rattle.dwp_elf_read.specs.View.{elf, section};
+ghost use Rattle.dwp_index.specs.Contents.{is_of_kind, has_older_name, used_bytes, content_among};
+ghost use Rattle.dwp_index.specs.Contents.{contents_of};
+ghost use Rattle.dwp_index.specs.Package.{as_fault, package_of};
+ghost use Rattle.dwp_index.specs.declared.fault.PackageError.TheVariants as faults;
+ghost use Rattle.thorin_c.specs.Opening.{bytes_at, order_of, sections_at, package_in, opened};
+ghost use Rattle.thorin_c.specs.Finding.{as_status, Fills};
+
+use crate::header::offset_of;
+use crate::opened::Opened;
+use crate::sections::is_inside;
+use crate::status::{DONE, status_of};
+use crate::types::{ThorinPackage, ThorinRange};
+use dwp_base::{Endianness, SectionKind};
+use dwp_elf_read::{ElfFile, ReadError, Section};
+use dwp_index::PackageError;
+
+/// Opens a package: answers 0, and writes where its sections lie. The calls that take `places`
+/// then read nothing but what they look up. Or 3 or 4 where it can't be read, and `places` is left
+/// as it is.
+#[unsafe(no_mangle)]
+pub extern "C" fn thorin_open(bytes: &[u8], places: &mut ThorinPackage) -> i32
+    ensures { Fills (λ found. package_in found bytes.now)
+        (as_status (opened (package_of bytes.now))) places.old places.new result }
+{
+    match places_of(bytes) {
+        Ok(found) => {
+            *places = found;
+            DONE
+        }
+        Err(fault) => status_of(fault),
+    }
+}
+
+/// The places of a package's sections, once its indexes are read.
+#[tactic(auto, unfolding(dwp_index::specs::Package::package_of))]
+fn places_of(bytes: &[u8]) -> Result<ThorinPackage, PackageError>
+    ensures { Answers (λ found. package_in found bytes.now) result (opened (package_of bytes.now)) }
+{
+    let file = read_file(bytes)?;
+    let places = read_places(&file, bytes)?;
+    match Opened::at(&places, bytes) {
+        Ok(_) => Ok(places),
+        Err(fault) => Err(fault),
+    }
+}
+
+fn read_file(bytes: &[u8]) -> Result<ElfFile<'_>, PackageError>
+    ensures exact { Answers elf result (as_fault faults.Elf (elf_of bytes.now)) }
+    ensures whole { IfOk result (λ file. elf_of bytes.now ≡ Ok (elf file)) }
+{
+    match ElfFile::parse(bytes) {
+        Ok(file) => Ok(file),
+        Err(e) => Err(PackageError::Elf(e)),
+    }
+}
+
+fn read_places(file: &ElfFile<'_>, bytes: &[u8]) -> Result<ThorinPackage, PackageError>
+    requires { elf_of bytes.now ≡ Ok (elf file.now) }
+    ensures contents { Answers (λ places. sections_at places bytes.now) result
+        (as_fault faults.Elf (contents_of (elf file.now).sections)) }
+    ensures order { IfOk result (λ places. order_of places.big_endian ≡ (elf file.now).order) }
+{
+    match section_places(file, bytes) {
+        Ok(places) => Ok(places),
+        Err(e) => Err(PackageError::Elf(e)),
+    }
+}
+
+/// The places of all sections, and the byte order.
+#[tactic(auto, unfolding(dwp_index::specs::Contents::contents_of))]
+fn section_places(file: &ElfFile<'_>, bytes: &[u8]) -> Result<ThorinPackage, ReadError>
+    requires { elf_of bytes.now ≡ Ok (elf file.now) }
+    ensures contents { Answers (λ places. sections_at places bytes.now) result
+        (contents_of (elf file.now).sections) }
+    ensures order { IfOk result (λ places. order_of places.big_endian ≡ (elf file.now).order) }
+{
+    let info = place(file, bytes, SectionKind::Info)?;
+    let types = place(file, bytes, SectionKind::Types)?;
+    let abbreviations = place(file, bytes, SectionKind::Abbrev)?;
+    let line = place(file, bytes, SectionKind::Line)?;
+    let loc = place(file, bytes, SectionKind::Loc)?;
+    let loclists = place(file, bytes, SectionKind::Loclists)?;
+    let rnglists = place(file, bytes, SectionKind::Rnglists)?;
+    let str_offsets = place(file, bytes, SectionKind::StrOffsets)?;
+    let macinfo = place(file, bytes, SectionKind::Macinfo)?;
+    let macros = place(file, bytes, SectionKind::Macro)?;
+    let strings = place(file, bytes, SectionKind::Str)?;
+    let cu_index = place(file, bytes, SectionKind::CuIndex)?;
+    let tu_index = place(file, bytes, SectionKind::TuIndex)?;
+    let big_endian = number_of(file.endianness());
+    Ok(ThorinPackage {
+        info,
+        types,
+        abbreviations,
+        line,
+        loc,
+        loclists,
+        rnglists,
+        str_offsets,
+        macinfo,
+        macros,
+        strings,
+        cu_index,
+        tu_index,
+        big_endian,
+    })
+}
+
+fn number_of(order: Endianness) -> u64
+    ensures { order_of result ≡ order }
+{
+    match order {
+        Endianness::Little => 0,
+        Endianness::Big => 1,
+    }
+}
+
+/// The place of the first section of a kind that has bytes; of no bytes where there is none.
+#[tactic(auto, unfolding(dwp_index::specs::Contents::content_among))]
+fn place(file: &ElfFile<'_>, bytes: &[u8], kind: SectionKind) -> Result<ThorinRange, ReadError>
+    requires { elf_of bytes.now ≡ Ok (elf file.now) }
+    ensures { Answers (λ place. bytes_at bytes.now place) result
+        (content_among (elf file.now).sections kind) }
+{
+    match first_section(file, kind) {
+        None => Ok(ThorinRange { offset: 0, size: 0 }),
+        Some((number, used)) => used_place(file, bytes, kind, number, &used),
+    }
+}
+
+/// The place of a section that is used.
+#[tactic(auto, unfolding(dwp_index::specs::Contents::used_bytes))]
+fn used_place(
+    file: &ElfFile<'_>,
+    bytes: &[u8],
+    kind: SectionKind,
+    number: usize,
+    used: &Section<'_>,
+) -> Result<ThorinRange, ReadError>
+    requires whole { elf_of bytes.now ≡ Ok (elf file.now) }
+    requires there { slice_get (elf file.now).sections number ≡ Some (section used.now) }
+    requires filled { IsTrue (is_of_kind kind (section used.now)) }
+    ensures { Answers (λ place. bytes_at bytes.now place) result
+        (used_bytes kind (section used.now)) }
+{
+    if used.is_compressed() || has_older_name(used, kind) {
+        return Err(ReadError::Compressed);
+    }
+    let offset = offset_of(file, bytes, number);
+    let size = used.size();
+    if !is_inside(bytes, offset, size) {
+        return Err(ReadError::SectionRange);
+    }
+    Ok(ThorinRange { offset, size })
+}
+
+/// Whether a section's name is the older spelling, of compressed sections.
+#[tactic(auto, using(crate::proofs::Called::called_is_older))]
+fn has_older_name(candidate: &Section<'_>, kind: SectionKind) -> bool
+    ensures { result ≡ has_older_name kind (section candidate.now).name }
+{
+    candidate.is_called(kind.compressed_name())
+}
+
+/// Whether a section has bytes, and is one of this kind.
+#[tactic(auto, unfolding(dwp_index::specs::Contents::is_of_kind), using(crate::proofs::Called::called_is_named))]
+fn is_of_kind(candidate: &Section<'_>, kind: SectionKind) -> bool
+    ensures { result ≡ is_of_kind kind (section candidate.now) }
+{
+    if candidate.is_empty() {
+        return false;
+    }
+    candidate.is_called(kind.name()) || candidate.is_called(kind.compressed_name())
+}
+
+/// The first section of a kind that has bytes, and its number.
+fn first_section<'a>(file: &ElfFile<'a>, kind: SectionKind) -> Option<(usize, Section<'a>)>
+    ensures first { option_map (λ found. section found.1) result
+        ≡ find (is_of_kind kind) (elf file.now).sections }
+    ensures there { IfSome result (λ found.
+        slice_get (elf file.now).sections found.0 ≡ Some (section found.1)) }
+    ensures filled { IfSome result (λ found. IsTrue (is_of_kind kind (section found.1))) }
+{
+    for i in 0..file.section_count() {
+        if let Some(candidate) = file.section(i) {
+            if is_of_kind(&candidate, kind) {
+                return Some((i, candidate));
+            }
+        }
+    }
+    None
+}

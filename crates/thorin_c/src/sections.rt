@@ -1,0 +1,150 @@
+//! The sections of a package at places that are known.
+
+ghost use Rattle.std.specs.Prelude.{◌≡◌};
+ghost use Rattle.dwp_elf_read.specs.Layout.{is_inside};
+ghost use Rattle.dwp_index.specs.Contents.{content};
+ghost use Rattle.dwp_index.specs.Index.{range_in};
+ghost use Rattle.dwp_index.specs.Package.{part_of, lies_inside, row_bytes, first_outside};
+ghost use Rattle.dwp_index.specs.Package.{is_outside};
+ghost use Rattle.thorin_c.specs.Opening.{bytes_at, sections_at};
+
+use crate::types::{ThorinPackage, ThorinRange};
+use dwp_base::{Contribution, SectionKind};
+use dwp_index::Row;
+
+/// A package's bytes, and where its sections lie among them.
+#[derive(Clone, Copy)]
+pub(crate) struct PlacedSections<'p, 'a> {
+    pub(crate) places: &'p ThorinPackage,
+    pub(crate) bytes: &'a [u8],
+}
+
+/// Whether `size` bytes from a place on are inside the bytes.
+pub(crate) fn is_inside(bytes: &[u8], place: u64, size: u64) -> bool
+    ensures { result ≡ is_inside bytes.now place size }
+{
+    let len = bytes.len() as u64;
+    place <= len && size <= len - place
+}
+
+/// The bytes of a place; none where it isn't inside.
+pub(crate) fn bytes_at(bytes: &[u8], place: ThorinRange) -> &[u8]
+    ensures { result.now ≡ bytes_at bytes.now place }
+{
+    if !is_inside(bytes, place.offset, place.size) {
+        return &[];
+    }
+    let start = place.offset as usize;
+    &bytes[start..start + place.size as usize]
+}
+
+impl<'p, 'a> PlacedSections<'p, 'a> {
+    /// The content of a kind.
+    #[inline(always)]
+    pub(crate) fn of(&self, kind: SectionKind) -> &'a [u8]
+        ensures { result.now ≡ content (sections_at self.now.places.now self.now.bytes.now) kind }
+    {
+        let places = self.places;
+        let place = match kind {
+            SectionKind::Info => places.info,
+            SectionKind::Types => places.types,
+            SectionKind::Abbrev => places.abbreviations,
+            SectionKind::Line => places.line,
+            SectionKind::Loc => places.loc,
+            SectionKind::Loclists => places.loclists,
+            SectionKind::Rnglists => places.rnglists,
+            SectionKind::StrOffsets => places.str_offsets,
+            SectionKind::Macinfo => places.macinfo,
+            SectionKind::Macro => places.macros,
+            SectionKind::Str => places.strings,
+            SectionKind::CuIndex => places.cu_index,
+            SectionKind::TuIndex => places.tu_index,
+        };
+        bytes_at(self.bytes, place)
+    }
+
+    /// The bytes of a row's range in a section; none where it has no such range.
+    #[tactic(auto, unfolding(dwp_index::specs::Package::row_bytes))]
+    pub(crate) fn row_bytes(&self, row: &Row<'_>, kind: SectionKind) -> &'a [u8]
+        ensures { result.now
+            ≡ row_bytes (sections_at self.now.places.now self.now.bytes.now) row.now kind }
+    {
+        part_of(self.of(kind), row.range(kind))
+    }
+
+    /// The first section, in the order of columns, that a range of the row isn't inside of.
+    #[tactic(auto, unfolding(dwp_index::specs::Package::first_outside))]
+    #[inline(always)]
+    pub(crate) fn first_outside(&self, row: &Row<'_>) -> Option<SectionKind>
+        ensures { result
+            ≡ first_outside (sections_at self.now.places.now self.now.bytes.now) row.now }
+    {
+        if self.is_outside(row, SectionKind::Info) {
+            return Some(SectionKind::Info);
+        }
+        if self.is_outside(row, SectionKind::Types) {
+            return Some(SectionKind::Types);
+        }
+        if self.is_outside(row, SectionKind::Abbrev) {
+            return Some(SectionKind::Abbrev);
+        }
+        if self.is_outside(row, SectionKind::Line) {
+            return Some(SectionKind::Line);
+        }
+        if self.is_outside(row, SectionKind::Loc) {
+            return Some(SectionKind::Loc);
+        }
+        if self.is_outside(row, SectionKind::Loclists) {
+            return Some(SectionKind::Loclists);
+        }
+        if self.is_outside(row, SectionKind::Rnglists) {
+            return Some(SectionKind::Rnglists);
+        }
+        if self.is_outside(row, SectionKind::StrOffsets) {
+            return Some(SectionKind::StrOffsets);
+        }
+        if self.is_outside(row, SectionKind::Macinfo) {
+            return Some(SectionKind::Macinfo);
+        }
+        if self.is_outside(row, SectionKind::Macro) {
+            return Some(SectionKind::Macro);
+        }
+        None
+    }
+
+    #[inline(always)]
+    fn is_outside(&self, row: &Row<'_>, kind: SectionKind) -> bool
+        ensures { result ≡ is_outside
+            (content (sections_at self.now.places.now self.now.bytes.now) kind)
+            (range_in row.now kind) }
+    {
+        match row.range(kind) {
+            None => false,
+            Some(range) => !lies_inside(self.of(kind), range),
+        }
+    }
+}
+
+/// The bytes of a range; none where it is absent.
+fn part_of<'a>(bytes: &'a [u8], range: Option<Contribution>) -> &'a [u8]
+    ensures { result.now ≡ part_of bytes.now range }
+{
+    match range {
+        None => &[],
+        Some(range) => {
+            if lies_inside(bytes, range) {
+                let start = range.offset.0 as usize;
+                &bytes[start..start + range.size as usize]
+            } else {
+                &[]
+            }
+        }
+    }
+}
+
+/// Whether a range lies inside a section of these bytes.
+fn lies_inside(bytes: &[u8], range: Contribution) -> bool
+    ensures { result ≡ lies_inside bytes.now range }
+{
+    is_inside(bytes, range.offset.0, range.size)
+}

@@ -1,0 +1,111 @@
+//! Units that were found in an open package.
+
+ghost use Rattle.std.specs.Prelude.{◌≡◌};
+ghost use Rattle.std.specs.Option.{option_copied};
+ghost use Rattle.dwp_base.specs.Reading.{Answers};
+ghost use Rattle.dwp_base.specs.declared.section.SectionKind.TheVariants as kinds;
+ghost use Rattle.dwp_index.specs.Package.{row_bytes, kind_of, place_of, encoding_in};
+ghost use Rattle.dwp_index.specs.Strings.{entry_in, string_in};
+
+use crate::sections::PlacedSections;
+use dwp_base::{Contribution, Endianness, SectionKind};
+use dwp_bytes::{Encoding, Format, ReadError, SliceReader, string_at};
+use dwp_dwarf::{UnitHeaders, UnitSection};
+use dwp_index::Row;
+use dwp_table::DwarfObject;
+use std::marker::Model;
+
+/// A unit of an open package, with its ranges.
+#[derive(Drop)]
+pub(crate) struct Found<'p, 'a> {
+    pub(crate) order: Endianness,
+    pub(crate) sections: PlacedSections<'p, 'a>,
+    pub(crate) number: u32,
+    pub(crate) row: Row<'a>,
+    pub(crate) bytes: &'a [u8],
+    pub(crate) encoding: Encoding,
+}
+
+impl<'p, 'a> Model for Found<'p, 'a> {
+    ghost use Rattle.dwp_index.specs.Package.{FoundUnit};
+
+    ghost Value = { FoundUnit };
+
+    ghost use Rattle.thorin_c.specs.OpenedFields.{unit_held};
+
+    ghost view = { unit_held };
+}
+
+impl<'p, 'a> Found<'p, 'a> {
+    /// The bytes of the unit's range in a section; none where it has no range.
+    pub(crate) fn section(&self, kind: SectionKind) -> &'a [u8]
+        ensures { result.now ≡ row_bytes self.now.contents self.now.row kind }
+    {
+        self.sections.row_bytes(&self.row, kind)
+    }
+
+    /// The string of a number, by the unit's own encoding; None past the last whole entry of its
+    /// string offsets.
+    #[tactic(auto, unfolding(dwp_index::specs::Strings::string_in))]
+    pub(crate) fn string(&self, i: u64) -> Result<Option<&'a [u8]>, ReadError>
+        ensures { Answers option_copied result
+            (string_in self.now.order self.now.encoding self.now.contents.strings
+            (row_bytes self.now.contents self.now.row kinds.StrOffsets) i) }
+    {
+        let range = self.section(SectionKind::StrOffsets);
+        match entry_in(self.order, self.encoding, range, i) {
+            None => Ok(None),
+            Some(offset) => Ok(Some(string_at(self.sections.of(SectionKind::Str), offset)?)),
+        }
+    }
+}
+
+/// The i-th offset of a range; None past the last whole one.
+#[tactic(auto, unfolding(dwp_index::specs::Strings::entry_in))]
+fn entry_in(order: Endianness, encoding: Encoding, bytes: &[u8], i: u64) -> Option<u64>
+    ensures { result ≡ entry_in order encoding bytes.now i }
+{
+    if encoding.string_offsets_count(bytes.len() as u64) <= i {
+        return None;
+    }
+    let header = encoding.string_offsets_header_size();
+    Some(match encoding.format {
+        Format::Dwarf32 => order.read_u32(&bytes[header + i as usize * 4..]) as u64,
+        Format::Dwarf64 => order.read_u64(&bytes[header + i as usize * 8..]),
+    })
+}
+
+/// The section that a unit's own bytes stand in: a type unit's may be those of types.
+pub(crate) fn place_of(object: DwarfObject, range: Option<Contribution>) -> UnitSection
+    ensures { result ≡ place_of object range }
+{
+    match (object, range) {
+        (DwarfObject::TypeUnit(_), Some(_)) => UnitSection::Types,
+        _ => UnitSection::Info,
+    }
+}
+
+/// The kind of that section.
+pub(crate) fn kind_of(place: UnitSection) -> SectionKind
+    ensures { result ≡ kind_of place }
+{
+    match place {
+        UnitSection::Info => SectionKind::Info,
+        UnitSection::Types => SectionKind::Types,
+    }
+}
+
+/// The encoding in the header of the unit that the bytes begin with.
+pub(crate) fn encoding_in(
+    bytes: &[u8],
+    order: Endianness,
+    place: UnitSection,
+) -> Result<Encoding, ReadError>
+    ensures { Answers (λ x. x) result (encoding_in order place bytes.now) }
+{
+    match UnitHeaders::new(SliceReader::new(bytes, order), place).next() {
+        None => Err(ReadError::UnexpectedEof),
+        Some(Err(e)) => Err(e),
+        Some(Ok(header)) => Ok(header.encoding()),
+    }
+}
