@@ -2,8 +2,8 @@
 
 use crate::command;
 use clap::error::ErrorKind;
-use clap::{ArgMatches, Error};
-use std::alloc::Global;
+use clap::{ArgMatches, Command, Error};
+use std::alloc::{AllocError, Global};
 use std::fmt;
 
 /// What a command line names to be packed.
@@ -52,16 +52,26 @@ pub trait Commands {
 /// it takes the command lines of those programs.
 pub fn run<C: Commands>(alloc: Global, words: &[String], commands: &mut C) -> u8 {
     let peer = peer_name(words);
-    let command = match peer {
+    match read(alloc, peer, words) {
+        Ok(matches) => dispatch(&matches, peer.is_some(), commands),
+        Err(error) => tell(&error, commands),
+    }
+}
+
+/// Reads the words as a command line, of a peer where one is named.
+fn read<'a>(
+    alloc: Global,
+    peer: Option<&'a str>,
+    words: &'a [String],
+) -> Result<ArgMatches<'a>, Error> {
+    let command = command_line(alloc, peer)?;
+    command.try_get_matches_from(words)
+}
+
+fn command_line<'a>(alloc: Global, peer: Option<&'a str>) -> Result<Command<'a>, AllocError> {
+    match peer {
         Some(name) => command::peer(alloc, name),
         None => command::command(alloc),
-    };
-    match command {
-        Ok(command) => match command.try_get_matches_from(words) {
-            Ok(matches) => dispatch(&matches, peer.is_some(), commands),
-            Err(error) => tell(&error, commands),
-        },
-        Err(_) => commands.lack_memory(),
     }
 }
 
@@ -93,32 +103,66 @@ fn dispatch<C: Commands>(matches: &ArgMatches<'_>, is_peer: bool, commands: &mut
         return commands.pack(arguments_of_peer(matches));
     }
     match matches.subcommand() {
-        Some(("pack", matches)) => commands.pack(arguments_of(matches)),
-        Some(("find", matches)) => find(matches, commands),
-        Some(("list", matches)) => commands.list(file_of(matches), matches.get_flag("sizes")),
-        Some(("check", matches)) => {
-            commands.check(file_of(matches), matches.get_strs("exec").unwrap_or(&[]))
-        }
+        Some((name, matches)) => dispatch_to(name, matches, commands),
+        None => commands.refuse_words(),
+    }
+}
+
+/// Does what the words behind a command's name ask for, and answers the status.
+fn dispatch_to<C: Commands>(name: &str, matches: &ArgMatches<'_>, commands: &mut C) -> u8 {
+    match name {
+        "pack" => commands.pack(arguments_of(matches)),
+        "find" => find(matches, commands),
+        "list" => list(matches, commands),
+        "check" => check(matches, commands),
         _ => commands.refuse_words(),
     }
 }
 
-/// Looks up the unit that the words name.
-fn find<C: Commands>(matches: &ArgMatches<'_>, commands: &mut C) -> u8 {
-    let kind = matches.get_str("kind").unwrap_or("");
-    let id = matches.get_str("id").unwrap_or("");
-    commands.find(file_of(matches), kind, id)
+/// Lists the package that the words name.
+fn list<C: Commands>(matches: &ArgMatches<'_>, commands: &mut C) -> u8 {
+    commands.list(word_of(matches, "file"), has_flag(matches, "sizes"))
 }
 
-/// The package's file that a command reads.
-fn file_of<'a>(matches: &ArgMatches<'a>) -> &'a str {
-    matches.get_str("file").unwrap_or("")
+/// Checks the package that the words name, for the executables that they name.
+fn check<C: Commands>(matches: &ArgMatches<'_>, commands: &mut C) -> u8 {
+    let executables = values_of(matches, "exec").unwrap_or(&[]);
+    commands.check(word_of(matches, "file"), executables)
+}
+
+/// Looks up the unit that the words name.
+fn find<C: Commands>(matches: &ArgMatches<'_>, commands: &mut C) -> u8 {
+    commands.find(
+        word_of(matches, "file"),
+        word_of(matches, "kind"),
+        word_of(matches, "id"),
+    )
+}
+
+/// A word that a command line must have, by its name.
+fn word_of<'a>(matches: &ArgMatches<'a>, name: &str) -> &'a str {
+    value_of(matches, name).unwrap_or("")
+}
+
+/// The value of a name, where the command line gives one.
+fn value_of<'a>(matches: &ArgMatches<'a>, name: &str) -> Option<&'a str> {
+    matches.get_str(name)
+}
+
+/// The values of a name, where the command line gives any.
+fn values_of<'m, 'a>(matches: &'m ArgMatches<'a>, name: &str) -> Option<&'m [&'a str]> {
+    matches.get_strs(name)
+}
+
+/// Whether an option without a value is given.
+fn has_flag(matches: &ArgMatches<'_>, name: &str) -> bool {
+    matches.get_flag(name)
 }
 
 /// What the command `pack` asks for.
 fn arguments_of<'m, 'a>(matches: &'m ArgMatches<'a>) -> PackArguments<'m, 'a> {
     PackArguments {
-        skips_missing: matches.get_flag("skip-missing"),
+        skips_missing: has_flag(matches, "skip-missing"),
         ..arguments_of_peer(matches)
     }
 }
@@ -126,10 +170,10 @@ fn arguments_of<'m, 'a>(matches: &'m ArgMatches<'a>) -> PackArguments<'m, 'a> {
 /// What the command lines of `dwp` and `llvm-dwp` ask for.
 fn arguments_of_peer<'m, 'a>(matches: &'m ArgMatches<'a>) -> PackArguments<'m, 'a> {
     PackArguments {
-        output: matches.get_str("output"),
-        inputs: matches.get_strs("input"),
-        executables: matches.get_strs("exec"),
+        output: value_of(matches, "output"),
+        inputs: values_of(matches, "input"),
+        executables: values_of(matches, "exec"),
         skips_missing: false,
-        verbose: matches.get_flag("verbose"),
+        verbose: has_flag(matches, "verbose"),
     }
 }
