@@ -77,22 +77,23 @@ const PACKED: Word = Word::Executables("Executables whose objects are packed, af
 const COMMANDS: [Line; 4] = [
     Line {
         name: "pack",
-        about: "Packs objects into a package",
+        about: "Pack objects into a package",
         below: PACK_EXAMPLES,
         words: &[
             Word::Output,
             PACKED,
             Word::Flag(
                 "skip-missing",
-                "Pass over objects of an executable that can't be read",
+                "Skip missing objects; their units must come from another input",
             ),
+            Word::Flag("force", "Write OUT even if it is an input"),
             Word::Verbose,
             Word::Inputs,
         ],
     },
     Line {
         name: "find",
-        about: "Prints what a package has of a unit",
+        about: "Show what a package has of a unit",
         below: FIND_EXAMPLES,
         words: &[
             FILE,
@@ -106,7 +107,7 @@ const COMMANDS: [Line; 4] = [
     },
     Line {
         name: "list",
-        about: "Lists the units of a package",
+        about: "List the units of a package",
         below: LIST_EXAMPLES,
         words: &[
             Word::Flag(
@@ -118,7 +119,7 @@ const COMMANDS: [Line; 4] = [
     },
     Line {
         name: "check",
-        about: "Goes over a package and tells its faults",
+        about: "Check a package and report its errors",
         below: CHECK_EXAMPLES,
         words: &[
             FILE,
@@ -128,14 +129,19 @@ const COMMANDS: [Line; 4] = [
 ];
 
 /// The words of a peer, but for its `-o`.
-const PEER: [Word; 3] = [PACKED, Word::Verbose, Word::Inputs];
+const PEER: [Word; 4] = [
+    PACKED,
+    Word::Flag("verify-only", "Check the package OUT instead of writing it"),
+    Word::Verbose,
+    Word::Inputs,
+];
 
 /// The program's command line: `pack`, `find`, `list` and `check`.
 pub(crate) fn command<'a>(alloc: Global) -> Result<Command<'a>, AllocError> {
     let mut command = titled(
         alloc,
         "thorin",
-        "Packs split DWARF objects into DWARF packages, and reads such packages",
+        "Pack split DWARF objects into DWARF packages, and read such packages",
         EXAMPLES,
     )
     .version(VERSION)
@@ -159,7 +165,7 @@ fn peer_with<'a>(alloc: Global, name: &'a str, output: Arg<'a>) -> Result<Comman
     let command = titled(
         alloc,
         name,
-        "Packs split DWARF objects into a DWARF package",
+        "Pack split DWARF objects into a DWARF package",
         "Without -o the package of one EXEC is EXEC.dwp. This is thorin by another name.",
     )
     .version(VERSION)
@@ -207,7 +213,7 @@ fn arg_of<'a>(alloc: Global, word: Word) -> Arg<'a> {
     match word {
         Word::Output => output(alloc).required(true),
         Word::Executables(help) => executables(alloc, help),
-        Word::Verbose => flag(alloc, "verbose", "Tell of each input what came of it").short('v'),
+        Word::Verbose => flag(alloc, "verbose", "Report each input").short('v'),
         Word::Flag(name, help) => flag(alloc, name, help),
         Word::Inputs => inputs(alloc),
         Word::Place(name, value, help) => place(alloc, name, value, help),
@@ -215,7 +221,14 @@ fn arg_of<'a>(alloc: Global, word: Word) -> Arg<'a> {
 }
 
 fn output<'a>(alloc: Global) -> Arg<'a> {
-    option(alloc, "output", 'o', "OUT", "The package to write").action(ArgAction::Set)
+    option(
+        alloc,
+        "output",
+        'o',
+        "OUT",
+        "The package to write; - for standard output",
+    )
+    .action(ArgAction::Set)
 }
 
 fn executables<'a>(alloc: Global, help: &'a str) -> Arg<'a> {

@@ -17,6 +17,10 @@ pub struct PackArguments<'m, 'a> {
     pub executables: Option<&'m [&'a str]>,
     /// Whether objects of an executable that can't be read are passed over.
     pub skips_missing: bool,
+    /// Whether the package may take the place of an input.
+    pub force: bool,
+    /// Whether the package is checked, and none is made.
+    pub verifies_only: bool,
     /// Whether a line tells of each input.
     pub verbose: bool,
 }
@@ -48,8 +52,8 @@ pub trait Commands {
     fn lack_memory(&mut self) -> u8;
 }
 
-/// Does what a command line asks for, and answers the status. Under the names `dwp` and `llvm-dwp`
-/// it takes the command lines of those programs.
+/// Does what a command line asks for, and answers the status. Under the names `dwp` and `llvm-dwp`,
+/// with a target or a version in them too, it takes the command lines of those programs.
 pub fn run<C: Commands>(alloc: Global, words: &[String], commands: &mut C) -> u8 {
     let peer = peer_name(words);
     match read(alloc, peer, words) {
@@ -87,13 +91,30 @@ fn tell<C: Commands>(error: &Error, commands: &mut C) -> u8 {
     }
 }
 
-/// The program's name where it is that of a peer, whose command lines it then takes.
+/// The program's name where it is that of a peer, whose command lines it then takes: its last part
+/// is `dwp`, as in `llvm-dwp` and `x86_64-linux-gnu-dwp`, or `dwp` and a version, as in
+/// `llvm-dwp-19`.
 fn peer_name(words: &[String]) -> Option<&str> {
     let path = words.first()?.as_str();
     let name = path.rsplit('/').next()?;
-    match name {
-        "dwp" | "llvm-dwp" => Some(name),
-        _ => None,
+    if is_peer(name) { Some(name) } else { None }
+}
+
+/// Whether the last part of a name is `dwp`, a version aside.
+fn is_peer(name: &str) -> bool {
+    let mut parts = name.rsplit('-');
+    match parts.next() {
+        Some("dwp") => true,
+        Some(last) => is_version(last) && parts.next() == Some("dwp"),
+        None => false,
+    }
+}
+
+/// Whether a text begins with a digit.
+fn is_version(text: &str) -> bool {
+    match text.as_bytes().first() {
+        Some(byte) => byte.is_ascii_digit(),
+        None => false,
     }
 }
 
@@ -163,6 +184,7 @@ fn has_flag(matches: &ArgMatches<'_>, name: &str) -> bool {
 fn arguments_of<'m, 'a>(matches: &'m ArgMatches<'a>) -> PackArguments<'m, 'a> {
     PackArguments {
         skips_missing: has_flag(matches, "skip-missing"),
+        force: has_flag(matches, "force"),
         ..arguments_of_peer(matches)
     }
 }
@@ -174,6 +196,8 @@ fn arguments_of_peer<'m, 'a>(matches: &'m ArgMatches<'a>) -> PackArguments<'m, '
         inputs: values_of(matches, "input"),
         executables: values_of(matches, "exec"),
         skips_missing: false,
+        force: false,
+        verifies_only: has_flag(matches, "verify-only"),
         verbose: has_flag(matches, "verbose"),
     }
 }
