@@ -52,8 +52,8 @@ pub(crate) fn contents_of<'a>(file: &ElfFile<'a>, kind: SectionKind) -> &'a [u8]
     &[]
 }
 
-/// Whether a section has the name of a kind, in either spelling. No more of a long name is read than
-/// the names of kinds are long.
+/// Whether a section has the name of a kind, in either spelling. No more of a long name is read
+/// than the names of kinds are long.
 fn is_section_of(section: &Section<'_>, kind: SectionKind) -> bool {
     section.is_called(kind.name()) || section.is_called(kind.compressed_name())
 }
