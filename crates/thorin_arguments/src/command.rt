@@ -1,7 +1,7 @@
 //! The command lines.
 
-use clap::{Arg, ArgAction, Command, Error};
-use std::alloc::Global;
+use clap::{Arg, ArgAction, Command};
+use std::alloc::{AllocError, Global};
 
 const VERSION: &'static str = "0.10.0";
 
@@ -44,123 +44,195 @@ const CHECK_EXAMPLES: &'static str = "Example:
 It prints a line for each fault, then how many units and faults there are.
 Status 1 where there are faults.";
 
+/// A word that a command line may have.
+#[derive(Clone, Copy)]
+enum Word {
+    /// `-o OUT`, which must be there.
+    Output,
+    /// `-e EXEC`, as often as one likes, with its help.
+    Executables(&'static str),
+    /// `-v`.
+    Verbose,
+    /// An option without a value: its name and its help.
+    Flag(&'static str, &'static str),
+    /// `INPUT`, as often as one likes.
+    Inputs,
+    /// One that must be there at its place: its name, how help shows it, its help.
+    Place(&'static str, &'static str, &'static str),
+}
+
+/// A command: its name, what it does, what stands below its options, and its words.
+#[derive(Clone, Copy)]
+struct Line {
+    name: &'static str,
+    about: &'static str,
+    below: &'static str,
+    words: &'static [Word],
+}
+
+const FILE: Word = Word::Place("file", "FILE", "The package");
+
+const PACKED: Word = Word::Executables("Executables whose objects are packed, after all inputs");
+
+const COMMANDS: [Line; 4] = [
+    Line {
+        name: "pack",
+        about: "Pack objects into a package",
+        below: PACK_EXAMPLES,
+        words: &[
+            Word::Output,
+            PACKED,
+            Word::Flag(
+                "skip-missing",
+                "Skip missing objects; their units must come from another input",
+            ),
+            Word::Flag("force", "Write OUT even if it is an input"),
+            Word::Verbose,
+            Word::Inputs,
+        ],
+    },
+    Line {
+        name: "find",
+        about: "Show what a package has of a unit",
+        below: FIND_EXAMPLES,
+        words: &[
+            FILE,
+            Word::Place(
+                "kind",
+                "KIND",
+                "cu for a compilation unit, tu for a type unit",
+            ),
+            Word::Place("id", "ID", "The unit's identifier, in hexadecimal"),
+        ],
+    },
+    Line {
+        name: "list",
+        about: "List the units of a package",
+        below: LIST_EXAMPLES,
+        words: &[
+            Word::Flag(
+                "sizes",
+                "Add each unit's size in each kind of section, and totals",
+            ),
+            FILE,
+        ],
+    },
+    Line {
+        name: "check",
+        about: "Check a package and report its errors",
+        below: CHECK_EXAMPLES,
+        words: &[
+            FILE,
+            Word::Executables("Executables whose units have to be in the package"),
+        ],
+    },
+];
+
+/// The words of a peer, but for its `-o`.
+const PEER: [Word; 4] = [
+    PACKED,
+    Word::Flag("verify-only", "Check the package OUT instead of writing it"),
+    Word::Verbose,
+    Word::Inputs,
+];
+
 /// The program's command line: `pack`, `find`, `list` and `check`.
-pub(crate) fn command<'a>(alloc: Global) -> Result<Command<'a>, Error> {
-    Ok(
-        Command::new(alloc, "thorin")
-            .bin_name("thorin")?
-            .version(VERSION)
-            .about("Packs split DWARF objects into DWARF packages, and reads such packages")
-            .after_help(EXAMPLES)
-            .subcommand_required(true)
-            .subcommand(pack(alloc)?)?
-            .subcommand(find(alloc)?)?
-            .subcommand(list(alloc)?)?
-            .subcommand(check(alloc)?)?,
+pub(crate) fn command<'a>(alloc: Global) -> Result<Command<'a>, AllocError> {
+    let mut command = titled(
+        alloc,
+        "thorin",
+        "Pack split DWARF objects into DWARF packages, and read such packages",
+        EXAMPLES,
     )
+    .version(VERSION)
+    .subcommand_required(true);
+    for line in &COMMANDS {
+        command = with_subcommand(command, command_of(alloc, line))?;
+    }
+    command.bin_name("thorin")
 }
 
 /// The command line of `dwp` and `llvm-dwp`, under one of these names.
-pub(crate) fn peer<'a>(alloc: Global, name: &'a str) -> Result<Command<'a>, Error> {
-    let output = output(alloc).required_unless_present("exec")?;
-    Ok(
-        Command::new(alloc, name)
-            .bin_name(name)?
-            .version(VERSION)
-            .about("Packs split DWARF objects into a DWARF package")
-            .after_help(
-                "Without -o the package of one EXEC is EXEC.dwp. This is thorin by another name.",
-            )
-            .arg(output)?
-            .arg(executables(
-                alloc,
-                "Executables whose objects are packed, after all inputs",
-            ))?
-            .arg(verbose(alloc))?
-            .arg(inputs(alloc))?,
-    )
+pub(crate) fn peer<'a>(alloc: Global, name: &'a str) -> Result<Command<'a>, AllocError> {
+    match output(alloc).required_unless_present("exec") {
+        Ok(output) => with_words(alloc, peer_with(alloc, name, output), &PEER),
+        Err(e) => Err(e),
+    }
 }
 
-fn pack<'a>(alloc: Global) -> Result<Command<'a>, Error> {
-    let skip_missing = Arg::new(alloc, "skip-missing")
-        .long("skip-missing")
-        .help("Pass over objects of an executable that can't be read")
-        .action(ArgAction::SetTrue);
-    Ok(
-        Command::new(alloc, "pack")
-            .about("Packs objects into a package")
-            .after_help(PACK_EXAMPLES)
-            .arg(output(alloc).required(true))?
-            .arg(executables(
-                alloc,
-                "Executables whose objects are packed, after all inputs",
-            ))?
-            .arg(skip_missing)?
-            .arg(verbose(alloc))?
-            .arg(inputs(alloc))?,
+/// The same, with its `-o` alone.
+fn peer_with<'a>(alloc: Global, name: &'a str, output: Arg<'a>) -> Result<Command<'a>, AllocError> {
+    let command = titled(
+        alloc,
+        name,
+        "Pack split DWARF objects into a DWARF package",
+        "Without -o the package of one EXEC is EXEC.dwp. This is thorin by another name.",
     )
+    .version(VERSION)
+    .arg(output)?;
+    command.bin_name(name)
 }
 
-fn find<'a>(alloc: Global) -> Result<Command<'a>, Error> {
-    let kind = Arg::new(alloc, "kind")
-        .value_name("KIND")
-        .help("cu for a compilation unit, tu for a type unit")
-        .required(true)
-        .action(ArgAction::Set);
-    let id = Arg::new(alloc, "id")
-        .value_name("ID")
-        .help("The unit's identifier, in hexadecimal")
-        .required(true)
-        .action(ArgAction::Set);
-    Ok(
-        Command::new(alloc, "find")
-            .about("Prints what a package has of a unit")
-            .after_help(FIND_EXAMPLES)
-            .arg(file(alloc))?
-            .arg(kind)?
-            .arg(id)?,
-    )
+/// A command with its texts: what it does, and what stands below its options.
+fn titled<'a>(alloc: Global, name: &'a str, about: &'a str, below: &'a str) -> Command<'a> {
+    Command::new(alloc, name).about(about).after_help(below)
 }
 
-fn list<'a>(alloc: Global) -> Result<Command<'a>, Error> {
-    let sizes = Arg::new(alloc, "sizes")
-        .long("sizes")
-        .help("Add each unit's size in each kind of section, and totals")
-        .action(ArgAction::SetTrue);
-    Ok(
-        Command::new(alloc, "list")
-            .about("Lists the units of a package")
-            .after_help(LIST_EXAMPLES)
-            .arg(sizes)?
-            .arg(file(alloc))?,
-    )
+/// A command by its line.
+fn command_of<'a>(alloc: Global, line: &Line) -> Result<Command<'a>, AllocError> {
+    let command = titled(alloc, line.name, line.about, line.below);
+    with_words(alloc, Ok(command), line.words)
 }
 
-fn check<'a>(alloc: Global) -> Result<Command<'a>, Error> {
-    Ok(
-        Command::new(alloc, "check")
-            .about("Goes over a package and tells its faults")
-            .after_help(CHECK_EXAMPLES)
-            .arg(file(alloc))?
-            .arg(executables(alloc, "Executables whose units have to be in the package"))?,
-    )
+/// Adds a command, where both could be made.
+fn with_subcommand<'a>(
+    command: Command<'a>,
+    subcommand: Result<Command<'a>, AllocError>,
+) -> Result<Command<'a>, AllocError> {
+    match subcommand {
+        Ok(subcommand) => command.subcommand(subcommand),
+        Err(e) => Err(e),
+    }
 }
 
-fn file<'a>(alloc: Global) -> Arg<'a> {
-    Arg::new(alloc, "file")
-        .value_name("FILE")
-        .help("The package")
-        .required(true)
-        .action(ArgAction::Set)
+/// Adds words in order to a command that could be made.
+fn with_words<'a>(
+    alloc: Global,
+    command: Result<Command<'a>, AllocError>,
+    words: &[Word],
+) -> Result<Command<'a>, AllocError> {
+    let mut command = command?;
+    for word in words {
+        command = command.arg(arg_of(alloc, *word))?;
+    }
+    Ok(command)
+}
+
+/// A word in clap's terms.
+fn arg_of<'a>(alloc: Global, word: Word) -> Arg<'a> {
+    match word {
+        Word::Output => output(alloc).required(true),
+        Word::Executables(help) => executables(alloc, help),
+        Word::Verbose => flag(alloc, "verbose", "Report each input").short('v'),
+        Word::Flag(name, help) => flag(alloc, name, help),
+        Word::Inputs => inputs(alloc),
+        Word::Place(name, value, help) => place(alloc, name, value, help),
+    }
 }
 
 fn output<'a>(alloc: Global) -> Arg<'a> {
-    Arg::new(alloc, "output")
-        .short('o')
-        .long("output")
-        .value_name("OUT")
-        .help("The package to write")
-        .action(ArgAction::Set)
+    option(
+        alloc,
+        "output",
+        'o',
+        "OUT",
+        "The package to write; - for standard output",
+    )
+    .action(ArgAction::Set)
+}
+
+fn executables<'a>(alloc: Global, help: &'a str) -> Arg<'a> {
+    option(alloc, "exec", 'e', "EXEC", help).action(ArgAction::Append)
 }
 
 fn inputs<'a>(alloc: Global) -> Arg<'a> {
@@ -171,19 +243,28 @@ fn inputs<'a>(alloc: Global) -> Arg<'a> {
         .action(ArgAction::Append)
 }
 
-fn executables<'a>(alloc: Global, help: &'a str) -> Arg<'a> {
-    Arg::new(alloc, "exec")
-        .short('e')
-        .long("exec")
-        .value_name("EXEC")
+/// An option with a value, under a long name and a short one.
+fn option<'a>(alloc: Global, name: &'a str, short: char, value: &'a str, help: &'a str) -> Arg<'a> {
+    Arg::new(alloc, name)
+        .short(short)
+        .long(name)
+        .value_name(value)
         .help(help)
-        .action(ArgAction::Append)
 }
 
-fn verbose<'a>(alloc: Global) -> Arg<'a> {
-    Arg::new(alloc, "verbose")
-        .short('v')
-        .long("verbose")
-        .help("Tell of each input what came of it")
+/// An option without a value.
+fn flag<'a>(alloc: Global, name: &'a str, help: &'a str) -> Arg<'a> {
+    Arg::new(alloc, name)
+        .long(name)
+        .help(help)
         .action(ArgAction::SetTrue)
+}
+
+/// A word that a command line must have at its place.
+fn place<'a>(alloc: Global, name: &'a str, value: &'a str, help: &'a str) -> Arg<'a> {
+    Arg::new(alloc, name)
+        .value_name(value)
+        .help(help)
+        .required(true)
+        .action(ArgAction::Set)
 }

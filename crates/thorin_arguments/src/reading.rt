@@ -2,8 +2,8 @@
 
 use crate::command;
 use clap::error::ErrorKind;
-use clap::{ArgMatches, Error};
-use std::alloc::Global;
+use clap::{ArgMatches, Command, Error};
+use std::alloc::{AllocError, Global};
 use std::fmt;
 
 /// What a command line names to be packed.
@@ -17,6 +17,10 @@ pub struct PackArguments<'m, 'a> {
     pub executables: Option<&'m [&'a str]>,
     /// Whether objects of an executable that can't be read are passed over.
     pub skips_missing: bool,
+    /// Whether the package may take the place of an input.
+    pub force: bool,
+    /// Whether the package is checked, and none is made.
+    pub verifies_only: bool,
     /// Whether a line tells of each input.
     pub verbose: bool,
 }
@@ -48,20 +52,30 @@ pub trait Commands {
     fn lack_memory(&mut self) -> u8;
 }
 
-/// Does what a command line asks for, and answers the status. Under the names `dwp` and `llvm-dwp`
-/// it takes the command lines of those programs.
+/// Does what a command line asks for, and answers the status. Under the names `dwp` and `llvm-dwp`,
+/// with a target or a version in them too, it takes the command lines of those programs.
 pub fn run<C: Commands>(alloc: Global, words: &[String], commands: &mut C) -> u8 {
     let peer = peer_name(words);
-    let command = match peer {
+    match read(alloc, peer, words) {
+        Ok(matches) => dispatch(&matches, peer.is_some(), commands),
+        Err(error) => tell(&error, commands),
+    }
+}
+
+/// Reads the words as a command line, of a peer where one is named.
+fn read<'a>(
+    alloc: Global,
+    peer: Option<&'a str>,
+    words: &'a [String],
+) -> Result<ArgMatches<'a>, Error> {
+    let command = command_line(alloc, peer)?;
+    command.try_get_matches_from(words)
+}
+
+fn command_line<'a>(alloc: Global, peer: Option<&'a str>) -> Result<Command<'a>, AllocError> {
+    match peer {
         Some(name) => command::peer(alloc, name),
         None => command::command(alloc),
-    };
-    match command {
-        Ok(command) => match command.try_get_matches_from(words) {
-            Ok(matches) => dispatch(&matches, peer.is_some(), commands),
-            Err(error) => tell(&error, commands),
-        },
-        Err(_) => commands.lack_memory(),
     }
 }
 
@@ -77,13 +91,30 @@ fn tell<C: Commands>(error: &Error, commands: &mut C) -> u8 {
     }
 }
 
-/// The program's name where it is that of a peer, whose command lines it then takes.
+/// The program's name where it is that of a peer, whose command lines it then takes: its last part
+/// is `dwp`, as in `llvm-dwp` and `x86_64-linux-gnu-dwp`, or `dwp` and a version, as in
+/// `llvm-dwp-19`.
 fn peer_name(words: &[String]) -> Option<&str> {
     let path = words.first()?.as_str();
     let name = path.rsplit('/').next()?;
-    match name {
-        "dwp" | "llvm-dwp" => Some(name),
-        _ => None,
+    if is_peer(name) { Some(name) } else { None }
+}
+
+/// Whether the last part of a name is `dwp`, a version aside.
+fn is_peer(name: &str) -> bool {
+    let mut parts = name.rsplit('-');
+    match parts.next() {
+        Some("dwp") => true,
+        Some(last) => is_version(last) && parts.next() == Some("dwp"),
+        None => false,
+    }
+}
+
+/// Whether a text begins with a digit.
+fn is_version(text: &str) -> bool {
+    match text.as_bytes().first() {
+        Some(byte) => byte.is_ascii_digit(),
+        None => false,
     }
 }
 
@@ -93,32 +124,67 @@ fn dispatch<C: Commands>(matches: &ArgMatches<'_>, is_peer: bool, commands: &mut
         return commands.pack(arguments_of_peer(matches));
     }
     match matches.subcommand() {
-        Some(("pack", matches)) => commands.pack(arguments_of(matches)),
-        Some(("find", matches)) => find(matches, commands),
-        Some(("list", matches)) => commands.list(file_of(matches), matches.get_flag("sizes")),
-        Some(("check", matches)) => {
-            commands.check(file_of(matches), matches.get_strs("exec").unwrap_or(&[]))
-        }
+        Some((name, matches)) => dispatch_to(name, matches, commands),
+        None => commands.refuse_words(),
+    }
+}
+
+/// Does what the words behind a command's name ask for, and answers the status.
+fn dispatch_to<C: Commands>(name: &str, matches: &ArgMatches<'_>, commands: &mut C) -> u8 {
+    match name {
+        "pack" => commands.pack(arguments_of(matches)),
+        "find" => find(matches, commands),
+        "list" => list(matches, commands),
+        "check" => check(matches, commands),
         _ => commands.refuse_words(),
     }
 }
 
-/// Looks up the unit that the words name.
-fn find<C: Commands>(matches: &ArgMatches<'_>, commands: &mut C) -> u8 {
-    let kind = matches.get_str("kind").unwrap_or("");
-    let id = matches.get_str("id").unwrap_or("");
-    commands.find(file_of(matches), kind, id)
+/// Lists the package that the words name.
+fn list<C: Commands>(matches: &ArgMatches<'_>, commands: &mut C) -> u8 {
+    commands.list(word_of(matches, "file"), has_flag(matches, "sizes"))
 }
 
-/// The package's file that a command reads.
-fn file_of<'a>(matches: &ArgMatches<'a>) -> &'a str {
-    matches.get_str("file").unwrap_or("")
+/// Checks the package that the words name, for the executables that they name.
+fn check<C: Commands>(matches: &ArgMatches<'_>, commands: &mut C) -> u8 {
+    let executables = values_of(matches, "exec").unwrap_or(&[]);
+    commands.check(word_of(matches, "file"), executables)
+}
+
+/// Looks up the unit that the words name.
+fn find<C: Commands>(matches: &ArgMatches<'_>, commands: &mut C) -> u8 {
+    commands.find(
+        word_of(matches, "file"),
+        word_of(matches, "kind"),
+        word_of(matches, "id"),
+    )
+}
+
+/// A word that a command line must have, by its name.
+fn word_of<'a>(matches: &ArgMatches<'a>, name: &str) -> &'a str {
+    value_of(matches, name).unwrap_or("")
+}
+
+/// The value of a name, where the command line gives one.
+fn value_of<'a>(matches: &ArgMatches<'a>, name: &str) -> Option<&'a str> {
+    matches.get_str(name)
+}
+
+/// The values of a name, where the command line gives any.
+fn values_of<'m, 'a>(matches: &'m ArgMatches<'a>, name: &str) -> Option<&'m [&'a str]> {
+    matches.get_strs(name)
+}
+
+/// Whether an option without a value is given.
+fn has_flag(matches: &ArgMatches<'_>, name: &str) -> bool {
+    matches.get_flag(name)
 }
 
 /// What the command `pack` asks for.
 fn arguments_of<'m, 'a>(matches: &'m ArgMatches<'a>) -> PackArguments<'m, 'a> {
     PackArguments {
-        skips_missing: matches.get_flag("skip-missing"),
+        skips_missing: has_flag(matches, "skip-missing"),
+        force: has_flag(matches, "force"),
         ..arguments_of_peer(matches)
     }
 }
@@ -126,10 +192,12 @@ fn arguments_of<'m, 'a>(matches: &'m ArgMatches<'a>) -> PackArguments<'m, 'a> {
 /// What the command lines of `dwp` and `llvm-dwp` ask for.
 fn arguments_of_peer<'m, 'a>(matches: &'m ArgMatches<'a>) -> PackArguments<'m, 'a> {
     PackArguments {
-        output: matches.get_str("output"),
-        inputs: matches.get_strs("input"),
-        executables: matches.get_strs("exec"),
+        output: value_of(matches, "output"),
+        inputs: values_of(matches, "input"),
+        executables: values_of(matches, "exec"),
         skips_missing: false,
-        verbose: matches.get_flag("verbose"),
+        force: false,
+        verifies_only: has_flag(matches, "verify-only"),
+        verbose: has_flag(matches, "verbose"),
     }
 }

@@ -6,7 +6,7 @@ use std::fmt;
 use std::io::{self, Write};
 use thorin_arguments::{Commands, PackArguments};
 pub use thorin_commands::Failure;
-use thorin_commands::{Packing, check, expanded, find, list, pack, report, show};
+use thorin_commands::{Packing, check, expanded, find, list, pack, report, show, verify};
 use thorin_faults::MissingReferencedObjectBehaviour;
 
 /// Does what a command line asks for: `words` are the program's name and its arguments, where
@@ -58,7 +58,12 @@ impl<O: Write, E: Write> Program<'_, '_, '_, O, E> {
 
 impl<O: Write, E: Write> Commands for Program<'_, '_, '_, O, E> {
     fn pack(&mut self, arguments: PackArguments<'_, '_>) -> u8 {
-        let answer = pack(self.rt, &packing_of(arguments), self.err);
+        let packing = packing_of(arguments);
+        let answer = if arguments.verifies_only {
+            verify(self.rt, &packing, self.out)
+        } else {
+            pack(self.rt, &packing, self.out, self.err)
+        };
         self.status(answer)
     }
 
@@ -110,6 +115,7 @@ fn packing_of<'m, 'a>(arguments: PackArguments<'m, 'a>) -> Packing<'m, 'a> {
         inputs: arguments.inputs,
         executables: arguments.executables,
         missing,
+        force: arguments.force,
         verbose: arguments.verbose,
     }
 }

@@ -7,5 +7,5 @@ mod packing;
 mod reader;
 mod telling;
 
-pub use packing::{Packing, pack};
+pub use packing::{Packing, pack, verify};
 pub use thorin_queries::{Failure, check, expanded, find, list, report, show};

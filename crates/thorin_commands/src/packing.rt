@@ -8,9 +8,9 @@ ghost use Rattle.thorin.specs.Run.{Took};
 ghost use Rattle.thorin_commands.specs.Packing.{anything, asked, object_asked, executable_asked};
 ghost use Rattle.thorin_commands.specs.Packing.{AreAllAccepted, IsPackedOf};
 
-use crate::output::write_package;
+use crate::output::{Refusal, write_package};
 use crate::reader::FileReader;
-use crate::telling::tell;
+use crate::telling::{tell, tell_fault};
 use bumpalo::Bump;
 use dwp_bytes::RelocationEntry;
 use dwp_elf::WritableObject;
@@ -21,7 +21,7 @@ use std::path::Path;
 use thorin::laws::runs_go_on;
 use thorin::{DwarfPackage, Input, take_input};
 use thorin_faults::{ArenaSession, MissingReferencedObjectBehaviour, Session};
-use thorin_queries::{Failure, buffer, flush, warn_differing};
+use thorin_queries::{Failure, buffer, check, flush, warn_differing};
 
 /// What is to be packed, and where to.
 #[derive(Drop)]
@@ -35,6 +35,8 @@ pub struct Packing<'m, 'a> {
     pub executables: Option<&'m [&'a str]>,
     /// What is done where an object that an executable names isn't there.
     pub missing: MissingReferencedObjectBehaviour,
+    /// Whether the package may take the place of an input.
+    pub force: bool,
     /// Whether a line tells of each input.
     pub verbose: bool,
 }
@@ -48,29 +50,113 @@ impl Packing<'_, '_> {
             (None, _) => Err(Failure::BadCommand),
         }
     }
+
+    /// Whether the package would take the place of an input, where that isn't asked for.
+    fn overwrites(&self, rt: &HostRuntime, output: &str) -> bool {
+        !self.force
+            && (has_file(rt, self.inputs.unwrap_or(&[]), output)
+                || has_file(rt, self.executables.unwrap_or(&[]), output))
+    }
+}
+
+/// Whether one of these names is another name of a file.
+fn has_file(rt: &HostRuntime, names: &[&str], file: &str) -> bool {
+    let own = thorin_files::identity(rt, file);
+    if own.is_none() {
+        return false;
+    }
+    for name in names {
+        if thorin_files::identity(rt, name) == own {
+            return true;
+        }
+    }
+    false
+}
+
+/// Checks the package that would be written, for the executables. Answers the status.
+///
+/// # Errors
+/// `BadCommand` where the package's file has no name; those of `check`.
+pub fn verify<O: Write>(
+    rt: &HostRuntime,
+    packing: &Packing<'_, '_>,
+    out: &mut O,
+) -> Result<u8, Failure> {
+    let output = packing.output_name(rt)?;
+    check(rt, output.as_str(), packing.executables.unwrap_or(&[]), out)
 }
 
 /// Packs the inputs in order, then what each executable refers to, and writes the package. Stops at
-/// the first refusal, and then writes nothing. Answers the status 0.
+/// the first refusal, prints it, and then writes nothing. Answers the status: 1 where an input is
+/// refused, or a package can't be made of them.
 ///
 /// # Errors
-/// `Package` for an input that is refused, or a package that can't be made of them; `Output` where
-/// its file can't be written; `BadCommand` where there is no name for it; `Line` or `Memory`.
-pub fn pack<E: Write>(
+/// `Output` where the package's file can't be written, `Overwrites` where it is an input;
+/// `BadCommand` where there is no name for it; `Line` or `Memory`.
+pub fn pack<O: Write, E: Write>(
     rt: &HostRuntime,
     packing: &Packing<'_, '_>,
+    out: &mut O,
     err: &mut E,
 ) -> Result<u8, Failure> {
+    match pack_all(rt, packing, out, err) {
+        Ok(()) => Ok(0),
+        Err(Refusal::Package(fault)) => Ok(tell_fault(err, &fault)),
+        Err(Refusal::Command(failure)) => Err(failure),
+    }
+}
+
+/// The same, but for the line that says why an input is refused.
+fn pack_all<O: Write, E: Write>(
+    rt: &HostRuntime,
+    packing: &Packing<'_, '_>,
+    out: &mut O,
+    err: &mut E,
+) -> Result<(), Refusal> {
     let output = packing.output_name(rt)?;
+    if packing.overwrites(rt, output.as_str()) {
+        return Err(Refusal::Command(Failure::Overwrites));
+    }
     let objects = packing.inputs.unwrap_or(&[]);
     let executables = packing.executables.unwrap_or(&[]);
     let inputs = inputs_of(rt.alloc(), objects, executables, packing.missing)?;
-    let (object, differing) = packed(rt, inputs.as_slice(), packing.verbose, err)?;
+    pack_inputs(
+        rt,
+        inputs.as_slice(),
+        packing.verbose,
+        output.as_str(),
+        out,
+        err,
+    )
+}
+
+/// Packs the inputs in order, writes the package, and then warns of type units that differ.
+fn pack_inputs<O: Write, E: Write>(
+    rt: &HostRuntime,
+    inputs: &[Input<'_>],
+    verbose: bool,
+    output: &str,
+    out: &mut O,
+    err: &mut E,
+) -> Result<(), Refusal> {
+    let (object, differing) = packed(rt, inputs, verbose, err)?;
+    write_and_warn(rt, &object, differing.as_slice(), output, out, err)
+}
+
+/// Writes the package, and then warns of type units that differ.
+fn write_and_warn<O: Write, E: Write>(
+    rt: &HostRuntime,
+    object: &WritableObject,
+    differing: &[DebugTypeSignature],
+    output: &str,
+    out: &mut O,
+    err: &mut E,
+) -> Result<(), Refusal> {
     let mut lines = buffer(rt.alloc(), err)?;
-    write_package(rt, &object, output.as_str())?;
-    warn_differing(&mut lines, differing.as_slice())?;
+    write_package(rt, object, output, out)?;
+    warn_differing(&mut lines, differing)?;
     flush(&mut lines)?;
-    Ok(0)
+    Ok(())
 }
 
 /// The objects, and then the executables.
@@ -100,15 +186,41 @@ fn packed<E: Write>(
     inputs: &[Input<'_>],
     verbose: bool,
     err: &mut E,
-) -> Result<(WritableObject, Vec<DebugTypeSignature>), Failure>
+) -> Result<(WritableObject, Vec<DebugTypeSignature>), Refusal>
+    ensures { IfOk result (λ made. IsPackedOf inputs.now made.0) }
+{
+    let bump = Bump::new(rt.alloc());
+    let session = ArenaSession::new(rt, &bump);
+    packed_over(rt, &session, inputs, verbose, err)
+}
+
+/// The same, over a session that holds what is read.
+fn packed_over<'s, Sess: Session<RelocationEntry>, E: Write>(
+    rt: &HostRuntime,
+    session: &'s Sess,
+    inputs: &[Input<'_>],
+    verbose: bool,
+    err: &mut E,
+) -> Result<(WritableObject, Vec<DebugTypeSignature>), Refusal>
     ensures { IfOk result (λ made. IsPackedOf inputs.now made.0) }
 {
     runs_go_on(&FileReader::new(rt));
-    let bump = Bump::new(rt.alloc());
-    let session = ArenaSession::new(rt, &bump);
-    let mut builder = DwarfPackage::new(rt.alloc(), &session);
+    let mut builder = DwarfPackage::new(rt.alloc(), session);
     take_all(rt, &mut builder, inputs, verbose, err)?;
-    let differing = builder.differing_types().to_vec(rt.alloc())?;
+    let made = completed(rt.alloc(), builder)?;
+    Ok(made)
+}
+
+/// The object of the package, and those signatures.
+fn completed<'o, 's: 'o, Sess: Session<RelocationEntry>>(
+    alloc: Global,
+    builder: DwarfPackage<'o, 's, Sess>,
+) -> Result<(WritableObject, Vec<DebugTypeSignature>), Refusal>
+    ensures finished { IfOk result (λ made. IsFinishedState builder.entry.state made.0) }
+    ensures packaged { IfOk result (λ made.
+        IsPackageOnceWritten (units_in builder.entry.state) made.0) }
+{
+    let differing = builder.differing_types().to_vec(alloc)?;
     let object = finished(builder)?;
     Ok((object, differing))
 }
@@ -116,7 +228,7 @@ fn packed<E: Write>(
 /// The object of the package.
 fn finished<'o, 's: 'o, Sess: Session<RelocationEntry>>(
     builder: DwarfPackage<'o, 's, Sess>,
-) -> Result<WritableObject, Failure>
+) -> Result<WritableObject, Refusal>
     ensures finished { IfOk result (IsFinishedState builder.entry.state) }
     ensures packaged { IfOk result (IsPackageOnceWritten (units_in builder.entry.state)) }
 {
@@ -130,7 +242,7 @@ fn take_all<'o, 's: 'o, Sess: Session<RelocationEntry>, E: Write>(
     inputs: &[Input<'_>],
     verbose: bool,
     err: &mut E,
-) -> Result<(), Failure>
+) -> Result<(), Refusal>
     ensures { OnOk result ((accepted : List (List ℕ))
         × AreAllAccepted inputs.now builder.old.state builder.new.state accepted) }
 {
@@ -150,7 +262,7 @@ fn take<'o, 's: 'o, Sess: Session<RelocationEntry>, E: Write>(
     input: Input<'_>,
     verbose: bool,
     err: &mut E,
-) -> Result<(), Failure>
+) -> Result<(), Refusal>
     ensures { OnOk result (Took anything input.entry builder.old.state (Ok tt) builder.new.state) }
 {
     let before = builder.contained_units().len();

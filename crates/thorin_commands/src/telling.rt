@@ -34,3 +34,9 @@ fn tell_object<E: Write>(
     let all = unit_count(rt, name)?;
     tell_taken(err, name, added, all)
 }
+
+/// Prints why an input was refused, and answers the status.
+pub(crate) fn tell_fault<E: Write>(err: &mut E, fault: &Error) -> u8 {
+    let _ = writeln!(err, "error: {fault}");
+    1
+}

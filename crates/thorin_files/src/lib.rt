@@ -4,5 +4,5 @@
 mod reading;
 mod writing;
 
-pub use reading::{is_device, is_file, is_there, read, read_over};
+pub use reading::{identity, is_device, is_file, is_there, read, read_over};
 pub use writing::{Contents, WriteError, write};

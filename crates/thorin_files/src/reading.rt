@@ -5,7 +5,7 @@ ghost use Rattle.std.specs.Io.KnownBytes.{Consumes};
 
 use std::fs::{self, File, OpenFile};
 use std::io::{self, ErrorKind, Read};
-use std::os::unix::fs::FileTypeExt;
+use std::os::unix::fs::{FileTypeExt, MetadataExt};
 use std::path::{AsPath, Path};
 
 /// Reads a file whole, into room of its length where the system tells the length, so that it is
@@ -51,6 +51,15 @@ pub fn is_file(rt: &HostRuntime, path: &str) -> bool {
 /// Whether there is anything at a path.
 pub fn is_there(rt: &HostRuntime, path: &str) -> bool {
     fs::metadata(rt, path).is_ok()
+}
+
+/// The device and the number of the file at a path, by which two names of one file are known. None
+/// where there is no file.
+pub fn identity(rt: &HostRuntime, path: &str) -> Option<(u64, u64)> {
+    match fs::metadata(rt, path) {
+        Ok(metadata) => Some((metadata.dev(), metadata.ino())),
+        Err(_) => None,
+    }
 }
 
 /// Opens a file that is no device. What isn't there is left to the system to refuse.

@@ -1,24 +1,20 @@
 //! `thorin check`.
 
 use crate::abbreviations::Remembered;
+use crate::executables::check_executables;
 use crate::finding::short_kind;
-use crate::input::read_file;
+use crate::input::{contents_of, elf_of, package_of, read_file};
 use crate::listing::{entries_by_row, is_type};
 use crate::output::{Failure, buffer, flush, written};
-use crate::sizes::is_section_of;
 use crate::telling::Count;
-use bumpalo::Bump;
-use dwp_bytes::{Format, RelocationEntry};
+use dwp_bytes::Format;
 use dwp_dwarf::{ReadError, SliceReader, UnitHeaders, UnitSection};
 use dwp_elf::{ElfFile, Endianness, SectionKind};
 use dwp_index::{PackageError, PackageFile, PackagedUnit, UnitEntry, UnitIndex};
 use dwp_table::{Bucketable, DwarfObject};
-use std::alloc::Global;
 use std::fmt;
 use std::io::Write;
-use std::path::Path;
-use thorin_executable::SkeletonUnits;
-use thorin_faults::{ArenaSession, Error, InputError, Session};
+use thorin_faults::Error;
 
 /// Goes over a package: each unit that a slot of an index names is found under its identifier, its
 /// ranges are inside their sections, its header and all its strings can be read, and the identifier
@@ -27,7 +23,8 @@ use thorin_faults::{ArenaSession, Error, InputError, Session};
 /// 1 where there are faults.
 ///
 /// # Errors
-/// `Input` where the file can't be read, `Malformed` where it is no package, `Line` or `Memory`.
+/// `Input` where the file can't be read, `Malformed` where it is no package, `NoIndex` where it has
+/// no index, `Line` or `Memory`.
 pub fn check<O: Write>(
     rt: &HostRuntime,
     file: &str,
@@ -35,8 +32,18 @@ pub fn check<O: Write>(
     out: &mut O,
 ) -> Result<u8, Failure> {
     let bytes = read_file(rt, file)?;
+    check_through(rt, bytes.as_slice(), executables, out)
+}
+
+/// Checks a package's bytes, and prints through a buffer.
+fn check_through<O: Write>(
+    rt: &HostRuntime,
+    bytes: &[u8],
+    executables: &[&str],
+    out: &mut O,
+) -> Result<u8, Failure> {
     let mut lines = buffer(rt.alloc(), out)?;
-    check_bytes(rt, bytes.as_slice(), executables, &mut lines)
+    check_bytes(rt, bytes, executables, &mut lines)
 }
 
 /// Checks a package's bytes, and prints all of it. Answers the status.
@@ -49,7 +56,7 @@ fn check_bytes<W: Write>(
     let (units, faults) = check_package(rt, bytes, executables, lines)?;
     tell_counts(units, faults, lines)?;
     flush(lines)?;
-    Ok(if faults == 0 { 0 } else { 1 })
+    Ok(u8::from(faults != 0))
 }
 
 /// Prints how many units and faults there are.
@@ -66,20 +73,39 @@ fn check_package<W: Write>(
     executables: &[&str],
     lines: &mut W,
 ) -> Result<(usize, u64), Failure> {
-    let Ok(package) = PackageFile::parse(bytes) else {
-        return Err(Failure::Malformed);
-    };
-    let Ok(file) = ElfFile::parse(bytes) else {
-        return Err(Failure::Malformed);
-    };
+    let package = package_of(bytes)?;
+    let file = elf_of(bytes)?;
+    if has_no_index(&file) {
+        return Err(Failure::NoIndex);
+    }
     let entries = entries_by_row(rt, &package)?;
-    let of_units = check_units(rt, &package, file.endianness(), entries.as_slice(), lines)?;
-    let of_rows = check_indexes(&file, entries.as_slice(), lines)?;
-    let of_executables = check_executables(rt, &package, executables, lines)?;
-    let faults = of_units
-        .saturating_add(of_rows)
-        .saturating_add(of_executables);
+    let faults = check_parts(rt, &package, &file, entries.as_slice(), executables, lines)?;
     Ok((entries.len(), faults))
+}
+
+/// Whether a file has no index of either kind.
+fn has_no_index(file: &ElfFile<'_>) -> bool {
+    contents_of(file, SectionKind::CuIndex).is_empty()
+        && contents_of(file, SectionKind::TuIndex).is_empty()
+}
+
+/// Checks the units, the rows and the executables. Answers the number of faults.
+fn check_parts<W: Write>(
+    rt: &HostRuntime,
+    package: &PackageFile<'_>,
+    file: &ElfFile<'_>,
+    entries: &[UnitEntry],
+    executables: &[&str],
+    lines: &mut W,
+) -> Result<u64, Failure> {
+    let of_units = check_units(rt, package, file.endianness(), entries, lines)?;
+    let of_rows = check_indexes(file, entries, lines)?;
+    let of_executables = check_executables(rt, package, executables, lines)?;
+    Ok(
+        of_units
+            .saturating_add(of_rows)
+            .saturating_add(of_executables),
+    )
 }
 
 /// A slot names each row of both indexes. Answers the number of faults.
@@ -95,23 +121,8 @@ fn check_indexes<W: Write>(
     Ok(compilations.saturating_add(types))
 }
 
-/// Each split unit that executables name is in the package. Answers the number of faults.
-fn check_executables<W: Write>(
-    rt: &HostRuntime,
-    package: &PackageFile<'_>,
-    executables: &[&str],
-    lines: &mut W,
-) -> Result<u64, Failure> {
-    let mut faults = 0u64;
-    for executable in executables {
-        let found = check_executable(rt, package, executable, lines)?;
-        faults = faults.saturating_add(found);
-    }
-    Ok(faults)
-}
-
 /// What is wrong with a unit of a package.
-#[derive(Debug, Drop)]
+#[derive(Drop)]
 enum Fault {
     // Its identifier isn't found.
     Absent,
@@ -149,21 +160,17 @@ impl fmt::Display for Fault {
     }
 }
 
-/// Prints a fault of a unit.
-fn tell<W: Write>(object: DwarfObject, fault: &Fault, lines: &mut W) -> Result<(), Failure> {
+/// Prints a fault of a unit. Answers the number of faults, 1.
+fn tell<W: Write>(object: DwarfObject, fault: &Fault, lines: &mut W) -> Result<u64, Failure> {
     let kind = short_kind(object);
     let id = object.index();
-    written(writeln!(lines, "{kind} 0x{id:016x}: {fault}"))
+    written(writeln!(lines, "{kind} 0x{id:016x}: {fault}"))?;
+    Ok(1)
 }
 
-/// The string offsets of a unit: units that have the same ones have the same strings.
-#[derive(Clone, Copy, PartialEq, Eq, PartialOrd, Ord)]
-struct StringRange {
-    offset: u64,
-    size: u64,
-    version: u16,
-    is_64: bool,
-}
+/// The string offsets of a unit: where they begin, their size, the unit's version, and whether they
+/// have 64 bits. Units that have the same ones have the same strings.
+type StringRange = (u64, u64, u16, bool);
 
 /// Checks each unit that a slot names, then the strings of each range of string offsets. Answers
 /// the number of faults.
@@ -174,26 +181,90 @@ fn check_units<W: Write>(
     entries: &[UnitEntry],
     lines: &mut W,
 ) -> Result<u64, Failure> {
-    let mut faults = 0u64;
-    let mut strings: Vec<(StringRange, DwarfObject)> = Vec::new(rt.alloc());
+    let mut strings = Vec::new(rt.alloc());
+    let of_units = check_each(rt, package, order, entries, &mut strings, lines)?;
+    let of_strings = check_distinct(package, &mut strings, lines)?;
+    Ok(of_units.saturating_add(of_strings))
+}
+
+/// Checks each unit that a slot names, and gathers the ranges of their string offsets. Answers the
+/// number of faults.
+fn check_each<W: Write>(
+    rt: &HostRuntime,
+    package: &PackageFile<'_>,
+    order: Endianness,
+    entries: &[UnitEntry],
+    strings: &mut Vec<(StringRange, DwarfObject)>,
+    lines: &mut W,
+) -> Result<u64, Failure> {
     let mut abbreviations = Remembered::new(rt.alloc(), order);
-    for entry in entries {
-        match check_unit(package, &mut abbreviations, entry) {
-            Ok(unit) => {
-                if let Some(range) = string_range(&unit) {
-                    strings.push((range, entry.object))?;
-                }
-            }
-            Err(fault) => {
-                tell(entry.object, &fault, lines)?;
-                faults = faults.saturating_add(1);
-            }
-        }
+    check_entries(package, &mut abbreviations, entries, strings, lines)
+}
+
+/// The same, with abbreviations that are remembered.
+fn check_entries<'a, W: Write>(
+    package: &PackageFile<'a>,
+    abbreviations: &mut Remembered<'a>,
+    entries: &[UnitEntry],
+    strings: &mut Vec<(StringRange, DwarfObject)>,
+    lines: &mut W,
+) -> Result<u64, Failure> {
+    let mut faults = 0u64;
+    for i in 0..entries.len() {
+        let found = check_entry(package, abbreviations, entries[i], strings, lines)?;
+        faults = faults.saturating_add(found);
     }
+    Ok(faults)
+}
+
+/// Checks the unit that a slot names, and adds the range of its string offsets. Answers the number
+/// of faults.
+fn check_entry<'a, W: Write>(
+    package: &PackageFile<'a>,
+    abbreviations: &mut Remembered<'a>,
+    entry: UnitEntry,
+    strings: &mut Vec<(StringRange, DwarfObject)>,
+    lines: &mut W,
+) -> Result<u64, Failure> {
+    match check_unit(package, abbreviations, entry) {
+        Ok(unit) => add_range(&unit, entry.object, strings),
+        Err(fault) => tell(entry.object, &fault, lines),
+    }
+}
+
+/// Adds the range of a unit's string offsets. Answers the number of faults, 0.
+fn add_range(
+    unit: &PackagedUnit<'_>,
+    object: DwarfObject,
+    strings: &mut Vec<(StringRange, DwarfObject)>,
+) -> Result<u64, Failure> {
+    if let Some(range) = string_range(unit) {
+        strings.push((range, object))?;
+    }
+    Ok(0)
+}
+
+/// Checks the strings of each range. Answers the number of faults.
+fn check_distinct<W: Write>(
+    package: &PackageFile<'_>,
+    strings: &mut Vec<(StringRange, DwarfObject)>,
+    lines: &mut W,
+) -> Result<u64, Failure> {
     strings.sort_by_key(|(range, _)| *range)?;
     strings.dedup_by_key(|(range, _)| *range);
-    for (_, object) in &strings {
-        let found = check_strings(package, *object, lines)?;
+    check_all_strings(package, strings.as_slice(), lines)
+}
+
+/// Checks the strings of a unit of each range. Answers the number of faults.
+fn check_all_strings<W: Write>(
+    package: &PackageFile<'_>,
+    strings: &[(StringRange, DwarfObject)],
+    lines: &mut W,
+) -> Result<u64, Failure> {
+    let mut faults = 0u64;
+    for i in 0..strings.len() {
+        let (_, object) = strings[i];
+        let found = check_strings(package, object, lines)?;
         faults = faults.saturating_add(found);
     }
     Ok(faults)
@@ -203,19 +274,29 @@ fn check_units<W: Write>(
 fn check_unit<'a>(
     package: &PackageFile<'a>,
     abbreviations: &mut Remembered<'a>,
-    entry: &UnitEntry,
+    entry: UnitEntry,
 ) -> Result<PackagedUnit<'a>, Fault> {
-    let unit = match package.find(entry.object) {
-        Ok(Some(unit)) => unit,
-        Ok(None) => return Err(Fault::Absent),
-        Err(fault) => return Err(Fault::Package(fault)),
-    };
-    if unit.row() != entry.row {
-        return Err(Fault::OtherRow(unit.row()));
+    let unit = unit_of(package, entry)?;
+    let own = own_identifier(&unit, abbreviations, entry.object)?;
+    if own == Some(entry.object) {
+        Ok(unit)
+    } else {
+        Err(Fault::Other(own))
     }
-    match own_identifier(&unit, abbreviations, entry.object)? {
-        Some(object) if object == entry.object => Ok(unit),
-        other => Err(Fault::Other(other)),
+}
+
+/// The unit that is found under the identifier of a slot, in the slot's row.
+fn unit_of<'a>(package: &PackageFile<'a>, entry: UnitEntry) -> Result<PackagedUnit<'a>, Fault> {
+    match package.find(entry.object) {
+        Ok(Some(unit)) => {
+            if unit.row() == entry.row {
+                Ok(unit)
+            } else {
+                Err(Fault::OtherRow(unit.row()))
+            }
+        }
+        Ok(None) => Err(Fault::Absent),
+        Err(fault) => Err(Fault::Package(fault)),
     }
 }
 
@@ -232,25 +313,25 @@ fn own_identifier<'a>(
     };
     let reader = SliceReader::new(unit.bytes(), abbreviations.order());
     let mut headers = UnitHeaders::new(reader, section);
-    let header = match headers.next() {
-        None => return Ok(None),
-        Some(Err(fault)) => return Err(Fault::Package(PackageError::Unit(fault))),
-        Some(Ok(header)) => header,
-    };
-    abbreviations
-        .identifier(unit, &header)
-        .map_err(Fault::Identity)
+    match headers.next() {
+        None => Ok(None),
+        Some(Err(fault)) => Err(Fault::Package(PackageError::Unit(fault))),
+        Some(Ok(header)) => match abbreviations.identifier(unit, &header) {
+            Ok(own) => Ok(own),
+            Err(fault) => Err(Fault::Identity(fault)),
+        },
+    }
 }
 
 fn string_range(unit: &PackagedUnit<'_>) -> Option<StringRange> {
     let range = unit.range(SectionKind::StrOffsets)?;
     let encoding = unit.encoding();
-    Some(StringRange {
-        offset: range.offset.0,
-        size: range.size,
-        version: encoding.version,
-        is_64: encoding.format == Format::Dwarf64,
-    })
+    Some((
+        range.offset.0,
+        range.size,
+        encoding.version,
+        encoding.format == Format::Dwarf64,
+    ))
 }
 
 /// Reads each string of a unit. Answers the number of faults.
@@ -268,28 +349,24 @@ fn check_strings<W: Write>(
             Ok(Some(_)) => {}
             Ok(None) => break,
             Err(fault) => {
-                tell(object, &Fault::Str(i, fault), lines)?;
-                faults = faults.saturating_add(1);
+                let told = tell(object, &Fault::Str(i, fault), lines)?;
+                faults = faults.saturating_add(told);
             }
         }
     }
     Ok(faults)
 }
 
-/// How many rows the index of a kind has: the first that isn't empty.
+/// How many rows the index of a kind has.
 fn row_count(file: &ElfFile<'_>, kind: SectionKind) -> u32 {
-    for section in file.sections() {
-        if !is_section_of(&section, kind) {
-            continue;
-        }
-        if let Ok(bytes) = section.data() {
-            if !bytes.is_empty() {
-                let index = UnitIndex::parse(bytes, file.endianness());
-                return index.map_or(0, |index| index.unit_count());
-            }
-        }
+    let bytes = contents_of(file, kind);
+    if bytes.is_empty() {
+        return 0;
     }
-    0
+    match UnitIndex::parse(bytes, file.endianness()) {
+        Ok(index) => index.unit_count(),
+        Err(_) => 0,
+    }
 }
 
 /// A slot names each row of an index; `entries` are in the order of rows. Answers the number of
@@ -301,107 +378,26 @@ fn check_rows<W: Write>(
     lines: &mut W,
 ) -> Result<u64, Failure> {
     let kind = if is_types { "tu" } else { "cu" };
-    let mut named = entries
-        .iter()
-        .filter(|entry| is_type(entry.object) == is_types)
-        .map(|entry| entry.row)
-        .peekable();
     let mut faults = 0u64;
-    for row in 1..=rows {
-        let mut is_named = false;
-        for _ in 0..entries.len() {
-            if named.next_if(|other| *other <= row).is_none() {
-                break;
-            }
-            is_named = true;
-        }
-        if !is_named {
-            written(writeln!(lines, "{kind} row {row}: no slot names it"))?;
-            faults = faults.saturating_add(1);
+    let end = u64::from(rows) + 1;
+    let mut next = 1u64;
+    for i in 0..entries.len() {
+        let row = u64::from(entries[i].row);
+        if is_type(entries[i].object) == is_types && next <= row && row < end {
+            let found = tell_rows(kind, next, row, lines)?;
+            faults = faults.saturating_add(found);
+            next = row + 1;
         }
     }
-    Ok(faults)
+    let found = tell_rows(kind, next, end, lines)?;
+    Ok(faults.saturating_add(found))
 }
 
-/// Each split unit that an executable names is in the package. Answers the number of faults.
-fn check_executable<W: Write>(
-    rt: &HostRuntime,
-    package: &PackageFile<'_>,
-    executable: &str,
-    lines: &mut W,
-) -> Result<u64, Failure> {
-    if thorin_files::is_device(rt, executable) {
-        return Err(Failure::Input);
+/// Prints a fault for each row from one up to another, which isn't among them. Answers their
+/// number.
+fn tell_rows<W: Write>(kind: &str, first: u64, end: u64, lines: &mut W) -> Result<u64, Failure> {
+    for row in first..end {
+        written(writeln!(lines, "{kind} row {row}: no slot names it"))?;
     }
-    let bump = Bump::new(rt.alloc());
-    let session = ArenaSession::new(rt, &bump);
-    check_named(rt.alloc(), &session, package, executable, lines)
-}
-
-/// The same, with a session that reads the executable.
-fn check_named<'s, Sess: Session<RelocationEntry>, W: Write>(
-    alloc: Global,
-    session: &'s Sess,
-    package: &PackageFile<'_>,
-    executable: &str,
-    lines: &mut W,
-) -> Result<u64, Failure> {
-    let bytes = match session.read_input(Path::new(executable)) {
-        Ok(bytes) => bytes,
-        Err(InputError::Io(_)) => return Err(Failure::Input),
-        Err(InputError::Memory) => return Err(Failure::Memory),
-    };
-    match SkeletonUnits::read(alloc, session, bytes) {
-        Ok(mut units) => check_skeletons(package, executable, &mut units, lines),
-        Err(fault) => tell_fault(executable, &fault, lines),
-    }
-}
-
-/// The same of the units that are left of those that an executable names.
-fn check_skeletons<W: Write>(
-    package: &PackageFile<'_>,
-    executable: &str,
-    units: &mut SkeletonUnits<'_>,
-    lines: &mut W,
-) -> Result<u64, Failure> {
-    let mut faults = 0u64;
-    while let Some(next) = units.next().transpose() {
-        let skeleton = match next {
-            Ok(skeleton) => skeleton,
-            Err(fault) => {
-                let told = tell_fault(executable, &fault, lines)?;
-                return Ok(faults.saturating_add(told));
-            }
-        };
-        // What a slot names and can't be read was told with its unit.
-        if let Ok(None) = package.find(skeleton.target) {
-            tell_missing(skeleton.target, executable, skeleton.path.as_str(), lines)?;
-            faults = faults.saturating_add(1);
-        }
-    }
-    Ok(faults)
-}
-
-/// Prints that the package lacks a unit that an executable names, and the path of its object.
-fn tell_missing<W: Write>(
-    object: DwarfObject,
-    executable: &str,
-    path: &str,
-    lines: &mut W,
-) -> Result<(), Failure> {
-    let kind = short_kind(object);
-    let id = object.index();
-    written(writeln!(
-        lines,
-        "{kind} 0x{id:016x}: not in the package, {executable} names {path}"
-    ))
-}
-
-/// Prints why an executable can't be read to its end. Answers the number of faults, 1.
-fn tell_fault<W: Write>(executable: &str, fault: &Error, lines: &mut W) -> Result<u64, Failure> {
-    if matches!(fault, Error::Memory) {
-        return Err(Failure::Memory);
-    }
-    written(writeln!(lines, "{executable}: {fault}"))?;
-    Ok(1)
+    Ok(end.saturating_sub(first))
 }

@@ -1,17 +1,17 @@
 //! `thorin find`.
 
 use crate::identifier::identifier;
-use crate::input::read_file;
+use crate::input::{package_of, read_file};
 use crate::output::{Failure, written};
-use dwp_base::SectionKind;
+use dwp_base::{Contribution, SectionKind};
 use dwp_bytes::Format;
-use dwp_index::{PackageFile, PackagedUnit};
+use dwp_index::PackagedUnit;
 use dwp_table::{Bucketable, DebugTypeSignature, DwarfObject, DwoId};
 use std::io::Write;
 
 /// The kinds of sections with contributions, in the order of an index's columns, with their short
 /// names.
-pub(crate) const COLUMNS: [(SectionKind, &'static str); 10] = [
+const COLUMNS: [(SectionKind, &'static str); 10] = [
     (SectionKind::Info, "info"),
     (SectionKind::Types, "types"),
     (SectionKind::Abbrev, "abbrev"),
@@ -23,6 +23,11 @@ pub(crate) const COLUMNS: [(SectionKind, &'static str); 10] = [
     (SectionKind::Macinfo, "macinfo"),
     (SectionKind::Macro, "macro"),
 ];
+
+/// The kinds of sections with contributions.
+pub(crate) fn columns() -> &'static [(SectionKind, &'static str)] {
+    &COLUMNS
+}
 
 /// Looks a unit up in a package's file and prints what belongs to it. Its kind is `cu` or `tu`, its
 /// identifier 1 to 16 hexadecimal digits, with or without `0x` in front. Answers the status 0.
@@ -49,15 +54,24 @@ fn find_in<O: Write>(
     object: DwarfObject,
     out: &mut O,
 ) -> Result<u8, Failure> {
-    let Ok(package) = PackageFile::parse(bytes) else {
-        return Err(Failure::Malformed);
-    };
-    let Ok((found, slots)) = package.find_counted(object) else {
-        return Err(Failure::Malformed);
-    };
+    let package = package_of(bytes)?;
+    match package.find_counted(object) {
+        Ok((found, slots)) => print_found(rt, out, object, found, slots),
+        Err(_) => Err(Failure::Malformed),
+    }
+}
+
+/// Prints a unit, where there is one.
+fn print_found<O: Write>(
+    rt: &HostRuntime,
+    out: &mut O,
+    object: DwarfObject,
+    found: Option<PackagedUnit<'_>>,
+    slots: u32,
+) -> Result<u8, Failure> {
     match found {
-        None => Err(Failure::NoUnit(object.index())),
         Some(unit) => print(rt, out, object, &unit, slots),
+        None => Err(Failure::NoUnit(object.index())),
     }
 }
 
@@ -110,13 +124,21 @@ fn put_encoding(
 
 /// Adds a line for each range that a unit has of a section.
 fn put_ranges(unit: &PackagedUnit<'_>, text: &mut String) -> Result<(), Failure> {
-    for (column, name) in COLUMNS {
+    let columns = columns();
+    for i in 0..columns.len() {
+        let (column, name) = columns[i];
         if let Some(range) = unit.range(column) {
-            let offset = range.offset.0;
-            let size = range.size;
-            writeln!(text, "{name} {offset:#x} {size:#x}")?;
+            put_range(name, range, text)?;
         }
     }
+    Ok(())
+}
+
+/// Adds the line of a range.
+fn put_range(name: &str, range: Contribution, text: &mut String) -> Result<(), Failure> {
+    let offset = range.offset.0;
+    let size = range.size;
+    writeln!(text, "{name} {offset:#x} {size:#x}")?;
     Ok(())
 }
 

@@ -1,6 +1,8 @@
 //! Reading files.
 
 use crate::output::Failure;
+use dwp_elf::{ElfFile, Section, SectionKind};
+use dwp_index::PackageFile;
 use std::io;
 
 /// Reads a file whole. A device isn't read.
@@ -17,5 +19,49 @@ fn read_failure(e: &io::Error) -> Failure {
         Failure::Memory
     } else {
         Failure::Input
+    }
+}
+
+/// The package that bytes are.
+pub(crate) fn package_of<'a>(bytes: &'a [u8]) -> Result<PackageFile<'a>, Failure> {
+    match PackageFile::parse(bytes) {
+        Ok(package) => Ok(package),
+        Err(_) => Err(Failure::Malformed),
+    }
+}
+
+/// The ELF file that bytes are.
+pub(crate) fn elf_of<'a>(bytes: &'a [u8]) -> Result<ElfFile<'a>, Failure> {
+    match ElfFile::parse(bytes) {
+        Ok(file) => Ok(file),
+        Err(_) => Err(Failure::Malformed),
+    }
+}
+
+/// The bytes of the section of a kind: of the first that isn't empty. None where there is no such
+/// section.
+pub(crate) fn contents_of<'a>(file: &ElfFile<'a>, kind: SectionKind) -> &'a [u8] {
+    for section in file.sections() {
+        if is_section_of(&section, kind) {
+            let bytes = contents(&section);
+            if !bytes.is_empty() {
+                return bytes;
+            }
+        }
+    }
+    &[]
+}
+
+/// Whether a section has the name of a kind, in either spelling. No more of a long name is read
+/// than the names of kinds are long.
+fn is_section_of(section: &Section<'_>, kind: SectionKind) -> bool {
+    section.is_called(kind.name()) || section.is_called(kind.compressed_name())
+}
+
+/// The bytes of a section, none where they can't be read.
+fn contents<'a>(section: &Section<'a>) -> &'a [u8] {
+    match section.data() {
+        Ok(bytes) => bytes,
+        Err(_) => &[],
     }
 }

@@ -4,6 +4,7 @@
 
 mod abbreviations;
 mod checking;
+mod executables;
 mod finding;
 mod identifier;
 mod input;

@@ -1,9 +1,10 @@
 //! `thorin list`.
 
-use crate::finding::{COLUMNS, short_kind};
-use crate::input::read_file;
+use crate::finding::{columns, short_kind};
+use crate::input::{package_of, read_file};
 use crate::output::{Failure, buffer, flush, written};
 use crate::sizes::Sizes;
+use dwp_elf::{Contribution, SectionKind};
 use dwp_index::{PackageFile, PackagedUnit, UnitEntry};
 use dwp_table::{Bucketable, DwarfObject};
 use std::io::Write;
@@ -22,21 +23,49 @@ pub fn list<O: Write>(
     out: &mut O,
 ) -> Result<u8, Failure> {
     let bytes = read_file(rt, file)?;
-    let Ok(package) = PackageFile::parse(bytes.as_slice()) else {
-        return Err(Failure::Malformed);
-    };
+    list_bytes(rt, bytes.as_slice(), has_sizes, out)
+}
+
+/// Lists a package's bytes.
+fn list_bytes<O: Write>(
+    rt: &HostRuntime,
+    bytes: &[u8],
+    has_sizes: bool,
+    out: &mut O,
+) -> Result<u8, Failure> {
+    let package = package_of(bytes)?;
     let entries = entries_by_row(rt, &package)?;
-    let mut sizes = if has_sizes {
-        Some(Sizes::new(rt.alloc()))
-    } else {
-        None
-    };
+    let mut sizes = Sizes::new(rt.alloc(), has_sizes);
+    print_through(rt, &package, entries.as_slice(), bytes, &mut sizes, out)
+}
+
+/// Prints a package's units through a buffer.
+fn print_through<O: Write>(
+    rt: &HostRuntime,
+    package: &PackageFile<'_>,
+    entries: &[UnitEntry],
+    bytes: &[u8],
+    sizes: &mut Sizes,
+    out: &mut O,
+) -> Result<u8, Failure> {
     let mut lines = buffer(rt.alloc(), out)?;
-    let listed = print_units(&package, entries.as_slice(), &mut sizes, &mut lines)?;
-    if listed {
-        print_sizes(&mut sizes, bytes.as_slice(), &mut lines)?;
+    print(package, entries, bytes, sizes, &mut lines)
+}
+
+/// Prints a package's units, and the totals where they are asked for. Where a unit can't be looked
+/// up, the lines before it are printed.
+fn print<W: Write>(
+    package: &PackageFile<'_>,
+    entries: &[UnitEntry],
+    bytes: &[u8],
+    sizes: &mut Sizes,
+    lines: &mut W,
+) -> Result<u8, Failure> {
+    let listed = print_units(package, entries, sizes, lines)?;
+    if listed && sizes.is_asked() {
+        sizes.print(bytes, lines)?;
     }
-    flush(&mut lines)?;
+    flush(lines)?;
     if listed {
         Ok(0)
     } else {
@@ -48,31 +77,34 @@ pub fn list<O: Write>(
 fn print_units<W: Write>(
     package: &PackageFile<'_>,
     entries: &[UnitEntry],
-    sizes: &mut Option<Sizes>,
+    sizes: &mut Sizes,
     lines: &mut W,
 ) -> Result<bool, Failure> {
-    for entry in entries {
-        let Ok(found) = package.find(entry.object) else {
+    for i in 0..entries.len() {
+        if !print_unit(package, entries[i], sizes, lines)? {
             return Ok(false);
-        };
-        if let Some(unit) = found {
-            if unit.row() == entry.row {
-                line(entry.object, &unit, sizes, lines)?;
-            }
         }
     }
     Ok(true)
 }
 
-/// Prints the totals, where sizes are asked for.
-fn print_sizes<W: Write>(
-    sizes: &mut Option<Sizes>,
-    bytes: &[u8],
+/// Prints the line of a unit, where its identifier leads to its row. Answers whether it could be
+/// looked up.
+fn print_unit<W: Write>(
+    package: &PackageFile<'_>,
+    entry: UnitEntry,
+    sizes: &mut Sizes,
     lines: &mut W,
-) -> Result<(), Failure> {
-    match sizes {
-        Some(sizes) => sizes.print(bytes, lines),
-        None => Ok(()),
+) -> Result<bool, Failure> {
+    match package.find(entry.object) {
+        Ok(Some(unit)) => {
+            if unit.row() == entry.row {
+                line(entry.object, &unit, sizes, lines)?;
+            }
+            Ok(true)
+        }
+        Ok(None) => Ok(true),
+        Err(_) => Ok(false),
     }
 }
 
@@ -95,14 +127,14 @@ pub(crate) fn is_type(object: DwarfObject) -> bool {
 fn line<W: Write>(
     object: DwarfObject,
     unit: &PackagedUnit<'_>,
-    sizes: &mut Option<Sizes>,
+    sizes: &mut Sizes,
     lines: &mut W,
 ) -> Result<(), Failure> {
     let kind = short_kind(object);
     let id = object.index();
     let size = unit.bytes().len();
     written(write!(lines, "{kind} 0x{id:016x} {size}"))?;
-    if let Some(sizes) = sizes {
+    if sizes.is_asked() {
         line_sizes(unit, sizes, lines)?;
     }
     written(writeln!(lines))
@@ -114,12 +146,25 @@ fn line_sizes<W: Write>(
     sizes: &mut Sizes,
     lines: &mut W,
 ) -> Result<(), Failure> {
-    for (column, name) in COLUMNS {
+    let columns = columns();
+    for i in 0..columns.len() {
+        let (column, name) = columns[i];
         if let Some(range) = unit.range(column) {
-            sizes.add(column, range)?;
-            let size = range.size;
-            written(write!(lines, " {name} {size}"))?;
+            line_size(column, name, range, sizes, lines)?;
         }
     }
     Ok(())
+}
+
+/// One of these sizes.
+fn line_size<W: Write>(
+    column: SectionKind,
+    name: &str,
+    range: Contribution,
+    sizes: &mut Sizes,
+    lines: &mut W,
+) -> Result<(), Failure> {
+    sizes.add(column, range)?;
+    let size = range.size;
+    written(write!(lines, " {name} {size}"))
 }

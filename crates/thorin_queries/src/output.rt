@@ -3,19 +3,20 @@
 use std::alloc::{AllocError, AllocFailed, Global};
 use std::fmt;
 use std::io::{self, BufWriter, Write};
-use thorin_faults::Error;
 
 /// Why a command was refused.
-#[derive(Debug, Drop)]
+#[derive(Clone, Copy)]
 pub enum Failure {
-    /// An input was refused, or the package could not be finished.
-    Package(Error),
     /// The output file can't be written.
     Output,
+    /// The output file is an input, and isn't to be written over.
+    Overwrites,
     /// The package file can't be read.
     Input,
     /// The package file is malformed.
     Malformed,
+    /// The file to be checked has no index.
+    NoIndex,
     /// No unit of this kind has this identifier.
     NoUnit(u64),
     /// The kind of unit is neither `cu` nor `tu`.
@@ -40,22 +41,31 @@ impl Failure {
             _ => 1,
         }
     }
+
+    /// What is said of it, an identifier aside.
+    fn text(&self) -> &'static str {
+        match self {
+            Failure::Output => "Failed to write output file",
+            Failure::Overwrites => "Output file is an input: --force overwrites it",
+            Failure::Response => "Failed to read response file",
+            Failure::Line => "Failed to write standard output",
+            Failure::Input => "Failed to read input file",
+            Failure::Malformed => "Malformed package",
+            Failure::NoIndex => "no index: not a package",
+            Failure::NoUnit(_) => "Unit is not in the package",
+            Failure::BadKind => "Bad unit kind",
+            Failure::BadIdentifier => "Bad identifier",
+            Failure::BadCommand => "Bad command line",
+            Failure::Memory => "Out of memory",
+        }
+    }
 }
 
 impl fmt::Display for Failure {
     fn fmt<W: fmt::Write>(&self, f: &mut fmt::Formatter<W>) -> fmt::Result {
         match self {
-            Failure::Package(fault) => write!(f, "{fault}"),
-            Failure::Output => f.write_str("Failed to write output file"),
-            Failure::Response => f.write_str("Failed to read response file"),
-            Failure::Line => f.write_str("Failed to write standard output"),
-            Failure::Input => f.write_str("Failed to read input file"),
-            Failure::Malformed => f.write_str("Malformed package"),
             Failure::NoUnit(id) => write!(f, "Unit 0x{id:08x} is not in the package"),
-            Failure::BadKind => f.write_str("Bad unit kind"),
-            Failure::BadIdentifier => f.write_str("Bad identifier"),
-            Failure::BadCommand => f.write_str("Bad command line"),
-            Failure::Memory => f.write_str("Out of memory"),
+            _ => f.write_str(self.text()),
         }
     }
 }
@@ -69,12 +79,6 @@ impl From<AllocError> for Failure {
 impl<T: Drop> From<AllocFailed<T>> for Failure {
     fn from(_e: AllocFailed<T>) -> Failure {
         Failure::Memory
-    }
-}
-
-impl From<Error> for Failure {
-    fn from(fault: Error) -> Failure {
-        Failure::Package(fault)
     }
 }
 

@@ -2,18 +2,12 @@
 
 ghost use Rattle.std.specs.Prelude.{◌≡◌, ◌-◌, ◌^◌, min, sum_by};
 
-use crate::finding::COLUMNS;
+use crate::finding::columns;
+use crate::input::{contents_of, elf_of};
 use crate::output::{Failure, written};
-use dwp_elf::{Contribution, ElfFile, Section, SectionKind};
+use dwp_elf::{Contribution, ElfFile, SectionKind};
 use std::alloc::Global;
 use std::io::Write;
-
-/// The sections that no unit has a range of, with their short names.
-const WHOLE: [(SectionKind, &'static str); 3] = [
-    (SectionKind::Str, "str"),
-    (SectionKind::CuIndex, "cu_index"),
-    (SectionKind::TuIndex, "tu_index"),
-];
 
 /// A range of a section that a unit has.
 #[derive(Clone, Copy, PartialEq, Eq, PartialOrd, Ord)]
@@ -26,15 +20,22 @@ struct Range {
 /// The ranges that units have of the sections of a package.
 #[derive(Drop)]
 pub(crate) struct Sizes {
+    is_asked: bool,
     ranges: Vec<Range>,
 }
 
 impl Sizes {
-    /// No range.
-    pub(crate) fn new(alloc: Global) -> Sizes {
+    /// No range. They are gathered and printed where they are asked for.
+    pub(crate) fn new(alloc: Global, is_asked: bool) -> Sizes {
         Sizes {
+            is_asked,
             ranges: Vec::new(alloc),
         }
+    }
+
+    /// Whether they are asked for.
+    pub(crate) fn is_asked(&self) -> bool {
+        self.is_asked
     }
 
     /// Adds a range of a section that a unit has.
@@ -51,18 +52,22 @@ impl Sizes {
     /// that units have ranges of, also the bytes of its distinct ranges, and how many more all
     /// ranges have together. Then the file's bytes.
     pub(crate) fn print<W: Write>(&mut self, bytes: &[u8], lines: &mut W) -> Result<(), Failure> {
-        let Ok(file) = ElfFile::parse(bytes) else {
-            return Err(Failure::Malformed);
-        };
+        let file = elf_of(bytes)?;
         self.ranges.sort_unstable();
-        for (kind, name) in COLUMNS {
-            self.print_column(kind, name, content_size(&file, kind), lines)?;
-        }
-        for (kind, name) in WHOLE {
-            print_whole(name, content_size(&file, kind), lines)?;
-        }
+        self.print_columns(&file, lines)?;
+        print_wholes(&file, lines)?;
         let size = bytes.len();
         written(writeln!(lines, "total file {size}"))
+    }
+
+    /// The totals of the sections that units have ranges of.
+    fn print_columns<W: Write>(&self, file: &ElfFile<'_>, lines: &mut W) -> Result<(), Failure> {
+        let columns = columns();
+        for i in 0..columns.len() {
+            let (kind, name) = columns[i];
+            self.print_column(kind, name, contents_of(file, kind).len(), lines)?;
+        }
+        Ok(())
     }
 
     /// The total of a section that units have ranges of, where it isn't empty.
@@ -84,17 +89,31 @@ impl Sizes {
     /// The bytes of all ranges of a section together, and those of its distinct ranges.
     fn of(&self, kind: SectionKind) -> Result<(u64, u64), Failure> {
         let section = kind.rank();
-        let alloc = *self.ranges.allocator();
-        let mut ranges: Vec<Range> = self
-            .ranges
-            .iter()
-            .copied()
-            .filter(|range| range.section == section)
-            .collect(alloc)?;
+        let mut ranges = Vec::new(*self.ranges.allocator());
+        for range in &self.ranges {
+            if range.section == section {
+                ranges.push(*range)?;
+            }
+        }
         let all = total(ranges.as_slice());
         ranges.dedup();
         Ok((all, total(ranges.as_slice())))
     }
+}
+
+/// The totals of the sections that no unit has a range of.
+fn print_wholes<W: Write>(file: &ElfFile<'_>, lines: &mut W) -> Result<(), Failure> {
+    print_whole("str", contents_of(file, SectionKind::Str).len(), lines)?;
+    print_whole(
+        "cu_index",
+        contents_of(file, SectionKind::CuIndex).len(),
+        lines,
+    )?;
+    print_whole(
+        "tu_index",
+        contents_of(file, SectionKind::TuIndex).len(),
+        lines,
+    )
 }
 
 /// The total of a section that no unit has a range of, where it isn't empty.
@@ -114,23 +133,4 @@ fn total(ranges: &[Range]) -> u64
         bytes = bytes.saturating_add(range.size);
     }
     bytes
-}
-
-/// Whether a section has the name of a kind, in either spelling. No more of a long name is read than
-/// the names of kinds are long.
-pub(crate) fn is_section_of(section: &Section<'_>, kind: SectionKind) -> bool {
-    section.is_called(kind.name()) || section.is_called(kind.compressed_name())
-}
-
-/// How many bytes the section of a kind has: the first that isn't empty.
-fn content_size(file: &ElfFile<'_>, kind: SectionKind) -> usize {
-    for section in file.sections() {
-        if is_section_of(&section, kind) {
-            let size = section.data().map_or(0, |bytes| bytes.len());
-            if size > 0 {
-                return size;
-            }
-        }
-    }
-    0
 }

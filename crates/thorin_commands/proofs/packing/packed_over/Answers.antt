@@ -3,7 +3,7 @@ use Rattle.thorin_join.specs.Builder.{start}
 use Rattle.thorin_builder.specs.Taking.{Outcome}
 use Rattle.thorin.specs.declared.packing.Input.{Input}
 use Rattle.thorin_commands.specs.Packing.{AreAllAccepted}
-use Rattle.thorin_commands.proofs.packing.packed.Goals as goal
+use Rattle.thorin_commands.proofs.packing.packed_over.Goals as goal
 
 pub returns : goal.returns
 returns g c =
@@ -17,6 +17,6 @@ returns g c =
       ran = ran.1;
       joined = c.runs_go_on.ensures.joined c.args.inputs.now start state
           (map outcome c.args.inputs.now) ran.0 ran.1;
-      finished = c.in_ok-object.ensures.finished;
-      package_of = c.in_ok-object.ensures.packaged;
+      finished = c.in_ok-made.ensures.finished;
+      package_of = c.in_ok-made.ensures.packaged;
     }
