@@ -11,17 +11,29 @@ use std::io::{self, Write};
 fn main(rt: HostRuntime) -> io::Result<()> {
     let script = fs::read_to_string(&rt, "script")?;
     for line in script.lines() {
-        println!(rt; "$ {line}")?;
-        let text = if let Some(file) = line.strip_prefix("size ") {
-            size_of(&rt, file)?
-        } else if let Some(line) = line.strip_prefix("full ") {
-            told(&rt, line, true)?
-        } else {
-            told(&rt, line, false)?
-        };
-        rt.stdout().write_all(text.as_slice())?;
+        tell(&rt, line)?;
     }
     Ok(())
+}
+
+/// Runs a line, and prints it with what it prints.
+fn tell(rt: &HostRuntime, line: &str) -> io::Result<()> {
+    println!(rt; "$ {line}")?;
+    let mut text = Vec::new(rt.alloc());
+    match answer(rt, line, &mut text) {
+        Ok(()) => rt.stdout().write_all(text.as_slice()),
+        Err(fault) => Err(fault),
+    }
+}
+
+fn answer(rt: &HostRuntime, line: &str, text: &mut Vec<u8>) -> io::Result<()> {
+    if let Some(file) = line.strip_prefix("size ") {
+        tell_size(rt, file, text)
+    } else if let Some(line) = line.strip_prefix("full ") {
+        run_line(rt, line, true, text)
+    } else {
+        run_line(rt, line, false, text)
+    }
 }
 
 /// A stream with what it took; one that is full takes nothing.
@@ -45,22 +57,29 @@ impl Write for Stream {
     }
 }
 
-/// The line of a file's size.
-fn size_of(rt: &HostRuntime, file: &str) -> io::Result<Vec<u8>> {
-    let mut text = Vec::new(rt.alloc());
+/// Adds the line of a file's size.
+fn tell_size(rt: &HostRuntime, file: &str, text: &mut Vec<u8>) -> io::Result<()> {
     match fs::read(rt, file) {
-        Ok(bytes) => {
-            let size = bytes.len();
-            writeln!(text, "{size}")?;
-        }
-        Err(_) => writeln!(text, "none")?,
+        Ok(bytes) => writeln!(text, "{}", bytes.len()),
+        Err(_fault) => writeln!(text, "none"),
     }
-    Ok(text)
 }
 
-/// What a command line prints, and the line of its status.
-fn told(rt: &HostRuntime, line: &str, is_full: bool) -> io::Result<Vec<u8>> {
-    let words: Vec<&str> = line.split_whitespace().collect(rt.alloc())?;
+/// Adds what a command line prints, and the line of its status.
+fn run_line(rt: &HostRuntime, line: &str, is_full: bool, text: &mut Vec<u8>) -> io::Result<()> {
+    let words: Result<Vec<&str>, AllocError> = line.split_whitespace().collect(rt.alloc());
+    match words {
+        Ok(words) => run_words(rt, words.as_slice(), is_full, text),
+        Err(AllocError) => Err(io::Error::from(io::ErrorKind::OutOfMemory)),
+    }
+}
+
+fn run_words(
+    rt: &HostRuntime,
+    words: &[&str],
+    is_full: bool,
+    text: &mut Vec<u8>,
+) -> io::Result<()> {
     let mut out = Stream {
         taken: Vec::new(rt.alloc()),
         is_full,
@@ -69,27 +88,31 @@ fn told(rt: &HostRuntime, line: &str, is_full: bool) -> io::Result<Vec<u8>> {
         taken: Vec::new(rt.alloc()),
         is_full: false,
     };
-    let status = thorin_cli::run(rt, words.as_slice(), &mut out, &mut err);
-    let mut text = out.taken;
-    push_marked(&mut text, err.taken.as_slice())?;
+    let status = thorin_cli::run(rt, words, &mut out, &mut err);
+    tell_run(text, out.taken.as_slice(), err.taken.as_slice(), status)
+}
+
+fn tell_run(text: &mut Vec<u8>, out: &[u8], err: &[u8], status: u8) -> io::Result<()> {
+    text.extend_from_slice(out)?;
+    push_marked(text, err)?;
     if status != 0 {
         writeln!(text, "status {status}")?;
     }
-    Ok(text)
+    Ok(())
 }
 
 /// Adds lines of standard error, each with its mark.
 fn push_marked(text: &mut Vec<u8>, lines: &[u8]) -> Result<(), AllocError> {
     let mut begins = true;
-    for byte in lines {
+    for i in 0..lines.len() {
         if begins {
             text.push(b'!')?;
-            if *byte != b'\n' {
+            if lines[i] != b'\n' {
                 text.push(b' ')?;
             }
         }
-        text.push(*byte)?;
-        begins = *byte == b'\n';
+        text.push(lines[i])?;
+        begins = lines[i] == b'\n';
     }
     Ok(())
 }

@@ -4,23 +4,28 @@ use crate::mistake::Mistake;
 use crate::packing::{keep, tell_answer};
 use crate::reading::tell_name;
 use crate::table::Table;
+use crate::text::Text;
 use std::alloc::Global;
-use thorin::{Bump, BytesSession, DwarfPackage, Error};
+use thorin::{Bump, BytesSession, DwarfPackage, Error, WritableObject};
 
 /// `builder FILE INPUT..`: what a builder shows of itself, then each input's answer with what it
 /// shows then, and the file, which is kept.
-pub fn build(alloc: Global, table: &mut Table, words: &[&str]) -> Result<String, Mistake> {
+pub fn build(
+    alloc: Global,
+    table: &mut Table,
+    words: &[&str],
+    text: &mut Text,
+) -> Result<(), Mistake> {
     let [file, names @ ..] = words else {
         return Err(Mistake::Words);
     };
-    let mut text = String::new(alloc);
     let bytes = {
+        let inputs = table.all(names)?;
         let arena = Bump::new(alloc);
         let session = BytesSession::new(&arena);
-        built(alloc, &session, names, &table.all(names)?, &mut text)?
+        built(alloc, &session, names, &inputs, text)
     };
-    keep(table, file, bytes, &mut text)?;
-    Ok(text)
+    keep(table, file, bytes, text)
 }
 
 /// The file of a builder that is given these inputs.
@@ -28,58 +33,50 @@ fn built<'s>(
     alloc: Global,
     session: &'s BytesSession<'s>,
     names: &[&str],
-    inputs: &[Vec<u8>],
-    text: &mut String,
-) -> Result<Result<Vec<u8>, Error>, Mistake> {
+    inputs: &[&[u8]],
+    text: &mut Text,
+) -> Result<Vec<u8>, Error> {
     let mut builder = DwarfPackage::new(alloc, session);
-    let told = add_each(&mut builder, names, inputs, text);
-    let file = finished(builder);
-    match told {
-        Ok(()) => Ok(file),
-        Err(mistake) => Err(mistake),
+    add_each(&mut builder, names, inputs, text);
+    match builder.finish() {
+        Ok(object) => written(&object),
+        Err(fault) => Err(fault),
     }
 }
 
-/// The file of a finished builder.
-fn finished<'o, 's: 'o>(builder: DwarfPackage<'o, 's, BytesSession<'s>>) -> Result<Vec<u8>, Error> {
-    let file = builder.finish()?;
-    Ok(file.write()?)
+fn written(object: &WritableObject) -> Result<Vec<u8>, Error> {
+    Ok(object.write()?)
 }
 
 /// Adds inputs in order, and tells of each what the builder answers and shows.
 fn add_each<'o, 's: 'o>(
     builder: &mut DwarfPackage<'o, 's, BytesSession<'s>>,
     names: &[&str],
-    inputs: &[Vec<u8>],
-    text: &mut String,
-) -> Result<(), Mistake> {
-    tell_state(builder, text)?;
-    for (name, bytes) in names.iter().zip(inputs) {
-        let answer = builder.add_object_bytes(bytes);
-        tell_answer(text, name, &answer)?;
-        tell_state(builder, text)?;
+    inputs: &[&[u8]],
+    text: &mut Text,
+) {
+    tell_state(builder, text);
+    for i in 0..inputs.len() {
+        let name = names.get(i).copied().unwrap_or("?");
+        tell_answer(text, name, &builder.add_object_bytes(inputs[i]));
+        tell_state(builder, text);
     }
-    Ok(())
 }
 
 /// Adds to a text what a builder shows of itself.
-fn tell_state<'o, 's: 'o>(
-    builder: &DwarfPackage<'o, 's, BytesSession<'s>>,
-    text: &mut String,
-) -> Result<(), Mistake> {
-    writeln!(text, "  {builder:?}")?;
-    write!(
-        text,
-        "  packs again: {}, differing: [",
-        builder.packs_again()
-    )?;
+fn tell_state<'o, 's: 'o>(builder: &DwarfPackage<'o, 's, BytesSession<'s>>, text: &mut Text) {
+    text.put("  ");
+    text.debug(builder);
+    text.put("\n  packs again: ");
+    text.debug(&builder.packs_again());
+    text.put(", differing: [");
     for signature in builder.differing_types() {
-        write!(text, " 0x{:x}", signature.0)?;
+        text.put(" ");
+        text.hexadecimal(signature.0);
     }
-    write!(text, " ], units: [")?;
+    text.put(" ], units: [");
     for unit in builder.contained_units().iter() {
-        tell_name(text, *unit)?;
+        tell_name(text, *unit);
     }
-    writeln!(text, " ]")?;
-    Ok(())
+    text.put(" ]\n");
 }

@@ -1,93 +1,171 @@
 //! Packages of many objects and of many strings.
 
-use crate::mistake::{Mistake, number};
-use crate::packing::{grouped_inputs, packed};
+use crate::mistake::{Mistake, extend, number, push};
+use crate::packing::{Groups, file_of, grouped, packed};
 use crate::reading::found;
-use crate::table::{Table, part, patched};
+use crate::table::{Table, joined, part};
+use crate::text::Text;
 use std::alloc::Global;
 use thorin::{DwarfObject, DwoId, Endianness, Packed};
 
 /// `many FILE OBJECT FROM TO COUNT`: packs that many objects, at once and each in a group of its
 /// own. They are copies of one whose unit stands at a place and ends with its identifier of 8
 /// bytes, which are 1, 2 and so on.
-pub fn many(alloc: Global, table: &mut Table, words: &[&str]) -> Result<String, Mistake> {
+pub fn many(
+    alloc: Global,
+    table: &mut Table,
+    words: &[&str],
+    text: &mut Text,
+) -> Result<(), Mistake> {
     let [file, object, from, to, count] = words else {
         return Err(Mistake::Words);
     };
-    let (from, to) = (number(from)?, number(to)?);
-    let place = to.saturating_sub(8);
-    let copies = copies(alloc, table.get(object)?, place, number(count)?)?;
-    let mut text = String::new(alloc);
-    let bytes = packed_copies(alloc, &copies, &mut text)?;
-    let units = found_at_once(&bytes, &copies, from, to);
-    let alike = is_grouped(alloc, copies, &bytes)?;
-    writeln!(text, "{units} found in the first slot\ngroups {alike}")?;
-    table.keep(file, bytes)?;
-    Ok(text)
+    let (from, to, count) = (number(from)?, number(to)?, number(count)?);
+    let object = table.get(object)?;
+    let copies = copies(alloc, object, to.saturating_sub(8), count)?;
+    let bytes = packed_copies(alloc, &copies, object.len(), text)?;
+    let units = found_at_once(&bytes, &copies, object.len(), from, to);
+    text.number(units as u64);
+    text.put(" found in the first slot\n");
+    tell_grouped(alloc, &copies, object.len(), &bytes, text)?;
+    table.keep(file, bytes)
+}
+
+/// The copies of an object with the identifiers from 1 on at a place, one behind another.
+fn copies(alloc: Global, object: &[u8], place: usize, count: usize) -> Result<Vec<u8>, Mistake> {
+    let mut copies = Vec::new(alloc);
+    match add_copies(object, place, count, &mut copies) {
+        Ok(()) => Ok(copies),
+        Err(mistake) => Err(mistake),
+    }
+}
+
+fn add_copies(
+    object: &[u8],
+    place: usize,
+    count: usize,
+    copies: &mut Vec<u8>,
+) -> Result<(), Mistake> {
+    let behind = place.saturating_add(8);
+    if behind > object.len() {
+        return Err(Mistake::Place);
+    }
+    for id in 0..count {
+        extend(copies, part(object, 0, place))?;
+        let id = (id as u64).saturating_add(1);
+        extend(copies, &Endianness::Little.bytes_of_u64(id))?;
+        extend(copies, part(object, behind, object.len()))?;
+    }
+    Ok(())
+}
+
+/// A copy by its number, where each has this size.
+fn copy(copies: &[u8], size: usize, number: usize) -> &[u8] {
+    let from = number.saturating_mul(size);
+    part(copies, from, from.saturating_add(size))
+}
+
+/// Each copy in a group of its own.
+fn add_groups<'a>(copies: &'a [u8], size: usize, groups: &mut Groups<'a>) -> Result<(), Mistake> {
+    for number in 0..count_of(copies, size) {
+        groups.begin()?;
+        groups.add(copy(copies, size, number))?;
+    }
+    Ok(())
+}
+
+fn count_of(copies: &[u8], size: usize) -> usize {
+    if size == 0 { 0 } else { copies.len() / size }
+}
+
+fn add_slices<'a>(
+    copies: &'a [u8],
+    size: usize,
+    slices: &mut Vec<&'a [u8]>,
+) -> Result<(), Mistake> {
+    for number in 0..count_of(copies, size) {
+        push(slices, copy(copies, size, number))?;
+    }
+    Ok(())
 }
 
 /// The package of these inputs, with how many are accepted and its length.
-fn packed_copies(alloc: Global, copies: &[Vec<u8>], text: &mut String) -> Result<Vec<u8>, Mistake> {
-    let Ok(packed) = packed(alloc, copies) else {
-        return Err(Mistake::Memory);
+fn packed_copies(
+    alloc: Global,
+    copies: &[u8],
+    size: usize,
+    text: &mut Text,
+) -> Result<Vec<u8>, Mistake> {
+    let mut slices = Vec::new(alloc);
+    let packed = match add_slices(copies, size, &mut slices) {
+        Ok(()) => packed(alloc, &slices),
+        Err(mistake) => return Err(mistake),
     };
-    let Packed {
-        outcomes,
-        file,
-        differing: _differing,
-    } = packed;
-    let mut accepted: usize = 0;
-    for outcome in &outcomes {
-        if outcome.is_ok() {
-            accepted = accepted.saturating_add(1);
-        }
+    match packed {
+        Ok(packed) => told_file(packed, text),
+        Err(_fault) => Err(Mistake::Memory),
     }
-    match file {
+}
+
+fn told_file(packed: Packed, text: &mut Text) -> Result<Vec<u8>, Mistake> {
+    text.number(accepted(&packed) as u64);
+    text.put(" accepted, ");
+    match file_of(packed) {
         Ok(file) => {
-            writeln!(text, "{accepted} accepted, {} bytes", file.len())?;
+            text.number(file.len() as u64);
+            text.put(" bytes\n");
             Ok(file)
         }
         Err(_fault) => Err(Mistake::Object),
     }
 }
 
-/// Whether packing each input in a group of its own gives this file.
-fn is_grouped(alloc: Global, copies: Vec<Vec<u8>>, file: &[u8]) -> Result<bool, Mistake> {
-    let mut groups = Vec::new(alloc);
-    for copy in copies {
-        let mut group = Vec::new(alloc);
-        group.push(copy)?;
-        groups.push(group)?;
+/// How many inputs were accepted.
+fn accepted(packed: &Packed) -> usize {
+    let mut accepted: usize = 0;
+    for i in 0..packed.outcomes.len() {
+        if packed.outcomes[i].is_ok() {
+            accepted = accepted.saturating_add(1);
+        }
     }
-    match grouped_inputs(alloc, &groups)? {
-        Ok(other) => Ok(other.as_slice() == file),
-        Err(_fault) => Ok(false),
-    }
+    accepted
 }
 
-/// The copies of an object with the identifiers from 1 on at a place.
-fn copies(
+/// Tells whether packing each copy in a group of its own gives this file.
+fn tell_grouped(
     alloc: Global,
-    object: &[u8],
-    place: usize,
-    count: usize,
-) -> Result<Vec<Vec<u8>>, Mistake> {
-    let mut copies = Vec::new(alloc);
-    for id in 0..count {
-        let id = Endianness::Little.bytes_of_u64((id as u64).saturating_add(1));
-        copies.push(patched(alloc, object, place, &id)?)?;
+    copies: &[u8],
+    size: usize,
+    file: &[u8],
+    text: &mut Text,
+) -> Result<(), Mistake> {
+    let mut groups = Groups::new(alloc);
+    match add_groups(copies, size, &mut groups) {
+        Ok(()) => {
+            text.put("groups ");
+            text.debug(&is_grouped(alloc, &groups, file));
+            text.put("\n");
+            Ok(())
+        }
+        Err(mistake) => Err(mistake),
     }
-    Ok(copies)
 }
 
-/// How many of these inputs have their units in the file, each of its own bytes and in the slot
+fn is_grouped(alloc: Global, groups: &Groups<'_>, file: &[u8]) -> bool {
+    match grouped(alloc, groups) {
+        Ok(other) => other.as_slice() == file,
+        Err(_fault) => false,
+    }
+}
+
+/// How many of these copies have their units in the file, each of its own bytes and in the slot
 /// that is looked at first.
-fn found_at_once(file: &[u8], inputs: &[Vec<u8>], from: usize, to: usize) -> usize {
+fn found_at_once(file: &[u8], copies: &[u8], size: usize, from: usize, to: usize) -> usize {
     let mut count: usize = 0;
-    for (id, input) in inputs.iter().enumerate() {
-        let name = DwarfObject::Compilation(DwoId((id as u64).saturating_add(1)));
+    for number in 0..count_of(copies, size) {
+        let name = DwarfObject::Compilation(DwoId((number as u64).saturating_add(1)));
         if let Ok((Some(unit), 1)) = found(file, name) {
-            if unit.bytes() == part(input, from, to) {
+            if unit.bytes() == part(copy(copies, size, number), from, to) {
                 count = count.saturating_add(1);
             }
         }
@@ -100,14 +178,26 @@ pub fn numbers(alloc: Global, table: &mut Table, words: &[&str]) -> Result<(), M
     let [strings_name, offsets_name, count] = words else {
         return Err(Mistake::Words);
     };
-    let mut strings = Vec::new(alloc);
+    let count = number(count)?;
+    let mut strings = Text::new(alloc);
     let mut offsets = Vec::new(alloc);
-    for number in 0..number(count)? {
-        let offset = strings.len() as u64;
-        offsets.extend_from_slice(part(&Endianness::Little.bytes_of_u64(offset), 0, 4))?;
-        strings.extend_from_slice(number.to_string(alloc)?.as_bytes())?;
-        strings.push(0)?;
+    match add_numbers(count, &mut strings, &mut offsets) {
+        Ok(()) => table.keep(offsets_name, offsets)?,
+        Err(mistake) => return Err(mistake),
     }
-    table.keep(strings_name, strings)?;
-    table.keep(offsets_name, offsets)
+    let strings = joined(alloc, &[strings.as_str().as_bytes()])?;
+    table.keep(strings_name, strings)
+}
+
+fn add_numbers(count: usize, strings: &mut Text, offsets: &mut Vec<u8>) -> Result<(), Mistake> {
+    for number in 0..count {
+        let offset = strings.as_str().len() as u64;
+        extend(
+            offsets,
+            part(&Endianness::Little.bytes_of_u64(offset), 0, 4),
+        )?;
+        strings.number(number as u64);
+        strings.put("\0");
+    }
+    Ok(())
 }

@@ -1,7 +1,8 @@
 //! Runs the lines of the scripts of `data/` and prints each line that asks something with what it
-//! answers: packing, packages as inputs, packages cut or damaged, packing in groups. A script makes
-//! its inputs byte for byte (`table`, `objects`), packs them (`packing`, `building`, `large`) and
-//! reads what came of it (`reading`, `cutting`). For the gate alone.
+//! answers: packing, packages as inputs, packages cut or damaged, packing in groups, and the same of
+//! what a seed damages. A script makes its inputs byte for byte (`table`, `objects`), packs them
+//! (`packing`, `building`, `large`), reads what came of it (`reading`, `cutting`), and damages samples
+//! by chance (`random`). For the gate; with `random`, by hand too.
 #![tactic(auto)]
 
 mod building;
@@ -10,19 +11,22 @@ mod large;
 mod mistake;
 mod objects;
 mod packing;
+mod random;
 mod reading;
 mod table;
+mod text;
 
 use crate::mistake::Mistake;
 use crate::table::Table;
-use std::alloc::Global;
+use crate::text::Text;
+use std::alloc::{AllocError, Global};
 use std::{fs, io};
 
 /// The script that names the parts that every other one may use.
 const COMMON: &str = "common";
 
 /// The scripts, in the order in which they are run; each begins with the names of the common one.
-const SCRIPTS: [&str; 11] = [
+const SCRIPTS: [&str; 12] = [
     "one_object",
     "forms",
     "many_objects",
@@ -34,68 +38,131 @@ const SCRIPTS: [&str; 11] = [
     "own_packages",
     "damaged",
     "cut",
+    "random",
 ];
 
 fn main(rt: HostRuntime) -> io::Result<()> {
-    for script in SCRIPTS {
-        println!(rt; "== {script}")?;
+    for i in 0..SCRIPTS.len() {
+        println!(rt; "== {}", SCRIPTS[i])?;
         let mut table = Table::new(rt.alloc());
         run_script(&rt, &mut table, COMMON)?;
-        run_script(&rt, &mut table, script)?;
+        run_script(&rt, &mut table, SCRIPTS[i])?;
     }
     Ok(())
 }
 
-/// Runs the lines of a script. What stands behind `#` is a comment.
+/// The bytes of a file.
+fn read(rt: &HostRuntime, path: &str) -> io::Result<Vec<u8>> {
+    fs::read(rt, path)
+}
+
+/// Runs the lines of a script.
 fn run_script(rt: &HostRuntime, table: &mut Table, script: &str) -> io::Result<()> {
     let script = fs::read_to_string(rt, script)?;
     for line in script.lines() {
-        let line = match line.split_once('#') {
-            Some((line, _)) => line,
-            None => line,
-        };
-        let words: Vec<&str> = line.split_whitespace().collect(rt.alloc())?;
-        match run_line(rt.alloc(), table, &words) {
-            Ok(None) => {}
-            Ok(Some(answer)) => print!(rt; "$ {}\n{answer}", line.trim_ascii())?,
-            Err(mistake) => print!(rt; "$ {}\n{mistake:?}\n", line.trim_ascii())?,
-        }
+        tell_line(rt, table, line)?;
     }
     Ok(())
 }
 
-/// What the words of a line answer; nothing where they only name bytes.
-fn run_line(alloc: Global, table: &mut Table, words: &[&str]) -> Result<Option<String>, Mistake> {
-    let Some((command, words)) = words.split_first() else {
-        return Ok(None);
+/// Runs a line, and prints it with what it answers, if it does. What stands behind `#` is a comment.
+fn tell_line(rt: &HostRuntime, table: &mut Table, line: &str) -> io::Result<()> {
+    let line = match line.split_once('#') {
+        Some((line, _)) => line,
+        None => line,
     };
-    match *command {
-        "bytes" => table.define(words)?,
-        "more" => table.lengthen(words)?,
-        "patch" => table.patch(words)?,
-        "replace" => table.replace(words)?,
-        "object" => objects::object(alloc, table, words)?,
-        "numbers" => large::numbers(alloc, table, words)?,
-        _ => return Ok(Some(ask(alloc, table, command, words)?)),
+    let mut text = Text::new(rt.alloc());
+    match run_words(rt, table, line, &mut text) {
+        Ok(false) => Ok(()),
+        Ok(true) => print!(rt; "$ {}\n{}", line.trim_ascii(), text.as_str()),
+        Err(mistake) => print!(rt; "$ {}\n{mistake:?}\n", line.trim_ascii()),
     }
-    Ok(None)
 }
 
-/// What a line answers that asks something.
-fn ask(alloc: Global, table: &mut Table, command: &str, words: &[&str]) -> Result<String, Mistake> {
+/// Runs the words of a line; whether it asks something.
+fn run_words(
+    rt: &HostRuntime,
+    table: &mut Table,
+    line: &str,
+    text: &mut Text,
+) -> Result<bool, Mistake> {
+    let words: Result<Vec<&str>, AllocError> = line.split_whitespace().collect(rt.alloc());
+    let asks = match words {
+        Ok(words) => run_line(rt, table, &words, text),
+        Err(AllocError) => Err(Mistake::Memory),
+    };
+    if text.is_whole() {
+        asks
+    } else {
+        Err(Mistake::Memory)
+    }
+}
+
+/// Runs a line that only names bytes, or asks; whether it asks something.
+fn run_line(
+    rt: &HostRuntime,
+    table: &mut Table,
+    words: &[&str],
+    text: &mut Text,
+) -> Result<bool, Mistake> {
+    let Some((command, words)) = words.split_first() else {
+        return Ok(false);
+    };
+    let named = match *command {
+        "file" => keep_file(rt, table, words),
+        "bytes" => table.define(words),
+        "more" => table.lengthen(words),
+        "patch" => table.patch(words),
+        "replace" => table.replace(words),
+        "object" => objects::object(rt.alloc(), table, words),
+        "numbers" => large::numbers(rt.alloc(), table, words),
+        command => {
+            return match ask(rt.alloc(), table, command, words, text) {
+                Ok(()) => Ok(true),
+                Err(mistake) => Err(mistake),
+            };
+        }
+    };
+    match named {
+        Ok(()) => Ok(false),
+        Err(mistake) => Err(mistake),
+    }
+}
+
+/// `file NAME`: the bytes of a file, under its name.
+fn keep_file(rt: &HostRuntime, table: &mut Table, words: &[&str]) -> Result<(), Mistake> {
+    let [name] = words else {
+        return Err(Mistake::Words);
+    };
+    match read(rt, name) {
+        Ok(bytes) => table.keep(name, bytes),
+        Err(_fault) => Err(Mistake::Name),
+    }
+}
+
+/// Adds to a text what a line answers that asks something.
+fn ask(
+    alloc: Global,
+    table: &mut Table,
+    command: &str,
+    words: &[&str],
+    text: &mut Text,
+) -> Result<(), Mistake> {
     match command {
-        "show" => table.show(words),
-        "same" => table.same(words),
-        "size" => table.size(words),
-        "pack" => packing::pack_named(alloc, table, words),
-        "groups" => packing::pack_grouped(alloc, table, words),
-        "builder" => building::build(alloc, table, words),
-        "text" => packing::text(alloc, table, words),
-        "unit" => reading::unit(alloc, table, words),
-        "units" => reading::units(alloc, table, words),
-        "damage" => cutting::damage(alloc, table, words),
-        "every_cut" => cutting::every_cut(alloc, table, words),
-        "many" => large::many(alloc, table, words),
+        "show" => table.show(words, text),
+        "same" => table.same(words, text),
+        "size" => table.size(words, text),
+        "pack" => packing::pack_named(alloc, table, words, text),
+        "groups" => packing::pack_grouped(alloc, table, words, text),
+        "builder" => building::build(alloc, table, words, text),
+        "text" => packing::text(alloc, table, words, text),
+        "unit" => reading::unit(table, words, text),
+        "units" => reading::units(table, words, text),
+        "damage" => cutting::damage(alloc, table, words, text),
+        "every_cut" => cutting::every_cut(alloc, table, words, text),
+        "many" => large::many(alloc, table, words, text),
+        "random" => random::random(alloc, table, words, text),
+        "random_counted" => random::random_counted(alloc, table, words, text),
         _ => Err(Mistake::Command),
     }
 }

@@ -1,6 +1,4 @@
-//! What is wrong with a line of a script.
-
-use std::alloc::{AllocError, AllocFailed};
+//! What is wrong with a line of a script, and what lines add to.
 
 /// Why a line of a script could not be run.
 #[derive(Debug, Drop)]
@@ -23,22 +21,26 @@ pub enum Mistake {
     Memory,
 }
 
-impl From<AllocError> for Mistake {
-    fn from(_e: AllocError) -> Mistake {
-        Mistake::Memory
-    }
-}
-
-impl<T: Drop> From<AllocFailed<T>> for Mistake {
-    fn from(_e: AllocFailed<T>) -> Mistake {
-        Mistake::Memory
-    }
-}
-
 /// The number that decimal digits write.
 pub fn number(word: &str) -> Result<usize, Mistake> {
     match word.parse::<usize>() {
         Ok(number) => Ok(number),
         Err(_fault) => Err(Mistake::Number),
+    }
+}
+
+/// Adds bytes behind others.
+pub fn extend(bytes: &mut Vec<u8>, more: &[u8]) -> Result<(), Mistake> {
+    match bytes.extend_from_slice(more) {
+        Ok(()) => Ok(()),
+        Err(_fault) => Err(Mistake::Memory),
+    }
+}
+
+/// Adds one to a list.
+pub fn push<T: Copy>(list: &mut Vec<T>, one: T) -> Result<(), Mistake> {
+    match list.push(one) {
+        Ok(()) => Ok(()),
+        Err(_fault) => Err(Mistake::Memory),
     }
 }

@@ -2,6 +2,7 @@
 
 use crate::mistake::{Mistake, number};
 use crate::table::Table;
+use crate::text::Text;
 use std::alloc::Global;
 use thorin::{Class, Endianness, SectionKind, WritableObject};
 
@@ -16,10 +17,14 @@ pub fn object(alloc: Global, table: &mut Table, words: &[&str]) -> Result<(), Mi
     };
     let (class, order) = (class_of(class)?, order_of(order)?);
     let mut file = WritableObject::new(alloc, class, machine, order);
-    let told = append_each(alloc, table, &mut file, sections);
-    let bytes = file.write();
-    told?;
-    match bytes {
+    match append_each(alloc, table, &mut file, sections) {
+        Ok(()) => keep(table, name, &file),
+        Err(mistake) => Err(mistake),
+    }
+}
+
+fn keep(table: &mut Table, name: &str, file: &WritableObject) -> Result<(), Mistake> {
+    match file.write() {
         Ok(bytes) => table.keep(name, bytes),
         Err(_fault) => Err(Mistake::Object),
     }
@@ -48,24 +53,38 @@ fn append_each(
     file: &mut WritableObject,
     sections: &[&str],
 ) -> Result<(), Mistake> {
-    for section in sections {
-        let Some((kind, word)) = section.split_once('=') else {
-            return Err(Mistake::Words);
-        };
-        let kind = kind_of(alloc, kind)?;
-        if file.append(kind, &table.joined(&[word])?).is_err() {
-            return Err(Mistake::Object);
-        }
+    for i in 0..sections.len() {
+        append(alloc, table, file, sections[i])?;
     }
     Ok(())
 }
 
+fn append(
+    alloc: Global,
+    table: &Table,
+    file: &mut WritableObject,
+    section: &str,
+) -> Result<(), Mistake> {
+    let Some((kind, word)) = section.split_once('=') else {
+        return Err(Mistake::Words);
+    };
+    let kind = kind_of(alloc, kind)?;
+    let bytes = table.joined(&[word])?;
+    match file.append(kind, &bytes) {
+        Ok(_grown) => Ok(()),
+        Err(_fault) => Err(Mistake::Object),
+    }
+}
+
 /// The kind of the section `.debug_NAME.dwo`, or of the index `.debug_NAME`.
 fn kind_of(alloc: Global, name: &str) -> Result<SectionKind, Mistake> {
-    let dwo = format!(in alloc; ".debug_{name}.dwo")?;
-    let index = format!(in alloc; ".debug_{name}")?;
-    match SectionKind::of_name(&dwo) {
+    let mut section = Text::new(alloc);
+    section.put(".debug_");
+    section.put(name);
+    let index = SectionKind::of_name(section.as_str());
+    section.put(".dwo");
+    match SectionKind::of_name(section.as_str()) {
         Some(kind) => Ok(kind),
-        None => SectionKind::of_name(&index).ok_or(Mistake::Words),
+        None => index.ok_or(Mistake::Words),
     }
 }

@@ -1,81 +1,105 @@
-//! Packing of a script's inputs, at once and in groups.
+//! Packing of a script's inputs, at once and in groups. Each call of packing is met here alone.
 
-use crate::mistake::Mistake;
+use crate::mistake::{Mistake, push};
 use crate::table::Table;
+use crate::text::Text;
 use std::alloc::Global;
 use thorin::{Bump, BytesSession, Error, Input, Packed, pack, pack_groups};
 
 /// What packing these inputs gives.
-pub fn packed(alloc: Global, inputs: &[Vec<u8>]) -> Result<Packed, Error> {
+pub fn packed(alloc: Global, inputs: &[&[u8]]) -> Result<Packed, Error> {
     let arena = Bump::new(alloc);
     let session = BytesSession::new(&arena);
     let mut list = Vec::new(alloc);
-    for input in inputs {
-        list.push(Input::Bytes(input.as_slice()))?;
+    match add_inputs(inputs, &mut list) {
+        Ok(()) => pack(alloc, &session, &list),
+        Err(_mistake) => Err(Error::Memory),
     }
-    pack(alloc, &session, &list)
 }
 
-/// What packing these groups gives.
-fn grouped<'s>(
-    alloc: Global,
-    session: &'s BytesSession<'s>,
-    groups: &[&[&'s [u8]]],
-) -> Result<Vec<u8>, Error> {
-    pack_groups(alloc, session, groups)
+fn add_inputs<'a>(inputs: &[&'a [u8]], list: &mut Vec<Input<'a>>) -> Result<(), Mistake> {
+    for i in 0..inputs.len() {
+        push(list, Input::Bytes(inputs[i]))?;
+    }
+    Ok(())
+}
+
+/// Its file.
+pub fn file_of(packed: Packed) -> Result<Vec<u8>, Error> {
+    packed.file
 }
 
 /// `pack FILE INPUT..`: what each input answers, the type units that differ, and the file, which is
 /// kept.
-pub fn pack_named(alloc: Global, table: &mut Table, words: &[&str]) -> Result<String, Mistake> {
-    let [file, inputs @ ..] = words else {
+pub fn pack_named(
+    alloc: Global,
+    table: &mut Table,
+    words: &[&str],
+    text: &mut Text,
+) -> Result<(), Mistake> {
+    let [file, names @ ..] = words else {
         return Err(Mistake::Words);
     };
-    let mut text = String::new(alloc);
-    let Ok(packed) = packed(alloc, &table.all(inputs)?) else {
-        return Err(Mistake::Memory);
+    let packed = {
+        let inputs = table.all(names)?;
+        packed(alloc, &inputs)
     };
-    for (place, outcome) in packed.outcomes.iter().enumerate() {
-        let name = inputs.get(place).copied().unwrap_or("?");
-        tell_answer(&mut text, name, outcome)?;
+    match packed {
+        Ok(packed) => {
+            tell_packed(names, &packed, text);
+            keep(table, file, file_of(packed), text)
+        }
+        Err(_fault) => Err(Mistake::Memory),
     }
-    for signature in &packed.differing {
-        writeln!(text, "{signature:?} differs")?;
+}
+
+fn tell_packed(names: &[&str], packed: &Packed, text: &mut Text) {
+    for i in 0..packed.outcomes.len() {
+        let name = names.get(i).copied().unwrap_or("?");
+        tell_answer(text, name, &packed.outcomes[i]);
     }
-    keep(table, file, packed.file, &mut text)?;
-    Ok(text)
+    for i in 0..packed.differing.len() {
+        text.debug(&packed.differing[i]);
+        text.put(" differs\n");
+    }
 }
 
 /// What packing one input answers of it.
 pub fn answer(alloc: Global, input: &[u8]) -> Result<(), Error> {
-    let arena = Bump::new(alloc);
-    let session = BytesSession::new(&arena);
-    let mut packed = pack(alloc, &session, &[Input::Bytes(input)])?;
+    match packed(alloc, &[input]) {
+        Ok(packed) => first_outcome(packed),
+        Err(fault) => Err(fault),
+    }
+}
+
+fn first_outcome(mut packed: Packed) -> Result<(), Error> {
     packed.outcomes.pop().unwrap_or(Err(Error::Memory))
 }
 
 /// `text INPUT`: the text of what packing one input answers of it.
-pub fn text(alloc: Global, table: &Table, words: &[&str]) -> Result<String, Mistake> {
+pub fn text(alloc: Global, table: &Table, words: &[&str], text: &mut Text) -> Result<(), Mistake> {
     let [input] = words else {
         return Err(Mistake::Words);
     };
     match answer(alloc, table.get(input)?) {
-        Ok(()) => Ok(String::from_str(alloc, "Ok\n")?),
-        Err(fault) => Ok(format!(in alloc; "{fault}\n")?),
+        Ok(()) => text.put("Ok"),
+        Err(fault) => text.display(&fault),
     }
+    text.put("\n");
+    Ok(())
 }
 
 /// Adds a line of an input with its answer to a text.
-pub fn tell_answer(
-    text: &mut String,
-    name: &str,
-    answer: &Result<(), Error>,
-) -> Result<(), Mistake> {
+pub fn tell_answer(text: &mut Text, name: &str, answer: &Result<(), Error>) {
+    text.put(name);
     match answer {
-        Ok(()) => writeln!(text, "{name}: Ok")?,
-        Err(fault) => writeln!(text, "{name}: {fault:?}")?,
+        Ok(()) => text.put(": Ok\n"),
+        Err(fault) => {
+            text.put(": ");
+            text.debug(fault);
+            text.put("\n");
+        }
     }
-    Ok(())
 }
 
 /// Keeps a file under a name, and adds a line of its length or its fault to a text.
@@ -83,71 +107,129 @@ pub fn keep(
     table: &mut Table,
     name: &str,
     file: Result<Vec<u8>, Error>,
-    text: &mut String,
+    text: &mut Text,
 ) -> Result<(), Mistake> {
+    text.put(name);
+    text.put(": ");
     match file {
         Ok(bytes) => {
-            let length = bytes.len();
-            writeln!(text, "{name}: {length} bytes")?;
+            text.number(bytes.len() as u64);
+            text.put(" bytes\n");
             table.keep(name, bytes)
         }
         Err(fault) => {
-            writeln!(text, "{name}: {fault:?}")?;
+            text.debug(&fault);
+            text.put("\n");
             Ok(())
         }
     }
 }
 
+/// Inputs, and the place of each group's first one.
+#[derive(Drop)]
+pub struct Groups<'a> {
+    inputs: Vec<&'a [u8]>,
+    starts: Vec<usize>,
+}
+
+impl<'a> Groups<'a> {
+    pub fn new(alloc: Global) -> Groups<'a> {
+        Groups {
+            inputs: Vec::new(alloc),
+            starts: Vec::new(alloc),
+        }
+    }
+
+    /// Begins a further group.
+    pub fn begin(&mut self) -> Result<(), Mistake> {
+        push(&mut self.starts, self.inputs.len())
+    }
+
+    /// Adds an input to the last group.
+    pub fn add(&mut self, input: &'a [u8]) -> Result<(), Mistake> {
+        push(&mut self.inputs, input)
+    }
+
+    /// Adds the inputs of a word: the first of a group begins with `[`, the last ends with `]`.
+    fn add_word(&mut self, table: &'a Table, word: &str) -> Result<(), Mistake> {
+        let word = match word.strip_prefix("[") {
+            Some(word) => {
+                self.begin()?;
+                word
+            }
+            None => word,
+        };
+        let word = word.strip_suffix("]").unwrap_or(word);
+        if word.is_empty() || self.starts.is_empty() {
+            return Ok(());
+        }
+        self.add(table.get(word)?)
+    }
+
+    fn add_words(&mut self, table: &'a Table, words: &[&str]) -> Result<(), Mistake> {
+        for i in 0..words.len() {
+            self.add_word(table, words[i])?;
+        }
+        Ok(())
+    }
+
+    /// The inputs of a group.
+    fn group(&self, number: usize) -> &[&'a [u8]] {
+        let inputs = self.inputs.as_slice();
+        let start = self.start(number);
+        let end = self.start(number.saturating_add(1));
+        let end = if end < inputs.len() {
+            end
+        } else {
+            inputs.len()
+        };
+        let start = if start < end { start } else { end };
+        &inputs[start..end]
+    }
+
+    /// Where a group begins; behind the last one, where the inputs end.
+    fn start(&self, number: usize) -> usize {
+        self.starts
+            .get(number)
+            .copied()
+            .unwrap_or(self.inputs.len())
+    }
+
+    fn list<'g>(&'g self, list: &mut Vec<&'g [&'a [u8]]>) -> Result<(), Mistake> {
+        for i in 0..self.starts.len() {
+            push(list, self.group(i))?;
+        }
+        Ok(())
+    }
+}
+
 /// `groups FILE [INPUT..] [INPUT..] ..`: the package of the packages of these groups.
-pub fn pack_grouped(alloc: Global, table: &mut Table, words: &[&str]) -> Result<String, Mistake> {
+pub fn pack_grouped(
+    alloc: Global,
+    table: &mut Table,
+    words: &[&str],
+    text: &mut Text,
+) -> Result<(), Mistake> {
     let Some((file, words)) = words.split_first() else {
         return Err(Mistake::Words);
     };
-    let mut text = String::new(alloc);
-    let bytes = grouped_inputs(alloc, &groups_of(alloc, table, words)?)?;
-    keep(table, file, bytes, &mut text)?;
-    Ok(text)
+    let bytes = {
+        let mut groups = Groups::new(alloc);
+        match groups.add_words(table, words) {
+            Ok(()) => grouped(alloc, &groups),
+            Err(mistake) => return Err(mistake),
+        }
+    };
+    keep(table, file, bytes, text)
 }
 
 /// What packing these groups of inputs gives.
-pub fn grouped_inputs(
-    alloc: Global,
-    groups: &[Vec<Vec<u8>>],
-) -> Result<Result<Vec<u8>, Error>, Mistake> {
-    let mut inputs: Vec<Vec<&[u8]>> = Vec::new(alloc);
-    for group in groups {
-        let mut slices: Vec<&[u8]> = Vec::new(alloc);
-        for input in group {
-            slices.push(input.as_slice())?;
-        }
-        inputs.push(slices)?;
-    }
-    let mut slices: Vec<&[&[u8]]> = Vec::new(alloc);
-    for group in &inputs {
-        slices.push(group.as_slice())?;
-    }
+pub fn grouped(alloc: Global, groups: &Groups<'_>) -> Result<Vec<u8>, Error> {
     let arena = Bump::new(alloc);
     let session = BytesSession::new(&arena);
-    Ok(grouped(alloc, &session, slices.as_slice()))
-}
-
-/// The groups of these words, of which the first begins with `[` and the last ends with `]`.
-fn groups_of(alloc: Global, table: &Table, words: &[&str]) -> Result<Vec<Vec<Vec<u8>>>, Mistake> {
-    let mut groups = Vec::new(alloc);
-    for word in words {
-        let word = match word.strip_prefix("[") {
-            Some(word) => {
-                groups.push(Vec::new(alloc))?;
-                word
-            }
-            None => *word,
-        };
-        let word = word.strip_suffix("]").unwrap_or(word);
-        if let Some(group) = groups.last_mut() {
-            if !word.is_empty() {
-                group.push(table.get(word)?.to_vec(alloc)?)?;
-            }
-        }
+    let mut list = Vec::new(alloc);
+    match groups.list(&mut list) {
+        Ok(()) => pack_groups(alloc, &session, &list),
+        Err(_mistake) => Err(Error::Memory),
     }
-    Ok(groups)
 }

@@ -1,8 +1,8 @@
 //! What the reader of packages says of a file.
 
 use crate::mistake::{Mistake, number};
-use crate::table::{Table, tell_bytes};
-use std::alloc::Global;
+use crate::table::Table;
+use crate::text::Text;
 use thorin::{
     DebugTypeSignature, DwarfObject, DwoId, PackageError, PackageFile, PackagedUnit, SectionKind,
 };
@@ -18,12 +18,17 @@ fn named(kind: &str, id: &str) -> Result<DwarfObject, Mistake> {
 }
 
 /// Adds a unit's name to a text.
-pub fn tell_name(text: &mut String, unit: DwarfObject) -> Result<(), Mistake> {
+pub fn tell_name(text: &mut Text, unit: DwarfObject) {
     match unit {
-        DwarfObject::Compilation(id) => write!(text, " cu {}", id.0)?,
-        DwarfObject::TypeUnit(signature) => write!(text, " tu {}", signature.0)?,
+        DwarfObject::Compilation(id) => {
+            text.put(" cu ");
+            text.number(id.0);
+        }
+        DwarfObject::TypeUnit(signature) => {
+            text.put(" tu ");
+            text.number(signature.0);
+        }
     }
-    Ok(())
 }
 
 /// The unit of a file that has this name, and how many slots were looked at.
@@ -31,12 +36,15 @@ pub fn found<'a>(
     file: &'a [u8],
     name: DwarfObject,
 ) -> Result<(Option<PackagedUnit<'a>>, u32), PackageError> {
-    PackageFile::parse(file)?.find_counted(name)
+    match PackageFile::parse(file) {
+        Ok(package) => package.find_counted(name),
+        Err(fault) => Err(fault),
+    }
 }
 
 /// `unit FILE KIND ID [FIRST]`: all that the file says of a unit, with its strings from a number
 /// on, or that it is absent, or the fault.
-pub fn unit(alloc: Global, table: &Table, words: &[&str]) -> Result<String, Mistake> {
+pub fn unit(table: &Table, words: &[&str], text: &mut Text) -> Result<(), Mistake> {
     let [file, kind, id, rest @ ..] = words else {
         return Err(Mistake::Words);
     };
@@ -44,93 +52,129 @@ pub fn unit(alloc: Global, table: &Table, words: &[&str]) -> Result<String, Mist
         [first, ..] => number(first)? as u64,
         [] => 0,
     };
-    let mut text = String::new(alloc);
-    match found(table.get(file)?, named(kind, id)?) {
-        Err(fault) => writeln!(text, "{fault:?}")?,
-        Ok(answer) => {
-            let (unit, slots) = answer;
-            match unit {
-                None => writeln!(text, "absent, slots {slots}")?,
-                Some(unit) => {
-                    tell_head(&mut text, &unit, slots)?;
-                    tell_ranges(&mut text, &unit)?;
-                    tell_strings(&mut text, &unit, first)?;
-                }
-            }
-        }
-    }
-    Ok(text)
+    tell_unit(table.get(file)?, named(kind, id)?, first, text);
+    Ok(())
 }
 
-fn tell_head(text: &mut String, unit: &PackagedUnit<'_>, slots: u32) -> Result<(), Mistake> {
+fn tell_unit(file: &[u8], name: DwarfObject, first: u64, text: &mut Text) {
+    match found(file, name) {
+        Err(fault) => {
+            text.debug(&fault);
+            text.put("\n");
+        }
+        Ok(answer) => {
+            let (unit, slots) = answer;
+            tell_found(unit, slots, first, text);
+        }
+    }
+}
+
+fn tell_found(unit: Option<PackagedUnit<'_>>, slots: u32, first: u64, text: &mut Text) {
+    match unit {
+        None => {
+            text.put("absent, slots ");
+            text.number(slots as u64);
+            text.put("\n");
+        }
+        Some(unit) => {
+            tell_head(text, &unit, slots);
+            tell_ranges(text, &unit);
+            tell_strings(text, &unit, first);
+        }
+    }
+}
+
+fn tell_head(text: &mut Text, unit: &PackagedUnit<'_>, slots: u32) {
     let encoding = unit.encoding();
-    let version = encoding.version;
-    let address = encoding.address_size;
-    let row = unit.row();
-    write!(
-        text,
-        "version {version} {:?} address {address}",
-        encoding.format
-    )?;
-    write!(text, " row {row} slots {slots}\nunit ")?;
-    tell_bytes(text, unit.bytes())?;
-    writeln!(text)?;
-    Ok(())
+    text.put("version ");
+    text.number(encoding.version as u64);
+    text.put(" ");
+    text.debug(&encoding.format);
+    text.put(" address ");
+    text.number(encoding.address_size as u64);
+    text.put(" row ");
+    text.number(unit.row() as u64);
+    text.put(" slots ");
+    text.number(slots as u64);
+    text.put("\nunit ");
+    text.bytes(unit.bytes());
+    text.put("\n");
 }
 
 /// Each contribution: its place, its size and its bytes, of many bytes the first 64.
-fn tell_ranges(text: &mut String, unit: &PackagedUnit<'_>) -> Result<(), Mistake> {
+fn tell_ranges(text: &mut Text, unit: &PackagedUnit<'_>) {
     for kind in SectionKind::ALL {
         if let Some(range) = unit.range(kind) {
-            write!(text, "{kind:?} {:#x} {:#x} ", range.offset.0, range.size)?;
-            let bytes = unit.section(kind);
-            match bytes.get(..64) {
-                Some(front) => {
-                    tell_bytes(text, front)?;
-                    writeln!(text, "..")?;
-                }
-                None => {
-                    tell_bytes(text, bytes)?;
-                    writeln!(text)?;
-                }
-            }
+            text.debug(&kind);
+            text.put(" ");
+            text.hexadecimal(range.offset.0);
+            text.put(" ");
+            text.hexadecimal(range.size);
+            text.put(" ");
+            tell_front(text, unit.section(kind));
         }
     }
-    Ok(())
+}
+
+fn tell_front(text: &mut Text, bytes: &[u8]) {
+    match bytes.get(..64) {
+        Some(front) => {
+            text.bytes(front);
+            text.put("..\n");
+        }
+        None => {
+            text.bytes(bytes);
+            text.put("\n");
+        }
+    }
 }
 
 /// Strings from a number on, up to the one that isn't there, or eight.
-fn tell_strings(text: &mut String, unit: &PackagedUnit<'_>, first: u64) -> Result<(), Mistake> {
-    write!(text, "strings")?;
+fn tell_strings(text: &mut Text, unit: &PackagedUnit<'_>, first: u64) {
+    text.put("strings");
     for i in first..first.saturating_add(8) {
         match unit.string(i) {
-            Ok(Some(string)) => write!(text, " \"{}\"", string.escape_ascii())?,
-            Ok(None) => {
-                writeln!(text, " none")?;
-                return Ok(());
+            Ok(Some(string)) => {
+                text.put(" \"");
+                text.display(&string.escape_ascii());
+                text.put("\"");
             }
-            Err(fault) => write!(text, " {fault:?}")?,
+            Ok(None) => {
+                text.put(" none\n");
+                return;
+            }
+            Err(fault) => {
+                text.put(" ");
+                text.debug(&fault);
+            }
         }
     }
-    writeln!(text, " ..")?;
-    Ok(())
+    text.put(" ..\n");
 }
 
 /// `units FILE`: the units that the slots of both indexes name.
-pub fn units(alloc: Global, table: &Table, words: &[&str]) -> Result<String, Mistake> {
+pub fn units(table: &Table, words: &[&str], text: &mut Text) -> Result<(), Mistake> {
     let [file] = words else {
         return Err(Mistake::Words);
     };
-    let mut text = String::new(alloc);
-    match PackageFile::parse(table.get(file)?) {
-        Err(fault) => write!(text, " {fault:?}")?,
+    tell_units(table.get(file)?, text);
+    Ok(())
+}
+
+fn tell_units(file: &[u8], text: &mut Text) {
+    match PackageFile::parse(file) {
+        Err(fault) => {
+            text.put(" ");
+            text.debug(&fault);
+        }
         Ok(package) => {
             for entry in package.units() {
-                tell_name(&mut text, entry.object)?;
-                write!(text, " row {},", entry.row)?;
+                tell_name(text, entry.object);
+                text.put(" row ");
+                text.number(entry.row as u64);
+                text.put(",");
             }
         }
     }
-    writeln!(text)?;
-    Ok(text)
+    text.put("\n");
 }

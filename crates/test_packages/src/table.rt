@@ -3,7 +3,8 @@
 //! A word is hexadecimal digits, a text between quotation marks, a name, or a part of what a name
 //! has, `name[from..to]` with places in decimal; with `*count` behind it stands so often.
 
-use crate::mistake::{Mistake, number};
+use crate::mistake::{Mistake, extend, number, push};
+use crate::text::Text;
 use std::alloc::Global;
 
 /// Bytes with their name.
@@ -36,64 +37,91 @@ impl Table {
 
     /// Gives bytes a name, which may have had others.
     pub fn keep(&mut self, name: &str, bytes: Vec<u8>) -> Result<(), Mistake> {
-        let name = String::from_str(self.alloc, name)?;
-        Ok(self.all.push(Named { name, bytes })?)
+        match String::from_str(self.alloc, name) {
+            Ok(name) => self.push(Named { name, bytes }),
+            Err(_fault) => Err(Mistake::Memory),
+        }
+    }
+
+    fn push(&mut self, named: Named) -> Result<(), Mistake> {
+        match self.all.push(named) {
+            Ok(()) => Ok(()),
+            Err(_fault) => Err(Mistake::Memory),
+        }
     }
 
     /// The bytes of a name, or the part of them that the word says.
     pub fn get(&self, word: &str) -> Result<&[u8], Mistake> {
-        let Some((name, places)) = word.split_once('[') else {
-            return self.named(word);
-        };
-        let Some((from, to)) = places.split_once("..") else {
-            return Err(Mistake::Number);
-        };
-        let to = to.strip_suffix("]").unwrap_or(to);
-        let bytes = self.named(name)?;
-        bytes.get(number(from)?..number(to)?).ok_or(Mistake::Place)
+        match word.split_once('[') {
+            Some((name, places)) => part_of(self.named(name)?, places),
+            None => self.named(word),
+        }
     }
 
     /// The bytes that a name has got last.
     fn named(&self, name: &str) -> Result<&[u8], Mistake> {
-        for named in self.all.iter().rev() {
-            if named.name.as_str() == name {
-                return Ok(named.bytes.as_slice());
+        let mut found: Option<&[u8]> = None;
+        for i in 0..self.all.len() {
+            if self.all[i].name.as_str() == name {
+                found = Some(self.all[i].bytes.as_slice());
             }
         }
-        Err(Mistake::Name)
+        found.ok_or(Mistake::Name)
     }
 
-    /// Copies of what each of these words has.
-    pub fn all(&self, words: &[&str]) -> Result<Vec<Vec<u8>>, Mistake> {
+    /// What each of these words has.
+    pub fn all<'t>(&'t self, words: &[&str]) -> Result<Vec<&'t [u8]>, Mistake> {
         let mut all = Vec::new(self.alloc);
-        for word in words {
-            all.push(self.get(word)?.to_vec(self.alloc)?)?;
+        match self.add_all(words, &mut all) {
+            Ok(()) => Ok(all),
+            Err(mistake) => Err(mistake),
         }
-        Ok(all)
+    }
+
+    fn add_all<'t>(&'t self, words: &[&str], all: &mut Vec<&'t [u8]>) -> Result<(), Mistake> {
+        for i in 0..words.len() {
+            push(all, self.get(words[i])?)?;
+        }
+        Ok(())
     }
 
     /// The bytes that words write, joined.
     pub fn joined(&self, words: &[&str]) -> Result<Vec<u8>, Mistake> {
         let mut bytes = Vec::new(self.alloc);
-        for word in words {
-            let (word, count) = match word.split_once('*') {
-                Some((word, count)) => (word, number(count)?),
-                None => (*word, 1),
-            };
-            for _ in 0..count {
-                self.put(word, &mut bytes)?;
-            }
+        match self.put_all(words, &mut bytes) {
+            Ok(()) => Ok(bytes),
+            Err(mistake) => Err(mistake),
         }
-        Ok(bytes)
+    }
+
+    fn put_all(&self, words: &[&str], bytes: &mut Vec<u8>) -> Result<(), Mistake> {
+        for i in 0..words.len() {
+            self.put_often(words[i], bytes)?;
+        }
+        Ok(())
+    }
+
+    fn put_often(&self, word: &str, bytes: &mut Vec<u8>) -> Result<(), Mistake> {
+        match word.split_once('*') {
+            Some((word, count)) => self.put_times(word, number(count)?, bytes),
+            None => self.put(word, bytes),
+        }
+    }
+
+    fn put_times(&self, word: &str, count: usize, bytes: &mut Vec<u8>) -> Result<(), Mistake> {
+        for _ in 0..count {
+            self.put(word, bytes)?;
+        }
+        Ok(())
     }
 
     fn put(&self, word: &str, bytes: &mut Vec<u8>) -> Result<(), Mistake> {
         if let Some(text) = word.strip_prefix("\"") {
             let text = text.strip_suffix("\"").unwrap_or(text);
-            return Ok(bytes.extend_from_slice(text.as_bytes())?);
+            return extend(bytes, text.as_bytes());
         }
         match self.get(word) {
-            Ok(named) => Ok(bytes.extend_from_slice(named)?),
+            Ok(named) => extend(bytes, named),
             Err(Mistake::Name) => put_digits(word, bytes),
             Err(mistake) => Err(mistake),
         }
@@ -113,8 +141,8 @@ impl Table {
         let [name, "=", words @ ..] = words else {
             return Err(Mistake::Words);
         };
-        let mut bytes = self.get(name)?.to_vec(self.alloc)?;
-        bytes.extend_from_slice(&self.joined(words)?)?;
+        let more = self.joined(words)?;
+        let bytes = joined(self.alloc, &[self.get(name)?, &more])?;
         self.keep(name, bytes)
     }
 
@@ -123,9 +151,16 @@ impl Table {
         let [name, from, place, words @ ..] = words else {
             return Err(Mistake::Words);
         };
-        let bytes = self.joined(words)?;
-        let bytes = patched(self.alloc, self.get(from)?, number(place)?, &bytes)?;
+        let bytes = self.damaged(from, place, words)?;
         self.keep(name, bytes)
+    }
+
+    /// The bytes of a name, with those that words write from a place on.
+    pub fn damaged(&self, from: &str, place: &str, words: &[&str]) -> Result<Vec<u8>, Mistake> {
+        let from = self.get(from)?;
+        let place = number(place)?;
+        let new = self.joined(words)?;
+        patched(self.alloc, from, place, &new)
     }
 
     /// `replace NAME FROM OLD NEW`: the bytes of FROM, in which the first place of OLD has NEW,
@@ -135,8 +170,7 @@ impl Table {
             return Err(Mistake::Words);
         };
         let bytes = self.get(from)?;
-        let old = self.get(old)?;
-        let Some(place) = place_of(bytes, old) else {
+        let Some(place) = place_of(bytes, self.get(old)?) else {
             return Err(Mistake::Place);
         };
         let bytes = patched(self.alloc, bytes, place, self.get(new)?)?;
@@ -144,28 +178,55 @@ impl Table {
     }
 
     /// `show WORD..`: bytes in hexadecimal.
-    pub fn show(&self, words: &[&str]) -> Result<String, Mistake> {
+    pub fn show(&self, words: &[&str], text: &mut Text) -> Result<(), Mistake> {
         let bytes = self.joined(words)?;
-        let mut text = String::new(self.alloc);
-        tell_bytes(&mut text, &bytes)?;
-        text.push_str("\n")?;
-        Ok(text)
+        text.bytes(&bytes);
+        text.put("\n");
+        Ok(())
     }
 
     /// `size WORD..`: how many bytes there are.
-    pub fn size(&self, words: &[&str]) -> Result<String, Mistake> {
-        let size = self.joined(words)?.len();
-        Ok(format!(in self.alloc; "{size}\n")?)
+    pub fn size(&self, words: &[&str], text: &mut Text) -> Result<(), Mistake> {
+        let bytes = self.joined(words)?;
+        text.number(bytes.len() as u64);
+        text.put("\n");
+        Ok(())
     }
 
     /// `same NAME NAME`: whether both have the same bytes.
-    pub fn same(&self, words: &[&str]) -> Result<String, Mistake> {
+    pub fn same(&self, words: &[&str], text: &mut Text) -> Result<(), Mistake> {
         let [one, other] = words else {
             return Err(Mistake::Words);
         };
         let is_same = self.get(one)? == self.get(other)?;
-        Ok(format!(in self.alloc; "{is_same}\n")?)
+        text.put(if is_same { "true\n" } else { "false\n" });
+        Ok(())
     }
+}
+
+/// The part of bytes between two places, as `from..to]`.
+fn part_of<'a>(bytes: &'a [u8], places: &str) -> Result<&'a [u8], Mistake> {
+    let Some((from, to)) = places.split_once("..") else {
+        return Err(Mistake::Number);
+    };
+    let to = to.strip_suffix("]").unwrap_or(to);
+    bytes.get(number(from)?..number(to)?).ok_or(Mistake::Place)
+}
+
+/// These bytes joined.
+pub fn joined(alloc: Global, parts: &[&[u8]]) -> Result<Vec<u8>, Mistake> {
+    let mut bytes = Vec::new(alloc);
+    match put_parts(parts, &mut bytes) {
+        Ok(()) => Ok(bytes),
+        Err(mistake) => Err(mistake),
+    }
+}
+
+fn put_parts(parts: &[&[u8]], bytes: &mut Vec<u8>) -> Result<(), Mistake> {
+    for i in 0..parts.len() {
+        extend(bytes, parts[i])?;
+    }
+    Ok(())
 }
 
 /// Bytes with others from a place on, which are there.
@@ -174,40 +235,37 @@ pub fn patched(alloc: Global, bytes: &[u8], place: usize, new: &[u8]) -> Result<
     if behind > bytes.len() {
         return Err(Mistake::Place);
     }
-    let mut patched = part(bytes, 0, place).to_vec(alloc)?;
-    patched.extend_from_slice(new)?;
-    patched.extend_from_slice(part(bytes, behind, bytes.len()))?;
-    Ok(patched)
+    let parts = [part(bytes, 0, place), new, part(bytes, behind, bytes.len())];
+    joined(alloc, &parts)
 }
 
 /// The first place of these bytes.
 fn place_of(bytes: &[u8], sought: &[u8]) -> Option<usize> {
-    (0..bytes.len()).find(|place| part(bytes, *place, place.saturating_add(sought.len())) == sought)
+    for place in 0..bytes.len() {
+        if part(bytes, place, place.saturating_add(sought.len())) == sought {
+            return Some(place);
+        }
+    }
+    None
 }
 
 /// Adds the bytes that hexadecimal digits write.
 fn put_digits(word: &str, bytes: &mut Vec<u8>) -> Result<(), Mistake> {
-    let mut high = None;
-    for byte in word.as_bytes() {
-        let Some(digit) = digit(*byte) else {
-            return Err(Mistake::Bytes);
-        };
-        match high {
-            None => high = Some(digit),
-            Some(first) => {
-                bytes.push(digit.wrapping_add(digit_high(first)))?;
-                high = None;
-            }
-        }
+    let digits = word.as_bytes();
+    if digits.len() % 2 != 0 {
+        return Err(Mistake::Bytes);
     }
-    match high {
-        None => Ok(()),
-        Some(_) => Err(Mistake::Bytes),
+    for i in 0..digits.len() / 2 {
+        put_byte(digits[2 * i], digits[2 * i + 1], bytes)?;
     }
+    Ok(())
 }
 
-fn digit_high(digit: u8) -> u8 {
-    digit.wrapping_mul(16)
+fn put_byte(high: u8, low: u8, bytes: &mut Vec<u8>) -> Result<(), Mistake> {
+    match (digit(high), digit(low)) {
+        (Some(high), Some(low)) => push(bytes, high.wrapping_mul(16).wrapping_add(low)),
+        _ => Err(Mistake::Bytes),
+    }
 }
 
 fn digit(byte: u8) -> Option<u8> {
@@ -216,12 +274,4 @@ fn digit(byte: u8) -> Option<u8> {
         b'a'..=b'f' => Some(byte - b'a' + 10),
         _ => None,
     }
-}
-
-/// Adds bytes in hexadecimal to a text.
-pub fn tell_bytes(text: &mut String, bytes: &[u8]) -> Result<(), Mistake> {
-    for byte in bytes {
-        write!(text, "{byte:02x}")?;
-    }
-    Ok(())
 }

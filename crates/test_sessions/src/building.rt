@@ -100,8 +100,10 @@ pub fn packed(alloc: Global, objects: &[&[u8]]) -> Result<Packed, Error> {
     let files = BTreeMap::new(alloc);
     let session = MemorySession::new(&bump, &files);
     let mut inputs = Vec::new(alloc);
-    for bytes in objects {
-        inputs.push(Input::Bytes(bytes))?;
+    for i in 0..objects.len() {
+        if inputs.push(Input::Bytes(objects[i])).is_err() {
+            return Err(Error::Memory);
+        }
     }
     packed_by(alloc, &session, &inputs)
 }
@@ -125,10 +127,9 @@ pub fn whole(alloc: Global, objects: &[&[u8]]) -> Option<Vec<u8>> {
 
 /// Its file, where each input was accepted.
 pub fn file_of(packed: Packed) -> Option<Vec<u8>> {
-    for outcome in &packed.outcomes {
-        if outcome.is_err() {
-            return None;
-        }
+    let mut all = true;
+    for i in 0..packed.outcomes.len() {
+        all = all && packed.outcomes[i].is_ok();
     }
-    packed.file.ok()
+    if all { packed.file.ok() } else { None }
 }

@@ -1,5 +1,6 @@
 //! Tests that cross the crates of `thorin`: executables as inputs, reads that fail, and memory that
-//! is refused.
+//! is refused, while packing and in the calls of the lower crates. Those of refused memory pass
+//! whichever allocation is refused, and `bench/refuse_allocations.py` refuses each in turn.
 #![tactic(auto)]
 
 #[cfg(test)]
@@ -8,6 +9,8 @@ mod asserting;
 mod building;
 #[cfg(test)]
 mod counting;
+#[cfg(test)]
+mod lower;
 #[cfg(test)]
 mod objects;
 #[cfg(test)]

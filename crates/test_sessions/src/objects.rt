@@ -31,11 +31,24 @@ const LONGER_TYPE_UNIT: [u8; 24] = [
 /// want of memory.
 fn object(alloc: Global, sections: &[(SectionKind, &[u8])]) -> Result<Vec<u8>, AllocError> {
     let mut object = WritableObject::new(alloc, Class::Elf64, 62, Endianness::Little);
-    for section in sections {
-        if object.append(section.0, section.1).is_err() {
-            return Err(AllocError);
+    if append_each(&mut object, sections) {
+        written(&object)
+    } else {
+        Err(AllocError)
+    }
+}
+
+/// Appends sections; whether none was refused.
+fn append_each(object: &mut WritableObject, sections: &[(SectionKind, &[u8])]) -> bool {
+    for i in 0..sections.len() {
+        if object.append(sections[i].0, sections[i].1).is_err() {
+            return false;
         }
     }
+    true
+}
+
+fn written(object: &WritableObject) -> Result<Vec<u8>, AllocError> {
     match object.write() {
         Ok(file) => Ok(file),
         Err(_) => Err(AllocError),
@@ -66,6 +79,14 @@ pub fn object_of(alloc: Global, kind: Kind, id: u8) -> Result<Vec<u8>, AllocErro
         Kind::Strings => object(alloc, &[info, abbreviations, strings, offsets]),
         Kind::Types => object(alloc, &[info, types, abbreviations]),
         Kind::LongerTypes => object(alloc, &[info, longer, abbreviations]),
+    }
+}
+
+/// The same, by a second try where the first was refused.
+pub fn sure(alloc: Global, kind: Kind, id: u8) -> Vec<u8> {
+    match object_of(alloc, kind, id) {
+        Ok(file) => file,
+        Err(_) => object_of(alloc, kind, id).unwrap_or(Vec::new(alloc)),
     }
 }
 
@@ -193,10 +214,17 @@ pub fn part(bytes: &[u8], place: usize, length: usize) -> &[u8] {
 /// These bytes joined.
 fn joined(alloc: Global, parts: &[&[u8]]) -> Result<Vec<u8>, AllocError> {
     let mut bytes = Vec::new(alloc);
-    for part in parts {
-        bytes.extend_from_slice(part)?;
+    match put_parts(&mut bytes, parts) {
+        Ok(()) => Ok(bytes),
+        Err(fault) => Err(fault),
     }
-    Ok(bytes)
+}
+
+fn put_parts(bytes: &mut Vec<u8>, parts: &[&[u8]]) -> Result<(), AllocError> {
+    for i in 0..parts.len() {
+        bytes.extend_from_slice(parts[i])?;
+    }
+    Ok(())
 }
 
 /// Puts a file at a path.
@@ -206,13 +234,23 @@ pub fn put_file(
     path: &str,
     bytes: Vec<u8>,
 ) -> Result<(), AllocError> {
-    let path = String::from_str(alloc, path)?;
-    files.insert(path, bytes)?;
-    Ok(())
+    match String::from_str(alloc, path) {
+        Ok(path) => insert(files, path, bytes),
+        Err(fault) => Err(fault),
+    }
+}
+
+fn insert(files: &mut Files, path: String, bytes: Vec<u8>) -> Result<(), AllocError> {
+    match files.insert(path, bytes) {
+        Ok(_) => Ok(()),
+        Err(_) => Err(AllocError),
+    }
 }
 
 /// Puts the object of a unit at a path.
 pub fn put_object(alloc: Global, files: &mut Files, path: &str, id: u8) -> Result<(), AllocError> {
-    let bytes = object_of(alloc, Kind::Plain, id)?;
-    put_file(alloc, files, path, bytes)
+    match object_of(alloc, Kind::Plain, id) {
+        Ok(bytes) => put_file(alloc, files, path, bytes),
+        Err(fault) => Err(fault),
+    }
 }

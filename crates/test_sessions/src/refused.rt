@@ -4,7 +4,7 @@
 use crate::asserting::{holds, same};
 use crate::building::{add, add_named, finished, has, name_of, packed, unit_count, whole, written};
 use crate::objects::{
-    Files, Kind, Naming, TYPE_UNIT, executable, object_of, part, put_file, put_object, unit,
+    Files, Kind, Naming, TYPE_UNIT, executable, part, put_file, put_object, sure, unit,
 };
 use bumpalo::Bump;
 use dwp_elf::{WritableObject, WriteError};
@@ -22,14 +22,6 @@ fn cu(id: u64) -> DwarfObject {
 }
 
 const TU: DwarfObject = DwarfObject::TypeUnit(DebugTypeSignature(0x11));
-
-// An object, by a second try where the first was refused.
-fn sure(alloc: Global, kind: Kind, id: u8) -> Vec<u8> {
-    match object_of(alloc, kind, id) {
-        Ok(file) => file,
-        Err(_) => object_of(alloc, kind, id).unwrap_or(Vec::new(alloc)),
-    }
-}
 
 // The file of objects, by a second try where the first was refused.
 fn sure_whole(alloc: Global, objects: &[&[u8]]) -> Option<Vec<u8>> {
@@ -233,14 +225,15 @@ fn a_refused_allocation_leaves_the_differing_types(rt: HostRuntime) {
 // The executable that names the object of the unit 5, and that object.
 fn named_files(alloc: Global) -> Result<Files, AllocError> {
     let mut files = BTreeMap::new(alloc);
-    put_file(
-        alloc,
-        &mut files,
-        "/e",
-        executable(alloc, Naming::Whole(5))?,
-    )?;
-    put_object(alloc, &mut files, "/b/a.dwo", 5)?;
-    Ok(files)
+    match put_named(alloc, &mut files) {
+        Ok(()) => Ok(files),
+        Err(fault) => Err(fault),
+    }
+}
+
+fn put_named(alloc: Global, files: &mut Files) -> Result<(), AllocError> {
+    put_file(alloc, files, "/e", executable(alloc, Naming::Whole(5))?)?;
+    put_object(alloc, files, "/b/a.dwo", 5)
 }
 
 fn sure_files(alloc: Global) -> Files {

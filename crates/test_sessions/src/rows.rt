@@ -5,11 +5,11 @@
 use crate::asserting::same;
 use crate::building::name_of;
 use crate::counting::{CountingSession, Refusal};
-use crate::objects::{Files, Kind, Naming, object_of};
+use crate::objects::{Files, Kind, Naming, sure};
 use crate::running::{Objects, Step, is_made_of, told};
 use bumpalo::Bump;
 use dwp_table::{DwarfObject, DwoId};
-use std::alloc::{AllocError, Global};
+use std::alloc::Global;
 use std::collections::BTreeMap;
 use std::process::Abort;
 use thorin::pack_groups;
@@ -21,29 +21,19 @@ const STOP: Step = Step::Named(MissingReferencedObjectBehaviour::Error);
 
 /// Asserts what the executable of the units 1 to 3 gives: which call is refused, by what number;
 /// the inputs; and what is told.
-fn hold_of_three(
-    rt: &impl Abort,
-    alloc: Global,
-    rows: &[(Refusal, &[Step], &str)],
-) -> Result<(), AllocError> {
+fn hold_of_three(rt: &impl Abort, alloc: Global, rows: &[(Refusal, &[Step], &str)]) {
     for row in rows {
-        let told = told(alloc, Naming::Three, Objects::Four, row.0, row.1)?;
+        let told = told(alloc, Naming::Three, Objects::Four, row.0, row.1);
         same(rt, told.as_str(), row.2);
     }
-    Ok(())
 }
 
 /// The same of an executable, the objects that there are, and the inputs.
-fn hold(
-    rt: &impl Abort,
-    alloc: Global,
-    rows: &[(Naming, Objects, &[Step], &str)],
-) -> Result<(), AllocError> {
+fn hold(rt: &impl Abort, alloc: Global, rows: &[(Naming, Objects, &[Step], &str)]) {
     for row in rows {
-        let told = told(alloc, row.0, row.1, Refusal::None, row.2)?;
+        let told = told(alloc, row.0, row.1, Refusal::None, row.2);
         same(rt, told.as_str(), row.3);
     }
-    Ok(())
 }
 
 /// The executable is read first, and then its objects 1 to 3.
@@ -101,8 +91,8 @@ const READS: [(Refusal, &'static [Step], &'static str); 10] = [
 ];
 
 #[test]
-fn each_read_fails_in_turn(rt: HostRuntime) -> Result<(), AllocError> {
-    hold_of_three(&rt, rt.alloc(), &READS)
+fn each_read_fails_in_turn(rt: HostRuntime) {
+    hold_of_three(&rt, rt.alloc(), &READS);
 }
 
 /// The same where the session wants memory for a read, whatever is done where one can't be read.
@@ -160,8 +150,8 @@ const WANTS: [(Refusal, &'static [Step], &'static str); 10] = [
 ];
 
 #[test]
-fn want_of_memory_is_never_passed_over(rt: HostRuntime) -> Result<(), AllocError> {
-    hold_of_three(&rt, rt.alloc(), &WANTS)
+fn want_of_memory_is_never_passed_over(rt: HostRuntime) {
+    hold_of_three(&rt, rt.alloc(), &WANTS);
 }
 
 const D: Step = Step::Object("/b/d.dwo");
@@ -212,8 +202,8 @@ const IN_TURN: [(Refusal, &'static [Step], &'static str); 8] = [
 ];
 
 #[test]
-fn what_a_read_kept_away_is_added_by_a_second_try(rt: HostRuntime) -> Result<(), AllocError> {
-    hold_of_three(&rt, rt.alloc(), &IN_TURN)
+fn what_a_read_kept_away_is_added_by_a_second_try(rt: HostRuntime) {
+    hold_of_three(&rt, rt.alloc(), &IN_TURN);
 }
 
 const OBJECT: Step = Step::Object("/b/a.dwo");
@@ -291,8 +281,8 @@ const EXECUTABLES: [(Naming, Objects, &'static [Step], &'static str); 11] = [
 ];
 
 #[test]
-fn an_executable_brings_its_object(rt: HostRuntime) -> Result<(), AllocError> {
-    hold(&rt, rt.alloc(), &EXECUTABLES)
+fn an_executable_brings_its_object(rt: HostRuntime) {
+    hold(&rt, rt.alloc(), &EXECUTABLES);
 }
 
 /// Which placing is refused: of the relocations of the abbreviations, which are none, or of those
@@ -312,7 +302,7 @@ const PLACINGS: [(u32, &'static str, &'static str); 3] = [
 ];
 
 #[test]
-fn relocations_and_packages_that_cannot_be_placed(rt: HostRuntime) -> Result<(), AllocError> {
+fn relocations_and_packages_that_cannot_be_placed(rt: HostRuntime) {
     for row in &PLACINGS {
         let refusal = Refusal::Placing(row.0);
         let told = told(
@@ -321,51 +311,45 @@ fn relocations_and_packages_that_cannot_be_placed(rt: HostRuntime) -> Result<(),
             Objects::Five,
             refusal,
             &[SKIP],
-        )?;
+        );
         same(&rt, told.as_str(), row.1);
-        let grouped = grouped(rt.alloc(), refusal)?;
-        same(&rt, grouped, row.2);
+        same(&rt, grouped(rt.alloc(), refusal), row.2);
     }
-    Ok(())
 }
 
 /// What packing two groups answers, where the session refuses a placing.
-fn grouped(alloc: Global, refusal: Refusal) -> Result<&'static str, AllocError> {
-    let five = object_of(alloc, Kind::Plain, 5)?;
-    let six = object_of(alloc, Kind::Plain, 6)?;
+fn grouped(alloc: Global, refusal: Refusal) -> &'static str {
+    let five = sure(alloc, Kind::Plain, 5);
+    let six = sure(alloc, Kind::Plain, 6);
     let files: Files = BTreeMap::new(alloc);
     let bump = Bump::new(alloc);
     let session = CountingSession::new(&bump, &files, refusal);
-    let file = file_of_groups(alloc, &session, &[&[&five], &[&six]]);
-    let is_refused = session.has_refused_placing();
-    match file {
-        Ok(file) => {
-            let units = [
-                DwarfObject::Compilation(DwoId(5)),
-                DwarfObject::Compilation(DwoId(6)),
-            ];
-            let is_whole = is_made_of(alloc, &file, &units)?;
-            Ok(if is_whole && !is_refused {
-                "Ok"
-            } else {
-                "another file"
-            })
-        }
-        Err(name) => Ok(if is_refused && name == "Memory" {
-            "Memory refused"
-        } else {
-            name
-        }),
+    let answer = answer_of_groups(alloc, &session, &[&[&five], &[&six]]);
+    match (session.has_refused_placing(), answer) {
+        (false, "Ok") => "Ok",
+        (true, "Memory") => "Memory refused",
+        (true, "Ok") => "another file",
+        (_, name) => name,
     }
 }
 
-fn file_of_groups<'s>(
+fn answer_of_groups<'s>(
     alloc: Global,
     session: &'s CountingSession<'s>,
     groups: &[&[&'s [u8]]],
-) -> Result<Vec<u8>, &'static str> {
+) -> &'static str {
+    let units = [
+        DwarfObject::Compilation(DwoId(5)),
+        DwarfObject::Compilation(DwoId(6)),
+    ];
     match pack_groups(alloc, session, groups) {
-        Ok(file) => Ok(file),
-        Err(fault) => Err(name_of(&Err(fault))),
+        Ok(file) => {
+            if is_made_of(alloc, &file, &units) {
+                "Ok"
+            } else {
+                "another file"
+            }
+        }
+        Err(fault) => name_of(&Err(fault)),
     }
 }

@@ -4,7 +4,7 @@ use crate::building::{
     add_named, add_path, finished, missing_units, name_of, packed_by, units, whole, written,
 };
 use crate::counting::{CountingSession, Refusal};
-use crate::objects::{Files, Kind, Naming, executable, object_of, put_file, put_object};
+use crate::objects::{Files, Kind, Naming, executable, put_file, put_object, sure};
 use bumpalo::Bump;
 use dwp_elf::WritableObject;
 use dwp_table::{Bucketable, DwarfObject};
@@ -34,25 +34,33 @@ pub enum Objects {
     Four,
 }
 
-fn files_of(alloc: Global, naming: Naming, objects: Objects) -> Result<Files, AllocError> {
+fn files_of(alloc: Global, naming: Naming, objects: Objects) -> Files {
     let mut files = BTreeMap::new(alloc);
-    put_file(alloc, &mut files, "/e", executable(alloc, naming)?)?;
+    // (where memory runs out, what is told is another text)
+    let _ = put_all(alloc, naming, objects, &mut files);
+    files
+}
+
+fn put_all(
+    alloc: Global,
+    naming: Naming,
+    objects: Objects,
+    files: &mut Files,
+) -> Result<(), AllocError> {
+    put_file(alloc, files, "/e", executable(alloc, naming)?)?;
     match objects {
-        Objects::None => {}
-        Objects::Five => put_object(alloc, &mut files, "/b/a.dwo", 5)?,
-        Objects::Cut => put_file(alloc, &mut files, "/b/a.dwo", vec![in alloc; 0u8; 15]?)?,
-        Objects::Four => put_four(alloc, &mut files)?,
+        Objects::None => Ok(()),
+        Objects::Five => put_object(alloc, files, "/b/a.dwo", 5),
+        Objects::Cut => put_file(alloc, files, "/b/a.dwo", vec![in alloc; 0u8; 15]?),
+        Objects::Four => put_four(alloc, files),
     }
-    Ok(files)
 }
 
 fn put_four(alloc: Global, files: &mut Files) -> Result<(), AllocError> {
-    let mut id = 0u8;
-    for path in &["/b/a.dwo", "/b/b.dwo", "/b/c.dwo", "/b/d.dwo"] {
-        id = id.saturating_add(1);
-        put_object(alloc, files, path, id)?;
-    }
-    Ok(())
+    put_object(alloc, files, "/b/a.dwo", 1)?;
+    put_object(alloc, files, "/b/b.dwo", 2)?;
+    put_object(alloc, files, "/b/c.dwo", 3)?;
+    put_object(alloc, files, "/b/d.dwo", 4)
 }
 
 /// What inputs give where the session refuses a call: what is answered of each, after how many
@@ -64,13 +72,13 @@ pub fn told(
     objects: Objects,
     refusal: Refusal,
     steps: &[Step],
-) -> Result<String, AllocError> {
-    let files = files_of(alloc, naming, objects)?;
+) -> String {
+    let files = files_of(alloc, naming, objects);
     let bump = Bump::new(alloc);
     let session = CountingSession::new(&bump, &files, refusal);
-    let ran = run_all(alloc, &session, steps)?;
+    let ran = run_all(alloc, &session, steps);
     let packing = CountingSession::new(&bump, &files, refusal);
-    let is_alike = is_packed_so(alloc, &packing, steps, &ran)?;
+    let is_alike = is_packed_so(alloc, &packing, steps, &ran);
     text_of(alloc, &ran, &session, is_alike)
 }
 
@@ -85,60 +93,62 @@ struct Ran {
     fault: String,
 }
 
-fn run_all<'s>(
-    alloc: Global,
-    session: &'s CountingSession<'s>,
-    steps: &[Step],
-) -> Result<Ran, AllocError> {
+fn run_all<'s>(alloc: Global, session: &'s CountingSession<'s>, steps: &[Step]) -> Ran {
     let mut builder = DwarfPackage::new(alloc, session);
-    let answers = answers_of(alloc, &mut builder, steps);
-    let has = units(alloc, &builder);
-    let lacks = missing_units(alloc, &builder);
+    let mut answers = String::new(alloc);
+    answer_each(&mut builder, steps, &mut answers);
+    let has = units(alloc, &builder).unwrap_or(Vec::new(alloc));
+    let lacks = missing_units(alloc, &builder).unwrap_or(Vec::new(alloc));
     let object = finished(builder);
-    let fault = fault_of(alloc, &object);
-    Ok(Ran {
-        answers: answers?,
-        has: has?,
-        lacks: lacks?,
-        file: written_file(object),
-        fault: fault?,
-    })
+    let mut fault = String::new(alloc);
+    put_fault(&mut fault, &object);
+    Ran {
+        answers,
+        has,
+        lacks,
+        file: written_file(&object),
+        fault,
+    }
 }
 
-fn written_file(object: Result<WritableObject, Error>) -> Option<Vec<u8>> {
+fn written_file(object: &Result<WritableObject, Error>) -> Option<Vec<u8>> {
     match object {
-        Ok(object) => written(&object).ok(),
+        Ok(object) => written(object).ok(),
         Err(_) => None,
     }
 }
 
-/// Why there is no package.
-fn fault_of(alloc: Global, object: &Result<WritableObject, Error>) -> Result<String, AllocError> {
-    match object {
-        Ok(_) => Ok(String::new(alloc)),
-        Err(fault) => format!(in alloc; "{fault}"),
+/// Writes a word behind a text. Where memory runs out, the text is another than the row's.
+fn put(text: &mut String, word: &str) {
+    let _ = text.push_str(word);
+}
+
+fn put_number(text: &mut String, number: u64) {
+    let _ = write!(text, "{number}");
+}
+
+/// Writes why there is no package.
+fn put_fault(text: &mut String, object: &Result<WritableObject, Error>) {
+    if let Err(fault) = object {
+        let _ = write!(text, "{fault}");
     }
 }
 
-fn answers_of<'o, 's: 'o>(
-    alloc: Global,
+fn answer_each<'o, 's: 'o>(
     builder: &mut DwarfPackage<'o, 's, CountingSession<'s>>,
     steps: &[Step],
-) -> Result<String, AllocError> {
-    let mut text = String::new(alloc);
-    for step in steps {
-        let name = match *step {
-            Step::Object(path) => add_path(builder, path),
-            Step::Named(missing) => add_named(builder, missing),
-        };
-        push(&mut text, name, " ")?;
+    text: &mut String,
+) {
+    for i in 0..steps.len() {
+        put(
+            text,
+            match steps[i] {
+                Step::Object(path) => add_path(builder, path),
+                Step::Named(missing) => add_named(builder, missing),
+            },
+        );
+        put(text, " ");
     }
-    Ok(text)
-}
-
-fn push(text: &mut String, word: &str, end: &str) -> Result<(), AllocError> {
-    text.push_str(word)?;
-    text.push_str(end)
 }
 
 /// Whether packing the inputs at once answers the same, and gives the same file.
@@ -147,81 +157,87 @@ fn is_packed_so<'s>(
     session: &'s CountingSession<'s>,
     steps: &[Step],
     ran: &Ran,
-) -> Result<bool, AllocError> {
+) -> bool {
     let mut inputs = Vec::new(alloc);
-    for step in steps {
-        inputs.push(match *step {
+    for i in 0..steps.len() {
+        let _ = inputs.push(match steps[i] {
             Step::Object(path) => Input::Object(Path::new(path)),
             Step::Named(missing) => Input::Executable(Path::new("/e"), missing),
-        })?;
+        });
     }
     match packed_by(alloc, session, &inputs) {
         Ok(packed) => is_so(alloc, packed, ran),
-        Err(_) => Ok(false),
+        Err(_) => false,
     }
 }
 
-fn is_so(alloc: Global, packed: Packed, ran: &Ran) -> Result<bool, AllocError> {
+fn is_so(alloc: Global, packed: Packed, ran: &Ran) -> bool {
     let mut text = String::new(alloc);
-    for outcome in &packed.outcomes {
-        push(&mut text, name_of(outcome), " ")?;
+    for i in 0..packed.outcomes.len() {
+        put(&mut text, name_of(&packed.outcomes[i]));
+        put(&mut text, " ");
     }
-    Ok(text.as_str() == ran.answers.as_str() && packed.file.ok() == ran.file)
+    text.as_str() == ran.answers.as_str() && packed.file.ok() == ran.file
 }
 
-fn text_of(
-    alloc: Global,
-    ran: &Ran,
-    session: &CountingSession<'_>,
-    is_alike: bool,
-) -> Result<String, AllocError> {
-    let reads = session.reads();
-    let mut text = format!(in alloc; "{}{reads}", ran.answers)?;
+fn text_of(alloc: Global, ran: &Ran, session: &CountingSession<'_>, is_alike: bool) -> String {
+    let mut text = String::new(alloc);
+    put(&mut text, ran.answers.as_str());
+    put_number(&mut text, session.reads() as u64);
     if session.has_refused_placing() {
-        text.push_str(" refused")?;
+        put(&mut text, " refused");
     }
-    text.push_str(", has")?;
-    push_units(alloc, &mut text, &ran.has)?;
-    text.push_str(", lacks")?;
-    push_units(alloc, &mut text, &ran.lacks)?;
-    text.push_str(": ")?;
-    push_file(alloc, &mut text, ran)?;
+    put(&mut text, ", has");
+    put_units(&mut text, &ran.has);
+    put(&mut text, ", lacks");
+    put_units(&mut text, &ran.lacks);
+    put(&mut text, ": ");
+    put_file_of(alloc, &mut text, ran);
     if !is_alike {
-        text.push_str(", packed it is another")?;
+        put(&mut text, ", packed it is another");
     }
-    Ok(text)
+    text
 }
 
 /// Writes the numbers of units behind a text.
-fn push_units(alloc: Global, text: &mut String, units: &[DwarfObject]) -> Result<(), AllocError> {
-    for unit in units {
-        text.push_str(format!(in alloc; " {}", unit.index())?.as_str())?;
+fn put_units(text: &mut String, units: &[DwarfObject]) {
+    for i in 0..units.len() {
+        put(text, " ");
+        put_number(text, units[i].index());
     }
-    Ok(())
 }
 
 /// Writes the size of the file of these units, or why there is none.
-fn push_file(alloc: Global, text: &mut String, ran: &Ran) -> Result<(), AllocError> {
-    let Some(file) = &ran.file else {
-        return text.push_str(ran.fault.as_str());
-    };
-    let whose = if is_made_of(alloc, file, &ran.has)? {
-        "theirs"
-    } else {
-        "another file"
-    };
-    text.push_str(format!(in alloc; "{} bytes, {whose}", file.len())?.as_str())
+fn put_file_of(alloc: Global, text: &mut String, ran: &Ran) {
+    match &ran.file {
+        None => put(text, ran.fault.as_str()),
+        Some(file) => {
+            put_number(text, file.len() as u64);
+            put(
+                text,
+                if is_made_of(alloc, file, &ran.has) {
+                    " bytes, theirs"
+                } else {
+                    " bytes, another file"
+                },
+            );
+        }
+    }
 }
 
 /// Whether the file is that of the plain objects of these units, in order.
-pub fn is_made_of(alloc: Global, file: &[u8], units: &[DwarfObject]) -> Result<bool, AllocError> {
+pub fn is_made_of(alloc: Global, file: &[u8], units: &[DwarfObject]) -> bool {
     let mut objects = Vec::new(alloc);
-    for unit in units {
-        objects.push(object_of(alloc, Kind::Plain, (unit.index() % 256) as u8)?)?;
+    for i in 0..units.len() {
+        let id = (units[i].index() % 256) as u8;
+        let _ = objects.push(sure(alloc, Kind::Plain, id));
     }
     let mut parts = Vec::new(alloc);
-    for object in &objects {
-        parts.push(object.as_slice())?;
+    for i in 0..objects.len() {
+        let _ = parts.push(objects[i].as_slice());
     }
-    Ok(whole(alloc, &parts).is_some_and(|whole| whole.as_slice() == file))
+    match whole(alloc, &parts) {
+        Some(whole) => whole.as_slice() == file,
+        None => false,
+    }
 }

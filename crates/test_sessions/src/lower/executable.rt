@@ -1,19 +1,13 @@
 //! What an executable names.
 
 use crate::asserting::same;
+use crate::lower::put;
 use bumpalo::Bump;
 use std::alloc::{AllocError, Global};
 use std::collections::BTreeMap;
 use std::process::Abort;
 use thorin_executable::{SkeletonList, skeletons};
 use thorin_faults::{Error, MemorySession};
-
-fn put(out: &mut Vec<u8>, words: &[u64]) -> Result<(), AllocError> {
-    for word in words {
-        out.extend_from_slice(&word.to_le_bytes())?;
-    }
-    Ok(())
-}
 
 /// An abbreviation 1 of a compile unit: GNU_dwo_name and comp_dir, both strings, and a GNU_dwo_id
 /// of 8 bytes.
@@ -33,20 +27,24 @@ const NAMES: &[u8; 32] = b"\0.debug_abbrev\0.debug_info\0.end\0";
 /// An executable for x86-64 of the abbreviations at 64, the unit twice at 78, and names at 136.
 fn executable(alloc: Global) -> Result<Vec<u8>, AllocError> {
     let mut file = Vec::new(alloc);
+    match put_parts(&mut file) {
+        Ok(()) => Ok(file),
+        Err(fault) => Err(fault),
+    }
+}
+
+fn put_parts(file: &mut Vec<u8>) -> Result<(), AllocError> {
     file.extend_from_slice(b"\x7fELF\x02\x01\x01\0\0\0\0\0\0\0\0\0\x02\0\x3e\0\x01\0\0\0")?;
-    put(
-        &mut file,
-        &[0, 0, 168, 64 << 32, 3 << 48 | 4 << 32 | 64 << 16],
-    )?;
+    put(file, &[0, 0, 168, 64 << 32, 3 << 48 | 4 << 32 | 64 << 16])?;
     file.extend_from_slice(&ABBREVIATIONS)?;
     file.extend_from_slice(&UNIT)?;
     file.extend_from_slice(&UNIT)?;
     file.extend_from_slice(NAMES)?;
-    put(&mut file, &[0, 0, 0, 0, 0, 0, 0, 0])?;
-    put(&mut file, &[1 << 32 | 1, 0, 0, 64, 14, 0, 1, 0])?;
-    put(&mut file, &[1 << 32 | 15, 0, 0, 78, 58, 0, 1, 0])?;
-    put(&mut file, &[1 << 32 | 27, 0, 0, 136, 32, 0, 1, 0])?;
-    Ok(file)
+    put(file, &[0, 0, 0, 0, 0, 0, 0, 0])?;
+    put(file, &[1 << 32 | 1, 0, 0, 64, 14, 0, 1, 0])?;
+    put(file, &[1 << 32 | 15, 0, 0, 78, 58, 0, 1, 0])?;
+    put(file, &[1 << 32 | 27, 0, 0, 136, 32, 0, 1, 0])?;
+    Ok(())
 }
 
 /// What a file names.

@@ -1,6 +1,7 @@
 //! Hash tables, indexes and relocations.
 
 use crate::asserting::same;
+use crate::lower::put;
 use dwp_base::{Contribution, ContributionOffset, Endianness};
 use dwp_bytes::{Encoding, Format};
 use dwp_elf_read::ElfFile;
@@ -59,31 +60,28 @@ fn index_size(alloc: Global) -> Result<usize, Error> {
     Ok(write_index(alloc, Endianness::Little, &[entry])?.len())
 }
 
-fn put(bytes: &mut Vec<u8>, words: &[u64]) -> Result<(), AllocError> {
-    for word in words {
-        bytes.extend_from_slice(&word.to_le_bytes())?;
-    }
-    Ok(())
-}
-
 /// An executable for x86-64 with relocations of `.debug_info`, whose symbol 1 has the value 0x1000.
 fn executable(alloc: Global, relocations: &[u64; 6]) -> Result<Vec<u8>, AllocError> {
     let mut bytes = Vec::new(alloc);
+    match put_parts(&mut bytes, relocations) {
+        Ok(()) => Ok(bytes),
+        Err(fault) => Err(fault),
+    }
+}
+
+fn put_parts(bytes: &mut Vec<u8>, relocations: &[u64; 6]) -> Result<(), AllocError> {
     bytes.extend_from_slice(b"\x7fELF\x02\x01\x01\0\0\0\0\0\0\0\0\0\x02\0\x3e\0\x01\0\0\0")?;
-    put(&mut bytes, &[0, 0, 0xb0])?;
+    put(bytes, &[0, 0, 0xb0])?;
     bytes.extend_from_slice(&[0, 0, 0, 0, 64, 0, 0, 0, 0, 0, 64, 0, 5, 0, 4, 0])?;
     bytes.extend_from_slice(b"\0.debug_info\0\0\0\0")?;
-    put(&mut bytes, &[0, 0, 0, 0, 0x1000, 0])?;
-    put(&mut bytes, relocations)?;
-    put(&mut bytes, &[0, 0, 0, 0, 0, 0, 0, 0])?;
-    put(&mut bytes, &[0x1_0000_0001, 0, 0, 0x40, 0, 0, 0, 0])?;
-    put(&mut bytes, &[0x2_0000_0000, 0, 0, 0x50, 48, 0, 0, 0])?;
-    put(
-        &mut bytes,
-        &[0x4_0000_0000, 0, 0, 0x80, 48, 0x1_0000_0002, 0, 0],
-    )?;
-    put(&mut bytes, &[0x3_0000_0000, 0, 0, 0x40, 13, 0, 0, 0])?;
-    Ok(bytes)
+    put(bytes, &[0, 0, 0, 0, 0x1000, 0])?;
+    put(bytes, relocations)?;
+    put(bytes, &[0, 0, 0, 0, 0, 0, 0, 0])?;
+    put(bytes, &[0x1_0000_0001, 0, 0, 0x40, 0, 0, 0, 0])?;
+    put(bytes, &[0x2_0000_0000, 0, 0, 0x50, 48, 0, 0, 0])?;
+    put(bytes, &[0x4_0000_0000, 0, 0, 0x80, 48, 0x1_0000_0002, 0, 0])?;
+    put(bytes, &[0x3_0000_0000, 0, 0, 0x40, 13, 0, 0, 0])?;
+    Ok(())
 }
 
 /// How many places are relocated in `.debug_info`.

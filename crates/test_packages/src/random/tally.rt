@@ -1,7 +1,5 @@
 //! What the calls answered, counted.
 
-use std::fmt::{Display, Formatter, Write};
-
 /// How often a call answered, and how often it named a fault.
 #[derive(Clone, Copy, Default)]
 pub struct Count {
@@ -83,7 +81,7 @@ pub const GROUPS: usize = 21;
 #[derive(Drop)]
 pub struct Tally {
     counts: [Count; 22],
-    /// How often two calls that say the same said something else.
+    /// How often two calls that say the same said something else, or memory ran out.
     pub contradictions: u64,
 }
 
@@ -98,8 +96,18 @@ impl Count {
     }
 
     /// How many calls there were.
-    pub fn calls(&self) -> u64 {
+    fn calls(&self) -> u64 {
         self.answers.saturating_add(self.faults)
+    }
+
+    /// Which kinds of outcome there were.
+    pub fn outcomes(&self) -> &'static str {
+        match (self.answers, self.faults) {
+            (0, 0) => "no call",
+            (_, 0) => "answers alone",
+            (0, _) => "faults alone",
+            _ => "answers and faults",
+        }
     }
 }
 
@@ -127,22 +135,19 @@ impl Tally {
         }
     }
 
+    /// How many calls there were of all.
+    pub fn calls(&self) -> u64 {
+        let mut calls: u64 = 0;
+        for i in 0..22 {
+            calls = calls.saturating_add(self.counts[i].calls());
+        }
+        calls
+    }
+
     /// Counts a contradiction where something doesn't hold.
     pub fn expect(&mut self, holds: bool) {
         if !holds {
             self.contradictions = self.contradictions.saturating_add(1);
         }
-    }
-}
-
-/// Which kinds of outcome there were.
-impl Display for Count {
-    fn fmt<W: Write>(&self, f: &mut Formatter<W>) -> std::fmt::Result {
-        f.write_str(match (self.answers, self.faults) {
-            (0, 0) => "no call",
-            (_, 0) => "answers alone",
-            (0, _) => "faults alone",
-            _ => "answers and faults",
-        })
     }
 }

@@ -2,8 +2,7 @@
 
 ghost use Rattle.std.specs.Prelude.{◌<◌, ◌≤◌, IfSome, length};
 
-use crate::generator::Generator;
-use std::alloc::AllocError;
+use crate::random::generator::Generator;
 
 /// Numbers at which formats have their limits.
 const LIMITS: [u32; 8] = [
@@ -18,23 +17,25 @@ const LIMITS: [u32; 8] = [
 ];
 
 /// Damages bytes in one to four places.
-pub fn damage(generator: &mut Generator, bytes: &mut Vec<u8>) -> Result<(), AllocError> {
+pub fn damage(generator: &mut Generator, bytes: &mut Vec<u8>) {
     for _ in 0..generator.below(4) + 1 {
-        if bytes.is_empty() {
-            return Ok(());
-        }
-        match generator.below(8) {
-            0 => change(generator, bytes),
-            1 => cut(generator, bytes),
-            2 => raise(generator, bytes),
-            3 => copy_over(generator, bytes),
-            4 => repeat(generator, bytes)?,
-            5 => count_up(generator, bytes),
-            6 => swap_headers(generator, bytes),
-            _ => flip(generator, bytes),
+        if !bytes.is_empty() {
+            damage_once(generator, bytes);
         }
     }
-    Ok(())
+}
+
+fn damage_once(generator: &mut Generator, bytes: &mut Vec<u8>) {
+    match generator.below(8) {
+        0 => change(generator, bytes),
+        1 => cut(generator, bytes),
+        2 => raise(generator, bytes),
+        3 => copy_over(generator, bytes),
+        4 => repeat(generator, bytes),
+        5 => count_up(generator, bytes),
+        6 => swap_headers(generator, bytes),
+        _ => flip(generator, bytes),
+    }
 }
 
 /// A place in so many bytes; None where there are none.
@@ -141,10 +142,9 @@ fn copy_over(generator: &mut Generator, bytes: &mut Vec<u8>) {
     }
 }
 
-/// The bytes from a place on come again at the end.
-fn repeat(generator: &mut Generator, bytes: &mut Vec<u8>) -> Result<(), AllocError> {
-    let Some(at) = place(generator, bytes.len()) else {
-        return Ok(())
-    };
-    bytes.extend_from_within(at..)
+/// The bytes from a place on come again at the end, where there is memory for them.
+fn repeat(generator: &mut Generator, bytes: &mut Vec<u8>) {
+    if let Some(at) = place(generator, bytes.len()) {
+        let _ = bytes.extend_from_within(at..);
+    }
 }
