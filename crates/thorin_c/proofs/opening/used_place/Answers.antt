@@ -1,5 +1,4 @@
-use Rattle.std.proofs.Common.{◌≡◌, ◌∙◌, sym, ap, cond, Ok, Err}
-use Rattle.dwp_elf_read.specs.Layout.{is_inside}
+use Rattle.std.proofs.Common.{◌∙◌, sym, ap, cond, Ok, Err}
 use Rattle.dwp_elf_read.specs.View.{elf, section}
 use Rattle.dwp_elf_read.specs.declared.fault.ReadError.TheVariants.{SectionRange}
 use Rattle.thorin_c.specs.Opening.{bytes_at}
