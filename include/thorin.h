@@ -2,33 +2,34 @@
  * @file thorin.h
  * @brief Packages of split DWARF (.dwp), read and packed. For 64-bit machines.
  *
- * What each call answers and writes is proved to be what is said of it here, on any bytes, as long
- * as C upholds this (crates/thorin_c says it exactly):
+ * What each call returns and writes is proved to be what is said of it here, on any bytes, as long
+ * as the caller keeps to this (crates/thorin_c says it exactly):
  *
  * - Each pointer has as many elements behind it as you say. Where the size beside it is 0 it may be
  *   null, also in a thorin_bytes. No other pointer is null.
  * - Structures and arrays are aligned as C aligns their types. Packages and inputs may begin at any
  *   address.
- * - The memory that a call writes to is nothing that another of its arguments refers to.
+ * - No other argument of a call refers to memory that the call writes to.
  * - What a call reads doesn't change while it runs: a mapped file is neither written nor cut short.
  *
- * Compiled with -DTHORIN_CHECK, each call of this header asserts what of this a program can see:
+ * Compiled with -DTHORIN_CHECK, each call of this header asserts what a program can see of this:
  * the pointers, their alignment, and that nothing that is written overlaps anything else.
  *
- * What is only written needs no value before. Bytes that a call lends lie in the package, are valid
- * as long as its memory is there and unchanged, and aren't freed. A call keeps nothing after it
- * returns, needs no setting up, and may run in several threads at once, over one package too.
+ * What a call only writes needs no value before it. Bytes that a call lends lie in the package:
+ * they are valid as long as its memory is there and unchanged; don't free them. A call keeps
+ * nothing after it returns, needs no setting up, and may run in several threads at once, even over
+ * one package.
  *
- * A call answers a status, 0 (THORIN_DONE) where it did what was asked. The calls that read a
- * package take no memory. Those that pack take it by malloc, realloc and free, and give all of it
- * back. They pack bytes: if you have an executable and want the objects that it names packed, run
- * the program (thorin pack -e), or ask thorin_skeletons() for their paths and read them yourself.
+ * A call returns a status: 0 (THORIN_DONE) where it did what was asked. The calls that read a
+ * package allocate nothing. Those that pack use malloc, realloc and free, and free all that they
+ * allocate. They pack bytes: to pack the objects that an executable names, run the program (thorin
+ * pack -e), or ask thorin_skeletons() for their paths and read them yourself.
  *
  * The soname of the shared library has the first number of the version, as libthorin.so.1. Under
  * one first number a program that was built with an earlier version runs with a later one: calls,
  * statuses and faults may be added, and no call, structure or number changes or goes. A new second
- * number has new calls, a new third number none. A program that tests THORIN_VERSION against
- * thorin_version() learns whether the library that is linked has the calls of its header.
+ * number means new calls, a new third number none. To learn whether the linked library has the
+ * calls of your header, compare THORIN_VERSION with thorin_version().
  */
 #ifndef THORIN_H
 #define THORIN_H
@@ -198,7 +199,7 @@ int32_t thorin_find_rows(const uint8_t *bytes, size_t size, thorin_lookup *looku
  * @param kind THORIN_COMPILATION or THORIN_TYPE_UNIT.
  * @param id The DWO id or type signature.
  * @param section One of thorin_section.
- * @param[in,out] found The bytes at THORIN_DONE, inside the package, of size 0 where the unit has
+ * @param[out] found The bytes at THORIN_DONE, inside the package, of size 0 where the unit has
  *   none there; else as it was.
  * @return As thorin_find(), or THORIN_NO_SUCH_SECTION.
  */
@@ -211,9 +212,9 @@ int32_t thorin_content(const uint8_t *bytes, size_t size, uint8_t kind, uint64_t
  * @param size How many bytes it has.
  * @param kind THORIN_COMPILATION or THORIN_TYPE_UNIT.
  * @param id The DWO id or type signature.
- * @param index Its number: the operand of DW_FORM_strx or DW_FORM_GNU_str_index, by the unit's own
- *   encoding.
- * @param[in,out] found The string at THORIN_DONE, inside the package, without the zero byte that
+ * @param index The string's number: the operand of DW_FORM_strx or DW_FORM_GNU_str_index, by the
+ *   unit's own encoding.
+ * @param[out] found The string at THORIN_DONE, inside the package, without the zero byte that
  *   ends it; else as it was.
  * @return As thorin_find(), THORIN_NO_SUCH_STRING past the last string, or THORIN_MALFORMED_STRING.
  */
@@ -230,7 +231,7 @@ int32_t thorin_string(const uint8_t *bytes, size_t size, uint8_t kind, uint64_t 
 int32_t thorin_unit_count(const uint8_t *bytes, size_t size, uint64_t *count);
 
 /**
- * Lists the units that the indexes name, compilation units first, in order of slot.
+ * Lists the units that the indexes name: compilation units first, each kind in order of slot.
  * @param bytes The package.
  * @param size How many bytes it has.
  * @param[out] names As many units as there is room for, at THORIN_DONE; else nothing is written.
@@ -330,8 +331,8 @@ int32_t thorin_string_in(const thorin_package *package, const uint8_t *bytes, si
                          uint8_t kind, uint64_t id, uint64_t index, thorin_bytes *found);
 
 /**
- * thorin_list() of a package that is open. A list takes far longer than finding the sections does,
- * so that is done anew, and the numbers in *package are not looked at.
+ * thorin_list() of a package that is open. It finds the sections anew, which takes far less time
+ * than the list, and doesn't look at the numbers in *package.
  * @param package What thorin_open() wrote.
  * @param bytes The same bytes.
  * @param size How many there are.
@@ -347,11 +348,11 @@ int32_t thorin_list_in(const thorin_package *package, const uint8_t *bytes, size
 
 /**
  * Why an input was refused, a package can't be finished, or a list of skeletons ended. The calls
- * here are given bytes and follow no executable: they never tell 1 and 33 (files that are read or
- * written), 30 (an executable's units that are missing), and 38, which is the status
- * THORIN_NO_MEMORY; 6 to 10 (relocations and skeletons) are told by thorin_skeletons() alone.
- * Inputs of another byte order are refused with 32. Units of another encoding are found when the
- * package is finished: THORIN_UNFINISHED with 32, and no input is told.
+ * here take bytes and follow no executable, so they never report 1 and 33 (files that are read or
+ * written) and 30 (an executable's units that are missing), nor 38, for which the status is
+ * THORIN_NO_MEMORY. Only thorin_skeletons() reports 6 to 10 (relocations and skeletons). An input
+ * of another byte order is refused with 32. Whether all units have one encoding is tested when the
+ * package is finished: the answer is THORIN_UNFINISHED with 32, and names no input.
  */
 enum thorin_fault {
   THORIN_FAULT_READ_INPUT = 1,         /**< An input file could not be read. */
@@ -424,8 +425,8 @@ enum thorin_fault {
 };
 
 /**
- * What packing tells beside its answer; thorin_differing_types() tells input, differing and the
- * fault alone. A field that isn't named at the answer is as it was.
+ * What packing reports beside its status; thorin_differing_types() reports input, differing and the
+ * fault alone. Each field says at which statuses it is written; at the others it is as it was.
  */
 typedef struct {
   /** THORIN_DONE, THORIN_TOO_SMALL: how many bytes the package has. */
@@ -438,16 +439,15 @@ typedef struct {
   uint64_t input;
   /**
    * THORIN_DONE, THORIN_TOO_SMALL: how many type units were passed over whose bytes differ from
-   * those of the unit of their name that is kept.
+   * those of the kept unit of their signature.
    */
   uint64_t differing;
   /**
    * THORIN_DONE, THORIN_TOO_SMALL: 1 where each input is an object that added a unit, all their
-   * units have one encoding, and the sections that an input needs are there; else 0. What it is
-   * for: such a package can be an input again, but for a compilation unit that is there already, a
-   * string offset that gets too large, or want of memory; another package may be refused. The
-   * builder of the Rattle library is proved to take such a file; no contract of thorin_pack() says
-   * so.
+   * units have one encoding, and the sections that an input needs are there; else 0. Where it is 1
+   * the package can be an input again, unless a compilation unit is there already, a string offset
+   * gets too large, or memory runs out; where it is 0 the package may be refused. The builder of
+   * the Rattle library is proved to take such a file; no contract of thorin_pack() says so.
    */
   uint32_t packs_again;
   /** THORIN_REFUSED, THORIN_UNFINISHED: the number of the fault, one of thorin_fault. */
@@ -459,14 +459,14 @@ typedef struct {
 } thorin_report;
 
 /**
- * Packs objects (.dwo, or .o with .dwo sections) and packages (.dwp), in order, into one package. A
- * package has seldom more bytes than its inputs together and 4096 more.
+ * Packs objects (.dwo, or .o with .dwo sections) and packages (.dwp), in order, into one package.
+ * It seldom has more bytes than its inputs together plus 4096.
  * @param inputs The objects and packages.
  * @param count How many there are.
- * @param[out] out At THORIN_DONE the package stands at its beginning, and the rest is as it was;
- *   else it is as it was.
+ * @param[out] out Where the package is written. At THORIN_DONE the package stands at the beginning
+ *   and the rest is as it was; else all is as it was.
  * @param room How many bytes there is room for.
- * @param[in,out] report What is told beside the answer.
+ * @param[in,out] report What is reported beside the status.
  * @return THORIN_DONE; THORIN_TOO_SMALL: ask again with report->size bytes; THORIN_REFUSED for the
  *   first input that can't be taken; THORIN_UNFINISHED where the inputs don't make a package;
  *   THORIN_NO_MEMORY.
@@ -475,8 +475,8 @@ int32_t thorin_pack(const thorin_bytes *inputs, size_t count, uint8_t *out, size
                     thorin_report *report);
 
 /**
- * The signatures of the type units that packing these inputs passes over, and whose bytes differ
- * from those of the unit of their name that is kept.
+ * Lists the signatures of the type units that packing these inputs passes over and whose bytes
+ * differ from those of the kept unit of their signature.
  * @param inputs The objects and packages.
  * @param count How many there are.
  * @param[out] types As many signatures as there is room for, at THORIN_DONE; else as it was.
@@ -498,8 +498,8 @@ typedef struct {
 
 /**
  * Lists the split units that an executable (or a .o file) names, in order, and the paths of their
- * objects: read these files, and pack what they hold. A path that isn't whole stands behind the
- * folder in which the unit was compiled, as DWARF has it.
+ * objects: read these files, and pack their bytes. A relative name is written behind its unit's
+ * DW_AT_comp_dir.
  * @param bytes The executable.
  * @param size How many bytes it has.
  * @param[out] names As many units as there is room for.
@@ -508,10 +508,10 @@ typedef struct {
  *   is room; the last one may be cut.
  * @param paths_room How many bytes there is room for.
  * @param[out] count How many units there are.
- * @param[out] report In report->size, how many bytes the paths have, the zero bytes with them; at
- *   THORIN_REFUSED the fault that ends the list. Its other fields are left as they were.
- * @return THORIN_DONE; THORIN_REFUSED where a fault ends the list, and then all is written of the
- *   units before it; THORIN_NO_MEMORY, and then nothing is.
+ * @param[out] report In report->size, how many bytes the paths have, their zero bytes included; at
+ *   THORIN_REFUSED also the fault that ends the list. Its other fields are left as they were.
+ * @return THORIN_DONE; THORIN_REFUSED where a fault ends the list: all units before it are written;
+ *   THORIN_NO_MEMORY: nothing is written.
  */
 int32_t thorin_skeletons(const uint8_t *bytes, size_t size, thorin_skeleton *names, size_t room,
                          uint8_t *paths, size_t paths_room, uint64_t *count,
