@@ -68,3 +68,4 @@ pub mod UnitsFree
 pub mod OwnFormat
 pub mod OwnFirst
 pub mod OwnAccepted
+pub mod PlainInputs

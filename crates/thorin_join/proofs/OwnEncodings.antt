@@ -244,7 +244,7 @@ pub own-or-none : (own : Option Encoding) (now : Encoding) (more : Bool)
 own-or-none own now true h = (refl, h)
 own-or-none own now false h = absurd cc
 
-units-names : (begun : Option InProgress) → length (units_begun begun) ≡ length (names_in begun)
+pub units-names : (begun : Option InProgress) → length (units_begun begun) ≡ length (names_in begun)
 units-names None = refl
 units-names (Some made) = length-map made.rows _ ∙ sym (length-map made.rows _)
 
@@ -284,7 +284,7 @@ abbrev pub InputsJoined : Type 0
 InputsJoined = (bytes : List ℕ) (begun now : Option InProgress) → IsSoundBegun begun
     → with_input bytes begun ≡ Ok now → Joins bytes (units_begun begun) (units_begun now)
 
-begun-now : (bytes : List ℕ) (old new : State) → taken bytes old ≡ Ok new
+pub begun-now : (bytes : List ℕ) (old new : State) → taken bytes old ≡ Ok new
     → with_input bytes old.begun ≡ Ok new.begun
 unfolding taken
 begun-now bytes old new h =

@@ -87,22 +87,22 @@ one-by object encoding own true false p a h = absurd cc
 one-by object encoding own false b p a h = absurd cc
 
 -- the bytes of an object of one encoding
-record OwnFile (bytes : List ℕ) (own : Encoding) : Type 0 where
-  file : Elf
-  opens : opened bytes ≡ Ok file
-  info : has_info file ≡ true
-  object : InputFile
-  object_is : input_file_of file ≡ Ok object
-  encoding : encoding_of object ≡ Ok own
-  plain : is_plain object.sections ≡ true
-  all : list_all (section_has own object.order) object.sections ≡ true
+pub record OwnFile (bytes : List ℕ) (own : Encoding) : Type 0 where
+  pub file : Elf
+  pub opens : opened bytes ≡ Ok file
+  pub info : has_info file ≡ true
+  pub object : InputFile
+  pub object_is : input_file_of file ≡ Ok object
+  pub encoding : encoding_of object ≡ Ok own
+  pub plain : is_plain object.sections ≡ true
+  pub all : list_all (section_has own object.order) object.sections ≡ true
 
 info-by : (b : Bool) (r : Result (Option Encoding) Fault) (own : Encoding) → cond b r (Ok None) ≡ Ok
     (Some own) → (b ≡ true) × (r ≡ Ok (Some own))
 info-by true r own h = (refl, h)
 info-by false r own h = absurd cc
 
-own-file : (bytes : List ℕ) (own : Encoding) → own_encoding bytes ≡ Ok (Some own)
+pub own-file : (bytes : List ℕ) (own : Encoding) → own_encoding bytes ≡ Ok (Some own)
     → OwnFile bytes own
 unfolding own_encoding file_encoding
 own-file bytes own h =

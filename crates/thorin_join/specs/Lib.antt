@@ -14,3 +14,4 @@ pub mod OwnInput
 pub mod Plain
 pub mod OwnRefusals
 pub mod OwnAccepted
+pub mod PlainInputs
