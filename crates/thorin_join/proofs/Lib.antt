@@ -69,3 +69,5 @@ pub mod OwnFormat
 pub mod OwnFirst
 pub mod OwnAccepted
 pub mod PlainInputs
+pub mod Encoded
+pub mod EachWhole

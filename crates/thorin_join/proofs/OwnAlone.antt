@@ -22,8 +22,8 @@ use Rattle.thorin_join.specs.Join.{Joins, IsPackageOf, GivesNone, GivesUnit, sam
 use Rattle.thorin_join.specs.Join.{look_limit}
 use Rattle.thorin_join.specs.Meaning.{Meaning, Members, input_meaning, keys, joining}
 use Rattle.thorin_input.specs.Names.{same_name}
-use Rattle.thorin_join.specs.OwnAccepted.{AnswersAs}
 use Rattle.thorin_join.specs.Represents.{AreApart}
+use Rattle.thorin_join.proofs.EachWhole.{Finds}
 use Rattle.thorin_join.proofs.Apart.{same_name-self, same_name-true, same_name-sym}
 use Rattle.thorin_join.proofs.Steps.{ok-eq, bind-inv}
 use Rattle.thorin_join.proofs.UnitsFree.{different-sym}
@@ -157,21 +157,16 @@ same-limit us vs name perm =
     ap limit_of (counted test vs ∙ sum_by-IsPermutation (λ u. cond (test u) 1 0) us vs perm ∙ sym
     (counted test us))
 
--- a package of these units answers as them, in whatever order
-pub alone-answers : (us vs : Members) (bytes : List ℕ) → IsPermutation us vs → IsDistinct same_name
-    (keys us) → IsPackageOf vs bytes → AnswersAs us bytes
-alone-answers us vs bytes perm distinct p =
+-- look-ups in a package of these units find them, in whatever order
+pub alone-finds : (us vs : Members) (bytes : List ℕ) → IsPermutation us vs → IsDistinct same_name
+    (keys us) → (p : IsPackageOf vs bytes) → Finds p.pack us
+alone-finds us vs bytes perm distinct p name =
     let moved : IsPermutation (keys us) (keys vs) = IsPermutation-map (λ u. u.0) us vs perm in
     let apart = IsDistinct-IsPermutation same_name flips (keys us) (keys vs) moved distinct in
-    record {
-      pack = p.pack;
-      parsed = p.parsed;
-      finds = λ name.
-          let same = lookup_permutation equivalence us vs perm apart (same_name name) (λ x y h.
-          ap (λ n. same_name n y) (same_name-true name x h)) in
-          let limit = same-limit us vs name perm in
-          subst (λ m. MatchOption (lookup (same_name name) us) (GivesNone p.pack name m)
-          (GivesUnit p.pack name m)) limit
-          (subst (λ l. MatchOption l (GivesNone p.pack name (look_limit vs name))
-          (GivesUnit p.pack name (look_limit vs name))) same (p.finds name));
-    }
+    let same = lookup_permutation equivalence us vs perm apart (same_name name) (λ x y h.
+    ap (λ n. same_name n y) (same_name-true name x h)) in
+    let limit = same-limit us vs name perm in
+    subst (λ m. MatchOption (lookup (same_name name) us) (GivesNone p.pack name m)
+    (GivesUnit p.pack name m)) limit
+    (subst (λ l. MatchOption l (GivesNone p.pack name (look_limit vs name))
+    (GivesUnit p.pack name (look_limit vs name))) same (p.finds name))

@@ -48,10 +48,10 @@ MeantOf encoding [] = Unit {0}
 MeantOf encoding (u ∷ us) = ((unit : Meaning) → u.1 ≡ Some unit → unit.encoding ≡ encoding)
     × MeantOf encoding us
 
-none-some : (P : Type 0) (unit : Meaning) → ◌≡◌ {A = Option Meaning} None (Some unit) → P
+pub none-some : (P : Type 0) (unit : Meaning) → ◌≡◌ {A = Option Meaning} None (Some unit) → P
 none-some P unit h = absurd cc
 
-some-eq : (a b : Meaning) → ◌≡◌ {A = Option Meaning} (Some a) (Some b) → a ≡ b
+pub some-eq : (a b : Meaning) → ◌≡◌ {A = Option Meaning} (Some a) (Some b) → a ≡ b
 some-eq a b h = cc
 
 with-encoding : (source : Source) (bytes : List ℕ) (row : Option Ranges)

@@ -2,6 +2,7 @@
 use Rattle.std.proofs.Common.{◌≡◌, ◌∙◌, ℕ, List, true, [], refl, sym, ap, subst, Ok, Option, Some}
 use Rattle.std.proofs.Common.{None}
 use Rattle.std.specs.List.{IsDistinct}
+use Rattle.std.proofs.lemmas.Option.{same_Some}
 use Rattle.dwp_bytes.specs.declared.encoding.Encoding.{Encoding}
 use Rattle.dwp_dwarf.specs.Units.{UnitsAreTaken}
 use Rattle.dwp_elf.specs.FileText.{Object as File, file_text}
@@ -19,7 +20,7 @@ use Rattle.thorin_input.specs.NewUnits.{new_units}
 use Rattle.thorin_join.specs.Own.{has_sections}
 use Rattle.thorin_join.specs.OwnAccepted.{IsAcceptedByNewOnceWritten}
 use Rattle.thorin_join.specs.OwnInput.{written_object, IsOwn}
-use Rattle.thorin_join.specs.OwnUnits.{HoldsOwn}
+use Rattle.thorin_join.specs.OwnUnits.{AllOf, HoldsOwn}
 use Rattle.thorin_input.specs.Parts.{parts_of}
 use Rattle.thorin_join.specs.Plain.{IsPlain, HoldsPlain}
 use Rattle.thorin_join.specs.Represents.{IsSoundBegun, units_begun, units_in}
@@ -27,17 +28,20 @@ use Rattle.thorin_join.specs.State.{InProgress, names_of, adding, abbreviations_
 use Rattle.thorin_join.specs.State.{with_source}
 use Rattle.thorin_input.specs.Used.{opened, input_file_of}
 use Rattle.thorin_join.proofs.Apart.{apart-none}
+use Rattle.thorin_join.proofs.EachWhole.{own-encoded, alone-whole}
+use Rattle.thorin_join.proofs.Encoded.{AreEncoded}
 use Rattle.thorin_join.proofs.IndexesRead.{IndexIsRead, IndexHasEntries, SomeIndex, NoIndex}
 use Rattle.thorin_join.proofs.InputJoined.{new-sound}
 use Rattle.thorin_join.proofs.OwnIndexes.{up-to-parts}
 use Rattle.thorin_join.proofs.OwnSections.{opened-elf, object-written}
 use Rattle.thorin_join.proofs.OwnAccepted.{abbreviations-tested, parts-alone, own-read, own-written}
-use Rattle.thorin_join.proofs.OwnAlone.{apart-distinct, taken-input, alone-units, alone-answers}
+use Rattle.thorin_join.proofs.OwnAlone.{apart-distinct, taken-input, alone-units, alone-finds}
 use Rattle.thorin_join.proofs.OwnUnitsAlone.{own-units-new}
 use Rattle.thorin_join.proofs.PartLaws.{NamesTheSameLaw, PackagedLaw}
 use Rattle.thorin_join.proofs.RowPlaces.{FirstLaw, FindLaw}
 use Rattle.thorin_join.proofs.Steps.{bind-ok}
 use Rattle.thorin_join.proofs.UnitsFound.{keys-units}
+use Rattle.thorin_join.proofs.Written.{finished-order}
 
 module _ (names : NamesTheSameLaw) (law : PackagedLaw) (reads : UnitsAreTaken)
     (first_law : FirstLaw) (find_law : FindLaw) (is_read : IndexIsRead)
@@ -155,11 +159,21 @@ own-by-new names law reads first_law find_law is_read has_entries some_index non
     (joins bytes None after.begun tt input) (means state file sound tested f differ back encoded
     start after t.1) in
     let after_sound = sounds bytes None after.begun tt input in
+    let encoded_units : AreEncoded w.made.file.order (units_in state) =
+    subst (λ b. AreEncoded w.made.file.order (units_begun b)) (sym w.begun) (own-encoded w.made
+    w.encoding (subst IsSoundBegun w.begun sound) w.plain
+    (subst (λ b. AllOf w.encoding (units_begun b)) w.begun w.own.all)) in
+    let same_order : w.own.finished.made.file.order ≡ w.made.file.order =
+    ap (λ (m : InProgress). m.file.order) (same_Some w.own.finished.made w.made
+    (sym w.own.finished.begun ∙ w.begun)) in
     record {
       after = after;
       is = t.1;
       units_are = perm;
-      answers = λ alone passed finished kinds_differ read. alone-answers (units_in state)
-          (units_in after) (file_text alone) perm distinct (finishes after alone after_sound passed
-          finished kinds_differ read);
+      answers = λ alone passed finished kinds_differ read.
+          let p = finishes after alone after_sound passed finished kinds_differ read in
+          alone-whole (units_in state) file alone w.made after encoded_units
+          (finished-order w.own.finished.made file w.own.finished.finished ∙ same_order) back input
+          finished read p.pack p.parsed (alone-finds (units_in state) (units_in after)
+          (file_text alone) perm distinct p);
     }

@@ -227,7 +227,7 @@ joins-more bytes old new j =
 
 -- ---- inputs in order
 
-abbrev InputsSound : Type 0
+abbrev pub InputsSound : Type 0
 InputsSound = (bytes : List ℕ) (begun now : Option InProgress) → IsSoundBegun begun
     → with_input bytes begun ≡ Ok now → IsSoundBegun now
 

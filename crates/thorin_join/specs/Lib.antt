@@ -5,6 +5,7 @@ pub mod Meaning
 pub mod Laid
 pub mod Represents
 pub mod Join
+pub mod OneEncoding
 pub mod StandApart
 pub mod FirstUse
 pub mod Again

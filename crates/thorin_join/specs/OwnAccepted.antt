@@ -1,17 +1,13 @@
 -- A written package that is an input again (DWARF 5, 7.3.5).
-use Rattle.std.specs.Prelude.{◌≡◌, ℕ, true, List, Ok, IsPermutation, MatchOption}
-use Rattle.std.specs.Map.{lookup}
+use Rattle.std.specs.Prelude.{◌≡◌, true, Ok, IsPermutation}
 use Rattle.dwp_elf.specs.Contents.{KindsDiffer}
 use Rattle.dwp_elf.specs.FileText.{Object as File, file_text}
 use Rattle.dwp_elf.specs.Written.{written_elf}
 use Rattle.dwp_elf_read.specs.Elf.{elf_of}
-use Rattle.dwp_index.specs.Package.{Package, package_of}
-use Rattle.dwp_table.specs.declared.object.DwarfObject.{DwarfObject}
 use Rattle.thorin_join.specs.Builder.{State, order_of, start, taken, finish_test}
 use Rattle.thorin_join.specs.Builder.{IsFinishedState}
-use Rattle.thorin_join.specs.Join.{GivesUnit, GivesNone, look_limit}
 use Rattle.thorin_join.specs.Meaning.{Members}
-use Rattle.thorin_input.specs.Names.{same_name}
+use Rattle.thorin_join.specs.OneEncoding.{AnswersAs}
 use Rattle.thorin_join.specs.Own.{packs_again}
 use Rattle.thorin_join.specs.OwnRefusals.{UnlessForeseen}
 use Rattle.thorin_join.specs.Represents.{IsSoundBegun, units_in}
@@ -28,17 +24,9 @@ abbrev pub IsAcceptedOnceWritten : State → File → Type 0
 IsAcceptedOnceWritten state file = packs_again state ≡ true → KindsDiffer file.contents
     → elf_of (file_text file) ≡ Ok (written_elf file) → IsAccepted file
 
--- bytes are a package in which looking up any name gives just the unit of that name among these,
--- or none
-pub record AnswersAs (units : Members) (bytes : List ℕ) : Type 0 where
-  pub pack : Package
-  pub parsed : package_of bytes ≡ Ok pack
-  pub finds : (name : DwarfObject) → MatchOption (lookup (same_name name) units)
-      (GivesNone pack name (look_limit units name)) (GivesUnit pack name (look_limit units name))
-
 -- a new package takes the file's bytes, has just these units then, in some order, and what is
--- packed
--- of it alone answers as these units, once it is written and read back as an ELF file
+-- packed of it alone answers as these units, strings and all, once it is written and read back as
+-- an ELF file
 pub record IsAcceptedByNew (units : Members) (file : File) : Type 0 where
   pub after : State
   pub is : taken (file_text file) start ≡ Ok after

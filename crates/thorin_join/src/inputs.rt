@@ -1,11 +1,17 @@
-//! Which lists of inputs make packages that are packed again, as laws.
+//! What lists of inputs make of a new builder, as laws.
 
-ghost use Rattle.std.specs.Prelude.{◌≡◌, ◌↔◌, ℕ, true, List};
-ghost use Rattle.thorin_join.specs.Builder.{State, start};
+ghost use Rattle.std.specs.Prelude.{◌≡◌, ◌↔◌, ℕ, true, List, Ok, All};
+ghost use Rattle.dwp_elf.specs.FileText.{Object};
+ghost use Rattle.thorin_join.specs.Builder.{State, IsFinishedState, start, finish_test};
+ghost use Rattle.thorin_join.specs.OneEncoding.{IsOfOneEncoding, AnswersOnceWritten};
 ghost use Rattle.thorin_join.specs.Own.{packs_again};
 ghost use Rattle.thorin_join.specs.PlainInputs.{AreTaken, IsOfPlainObjects};
+ghost use Rattle.thorin_join.specs.Represents.{units_in};
 
 use crate::joins::inputs_are_joined;
+use crate::laws::finished_packages_are_read;
+use dwp_dwarf::laws::units_have_all_bytes;
+use dwp_index::laws::units_are_read_alone;
 
 /// The law of packing again, by the inputs: once a new builder took some inputs, `packs_again` is
 /// true exactly where each of them is a plain object that added a unit, all their units have one
@@ -16,4 +22,20 @@ pub fn plain_objects_pack_again()
         → (packs_again state ≡ true) ↔ IsOfPlainObjects accepted state }
 {
     inputs_are_joined();
+}
+
+/// The law of one encoding: once a new builder took some inputs, in each of which all units have
+/// the encoding of the first, those that were passed over too, the file of its package, once it is
+/// written, answers as its units, each with all its strings. It does nothing.
+pub fn inputs_of_one_encoding_keep_their_strings()
+    ensures { (accepted : List (List ℕ)) (state : State) → AreTaken accepted start state
+        → All IsOfOneEncoding accepted
+        → (file : Object) → finish_test state ≡ Ok tt
+        → IsFinishedState state file
+        → AnswersOnceWritten (units_in state) file }
+{
+    units_have_all_bytes();
+    units_are_read_alone();
+    inputs_are_joined();
+    finished_packages_are_read();
 }
