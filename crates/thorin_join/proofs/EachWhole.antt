@@ -76,7 +76,7 @@ info-means file units b is h = ap (λ x. cond {A = Result Meant Fault} x
     (input_file_of file >>= object_meaning) (Ok [])) (sym is) ∙ h
 
 -- what an input with units means is what its source means
-means-source : (bytes : List ℕ) (file : Elf) (object : InputFile) (encoding : Encoding)
+pub means-source : (bytes : List ℕ) (file : Elf) (object : InputFile) (encoding : Encoding)
     (units : Meant) → opened bytes ≡ Ok file → has_info file ≡ true
     → input_file_of file ≡ Ok object → encoding_of object ≡ Ok encoding
     → input_meaning bytes ≡ Ok units → (source : Source) × (source.object ≡ object)
@@ -124,7 +124,7 @@ new-encoded : (file : Elf) (begun : Option InProgress) → Encoded begun
 new-encoded file None h = All-nil (λ (u : DwarfObject × Meaning). IsEncoded file.order u.1)
 new-encoded file (Some made) h = h
 
-new-units : (file : Elf) (begun : Option InProgress) → units_of (package_or_new file begun) ≡
+pub new-units : (file : Elf) (begun : Option InProgress) → units_of (package_or_new file begun) ≡
     units_begun begun
 new-units file None = refl
 new-units file (Some made) = refl
@@ -193,7 +193,7 @@ input-encoded reads alone bytes begun now one j h before =
 
 module _ (reads : UnitsAreTaken) (alone : ReadAlone) (sound : InputsSound)
     (joins : InputsJoined) where
-  each-encoded : (accepted : List (List ℕ)) (old new : State) → IsSoundBegun old.begun
+  pub each-encoded : (accepted : List (List ℕ)) (old new : State) → IsSoundBegun old.begun
       → AreTaken accepted old new → All IsOfOneEncoding accepted → Encoded old.begun
       → Encoded new.begun
   each-encoded [] old new fine are one h = subst (λ (s : State). Encoded s.begun) (sym are.1) h
@@ -342,7 +342,7 @@ FinishedLaw = (state : State) (file : File) → IsSoundBegun state.begun → fin
     → IsFinishedState state file → IsPackageOnceWritten (units_in state) file
 
 -- the order and the headers of a package that was begun
-encoded-made : (begun : Option InProgress) (made : InProgress) → begun ≡ Some made → Encoded begun
+pub encoded-made : (begun : Option InProgress) (made : InProgress) → begun ≡ Some made → Encoded begun
     → AreEncoded made.file.order (units_begun begun)
 encoded-made begun made is h =
     subst (λ b. AreEncoded made.file.order (units_begun b)) (sym is) (subst Encoded is h)

@@ -71,3 +71,4 @@ pub mod OwnAccepted
 pub mod PlainInputs
 pub mod Encoded
 pub mod EachWhole
+pub mod InputsAlike

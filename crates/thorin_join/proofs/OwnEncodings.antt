@@ -39,11 +39,11 @@ use Rattle.thorin_join.proofs.Steps.{ok-eq, bind-inv}
 
 -- ---- the units that an input means have its encoding
 
-abbrev Meant : Type 0
+abbrev pub Meant : Type 0
 Meant = List (DwarfObject × Option Meaning)
 
 -- each that has all that belongs to it
-abbrev MeantOf : Encoding → Meant → Type 0
+abbrev pub MeantOf : Encoding → Meant → Type 0
 MeantOf encoding [] = Unit {0}
 MeantOf encoding (u ∷ us) = ((unit : Meaning) → u.1 ≡ Some unit → unit.encoding ≡ encoding)
     × MeantOf encoding us
@@ -104,7 +104,7 @@ all-meant source (read ∷ reads) = (
   all-meant source reads,
 )
 
-source-encoding : (source : Source) (units : Meant) → source_meaning source ≡ Ok units
+pub source-encoding : (source : Source) (units : Meant) → source_meaning source ≡ Ok units
     → MeantOf source.encoding units
 unfolding source_meaning
 source-encoding source units h =
@@ -171,7 +171,7 @@ joined-cond : (own : Encoding) (u : DwarfObject × Option Meaning) (a b : Meant)
 joined-cond own u a b true h k l = k
 joined-cond own u a b false h k l = (h, l)
 
-joined-encoding : (own : Encoding) (names : List DwarfObject) (units : Meant) → MeantOf own units
+pub joined-encoding : (own : Encoding) (names : List DwarfObject) (units : Meant) → MeantOf own units
     → MeantOf own (joining names units)
 joined-encoding own names [] h = tt
 joined-encoding own names (u ∷ us) h =
@@ -179,7 +179,7 @@ joined-encoding own names (u ∷ us) h =
     names) h.0 (joined-encoding own names us h.1)
     (joined-encoding own (names ++ u.0 ∷ []) us h.1)
 
-there-encoding : (own : Encoding) (added : Members)
+pub there-encoding : (own : Encoding) (added : Members)
     → MeantOf own (map {B = DwarfObject × Option Meaning} (λ u. (u.0, Some u.1)) added)
     → AllOf own added
 there-encoding own [] h = λ k d within. absurd (omega (arith, within))

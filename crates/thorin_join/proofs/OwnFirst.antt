@@ -22,6 +22,7 @@ use Rattle.thorin_join.specs.Plain.{NamesItself, IsPlain}
 use Rattle.thorin_join.specs.Represents.{IsSound}
 use Rattle.thorin_join.specs.StandApart.{EachRow}
 use Rattle.thorin_join.specs.State.{InProgress, kind_at, unit_bytes}
+use Rattle.thorin_join.proofs.OffsetsTiled.{weaker}
 use Rattle.thorin_join.proofs.OwnSections.{first-written}
 use Rattle.thorin_join.proofs.RowPlaces.{place-eq}
 use Rattle.thorin_join.proofs.SectionAgain.{part-middle, one-read}
@@ -61,10 +62,16 @@ first-read order place encoding bytes own rest unit left taken read are some is 
       is = sym moved.encoding ∙ is;
     }
 
+-- a row's unit, read of its own bytes alone, has the encoding
+abbrev pub EncodesItself : Endianness → Encoding → Contents → IndexEntry → Type 0
+EncodesItself order encoding contents row = (unit : Header) (rest : Input) → unit_at
+    (place_of row.id row.debug_types) (section order (unit_bytes contents row)) ≡ Ok (unit, rest)
+    → unit.encoding ≡ encoding
+
 first-lies : UnitsAreTaken → (order : Endianness) (place : UnitSection) (encoding : Encoding)
     (contents : Contents) (rows : List IndexEntry) → Lie order place 0 (rows_at place rows)
     (content_of (kind_at place) contents)
-    → EachRow (NamesItself order encoding contents) rows
+    → EachRow (EncodesItself order encoding contents) rows
     → 0 < length (content_of (kind_at place) contents) → First order place encoding
     (content_of (kind_at place) contents)
 first-lies taken order place encoding contents [] lie names some =
@@ -91,19 +98,30 @@ first-lies taken order place encoding contents (r ∷ rs) lie names some =
         let alone = names.0 head.is.unit head.is.rest
         ((λ i. unit_at (sym place_is i) (section order (bytes_are i))) ∙ head.is.read) in
         first-read order place encoding bytes head.own head.rest head.is.unit head.is.rest taken
-        head.is.read head.are some alone.0
+        head.is.read head.are some alone
     by false is l later = later l
+
+pub first-of : UnitsAreTaken → (made : InProgress) (file : File) (encoding : Encoding)
+    → IsSound made → IsFinished made file → KindsDiffer file.contents
+    → EachRow (EncodesItself made.file.order encoding made.file.contents) made.rows
+    → 0 < length (content_of (kind_at places.Info) file.contents)
+    → encoding_of (written_object file) ≡ Ok encoding
+unfolding encoding_of
+first-of taken made file encoding sound fin differ encoded some =
+    let same = finished-own made file fin places.Info in
+    let f = first-lies taken made.file.order places.Info encoding made.file.contents made.rows
+    sound.laid.info encoded (subst (λ l. 0 < length l) same some) in
+    let held = first-written (kind_at places.Info) file.contents differ ∙ same in
+    (λ i. first_encoding (units places.Info (section (finished-order made file fin i) (held i))))
+    ∙ ap first_encoding f.read
+    ∙ ap Ok f.is
 
 pub own-first : UnitsAreTaken → (made : InProgress) (file : File) (encoding : Encoding)
     → IsSound made → IsFinished made file → KindsDiffer file.contents → IsPlain encoding made
     → 0 < length (content_of (kind_at places.Info) file.contents)
     → encoding_of (written_object file) ≡ Ok encoding
-unfolding encoding_of
 own-first taken made file encoding sound fin differ is_plain some =
-    let same = finished-own made file fin places.Info in
-    let f = first-lies taken made.file.order places.Info encoding made.file.contents made.rows
-    sound.laid.info is_plain.units (subst (λ l. 0 < length l) same some) in
-    let held = first-written (kind_at places.Info) file.contents differ ∙ same in
-    (λ i. first_encoding (units places.Info (section (finished-order made file fin i) (held i))))
-    ∙ ap first_encoding f.read
-    ∙ ap Ok f.is
+    first-of taken made file encoding sound fin differ
+    (weaker (NamesItself made.file.order encoding made.file.contents)
+    (EncodesItself made.file.order encoding made.file.contents)
+    (λ row names unit rest read. (names unit rest read).0) made.rows is_plain.units) some

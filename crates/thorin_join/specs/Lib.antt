@@ -5,10 +5,10 @@ pub mod Meaning
 pub mod Laid
 pub mod Represents
 pub mod Join
-pub mod OneEncoding
 pub mod StandApart
 pub mod FirstUse
 pub mod Again
+pub mod OneEncoding
 pub mod Own
 pub mod OwnUnits
 pub mod OwnInput

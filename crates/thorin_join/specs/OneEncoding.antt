@@ -15,6 +15,7 @@ use Rattle.dwp_table.specs.declared.object.DwarfObject.{DwarfObject}
 use Rattle.thorin_input.specs.Encodings.{encoding_of, section_has}
 use Rattle.thorin_input.specs.Names.{same_name}
 use Rattle.thorin_input.specs.Used.{InputFile, opened, input_file_of}
+use Rattle.thorin_join.specs.Again.{input_encoding, HaveEncodingOf}
 use Rattle.thorin_join.specs.Join.{GivesUnit, GivesNone, look_limit}
 use Rattle.thorin_join.specs.Meaning.{Meaning, Members}
 
@@ -24,6 +25,11 @@ abbrev pub IsOfOneEncoding : List ℕ → Type 0
 IsOfOneEncoding bytes = (file : Elf) (object : InputFile) (encoding : Encoding)
     → opened bytes ≡ Ok file → input_file_of file ≡ Ok object → encoding_of object ≡ Ok encoding
     → list_all (section_has encoding object.order) object.sections ≡ true
+
+-- this is the encoding of each
+abbrev pub IsOfEncoding : Encoding → List ℕ → Type 0
+IsOfEncoding encoding bytes = IsOfOneEncoding bytes
+    × ((first : Encoding) → input_encoding bytes ≡ Ok first → first ≡ encoding)
 
 -- a look-up gives that unit, with all its strings
 pub record GivesWhole (pack : Package) (name : DwarfObject) (most : ℕ)
@@ -47,3 +53,8 @@ pub record AnswersAs (units : Members) (bytes : List ℕ) : Type 0 where
 abbrev pub AnswersOnceWritten : Members → File → Type 0
 AnswersOnceWritten units file = KindsDiffer file.contents
     → elf_of (file_text file) ≡ Ok (written_elf file) → AnswersAs units (file_text file)
+
+-- and as an input it has the encoding of each of them
+abbrev pub HaveEncodingOnceWritten : Members → File → Type 0
+HaveEncodingOnceWritten units file = KindsDiffer file.contents
+    → elf_of (file_text file) ≡ Ok (written_elf file) → HaveEncodingOf (file_text file) units

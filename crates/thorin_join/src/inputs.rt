@@ -1,9 +1,11 @@
 //! What lists of inputs make of a new builder, as laws.
 
 ghost use Rattle.std.specs.Prelude.{◌≡◌, ◌↔◌, ℕ, true, List, Ok, All};
+ghost use Rattle.dwp_bytes.specs.declared.encoding.Encoding.{Encoding};
 ghost use Rattle.dwp_elf.specs.FileText.{Object};
 ghost use Rattle.thorin_join.specs.Builder.{State, IsFinishedState, start, finish_test};
-ghost use Rattle.thorin_join.specs.OneEncoding.{IsOfOneEncoding, AnswersOnceWritten};
+ghost use Rattle.thorin_join.specs.OneEncoding.{IsOfOneEncoding, IsOfEncoding};
+ghost use Rattle.thorin_join.specs.OneEncoding.{AnswersOnceWritten, HaveEncodingOnceWritten};
 ghost use Rattle.thorin_join.specs.Own.{packs_again};
 ghost use Rattle.thorin_join.specs.PlainInputs.{AreTaken, IsOfPlainObjects};
 ghost use Rattle.thorin_join.specs.Represents.{units_in};
@@ -38,4 +40,19 @@ pub fn inputs_of_one_encoding_keep_their_strings()
     units_are_read_alone();
     inputs_are_joined();
     finished_packages_are_read();
+}
+
+/// The law of packages of one encoding: once a new builder took inputs all of whose units have one
+/// encoding, those that were passed over too, the first unit that is read of the written package
+/// has the encoding of each of its units. It does nothing.
+pub fn packages_have_the_encoding_of_their_inputs()
+    ensures { (encoding : Encoding) (accepted : List (List ℕ)) (state : State)
+        → AreTaken accepted start state
+        → All (IsOfEncoding encoding) accepted
+        → (file : Object) → IsFinishedState state file
+        → HaveEncodingOnceWritten (units_in state) file }
+{
+    units_have_all_bytes();
+    units_are_read_alone();
+    inputs_are_joined();
 }
