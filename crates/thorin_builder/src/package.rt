@@ -8,7 +8,7 @@ ghost use Rattle.thorin_join.specs.Builder as spec;
 ghost use Rattle.thorin_join.specs.Builder.{IsFinishedState};
 ghost use Rattle.thorin_join.specs.Join.{Joins, IsPackageOnceWritten};
 ghost use Rattle.thorin_join.specs.Meaning.{keys};
-ghost use Rattle.thorin_join.specs.Represents.{units_in};
+ghost use Rattle.thorin_join.specs.Represents.{IsSoundBegun, units_in};
 ghost use Rattle.thorin_builder.specs.Missing.{missing_left};
 ghost use Rattle.thorin_join.specs.Own.{packs_again};
 ghost use Rattle.thorin_join.specs.OwnAccepted.{IsAcceptedByNewOnceWritten};
@@ -397,9 +397,12 @@ impl<'output, 'session: 'output, Sess: Session<RelocationEntry>> DwarfPackage<
         }
     }
 
-    /// The units that the package contains, in order of acceptance. It takes no memory.
+    /// The units that the package contains, in order of acceptance. It takes no memory. A proof that
+    /// borrows a package learns here that its units can be found and read, as the laws of
+    /// `thorin_join` ask.
     pub fn contained_units(&self) -> &IndexSet<DwarfObject>
-        ensures { result.now.keys ≡ keys (units_in self.now.state) }
+        ensures names { result.now.keys ≡ keys (units_in self.now.state) }
+        ensures sound { IsSoundBegun self.now.state.begun }
     {
         match &self.in_progress {
             Some(package) => package.names(),

@@ -38,7 +38,8 @@ use Rattle.thorin_input.specs.NewUnits.{new_units}
 use Rattle.thorin_input.specs.Parts.{parts_of}
 use Rattle.thorin_input.specs.Used.{InputFile, opened, has_info, input_file_of}
 use Rattle.thorin_join.specs.Builder.{State, start, taken, with_input, with_units, package_or_new}
-use Rattle.thorin_join.specs.Builder.{with_source_or_new, order_test, finish_test, IsFinishedState}
+use Rattle.thorin_join.specs.Builder.{with_source_or_new, order_test, order_of, finish_test}
+use Rattle.thorin_join.specs.Builder.{IsFinishedState}
 use Rattle.thorin_join.specs.Join.{Joins, IsPackageOf, IsPackageOnceWritten, GivesUnit, GivesNone}
 use Rattle.thorin_join.specs.Join.{look_limit}
 use Rattle.thorin_join.specs.Meaning.{Meaning, Members, keys, joining, input_meaning, object_meaning}
@@ -377,35 +378,44 @@ module _ (reads : UnitsAreTaken) (alone : ReadAlone) (sound : InputsSound)
 
 -- ---- own packages
 
--- the byte order of a package that an input begins
-begun-order : (bytes : List ℕ) (file : Elf) (now : Option InProgress) (made : InProgress)
-    → opened bytes ≡ Ok file → with_input bytes None ≡ Ok now → now ≡ Some made
-    → made.file.order ≡ file.order
+-- the byte order of a package after an input: that before, or the input's own
+pub input-order : (bytes : List ℕ) (file : Elf) (begun now : Option InProgress) (order : Endianness)
+    → opened bytes ≡ Ok file → with_input bytes begun ≡ Ok now
+    → order_of now order ≡ order_of begun file.order
 unfolding with_input with_units with_source_or_new
-begun-order bytes file now made opens h is =
+input-order bytes file begun now order opens h =
     let f = bind-inv (opened bytes) _ now h in
     let same : f.0 ≡ file = ok-eq {E = Fault} f.0 file (sym f.1 ∙ opens) in
-    by f.0 (has_info f.0) f.2 ∙ ap (λ (e : Elf). e.order) same
+    by f.0 (has_info f.0) f.2 ∙ ap (λ (e : Elf). order_of begun e.order) same
   where
-    units : (e : Elf) → with_units e None ≡ Ok now → made.file.order ≡ e.order
+    new : (e : Elf) → (package_or_new e begun).file.order ≡ order_of begun e.order
+    new e = at begun
+      where
+        at : (b : Option InProgress) → (package_or_new e b).file.order ≡ order_of b e.order
+        at None = refl
+        at (Some made) = refl
+
+    units : (e : Elf) → with_units e begun ≡ Ok now → order_of now order ≡ order_of begun e.order
     units e k =
         let s1 = bind-inv (input_file_of e) _ now k in
         let s2 = bind-inv (encoding_of s1.0) _ now s1.2 in
-        let s3 = bind-inv (order_test s1.0.order None) _ now s2.2 in
+        let s3 = bind-inv (order_test s1.0.order begun) _ now s2.2 in
         let s4 = bind-inv (indexes_of s1.0 s2.0) _ now s3.2 in
         let source : Source = record { object = s1.0; encoding = s2.0; indexes = s4.0 } in
-        let s5 = bind-inv (with_source source (package_or_new e None)) _ now s4.2 in
-        let there : s5.0 ≡ made = same_Some s5.0 made (ok-eq {E = Fault} _ now s5.2 ∙ is) in
-        ap (λ (m : InProgress). m.file.order) (sym there)
-        ∙ source-order source (package_or_new e None) s5.0 s5.1
+        let s5 = bind-inv (with_source source (package_or_new e begun)) _ now s4.2 in
+        ap (λ b. order_of b order) (sym (ok-eq {E = Fault} _ now s5.2))
+        ∙ source-order source (package_or_new e begun) s5.0 s5.1 ∙ new e
 
-    by : (e : Elf) (b : Bool) → cond {A = Result (Option InProgress) Fault} b (with_units e None)
-        (Ok (Some (package_or_new e None))) ≡ Ok now → made.file.order ≡ e.order
+    by : (e : Elf) (b : Bool) → cond {A = Result (Option InProgress) Fault} b (with_units e begun)
+        (Ok (Some (package_or_new e begun))) ≡ Ok now → order_of now order ≡ order_of begun e.order
     by e true k = units e k
-    by e false k =
-        let there : package_or_new e None ≡ made =
-        same_Some _ made (ok-eq {E = Fault} _ now k ∙ is) in
-        ap (λ (m : InProgress). m.file.order) (sym there)
+    by e false k = ap (λ b. order_of b order) (sym (ok-eq {E = Fault} _ now k)) ∙ new e
+
+pub taken-order : (bytes : List ℕ) (file : Elf) (old new : State) (order : Endianness)
+    → elf_of bytes ≡ Ok file → taken bytes old ≡ Ok new
+    → order_of new.begun order ≡ order_of old.begun file.order
+taken-order bytes file old new order is h = input-order bytes file old.begun new.begun order
+    (opened-elf bytes file is) (begun-now bytes old new h)
 
 row-encoded : (order : Endianness) (encoding : Encoding) (contents : Contents)
     (strings : List (List ℕ)) (row : IndexEntry)
@@ -458,6 +468,8 @@ pub alone-whole : (units : Members) (source file : File) (made : InProgress) (af
     → package_of (file_text file) ≡ Ok pack → Finds pack units → AnswersAs units (file_text file)
 alone-whole units source file made after are same written h f back pack parsed finds =
     answers-whole made.file.order units file back
-    (finished-order f.made file f.finished ∙ begun-order (file_text source) (written_elf source)
-    after.begun f.made (opened-elf (file_text source) (written_elf source) written) h f.begun ∙
-    same) are pack parsed finds
+    (finished-order f.made file f.finished
+    ∙ sym (ap (λ b. order_of b source.order) f.begun)
+    ∙ input-order (file_text source) (written_elf source) None after.begun source.order
+    (opened-elf (file_text source) (written_elf source) written) h
+    ∙ same) are pack parsed finds

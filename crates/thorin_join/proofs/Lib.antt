@@ -72,3 +72,4 @@ pub mod PlainInputs
 pub mod Encoded
 pub mod EachWhole
 pub mod InputsAlike
+pub mod InputsAccepted

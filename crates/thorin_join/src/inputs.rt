@@ -3,15 +3,24 @@
 ghost use Rattle.std.specs.Prelude.{◌≡◌, ◌↔◌, ℕ, true, List, Ok, All};
 ghost use Rattle.dwp_bytes.specs.declared.encoding.Encoding.{Encoding};
 ghost use Rattle.dwp_elf.specs.FileText.{Object};
-ghost use Rattle.thorin_join.specs.Builder.{State, IsFinishedState, start, finish_test};
+ghost use Rattle.dwp_base.specs.declared.endian.Endianness.{Endianness};
+ghost use Rattle.dwp_elf_read.specs.Elf.{Elf, elf_of};
+ghost use Rattle.thorin_join.specs.Builder.{State, IsFinishedState, start, finish_test, order_of};
+ghost use Rattle.thorin_join.specs.Builder.{taken};
 ghost use Rattle.thorin_join.specs.OneEncoding.{IsOfOneEncoding, IsOfEncoding};
 ghost use Rattle.thorin_join.specs.OneEncoding.{AnswersOnceWritten, HaveEncodingOnceWritten};
 ghost use Rattle.thorin_join.specs.Own.{packs_again};
+ghost use Rattle.thorin_join.specs.OwnAccepted.{IsAcceptedByNewOnceWritten};
+ghost use Rattle.thorin_join.specs.OwnAccepted.{IsAcceptedOnceWritten};
 ghost use Rattle.thorin_join.specs.PlainInputs.{AreTaken, IsOfPlainObjects};
 ghost use Rattle.thorin_join.specs.Represents.{units_in};
 
 use crate::joins::inputs_are_joined;
 use crate::laws::finished_packages_are_read;
+use crate::own::one_encoding_is_kept;
+use crate::plain::{
+    own_packages_are_accepted, own_packages_are_accepted_by_a_new_one, plain_packages_are_kept,
+};
 use dwp_dwarf::laws::units_have_all_bytes;
 use dwp_index::laws::units_are_read_alone;
 
@@ -55,4 +64,36 @@ pub fn packages_have_the_encoding_of_their_inputs()
     units_have_all_bytes();
     units_are_read_alone();
     inputs_are_joined();
+}
+
+/// The law of byte order: an input leaves a package the byte order that it has, and begins one with
+/// its own. It does nothing.
+pub fn the_first_byte_order_stays()
+    ensures { (bytes : List ℕ) (file : Elf) (old new : State) (order : Endianness)
+        → elf_of bytes ≡ Ok file
+        → taken bytes old ≡ Ok new
+        → order_of new.begun order ≡ order_of old.begun file.order }
+{}
+
+/// The laws of own packages, by the inputs: once a new builder took some inputs, and `packs_again`
+/// is true of it, its package, finished and written, is taken by any package of its byte order and
+/// by a new one, unless a compilation unit is there already or the offset of a string doesn't fit
+/// the format; a new one takes it in any case, and has the same units then. It does nothing.
+pub fn packages_that_pack_again_are_accepted()
+    ensures accepted { (accepted : List (List ℕ)) (state : State) (file : Object)
+        → AreTaken accepted start state
+        → finish_test state ≡ Ok tt
+        → IsFinishedState state file
+        → IsAcceptedOnceWritten state file }
+    ensures accepted_by_new { (accepted : List (List ℕ)) (state : State) (file : Object)
+        → AreTaken accepted start state
+        → finish_test state ≡ Ok tt
+        → IsFinishedState state file
+        → IsAcceptedByNewOnceWritten state file }
+{
+    inputs_are_joined();
+    one_encoding_is_kept();
+    plain_packages_are_kept();
+    own_packages_are_accepted();
+    own_packages_are_accepted_by_a_new_one();
 }

@@ -13,7 +13,7 @@ pub use again::written_packages_mean_their_units;
 pub use beside::{inputs_stand_apart, strings_stand_in_order_of_first_use};
 pub use inputs::{
     inputs_of_one_encoding_keep_their_strings, packages_have_the_encoding_of_their_inputs,
-    plain_objects_pack_again,
+    packages_that_pack_again_are_accepted, plain_objects_pack_again, the_first_byte_order_stays,
 };
 pub use joins::inputs_are_joined;
 pub use laws::{finished_packages_are_read, written_packages_are_read};

@@ -9,5 +9,8 @@ pub returns-in-Some : goal.returns-in-Some
 returns-in-Some g c =
     let begun : c.args.self.now.state.begun ≡ Some (in_progress_of c.in-Some.package) =
     search (rules, c.self.view_is, c.in-Some.is) in
-    c.names.ensures ∙ sym (keys-units (in_progress_of c.in-Some.package)) ∙ ap (λ b.
-    keys (units_begun b)) (sym begun)
+    record {
+      names = c.names.ensures ∙ sym (keys-units (in_progress_of c.in-Some.package)) ∙ ap (λ b.
+          keys (units_begun b)) (sym begun);
+      sound = search (rules, c.self.view_is, c.self.invariant);
+    }

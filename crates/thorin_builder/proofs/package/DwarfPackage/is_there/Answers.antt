@@ -12,7 +12,7 @@ returns-in-Compilation g c =
     let is : c.args.target ≡ Compilation c.in-Compilation.field-0 =
     search (rules, c.in-Compilation.is) in
     let names : c.contained_units.result.now.keys ≡ names_in c.args.self.now.state.begun =
-    c.contained_units.ensures ∙ names-begun c.args.self.now.state in
+    c.contained_units.ensures.names ∙ names-begun c.args.self.now.state in
     let among : c.contains.result ≡ list_any (same_name c.args.target)
     c.contained_units.result.now.keys = search (
       rules,

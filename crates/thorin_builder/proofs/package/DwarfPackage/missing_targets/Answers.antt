@@ -7,7 +7,7 @@ use Rattle.thorin_builder.proofs.package.DwarfPackage.missing_targets.Goals as g
 pub returns : goal.returns
 returns g c =
     let names : c.contained_units.result.now.keys ≡ names_in c.args.self.now.state.begun =
-    c.contained_units.ensures ∙ names-begun c.args.self.now.state in
+    c.contained_units.ensures.names ∙ names-begun c.args.self.now.state in
     c.new.ensures
     ∙ ap (λ n. filter (is_missing n) c.self.inside.targets.keys) names
     ∙ ap (λ t. filter (is_missing (names_in c.args.self.now.state.begun)) t)
