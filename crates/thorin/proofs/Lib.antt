@@ -5,3 +5,5 @@ pub mod GroupJoins
 pub mod GroupLookups
 pub mod GroupUnits
 pub mod GroupMeaning
+pub mod RunTaken
+pub mod TakenAgain

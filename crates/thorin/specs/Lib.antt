@@ -1,3 +1,4 @@
 pub mod Run
 pub mod Packed
 pub mod Groups
+pub mod Again

@@ -4,6 +4,7 @@
 //! parts that the builder is made of (the table of strings, the index writer, relocations).
 #![tactic(auto)]
 
+pub mod again;
 mod groups;
 pub mod laws;
 mod packing;

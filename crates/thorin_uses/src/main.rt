@@ -1,10 +1,13 @@
-//! The examples of docs/LIBRARY.md, run: packs the sample and prints the first strings of its unit.
+//! The examples of docs/LIBRARY.md, run: packs the sample, prints the first strings of its unit, and
+//! adds the package to a new builder.
 #![tactic(auto)]
 
 mod find_string;
+mod pack_again;
 mod pack_bytes;
 
 use crate::find_string::string_of_unit;
+use crate::pack_again::units_packed_again;
 use crate::pack_bytes::package_of;
 use std::{fs, io};
 use thorin::DwoId;
@@ -23,5 +26,8 @@ fn main(rt: HostRuntime) -> io::Result<()> {
             Err(fault) => println!(rt; "error: {fault}")?,
         }
     }
-    Ok(())
+    match units_packed_again(rt.alloc(), &package) {
+        Ok(count) => println!(rt; "{count} unit packed again"),
+        Err(fault) => println!(rt; "error: {fault}"),
+    }
 }

@@ -1,0 +1,114 @@
+//! What packing says of packages that are packed again, and of inputs of one encoding, as laws.
+
+ghost use Rattle.std.specs.Prelude.{◌≡◌, ℕ, true, List, Ok, All, IfOk};
+ghost use Rattle.dwp_base.specs.declared.endian.Endianness.{Endianness};
+ghost use Rattle.thorin_faults.specs.Fault.{Fault};
+ghost use Rattle.thorin_join.specs.Builder.{State, start};
+ghost use Rattle.thorin_join.specs.OneEncoding.{IsOfOneEncoding, AnswersAs};
+ghost use Rattle.thorin_join.specs.Own.{packs_again};
+ghost use Rattle.thorin_join.specs.PlainInputs.{AreTaken};
+ghost use Rattle.thorin_join.specs.Represents.{units_in};
+ghost use Rattle.thorin_builder.specs.Taking.{Outcome};
+ghost use Rattle.thorin.specs.declared.packing.Input.{Input};
+ghost use Rattle.thorin.specs.declared.packing.Packed.{Packed};
+ghost use Rattle.thorin.specs.Again.{IsTakenAgain, CanBePackedAgain, IsLeft, HasCommonEncoding};
+ghost use Rattle.thorin.specs.Groups.{ArePackedAlone, HaveTheirEncodings, IsPackageOfAll};
+ghost use Rattle.thorin.specs.Groups.{IsPackedAlone, IsPackedInGroups, RefusesPackages, inputs_of};
+ghost use Rattle.thorin.specs.Groups.{taken_each};
+ghost use Rattle.thorin.specs.Packed.{IsPacked};
+ghost use Rattle.thorin.specs.Run.{Ran, IsWritten};
+
+use crate::laws::groups_are_packed_alike;
+use dwp_bytes::RelocationEntry;
+use thorin_builder::InputReader;
+use thorin_faults::Session;
+use thorin_join::{
+    inputs_are_joined, inputs_of_one_encoding_keep_their_strings,
+    packages_have_the_encoding_of_their_inputs, packages_that_pack_again_are_accepted,
+    the_first_byte_order_stays,
+};
+
+/// The law of accepted inputs: those of a run were taken one after another. So the laws of
+/// `thorin_join` on lists of inputs speak of runs, and of inputs that are all taken. It does
+/// nothing.
+pub fn accepted_inputs_are_taken<R: InputReader>(reader: &R)
+    ensures ran { (inputs : List Input) (old new : State) (outcomes : List Outcome)
+        (accepted : List (List ℕ))
+        → Ran (R.offer reader.now) inputs old outcomes new accepted
+        → AreTaken accepted old new }
+    ensures each { (inputs : List (List ℕ)) (old new : State)
+        → taken_each inputs old ≡ Ok new → AreTaken inputs old new }
+{
+    let _ = reader;
+}
+
+/// The laws of written packages: where `packs_again` is true of the state that inputs left, what is
+/// written of it is taken again; and where each input has one encoding, it answers as its units,
+/// with all their strings. It does nothing.
+pub fn written_packages_are_taken_again()
+    ensures again { (accepted : List (List ℕ)) (state : State) (bytes : List ℕ)
+        → AreTaken accepted start state
+        → packs_again state ≡ true
+        → IsWritten state bytes
+        → IsTakenAgain (units_in state) bytes }
+    ensures answers { (accepted : List (List ℕ)) (state : State) (bytes : List ℕ)
+        → AreTaken accepted start state
+        → All IsOfOneEncoding accepted
+        → IsWritten state bytes
+        → AnswersAs (units_in state) bytes }
+{
+    packages_that_pack_again_are_accepted();
+    inputs_of_one_encoding_keep_their_strings();
+}
+
+/// The same of what `pack` gives. It does nothing.
+pub fn packed_files_are_taken_again<Sess: Session<RelocationEntry>>(session: &Sess)
+    ensures again { (inputs : List Input) (packed : Packed)
+        (is : IsPacked (Sess.offer session.now) inputs packed)
+        → packs_again is.state ≡ true
+        → IfOk packed.file (λ bytes. IsTakenAgain (units_in is.state) bytes.items) }
+    ensures answers { (inputs : List Input) (packed : Packed)
+        (is : IsPacked (Sess.offer session.now) inputs packed)
+        → All IsOfOneEncoding is.accepted
+        → IfOk packed.file (λ bytes. AnswersAs (units_in is.state) bytes.items) }
+{
+    written_packages_are_taken_again();
+    let _ = session;
+}
+
+/// The same of what `pack_groups` packs of each group. And where every group's package can be
+/// packed again, and they have one byte order, all that can still end the packing is a compilation
+/// unit that stands in two of them, the offset of a string that doesn't fit, or an error of
+/// finishing or writing what was joined. It does nothing.
+pub fn packages_of_groups_are_taken_again()
+    ensures alone { (inputs : List (List ℕ)) (bytes : List ℕ) (is : IsPackedAlone inputs bytes)
+        → packs_again is.state ≡ true
+        → IsTakenAgain (units_in is.state) bytes }
+    ensures left { (order : Endianness) (groups : List (List (List ℕ))) (fault : Fault)
+        (refused : RefusesPackages groups fault)
+        → CanBePackedAgain order groups refused.packages refused.each
+        → IsLeft refused.packages fault }
+{
+    inputs_are_joined();
+    packages_that_pack_again_are_accepted();
+    written_packages_are_taken_again();
+    the_first_byte_order_stays();
+}
+
+/// The law of groups of one encoding: where all units of each group's inputs have one encoding,
+/// those that were passed over too, each unit of each group's package has the encoding of that
+/// package's first unit. So the file of all groups is a package of the units that all inputs of all
+/// groups join at once. It does nothing.
+pub fn groups_of_one_encoding_are_packed_alike()
+    ensures encodings { (groups : List (List (List ℕ))) (packages : List (List ℕ))
+        (each : ArePackedAlone groups packages)
+        → All HasCommonEncoding groups
+        → HaveTheirEncodings groups packages each }
+    ensures joined { (groups : List (List (List ℕ))) (file : List ℕ)
+        → IsPackedInGroups groups file
+        → All HasCommonEncoding groups
+        → IsPackageOfAll (inputs_of groups) file }
+{
+    packages_have_the_encoding_of_their_inputs();
+    groups_are_packed_alike();
+}

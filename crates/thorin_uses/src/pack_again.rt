@@ -1,0 +1,36 @@
+//! Adds a package that was packed before to a builder that the caller has.
+
+ghost use Rattle.std.specs.Prelude.{◌≡◌, IfErr};
+ghost use Rattle.dwp_elf.specs.FileText.{Object, file_text};
+ghost use Rattle.thorin_faults.specs.Answers.{MemoryAside};
+ghost use Rattle.thorin_faults.specs.Fault.{fault_of};
+ghost use Rattle.thorin_join.specs.Builder.{order_of};
+ghost use Rattle.thorin_join.specs.OwnAccepted.{IsAccepted};
+ghost use Rattle.thorin_join.specs.OwnRefusals.{IsForeseen};
+
+use std::alloc::Global;
+use thorin::{Bump, BytesSession, DwarfPackage, Error, RelocationEntry, Session};
+
+/// How many units a new builder has once it took a package.
+pub fn units_packed_again(alloc: Global, package: &[u8]) -> Result<usize, Error> {
+    let arena = Bump::new(alloc);
+    let session = BytesSession::new(&arena);
+    let mut builder = DwarfPackage::new(alloc, &session);
+    add_package(&mut builder, package)?;
+    Ok(builder.contained_units().len())
+}
+
+/// Adds a package of the builder's byte order, of whose own builder `packs_again` was true. Memory
+/// aside, it can be refused only for a compilation unit that is there already, or for the offset of
+/// a string that doesn't fit.
+pub fn add_package<'output, 'session: 'output, Sess: Session<RelocationEntry>>(
+    builder: &mut DwarfPackage<'output, 'session, Sess>,
+    package: &[u8],
+) -> Result<(), Error>
+    ensures refused { (file : Object) → package.now ≡ file_text file → IsAccepted file
+        → order_of builder.old.state.begun file.order ≡ file.order
+        → IfErr result (λ e. MemoryAside e (IsForeseen (fault_of e))) }
+{
+    let _units = builder.contained_units();
+    builder.add_object_bytes(package)
+}
