@@ -7,3 +7,4 @@ pub mod GroupUnits
 pub mod GroupMeaning
 pub mod RunTaken
 pub mod TakenAgain
+pub mod Differs

@@ -1,5 +1,6 @@
 -- What a run accepted was taken, one input after another.
-use Rattle.std.proofs.Common.{◌≡◌, ◌∙◌, ℕ, List, [], ◌∷◌, ◌++◌, refl, sym, ap, subst, Option, Result}
+use Rattle.std.proofs.Common.{◌≡◌, ◌∙◌, ℕ, List, [], ◌∷◌, ◌++◌, refl, sym, ap, subst, Option}
+use Rattle.std.proofs.Common.{Result}
 use Rattle.std.proofs.Common.{Ok, Err, inl, inr}
 use Rattle.dwp_base.specs.Reading.{◌>>=◌}
 use Rattle.dwp_table.specs.declared.object.DwarfObject.{DwarfObject}
@@ -22,7 +23,7 @@ use Rattle.thorin.proofs.Running.{Offer}
 
 -- ---- lists of inputs
 
-bind-was : {A B E : Type 0} (r : Result A E) (f : A → Result B E) (y : B) → (r >>= f) ≡ Ok y
+pub bind-was : {A B E : Type 0} (r : Result A E) (f : A → Result B E) (y : B) → (r >>= f) ≡ Ok y
     → (x : A) × (r ≡ Ok x) × (f x ≡ Ok y)
 bind-was (Ok x) f y h = (x, refl, h)
 bind-was (Err e) f y h = absurd cc

@@ -2,3 +2,4 @@ pub mod Run
 pub mod Packed
 pub mod Groups
 pub mod Again
+pub mod Differing

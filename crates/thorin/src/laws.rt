@@ -1,14 +1,15 @@
 //! What runs and packing in groups mean, as laws.
 
-ghost use Rattle.std.specs.Prelude.{◌≡◌, ◌∷◌, ◌++◌, ℕ, List, [], Option, IsPermutation};
+ghost use Rattle.std.specs.Prelude.{◌≡◌, ◌∷◌, ◌++◌, ℕ, List, [], Ok, Option, IsPermutation};
 ghost use Rattle.std.specs.List.{flat_map};
 ghost use Rattle.dwp_table.specs.declared.object.DwarfObject.{DwarfObject};
-ghost use Rattle.thorin_join.specs.Builder.{State};
+ghost use Rattle.thorin_join.specs.Builder.{State, taken, differing_in};
 ghost use Rattle.thorin_join.specs.Join.{JoinAll};
 ghost use Rattle.thorin_join.specs.Meaning.{Meaning, joining, can_join};
 ghost use Rattle.thorin_join.specs.Represents.{units_in};
 ghost use Rattle.thorin_builder.specs.Taking.{Outcome};
 ghost use Rattle.thorin.specs.declared.packing.Input.{Input};
+ghost use Rattle.thorin.specs.Differing.{differing, own_bytes, input_units};
 ghost use Rattle.thorin.specs.Groups.{AreJoined, HaveTheirEncodings, IsPackedInGroups};
 ghost use Rattle.thorin.specs.Groups.{IsPackageOfAll, inputs_of};
 ghost use Rattle.thorin.specs.Run.{Ran, TakesInput};
@@ -60,3 +61,14 @@ pub fn runs_go_on<R: InputReader>(reader: &R)
 {
     let _ = reader;
 }
+
+/// The law of type units that differ: where an input is taken, the signatures that it adds are those
+/// of its type units, in file order, whose name is there or came before, and whose bytes differ from
+/// those that are kept for the name. The units before and the input's own decide it. It does
+/// nothing.
+pub fn passed_type_units_are_compared()
+    ensures { (bytes : List ℕ) (old new : State) (units : List (DwarfObject × List ℕ))
+        → taken bytes old ≡ Ok new
+        → input_units bytes ≡ Ok units
+        → differing_in new ≡ differing_in old ++ differing (own_bytes (units_in old)) [] units }
+{}

@@ -1,5 +1,6 @@
 -- Where each input has one encoding, each unit of a package has its strings.
-use Rattle.std.proofs.Common.{◌≡◌, ◌∙◌, ℕ, Bool, true, false, cond, List, [], ◌∷◌, ◌++◌, map, refl, sym}
+use Rattle.std.proofs.Common.{◌≡◌, ◌∙◌, ℕ, Bool, true, false, cond, List, [], ◌∷◌, ◌++◌, map, refl}
+use Rattle.std.proofs.Common.{sym}
 use Rattle.std.proofs.Common.{ap, subst, Result, Ok, Err, Option, Some, None, true≢false}
 use Rattle.std.specs.Prelude.{All, slice_get, MatchOption}
 use Rattle.std.specs.List.{list_all}
@@ -42,7 +43,8 @@ use Rattle.thorin_join.specs.Builder.{with_source_or_new, order_test, order_of, 
 use Rattle.thorin_join.specs.Builder.{IsFinishedState}
 use Rattle.thorin_join.specs.Join.{Joins, IsPackageOf, IsPackageOnceWritten, GivesUnit, GivesNone}
 use Rattle.thorin_join.specs.Join.{look_limit}
-use Rattle.thorin_join.specs.Meaning.{Meaning, Members, keys, joining, input_meaning, object_meaning}
+use Rattle.thorin_join.specs.Meaning.{Meaning, Members, keys, joining, input_meaning}
+use Rattle.thorin_join.specs.Meaning.{object_meaning}
 use Rattle.thorin_join.specs.Meaning.{source_meaning}
 use Rattle.thorin_join.specs.OneEncoding.{IsOfOneEncoding, GivesWhole, AnswersAs}
 use Rattle.thorin_join.specs.OneEncoding.{AnswersOnceWritten}
@@ -55,7 +57,8 @@ use Rattle.thorin_join.specs.Represents.{units_of, units_in, units_begun}
 use Rattle.thorin_join.specs.StandApart.{EachRow}
 use Rattle.thorin_join.specs.State.{InProgress, with_source, adding, abbreviations_test, unit_bytes}
 use Rattle.thorin_parts.specs.declared.entry.IndexEntry.{IndexEntry}
-use Rattle.thorin_join.proofs.Encoded.{AreEncoded, IsEncoded, MeantAre, Meant, source-fine, joined-fine}
+use Rattle.thorin_join.proofs.Encoded.{AreEncoded, IsEncoded, MeantAre, Meant, source-fine}
+use Rattle.thorin_join.proofs.Encoded.{joined-fine}
 use Rattle.thorin_join.proofs.Encoded.{there-fine, header-has, in-of}
 use Rattle.thorin_join.proofs.HeadersRead.{ReadAlone}
 use Rattle.thorin_join.proofs.InputJoined.{made-order}
@@ -343,7 +346,8 @@ FinishedLaw = (state : State) (file : File) → IsSoundBegun state.begun → fin
     → IsFinishedState state file → IsPackageOnceWritten (units_in state) file
 
 -- the order and the headers of a package that was begun
-pub encoded-made : (begun : Option InProgress) (made : InProgress) → begun ≡ Some made → Encoded begun
+pub encoded-made : (begun : Option InProgress) (made : InProgress)
+    → begun ≡ Some made → Encoded begun
     → AreEncoded made.file.order (units_begun begun)
 encoded-made begun made is h =
     subst (λ b. AreEncoded made.file.order (units_begun b)) (sym is) (subst Encoded is h)

@@ -1,7 +1,8 @@
 -- The header of a unit that was read has the encoding that is recorded of it, wherever its bytes
 -- are read again.
 use Rattle.std.proofs.Common.{◌≡◌, ◌∙◌, ℕ, suc, Bool, true, false, cond, nat_eq, ◌&&◌, List, []}
-use Rattle.std.proofs.Common.{◌∷◌, ◌++◌, map, refl, sym, ap, subst, Result, Ok, Err, Option, Some, None}
+use Rattle.std.proofs.Common.{◌∷◌, ◌++◌, map, refl, sym, ap, subst, Result, Ok, Err, Option, Some}
+use Rattle.std.proofs.Common.{None}
 use Rattle.std.proofs.Common.{◌-◌, true≢false, arith}
 use Rattle.std.specs.Prelude.{All, nat_le}
 use Rattle.std.specs.List.{list_any, list_all}
@@ -16,7 +17,8 @@ use Rattle.dwp_bytes.specs.declared.encoding.Encoding.{Encoding}
 use Rattle.dwp_bytes.specs.declared.encoding.Format.{Format}
 use Rattle.dwp_bytes.specs.declared.fault.ReadError.{ReadError}
 use Rattle.dwp_bytes.specs.declared.fault.ReadError.TheVariants.{UnknownVersion}
-use Rattle.dwp_dwarf.specs.Units.{Unit as Header, UnitsAreTaken, unit_at, units, header_at, older_at}
+use Rattle.dwp_dwarf.specs.Units.{Unit as Header, UnitsAreTaken, unit_at, units, header_at}
+use Rattle.dwp_dwarf.specs.Units.{older_at}
 use Rattle.dwp_dwarf.specs.Units.{newer_at, older_type_at, address_size_at, initial_length_at}
 use Rattle.dwp_dwarf.specs.declared.unit.UnitSection.{UnitSection}
 use Rattle.dwp_index.specs.Index.{Ranges}
@@ -32,7 +34,8 @@ use Rattle.thorin_input.specs.Rows.{own_range}
 use Rattle.thorin_input.specs.Used.{Used, first}
 use Rattle.thorin_join.specs.Meaning.{Meaning, Members, UnitRead, named_unit, named_each, named_at}
 use Rattle.thorin_join.specs.Meaning.{named_sections, source_units, source_meaning, meant, joining}
-use Rattle.thorin_join.specs.Meaning.{meaning_with, meaning_by, unit_meaning, lie_inside, offsets_by}
+use Rattle.thorin_join.specs.Meaning.{meaning_with, meaning_by, unit_meaning, lie_inside}
+use Rattle.thorin_join.specs.Meaning.{offsets_by}
 use Rattle.thorin_join.specs.Meaning.{placed_row, part_by, pieces_by}
 use Rattle.thorin_join.specs.Strings.{strings_of}
 use Rattle.thorin_join.proofs.HeadersRead.{ReadAlone}
@@ -134,7 +137,8 @@ pub header-has : (order : Endianness) (place : UnitSection) (bytes : List ℕ) (
 header-has order place bytes encoding h other found k =
     in-encoding other place order bytes found encoding k h
 
-pub in-of : (order : Endianness) (place : UnitSection) (bytes : List ℕ) (unit : Header) (rest : Input)
+pub in-of : (order : Endianness) (place : UnitSection) (bytes : List ℕ)
+    (unit : Header) (rest : Input)
     → unit_at place (section order bytes) ≡ Ok (unit, rest)
     → encoding_in order place bytes ≡ Ok unit.encoding
 unfolding encoding_in

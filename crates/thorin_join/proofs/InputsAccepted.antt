@@ -1,5 +1,6 @@
 -- What a new builder holds once it took some inputs.
-use Rattle.std.proofs.Common.{◌≡◌, ◌∙◌, ℕ, List, [], ◌∷◌, refl, sym, ap, subst, Ok, Option, Some, None}
+use Rattle.std.proofs.Common.{◌≡◌, ◌∙◌, ℕ, List, [], ◌∷◌, refl, sym, ap, subst, Ok, Option, Some}
+use Rattle.std.proofs.Common.{None}
 use Rattle.dwp_table.specs.declared.object.DwarfObject.{DwarfObject}
 use Rattle.thorin_join.specs.Builder.{State, start, taken}
 use Rattle.thorin_join.specs.OwnUnits.{HoldsOwn}

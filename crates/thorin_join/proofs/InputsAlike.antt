@@ -1,5 +1,6 @@
 -- Where all inputs have one encoding, so has what is written, as an input.
-use Rattle.std.proofs.Common.{◌≡◌, ◌∙◌, ℕ, ◌<◌, Bool, true, false, cond, List, [], ◌∷◌, ◌++◌, length}
+use Rattle.std.proofs.Common.{◌≡◌, ◌∙◌, ℕ, ◌<◌, Bool, true, false, cond, List, [], ◌∷◌, ◌++◌}
+use Rattle.std.proofs.Common.{length}
 use Rattle.std.proofs.Common.{map, refl, sym, ap, subst, Result, Ok, Err, Option, Some, None, arith}
 use Rattle.std.specs.Prelude.{All}
 use Rattle.std.proofs.lemmas.List.{length-map}
@@ -35,7 +36,8 @@ use Rattle.thorin_join.specs.Represents.{IsSound, IsSoundBegun, meaning_at, unit
 use Rattle.thorin_join.specs.Represents.{units_begun}
 use Rattle.thorin_join.specs.StandApart.{EachRow}
 use Rattle.thorin_join.specs.State.{InProgress, with_source, unit_bytes}
-use Rattle.thorin_join.proofs.EachWhole.{Encoded, encoded-made, means-source, new-units, each-encoded}
+use Rattle.thorin_join.proofs.EachWhole.{Encoded, encoded-made, means-source, new-units}
+use Rattle.thorin_join.proofs.EachWhole.{each-encoded}
 use Rattle.thorin_join.proofs.EachWhole.{each-sound}
 use Rattle.thorin_join.proofs.Encoded.{AreEncoded, IsEncoded, in-of}
 use Rattle.thorin_join.proofs.HeadersRead.{ReadAlone}
@@ -156,7 +158,8 @@ have-encoding : UnitsAreTaken → (e : Encoding) (state : State) (file : File)
 have-encoding reads e state file sound encoded filled f differ back k d within =
     let made = f.made in
     let here : Filled e (Some made) = subst (Filled e) f.begun filled in
-    let all : AllOf e (units_in state) = subst (λ b. AllOf e (units_begun b)) (sym f.begun) here.0 in
+    let all : AllOf e (units_in state) = subst (λ b. AllOf e (units_begun b))
+    (sym f.begun) here.0 in
     let long : length (units_in state) ≡ length made.rows = ap (λ b. length (units_begun b)) f.begun
     ∙ length-map made.rows _ in
     let some : 0 < length made.rows = omega (arith, long, within) in

@@ -171,7 +171,8 @@ joined-cond : (own : Encoding) (u : DwarfObject × Option Meaning) (a b : Meant)
 joined-cond own u a b true h k l = k
 joined-cond own u a b false h k l = (h, l)
 
-pub joined-encoding : (own : Encoding) (names : List DwarfObject) (units : Meant) → MeantOf own units
+pub joined-encoding : (own : Encoding) (names : List DwarfObject) (units : Meant)
+    → MeantOf own units
     → MeantOf own (joining names units)
 joined-encoding own names [] h = tt
 joined-encoding own names (u ∷ us) h =
