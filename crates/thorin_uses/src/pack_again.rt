@@ -25,12 +25,12 @@ pub fn units_packed_again(alloc: Global, package: &[u8]) -> Result<usize, Error>
 /// a string that doesn't fit.
 pub fn add_package<'output, 'session: 'output, Sess: Session<RelocationEntry>>(
     builder: &mut DwarfPackage<'output, 'session, Sess>,
-    package: &[u8],
+    bytes: &[u8],
 ) -> Result<(), Error>
-    ensures refused { (file : Object) → package.now ≡ file_text file → IsAccepted file
+    ensures refused { (file : Object) → bytes.now ≡ file_text file → IsAccepted file
         → order_of builder.old.state.begun file.order ≡ file.order
         → IfErr result (λ e. MemoryAside e (IsForeseen (fault_of e))) }
 {
     let _units = builder.contained_units();
-    builder.add_object_bytes(package)
+    builder.add_object_bytes(bytes)
 }
