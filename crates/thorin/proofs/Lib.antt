@@ -8,3 +8,4 @@ pub mod GroupMeaning
 pub mod RunTaken
 pub mod TakenAgain
 pub mod Differs
+pub mod Limits

@@ -1,8 +1,22 @@
 //! What runs and packing in groups mean, as laws.
 
 ghost use Rattle.std.specs.Prelude.{◌≡◌, ◌∷◌, ◌++◌, ℕ, List, [], Ok, Option, IsPermutation};
+ghost use Rattle.std.specs.Prelude.{◌^◌, ◌*◌, ◌≤◌, ◌<◌, Err, length, codes};
 ghost use Rattle.std.specs.List.{flat_map};
+ghost use Rattle.dwp_base.specs.declared.class.Class.TheVariants.{Elf32};
+ghost use Rattle.dwp_base.specs.declared.endian.Endianness.{Endianness};
+ghost use Rattle.dwp_elf_read.specs.declared.fault.WriteError.{WriteError};
+ghost use Rattle.dwp_elf_read.specs.declared.fault.WriteError.TheVariants as written;
+ghost use Rattle.dwp_elf.specs.FileText.{Object, headers_place};
+ghost use Rattle.dwp_elf.specs.Numbers.{Fits};
+ghost use Rattle.dwp_elf.specs.Refusals.{RefusesFile, RefusesWriter};
+ghost use Rattle.dwp_bytes.specs.declared.encoding.Encoding.{Encoding};
 ghost use Rattle.dwp_table.specs.declared.object.DwarfObject.{DwarfObject};
+ghost use Rattle.thorin_faults.specs.Fault.{NumberTooLarge};
+ghost use Rattle.thorin_strings.specs.Strings.{offset_of};
+ghost use Rattle.thorin_strings.specs.StringOffsets.{named_at, offset_limit, remapped_entry};
+ghost use Rattle.thorin_parts.specs.declared.entry.IndexEntry.{IndexEntry};
+ghost use Rattle.thorin_parts.specs.EntryTests.{index_tests};
 ghost use Rattle.thorin_join.specs.Builder.{State, taken, differing_in};
 ghost use Rattle.thorin_join.specs.Join.{JoinAll};
 ghost use Rattle.thorin_join.specs.Meaning.{Meaning, joining, can_join};
@@ -71,4 +85,28 @@ pub fn passed_type_units_are_compared()
         → taken bytes old ≡ Ok new
         → input_units bytes ≡ Ok units
         → differing_in new ≡ differing_in old ++ differing (own_bytes (units_in old)) [] units }
+{}
+
+/// The laws of numbers past their limits that no test is large enough to reach. An ELF 32 file
+/// whose section headers would begin at 2 ^ 32 or later doesn't fit its class, and each refusal to
+/// write it is `NumberTooLarge`. An index of entries whose number times three is 2 ^ 32 or more is
+/// refused with `NumberTooLarge` of that number. A string whose offset in the package would pass
+/// its format's limit is refused with `NumberTooLarge` of that offset. It does nothing.
+pub fn numbers_past_limits_are_refused()
+    ensures elf_32_file { (o : Object) → o.class ≡ Elf32
+        → 2 ^ 32 ≤ headers_place o.class o.contents → ¬ Fits o }
+    ensures elf_32_bytes { (o : Object) (e : WriteError) → o.class ≡ Elf32
+        → 2 ^ 32 ≤ headers_place o.class o.contents → RefusesFile o e
+        → e ≡ written.NumberTooLarge }
+    ensures elf_32_writer { (o : Object) (old new : Option (List ℕ)) (e : WriteError)
+        → o.class ≡ Elf32 → 2 ^ 32 ≤ headers_place o.class o.contents
+        → RefusesWriter o old new e → e ≡ written.NumberTooLarge }
+    ensures unit_count { (entries : List IndexEntry) → 2 ^ 32 ≤ 3 * length entries
+        → index_tests entries ≡ Err (NumberTooLarge (codes "unit count") (length entries)) }
+    ensures string_offset { (order : Endianness) (encoding : Encoding)
+        (section bytes : List ℕ) (index : ℕ) (strings : List (List ℕ)) (string : List ℕ)
+        → named_at order encoding section bytes index ≡ Ok string
+        → offset_limit encoding.format < offset_of strings string
+        → remapped_entry order encoding section bytes index strings
+        ≡ Err (NumberTooLarge (codes "string offset") (offset_of strings string)) }
 {}
