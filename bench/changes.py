@@ -1,0 +1,255 @@
+#!/usr/bin/env python3
+"""Changes lines of the reader's, the writer's and the builder's code by a little, and sees whom it strikes.
+
+    bench/changes.py [--seed N] [--all N] [--most N] [--list] TREE [CRATE..]
+
+TREE is a copy of the repository in which each crate was proved and built by rt ci, as .ci/wrong-bodies has it. A change
+names an error's neighbour, adds one to a number, or takes a comparison's neighbour. Of all that could be changed --all
+are drawn by the seed, at most --most in a function, from the given crates or all. A change that doesn't compile is drawn
+anew. Changes of different functions are proved together, with the groups of .ci/wrong-bodies; a change counts as refused
+where its own function is told as not proved. What came of each is written to out/changes/CRATE.json. It runs no test:
+what the prover lets through has to be looked at. --list prints what would be changed, and tries nothing.
+"""
+import json
+import os
+import random
+import re
+import shutil
+import subprocess
+import sys
+import tempfile
+
+sys.dont_write_bytecode = True
+ROOT = os.path.dirname(os.path.dirname(os.path.realpath(__file__)))
+sys.path.insert(0, f"{ROOT}/.ci")
+import edits as of_edits  # noqa: E402
+import kit  # noqa: E402
+
+wrong = kit.load("wrong_bodies", f"{ROOT}/.ci/wrong-bodies")
+CRATES = """dwp_table dwp_elf_read dwp_elf dwp_dwarf dwp_index thorin_identity thorin_packaged thorin_join thorin_parts
+thorin_input thorin_executable thorin_strings thorin_builder""".split()
+ERRORS = ["dwp_elf_read/src/fault.rt", "dwp_bytes/src/fault.rt", "dwp_index/src/fault.rt", "thorin_faults/src/fault.rt", "thorin_parts/src/relocations.rt"]
+ALIASES = {"ElfReadError": "ReadError", "DwarfReadError": "ReadError", "ElfWriteError": "WriteError", "DwarfWriteError": "WriteError"}
+LATER = {"<": "<=", "<=": "<", ">": ">=", ">=": ">", "==": "!=", "!=": "=="}
+NUMBER = re.compile(r"(?:(?<=\.\.)|(?<![\w.]))(0x[0-9a-f_]+|\d[\d_]*)(?!\w|\.\d)")
+STILL = ("still proved with it", "not refused: ")
+
+
+def variants():
+    """Of each enum of errors the lists of variants with the same values, in order."""
+    found = {}
+    for file in ERRORS:
+        with open(f"{ROOT}/crates/{file}", encoding="utf-8") as it:
+            text = it.read()
+        for enum, body in re.findall(r"enum (\w*Error|Flaw) \{\n(.*?)\n\}", text, re.S):
+            for name, values in re.findall(r"^    (\w+)(\(.*\))?,$", body, re.M):
+                found.setdefault((enum, file, values), []).append(name)
+    return found
+
+
+def neighbours():
+    """Of each error, by its enum's name and its own, the next of the same values, or the one before it."""
+    found = {}
+    for (enum, _file, _values), names in variants().items():
+        for at, name in enumerate(names):
+            if len(names) > 1:
+                found[enum, name] = names[at + 1] if at + 1 < len(names) else names[at - 1]
+    return found
+
+
+class Change:
+    """A change of one line of a function; .ci/wrong-bodies tries it as it does an edit of must-fail/."""
+
+    def __init__(self, crate, file, line, column, old, new, function):
+        self.crate, self.file, self.line, self.column, self.old, self.new = crate, file, line, column, old, new
+        self.name = f"{file}:{line + 1}:{column + 1} {old} -> {new}"
+        self.functions, self.meant, self.is_alone = {function}, function, False
+        self.pairs = [(file, old, new)]
+
+    def applied(self, texts):
+        lines = (texts.get(self.file) or of_edits.text_of(self.crate, self.file)).split("\n")
+        line = lines[self.line]
+        if line[self.column : self.column + len(self.old)] != self.old:
+            return None, "another change is in its line"
+        lines[self.line] = line[: self.column] + self.new + line[self.column + len(self.old) :]
+        return {**texts, self.file: "\n".join(lines)}, None
+
+
+def bodies(lines):
+    """The numbers of the lines that are code of a function with a body."""
+    for first, last, _name in of_edits.functions_in(lines):
+        indent = re.match(r"\s*", lines[first])[0]
+        if not lines[last].startswith(f"{indent}}}"):
+            continue
+        begins = next((at for at in range(first, last) if lines[at] == f"{indent}{{"), None)
+        if begins is None:
+            begins = next(at for at in range(first, last + 1) if lines[at].rstrip().endswith("{"))
+        skipped = False
+        for at in range(begins + 1, last):
+            text = lines[at].strip()
+            skipped = skipped or bool(re.match(r"(requires|ensures|ghost|prove!|#\[|decreases)", text))
+            if not skipped and not text.startswith("//"):
+                yield at
+            skipped = skipped and not re.search(r"(\}|;|\])$", text)
+
+
+def changes_of_line(line, integers, after):
+    """The column, the old and the new text of each change of a line."""
+    pattern = line.find(" =>")
+    for it in re.finditer(r"\b(\w*Error|Flaw)::(\w+)", line):
+        new = after.get((ALIASES.get(it[1], it[1]), it[2]))
+        if new and it.start() > pattern:
+            yield it.start(2), it[2], new
+    for it in re.finditer(r" (<=|>=|==|!=|<|>) (\w*)", line):
+        new = "<=" if it[1] == "==" and re.match(r"[1-9]", it[2]) else LATER[it[1]]
+        yield it.start(1), it[1], new
+    for it in NUMBER.finditer(line):
+        if line.count('"', 0, it.start()) % 2 == 0 and "#[" not in line:
+            yield it.start(), it[1], str(int(it[1].replace("_", ""), 0) + 1)
+    for it in re.finditer(r"(?<![\w:.])[A-Z][A-Z0-9_]+\b(?!::|\()", line):
+        if it[0] in integers and it.start() > pattern and "|" not in line:
+            yield it.start(), it[0], f"({it[0]} + 1)"
+
+
+def changes_of(crate, after):
+    """All changes of a crate's code."""
+    files = [os.path.join(at, it) for at, _, names in os.walk(f"{crate.folder}/src") for it in names if it.endswith(".rt")]
+    texts = {os.path.relpath(it, crate.folder): open(it, encoding="utf-8").read() for it in sorted(files)}
+    integers = {it for text in texts.values() for it in re.findall(r"const (\w+): (?:u8|u16|u32|u64|usize) =", text)}
+    for file, text in texts.items():
+        lines = text.split("\n")
+        for at in sorted(set(bodies(lines))) if not file.endswith(("laws.rt", "text.rt")) else []:
+            place = sum(len(it) + 1 for it in lines[:at])
+            function = of_edits.function_at(text, file, place)
+            for column, old, new in changes_of_line(lines[at], integers, after):
+                yield Change(crate, file, at, column, old, new, function)
+
+
+def drawn(crates, seed, count, most):
+    """So many changes in the order that the seed gives, and the rest, which stand in for those that don't compile."""
+    after = neighbours()
+    every = [it for crate in crates for it in changes_of(crate, after)]
+    random.Random(seed).shuffle(every)
+    taken, rest, held = [], [], {}
+    for it in every:
+        key = (it.crate.name, it.meant)
+        is_taken = len(taken) < count and held.get(key, 0) < most
+        (taken if is_taken else rest).append(it)
+        held[key] = held.get(key, 0) + is_taken
+    return taken, rest, len(every)
+
+
+def refused_by_the_front_end(crate, group):
+    """The changes of a group in whose lines the front end finds an error, and what it says."""
+    with tempfile.TemporaryDirectory(prefix="changes-") as room:
+        for part in kit.library.PARTS:
+            if os.path.isdir(f"{crate.folder}/{part}"):
+                shutil.copytree(f"{crate.folder}/{part}", f"{room}/{part}")
+        for path, text in group.texts.items():
+            with open(f"{room}/{path}", "w", encoding="utf-8") as it:
+                it.write(text)
+        words = kit.check_words(crate, ["--start", "no function"])
+        told = subprocess.run(["nice", "-n", "5", *words], cwd=room, capture_output=True, text=True, errors="replace")
+    lines = [it for it in (told.stdout + told.stderr).split("\n") if re.search(r"\berror(\[|:)", it) and "no function" not in it]
+    places = {(m[1], int(m[2])) for it in lines for m in re.finditer(r"(src/\S+?):(\d+)", it)}
+    near = lambda it, by: any(file == it.file and abs(line - it.line - 1) <= by for file, line in places)
+    # (an arm that can't be reached any more stands below the one that was changed)
+    return [it for it in group.edits if near(it, 0)] or [it for it in group.edits if near(it, 1)], lines
+
+
+def that_compile(crate, mine, rest, most):
+    """The drawn changes of a crate that compile; for one that doesn't another of the crate is drawn."""
+    good, waiting, anew = [], list(mine), 0
+    while waiting:
+        for group in of_edits.grouped(waiting):
+            bad, said = refused_by_the_front_end(crate, group)
+            if said and not bad:
+                print(f"{crate.name}: not placed: {said[:3]}", flush=True)
+            waiting = [it for it in waiting if it not in group.edits]
+            if bad:
+                # (the front end may stop at the first stage that finds any, so the others are read again)
+                waiting += [it for it in group.edits if it not in bad]
+            else:
+                good += group.edits
+            for it in bad:
+                anew += 1
+                held = lambda name: sum(one.meant == name for one in good + waiting)
+                other = next((one for one in rest if one.crate is crate and held(one.meant) < most), None)
+                if other:
+                    rest.remove(other)
+                    waiting.append(other)
+            if bad:
+                break
+    return good, anew
+
+
+class Crate(wrong.Crate):
+    """The changes of a crate; what came of them is written after each check."""
+
+    def __init__(self, crate, good, room, anew, into):
+        super().__init__(crate, good, room)
+        self.anew, self.into = anew, into
+
+    def try_group(self, group):
+        tried = super().try_group(group)
+        self.write()
+        return tried
+
+    def write(self):
+        names = {it.name: it.meant for it in self.edits}
+        let = {name: why for name, why in self.failed.items() if name in names and why.startswith(STILL)}
+        other = {name: why for name, why in self.failed.items() if name not in let}
+        kept = {"refused": self.refused, "let_through": let, "other": other, "anew": self.anew, "seconds": round(self.seconds), "checks": self.checks, "functions": names}
+        os.makedirs(self.into, exist_ok=True)
+        with open(f"{self.into}/{self.crate.name}.json", "w", encoding="utf-8") as out:
+            json.dump(kept, out, indent=1)
+        return let, other
+
+
+def try_crate(crate, mine, rest, most, into):
+    """Tries the changes of a crate."""
+    good, anew = that_compile(crate, mine, rest, most)
+    print(f"{crate.name}: {len(good)} changes, {anew} drawn anew", flush=True)
+    with tempfile.TemporaryDirectory(prefix="changes-kept-") as room:
+        it = Crate(crate, good, room, anew, into)
+        it.run_all()
+    let, other = it.write()
+    print(f"{crate.name}: {len(it.refused)} refused, {len(let)} let through, {len(other)} other; {it.checks} checks, {it.seconds:.0f} s of one core", flush=True)
+    for name, why in {**let, **other}.items():
+        print(f"  {name}: {why[:200]}", flush=True)
+
+
+def number(words, flag, usual):
+    """Takes a flag and its number out of the words."""
+    if flag not in words:
+        return usual
+    at = words.index(flag)
+    value = int(words[at + 1])
+    del words[at : at + 2]
+    return value
+
+
+def main(words):
+    into = f"{ROOT}/out/changes"
+    seed, count, most = number(words, "--seed", 20261125), number(words, "--all", 330), number(words, "--most", 2)
+    is_list = "--list" in words
+    words = [it for it in words if it != "--list"]
+    if not words or words[0].startswith("-"):
+        sys.exit(__doc__)
+    crates = kit.crates_of(os.path.abspath(words[0]))
+    asked = words[1:] or CRATES
+    taken, rest, every = drawn([crates[it] for it in CRATES], seed, count, most)
+    if is_list:
+        print(f"{every} could be changed, {len(taken)} are drawn")
+        for name in CRATES:
+            mine = [it for it in taken if it.crate.name == name]
+            print(name, len(mine), len({it.meant for it in mine}))
+            for it in mine:
+                print("   ", it.name, it.meant)
+        return
+    for name in asked:
+        try_crate(crates[name], [it for it in taken if it.crate.name == name], rest, most, into)
+
+
+if __name__ == "__main__":
+    sys.exit(main(sys.argv[1:]))
