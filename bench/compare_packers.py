@@ -1,11 +1,12 @@
 #!/usr/bin/env python3
 """Packs the same real and damaged inputs by thorin, llvm-dwp, binutils' dwp and the Rust crate, and writes what came of each.
 
-    bench/compare_packers.py THORIN [--crate PROGRAM] [--rounds N] [--note TEXT] > docs/COMPARISON.md
+    bench/compare_packers.py THORIN [--crate PROGRAM] [--rounds N] [--note TEXT] [--debugger COMMAND].. > docs/COMPARISON.md
 
-It needs gcc, g++, clang, clang++, ar, objcopy, llvm-dwarfdump and the packers in PATH, and rustc if there is one; PROGRAM is
-bench/crate_program.source, built. Nothing of this is part of the gate. Each run has 20 seconds and 4 GiB of memory.
-N (200 without it) is how many files are damaged at random. TEXT is put at the end of the head."""
+It needs gcc, g++, clang, clang++, ar, objcopy, llvm-dwarfdump and the packers in PATH, and rustc and llvm-dwp-19 if they
+are there; PROGRAM is bench/crate_program.source, built. Nothing of this is part of the gate. Each run has 20 seconds and
+4 GiB of memory. N (200 without it) is how many files are damaged at random. TEXT is put at the end of the head. COMMAND is
+a gdb or an lldb, as 'gdb' or 'chroot DIR gdb'; DIR needs /proc, and /tmp/compare_packers where it is outside."""
 import collections
 import random
 import re
@@ -54,15 +55,19 @@ int squared(const std::vector<Point> &points, const std::string &name) {
 RUST = "struct Point { x: i32, y: i32 }\nfn main() { let p = Point { x: 3, y: 4 }; println!(\"{}\", p.x * p.x + p.y * p.y); }\n"
 
 
+def limits_of_debugger():
+    resource.setrlimit(resource.RLIMIT_CORE, (0, 0))
+
+
 def limits():
     resource.setrlimit(resource.RLIMIT_CORE, (0, 0))
     resource.setrlimit(resource.RLIMIT_AS, (4 << 30, resource.getrlimit(resource.RLIMIT_AS)[1]))
 
 
-def run(words, where):
+def run(words, where, limited=limits):
     """Status, standard error and output of a command; the status None where it gave no answer in time."""
     try:
-        done = subprocess.run(words, cwd=where, capture_output=True, timeout=SECONDS, preexec_fn=limits)
+        done = subprocess.run(words, cwd=where, capture_output=True, timeout=SECONDS, preexec_fn=limited, stdin=subprocess.DEVNULL)
         return done.returncode, (done.stderr + done.stdout).decode("utf-8", "replace")
     except subprocess.TimeoutExpired:
         return None, ""
@@ -76,13 +81,19 @@ def units(path):
     """The names of the entries of each unit, by its DWO id or type signature, as llvm-dwarfdump reads them."""
     words = ["llvm-dwarfdump", "--debug-info", "--debug-types", path]
     done = subprocess.run(words, capture_output=True, text=True, errors="replace", timeout=120)
-    found, name, texts = {}, None, []
+    found, name, texts, is_split = {}, None, [], True
 
     def close():
         if name is not None:
             found[name] = tuple(texts)
 
     for line in done.stdout.splitlines():
+        part = re.match(r"(\.\S+) contents:", line)
+        if part:
+            close()
+            name, is_split = None, part[1].endswith(".dwo")
+        if not is_split:
+            continue
         unit = re.match(r"0x[0-9a-f]+: (Compile|Type) Unit: .*", line)
         if unit:
             close()
@@ -111,10 +122,12 @@ def lengths_are_right(path):
     if struct.unpack_from("<H", data, index)[0] != 5:
         return True
     while at < place + size:
-        length, version = struct.unpack_from("<IH", data, at)
-        if version != 5:
+        (length,), first = struct.unpack_from("<I", data, at), 4
+        if length == 0xffffffff:
+            (length,), first = struct.unpack_from("<Q", data, at + 4), 12
+        if data[at + first:at + first + 2] != b"\5\0":
             return False
-        at += 4 + length
+        at += first + length
     return at == place + size
 
 
@@ -149,7 +162,7 @@ def judged(packer, where, inputs, wanted, executable=None):
     """How many of the wanted units are in the package with all their names."""
     said, is_there = packer.pack(where, inputs, executable)
     if not is_there:
-        return said
+        return "no package, status 0" + said.removeprefix("packed") if said.startswith("packed") else said
     found = units(where / "OUT")
     right = sum(found.get(name) in variants for name, variants in wanted.items())
     size = (where / "OUT").stat().st_size
@@ -199,6 +212,95 @@ def groups(folder):
             more = ["-Cdwarf-version=5"] if version == "5" else []
             must(["rustc", "-g", "-Csplit-debuginfo=unpacked", *more, "app.rs"], where)
             yield f"rustc, DWARF {version}", where, sorted(p.name for p in where.glob("*.dwo"))
+
+
+def ways(folder):
+    """Other ways of compiling the program in C: title, folder, inputs or None for its executable, and the files with its units."""
+    object_files = ["main.o", "part.o"]
+    made = [
+        ("gcc -gdwarf-4 -g3", "gcc", ["-gdwarf-4", "-g3"], [], None),
+        ("gcc -gdwarf-5 -g3", "gcc", ["-gdwarf-5", "-g3"], [], None),
+        ("clang -gdwarf-4 -g3 -fdebug-macro", "clang", ["-gdwarf-4", "-g3", "-fdebug-macro"], [], None),
+        ("clang -gdwarf-5 -g3 -fdebug-macro", "clang", ["-gdwarf-5", "-g3", "-fdebug-macro"], [], None),
+        ("gcc -gdwarf-4 -gz", "gcc", ["-gdwarf-4", "-gz"], [], None),
+        ("gcc -gdwarf-5 -gz", "gcc", ["-gdwarf-5", "-gz"], [], None),
+        ("clang -gdwarf-5 -gz", "clang", ["-gdwarf-5", "-gz"], [], None),
+        ("gcc -g1", "gcc", ["-g1"], [], None),
+        ("clang -gmlt", "clang", ["-gmlt"], [], None),
+        ("clang -gmlt -fno-split-dwarf-inlining", "clang", ["-gmlt", "-fno-split-dwarf-inlining"], [], None),
+        ("clang -gsplit-dwarf=single", "clang", ["-gsplit-dwarf=single"], [], object_files),
+        ("gcc -gdwarf-5 -gdwarf64", "gcc", ["-gdwarf-5", "-gdwarf64"], [], None),
+        ("clang -gdwarf-5 -gdwarf64", "clang", ["-gdwarf-5", "-gdwarf64"], [], None),
+        ("gcc -flto", "gcc", ["-flto"], ["-flto"], None),
+        ("clang -flto", "clang", ["-flto"], ["-flto", "-fuse-ld=lld"], None),
+        ("clang -flto=thin", "clang", ["-flto=thin"], ["-flto=thin", "-fuse-ld=lld"], None),
+        ("gcc, the sources' folder mapped to another name", "gcc", ["-fdebug-prefix-map={}=/nowhere"], [], None),
+        ("an archive of clang -gsplit-dwarf=single", "clang", ["-gsplit-dwarf=single"], [], object_files),
+    ]
+    for number, (title, compiler, flags, link, units_in) in enumerate(made):
+        where = folder / f"way{number}"
+        where.mkdir()
+        (where / "main.c").write_text(C_MAIN)
+        (where / "part.c").write_text(C_PART)
+        flags = [it.format(where) for it in flags]
+        split = [] if any(it.startswith("-gsplit") for it in flags) else ["-gsplit-dwarf"]
+        try:
+            must([compiler, "-g", *split, *flags, "-c", "main.c", "part.c"], where)
+            must([compiler, "-g", *split, *link, "-o", "app", "main.o", "part.o"], where)
+        except subprocess.CalledProcessError:
+            continue
+        inputs = None
+        if title.startswith("an archive"):
+            must(["ar", "rc", "both.a", *object_files], where)
+            inputs = ["both.a"]
+        yield title, where, inputs, units_in or sorted(str(it.relative_to(where)) for it in where.rglob("*.dwo"))
+
+
+class Debugger:
+    """Shows a parameter at a breakpoint, the package beside the executable and the objects gone."""
+
+    def __init__(self, command):
+        self.command, self.is_lldb = command.split(), "lldb" in command.split()[-1]
+        said = subprocess.run([*self.command, "--version"], capture_output=True, text=True).stdout
+        self.title = f"{'lldb' if self.is_lldb else 'gdb'} {re.search(r'([0-9]+)[.][0-9]+', said)[1]}"
+
+    def shows(self, where):
+        """What came of it."""
+        ask = ["-nx", "-batch", "-iex", "set debuginfod enabled off", "-ex", "break squared", "-ex", "run", "-ex", "print to"]
+        if self.is_lldb:
+            ask = ["--no-lldbinit", "-b", "-o", "breakpoint set --name squared", "-o", "run", "-o", "frame variable to"]
+        # (a chroot begins at its root, so the executable has its whole path)
+        status, text = run([*self.command, *ask, str(where / "app")], where, limits_of_debugger)
+        if status is None:
+            return "no answer"
+        if re.search(r"= [({]x = 3, y = 4[)}]", text):
+            return "yes"
+        return "crash" if status < 0 or "internal to GDB" in text or "PLEASE submit" in text else "no"
+
+
+def debugged(folder, packers, debuggers):
+    """Which debuggers read which packer's package: a row for each way of compiling."""
+    made = [(f"{compiler} -gdwarf-{version}", compiler, [f"-gdwarf-{version}"]) for compiler in ("gcc", "clang") for version in "45"]
+    made += [(f"gcc -gdwarf-{version} -g3", "gcc", [f"-gdwarf-{version}", "-g3"]) for version in "45"]
+    for number, (title, compiler, flags) in enumerate(made):
+        cells = []
+        for packer in packers:
+            where = folder / f"debugged{number}"
+            shutil.rmtree(where, ignore_errors=True)
+            where.mkdir()
+            (where / "main.c").write_text(C_MAIN)
+            (where / "part.c").write_text(C_PART)
+            must([compiler, "-g", "-gsplit-dwarf", *flags, "-c", "main.c", "part.c"], where)
+            must([compiler, "-o", "app", "main.o", "part.o"], where)
+            said, is_there = packer.pack(where, [], "app")
+            if not is_there:
+                cells.append(f"no package: {said}")
+                continue
+            (where / "OUT").rename(where / "app.dwp")
+            for it in ("main.dwo", "part.dwo"):
+                (where / it).unlink()
+            cells.append(", ".join(f"{it.title} {it.shows(where)}" for it in debuggers))
+        yield title, cells
 
 
 def section(data, name):
@@ -275,8 +377,8 @@ def cell(text):
     return text if len(text) <= 110 else text[:107] + "..."
 
 
-def table(title, packers, rows):
-    print(f"\n## {title}\n")
+def table(title, packers, rows, about=""):
+    print(f"\n## {title}\n" + (f"\n{wrapped(about)}\n" if about else ""))
     print("| input | " + " | ".join(p.title for p in packers) + " |")
     print("|---|" + "---|" * len(packers))
     for name, cells in rows:
@@ -312,10 +414,16 @@ def main():
     packers = [Packer("`thorin`", "thorin pack -o OUT INPUT..", [str(thorin), "pack"]),
                Packer(f"`llvm-dwp` {llvm}", "llvm-dwp -o OUT INPUT..", ["llvm-dwp"]),
                Packer(f"`dwp` of binutils {binutils}", "dwp -o OUT INPUT..", ["dwp"])]
+    if shutil.which("llvm-dwp-19"):
+        newer = version("llvm-dwp-19", r"version ([0-9.]+)")
+        packers.insert(2, Packer(f"`llvm-dwp` {newer}", "llvm-dwp-19 -o OUT INPUT..", ["llvm-dwp-19"]))
+    debuggers = []
     while words:
         word = words.pop(0)
         if word == "--crate":
             packers.append(Packer("the Rust crate 0.10.0", "PROGRAM -o OUT INPUT..", [str(Path(words.pop(0)).resolve())]))
+        elif word == "--debugger":
+            debuggers.append(Debugger(words.pop(0)))
         elif word == "--note":
             note = " " + words.pop(0)
         elif word == "--rounds":
@@ -325,7 +433,7 @@ def main():
     folder = Path(tempfile.gettempdir()) / "compare_packers"  # always the same: identifiers come of paths too
     shutil.rmtree(folder, ignore_errors=True)
     folder.mkdir()
-    compare(folder, packers, rounds, note)
+    compare(folder, packers, debuggers, rounds, note)
 
 
 def wrapped(text, begin=""):
@@ -357,7 +465,7 @@ def head(commands, compilers, note):
                     "that was begun and is no package.", "- ")])])
 
 
-def compare(folder, packers, rounds, note):
+def compare(folder, packers, debuggers, rounds, note):
     numbers = r"([0-9]+[.][0-9]+[.][0-9]+)"
     compilers = ", ".join(f"{c} {version(c, numbers)}" for c in ("gcc", "clang", "rustc") if shutil.which(c))
     print(head([p.command for p in packers], compilers, note))
@@ -374,8 +482,17 @@ def compare(folder, packers, rounds, note):
             objects["4" if "-4" in title else "5"] = where
     table("Objects", packers, rows)
     table("Executables", packers, linked)
-    table("A package packed again", packers, again)
-    print("\nThe package is that of `thorin`.")
+    table("A package packed again", packers, again, "Each packer is given the package that `thorin` made.")
+    rows = []
+    for title, where, inputs, units_in in ways(folder):
+        wanted = wanted_of(where / it for it in units_in)
+        title += "" if wanted else ": nothing is split"
+        rows.append((title, [judged(p, where, inputs or [], wanted, None if inputs else "app") for p in packers]))
+    table("Other ways of compiling", packers, rows, "A program of two units in C. But for the archive, each packer is given "
+          "the executable.")
+    if debuggers:
+        table("In a debugger", packers, debugged(folder, packers, debuggers), "The program stops in its second unit and "
+              "shows a parameter of it. The package lies beside the executable; the objects are gone.")
     wrong = folder / "wrong"
     wrong.mkdir()
     rows = []
