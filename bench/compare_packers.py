@@ -454,9 +454,9 @@ def head(commands, compilers, note):
                 f"A run had {SECONDS} seconds and 4 GiB. The inputs were made by {compilers}. Time and memory are in "
                 f"[bench/README.md](../bench/README.md).{note}"),
         "\n".join([
-            wrapped("**All N**: llvm-dwarfdump reads all N units of the inputs from the package, by their DWO ids and type "
-                    "signatures, each with just the names and other strings that it reads from the objects. **K of N**: it "
-                    "does so of K units alone.", "- "),
+            wrapped("**All N**: llvm-dwarfdump finds all N units of the inputs in the package by DWO id or type signature, and "
+                    "reads from each the same names and other strings as from the objects. **K of N**: it does so of K units "
+                    "alone.", "- "),
             wrapped("**Wrong lengths of string offsets**: a header of DWARF 5 string offsets doesn't have the length of what "
                     "follows it (DWARF 5, 7.26).", "- "),
             wrapped("A warning of `thorin` names a type unit that was passed over though its bytes differ from those that "

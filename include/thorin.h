@@ -15,10 +15,10 @@
  * Compiled with -DTHORIN_CHECK, each call of this header asserts what a program can see of this:
  * the pointers, their alignment, and that nothing that is written overlaps anything else.
  *
- * What a call only writes needs no value before it. Bytes that a call lends lie in the package:
- * they are valid as long as its memory is there and unchanged; don't free them. A call keeps
- * nothing after it returns, needs no setting up, and may run in several threads at once, even over
- * one package.
+ * Memory that a call only writes to needn't be initialized. Bytes that a call lends lie in the
+ * package: they are valid as long as its memory is there and unchanged; don't free them. A call
+ * keeps nothing after it returns, needs no setting up, and may run in several threads at once, even
+ * over one package.
  *
  * A call returns a status: 0 (THORIN_DONE) where it did what was asked. The calls that read a
  * package allocate nothing. Those that pack use malloc, realloc and free, and free all that they
@@ -444,10 +444,11 @@ typedef struct {
   uint64_t differing;
   /**
    * THORIN_DONE, THORIN_TOO_SMALL: 1 where each input is an object that added a unit, all their
-   * units have one encoding, and the sections that an input needs are there; else 0. Where it is 1
-   * the package can be an input again, unless a compilation unit is there already, a string offset
-   * gets too large, or memory runs out; where it is 0 the package may be refused. The builder of
-   * the Rattle library is proved to take such a file; no contract of thorin_pack() says so.
+   * units have one encoding, and there are abbreviations, and strings if there are string offsets;
+   * else 0. Where it is 1 the package can be an input again, unless a compilation unit is there
+   * already, a string offset gets too large, or memory runs out; where it is 0 the package may be
+   * refused. The builder of the Rattle library is proved to take such a file; no contract of
+   * thorin_pack() says so.
    */
   uint32_t packs_again;
   /** THORIN_REFUSED, THORIN_UNFINISHED: the number of the fault, one of thorin_fault. */
