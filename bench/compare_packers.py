@@ -447,16 +447,16 @@ def head(commands, compilers, note):
     """What stands above the tables."""
     return "\n\n".join([
         "# Beside the other packers",
-        wrapped("For whoever wonders what another packer does with the same input. After it you know which of them packs it "
-                "whole, and which refuses it, loses units, crashes or never returns."),
+        wrapped("For whoever wonders what another packer does with the same input. After this page you know which of them "
+                "packs it whole, and which refuses it, loses units, crashes or never returns."),
         wrapped("`bench/compare_packers.py` writes this page; its head says how to run it. Each cell is what one command did: "
                 + ", ".join(f"`{c}`" for c in commands) + ". For an executable `-e app` stands in the place of INPUT. "
                 f"A run had {SECONDS} seconds and 4 GiB. The inputs were made by {compilers}. Time and memory are in "
                 f"[bench/README.md](../bench/README.md).{note}"),
         "\n".join([
             wrapped("**All N**: llvm-dwarfdump finds all N units of the inputs in the package by DWO id or type signature, and "
-                    "reads from each the same names and other strings as from the objects. **K of N**: it does so of K units "
-                    "alone.", "- "),
+                    "reads from each the same names and strings as from the objects. **K of N**: it does so for only K of "
+                    "them.", "- "),
             wrapped("**Wrong lengths of string offsets**: a header of DWARF 5 string offsets doesn't have the length of what "
                     "follows it (DWARF 5, 7.26).", "- "),
             wrapped("A warning of `thorin` names a type unit that was passed over though its bytes differ from those that "
@@ -488,11 +488,11 @@ def compare(folder, packers, debuggers, rounds, note):
         wanted = wanted_of(where / it for it in units_in)
         title += "" if wanted else ": nothing is split"
         rows.append((title, [judged(p, where, inputs or [], wanted, None if inputs else "app") for p in packers]))
-    table("Other ways of compiling", packers, rows, "A program of two units in C. But for the archive, each packer is given "
-          "the executable.")
+    table("Other ways of compiling", packers, rows, "A program of two units in C. Each packer is given the executable, "
+          "except in the last row.")
     if debuggers:
-        table("In a debugger", packers, debugged(folder, packers, debuggers), "The program stops in its second unit and "
-              "shows a parameter of it. The package lies beside the executable; the objects are gone.")
+        table("In a debugger", packers, debugged(folder, packers, debuggers), "The debugger stops in the program's "
+              "second unit and shows a parameter. The package lies beside the executable; the objects are gone.")
     wrong = folder / "wrong"
     wrong.mkdir()
     rows = []

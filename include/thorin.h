@@ -2,8 +2,8 @@
  * @file thorin.h
  * @brief Packages of split DWARF (.dwp), read and packed. For 64-bit machines.
  *
- * What each call returns and writes is proved to be what is said of it here, on any bytes, as long
- * as the caller keeps to this (crates/thorin_c says it exactly):
+ * On any bytes, each call is proved to return and write what this header says, as long as the
+ * caller keeps to these rules (crates/thorin_c says all of it exactly):
  *
  * - Each pointer has as many elements behind it as you say. Where the size beside it is 0 it may be
  *   null, also in a thorin_bytes. No other pointer is null.
@@ -25,8 +25,8 @@
  * allocate. They pack bytes: to pack the objects that an executable names, run the program (thorin
  * pack -e), or ask thorin_skeletons() for their paths and read them yourself.
  *
- * The soname of the shared library has the first number of the version, as libthorin.so.1. Under
- * one first number a program that was built with an earlier version runs with a later one: calls,
+ * The soname of the shared library has the first number of the version, as libthorin.so.1. While
+ * that number stays, a program that was built with one version runs with every later one: calls,
  * statuses and faults may be added, and no call, structure or number changes or goes. A new second
  * number means new calls, a new third number none. To learn whether the linked library has the
  * calls of your header, compare THORIN_VERSION with thorin_version().
@@ -53,7 +53,7 @@ extern "C" {
 
 /**
  * The version of the library that is linked.
- * @return It, as THORIN_VERSION has it.
+ * @return The version as one number, composed as THORIN_VERSION is.
  */
 uint32_t thorin_version(void);
 
