@@ -1,8 +1,11 @@
 //! Files of the system, read whole and written in one another's place.
 #![tactic(auto)]
 
+mod beside;
 mod reading;
 mod writing;
 
-pub use reading::{identity, is_device, is_file, is_there, read, read_over};
+pub use reading::{
+    identity, is_device, is_file, is_there, read, read_over, read_regular_over, read_within,
+};
 pub use writing::{Contents, WriteError, write};

@@ -1,9 +1,9 @@
 //! Reading files.
 
-ghost use Rattle.std.specs.Prelude.{◌≡◌, ◌≤◌, length, take, IfOk, OnOk, IfSome};
+ghost use Rattle.std.specs.Prelude.{◌≡◌, ◌≤◌, ◌+◌, ◌↔◌, length, take, IfOk, OnOk, IfSome, IsTrue};
 ghost use Rattle.std.specs.Io.KnownBytes.{Consumes};
 
-use std::fs::{self, File, OpenFile};
+use std::fs::{self, File, FileType};
 use std::io::{self, ErrorKind, Read};
 use std::os::unix::fs::{FileTypeExt, MetadataExt};
 use std::path::{AsPath, Path};
@@ -15,9 +15,7 @@ use std::path::{AsPath, Path};
 /// That of the read that failed, want of memory by its kind; `Unsupported` for a device.
 pub fn read(rt: &HostRuntime, path: &str) -> io::Result<Vec<u8>> {
     let mut bytes = Vec::new(rt.alloc());
-    let mut file = open(rt, Path::new(path))?;
-    let len = length_of(&file);
-    read_new(&mut file, len, &mut bytes)?;
+    read_over(rt, Path::new(path), &mut bytes)?;
     Ok(bytes)
 }
 
@@ -26,18 +24,50 @@ pub fn read(rt: &HostRuntime, path: &str) -> io::Result<Vec<u8>> {
 /// # Errors
 /// As those of `read`.
 pub fn read_over(rt: &HostRuntime, path: Path<'_>, room: &mut Vec<u8>) -> io::Result<()> {
-    let mut file = open(rt, path)?;
-    let len = length_of(&file);
+    let len = length_told(rt, path)?;
+    let mut file = File::open(rt, path)?;
     read_whole(&mut file, len, room)
+}
+
+/// The same of a regular file. One whose length is told as 0 has no bytes and isn't read: a read of
+/// it may wait for ever, as that of a file of `/proc`.
+///
+/// # Errors
+/// As those of `read`; `Unsupported` also for a pipe, a socket and a directory.
+pub fn read_regular_over(rt: &HostRuntime, path: Path<'_>, room: &mut Vec<u8>) -> io::Result<()> {
+    let len = regular_length(rt, path)?;
+    let mut file = File::open(rt, path)?;
+    room.truncate(0);
+    if len > 0 {
+        read_whole(&mut file, len, room)?;
+    }
+    Ok(())
+}
+
+/// Reads a file whole that has at most `limit` bytes, whatever length the system tells; none where
+/// it has more. No more than one byte past the limit is read.
+///
+/// # Errors
+/// As those of `read`.
+pub fn read_within(rt: &HostRuntime, path: &str, limit: u32) -> io::Result<Option<Vec<u8>>>
+    ensures { IfOk result (λ read. IfSome read (λ bytes. length bytes.items ≤ limit)) }
+{
+    let mut bytes = Vec::new(rt.alloc());
+    let len = length_told(rt, Path::new(path))?;
+    let file = File::open(rt, path)?;
+    if is_read_within(file, len, limit, &mut bytes)? {
+        Ok(Some(bytes))
+    } else {
+        Ok(None)
+    }
 }
 
 /// Whether there is a device at a path. It isn't read: it may have no end.
 pub fn is_device(rt: &HostRuntime, path: &str) -> bool {
-    let Ok(metadata) = fs::metadata(rt, path) else {
-        return false;
-    };
-    let kind = metadata.file_type();
-    kind.is_char_device() || kind.is_block_device()
+    match fs::metadata(rt, path) {
+        Ok(metadata) => is_kind_of_device(metadata.file_type()),
+        Err(_) => false,
+    }
 }
 
 /// Whether there is a regular file at a path.
@@ -62,32 +92,59 @@ pub fn identity(rt: &HostRuntime, path: &str) -> Option<(u64, u64)> {
     }
 }
 
-/// Opens a file that is no device. What isn't there is left to the system to refuse.
-fn open(rt: &HostRuntime, path: Path<'_>) -> io::Result<File> {
-    if is_device(rt, path.path_text()) {
-        return Err(io::Error::from(ErrorKind::Unsupported));
+fn is_kind_of_device(kind: FileType) -> bool {
+    kind.is_char_device() || kind.is_block_device()
+}
+
+/// How long the file at a path is said to be, 0 where nothing is there: that is left to the system
+/// to refuse. A device is refused before it is opened.
+fn length_told(rt: &HostRuntime, path: Path<'_>) -> io::Result<u64> {
+    match fs::metadata(rt, path) {
+        Ok(metadata) => {
+            if is_kind_of_device(metadata.file_type()) {
+                return Err(io::Error::from(ErrorKind::Unsupported));
+            }
+            Ok(metadata.len())
+        }
+        Err(_) => Ok(0),
     }
-    File::open(rt, path)
 }
 
-/// How long a file is, 0 where the system doesn't tell.
-fn length_of(file: &File) -> u64 {
-    match file.metadata() {
-        Ok(metadata) => metadata.len(),
-        Err(_) => 0,
+/// The same of a regular file: all else is refused.
+fn regular_length(rt: &HostRuntime, path: Path<'_>) -> io::Result<u64> {
+    match fs::metadata(rt, path) {
+        Ok(metadata) => {
+            if !metadata.is_file() {
+                return Err(io::Error::from(ErrorKind::Unsupported));
+            }
+            Ok(metadata.len())
+        }
+        Err(_) => Ok(0),
     }
 }
 
-/// Reads all that is left, which is about `len` bytes, into a new vector.
-fn read_new<F: Read>(file: &mut F, len: u64, bytes: &mut Vec<u8>) -> io::Result<()> {
-    bytes.reserve_exact((len as usize).saturating_add(1))?;
-    file.read_to_end(bytes)?;
-    Ok(())
+/// Reads all that a file has, which is about `len` bytes, into a new vector, but no more than one
+/// byte past the limit. Answers whether the file has at most `limit` bytes.
+fn is_read_within<F: Read + Drop>(
+    file: F,
+    len: u64,
+    limit: u32,
+    bytes: &mut Vec<u8>,
+) -> io::Result<bool>
+    ensures within { IfOk result (λ fits. IsTrue fits → length bytes.new.items ≤ limit) }
+    ensures fits { IfOk result (λ fits. IfSome (F.remaining file) (λ all.
+        IsTrue fits ↔ length all ≤ limit)) }
+    ensures bytes { OnOk result (IfSome (F.remaining file) (λ all.
+        bytes.new.items ≡ take (limit + 1) all)) }
+{
+    let limit = u64::from(limit);
+    let mut front = file.take(limit + 1);
+    read_whole(&mut front, len.min(limit), bytes)?;
+    Ok(bytes.len() as u64 <= limit)
 }
 
-/// Reads all that is left, which is about `len` bytes, into room that is made anew where it is too
-/// small: a byte more than `len` lets the read that finds the end have room. Bytes that the room
-/// holds are read over, so that they aren't set to zero before.
+/// Reads all that is left, which is about `len` bytes, into room that is made once: a byte more
+/// than `len` lets the read that finds the end have room. The first read takes all that it gets.
 fn read_whole<F: Read>(file: &mut F, len: u64, room: &mut Vec<u8>) -> io::Result<()>
     ensures { OnOk result (IfSome (F.remaining file.old) (λ all. room.new.items ≡ all)) }
 {
@@ -96,7 +153,7 @@ fn read_whole<F: Read>(file: &mut F, len: u64, room: &mut Vec<u8>) -> io::Result
         *room = Vec::new(*room.allocator());
         room.reserve_exact(needed)?;
     }
-    room.truncate(needed);
+    room.resize(needed, 0)?;
     let front = read_once(file, room)?;
     room.truncate(front);
     file.read_to_end(room)?;

@@ -1,11 +1,10 @@
 //! Writing a file in another's place.
 
-use std::alloc::AllocError;
-use std::fs::{self, File};
-use std::io::{ErrorKind, Write};
-
-/// How many names beside OUT are tried.
-const MOST_NAMES: u32 = 100;
+use crate::beside;
+use std::alloc::{AllocError, Global};
+use std::fs::{self, File, Permissions};
+use std::io::{BufWriter, Write};
+use std::os::unix::fs::{MetadataExt, PermissionsExt, fchown};
 
 /// What a file is to hold.
 pub trait Contents {
@@ -28,86 +27,142 @@ impl From<AllocError> for WriteError {
     }
 }
 
+/// Who may read and write a file.
+#[derive(Clone, Copy)]
+struct Access {
+    mode: u32,
+    group: u32,
+}
+
+/// What stands at OUT.
+#[derive(Clone, Copy)]
+enum Place {
+    /// Nothing.
+    Free,
+    /// A regular file that may be written.
+    File(Access),
+    /// What no other file may take the place of.
+    Other,
+}
+
 /// Writes a file OUT. Where OUT is a regular file, or isn't there, the contents are written under a
 /// name beside it that then becomes OUT: a write that fails leaves OUT as it was. Anything else, as
 /// a device, a pipe or a symbolic link, is written as it stands, and so is OUT where no file can be
-/// made beside it.
+/// made beside it, or where that can't become OUT.
 ///
 /// # Errors
 /// `Output` where OUT can't be written, `Memory`.
 pub fn write<C: Contents>(rt: &HostRuntime, contents: &C, output: &str) -> Result<(), WriteError> {
-    if is_replaceable(rt, output)? {
-        if let Some((name, file)) = file_beside(rt, output)? {
-            let is_written = write_beside(rt, contents, file, name.as_str(), output);
-            return replace(rt, is_written, name.as_str(), output);
-        }
-    }
-    if write_in_place(rt, contents, output) {
+    let is_done = match place_of(rt, output)? {
+        Place::Free => is_replaced(rt, contents, output, None)?,
+        Place::File(access) => is_replaced(rt, contents, output, Some(access))?,
+        Place::Other => false,
+    };
+    if is_done {
         Ok(())
     } else {
-        Err(WriteError::Output)
+        write_in_place(rt, contents, output)
     }
 }
 
-/// Whether another file may take OUT's place: it is a regular file that may be written, or there is
-/// none.
-fn is_replaceable(rt: &HostRuntime, output: &str) -> Result<bool, WriteError> {
+/// What stands at OUT; a regular file there must be one that may be written.
+fn place_of(rt: &HostRuntime, output: &str) -> Result<Place, WriteError> {
     let Ok(metadata) = fs::symlink_metadata(rt, output) else {
-        return Ok(true);
+        return Ok(Place::Free);
     };
     if !metadata.is_file() {
-        return Ok(false);
+        return Ok(Place::Other);
     }
+    let access = Access {
+        mode: metadata.mode() & 0o777,
+        group: metadata.gid(),
+    };
     match File::options().write(true).open(rt, output) {
-        Ok(_) => Ok(true),
+        Ok(_) => Ok(Place::File(access)),
         Err(_) => Err(WriteError::Output),
     }
 }
 
-/// A new file beside OUT, and its name; none where there can't be one.
-fn file_beside(rt: &HostRuntime, output: &str) -> Result<Option<(String, File)>, AllocError> {
-    for n in 0..MOST_NAMES {
-        let name = format!(in rt.alloc(); "{output}.{n}.tmp")?;
-        match File::create_new(rt, name.as_str()) {
-            Ok(file) => return Ok(Some((name, file))),
-            Err(e) => {
-                if e.kind() != ErrorKind::AlreadyExists {
-                    return Ok(None);
-                }
-            }
-        }
-    }
-    Ok(None)
-}
-
-/// Writes the contents to a new file beside OUT, with the permissions that OUT has.
-fn write_beside<C: Contents>(
+/// Writes the contents to a file beside OUT, which then becomes OUT. False where that can't be, and
+/// then OUT is as it was.
+fn is_replaced<C: Contents>(
     rt: &HostRuntime,
     contents: &C,
-    mut file: File,
-    name: &str,
     output: &str,
-) -> bool {
-    // Before the contents: who may not read OUT may not read them under the other name.
-    if let Ok(metadata) = fs::metadata(rt, output) {
-        let _ = fs::set_permissions(rt, name, metadata.permissions());
+    access: Option<Access>,
+) -> Result<bool, WriteError> {
+    beside::remove_left(rt, output);
+    let name = beside::name(rt, output)?;
+    let Some(file) = beside::create(rt, name.as_str(), access.is_some()) else {
+        return Ok(false);
+    };
+    let outcome = write_beside(rt.alloc(), contents, file, access);
+    if outcome.is_ok() && fs::rename(rt, name.as_str(), output).is_ok() {
+        return Ok(true);
     }
-    contents.is_written(&mut file)
+    let _ = fs::remove_file(rt, name.as_str());
+    outcome?;
+    Ok(false)
 }
 
-/// The file of that name becomes OUT where it was written, and else it goes.
-fn replace(rt: &HostRuntime, is_written: bool, name: &str, output: &str) -> Result<(), WriteError> {
-    if is_written && fs::rename(rt, name, output).is_ok() {
-        return Ok(());
+/// Writes the contents to a new file, which those may read and write who may do so with OUT.
+fn write_beside<C: Contents>(
+    alloc: Global,
+    contents: &C,
+    file: File,
+    access: Option<Access>,
+) -> Result<(), WriteError> {
+    // Before the contents: who may not read OUT may not read them under the other name.
+    if let Some(access) = access {
+        give(&file, access);
     }
-    let _ = fs::remove_file(rt, name);
-    Err(WriteError::Output)
+    fill(alloc, contents, file)
+}
+
+/// Gives a file to a group, with its permissions. Where it can't be given to the group, the group
+/// that it has may do what all others may.
+fn give(file: &File, access: Access) {
+    let mode = if fchown(file, None, Some(access.group)).is_ok() {
+        access.mode
+    } else {
+        access.mode & 0o707 | (access.mode & 0o007) << 3
+    };
+    let _ = file.set_permissions(Permissions::from_mode(mode));
 }
 
 /// Writes the contents to OUT as it stands.
-fn write_in_place<C: Contents>(rt: &HostRuntime, contents: &C, output: &str) -> bool {
-    match fs::create(rt, output) {
-        Ok(mut file) => contents.is_written(&mut file),
+fn write_in_place<C: Contents>(
+    rt: &HostRuntime,
+    contents: &C,
+    output: &str,
+) -> Result<(), WriteError> {
+    match File::options().write(true).create(true).open(rt, output) {
+        Ok(file) => fill(rt.alloc(), contents, file),
+        Err(_) => Err(WriteError::Output),
+    }
+}
+
+/// Writes the contents to a file in place of what it held, small pieces of them in one write.
+fn fill<C: Contents>(alloc: Global, contents: &C, file: File) -> Result<(), WriteError> {
+    match BufWriter::new(alloc, file) {
+        Ok(mut pieces) => {
+            if is_emptied(pieces.get_ref())
+                && contents.is_written(&mut pieces)
+                && pieces.flush().is_ok()
+            {
+                Ok(())
+            } else {
+                Err(WriteError::Output)
+            }
+        }
+        Err(_) => Err(WriteError::Memory),
+    }
+}
+
+/// Whether a regular file holds nothing any more. What isn't one has nothing to be taken away.
+fn is_emptied(file: &File) -> bool {
+    match file.metadata() {
+        Ok(metadata) => !metadata.is_file() || metadata.len() == 0 || file.set_len(0).is_ok(),
         Err(_) => false,
     }
 }
