@@ -1,0 +1,3 @@
+#include "shape.h"
+
+int Shape::area() const { return side * side; }
