@@ -26,7 +26,7 @@ use Rattle.thorin_input.specs.NewUnits.{unit_section, none_met, with_met, once_t
 use Rattle.thorin_input.specs.NewUnits.{with_section_at, with_section_in, with_section}
 use Rattle.thorin_input.specs.NewUnits.{with_each_section, new_units}
 use Rattle.thorin_input.specs.Rows.{unit_row, row_test}
-use Rattle.thorin_input.specs.Used.{Used, InputFile, opened, has_info, input_file_of}
+use Rattle.thorin_input.specs.Used.{Used, opened, has_info, input_file_of}
 use Rattle.thorin_join.specs.Meaning.{UnitRead, named_unit, named_each, named_at, named_sections}
 use Rattle.thorin_join.specs.Meaning.{source_units}
 use Rattle.thorin.specs.Differing.{Bytes, read_bytes, or_there, kept_for, differs, differing_by}

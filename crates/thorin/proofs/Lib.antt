@@ -7,5 +7,6 @@ pub mod GroupUnits
 pub mod GroupMeaning
 pub mod RunTaken
 pub mod TakenAgain
+pub mod MeantAsRead
 pub mod Differs
 pub mod Limits

@@ -18,12 +18,12 @@ use Rattle.thorin_join.specs.OneEncoding.{IsOfOneEncoding, IsOfEncoding, Answers
 use Rattle.thorin_join.specs.OneEncoding.{AnswersOnceWritten, HaveEncodingOnceWritten}
 use Rattle.thorin_join.specs.Own.{packs_again}
 use Rattle.thorin_join.specs.OwnAccepted.{IsAcceptedOnceWritten, IsAcceptedByNewOnceWritten}
-use Rattle.thorin_join.specs.OwnRefusals.{IsForeseen, UnlessForeseen}
+use Rattle.thorin_join.specs.OwnRefusals.{UnlessForeseen}
 use Rattle.thorin_join.specs.PlainInputs.{AreTaken}
 use Rattle.thorin_join.specs.Represents.{IsSoundBegun, units_in}
 use Rattle.thorin.specs.Again.{IsTakenAgain, CanBePackedAgain, IsLeft, HasCommonEncoding}
 use Rattle.thorin.specs.Groups.{taken_each, IsPackedAlone, ArePackedAlone, RefusesPackages}
-use Rattle.thorin.specs.Groups.{IsUnwritten, HaveTheirEncodings}
+use Rattle.thorin.specs.Groups.{HaveTheirEncodings}
 use Rattle.thorin.specs.Run.{IsWritten, Writes}
 use Rattle.thorin.proofs.GroupMeaning.{KeepsSound}
 use Rattle.thorin.proofs.RunTaken.{each-taken, begun-then}
@@ -45,7 +45,7 @@ StringsLaw = (accepted : List (List ℕ)) (state : State) → AreTaken accepted 
     → All IsOfOneEncoding accepted → (file : File) → finish_test state ≡ Ok tt
     → IsFinishedState state file → AnswersOnceWritten (units_in state) file
 
-read-text : (state : State) (bytes : List ℕ) → (w : IsWritten state bytes)
+pub read-text : (state : State) (bytes : List ℕ) → (w : IsWritten state bytes)
     → elf_of (file_text w.file) ≡ Ok (written_elf w.file)
 read-text state bytes w = ap elf_of (sym w.text) ∙ w.read_back
 

@@ -1,11 +1,14 @@
 -- Packages that are packed again, and inputs of one encoding: what packing says of both (DWARF 5,
 -- 7.3.5 and 7.5.1).
-use Rattle.std.specs.Prelude.{◌≡◌, ℕ, true, List, [], ◌∷◌, All, ◌⊎◌}
+use Rattle.std.specs.Prelude.{◌≡◌, ℕ, true, List, [], ◌∷◌, Option, Ok, All, ◌⊎◌, IsPermutation}
 use Rattle.dwp_base.specs.declared.endian.Endianness.{Endianness}
 use Rattle.dwp_bytes.specs.declared.encoding.Encoding.{Encoding}
 use Rattle.dwp_elf.specs.FileText.{Object as File, file_text}
+use Rattle.dwp_table.specs.declared.object.DwarfObject.{DwarfObject}
 use Rattle.thorin_faults.specs.Fault.{Fault}
-use Rattle.thorin_join.specs.Meaning.{Members}
+use Rattle.thorin_join.specs.Again.{all_meant}
+use Rattle.thorin_join.specs.Join.{IsPackageOf}
+use Rattle.thorin_join.specs.Meaning.{Meaning, Members, input_meaning}
 use Rattle.thorin_join.specs.OneEncoding.{IsOfEncoding}
 use Rattle.thorin_join.specs.Own.{packs_again}
 use Rattle.thorin_join.specs.OwnAccepted.{IsAccepted, IsAcceptedByNew}
@@ -39,3 +42,11 @@ IsLeft packages fault = IsForeseen fault ⊎ IsUnwritten packages fault
 -- all units of the inputs of a group have one encoding
 abbrev pub HasCommonEncoding : List (List ℕ) → Type 0
 HasCommonEncoding group = (encoding : Encoding) × All (IsOfEncoding encoding) group
+
+-- bytes mean these units as an input, each once, in some order, whatever builder takes them or
+-- refuses them; and what a reader of packages finds in them is just these
+pub record MeansAsRead (units : Members) (bytes : List ℕ) : Type 0 where
+  pub meant : List (DwarfObject × Option Meaning)
+  pub meaning : input_meaning bytes ≡ Ok meant
+  pub same : IsPermutation (all_meant units) meant
+  pub package_of : IsPackageOf units bytes

@@ -9,7 +9,7 @@ use Rattle.dwp_table.specs.Objects.{identifier_of}
 use Rattle.dwp_table.specs.declared.object.DwarfObject.{DwarfObject}
 use Rattle.thorin_faults.specs.Fault.{Fault}
 use Rattle.thorin_input.specs.Encodings.{encoding_of}
-use Rattle.thorin_input.specs.Indexes.{Source, indexes_of}
+use Rattle.thorin_input.specs.Indexes.{indexes_of}
 use Rattle.thorin_input.specs.Names.{same_name}
 use Rattle.thorin_input.specs.Used.{InputFile, opened, has_info, input_file_of}
 use Rattle.thorin_join.specs.Meaning.{Members, UnitRead, source_units}

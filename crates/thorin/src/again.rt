@@ -3,15 +3,17 @@
 ghost use Rattle.std.specs.Prelude.{◌≡◌, ℕ, true, List, Ok, All, IfOk};
 ghost use Rattle.dwp_base.specs.declared.endian.Endianness.{Endianness};
 ghost use Rattle.thorin_faults.specs.Fault.{Fault};
-ghost use Rattle.thorin_join.specs.Builder.{State, start};
+ghost use Rattle.thorin_join.specs.Again.{HaveEncodingOf};
+ghost use Rattle.thorin_join.specs.Builder.{State, start, taken};
 ghost use Rattle.thorin_join.specs.OneEncoding.{IsOfOneEncoding, AnswersAs};
 ghost use Rattle.thorin_join.specs.Own.{packs_again};
 ghost use Rattle.thorin_join.specs.PlainInputs.{AreTaken};
-ghost use Rattle.thorin_join.specs.Represents.{units_in};
+ghost use Rattle.thorin_join.specs.Represents.{IsSoundBegun, units_in};
 ghost use Rattle.thorin_builder.specs.Taking.{Outcome};
 ghost use Rattle.thorin.specs.declared.packing.Input.{Input};
 ghost use Rattle.thorin.specs.declared.packing.Packed.{Packed};
 ghost use Rattle.thorin.specs.Again.{IsTakenAgain, CanBePackedAgain, IsLeft, HasCommonEncoding};
+ghost use Rattle.thorin.specs.Again.{MeansAsRead};
 ghost use Rattle.thorin.specs.Groups.{ArePackedAlone, HaveTheirEncodings, IsPackageOfAll};
 ghost use Rattle.thorin.specs.Groups.{IsPackedAlone, IsPackedInGroups, RefusesPackages, inputs_of};
 ghost use Rattle.thorin.specs.Groups.{taken_each};
@@ -23,9 +25,9 @@ use dwp_bytes::RelocationEntry;
 use thorin_builder::InputReader;
 use thorin_faults::Session;
 use thorin_join::{
-    inputs_are_joined, inputs_of_one_encoding_keep_their_strings,
+    finished_packages_are_read, inputs_are_joined, inputs_of_one_encoding_keep_their_strings,
     packages_have_the_encoding_of_their_inputs, packages_that_pack_again_are_accepted,
-    the_first_byte_order_stays,
+    plain_objects_pack_again, the_first_byte_order_stays, written_packages_mean_their_units,
 };
 
 /// The law of accepted inputs: those of a run were taken one after another. So the laws of
@@ -111,4 +113,31 @@ pub fn groups_of_one_encoding_are_packed_alike()
 {
     packages_have_the_encoding_of_their_inputs();
     groups_are_packed_alike();
+}
+
+/// The law of packages that may be refused: what a written package means as an input is what a
+/// reader of packages finds in it, whether or not the builder at hand takes it. This is so where
+/// `packs_again` is true of the state that inputs left; and where each of its units has the
+/// encoding of the first that is read of it, and some builder takes it. It does nothing.
+pub fn refused_packages_mean_what_is_read()
+    ensures own { (accepted : List (List ℕ)) (state : State) (bytes : List ℕ)
+        → AreTaken accepted start state
+        → packs_again state ≡ true
+        → IsWritten state bytes
+        → MeansAsRead (units_in state) bytes }
+    ensures taken { (accepted : List (List ℕ)) (state : State) (bytes : List ℕ)
+        (before after : State)
+        → AreTaken accepted start state
+        → IsWritten state bytes
+        → HaveEncodingOf bytes (units_in state)
+        → IsSoundBegun before.begun
+        → taken bytes before ≡ Ok after
+        → MeansAsRead (units_in state) bytes }
+{
+    inputs_are_joined();
+    finished_packages_are_read();
+    written_packages_mean_their_units();
+    plain_objects_pack_again();
+    packages_have_the_encoding_of_their_inputs();
+    packages_that_pack_again_are_accepted();
 }
