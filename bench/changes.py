@@ -2,14 +2,18 @@
 """Changes lines of the reader's, the writer's and the builder's code by a little, and sees whom it strikes.
 
     bench/changes.py [--seed N] [--all N] [--most N] [--list] TREE [CRATE..]
+    bench/changes.py --page
 
 TREE is a copy of the repository in which each crate was proved and built by rt ci, as .ci/wrong-bodies has it. A change
 names an error's neighbour, adds one to a number, or takes a comparison's neighbour. Of all that could be changed --all
 are drawn by the seed, at most --most in a function, from the given crates or all. A change that doesn't compile is drawn
 anew. Changes of different functions are proved together, with the groups of .ci/wrong-bodies; a change counts as refused
 where its own function is told as not proved. What came of each is written to out/changes/CRATE.json. It runs no test:
-what the prover lets through has to be looked at. --list prints what would be changed, and tries nothing.
+bench/changed_tests.py does. --list prints what would be changed, and tries nothing. --page writes what both scripts left in
+out/changes into the table and the lists of bench/changes.md, and keeps that page's rows of crates that weren't tried and its
+reasons; its status is 1 where a change is neither refused, seen nor explained.
 """
+import glob
 import json
 import os
 import random
@@ -18,6 +22,7 @@ import shutil
 import subprocess
 import sys
 import tempfile
+import textwrap
 
 sys.dont_write_bytecode = True
 ROOT = os.path.dirname(os.path.dirname(os.path.realpath(__file__)))
@@ -32,6 +37,8 @@ ERRORS = ["dwp_elf_read/src/fault.rt", "dwp_bytes/src/fault.rt", "dwp_index/src/
 ALIASES = {"ElfReadError": "ReadError", "DwarfReadError": "ReadError", "ElfWriteError": "WriteError", "DwarfWriteError": "WriteError"}
 LATER = {"<": "<=", "<=": "<", ">": ">=", ">=": ">", "==": "!=", "!=": "=="}
 NUMBER = re.compile(r"(?:(?<=\.\.)|(?<![\w.]))(0x[0-9a-f_]+|\d[\d_]*)(?!\w|\.\d)")
+# What bench/changes.md says of a change that nobody explained yet.
+OPEN = "not explained"
 STILL = ("still proved with it", "not refused: ")
 
 
@@ -219,6 +226,61 @@ def try_crate(crate, mine, rest, most, into):
         print(f"  {name}: {why[:200]}", flush=True)
 
 
+def tests_of_changes():
+    """Of each change that a test tells, the programs that do: from the files of bench/changed_tests.py."""
+    found = {}
+    for file in sorted(glob.glob(f"{ROOT}/out/changes/*.seen.json")):
+        with open(file, encoding="utf-8") as it:
+            told = {key for key, one in json.load(it).items() if one["seen"]}
+        for key in told:
+            found.setdefault(key, []).append(os.path.basename(file).removesuffix(".seen.json"))
+    return found
+
+
+def row_of(name, tests):
+    """The cells of a crate's row; of the changes that the prover doesn't refuse, those that a test sees, and the others."""
+    with open(f"{ROOT}/out/changes/{name}.json", encoding="utf-8") as it:
+        kept = json.load(it)
+    let = [f"{name} {it}" for it in kept["functions"] if it not in kept["refused"]]
+    seen, neither = [it for it in let if it in tests], [it for it in let if it not in tests]
+    also = sum(f"{name} {it}" in tests for it in kept["refused"])
+    return [len(kept["functions"]), len(kept["refused"]), also, len(seen), len(neither)], seen, neither
+
+
+def read_page(text):
+    """The cells of each crate's row in a page, and its reasons."""
+    rows = {name: [int(it) for it in cells.split("|")] for name, cells in re.findall(r"^\| `(\w+)` \|([\d |]+)\|$", text, re.M)}
+    told = re.findall(r"^- `(\w+ src/[^`]*)`:\s(.*(?:\n  .*)*)", text, re.M)
+    return rows, {key: " ".join(why.split()) for key, why in told if why != OPEN}
+
+
+def listed(title, whys):
+    """A list of the page, if it isn't empty."""
+    how = {"subsequent_indent": "  ", "break_long_words": False, "break_on_hyphens": False}
+    return ["", f"## {title}", "", *(textwrap.fill(f"- `{key}`: {why}", 100, **how) for key, why in whys)] if whys else []
+
+
+def write_page():
+    """Writes the table and the lists of bench/changes.md anew; how many changes nobody refuses, sees or explains."""
+    page = f"{ROOT}/bench/changes.md"
+    with open(page, encoding="utf-8") as it:
+        text = it.read()
+    rows, reasons = read_page(text)
+    tests, seen, neither = tests_of_changes(), [], []
+    for name in CRATES:
+        if os.path.exists(f"{ROOT}/out/changes/{name}.json"):
+            rows[name], mine, others = row_of(name, tests)
+            seen, neither = seen + mine, neither + others
+    rows["all"] = [sum(it) for it in zip(*(rows[name] for name in CRATES if name in rows))]
+    lines = [text[: text.index("|---|")] + "|---|---|---|---|---|---|"]
+    lines += [f"| `{name}` | {' | '.join(str(it) for it in rows[name])} |" for name in [*CRATES, "all"] if name in rows]
+    lines += listed("Seen by a test alone", [(it, f"`{'`, `'.join(tests[it])}`") for it in seen])
+    lines += listed("Neither", [(it, reasons.get(it, OPEN)) for it in neither])
+    with open(page, "w", encoding="utf-8") as it:
+        it.write("\n".join(lines) + "\n")
+    return sum(it not in reasons for it in neither)
+
+
 def number(words, flag, usual):
     """Takes a flag and its number out of the words."""
     if flag not in words:
@@ -234,6 +296,8 @@ def main(words):
     seed, count, most = number(words, "--seed", 20261125), number(words, "--all", 330), number(words, "--most", 2)
     is_list = "--list" in words
     words = [it for it in words if it != "--list"]
+    if words == ["--page"]:
+        return 1 if write_page() else 0
     if not words or words[0].startswith("-"):
         sys.exit(__doc__)
     crates = kit.crates_of(os.path.abspath(words[0]))
