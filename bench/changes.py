@@ -243,8 +243,7 @@ def row_of(name, tests):
         kept = json.load(it)
     let = [f"{name} {it}" for it in kept["functions"] if it not in kept["refused"]]
     seen, neither = [it for it in let if it in tests], [it for it in let if it not in tests]
-    also = sum(f"{name} {it}" in tests for it in kept["refused"])
-    return [len(kept["functions"]), len(kept["refused"]), also, len(seen), len(neither)], seen, neither
+    return [len(kept["functions"]), len(kept["refused"]), len(seen), len(neither)], seen, neither
 
 
 def read_page(text):
@@ -272,7 +271,7 @@ def write_page():
             rows[name], mine, others = row_of(name, tests)
             seen, neither = seen + mine, neither + others
     rows["all"] = [sum(it) for it in zip(*(rows[name] for name in CRATES if name in rows))]
-    lines = [text[: text.index("|---|")] + "|---|---|---|---|---|---|"]
+    lines = [text[: text.index("|---|")] + "|---|---|---|---|---|"]
     lines += [f"| `{name}` | {' | '.join(str(it) for it in rows[name])} |" for name in [*CRATES, "all"] if name in rows]
     lines += listed("Seen by a test alone", [(it, f"`{'`, `'.join(tests[it])}`") for it in seen])
     lines += listed("Neither", [(it, reasons.get(it, OPEN)) for it in neither])
