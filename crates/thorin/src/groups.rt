@@ -17,9 +17,10 @@ use thorin_faults::{Error, Session};
 /// packages. No input is passed over: the first refusal ends it.
 ///
 /// # Errors
-/// The first of: for each group in order what `DwarfPackage::add_object_bytes` answers of its
-/// inputs and `finish` and `write` of its package (`NoOutputObjectCreated` for a group without
-/// inputs); then the same of the packages. `Memory` at any growth, and where the session has none.
+/// The first error, of each group in order and then of the packages: what
+/// `DwarfPackage::add_object_bytes` answers of an input, then what `finish` and `write` answer
+/// (`NoOutputObjectCreated` for a group without inputs). `Memory` where memory runs out, in the
+/// session too.
 pub fn pack_groups<'s, Sess: Session<RelocationEntry>>(
     alloc: Global,
     session: &'s Sess,

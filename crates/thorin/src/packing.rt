@@ -28,7 +28,7 @@ pub enum Input<'a> {
 /// What packing gave: an outcome for each input, in order, and the package's bytes.
 #[derive(Debug, Drop)]
 pub struct Packed {
-    /// For each input, whether it was accepted, or its first error or `Memory`.
+    /// For each input Ok where it was accepted, else its first error or `Memory`.
     pub outcomes: Vec<Result<(), Error>>,
     /// The written package, or the first error of finishing or writing it or `Memory`.
     pub file: Result<Vec<u8>, Error>,
@@ -65,7 +65,7 @@ pub fn pack<'s, Sess: Session<RelocationEntry>>(
     })
 }
 
-/// Adds one input to a builder. A reader reads what paths name, into room that is free again
+/// Adds one input to a builder. The reader reads what a path names, into room that is free again
 /// afterwards.
 ///
 /// # Errors
