@@ -3,6 +3,12 @@
 //! whichever allocation is refused, and `bench/refuse_allocations.py` refuses each in turn.
 #![tactic(auto)]
 
+/// The parts of the builder, by the names that `thorin` has for a caller.
+pub use thorin::{
+    Bucketable, Buckets, ContributionAdjustor, IndexEntry, PackageStringOffset, PackageStringTable,
+    Relocate, add_relocations, bucket, write_index,
+};
+
 #[cfg(test)]
 mod asserting;
 #[cfg(test)]

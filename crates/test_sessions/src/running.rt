@@ -7,11 +7,11 @@ use crate::counting::{CountingSession, Refusal};
 use crate::objects::{Files, Kind, Naming, executable, put_file, put_object, sure};
 use bumpalo::Bump;
 use dwp_elf::WritableObject;
-use dwp_table::{Bucketable, DwarfObject};
+use dwp_table::DwarfObject;
 use std::alloc::{AllocError, Global};
 use std::collections::BTreeMap;
 use std::path::{AsPath, Path};
-use thorin::{DwarfPackage, Input, Packed};
+use thorin::{Bucketable, DwarfPackage, Input, Packed};
 use thorin_faults::{Error, MissingReferencedObjectBehaviour};
 
 /// An input.

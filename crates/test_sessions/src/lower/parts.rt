@@ -9,8 +9,8 @@ use dwp_index::{DwarfObject, DwoId};
 use std::alloc::{AllocError, Global};
 use std::fmt::Debug;
 use std::process::Abort;
+use thorin::{IndexEntry, add_relocations, bucket, write_index};
 use thorin_faults::Error;
-use thorin_parts::{IndexEntry, add_relocations, bucket, write_index};
 
 /// Asserts what a call answers; where memory was refused, the same of `again`, of which none is.
 fn answers<T: PartialEq + Debug + Drop>(

@@ -4,8 +4,8 @@ use crate::asserting::same;
 use dwp_base::Endianness;
 use dwp_bytes::{Encoding, Format};
 use std::process::Abort;
+use thorin::PackageStringTable;
 use thorin_faults::Error;
-use thorin_strings::PackageStringTable;
 
 const GNU: Encoding = Encoding {
     version: 4,
