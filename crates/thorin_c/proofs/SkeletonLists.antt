@@ -9,7 +9,8 @@ use Rattle.thorin_executable.specs.declared.listing.Skeleton.{Skeleton}
 use Rattle.thorin_executable.specs.declared.listing.SkeletonList.{SkeletonList}
 use Rattle.thorin_faults.specs.declared.fault.Error.{Error}
 use Rattle.thorin_c.specs.Skeletons.{paths_of, skeleton_of, skeleton_named}
-use Rattle.thorin_c.specs.Skeletons.{ListsUnits}
+use Rattle.thorin_c.specs.Packing.{TellsOfFault}
+use Rattle.thorin_c.specs.Skeletons.{ListsUnits, TellsOfEnd}
 use Rattle.thorin_c.specs.Listing.{written_over}
 use Rattle.thorin_c.specs.declared.types.ThorinReport.{ThorinReport}
 use Rattle.thorin_c.specs.Skeletons.{IsNoWantOfMemory}
@@ -72,3 +73,15 @@ pub unless_memory : (fault : Option Error) (P : Type 0) → UnlessMemory fault P
     → IsNoWantOfMemory fault → P
 unless_memory None P h k = h
 unless_memory (Some e) P h k = h k
+
+-- the fields that are told of an error, behind the size
+pub end_alone : (old new : ThorinReport) (n : ℕ) → TellsOfFault (record old { size = n }) new
+    → TellsOfEnd old new
+end_alone old new n told =
+    let size : n ≡ new.size = sym (ap (λ (r : ThorinReport). r.size) told) in
+    told ∙ (λ i. record old {
+      size = size i;
+      fault = new.fault;
+      text_size = new.text_size;
+      text = new.text;
+    })

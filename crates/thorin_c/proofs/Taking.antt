@@ -1,5 +1,6 @@
 -- Inputs taken one after the other.
-use Rattle.std.proofs.Common.{◌≡◌, ◌∙◌, ℕ, ◌+◌, List, [], ◌∷◌, ◌++◌, refl, sym, ap, subst, Result}
+use Rattle.std.proofs.Common.{◌≡◌, ◌∙◌, ℕ, ◌+◌, true, List, [], ◌∷◌, ◌++◌, refl, sym, ap, subst}
+use Rattle.std.proofs.Common.{Result}
 use Rattle.std.proofs.Common.{Ok, Err, ◌<◌, if◌then◌else◌, inl, length, take, get_or, map, arith}
 use Rattle.std.proofs.lemmas.List.{take_more, map-append, length-map}
 use Rattle.dwp_base.specs.Reading.{◌>>=◌}
@@ -17,9 +18,11 @@ use Rattle.thorin_join.specs.Join.{Joins, JoinAll, IsPackageOf}
 use Rattle.thorin_join.specs.Meaning.{Members}
 use Rattle.thorin_join.specs.Represents.{units_in}
 use Rattle.thorin_join.specs.Own.{packs_again}
+use Rattle.thorin_join.specs.PlainInputs.{AreTaken}
+use Rattle.thorin.specs.Again.{IsTakenAgain}
 use Rattle.thorin_c.specs.Packing.{bytes_of, all_taken, Accepts, RefusesAt, StopsAt, Leaves}
 use Rattle.thorin_c.specs.Packing.{TellsRefused, TellsLeft, TellsUnfinished, Refuses, RunsOutAt}
-use Rattle.thorin_c.specs.Packing.{RunsOutAfter, IsPackage, Differ}
+use Rattle.thorin_c.specs.Packing.{RunsOutAfter, IsPackage, ArePackedAgain, Differ}
 use Rattle.thorin_c.specs.declared.types.ThorinBytes.{ThorinBytes}
 
 abbrev value : Result State Fault → State → State
@@ -127,6 +130,42 @@ packs inputs old state signatures bytes is accepted written joined differ = reco
   differ = sym (length-map signatures (λ s. s.0)) ∙ ap length differ;
   packs = refl;
 }
+
+-- ---- a package that is taken again
+
+state-eq : (x y : State) → ◌≡◌ {A = Result State Fault} (Ok x) (Ok y) → x ≡ y
+state-eq x y h = cc
+
+each-taken : (inputs : List ThorinBytes) (old new : State) → all_taken inputs old ≡ Ok new
+    → AreTaken (bytes_of inputs) old new
+each-taken [] old new h = (old.targets, sym (state-eq old new h))
+each-taken (x ∷ rest) old new h =
+    by (taken x.bytes.now old) refl (λ next k. each-taken rest next new k) h
+  where
+    by : (first : Result State Fault) → taken x.bytes.now old ≡ first
+        → ((next : State) → all_taken rest next ≡ Ok new → AreTaken (bytes_of rest) next new)
+        → (first >>= λ next. all_taken rest next) ≡ Ok new
+        → AreTaken (bytes_of (x ∷ rest)) old new
+    by (Ok next) is later k = (old.targets, next, is, later next k)
+    by (Err e) is later k = absurd cc
+
+abbrev pub AgainLaw : Type 0
+AgainLaw = (accepted : List (List ℕ)) (state : State) (bytes : List ℕ)
+    → AreTaken accepted start state → packs_again state ≡ true → IsWritten state bytes
+    → IsTakenAgain (units_in state) bytes
+
+-- where the builder says so, what was written is taken again
+pub taken_again : AgainLaw → (inputs : List ThorinBytes) (old state : State) (bytes : List ℕ)
+    → old ≡ start → Accepts inputs old state → IsWritten state bytes → packs_again state ≡ true
+    → ArePackedAgain inputs bytes
+taken_again law inputs old state bytes is accepted written packs =
+    let from : Accepts inputs start state = subst (λ s. Accepts inputs s state) is accepted in
+    record {
+      units = units_in state;
+      joined = from.joined;
+      again = law (bytes_of inputs) state bytes (each-taken inputs start state from.taken) packs
+          written;
+    }
 
 -- and why it can't be finished
 pub fails : (inputs : List ThorinBytes) (old state : State) (fault : Error) → old ≡ start

@@ -1,5 +1,5 @@
 -- How the exports name a fault of packing.
-use Rattle.std.specs.Prelude.{◌≡◌, ℕ, take, slice_index, IfSome}
+use Rattle.std.specs.Prelude.{◌≡◌, ◌<◌, ℕ, take, slice_index, IfSome}
 use Rattle.std.specs.Fmt.Cut.{IsTextOrCut}
 use Rattle.thorin_faults.specs.Fault.{Fault, ReadInput, ParseFileKind, ParseObjectFile}
 use Rattle.thorin_faults.specs.Fault.{InvalidInputKind, DecompressData, NamelessSection}
@@ -71,4 +71,5 @@ pub record Tells (fault : Fault) (report : ThorinReport) : Type 0 where
   pub number : report.fault ≡ number_of fault
   pub text : IfSome (fault_text fault) (λ text.
       IsTextOrCut 255 text (take report.text_size report.text))
+  pub within : report.text_size < 256
   pub ends : slice_index report.text report.text_size ≡ 0

@@ -1,5 +1,6 @@
 -- A package that is open: where its sections lie among its bytes.
-use Rattle.std.specs.Prelude.{ℕ, ◌+◌, ◌==◌, List, [], slice_range, Result, Ok, if◌then◌else◌}
+use Rattle.std.specs.Prelude.{◌≡◌, ℕ, ◌+◌, ◌==◌, true, List, [], slice_range, Result, Ok}
+use Rattle.std.specs.Prelude.{if◌then◌else◌}
 use Rattle.dwp_base.specs.Reading.{◌>>=◌}
 use Rattle.dwp_base.specs.declared.endian.Endianness.{Endianness}
 use Rattle.dwp_base.specs.declared.endian.Endianness.TheVariants.{Little, Big}
@@ -37,6 +38,26 @@ sections_at places bytes = record {
   cu_index = bytes_at bytes places.cu_index;
   tu_index = bytes_at bytes places.tu_index;
 }
+
+-- a place lies inside the bytes
+abbrev pub IsPlaceIn : List ℕ → ThorinRange → Type 0
+IsPlaceIn bytes place = is_inside bytes place.offset place.size ≡ true
+
+-- so does each place
+pub record LieIn (bytes : List ℕ) (places : ThorinPackage) : Type 0 where
+  pub info : IsPlaceIn bytes places.info
+  pub types : IsPlaceIn bytes places.types
+  pub abbreviations : IsPlaceIn bytes places.abbreviations
+  pub line : IsPlaceIn bytes places.line
+  pub loc : IsPlaceIn bytes places.loc
+  pub loclists : IsPlaceIn bytes places.loclists
+  pub rnglists : IsPlaceIn bytes places.rnglists
+  pub str_offsets : IsPlaceIn bytes places.str_offsets
+  pub macinfo : IsPlaceIn bytes places.macinfo
+  pub macros : IsPlaceIn bytes places.macros
+  pub strings : IsPlaceIn bytes places.strings
+  pub cu_index : IsPlaceIn bytes places.cu_index
+  pub tu_index : IsPlaceIn bytes places.tu_index
 
 -- what bytes mean as a package whose sections are at these places, whatever the places are; or the
 -- first index that can't be read

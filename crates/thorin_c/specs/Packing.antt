@@ -9,8 +9,10 @@ use Rattle.thorin_faults.specs.declared.fault.Error.{Error}
 use Rattle.thorin_faults.specs.declared.fault.Error.TheVariants as error
 use Rattle.thorin_join.specs.Builder.{State, start, taken, differing_in}
 use Rattle.thorin_join.specs.Join.{JoinAll, IsPackageOf}
+use Rattle.thorin_join.specs.Meaning.{Members}
 use Rattle.thorin_join.specs.Own.{packs_again}
 use Rattle.thorin_join.specs.Represents.{units_in}
+use Rattle.thorin.specs.Again.{IsTakenAgain}
 use Rattle.thorin.specs.Run.{IsWritten, RefusesToWrite}
 use Rattle.thorin_c.specs.Faults.{Tells}
 use Rattle.thorin_c.specs.Listing.{written_over}
@@ -68,6 +70,14 @@ pub record IsPackage (inputs : List ThorinBytes) (differing again : ℕ)
   pub package_of : IsPackageOf (units_in state) bytes
   pub differ : differing ≡ length (differing_in state)
   pub packs : again ≡ (if packs_again state then 1 else 0)
+
+-- the bytes, which have the joined units of these inputs, are taken as an input again: by a new
+-- builder, and by any other of their byte order, unless a compilation unit is there already or the
+-- offset of a string doesn't fit
+pub record ArePackedAgain (inputs : List ThorinBytes) (bytes : List ℕ) : Type 0 where
+  pub units : Members
+  pub joined : JoinAll (bytes_of inputs) [] units
+  pub again : IsTakenAgain units bytes
 
 -- all inputs are accepted, and the package can't be finished or written for this fault
 pub record IsUnfinished (inputs : List ThorinBytes) (fault : Fault) : Type 0 where

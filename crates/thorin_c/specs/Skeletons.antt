@@ -37,6 +37,19 @@ abbrev pub TellsEnd : Option Fault → ThorinReport → Type 0
 TellsEnd None report = ⊥
 TellsEnd (Some fault) report = Tells fault report
 
+-- which fields of a report are written: at a whole list, and at one that a fault ends; the others
+-- are as they were
+abbrev pub TellsOfList : ThorinReport → ThorinReport → Type 0
+TellsOfList old new = new ≡ record old { size = new.size }
+
+abbrev pub TellsOfEnd : ThorinReport → ThorinReport → Type 0
+TellsOfEnd old new = new ≡ record old {
+  size = new.size;
+  fault = new.fault;
+  text_size = new.text_size;
+  text = new.text;
+}
+
 -- nothing was lacking
 abbrev pub IsNoWantOfMemory : Option Error → Type 0
 IsNoWantOfMemory None = Unit {0}

@@ -1,6 +1,6 @@
 //! The numbers of the faults of packing.
 
-ghost use Rattle.std.specs.Prelude.{◌≡◌, take, slice_index};
+ghost use Rattle.std.specs.Prelude.{◌≡◌};
 ghost use Rattle.thorin_faults.specs.Fault.{fault_of};
 ghost use Rattle.thorin_c.specs.Faults.{number_of, Tells};
 ghost use Rattle.thorin_c.specs.Packing.{TellsOfFault};

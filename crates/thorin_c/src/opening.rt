@@ -1,6 +1,6 @@
 //! Where the sections of a package lie among its bytes.
 
-ghost use Rattle.std.specs.Prelude.{◌≡◌, Ok, Some, IsTrue, IfSome, IfOk, slice_get, option_map};
+ghost use Rattle.std.specs.Prelude.{◌≡◌, pos, Ok, Some, IsTrue, IfSome, IfOk, slice_get, option_map};
 ghost use Rattle.std.specs.List.{find};
 ghost use Rattle.dwp_base.specs.Reading.{Answers};
 ghost use Rattle.dwp_elf_read.specs.Elf.{elf_of};
@@ -10,6 +10,7 @@ ghost use Rattle.dwp_index.specs.Contents.{contents_of};
 ghost use Rattle.dwp_index.specs.Package.{as_fault, package_of};
 ghost use Rattle.dwp_index.specs.declared.fault.PackageError.TheVariants as faults;
 ghost use Rattle.thorin_c.specs.Opening.{bytes_at, order_of, sections_at, package_in, opened};
+ghost use Rattle.thorin_c.specs.Opening.{IsPlaceIn, LieIn};
 ghost use Rattle.thorin_c.specs.Finding.{as_status, Fills};
 
 use crate::header::offset_of;
@@ -26,8 +27,9 @@ use dwp_index::PackageError;
 /// as it is.
 #[unsafe(no_mangle)]
 pub extern "C" fn thorin_open(bytes: &[u8], places: &mut ThorinPackage) -> i32
-    ensures { Fills (λ found. package_in found bytes.now)
+    ensures filled { Fills (λ found. package_in found bytes.now)
         (as_status (opened (package_of bytes.now))) places.old places.new result }
+    ensures inside { result ≡ pos 0 → LieIn bytes.now places.new }
 {
     match places_of(bytes) {
         Ok(found) => {
@@ -41,7 +43,9 @@ pub extern "C" fn thorin_open(bytes: &[u8], places: &mut ThorinPackage) -> i32
 /// The places of a package's sections, once its indexes are read.
 #[tactic(auto, unfolding(dwp_index::specs::Package::package_of))]
 fn places_of(bytes: &[u8]) -> Result<ThorinPackage, PackageError>
-    ensures { Answers (λ found. package_in found bytes.now) result (opened (package_of bytes.now)) }
+    ensures read { Answers (λ found. package_in found bytes.now) result
+        (opened (package_of bytes.now)) }
+    ensures inside { IfOk result (LieIn bytes.now) }
 {
     let file = read_file(bytes)?;
     let places = read_places(&file, bytes)?;
@@ -66,6 +70,7 @@ fn read_places(file: &ElfFile<'_>, bytes: &[u8]) -> Result<ThorinPackage, Packag
     ensures contents { Answers (λ places. sections_at places bytes.now) result
         (as_fault faults.Elf (contents_of (elf file.now).sections)) }
     ensures order { IfOk result (λ places. order_of places.big_endian ≡ (elf file.now).order) }
+    ensures inside { IfOk result (LieIn bytes.now) }
 {
     match section_places(file, bytes) {
         Ok(places) => Ok(places),
@@ -80,6 +85,7 @@ fn section_places(file: &ElfFile<'_>, bytes: &[u8]) -> Result<ThorinPackage, Rea
     ensures contents { Answers (λ places. sections_at places bytes.now) result
         (contents_of (elf file.now).sections) }
     ensures order { IfOk result (λ places. order_of places.big_endian ≡ (elf file.now).order) }
+    ensures inside { IfOk result (LieIn bytes.now) }
 {
     let info = place(file, bytes, SectionKind::Info)?;
     let types = place(file, bytes, SectionKind::Types)?;
@@ -126,8 +132,9 @@ fn number_of(order: Endianness) -> u64
 #[tactic(auto, unfolding(dwp_index::specs::Contents::content_among))]
 fn place(file: &ElfFile<'_>, bytes: &[u8], kind: SectionKind) -> Result<ThorinRange, ReadError>
     requires { elf_of bytes.now ≡ Ok (elf file.now) }
-    ensures { Answers (λ place. bytes_at bytes.now place) result
+    ensures content { Answers (λ place. bytes_at bytes.now place) result
         (content_among (elf file.now).sections kind) }
+    ensures inside { IfOk result (IsPlaceIn bytes.now) }
 {
     match first_section(file, kind) {
         None => Ok(ThorinRange { offset: 0, size: 0 }),
@@ -147,8 +154,9 @@ fn used_place(
     requires whole { elf_of bytes.now ≡ Ok (elf file.now) }
     requires there { slice_get (elf file.now).sections number ≡ Some (section used.now) }
     requires filled { IsTrue (is_of_kind kind (section used.now)) }
-    ensures { Answers (λ place. bytes_at bytes.now place) result
+    ensures content { Answers (λ place. bytes_at bytes.now place) result
         (used_bytes kind (section used.now)) }
+    ensures inside { IfOk result (IsPlaceIn bytes.now) }
 {
     if used.is_compressed() || has_older_name(used, kind) {
         return Err(ReadError::Compressed);

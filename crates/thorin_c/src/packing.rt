@@ -1,13 +1,13 @@
 //! Packing objects and packages.
 
-ghost use Rattle.std.specs.Prelude.{◌≡◌, ◌≢◌, map, length, IfOk, IfErr, OnOk, pos, ◌⊎◌};
+ghost use Rattle.std.specs.Prelude.{◌≡◌, ◌≢◌, true, map, length, IfOk, IfErr, OnOk, pos, ◌⊎◌};
 ghost use Rattle.std.specs.Prelude.{if◌then◌else◌};
 ghost use Rattle.thorin_join.specs.Represents.{units_in};
-ghost use Rattle.thorin_join.specs.Builder.{start};
 ghost use Rattle.thorin_join.specs.Join.{IsPackageOf};
 ghost use Rattle.thorin.specs.Run.{Writes};
 ghost use Rattle.thorin_c.specs.Listing.{written_over};
 ghost use Rattle.thorin_c.specs.Packing.{Accepts, StopsAt, IsPackage, IsRefusal, TellsRefused};
+ghost use Rattle.thorin_c.specs.Packing.{ArePackedAgain};
 ghost use Rattle.thorin_c.specs.Packing.{TellsLeft, Packs, Needs, Refuses, TellsUnfinished};
 ghost use Rattle.thorin_c.specs.Packing.{RunsOutAt, RunsOutAfter, Differ, IsPackingStatus};
 ghost use Rattle.thorin_c.specs.Packing.{IsDifferingStatus, TellsAlone, TellsOfPackage};
@@ -21,10 +21,11 @@ use crate::types::{ThorinBytes, ThorinReport};
 use dwp_table::DebugTypeSignature;
 use std::alloc::Global;
 use thorin::DwarfPackage;
+use thorin::again::written_packages_are_taken_again;
 use thorin_faults::Error;
 
 /// A package's bytes, how many type units were passed over that differ from those kept, and whether
-/// it is taken as an input again.
+/// it is sure to be taken as an input again.
 #[derive(Drop)]
 struct Packed {
     file: Vec<u8>,
@@ -50,13 +51,13 @@ enum Refusal {
 
 /// Packs objects and packages in order, and answers 0: the package stands at the beginning of
 /// `out`, its length in `report.size`, `report.differing` says how many type units were passed over
-/// whose bytes differ from those kept, and `report.packs_again` is 1 where the package is one that
-/// is taken as an input again. Else `out` is left as it is: 10 where it is too small, and
-/// `report.size` is the length that is needed; 11 where an input is refused, the first of them
-/// `report.input`; 12 where the package can't be finished or written; 13 where memory ran out at
-/// the input `report.input`, or, at their number, while the package was finished and written. Under
-/// 11 and 12 the fault's number and text stand in `report`. The other fields of `report` are left
-/// as they are.
+/// whose bytes differ from those kept, and `report.packs_again` is 1 where the package is one
+/// that is taken as an input again. Else `out` is left as it is: 10 where it
+/// is too small, and `report.size` is the length that is needed; 11 where an input is refused, the
+/// first of them `report.input`; 12 where the package can't be finished or written; 13 where memory
+/// ran out at the input `report.input`, or, at their number, while the package was finished and
+/// written. Under 11 and 12 the fault's number and text stand in `report`. The other fields of
+/// `report` are left as they are.
 #[tactic(auto, using(crate::proofs::Taking::refuses, crate::proofs::Taking::unfinished, crate::proofs::Taking::runs_out_at, crate::proofs::Taking::runs_out_after))]
 #[unsafe(no_mangle)]
 pub extern "C" fn thorin_pack(
@@ -161,12 +162,15 @@ fn unfinished(fault: Error, count: usize, report: &mut ThorinReport) -> i32
 }
 
 // The package of inputs.
-#[tactic(auto, using(crate::proofs::Taking::packs, crate::proofs::Taking::fails, crate::proofs::Taking::none_fails))]
+#[tactic(auto, using(crate::proofs::Taking::packs, crate::proofs::Taking::taken_again, crate::proofs::Taking::fails, crate::proofs::Taking::none_fails))]
 fn package_of(alloc: Global, inputs: &[ThorinBytes<'_>]) -> Result<Packed, Refusal>
     ensures packed { IfOk result (λ packed. IsPackage inputs.now packed.differing
         (if packed.packs_again then 1 else 0) packed.file.items) }
+    ensures again { IfOk result (λ packed. packed.packs_again ≡ true
+        → ArePackedAgain inputs.now packed.file.items) }
     ensures refused { IfErr result (IsRefusal inputs.now) }
 {
+    written_packages_are_taken_again();
     if inputs.is_empty() {
         return Err(Refusal::Package(Error::NoOutputObjectCreated));
     }

@@ -5,7 +5,7 @@ ghost use Rattle.thorin_executable.specs.Skeletons.{skeletons_of};
 ghost use Rattle.thorin_executable.specs.View.{named, listed};
 ghost use Rattle.thorin_c.specs.Listing.{written_over};
 ghost use Rattle.thorin_c.specs.Skeletons.{skeleton_of, skeleton_named, paths_of, ListsUnits};
-ghost use Rattle.thorin_c.specs.Skeletons.{TellsEnd, IsNoWantOfMemory};
+ghost use Rattle.thorin_c.specs.Skeletons.{TellsEnd, TellsOfList, TellsOfEnd, IsNoWantOfMemory};
 
 use crate::faults::tell;
 use crate::status::{DONE, NO_MEMORY, REFUSED};
@@ -34,6 +34,8 @@ pub extern "C" fn thorin_skeletons(
     ensures ended { result ≡ pos 11 → TellsEnd (skeletons_of bytes.now).1 report.new }
     ensures listed { (result ≡ pos 0) ⊎ (result ≡ pos 11) → ListsUnits (skeletons_of bytes.now).0
         names.old names.new paths.old paths.new count.new report.new }
+    ensures whole_alone { result ≡ pos 0 → TellsOfList report.old report.new }
+    ensures ended_alone { result ≡ pos 11 → TellsOfEnd report.old report.new }
     ensures memory { result ≡ pos 13 → (names.new ≡ names.old) × ((paths.new ≡ paths.old)
         × ((count.new ≡ count.old) × (report.new ≡ report.old))) }
     ensures status { (result ≡ pos 0) ⊎ ((result ≡ pos 11) ⊎ (result ≡ pos 13)) }
@@ -58,7 +60,7 @@ fn lacks_memory(fault: &Option<Error>) -> bool
 }
 
 /// Tells of a list whose paths are this text.
-#[tactic(auto, using(crate::proofs::SkeletonLists::lists))]
+#[tactic(auto, using(crate::proofs::SkeletonLists::lists, crate::proofs::SkeletonLists::end_alone))]
 fn told(
     list: SkeletonList,
     text: &[u8],
@@ -72,6 +74,8 @@ fn told(
     ensures ended { result ≡ pos 11 → TellsEnd (listed list).1 report.new }
     ensures lists { ListsUnits (listed list).0 names.old names.new paths.old paths.new count.new
         report.new }
+    ensures whole_alone { result ≡ pos 0 → TellsOfList report.old report.new }
+    ensures ended_alone { result ≡ pos 11 → TellsOfEnd report.old report.new }
     ensures status { (result ≡ pos 0) ⊎ (result ≡ pos 11) }
 {
     let SkeletonList { units, fault } = list;

@@ -5,8 +5,8 @@ use Rattle.thorin_c.specs.Opening.{bytes_at}
 use Rattle.thorin_c.proofs.Headers.{used_there}
 use Rattle.thorin_c.proofs.opening.used_place.Goals as goal
 
-pub returns-then-not-is_inside : goal.returns-then-not-is_inside
-returns-then-not-is_inside c =
+pub returns-then-not-is_inside-clause-content : goal.returns-then-not-is_inside-clause-content
+returns-then-not-is_inside-clause-content c =
     used_there c.args.bytes.now (elf c.args.file.now) c.args.number (section c.args.used.now)
     c.args.kind c.offset_of-offset.result c.size-size.result c.requires.whole c.requires.there
     c.requires.filled (sym c.is_compressed.ensures ∙ c.if-is_compressed.false)
@@ -16,8 +16,8 @@ returns-then-not-is_inside c =
       size = c.size-size.result;
     }))) (Err SectionRange)) (sym c.is_inside.ensures ∙ c.if-not-is_inside.true)
 
-pub returns : goal.returns
-returns c =
+pub returns-clause-content : goal.returns-clause-content
+returns-clause-content c =
     used_there c.args.bytes.now (elf c.args.file.now) c.args.number (section c.args.used.now)
     c.args.kind c.offset_of-offset.result c.size-size.result c.requires.whole c.requires.there
     c.requires.filled (sym c.is_compressed.ensures ∙ c.if-is_compressed.false)
