@@ -445,10 +445,9 @@ typedef struct {
   /**
    * THORIN_DONE, THORIN_TOO_SMALL: 1 where each input is an object that added a unit, all their
    * units have one encoding, and there are abbreviations, and strings if there are string offsets;
-   * else 0. Where it is 1 the package can be an input again, unless a compilation unit is there
-   * already, a string offset gets too large, or memory runs out; where it is 0 the package may be
-   * refused. The builder of the Rattle library is proved to take such a file; no contract of
-   * thorin_pack() says so.
+   * else 0. Where it is 1 at THORIN_DONE the package is proved to be taken as an input again, memory
+   * aside: as a first input in any case, and behind others of its byte order unless a compilation
+   * unit is there already or a string offset gets too large. Where it is 0 it may be refused.
    */
   uint32_t packs_again;
   /** THORIN_REFUSED, THORIN_UNFINISHED: the number of the fault, one of thorin_fault. */

@@ -3,6 +3,7 @@ use Rattle.std.proofs.Common.{◌≡◌, ◌∙◌, ℕ, ◌+◌, true, List, []
 use Rattle.std.proofs.Common.{Result}
 use Rattle.std.proofs.Common.{Ok, Err, ◌<◌, if◌then◌else◌, inl, length, take, get_or, map, arith}
 use Rattle.std.proofs.lemmas.List.{take_more, map-append, length-map}
+use Rattle.std.proofs.Math.Seq.{take-append_seam}
 use Rattle.dwp_base.specs.Reading.{◌>>=◌}
 use Rattle.thorin_faults.specs.Fault.{Fault, fault_of, NoOutputObjectCreated}
 use Rattle.thorin_faults.specs.Answers.{MemoryAside}
@@ -166,6 +167,14 @@ taken_again law inputs old state bytes is accepted written packs =
       again = law (bytes_of inputs) state bytes (each-taken inputs start state from.taken) packs
           written;
     }
+
+-- and so are the bytes in the caller's room
+pub handed_over : (inputs : List ThorinBytes) (file written rest : List ℕ) (n : ℕ)
+    → written ≡ file → n ≡ length file → ArePackedAgain inputs file
+    → ArePackedAgain inputs (take n (written ++ rest))
+handed_over inputs file written rest n same size again =
+    subst (ArePackedAgain inputs)
+    (sym ((λ i. take (size i) (same i ++ rest)) ∙ take-append_seam file rest)) again
 
 -- and why it can't be finished
 pub fails : (inputs : List ThorinBytes) (old state : State) (fault : Error) → old ≡ start

@@ -1,6 +1,6 @@
 //! Packing objects and packages.
 
-ghost use Rattle.std.specs.Prelude.{◌≡◌, ◌≢◌, true, map, length, IfOk, IfErr, OnOk, pos, ◌⊎◌};
+ghost use Rattle.std.specs.Prelude.{◌≡◌, ◌≢◌, true, map, take, length, IfOk, IfErr, OnOk, pos, ◌⊎◌};
 ghost use Rattle.std.specs.Prelude.{if◌then◌else◌};
 ghost use Rattle.thorin_join.specs.Represents.{units_in};
 ghost use Rattle.thorin_join.specs.Join.{IsPackageOf};
@@ -51,8 +51,8 @@ enum Refusal {
 
 /// Packs objects and packages in order, and answers 0: the package stands at the beginning of
 /// `out`, its length in `report.size`, `report.differing` says how many type units were passed over
-/// whose bytes differ from those kept, and `report.packs_again` is 1 where the package is one
-/// that is taken as an input again. Else `out` is left as it is: 10 where it
+/// whose bytes differ from those kept, and `report.packs_again` is 1 where the package is sure to
+/// be taken as an input again, as the clause `again` says. Else `out` is left as it is: 10 where it
 /// is too small, and `report.size` is the length that is needed; 11 where an input is refused, the
 /// first of them `report.input`; 12 where the package can't be finished or written; 13 where memory
 /// ran out at the input `report.input`, or, at their number, while the package was finished and
@@ -67,6 +67,8 @@ pub extern "C" fn thorin_pack(
     report: &mut ThorinReport,
 ) -> i32
     ensures packed { result ≡ pos 0 → Packs inputs.now report.new out.old out.new }
+    ensures again { result ≡ pos 0 → report.new.packs_again ≡ 1
+        → ArePackedAgain inputs.now (take report.new.size out.new) }
     ensures small { result ≡ pos 10 → Needs inputs.now report.new (length out.old) }
     ensures refused { result ≡ pos 11 → Refuses inputs.now report.new }
     ensures unfinished { result ≡ pos 12 → TellsUnfinished inputs.now report.new }

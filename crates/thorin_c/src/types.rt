@@ -136,7 +136,7 @@ pub struct ThorinReport {
     pub input: u64,
     /// How many type units were passed over whose bytes differ from those of the unit that is kept.
     pub differing: u64,
-    /// 1 where the package is one that is taken as an input again, else 0.
+    /// 1 where the package is sure to be taken as an input again, else 0.
     pub packs_again: u32,
     /// The number of the fault, from 1 on.
     pub fault: u32,

@@ -1,0 +1,15 @@
+use Rattle.std.proofs.Common.{◌≡◌, length, rules, arith}
+use Rattle.thorin_c.proofs.Taking.{handed_over}
+use Rattle.thorin_c.proofs.packing.thorin_pack.Goals as goal
+use Rattle.thorin_c.proofs.packing.thorin_pack.Goals.{then-packed, else-packed}
+
+pub returns-else-len-out-clause-again : goal.returns-else-len-out-clause-again
+returns-else-len-out-clause-again c done one =
+    let file = c.in-Ok.packed.file.items in
+    let written : c.copy_from_slice.new.self ≡ file = search rules in
+    let size : c.len-len.result ≡ length file = search rules in
+    handed_over c.args.inputs.now file c.copy_from_slice.new.self _ c.len-len.result written size
+    (elim c.if-packed.branch [
+      | then-packed w ↦ c.in-Ok.ensures.again w.if-packed.true
+      | else-packed w ↦ absurd (omega (arith, w.report-is, one))
+    ])
