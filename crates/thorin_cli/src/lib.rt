@@ -6,7 +6,9 @@ use std::fmt;
 use std::io::{self, Write};
 use thorin_arguments::{Commands, PackArguments};
 pub use thorin_commands::Failure;
-use thorin_commands::{Packing, check, expanded, find, list, pack, report, show, verify};
+use thorin_commands::{
+    HostFiles, Packing, check, expanded, find, list, pack, report, show, verify,
+};
 use thorin_faults::MissingReferencedObjectBehaviour;
 
 /// Does what a command line asks for: `words` are the program's name and its arguments, where
@@ -62,7 +64,8 @@ impl<O: Write, E: Write> Commands for Program<'_, '_, '_, O, E> {
         let answer = if arguments.verifies_only {
             verify(self.rt, &packing, self.out)
         } else {
-            pack(self.rt, &packing, self.out, self.err)
+            let mut files = HostFiles::new(self.rt);
+            pack(self.rt.alloc(), &mut files, &packing, self.out, self.err)
         };
         self.status(answer)
     }

@@ -1,1 +1,3 @@
 mod Inputs
+mod Puts
+mod Readable

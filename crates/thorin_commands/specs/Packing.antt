@@ -1,21 +1,30 @@
--- What the program packs, and what it hands over to be written.
-use Rattle.std.specs.Prelude.{ℕ, List, [], map, Option, Some, None, Result, Ok}
+-- What the program packs, and what comes of it.
+use Rattle.std.specs.Prelude.{◌≡◌, ℕ, List, [], ◌∷◌, ◌++◌, map, codes, Option, Some, None, Result}
+use Rattle.std.specs.Prelude.{Ok}
+use Rattle.std.specs.Prelude.{Err, ◌⊎◌}
 use Rattle.std.specs.Borrow.{Bor}
 use Rattle.std.specs.Path.{path_bytes}
 use Rattle.std.specs.declared.io.Error.{Error as IoError}
-use Rattle.dwp_elf.specs.FileText.{Object as File}
+use Rattle.dwp_elf.specs.FileText.{Object as File, file_text}
 use Rattle.thorin_faults.specs.declared.fault.MissingReferencedObjectBehaviour.{MissingReferencedObjectBehaviour}
 use Rattle.thorin_join.specs.Builder.{State, start, IsFinishedState}
-use Rattle.thorin_join.specs.Join.{JoinAll, IsPackageOnceWritten}
+use Rattle.thorin_join.specs.Join.{JoinAll, IsPackageOf}
 use Rattle.thorin_join.specs.Represents.{units_in}
 use Rattle.thorin_builder.specs.Taking.{Outcome}
 use Rattle.thorin.specs.declared.packing.Input.{Input}
 use Rattle.thorin.specs.declared.packing.Input.TheVariants as inputs
 use Rattle.thorin.specs.Run.{Ran}
+use Rattle.thorin_queries.specs.declared.output.Failure.{Failure}
+use Rattle.thorin_commands.specs.Files.{IsOfWriting}
+use Rattle.thorin_commands.specs.declared.packing.Packing.{Packing}
+use Rattle.thorin_commands.specs.declared.output.Refusal.{Refusal}
+use Rattle.thorin_commands.specs.declared.output.Refusal.TheVariants as refusals
 
 -- a file of the system may hold anything, and any read of it may fail
 abbrev pub anything : List ℕ → Result (List ℕ) IoError → Type 0
 anything path answer = Unit {0}
+
+-- ---- what a command asks for
 
 -- the path of an input, and for an executable what is done where an object of it is missing
 abbrev pub asked : Input → Option (List ℕ × Option MissingReferencedObjectBehaviour)
@@ -31,17 +40,70 @@ abbrev pub executable_asked : MissingReferencedObjectBehaviour → Bor (List ℕ
     → Option (List ℕ × Option MissingReferencedObjectBehaviour)
 executable_asked missing path = Some (path.now, Some missing)
 
+-- the paths of a list, none where there is no list
+abbrev pub paths_in : Option (Bor (List (Bor (List ℕ)))) → List (Bor (List ℕ))
+paths_in None = []
+paths_in (Some list) = list.now
+
+-- the objects in order, and behind them the executables
+abbrev pub asks : Packing → List (Option (List ℕ × Option MissingReferencedObjectBehaviour))
+asks packing = map object_asked (paths_in packing.inputs)
+    ++ map (executable_asked packing.missing) (paths_in packing.executables)
+
+-- OUT: the name that was given, else that of the one executable with `.dwp` behind it
+abbrev pub name_beside : List (Bor (List ℕ)) → Option (List ℕ)
+name_beside [] = None
+name_beside (executable ∷ []) = Some (executable.now ++ codes ".dwp")
+name_beside (executable ∷ another ∷ rest) = None
+
+abbrev pub given_or_beside : Option (Bor (List ℕ)) → List (Bor (List ℕ)) → Option (List ℕ)
+given_or_beside (Some name) executables = Some name.now
+given_or_beside None executables = name_beside executables
+
+abbrev pub out_of : Packing → Option (List ℕ)
+out_of packing = given_or_beside packing.output (paths_in packing.executables)
+
+-- ---- what is made of that
+
 -- each input was taken, in order, and none was refused; and the bytes that were read of them
-abbrev pub AreAllAccepted : List Input → (old new : State) → List (List ℕ) → Type 0
-AreAllAccepted list old new accepted =
-    Ran anything list old (map {B = Outcome} (λ input. Ok tt) list) new accepted
+abbrev pub AreAllAccepted : (List ℕ → Result (List ℕ) IoError → Type 0) → List Input
+    → (old new : State) → List (List ℕ) → Type 0
+AreAllAccepted offer list old new accepted =
+    Ran offer list old (map {B = Outcome} (λ input. Ok tt) list) new accepted
 
 -- all inputs were taken; the state after that has the units of the bytes that were read, joined;
--- and the object is finished from it, a package of these units
-pub record IsPackedOf (list : List Input) (object : File) : Type 0 where
+-- the object is finished from it, and its file is a package of these units
+pub record IsPackedOf (offer : List ℕ → Result (List ℕ) IoError
+    → Type 0) (list : List Input) (object : File) : Type 0 where
   pub state : State
   pub accepted : List (List ℕ)
-  pub ran : AreAllAccepted list start state accepted
+  pub ran : AreAllAccepted offer list start state accepted
   pub joined : JoinAll accepted [] (units_in state)
   pub finished : IsFinishedState state object
-  pub package_of : IsPackageOnceWritten (units_in state) object
+  pub package_of : IsPackageOf (units_in state) (file_text object)
+
+-- the same for just the inputs that were asked for
+pub record IsPackageFor (offer : List ℕ → Result (List ℕ) IoError
+    → Type 0) (packing : Packing) (object : File) : Type 0 where
+  pub list : List Input
+  pub are : map asked list ≡ asks packing
+  pub packed : IsPackedOf offer list object
+
+-- the file of such a package was put under the name of OUT
+pub record Packs (offer : List ℕ → Result (List ℕ) IoError
+    → Type 0) (packing : Packing) (Puts : (name text : List ℕ) → Type 0) : Type 0 where
+  pub object : File
+  pub is : IsPackageFor offer packing object
+  pub name : List ℕ
+  pub named : out_of packing ≡ Some name
+  pub put : Puts name (file_text object)
+
+-- a step failed: nothing was written yet, or the package was begun
+unfoldable pub Fails : Failure → (nothing begun : Type 0) → Type 0
+Fails failure nothing begun = nothing ⊎ (IsOfWriting failure × begun)
+
+-- what came of it: all was done; the package was refused, and nothing was written; or a step failed
+unfoldable pub Comes : Result (Unit {0}) Refusal → (nothing begun done : Type 0) → Type 0
+Comes (Ok x) nothing begun done = done
+Comes (Err (refusals.Package fault)) nothing begun done = nothing
+Comes (Err (refusals.Command failure)) nothing begun done = Fails failure nothing begun

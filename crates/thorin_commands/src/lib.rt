@@ -2,10 +2,11 @@
 //! only read.
 #![tactic(auto)]
 
+mod files;
 mod output;
 mod packing;
-mod reader;
 mod telling;
 
+pub use files::{FileSystem, HostFiles};
 pub use packing::{Packing, pack, verify};
 pub use thorin_queries::{Failure, check, expanded, find, list, report, show};

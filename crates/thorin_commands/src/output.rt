@@ -1,11 +1,18 @@
 //! Writing the package's file.
 
+ghost use Rattle.std.specs.Prelude.{◌≡◌, OnOk, OnErr, IfErr};
+ghost use Rattle.std.specs.Io.KnownBytes.{Appends, Keeps};
+ghost use Rattle.dwp_elf.specs.FileText.{file_text};
+ghost use Rattle.thorin_commands.specs.Files.{HasBeginning, IsOfWriting, Put, Begins};
+ghost use Rattle.thorin_commands.specs.declared.output.Refusal.TheVariants.{Package, Command};
+ghost use Rattle.thorin_queries.specs.declared.output.Failure.TheVariants.{Memory};
+
+use crate::files::FileSystem;
 use dwp_elf::WritableObject;
 use std::alloc::AllocError;
-use std::io::Write;
+use std::io::{self, Write};
 use thorin_faults::Error;
-use thorin_files::{Contents, WriteError};
-use thorin_queries::{Failure, flush};
+use thorin_queries::Failure;
 
 /// Why nothing was packed.
 #[derive(Drop)]
@@ -17,69 +24,116 @@ pub(crate) enum Refusal {
 }
 
 impl From<Error> for Refusal {
+    ghost from_gives = { λ fault refusal. refusal ≡ Package fault };
+
     fn from(fault: Error) -> Refusal {
         Refusal::Package(fault)
     }
 }
 
 impl From<Failure> for Refusal {
+    ghost from_gives = { λ failure refusal. refusal ≡ Command failure };
+
     fn from(failure: Failure) -> Refusal {
         Refusal::Command(failure)
     }
 }
 
 impl From<AllocError> for Refusal {
+    ghost from_gives = { λ _ refusal. refusal ≡ Command Memory };
+
     fn from(_e: AllocError) -> Refusal {
         Refusal::Command(Failure::Memory)
     }
 }
 
-/// A package, as what its file is to hold.
-#[derive(Drop)]
-struct PackageFile<'o>(&'o WritableObject);
-
-impl Contents for PackageFile<'_> {
-    fn is_written<W: Write>(&self, file: &mut W) -> bool {
-        self.0.write_to(file).is_ok()
-    }
-}
-
 /// Writes a package to OUT, where `-` is standard output. Where OUT is a regular file, or isn't
-/// there, a write that fails leaves OUT as it was. The size is tested first.
-pub(crate) fn write_package<O: Write>(
-    rt: &HostRuntime,
+/// there, a write that fails leaves OUT as it was.
+///
+/// # Errors
+/// `Output`, `Line` or `Memory`.
+#[tactic(auto, using(crate::proofs::Puts::put_stream, crate::proofs::Puts::put_file, crate::proofs::Puts::begins_stream, crate::proofs::Puts::begins_file))]
+pub(crate) fn write_package<F: FileSystem, O: Write>(
+    files: &mut F,
     object: &WritableObject,
     output: &str,
     out: &mut O,
-) -> Result<(), Refusal> {
-    match object.file_size() {
-        Ok(_) => Ok(write_file(rt, &PackageFile(object), output, out)?),
-        Err(e) => Err(Refusal::Package(Error::from(e))),
-    }
-}
-
-/// The same for a package whose size was tested.
-fn write_file<O: Write>(
-    rt: &HostRuntime,
-    package: &PackageFile<'_>,
-    output: &str,
-    out: &mut O,
-) -> Result<(), Failure> {
+) -> Result<(), Failure>
+    ensures put { OnOk result (Put F.begun O.contents files.old files.new out.old out.new
+        output.now (file_text object.now)) }
+    ensures begun { OnErr result (Begins F.begun O.contents files.old files.new out.old out.new
+        output.now (file_text object.now)) }
+    ensures cause { IfErr result IsOfWriting }
+{
     if output == "-" {
-        return write_stream(package, out);
+        return match write_stream(object, out) {
+            Ok(()) => Ok(()),
+            Err(failure) => Err(failure),
+        };
     }
-    match thorin_files::write(rt, package, output) {
+    match files.write_object(object, output) {
         Ok(()) => Ok(()),
-        Err(WriteError::Output) => Err(Failure::Output),
-        Err(WriteError::Memory) => Err(Failure::Memory),
+        Err(failure) => Err(failure),
     }
 }
 
 /// Writes a package to a stream.
-fn write_stream<O: Write>(package: &PackageFile<'_>, out: &mut O) -> Result<(), Failure> {
-    if package.is_written(out) {
-        flush(out)
+#[tactic(auto, using(crate::proofs::Puts::whole, crate::proofs::Puts::stay))]
+fn write_stream<O: Write>(object: &WritableObject, out: &mut O) -> Result<(), Failure>
+    ensures whole { OnOk result (Appends (O.contents out.old) (O.contents out.new)
+        (file_text object.now)) }
+    ensures part { OnErr result (HasBeginning (O.contents out.old) (O.contents out.new)
+        (file_text object.now)) }
+    ensures cause { IfErr result IsOfWriting }
+{
+    match hand_over(object, out) {
+        Ok(()) => match flush(out) {
+            Ok(()) => Ok(()),
+            Err(failure) => Err(failure),
+        },
+        Err(failure) => Err(failure),
+    }
+}
+
+/// Hands an object's file to a writer.
+///
+/// # Errors
+/// `Line` where it doesn't take all.
+#[tactic(auto, using(crate::proofs::Puts::begun))]
+pub(crate) fn hand_over<W: Write>(object: &WritableObject, file: &mut W) -> Result<(), Failure>
+    ensures whole { OnOk result (Appends (W.contents file.old) (W.contents file.new)
+        (file_text object.now)) }
+    ensures part { OnErr result (HasBeginning (W.contents file.old) (W.contents file.new)
+        (file_text object.now)) }
+    ensures cause { IfErr result IsOfWriting }
+{
+    match object.write_to(file) {
+        Ok(()) => Ok(()),
+        Err(_) => Err(Failure::Line),
+    }
+}
+
+/// Hands over what a writer holds back.
+///
+/// # Errors
+/// `Memory` where memory ran out, else `Line`.
+pub(crate) fn flush<W: Write>(lines: &mut W) -> Result<(), Failure>
+    ensures kept { Keeps (W.contents lines.old) (W.contents lines.new) }
+    ensures cause { IfErr result IsOfWriting }
+{
+    match lines.flush() {
+        Ok(()) => Ok(()),
+        Err(e) => Err(flush_failure(&e)),
+    }
+}
+
+/// What a failed flush is.
+fn flush_failure(e: &io::Error) -> Failure
+    ensures { IsOfWriting result }
+{
+    if e.kind() == io::ErrorKind::OutOfMemory {
+        Failure::Memory
     } else {
-        Err(Failure::Line)
+        Failure::Line
     }
 }

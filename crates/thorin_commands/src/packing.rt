@@ -1,27 +1,33 @@
 //! `thorin pack`.
 
-ghost use Rattle.std.specs.Prelude.{◌≡◌, ◌++◌, List, ℕ, Ok, map, OnOk, IfOk};
+ghost use Rattle.std.specs.Prelude.{◌≡◌, ◌≤◌, ◌++◌, List, ℕ, Ok, Some, map, OnOk, OnErr, IfOk, IfErr};
+ghost use Rattle.std.specs.Prelude.{string_bytes};
+ghost use Rattle.dwp_elf.specs.FileText.{file_text};
 ghost use Rattle.thorin_join.specs.Builder.{IsFinishedState};
-ghost use Rattle.thorin_join.specs.Join.{IsPackageOnceWritten};
+ghost use Rattle.thorin_join.specs.Join.{IsPackageOf, IsPackageOnceWritten};
+ghost use Rattle.thorin_join.specs.Meaning.{Members};
 ghost use Rattle.thorin_join.specs.Represents.{units_in};
 ghost use Rattle.thorin.specs.Run.{Took};
-ghost use Rattle.thorin_commands.specs.Packing.{anything, asked, object_asked, executable_asked};
-ghost use Rattle.thorin_commands.specs.Packing.{AreAllAccepted, IsPackedOf};
+ghost use Rattle.thorin_commands.specs.Files.{IsOfWriting, Put, Begins};
+ghost use Rattle.thorin_commands.specs.Packing.{asked, object_asked, executable_asked, asks};
+ghost use Rattle.thorin_commands.specs.Packing.{out_of, AreAllAccepted, IsPackedOf, Packs, Comes};
+ghost use Rattle.thorin_commands.specs.Packing.{IsPackageFor, Fails, paths_in};
 
-use crate::output::{Refusal, write_package};
-use crate::reader::FileReader;
+use crate::files::FileSystem;
+use crate::output::{Refusal, flush, write_package};
 use crate::telling::{tell, tell_fault};
 use bumpalo::Bump;
 use dwp_bytes::RelocationEntry;
 use dwp_elf::WritableObject;
+use dwp_elf::laws::written_contents_are_read_back;
 use dwp_table::DebugTypeSignature;
 use std::alloc::{AllocError, Global};
 use std::io::Write;
 use std::path::Path;
 use thorin::laws::runs_go_on;
-use thorin::{DwarfPackage, Input, take_input};
-use thorin_faults::{ArenaSession, MissingReferencedObjectBehaviour, Session};
-use thorin_queries::{Failure, buffer, check, flush, warn_differing};
+use thorin::{BytesSession, DwarfPackage, Input, take_input};
+use thorin_faults::{Error, MissingReferencedObjectBehaviour, Session};
+use thorin_queries::{Failure, buffer, check, warn_differing};
 
 /// What is to be packed, and where to.
 #[derive(Drop)]
@@ -43,30 +49,32 @@ pub struct Packing<'m, 'a> {
 
 impl Packing<'_, '_> {
     /// The name of the package's file.
-    fn output_name(&self, rt: &HostRuntime) -> Result<String, Failure> {
+    fn output_name(&self, alloc: Global) -> Result<String, Failure>
+        ensures { IfOk result (λ name. out_of self.now ≡ Some (string_bytes name)) }
+    {
         match (self.output, self.executables) {
-            (Some(output), _) => Ok(String::from_str(rt.alloc(), output)?),
-            (None, Some([executable])) => Ok(format!(in rt.alloc(); "{executable}.dwp")?),
+            (Some(output), _) => Ok(String::from_str(alloc, output)?),
+            (None, Some([executable])) => Ok(format!(in alloc; "{executable}.dwp")?),
             (None, _) => Err(Failure::BadCommand),
         }
     }
 
     /// Whether the package would take the place of an input, where that isn't asked for.
-    fn overwrites(&self, rt: &HostRuntime, output: &str) -> bool {
+    fn overwrites<F: FileSystem>(&self, files: &F, output: &str) -> bool {
         !self.force
-            && (has_file(rt, self.inputs.unwrap_or(&[]), output)
-                || has_file(rt, self.executables.unwrap_or(&[]), output))
+            && (has_file(files, paths_in(self.inputs), output)
+                || has_file(files, paths_in(self.executables), output))
     }
 }
 
 /// Whether one of these names is another name of a file.
-fn has_file(rt: &HostRuntime, names: &[&str], file: &str) -> bool {
-    let own = thorin_files::identity(rt, file);
+fn has_file<F: FileSystem>(files: &F, names: &[&str], file: &str) -> bool {
+    let own = files.identity(file);
     if own.is_none() {
         return false;
     }
     for name in names {
-        if thorin_files::identity(rt, name) == own {
+        if files.identity(name) == own {
             return true;
         }
     }
@@ -82,24 +90,35 @@ pub fn verify<O: Write>(
     packing: &Packing<'_, '_>,
     out: &mut O,
 ) -> Result<u8, Failure> {
-    let output = packing.output_name(rt)?;
-    check(rt, output.as_str(), packing.executables.unwrap_or(&[]), out)
+    let output = packing.output_name(rt.alloc())?;
+    check(rt, output.as_str(), paths_in(packing.executables), out)
 }
 
-/// Packs the inputs in order, then what each executable refers to, and writes the package. Stops at
-/// the first refusal, prints it, and then writes nothing. Answers the status: 1 where an input is
-/// refused, or a package can't be made of them.
+/// Packs the inputs in order, then what each executable refers to, and writes the package: to the
+/// file OUT, or where that is `-` to `out`. Stops at the first refusal, prints it, and then writes
+/// nothing. Answers the status: 1 where an input is refused, or a package can't be made of them.
 ///
 /// # Errors
 /// `Output` where the package's file can't be written, `Overwrites` where it is an input;
-/// `BadCommand` where there is no name for it; `Line` or `Memory`.
-pub fn pack<O: Write, E: Write>(
-    rt: &HostRuntime,
+/// `BadCommand` where there is no name for it; `Line` or `Memory`; `Input` where an input can't be
+/// read a second time for a line that tells of it.
+#[tactic(auto, using(crate::proofs::Puts::when_done, crate::proofs::Puts::when_refused, crate::proofs::Puts::when_failed))]
+pub fn pack<F: FileSystem, O: Write, E: Write>(
+    alloc: Global,
+    files: &mut F,
     packing: &Packing<'_, '_>,
     out: &mut O,
     err: &mut E,
-) -> Result<u8, Failure> {
-    match pack_all(rt, packing, out, err) {
+) -> Result<u8, Failure>
+    ensures packed { result ≡ Ok 0 → Packs (F.offer files.old) packing.now
+        (Put F.begun O.contents files.old files.new out.old out.new) }
+    ensures status { IfOk result (λ status. status ≤ 1) }
+    ensures refused { result ≡ Ok 1 → (files.new ≡ files.old) × (out.new ≡ out.old) }
+    ensures failed { IfErr result (λ failure. Fails failure
+        ((files.new ≡ files.old) × (out.new ≡ out.old)) (Packs (F.offer files.old) packing.now
+        (Begins F.begun O.contents files.old files.new out.old out.new))) }
+{
+    match pack_all(alloc, files, packing, out, err) {
         Ok(()) => Ok(0),
         Err(Refusal::Package(fault)) => Ok(tell_fault(err, &fault)),
         Err(Refusal::Command(failure)) => Err(failure),
@@ -107,56 +126,153 @@ pub fn pack<O: Write, E: Write>(
 }
 
 /// The same, but for the line that says why an input is refused.
-fn pack_all<O: Write, E: Write>(
-    rt: &HostRuntime,
+#[tactic(auto, using(crate::proofs::Puts::stopped))]
+fn pack_all<F: FileSystem, O: Write, E: Write>(
+    alloc: Global,
+    files: &mut F,
     packing: &Packing<'_, '_>,
     out: &mut O,
     err: &mut E,
-) -> Result<(), Refusal> {
-    let output = packing.output_name(rt)?;
-    if packing.overwrites(rt, output.as_str()) {
-        return Err(Refusal::Command(Failure::Overwrites));
+) -> Result<(), Refusal>
+    ensures { Comes result ((files.new ≡ files.old) × (out.new ≡ out.old))
+        (Packs (F.offer files.old) packing.now
+        (Begins F.begun O.contents files.old files.new out.old out.new))
+        (Packs (F.offer files.old) packing.now
+        (Put F.begun O.contents files.old files.new out.old out.new)) }
+{
+    match packing.output_name(alloc) {
+        Ok(output) => pack_as(alloc, files, packing, output.as_str(), out, err),
+        Err(failure) => Err(Refusal::Command(failure)),
     }
-    let objects = packing.inputs.unwrap_or(&[]);
-    let executables = packing.executables.unwrap_or(&[]);
-    let inputs = inputs_of(rt.alloc(), objects, executables, packing.missing)?;
-    pack_inputs(
-        rt,
-        inputs.as_slice(),
-        packing.verbose,
-        output.as_str(),
-        out,
-        err,
-    )
 }
 
-/// Packs the inputs in order, writes the package, and then warns of type units that differ.
-fn pack_inputs<O: Write, E: Write>(
-    rt: &HostRuntime,
-    inputs: &[Input<'_>],
-    verbose: bool,
+/// Packs what is asked for under a name.
+#[tactic(auto, using(crate::proofs::Puts::stopped, crate::proofs::Puts::failed_packing, crate::proofs::Puts::done_packing))]
+fn pack_as<F: FileSystem, O: Write, E: Write>(
+    alloc: Global,
+    files: &mut F,
+    packing: &Packing<'_, '_>,
     output: &str,
     out: &mut O,
     err: &mut E,
-) -> Result<(), Refusal> {
-    let (object, differing) = packed(rt, inputs, verbose, err)?;
-    write_and_warn(rt, &object, differing.as_slice(), output, out, err)
+) -> Result<(), Refusal>
+    requires { out_of packing.now ≡ Some output.now }
+    ensures { Comes result ((files.new ≡ files.old) × (out.new ≡ out.old))
+        (Packs (F.offer files.old) packing.now
+        (Begins F.begun O.contents files.old files.new out.old out.new))
+        (Packs (F.offer files.old) packing.now
+        (Put F.begun O.contents files.old files.new out.old out.new)) }
+{
+    if packing.overwrites(files, output) {
+        return Err(Refusal::Command(Failure::Overwrites));
+    }
+    match packed(alloc, files, packing, err) {
+        Ok((object, differing)) => {
+            match write_and_warn(
+                alloc,
+                files,
+                &object,
+                differing.as_slice(),
+                output,
+                out,
+                err,
+            ) {
+                Ok(()) => Ok(()),
+                Err(failure) => Err(Refusal::Command(failure)),
+            }
+        }
+        Err(refusal) => Err(refusal),
+    }
 }
 
 /// Writes the package, and then warns of type units that differ.
-fn write_and_warn<O: Write, E: Write>(
-    rt: &HostRuntime,
+#[tactic(auto, using(crate::proofs::Puts::early, crate::proofs::Puts::late))]
+fn write_and_warn<F: FileSystem, O: Write, E: Write>(
+    alloc: Global,
+    files: &mut F,
     object: &WritableObject,
     differing: &[DebugTypeSignature],
     output: &str,
     out: &mut O,
     err: &mut E,
-) -> Result<(), Refusal> {
-    let mut lines = buffer(rt.alloc(), err)?;
-    write_package(rt, object, output, out)?;
-    warn_differing(&mut lines, differing)?;
-    flush(&mut lines)?;
-    Ok(())
+) -> Result<(), Failure>
+    ensures done { OnOk result (Put F.begun O.contents files.old files.new out.old out.new
+        output.now (file_text object.now)) }
+    ensures failed { IfErr result (λ failure. Fails failure
+        ((files.new ≡ files.old) × (out.new ≡ out.old)) (Begins F.begun O.contents files.old
+        files.new out.old out.new output.now (file_text object.now))) }
+{
+    match buffer(alloc, err) {
+        Ok(mut lines) => {
+            match write_then_warn(files, object, differing, output, out, &mut lines) {
+                Ok(()) => Ok(()),
+                Err(failure) => Err(failure),
+            }
+        }
+        Err(failure) => Err(failure),
+    }
+}
+
+/// The same, where the warnings go to a buffer.
+#[tactic(auto, using(crate::proofs::Puts::put_begins))]
+fn write_then_warn<F: FileSystem, O: Write, W: Write>(
+    files: &mut F,
+    object: &WritableObject,
+    differing: &[DebugTypeSignature],
+    output: &str,
+    out: &mut O,
+    lines: &mut W,
+) -> Result<(), Failure>
+    ensures done { OnOk result (Put F.begun O.contents files.old files.new out.old out.new
+        output.now (file_text object.now)) }
+    ensures begun { OnErr result (Begins F.begun O.contents files.old files.new out.old out.new
+        output.now (file_text object.now)) }
+    ensures cause { IfErr result IsOfWriting }
+{
+    match write_package(files, object, output, out) {
+        Ok(()) => match warn(differing, lines) {
+            Ok(()) => Ok(()),
+            Err(failure) => Err(failure),
+        },
+        Err(failure) => Err(failure),
+    }
+}
+
+/// Warns of type units that differ, and hands the warnings over.
+fn warn<W: Write>(differing: &[DebugTypeSignature], lines: &mut W) -> Result<(), Failure>
+    ensures { IfErr result IsOfWriting }
+{
+    match warn_differing(lines, differing) {
+        Ok(()) => flush(lines),
+        Err(_) => Err(Failure::Line),
+    }
+}
+
+/// The object to be written for what is asked for, and the signatures of type units that were
+/// passed over and differ from the ones kept.
+#[tactic(auto, using(crate::proofs::Puts::for_packing))]
+fn packed<F: FileSystem, E: Write>(
+    alloc: Global,
+    files: &F,
+    packing: &Packing<'_, '_>,
+    err: &mut E,
+) -> Result<(WritableObject, Vec<DebugTypeSignature>), Refusal>
+    ensures { IfOk result (λ made. IsPackageFor (F.offer files.now) packing.now made.0) }
+{
+    let objects = paths_in(packing.inputs);
+    let executables = paths_in(packing.executables);
+    let inputs = inputs_of(alloc, objects, executables, packing.missing)?;
+    packed_inputs(alloc, files, inputs.as_slice(), packing.verbose, err)
+}
+
+/// The paths of a list, none where there is no list.
+fn paths_in<'m, 'a>(list: Option<&'m [&'a str]>) -> &'m [&'a str]
+    ensures { result.now ≡ paths_in list.entry }
+{
+    match list {
+        Some(paths) => paths,
+        None => &[],
+    }
 }
 
 /// The objects, and then the executables.
@@ -179,35 +295,36 @@ fn inputs_of<'a>(
     Ok(inputs)
 }
 
-/// The object to be written, and the signatures of type units that were passed over and differ from
-/// the ones kept.
-fn packed<E: Write>(
-    rt: &HostRuntime,
+/// The object to be written for these inputs, and those signatures.
+fn packed_inputs<F: FileSystem, E: Write>(
+    alloc: Global,
+    files: &F,
     inputs: &[Input<'_>],
     verbose: bool,
     err: &mut E,
 ) -> Result<(WritableObject, Vec<DebugTypeSignature>), Refusal>
-    ensures { IfOk result (λ made. IsPackedOf inputs.now made.0) }
+    ensures { IfOk result (λ made. IsPackedOf (F.offer files.now) inputs.now made.0) }
 {
-    let bump = Bump::new(rt.alloc());
-    let session = ArenaSession::new(rt, &bump);
-    packed_over(rt, &session, inputs, verbose, err)
+    let bump = Bump::new(alloc);
+    let session = BytesSession::new(&bump);
+    packed_over(alloc, &session, files, inputs, verbose, err)
 }
 
 /// The same, over a session that holds what is read.
-fn packed_over<'s, Sess: Session<RelocationEntry>, E: Write>(
-    rt: &HostRuntime,
+fn packed_over<'s, Sess: Session<RelocationEntry>, F: FileSystem, E: Write>(
+    alloc: Global,
     session: &'s Sess,
+    files: &F,
     inputs: &[Input<'_>],
     verbose: bool,
     err: &mut E,
 ) -> Result<(WritableObject, Vec<DebugTypeSignature>), Refusal>
-    ensures { IfOk result (λ made. IsPackedOf inputs.now made.0) }
+    ensures { IfOk result (λ made. IsPackedOf (F.offer files.now) inputs.now made.0) }
 {
-    runs_go_on(&FileReader::new(rt));
-    let mut builder = DwarfPackage::new(rt.alloc(), session);
-    take_all(rt, &mut builder, inputs, verbose, err)?;
-    let made = completed(rt.alloc(), builder)?;
+    runs_go_on(files);
+    let mut builder = DwarfPackage::new(alloc, session);
+    take_all(alloc, files, &mut builder, inputs, verbose, err)?;
+    let made = completed(alloc, builder)?;
     Ok(made)
 }
 
@@ -218,59 +335,81 @@ fn completed<'o, 's: 'o, Sess: Session<RelocationEntry>>(
 ) -> Result<(WritableObject, Vec<DebugTypeSignature>), Refusal>
     ensures finished { IfOk result (λ made. IsFinishedState builder.entry.state made.0) }
     ensures packaged { IfOk result (λ made.
-        IsPackageOnceWritten (units_in builder.entry.state) made.0) }
+        IsPackageOf (units_in builder.entry.state) (file_text made.0)) }
 {
     let differing = builder.differing_types().to_vec(alloc)?;
     let object = finished(builder)?;
     Ok((object, differing))
 }
 
-/// The object of the package.
+/// The object of the package, which can be written.
 fn finished<'o, 's: 'o, Sess: Session<RelocationEntry>>(
     builder: DwarfPackage<'o, 's, Sess>,
 ) -> Result<WritableObject, Refusal>
     ensures finished { IfOk result (IsFinishedState builder.entry.state) }
-    ensures packaged { IfOk result (IsPackageOnceWritten (units_in builder.entry.state)) }
+    ensures packaged { IfOk result (λ object.
+        IsPackageOf (units_in builder.entry.state) (file_text object)) }
 {
-    Ok(builder.finish()?)
+    let object = builder.finish()?;
+    can_be_written(&object)?;
+    Ok(object)
+}
+
+/// Tests the size of an object's file.
+///
+/// # Errors
+/// `ObjectWrite` where it has a number that is too large.
+#[tactic(auto, using(crate::proofs::Readable::readable))]
+fn can_be_written(object: &WritableObject) -> Result<(), Error>
+    ensures { OnOk result ((units : Members) → IsPackageOnceWritten units object.now
+        → IsPackageOf units (file_text object.now)) }
+{
+    written_contents_are_read_back();
+    let _sections = object.sections();
+    let _machine = object.machine();
+    match object.file_size() {
+        Ok(_) => Ok(()),
+        Err(e) => Err(Error::from(e)),
+    }
 }
 
 /// Takes the inputs in order, up to the first that is refused.
-fn take_all<'o, 's: 'o, Sess: Session<RelocationEntry>, E: Write>(
-    rt: &HostRuntime,
+fn take_all<'o, 's: 'o, Sess: Session<RelocationEntry>, F: FileSystem, E: Write>(
+    alloc: Global,
+    files: &F,
     builder: &mut DwarfPackage<'o, 's, Sess>,
     inputs: &[Input<'_>],
     verbose: bool,
     err: &mut E,
 ) -> Result<(), Refusal>
-    ensures { OnOk result ((accepted : List (List ℕ))
-        × AreAllAccepted inputs.now builder.old.state builder.new.state accepted) }
+    ensures { OnOk result ((accepted : List (List ℕ)) × AreAllAccepted (F.offer files.now)
+        inputs.now builder.old.state builder.new.state accepted) }
 {
-    let mut room = Vec::new(rt.alloc());
-    runs_go_on(&FileReader::new(rt));
+    let mut room = Vec::new(alloc);
+    runs_go_on(files);
     for input in inputs {
-        take(rt, builder, &mut room, *input, verbose, err)?;
+        take(files, builder, &mut room, *input, verbose, err)?;
     }
     Ok(())
 }
 
 /// Takes an input, and tells what came of it where that is asked for.
-fn take<'o, 's: 'o, Sess: Session<RelocationEntry>, E: Write>(
-    rt: &HostRuntime,
+fn take<'o, 's: 'o, Sess: Session<RelocationEntry>, F: FileSystem, E: Write>(
+    files: &F,
     builder: &mut DwarfPackage<'o, 's, Sess>,
     room: &mut Vec<u8>,
     input: Input<'_>,
     verbose: bool,
     err: &mut E,
 ) -> Result<(), Refusal>
-    ensures { OnOk result (Took anything input.entry builder.old.state (Ok tt) builder.new.state) }
+    ensures { OnOk result
+        (Took (F.offer files.now) input.entry builder.old.state (Ok tt) builder.new.state) }
 {
     let before = builder.contained_units().len();
-    let reader = FileReader::new(rt);
-    let outcome = take_input(builder, &reader, room, input);
+    let outcome = take_input(builder, files, room, input);
     let added = builder.contained_units().len().saturating_sub(before);
     if verbose {
-        tell(rt, input, added, &outcome, err)?;
+        tell(files, input, added, &outcome, err)?;
     }
     outcome?;
     Ok(())

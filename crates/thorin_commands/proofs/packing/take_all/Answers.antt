@@ -3,8 +3,6 @@ use Rattle.std.proofs.lemmas.List.{map-append, take_all}
 use Rattle.thorin_builder.specs.Taking.{Outcome}
 use Rattle.thorin.specs.declared.packing.Input.{Input}
 use Rattle.thorin.specs.declared.packing.Input.TheVariants.{Object}
-use Rattle.thorin.specs.Run.{Took}
-use Rattle.thorin_commands.specs.Packing.{anything}
 use Rattle.thorin_commands.proofs.Inputs.{taken-next}
 use Rattle.thorin_commands.proofs.packing.take_all.Goals as goal
 
@@ -13,8 +11,7 @@ loop-input-preserved g c =
     let none : Input = Object (record { text = record { ref_ptr = (0, 0); now = [] } }) in
     let so_far = take c.loop-input.input-index c.args.inputs.now in
     let input = get_or c.args.inputs.now c.loop-input.input-index none in
-    let took : Took anything input c.loop-input.builder.state (Ok tt) c.take.new.builder.state =
-    c.in_ok-take.ensures in
+    let took = c.in_ok-take.ensures in
     let more = taken-next c.args.inputs.now c.loop-input.input-index none c.loop-input-test.true in
     let outcome : Input → Outcome = λ i. Ok tt in
     let ran = c.runs_go_on.ensures.next so_far input c.args.builder.now.state

@@ -1,0 +1,163 @@
+-- What was put under a name, or begun, and what came of packing.
+use Rattle.std.proofs.Common.{◌≡◌, ℕ, Bool, true, false, List, [], ◌++◌, length, take, sym}
+use Rattle.std.proofs.Common.{◌∙◌, inl, inr, subst, arith}
+use Rattle.std.specs.Prelude.{Option, Some, None, Result, Ok, Err, ◌⊎◌, map, codes}
+use Rattle.std.specs.Str.{bytes_eq}
+use Rattle.std.specs.declared.io.Error.{Error as IoError}
+use Rattle.std.specs.Io.KnownBytes.{Appends, Keeps}
+use Rattle.std.proofs.lemmas.List.{append-nil, take_all}
+use Rattle.dwp_elf_read.specs.declared.fault.WriteError.{WriteError}
+use Rattle.dwp_elf_read.specs.declared.fault.WriteError.TheVariants.{NumberTooLarge, Memory, Io}
+use Rattle.dwp_elf.specs.FileText.{Object, file_text}
+use Rattle.dwp_elf.specs.Refusals.{RefusesWriter}
+use Rattle.dwp_elf.specs.FileText.{Object as File}
+use Rattle.thorin_faults.specs.declared.fault.Error.{Error}
+use Rattle.thorin.specs.declared.packing.Input.{Input}
+use Rattle.thorin_queries.specs.declared.output.Failure.{Failure}
+use Rattle.thorin_commands.specs.Files.{HasBeginning, Begun, Adds, IsOfWriting, PutIn, BeginsIn}
+use Rattle.thorin_commands.specs.Files.{Put, Begins}
+use Rattle.thorin_commands.specs.Packing.{asked, asks, out_of, IsPackedOf, IsPackageFor, Packs}
+use Rattle.thorin_commands.specs.Packing.{Comes}
+use Rattle.thorin_commands.specs.Packing.{Fails}
+use Rattle.thorin_commands.specs.declared.output.Refusal.{Refusal}
+use Rattle.thorin_commands.specs.declared.output.Refusal.TheVariants as refusals
+use Rattle.thorin_commands.specs.declared.packing.Packing.{Packing}
+
+-- bytes that stay have nothing behind them
+kept : (old new : Option (List ℕ)) → Keeps old new → Appends old new []
+kept None new h = tt
+kept (Some xs) None h = h
+kept (Some xs) (Some ys) h = h ∙ sym (append-nil xs)
+
+pub begun : (o : Object) (old new : Option (List ℕ)) (e : WriteError) → RefusesWriter o old new e
+    → HasBeginning old new (file_text o)
+unfolding HasBeginning
+begun o old new NumberTooLarge h = (0, kept old new h.1)
+begun o old new Memory h = absurd h
+begun o old new (Io e) h = (h.1.count, h.1.appended)
+
+-- all of it is a beginning
+pub whole : (old new : Option (List ℕ)) (bytes : List ℕ) → Appends old new bytes
+    → HasBeginning old new bytes
+unfolding HasBeginning
+whole old new bytes h = (
+  length bytes,
+  subst (λ bs. Appends old new bs) (sym (take_all (length bytes) bytes (omega arith))) h,
+)
+
+-- the same after bytes that were flushed
+pub stay : (old middle new : Option (List ℕ)) (bytes : List ℕ) → Appends old middle bytes
+    → Keeps middle new → Appends old new bytes
+stay None middle new bytes a k = tt
+stay (Some xs) None new bytes a k = absurd a
+stay (Some xs) (Some ys) None bytes a k = absurd k
+stay (Some xs) (Some ys) (Some zs) bytes a k = k ∙ a
+
+module _ {F O : Type 0} (begins : F → Option (List Begun)) (contents : O → Option (List ℕ))
+    (files files' : F) (out out' : O) (name text : List ℕ) where
+  -- in the stream, and in a file
+  pub put_stream : bytes_eq name (codes "-") ≡ true → files' ≡ files
+      → Appends (contents out) (contents out') text
+      → Put begins contents files files' out out' name text
+  unfolding Put
+  put_stream e same added = rw e (same, added)
+
+  pub put_file : bytes_eq name (codes "-") ≡ false
+      → Adds (begins files) (begins files') (name, Some text) → out' ≡ out
+      → Put begins contents files files' out out' name text
+  unfolding Put
+  put_file e added same = rw e (added, same)
+
+  pub begins_stream : bytes_eq name (codes "-") ≡ true → files' ≡ files
+      → HasBeginning (contents out) (contents out') text
+      → Begins begins contents files files' out out' name text
+  unfolding Begins
+  begins_stream e same added = rw e (same, added)
+
+  pub begins_file : bytes_eq name (codes "-") ≡ false
+      → Adds (begins files) (begins files') (name, None) → out' ≡ out
+      → Begins begins contents files files' out out' name text
+  unfolding Begins
+  begins_file e added same = rw e (inr added, same)
+
+  -- what was put was begun
+  begins_in : (b : Bool) → PutIn begins contents files files' out out' b name text
+      → BeginsIn begins contents files files' out out' b name text
+  begins_in true h = (h.0, whole (contents out) (contents out') text h.1)
+  begins_in false h = (inl h.0, h.1)
+
+  pub put_begins : Put begins contents files files' out out' name text
+      → Begins begins contents files files' out out' name text
+  unfolding Put Begins
+  put_begins h = begins_in (bytes_eq name (codes "-")) h
+
+-- ---- what came of packing
+
+pub for_packing : (offer : List ℕ → Result (List ℕ) IoError → Type 0) (packing : Packing)
+    (list : List Input) (object : File)
+    → map asked list ≡ asks packing → IsPackedOf offer list object
+    → IsPackageFor offer packing object
+for_packing offer packing list object are packed =
+    record { list = list; are = are; packed = packed }
+
+-- nothing was written yet, or the package was begun
+pub early : (N B : Type 0) (failure : Failure) → N → Fails failure N B
+unfolding Fails
+early N B failure n = inl n
+
+pub late : (N B : Type 0) (failure : Failure) → IsOfWriting failure → B → Fails failure N B
+unfolding Fails
+late N B failure w b = inr (w, b)
+
+packs : (offer : List ℕ → Result (List ℕ) IoError → Type 0) (packing : Packing)
+    (Puts : (name text : List ℕ) → Type 0) (object : File) (name : List ℕ)
+    → IsPackageFor offer packing object → out_of packing ≡ Some name → Puts name (file_text object)
+    → Packs offer packing Puts
+packs offer packing Puts object name is named put =
+    record { object = object; is = is; name = name; named = named; put = put }
+
+pub done_packing : (N B : Type 0) (offer : List ℕ → Result (List ℕ) IoError → Type 0)
+    (packing : Packing) (Puts : (name text : List ℕ) → Type 0) (object : File) (name : List ℕ)
+    (x : Unit {0}) → IsPackageFor offer packing object → out_of packing ≡ Some name
+    → Puts name (file_text object) → Comes (Ok x) N B (Packs offer packing Puts)
+unfolding Comes
+done_packing N B offer packing Puts object name x is named put =
+    packs offer packing Puts object name is named put
+
+begun_packing : {N : Type 0} (offer : List ℕ → Result (List ℕ) IoError → Type 0)
+    (packing : Packing) (Puts : (name text : List ℕ) → Type 0) (object : File) (name : List ℕ)
+    (failure : Failure) → IsPackageFor offer packing object → out_of packing ≡ Some name
+    → N ⊎ (IsOfWriting failure × Puts name (file_text object))
+    → N ⊎ (IsOfWriting failure × Packs offer packing Puts)
+begun_packing offer packing Puts object name failure is named (inl n) = inl n
+begun_packing offer packing Puts object name failure is named (inr h) =
+    inr (h.0, packs offer packing Puts object name is named h.1)
+
+pub failed_packing : (N D : Type 0) (offer : List ℕ → Result (List ℕ) IoError → Type 0)
+    (packing : Packing) (Puts : (name text : List ℕ) → Type 0) (object : File) (name : List ℕ)
+    (failure : Failure) → IsPackageFor offer packing object → out_of packing ≡ Some name
+    → Fails failure N (Puts name (file_text object))
+    → Comes (Err (refusals.Command failure)) N (Packs offer packing Puts) D
+unfolding Comes Fails
+failed_packing N D offer packing Puts object name failure is named h =
+    begun_packing offer packing Puts object name failure is named h
+
+module _ (N B D : Type 0) where
+  -- where nothing was written, any refusal says so
+  pub stopped : (refusal : Refusal) → N → Comes (Err refusal) N B D
+  unfolding Comes Fails
+  stopped (refusals.Package fault) n = n
+  stopped (refusals.Command failure) n = inl n
+
+  pub when_done : (x : Unit {0}) → Comes (Ok x) N B D → D
+  unfolding Comes
+  when_done x h = h
+
+  pub when_refused : (fault : Error) → Comes (Err (refusals.Package fault)) N B D → N
+  unfolding Comes
+  when_refused fault h = h
+
+  pub when_failed : (failure : Failure) → Comes (Err (refusals.Command failure)) N B D
+      → Fails failure N B
+  unfolding Comes
+  when_failed failure h = h

@@ -1,0 +1,97 @@
+//! The files that `pack` reads, and the one that it writes.
+
+ghost use Rattle.std.specs.Prelude.{ℕ, List, Option, Some, None, OnOk, OnErr, IfErr};
+ghost use Rattle.dwp_elf.specs.FileText.{file_text};
+ghost use Rattle.thorin_commands.specs.Files.{Begun, Adds, IsOfWriting};
+ghost use Rattle.thorin_commands.specs.Packing.{anything};
+
+use crate::output::hand_over;
+use dwp_elf::WritableObject;
+use std::io::Write;
+use std::path::Path;
+use thorin::InputReader;
+use thorin_faults::InputError;
+use thorin_files::{Contents, WriteError};
+use thorin_queries::{Failure, unit_count};
+
+/// The files that `pack` reads and writes. It has no other way to a file.
+pub trait FileSystem: InputReader {
+    // The files that were begun, in order, where that is known: the name of each, with all its
+    // bytes where it was written to its end.
+    ghost begun: { Self → Option (List Begun) } = { λ _. None };
+
+    /// The device and the number of the file at a path, by which two names of one file are known.
+    /// None where there is no file.
+    fn identity(&self, name: &str) -> Option<(u64, u64)>;
+
+    /// How many units an object has that was accepted. It is read a second time: none where that
+    /// can't be done.
+    ///
+    /// # Errors
+    /// `Input` where the read fails, `Memory`.
+    fn unit_count(&self, name: &str) -> Result<Option<usize>, Failure>;
+
+    /// Writes an object's file under a name.
+    ///
+    /// # Errors
+    /// `Output` where it can't be written to its end, `Memory`.
+    fn write_object(&mut self, object: &WritableObject, name: &str) -> Result<(), Failure>
+        ensures whole { OnOk result
+            (Adds (begun self.old) (begun self.new) (name.now, Some (file_text object.now))) }
+        ensures part { OnErr result (Adds (begun self.old) (begun self.new) (name.now, None)) }
+        ensures cause { IfErr result IsOfWriting };
+}
+
+/// The files of the system. What has no end, as a device, isn't read.
+#[derive(Drop)]
+pub struct HostFiles<'a> {
+    rt: &'a HostRuntime,
+}
+
+impl<'a> HostFiles<'a> {
+    /// The files of this runtime.
+    pub fn new(rt: &'a HostRuntime) -> HostFiles<'a> {
+        HostFiles { rt }
+    }
+}
+
+impl InputReader for HostFiles<'_> {
+    ghost offer = { λ _. anything };
+
+    fn read_into<'b>(
+        &'b self,
+        path: Path<'_>,
+        room: &'b mut Vec<u8>,
+    ) -> Result<&'b [u8], InputError> {
+        thorin_files::read_over(self.rt, path, room)?;
+        Ok(room.as_slice())
+    }
+}
+
+impl FileSystem for HostFiles<'_> {
+    fn identity(&self, name: &str) -> Option<(u64, u64)> {
+        thorin_files::identity(self.rt, name)
+    }
+
+    fn unit_count(&self, name: &str) -> Result<Option<usize>, Failure> {
+        unit_count(self.rt, name)
+    }
+
+    fn write_object(&mut self, object: &WritableObject, name: &str) -> Result<(), Failure> {
+        match thorin_files::write(self.rt, &PackageFile(object), name) {
+            Ok(()) => Ok(()),
+            Err(WriteError::Output) => Err(Failure::Output),
+            Err(WriteError::Memory) => Err(Failure::Memory),
+        }
+    }
+}
+
+/// A package, as what its file is to hold.
+#[derive(Drop)]
+struct PackageFile<'o>(&'o WritableObject);
+
+impl Contents for PackageFile<'_> {
+    fn is_written<W: Write>(&self, file: &mut W) -> bool {
+        hand_over(self.0, file).is_ok()
+    }
+}
