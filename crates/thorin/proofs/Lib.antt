@@ -8,5 +8,7 @@ pub mod GroupMeaning
 pub mod RunTaken
 pub mod TakenAgain
 pub mod MeantAsRead
+pub mod SectionsRead
+pub mod MeaningRead
 pub mod Differs
 pub mod Limits

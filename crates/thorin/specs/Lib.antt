@@ -3,3 +3,4 @@ pub mod Packed
 pub mod Groups
 pub mod Again
 pub mod Differing
+pub mod MeaningRead

@@ -1,10 +1,13 @@
 //! What packing says of packages that are packed again, and of inputs of one encoding, as laws.
 
-ghost use Rattle.std.specs.Prelude.{◌≡◌, ℕ, true, List, Ok, All, IfOk};
+ghost use Rattle.std.specs.Prelude.{◌≡◌, ℕ, true, List, [], Option, Ok, All, IfOk, ◌⊎◌};
 ghost use Rattle.dwp_base.specs.declared.endian.Endianness.{Endianness};
+ghost use Rattle.dwp_index.specs.Package.{Package, package_of};
+ghost use Rattle.dwp_table.specs.declared.object.DwarfObject.{DwarfObject};
 ghost use Rattle.thorin_faults.specs.Fault.{Fault};
 ghost use Rattle.thorin_join.specs.Again.{HaveEncodingOf};
 ghost use Rattle.thorin_join.specs.Builder.{State, start, taken};
+ghost use Rattle.thorin_join.specs.Meaning.{Meaning, input_meaning};
 ghost use Rattle.thorin_join.specs.OneEncoding.{IsOfOneEncoding, AnswersAs};
 ghost use Rattle.thorin_join.specs.Own.{packs_again};
 ghost use Rattle.thorin_join.specs.PlainInputs.{AreTaken};
@@ -17,6 +20,7 @@ ghost use Rattle.thorin.specs.Again.{MeansAsRead};
 ghost use Rattle.thorin.specs.Groups.{ArePackedAlone, HaveTheirEncodings, IsPackageOfAll};
 ghost use Rattle.thorin.specs.Groups.{IsPackedAlone, IsPackedInGroups, RefusesPackages, inputs_of};
 ghost use Rattle.thorin.specs.Groups.{taken_each};
+ghost use Rattle.thorin.specs.MeaningRead.{has_index, MeansByReader};
 ghost use Rattle.thorin.specs.Packed.{IsPacked};
 ghost use Rattle.thorin.specs.Run.{Ran, IsWritten};
 
@@ -30,8 +34,8 @@ use thorin_join::{
     plain_objects_pack_again, the_first_byte_order_stays, written_packages_mean_their_units,
 };
 
-/// The law of accepted inputs: those of a run were taken one after another, and so were those of a
-/// list that was taken whole. So the laws of `thorin_join` on lists of inputs speak of both. It does
+/// The law of accepted inputs: those of a run were taken one after another. So the laws of
+/// `thorin_join` on lists of inputs speak of runs, and of inputs that are all taken. It does
 /// nothing.
 pub fn accepted_inputs_are_taken<R: InputReader>(reader: &R)
     ensures ran { (inputs : List Input) (old new : State) (outcomes : List Outcome)
@@ -44,9 +48,9 @@ pub fn accepted_inputs_are_taken<R: InputReader>(reader: &R)
     let _ = reader;
 }
 
-/// The laws of written packages. Where `packs_again` is true of the state that inputs left, what is
-/// written of it is taken again. Where each input has one encoding, look-ups in what is written find
-/// just the units, with all their strings. It does nothing.
+/// The laws of written packages: where `packs_again` is true of the state that inputs left, what is
+/// written of it is taken again; and where each input has one encoding, it answers as its units,
+/// with all their strings. It does nothing.
 pub fn written_packages_are_taken_again()
     ensures again { (accepted : List (List ℕ)) (state : State) (bytes : List ℕ)
         → AreTaken accepted start state
@@ -63,7 +67,7 @@ pub fn written_packages_are_taken_again()
     inputs_of_one_encoding_keep_their_strings();
 }
 
-/// The laws of `written_packages_are_taken_again`, of what `pack` gives. It does nothing.
+/// The same of what `pack` gives. It does nothing.
 pub fn packed_files_are_taken_again<Sess: Session<RelocationEntry>>(session: &Sess)
     ensures again { (inputs : List Input) (packed : Packed)
         (is : IsPacked (Sess.offer session.now) inputs packed)
@@ -78,10 +82,10 @@ pub fn packed_files_are_taken_again<Sess: Session<RelocationEntry>>(session: &Se
     let _ = session;
 }
 
-/// Each group's package too is taken again where `packs_again` is true of its state. And where every
-/// group's package can be packed again, and they have one byte order, all that can still end the
-/// packing, memory aside, is a compilation unit that stands in two of them, the offset of a string
-/// that doesn't fit, or an error of finishing or writing what was joined. It does nothing.
+/// The same of what `pack_groups` packs of each group. And where every group's package can be
+/// packed again, and they have one byte order, all that can still end the packing is a compilation
+/// unit that stands in two of them, the offset of a string that doesn't fit, or an error of
+/// finishing or writing what was joined. It does nothing.
 pub fn packages_of_groups_are_taken_again()
     ensures alone { (inputs : List (List ℕ)) (bytes : List ℕ) (is : IsPackedAlone inputs bytes)
         → packs_again is.state ≡ true
@@ -97,10 +101,10 @@ pub fn packages_of_groups_are_taken_again()
     the_first_byte_order_stays();
 }
 
-/// The law of groups of one encoding. Where all units of each group's inputs have one encoding,
-/// those that were passed over too, every unit of a group's package has the encoding of its first.
-/// So the file of all groups is a package of the units that joining all inputs of all groups at once
-/// gives. It does nothing.
+/// The law of groups of one encoding: where all units of each group's inputs have one encoding,
+/// those that were passed over too, each unit of each group's package has the encoding of that
+/// package's first unit. So the file of all groups is a package of the units that all inputs of all
+/// groups join at once. It does nothing.
 pub fn groups_of_one_encoding_are_packed_alike()
     ensures encodings { (groups : List (List (List ℕ))) (packages : List (List ℕ))
         (each : ArePackedAlone groups packages)
@@ -141,3 +145,16 @@ pub fn refused_packages_mean_what_is_read()
     packages_have_the_encoding_of_their_inputs();
     packages_that_pack_again_are_accepted();
 }
+
+/// The law of any package as an input, whoever takes or refuses it: where the bytes mean units, each
+/// of those that stand in their sections has what a reader of packages finds in the row of its
+/// place, in the index of its kind: its pieces, and its strings by the input's encoding. It has
+/// nothing where there is no such row, a range lies outside its section, or a string can't be read.
+/// It does nothing.
+pub fn packages_mean_what_is_read()
+    ensures { (bytes : List ℕ) (pack : Package) (meant : List (DwarfObject × Option Meaning))
+        → package_of bytes ≡ Ok pack
+        → has_index pack ≡ true
+        → input_meaning bytes ≡ Ok meant
+        → (meant ≡ []) ⊎ MeansByReader bytes pack meant }
+{}

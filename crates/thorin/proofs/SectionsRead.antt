@@ -1,0 +1,379 @@
+-- The sections of an input are those that a reader of packages has.
+use Rattle.std.proofs.Common.{◌≡◌, ◌∙◌, ℕ, zero, suc, Bool, true, false, cond, ◌&&◌, ◌||◌, List, []}
+use Rattle.std.proofs.Common.{◌∷◌, ◌++◌, refl, sym, ap, subst, Option, Some, None, Result, Ok, Err}
+use Rattle.std.proofs.Common.{is_some, filter, find, slice_get, bytes_eq}
+use Rattle.std.proofs.lemmas.Option.{same_Some}
+use Rattle.std.proofs.lemmas.Slice.Eq.{bytes_eq-Decides}
+use Rattle.dwp_base.specs.Reading.{◌>>=◌}
+use Rattle.dwp_base.specs.Sections.{name_of, compressed_name_of, is_named, all_kinds, rank_of}
+use Rattle.dwp_base.specs.Sections.{same_kind}
+use Rattle.dwp_base.specs.declared.section.SectionKind.{SectionKind}
+use Rattle.dwp_base.specs.declared.section.SectionKind.TheVariants.{Info, Types, Abbrev, Line, Loc}
+use Rattle.dwp_base.specs.declared.section.SectionKind.TheVariants.{Loclists, Rnglists, StrOffsets}
+use Rattle.dwp_base.specs.declared.section.SectionKind.TheVariants.{Macinfo, Macro, Str, CuIndex}
+use Rattle.dwp_base.specs.declared.section.SectionKind.TheVariants.{TuIndex}
+use Rattle.dwp_elf_read.specs.Elf.{SectionMeaning}
+use Rattle.dwp_index.specs.Contents as reader
+use Rattle.dwp_index.specs.Contents.{has_name, is_of_kind, content_among}
+use Rattle.thorin_faults.specs.Fault.{Fault}
+use Rattle.thorin_faults.specs.Answers.{as_fault}
+use Rattle.thorin_input.specs.Used.{Used, used_kind, counts_once, used_bytes, has_kind, with_used}
+use Rattle.thorin_input.specs.Used.{used_from, bytes_of, first}
+use Rattle.thorin.proofs.RunTaken.{bind-was}
+
+was : {A E : Type 0} (x y : A) → ◌≡◌ {A = Result A E} (Ok x) (Ok y) → x ≡ y
+was x y h = cc
+
+-- ---- no name is that of two kinds
+
+at-rank : (kind : SectionKind) → slice_get all_kinds (rank_of kind) ≡ Some kind
+at-rank Info = refl
+at-rank Types = refl
+at-rank Abbrev = refl
+at-rank Line = refl
+at-rank Loc = refl
+at-rank Loclists = refl
+at-rank Rnglists = refl
+at-rank StrOffsets = refl
+at-rank Macinfo = refl
+at-rank Macro = refl
+at-rank Str = refl
+at-rank CuIndex = refl
+at-rank TuIndex = refl
+
+same-self : (kind : SectionKind) → same_kind kind kind ≡ true
+same-self Info = refl
+same-self Types = refl
+same-self Abbrev = refl
+same-self Line = refl
+same-self Loc = refl
+same-self Loclists = refl
+same-self Rnglists = refl
+same-self StrOffsets = refl
+same-self Macinfo = refl
+same-self Macro = refl
+same-self Str = refl
+same-self CuIndex = refl
+same-self TuIndex = refl
+
+by-name : (kind : SectionKind) → filter (is_named (name_of kind)) all_kinds ≡ kind ∷ []
+by-name Info = refl
+by-name Types = refl
+by-name Abbrev = refl
+by-name Line = refl
+by-name Loc = refl
+by-name Loclists = refl
+by-name Rnglists = refl
+by-name StrOffsets = refl
+by-name Macinfo = refl
+by-name Macro = refl
+by-name Str = refl
+by-name CuIndex = refl
+by-name TuIndex = refl
+
+by-older : (kind : SectionKind) → filter (is_named (compressed_name_of kind)) all_kinds ≡ kind ∷ []
+by-older Info = refl
+by-older Types = refl
+by-older Abbrev = refl
+by-older Line = refl
+by-older Loc = refl
+by-older Loclists = refl
+by-older Rnglists = refl
+by-older StrOffsets = refl
+by-older Macinfo = refl
+by-older Macro = refl
+by-older Str = refl
+by-older CuIndex = refl
+by-older TuIndex = refl
+
+same-kinds : (kind : SectionKind) → filter (λ k. same_kind k kind) all_kinds ≡ kind ∷ []
+same-kinds Info = refl
+same-kinds Types = refl
+same-kinds Abbrev = refl
+same-kinds Line = refl
+same-kinds Loc = refl
+same-kinds Loclists = refl
+same-kinds Rnglists = refl
+same-kinds StrOffsets = refl
+same-kinds Macinfo = refl
+same-kinds Macro = refl
+same-kinds Str = refl
+same-kinds CuIndex = refl
+same-kinds TuIndex = refl
+
+none-in : {X : Type 0} (p : X → Bool) (xs : List X) (r : ℕ) (k : X) → filter p xs ≡ []
+    → slice_get xs r ≡ Some k → p k ≡ true → ⊥
+none-in p [] r k h g t = absurd cc
+none-in p (x ∷ xs) zero k h g t =
+    let here : p x ≡ true = ap p (same_Some x k g) ∙ t in
+    let some : x ∷ filter p xs ≡ [] = sym (ap (λ b. cond b (x ∷ filter p xs) (filter p xs)) here)
+    ∙ h in
+    absurd cc
+none-in {X} p (x ∷ xs) (suc r) k h g t = by (p x) h (λ e. none-in p xs r k e g t)
+  where
+    by : (b : Bool) → ◌≡◌ {A = List X} (cond b (x ∷ filter p xs) (filter p xs)) []
+        → (filter p xs ≡ [] → ⊥) → ⊥
+    by true e later = absurd cc
+    by false e later = later e
+
+one-in : {X : Type 0} (p : X → Bool) (xs : List X) (r : ℕ) (j k : X) → filter p xs ≡ j ∷ []
+    → slice_get xs r ≡ Some k → p k ≡ true → k ≡ j
+one-in p [] r j k h g t = absurd cc
+one-in p (x ∷ xs) zero j k h g t =
+    let same : x ≡ k = same_Some x k g in
+    let here : p x ≡ true = ap p same ∙ t in
+    let some : x ∷ filter p xs ≡ j ∷ [] =
+    sym (ap (λ b. cond b (x ∷ filter p xs) (filter p xs)) here) ∙ h in
+    let head : x ≡ j = cc in
+    sym same ∙ head
+one-in {X} p (x ∷ xs) (suc r) j k h g t = by (p x) h (λ e. one-in p xs r j k e g t)
+  where
+    by : (b : Bool) → ◌≡◌ {A = List X} (cond b (x ∷ filter p xs) (filter p xs)) (j ∷ [])
+        → (filter p xs ≡ j ∷ [] → k ≡ j) → k ≡ j
+    by true e later = let tail : filter p xs ≡ [] = cc in absurd (none-in p xs r k tail g t)
+    by false e later = later e
+
+is-same : (j k : SectionKind) → same_kind j k ≡ true → j ≡ k
+is-same j k h = one-in (λ a. same_kind a k) all_kinds (rank_of j) k j (same-kinds k) (at-rank j) h
+
+one-kind : (name : List ℕ) (j k : SectionKind) → is_named name j ≡ true → is_named name k ≡ true
+    → k ≡ j
+one-kind name j k h g = by (bytes_eq name (name_of j)) refl
+  where
+    by : (b : Bool) → bytes_eq name (name_of j) ≡ b → k ≡ j
+    by true e =
+        let same : name ≡ name_of j = (bytes_eq-Decides name (name_of j)).0 e in
+        one-in (is_named (name_of j)) all_kinds (rank_of k) j k (by-name j) (at-rank k)
+        (subst (λ n. is_named n k ≡ true) same g)
+    by false e =
+        let older : bytes_eq name (compressed_name_of j) ≡ true =
+        sym (ap (λ b. b || bytes_eq name (compressed_name_of j)) e) ∙ h in
+        let same : name ≡ compressed_name_of j =
+        (bytes_eq-Decides name (compressed_name_of j)).0 older in
+        one-in (is_named (compressed_name_of j)) all_kinds (rank_of k) j k (by-older j) (at-rank k)
+        (subst (λ n. is_named n k ≡ true) same g)
+
+and-right : (a b : Bool) → (a && b) ≡ true → b ≡ true
+and-right true b h = h
+and-right false b h = absurd cc
+
+and-none : (a : Bool) → (a && false) ≡ false
+and-none true = refl
+and-none false = refl
+
+kinds-of : (name : Option (List ℕ)) (j k : SectionKind) → has_name j name ≡ true
+    → has_name k name ≡ true → k ≡ j
+kinds-of None j k h g = absurd cc
+kinds-of (Some name) j k h g = one-kind name j k h g
+
+one-of : (s : SectionMeaning) (j k : SectionKind) → is_of_kind j s ≡ true → is_of_kind k s ≡ true
+    → k ≡ j
+unfolding is_of_kind
+one-of s j k h g =
+    kinds-of s.name j k (and-right _ (has_name j s.name) h) (and-right _ (has_name k s.name) g)
+
+not-both : (s : SectionMeaning) (j k : SectionKind) → is_of_kind j s ≡ true
+    → same_kind j k ≡ false → is_of_kind k s ≡ false
+not-both s j k h e = by (is_of_kind k s) refl
+  where
+    by : (b : Bool) → is_of_kind k s ≡ b → is_of_kind k s ≡ false
+    by false g = g
+    by true g =
+        let same : k ≡ j = one-of s j k h g in
+        let wrong : true ≡ false = sym (ap (same_kind j) same ∙ same-self j) ∙ e in
+        absurd cc
+
+-- ---- what is found
+
+found-is : {X : Type 0} (p : X → Bool) (xs : List X) (x : X) → find p xs ≡ Some x → p x ≡ true
+found-is p [] x h = absurd cc
+found-is {X} p (y ∷ ys) x h = by (p y) refl h (found-is p ys x)
+  where
+    by : (b : Bool) → p y ≡ b → ◌≡◌ {A = Option X} (cond b (Some y) (find p ys)) (Some x)
+        → (find p ys ≡ Some x → p x ≡ true) → p x ≡ true
+    by true e k later = ap p (sym (same_Some y x k)) ∙ e
+    by false e k later = later k
+
+none-is : {X : Type 0} (p : X → Bool) (xs : List X) (r : ℕ) (x : X) → find p xs ≡ None
+    → slice_get xs r ≡ Some x → p x ≡ false
+none-is p [] r x h g = absurd cc
+none-is {X} p (y ∷ ys) zero x h g = by (p y) refl h
+  where
+    by : (b : Bool) → p y ≡ b → ◌≡◌ {A = Option X} (cond b (Some y) (find p ys)) None
+        → p x ≡ false
+    by true e k = absurd cc
+    by false e k = ap p (sym (same_Some y x g)) ∙ e
+none-is {X} p (y ∷ ys) (suc r) x h g = by (p y) h (λ k. none-is p ys r x k g)
+  where
+    by : (b : Bool) → ◌≡◌ {A = Option X} (cond b (Some y) (find p ys)) None
+        → (find p ys ≡ None → p x ≡ false) → p x ≡ false
+    by true k later = absurd cc
+    by false k later = later k
+
+find-more : {X : Type 0} (p : X → Bool) (xs ys : List X) (x : X) → find p xs ≡ Some x
+    → find p (xs ++ ys) ≡ Some x
+find-more p [] ys x h = absurd cc
+find-more {X} p (y ∷ xs) ys x h = by (p y) h (find-more p xs ys x)
+  where
+    by : (b : Bool) → ◌≡◌ {A = Option X} (cond b (Some y) (find p xs)) (Some x)
+        → (find p xs ≡ Some x → find p (xs ++ ys) ≡ Some x)
+        → ◌≡◌ {A = Option X} (cond b (Some y) (find p (xs ++ ys))) (Some x)
+    by true k later = k
+    by false k later = later k
+
+find-last : {X : Type 0} (p : X → Bool) (xs : List X) (x : X) → find p xs ≡ None
+    → find p (xs ++ x ∷ []) ≡ cond (p x) (Some x) None
+find-last p [] x h = refl
+find-last {X} p (y ∷ xs) x h = by (p y) h (find-last p xs x)
+  where
+    by : (b : Bool) → ◌≡◌ {A = Option X} (cond b (Some y) (find p xs)) None
+        → (find p xs ≡ None → find p (xs ++ x ∷ []) ≡ cond (p x) (Some x) None)
+        → ◌≡◌ {A = Option X} (cond b (Some y) (find p (xs ++ x ∷ []))) (cond (p x) (Some x) None)
+    by true k later = absurd cc
+    by false k later = later k
+
+-- ---- the used sections
+
+abbrev used-one : SectionKind → SectionMeaning → List ℕ → Used
+used-one j s bytes = record { kind = j; bytes = bytes; address = s.address }
+
+with-stays : (k : SectionKind) (u : Used) (s : SectionMeaning) (before after : List Used)
+    (o : Option SectionKind) → find (has_kind k) before ≡ Some u
+    → with_used before s o ≡ Ok after → find (has_kind k) after ≡ Some u
+with-stays k u s before after None f h =
+    subst (λ l. find (has_kind k) l ≡ Some u) (was before after h) f
+with-stays k u s before after (Some j) f h =
+    by (counts_once j && is_some (find (has_kind j) before)) h
+  where
+    by : (b : Bool) → cond {A = Result (List Used) Fault} b (Ok before)
+        (used_bytes j s >>= λ bytes. Ok (before ++ used-one j s bytes ∷ [])) ≡ Ok after
+        → find (has_kind k) after ≡ Some u
+    by true e = subst (λ l. find (has_kind k) l ≡ Some u) (was before after e) f
+    by false e =
+        let t = bind-was (used_bytes j s) _ after e in
+        subst (λ l. find (has_kind k) l ≡ Some u) (was _ after t.2)
+        (find-more (has_kind k) before (used-one j s t.0 ∷ []) u f)
+
+stays : (k : SectionKind) (u : Used) (ss : List SectionMeaning) (before after : List Used)
+    → find (has_kind k) before ≡ Some u → used_from before ss ≡ Ok after
+    → find (has_kind k) after ≡ Some u
+unfolding used_from
+stays k u [] before after f h = subst (λ l. find (has_kind k) l ≡ Some u) (was before after h) f
+stays k u (s ∷ ss) before after f h =
+    let t = bind-was (with_used before s (used_kind s)) _ after h in
+    stays k u ss t.0 after (with-stays k u s before t.0 (used_kind s) f t.1) t.2
+
+with-other : (k j : SectionKind) (s : SectionMeaning) (before after : List Used)
+    → same_kind j k ≡ false → find (has_kind k) before ≡ None
+    → with_used before s (Some j) ≡ Ok after → find (has_kind k) after ≡ None
+with-other k j s before after other f h =
+    by (counts_once j && is_some (find (has_kind j) before)) h
+  where
+    by : (b : Bool) → cond {A = Result (List Used) Fault} b (Ok before)
+        (used_bytes j s >>= λ bytes. Ok (before ++ used-one j s bytes ∷ [])) ≡ Ok after
+        → find (has_kind k) after ≡ None
+    by true e = subst (λ l. find (has_kind k) l ≡ None) (was before after e) f
+    by false e =
+        let t = bind-was (used_bytes j s) _ after e in
+        let one = used-one j s t.0 in
+        subst (λ l. find (has_kind k) l ≡ None) (was _ after t.2)
+        (find-last (has_kind k) before one f ∙ ap (λ b. cond b (Some one) None) other)
+
+as-given : {X E : Type 0} (f : E → Fault) (r : Result X E) (x y : X) → as_fault f r ≡ Ok x
+    → r ≡ Ok y → x ≡ y
+as-given f (Ok z) x y h g = cc
+as-given f (Err e) x y h g = absurd cc
+
+-- the first of its kind is used
+record IsUsed (k : SectionKind) (s : SectionMeaning) (bytes : List ℕ)
+    (after : List Used) : Type 0 where
+  one : Used
+  found : find (has_kind k) after ≡ Some one
+  same : one.bytes ≡ bytes
+
+with-first : (k : SectionKind) (s : SectionMeaning) (before after : List Used) (bytes : List ℕ)
+    → find (has_kind k) before ≡ None → with_used before s (Some k) ≡ Ok after
+    → reader.used_bytes k s ≡ Ok bytes → IsUsed k s bytes after
+unfolding used_bytes
+with-first k s before after bytes f h c =
+    let free : (counts_once k && is_some (find (has_kind k) before)) ≡ false =
+    ap (λ o. counts_once k && is_some o) f ∙ and-none (counts_once k) in
+    let read : (used_bytes k s >>= λ x. Ok (before ++ used-one k s x ∷ [])) ≡ Ok after =
+    sym (ap (λ b. cond {A = Result (List Used) Fault} b (Ok before)
+    (used_bytes k s >>= λ x. Ok (before ++ used-one k s x ∷ []))) free) ∙ h in
+    let t = bind-was (used_bytes k s) _ after read in
+    let one = used-one k s t.0 in
+    record {
+      one = one;
+      found = subst (λ l. find (has_kind k) l ≡ Some one) (was _ after t.2)
+          (find-last (has_kind k) before one f
+          ∙ ap (λ b. cond b (Some one) None) (same-self k));
+      same = as-given _ (reader.used_bytes k s) t.0 bytes t.1 c;
+    }
+
+content-hit : (k : SectionKind) (s : SectionMeaning) (ss : List SectionMeaning) (bytes : List ℕ)
+    → is_of_kind k s ≡ true → content_among (s ∷ ss) k ≡ Ok bytes
+    → reader.used_bytes k s ≡ Ok bytes
+unfolding content_among
+content-hit k s ss bytes is c =
+    sym (ap (λ b. reader.bytes_of k (cond b (Some s) (find (is_of_kind k) ss))) is) ∙ c
+
+content-pass : (k : SectionKind) (s : SectionMeaning) (ss : List SectionMeaning) (bytes : List ℕ)
+    → is_of_kind k s ≡ false → content_among (s ∷ ss) k ≡ Ok bytes
+    → content_among ss k ≡ Ok bytes
+unfolding content_among
+content-pass k s ss bytes other c =
+    sym (ap (λ b. reader.bytes_of k (cond b (Some s) (find (is_of_kind k) ss))) other) ∙ c
+
+kind-found : (s : SectionMeaning) (j : SectionKind) → used_kind s ≡ Some j
+    → is_of_kind j s ≡ true
+unfolding used_kind
+kind-found s j h = found-is (λ kind. is_of_kind kind s) all_kinds j h
+
+kind-none : (s : SectionMeaning) (k : SectionKind) → used_kind s ≡ None → is_of_kind k s ≡ false
+unfolding used_kind
+kind-none s k h = none-is (λ kind. is_of_kind kind s) all_kinds (rank_of k) k h (at-rank k)
+
+-- what is said of the sections behind one
+abbrev Later : SectionKind → List SectionMeaning → List Used → List ℕ → Type 0
+Later k ss after bytes = (next : List Used) → find (has_kind k) next ≡ None
+    → used_from next ss ≡ Ok after → content_among ss k ≡ Ok bytes → first k after ≡ bytes
+
+one-some : (k j : SectionKind) (s : SectionMeaning) (ss : List SectionMeaning)
+    (before next after : List Used) (bytes : List ℕ) → find (has_kind k) before ≡ None
+    → content_among (s ∷ ss) k ≡ Ok bytes → is_of_kind j s ≡ true
+    → with_used before s (Some j) ≡ Ok next → used_from next ss ≡ Ok after
+    → Later k ss after bytes → (b : Bool) → same_kind j k ≡ b → first k after ≡ bytes
+one-some k j s ss before next after bytes f c of w rest later true e =
+    let same = is-same j k e in
+    let u = with-first k s before next bytes f
+    (subst (λ q. with_used before s (Some q) ≡ Ok next) same w)
+    (content-hit k s ss bytes (subst (λ q. is_of_kind q s ≡ true) same of) c) in
+    ap bytes_of (stays k u.one ss next after u.found rest) ∙ u.same
+one-some k j s ss before next after bytes f c of w rest later false e =
+    later next (with-other k j s before next e f w) rest
+    (content-pass k s ss bytes (not-both s j k of e) c)
+
+one-more : (k : SectionKind) (s : SectionMeaning) (ss : List SectionMeaning)
+    (before next after : List Used) (bytes : List ℕ) → find (has_kind k) before ≡ None
+    → content_among (s ∷ ss) k ≡ Ok bytes → (o : Option SectionKind) → used_kind s ≡ o
+    → with_used before s o ≡ Ok next → used_from next ss ≡ Ok after
+    → Later k ss after bytes → first k after ≡ bytes
+one-more k s ss before next after bytes f c None is w rest later =
+    later next (subst (λ l. find (has_kind k) l ≡ None) (was before next w) f) rest
+    (content-pass k s ss bytes (kind-none s k is) c)
+one-more k s ss before next after bytes f c (Some j) is w rest later =
+    one-some k j s ss before next after bytes f c (kind-found s j is) w rest later
+    (same_kind j k) refl
+
+-- the section of a kind that a reader has is the first that is used
+pub first-is : (k : SectionKind) (ss : List SectionMeaning) (before after : List Used)
+    (bytes : List ℕ) → find (has_kind k) before ≡ None → used_from before ss ≡ Ok after
+    → content_among ss k ≡ Ok bytes → first k after ≡ bytes
+unfolding used_from content_among
+first-is k [] before after bytes f h c =
+    ap bytes_of (ap (find (has_kind k)) (sym (was before after h)) ∙ f) ∙ was [] bytes c
+first-is k (s ∷ ss) before after bytes f h c =
+    let t = bind-was (with_used before s (used_kind s)) _ after h in
+    one-more k s ss before t.0 after bytes f c (used_kind s) refl t.1 t.2
+    (λ next g i d. first-is k ss next after bytes g i d)
