@@ -33,10 +33,10 @@ looked at.";
 const LIST_EXAMPLES: &'static str = "Example:
   thorin list hello.dwp
 
-Each line has the kind, the identifier and the number of bytes of a unit. With
---sizes it goes on with the bytes that the unit has in each kind of section, and
-lines `total` follow: the section's bytes in the file, `units` those that units
-have, and `shared` those that would be added if no two units shared any.";
+Each line has the kind, the identifier and the size of a unit. With --sizes its
+size in each section follows. A line `total` for each section then has its size
+in the file, after `units` how much of it belongs to units, and after `shared`
+how much larger it would be if each unit had a copy of its own.";
 
 const CHECK_EXAMPLES: &'static str = "Example:
   thorin check app.dwp -e app
