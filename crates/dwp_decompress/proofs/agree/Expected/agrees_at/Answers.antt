@@ -1,0 +1,14 @@
+use Rattle.std.proofs.Common.{ℕ, sym, ap, ◌∙◌}
+use Rattle.std.specs.Global.{Vec}
+use Rattle.std.specs.Prelude.{option_map}
+use Rattle.dwp_elf_read.specs.View.{section}
+use Rattle.dwp_decompress.proofs.agree.Expected.agrees_at.Goals as goal
+
+pub returns-in-Some : goal.returns-in-Some
+returns-in-Some c t = record {
+  section = section c.in-Some.before;
+  content = option_map (λ (plain : Vec ℕ). plain.items) c.content_at.result.now;
+  section_is = sym c.section.ensures.found ∙ ap (option_map section) c.in-Some.is;
+  content_is = c.content_at.ensures;
+  new_is = c.becomes.ensures t;
+}

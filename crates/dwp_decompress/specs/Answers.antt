@@ -1,0 +1,42 @@
+-- What a call answers, beside what its definition says.
+use Rattle.std.specs.Prelude.{◌≡◌, ◌≢◌, Result, Ok, Err}
+use Rattle.dwp_elf_read.specs.declared.fault.ReadError.{ReadError}
+use Rattle.dwp_inflate.specs.declared.fault.InflateError.{InflateError}
+use Rattle.dwp_inflate.specs.declared.fault.InflateError.TheVariants as inflating
+use Rattle.dwp_decompress.specs.declared.fault.DecompressError.{DecompressError}
+use Rattle.dwp_decompress.specs.declared.fault.Refusal.{Refusal}
+use Rattle.dwp_decompress.specs.declared.fault.Refusal.TheVariants as refusing
+use Rattle.dwp_decompress.specs.declared.fault.DecompressError.TheVariants.{Read, Stream, Memory}
+use Rattle.dwp_decompress.specs.declared.fault.DecompressError.TheVariants.{Unrepresentable}
+
+-- what a call answered, seen by view, is what the definition says; memory may run out besides
+abbrev pub Gives : {X Y : Type 0} → (X → Y) → Result X DecompressError → Result Y DecompressError
+    → Type 0
+Gives view (Ok x) meaning = meaning ≡ Ok (view x)
+Gives view (Err e) meaning = e ≢ Memory → meaning ≡ Err e
+
+-- the same of a call that may besides find no room for the result in a file of the class
+abbrev pub GivesFile : {X Y : Type 0} → (X → Y) → Result X DecompressError
+    → Result Y DecompressError → Type 0
+GivesFile view (Ok x) meaning = meaning ≡ Ok (view x)
+GivesFile view (Err e) meaning = e ≢ Memory → e ≢ Unrepresentable → meaning ≡ Err e
+
+-- what the ELF reader found, with its fault as ours
+abbrev pub reading : {X : Type 0} → Result X ReadError → Result X DecompressError
+reading (Ok x) = Ok x
+reading (Err e) = Err (Read e)
+
+-- the fault of a stream as ours
+abbrev pub stream_fault : InflateError → DecompressError
+stream_fault inflating.Memory = Memory
+stream_fault e = Stream e
+
+-- what a stream writes, with its fault as ours
+abbrev pub writing : {X : Type 0} → Result X InflateError → Result X DecompressError
+writing (Ok x) = Ok x
+writing (Err e) = Err (stream_fault e)
+
+-- a file that can't be written
+abbrev pub refusal : Refusal → DecompressError
+refusal refusing.TooLarge = Unrepresentable
+refusal refusing.Memory = Memory

@@ -1,0 +1,30 @@
+-- Which sections of an ELF file are compressed: those with SHF_COMPRESSED (ELF gABI, "Section
+-- Attribute Flags"), and by GNU's older convention those whose names begin with `.zdebug_` (GNU
+-- binutils, `--compress-debug-sections=zlib-gnu`).
+use Rattle.std.specs.Prelude.{ℕ, List, Bool, false, ◌&&◌, ◌||◌, ◌==◌, not, codes, nat_eq, Option}
+use Rattle.std.specs.Prelude.{Some, None}
+use Rattle.std.specs.List.{starts_with, list_any}
+use Rattle.dwp_elf_read.specs.Elf.{SectionMeaning, SHT_NOBITS, has_compressed_flag}
+
+-- an older name
+unfoldable pub is_older : List ℕ → Bool
+is_older name = starts_with nat_eq name (codes ".zdebug_")
+
+-- the name can be read, and is an older one
+abbrev pub name_is_older : Option (List ℕ) → Bool
+name_is_older None = false
+name_is_older (Some name) = is_older name
+
+-- there are bytes to compress; number 0 is that of no section (ELF gABI, "Special Section Indexes")
+unfoldable pub holds_bytes : SectionMeaning → Bool
+holds_bytes section =
+    not (section.number == 0) && not (section.size == 0 || section.kind == SHT_NOBITS)
+
+-- the content is compressed
+unfoldable pub is_compressed : SectionMeaning → Bool
+is_compressed section =
+    holds_bytes section && (has_compressed_flag section || name_is_older section.name)
+
+-- some section's is
+abbrev pub has_compressed : List SectionMeaning → Bool
+has_compressed sections = list_any is_compressed sections

@@ -1,0 +1,72 @@
+-- The content of a compressed section: a header, and a stream behind it (ELF gABI, "Section
+-- Compression", Elf32_Chdr and Elf64_Chdr; GNU binutils, `--compress-debug-sections=zlib-gnu`).
+use Rattle.std.specs.Prelude.{ℕ, ◌*◌, List, drop, length, nat_lt, nat_eq, ◌==◌, codes}
+use Rattle.std.specs.Prelude.{if◌then◌else◌, Result, Ok, Err, Option, Some, None}
+use Rattle.std.specs.List.{starts_with}
+use Rattle.std.specs.Option.{ok_or}
+use Rattle.dwp_base.specs.declared.class.Class.{Class}
+use Rattle.dwp_base.specs.declared.endian.Endianness.{Endianness}
+use Rattle.dwp_base.specs.declared.endian.Endianness.TheVariants.{Big}
+use Rattle.dwp_base.specs.Reading.{◌>>=◌}
+use Rattle.dwp_elf_read.specs.declared.fault.ReadError.TheVariants.{SectionRange}
+use Rattle.dwp_elf_read.specs.Layout.{word_size, number_at}
+use Rattle.dwp_elf_read.specs.Elf.{SectionMeaning, has_compressed_flag}
+use Rattle.dwp_inflate.specs.Streams.{inflated}
+use Rattle.dwp_decompress.specs.declared.fault.DecompressError.{DecompressError}
+use Rattle.dwp_decompress.specs.declared.fault.DecompressError.TheVariants.{Header, Zstd}
+use Rattle.dwp_decompress.specs.declared.fault.DecompressError.TheVariants.{UnknownType}
+use Rattle.dwp_decompress.specs.declared.stream.Packed as declared
+use Rattle.dwp_decompress.specs.Answers.{reading, writing}
+use Rattle.dwp_decompress.specs.Compressed.{is_compressed}
+
+-- a stream of zlib's, and the size of what it writes
+pub record Packed : Type 0 where
+  pub size : ℕ
+  pub bytes : List ℕ
+
+abbrev pub packed : declared.Packed → Packed
+packed stream = record { size = stream.size; bytes = stream.bytes.now }
+
+-- the type is ELFCOMPRESS_ZLIB; ELFCOMPRESS_ZSTD isn't read
+unfoldable pub with_type : ℕ → Packed → Result Packed DecompressError
+with_type type packed =
+    if type == 1 then Ok packed else (if type == 2 then Err Zstd else Err (UnknownType type))
+
+-- behind a header of three words: a type of four bytes, and in the second word the size
+unfoldable pub headed : Class → Endianness → List ℕ → Result Packed DecompressError
+headed class order content =
+    if nat_lt (length content) (3 * word_size class) then Err Header
+    else with_type (number_at order 4 content 0) (record {
+      size = number_at order (word_size class) content (word_size class);
+      bytes = drop (3 * word_size class) content;
+    })
+
+-- by the older convention: behind `ZLIB` and eight bytes of size, the highest first
+unfoldable pub older : List ℕ → Result Packed DecompressError
+older content =
+    if nat_lt (length content) 12 then Err Header
+    else (if starts_with nat_eq content (codes "ZLIB")
+    then Ok (record { size = number_at Big 8 content 4; bytes = drop 12 content })
+    else Err Header)
+
+-- the stream of a section with that content; where both forms are said, the flag counts
+unfoldable pub packed_in : Class → Endianness → SectionMeaning → List ℕ
+    → Result Packed DecompressError
+packed_in class order section content =
+    if has_compressed_flag section then headed class order content else older content
+
+-- what a compressed section's stream writes
+unfoldable pub plain_of : Class → Endianness → SectionMeaning → Result (List ℕ) DecompressError
+plain_of class order section = do
+  content ← reading (ok_or section.content SectionRange)
+  packed ← packed_in class order section content
+  writing (inflated packed.bytes packed.size)
+
+-- that of any section, if it is compressed
+unfoldable pub content_of : Class → Endianness → SectionMeaning
+    → Result (Option (List ℕ)) DecompressError
+content_of class order section =
+    if is_compressed section then (do
+      plain ← plain_of class order section
+      Ok (Some plain))
+    else Ok None

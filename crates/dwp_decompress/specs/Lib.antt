@@ -1,0 +1,6 @@
+pub mod Agreement
+pub mod Answers
+pub mod Compressed
+pub mod Headers
+pub mod Names
+pub mod Result

@@ -1,0 +1,79 @@
+//! The plain contents of compressed sections.
+
+ghost use Rattle.std.specs.Prelude.{option_map};
+ghost use Rattle.dwp_elf_read.specs.View as view;
+ghost use Rattle.dwp_elf_read.specs.View.{elf};
+ghost use Rattle.dwp_decompress.specs.Answers.{Gives};
+ghost use Rattle.dwp_decompress.specs.Headers.{plain_of, content_of};
+ghost use Rattle.dwp_decompress.specs.Result.{contents_of, plain_contents};
+
+use crate::compressed::is_compressed;
+use crate::fault::DecompressError;
+use crate::stream::packed_in;
+use dwp_base::{Class, Endianness};
+use dwp_elf_read::{ElfFile, Section};
+use dwp_inflate::inflate;
+use std::alloc::Global;
+
+/// What a compressed section's stream writes.
+#[tactic(auto, unfolding(crate::specs::Headers::plain_of))]
+fn plain(
+    alloc: Global,
+    class: Class,
+    order: Endianness,
+    section: &Section<'_>,
+) -> Result<Vec<u8>, DecompressError>
+    ensures { Gives (λ plain. plain.items) result
+        (plain_of class order (view.section section.now)) }
+{
+    let content = section.data()?;
+    let packed = packed_in(class, order, section, content)?;
+    let plain = inflate(alloc, packed.bytes, packed.size as usize)?;
+    Ok(plain)
+}
+
+/// The plain content of a section, if it is compressed.
+#[tactic(auto, unfolding(crate::specs::Headers::content_of))]
+fn content(
+    alloc: Global,
+    class: Class,
+    order: Endianness,
+    section: &Section<'_>,
+) -> Result<Option<Vec<u8>>, DecompressError>
+    ensures { Gives (option_map (λ plain. plain.items)) result
+        (content_of class order (view.section section.now)) }
+{
+    if is_compressed(section) {
+        let plain = plain(alloc, class, order, section)?;
+        return Ok(Some(plain));
+    }
+    Ok(None)
+}
+
+/// The plain contents of all sections, in order, of a file of that class and byte order.
+fn contents_in(
+    alloc: Global,
+    class: Class,
+    order: Endianness,
+    file: &ElfFile<'_>,
+) -> Result<Vec<Option<Vec<u8>>>, DecompressError>
+    ensures { Gives (λ contents. plain_contents contents.items) result
+        (contents_of class order (elf file.now).sections) }
+{
+    let mut contents = Vec::new(alloc);
+    for i in 0..file.section_count() {
+        if let Some(section) = file.section(i) {
+            let content = content(alloc, class, order, &section)?;
+            contents.push(content)?;
+        }
+    }
+    Ok(contents)
+}
+
+/// The plain contents of all sections, in order.
+pub fn contents(alloc: Global, file: &ElfFile<'_>) -> Result<Vec<Option<Vec<u8>>>, DecompressError>
+    ensures { Gives (λ contents. plain_contents contents.items) result
+        (contents_of (elf file.now).class (elf file.now).order (elf file.now).sections) }
+{
+    contents_in(alloc, file.class(), file.endianness(), file)
+}

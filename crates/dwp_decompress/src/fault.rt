@@ -1,0 +1,98 @@
+//! Why a file can't be decompressed.
+
+ghost use Rattle.std.specs.Prelude.{◌≡◌};
+ghost use Rattle.dwp_decompress.specs.Answers as spec;
+ghost use Rattle.dwp_decompress.specs.declared.fault.DecompressError.TheVariants.{Memory, Read};
+
+use dwp_elf_read::ReadError;
+use dwp_inflate::InflateError;
+use std::alloc::{AllocError, AllocFailed};
+use thiserror::Error;
+
+/// Why a file can't be decompressed.
+#[derive(Clone, Copy, Debug, PartialEq, Eq, Hash, Error)]
+pub enum DecompressError {
+    /// The file isn't ELF, or a compressed section lies outside of it.
+    #[error("File can't be read")]
+    Read(ReadError),
+    /// A compressed section is shorter than its header, or lacks the older header's `ZLIB`.
+    #[error("Bad header of a compressed section")]
+    Header,
+    /// A section is compressed by zstd.
+    #[error("Section is compressed by zstd")]
+    Zstd,
+    /// A section is compressed in a way that isn't known.
+    #[error("Unknown type of compression")]
+    UnknownType(u32),
+    /// A section's stream is damaged, or isn't of the size that was said.
+    #[error("Compressed section can't be read")]
+    Stream(InflateError),
+    /// No file of the class has this content: it is too large, or the section with the sections'
+    /// names is itself compressed.
+    #[error("Decompressed file can't be written")]
+    Unrepresentable,
+    /// Memory ran out.
+    #[error("Out of memory")]
+    Memory,
+}
+
+/// Why a file that was read can't be written.
+#[derive(Clone, Copy)]
+pub enum Refusal {
+    /// A number is too large for the file's class, or the file would mean something else.
+    TooLarge,
+    /// Memory ran out.
+    Memory,
+}
+
+impl From<AllocError> for Refusal {
+    fn from(_e: AllocError) -> Refusal {
+        Refusal::Memory
+    }
+}
+
+impl From<Refusal> for DecompressError {
+    ghost from_gives = { λ e fault. fault ≡ spec.refusal e };
+
+    fn from(e: Refusal) -> DecompressError {
+        match e {
+            Refusal::TooLarge => DecompressError::Unrepresentable,
+            Refusal::Memory => DecompressError::Memory,
+        }
+    }
+}
+
+impl From<AllocError> for DecompressError {
+    ghost from_gives = { λ _ fault. fault ≡ Memory };
+
+    fn from(_e: AllocError) -> DecompressError {
+        DecompressError::Memory
+    }
+}
+
+impl<T: Drop> From<AllocFailed<T>> for DecompressError {
+    ghost from_gives = { λ _ fault. fault ≡ Memory };
+
+    fn from(_e: AllocFailed<T>) -> DecompressError {
+        DecompressError::Memory
+    }
+}
+
+impl From<ReadError> for DecompressError {
+    ghost from_gives = { λ e fault. fault ≡ Read e };
+
+    fn from(e: ReadError) -> DecompressError {
+        DecompressError::Read(e)
+    }
+}
+
+impl From<InflateError> for DecompressError {
+    ghost from_gives = { λ e fault. fault ≡ spec.stream_fault e };
+
+    fn from(e: InflateError) -> DecompressError {
+        match e {
+            InflateError::Memory => DecompressError::Memory,
+            _ => DecompressError::Stream(e),
+        }
+    }
+}

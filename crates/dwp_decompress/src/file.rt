@@ -1,0 +1,202 @@
+//! The bytes of the decompressed file: the old ones, behind them the plain contents, the table of
+//! names, if some are added, and the section headers.
+
+use crate::agree::Expected;
+use crate::compressed::is_older;
+use crate::fault::Refusal;
+use crate::header::{Header, Manner};
+use dwp_base::Class;
+use dwp_elf_read::{ElfFile, Section};
+
+/// Where the next plain content begins in the file, and where the next new name stands in the table
+/// of names.
+#[derive(Clone, Copy)]
+struct Next {
+    content: u64,
+    name: u64,
+}
+
+/// A file, and what it is to become.
+#[derive(Clone, Copy)]
+pub struct Change<'a> {
+    bytes: &'a [u8],
+    file: ElfFile<'a>,
+    expected: Expected<'a>,
+    manner: Manner,
+}
+
+/// A place that lies in no file.
+fn nowhere(class: Class) -> u64 {
+    match class {
+        Class::Elf32 => 0xffff_ffff,
+        Class::Elf64 => 0xffff_ffff_ffff_ffff,
+    }
+}
+
+impl<'a> Change<'a> {
+    /// What the file is to become.
+    pub fn new(bytes: &'a [u8], file: ElfFile<'a>, expected: Expected<'a>) -> Change<'a> {
+        let manner = Manner {
+            class: file.class(),
+            order: file.endianness(),
+        };
+        Change {
+            bytes,
+            file,
+            expected,
+            manner,
+        }
+    }
+
+    /// How many bytes the table of names has before names are added.
+    fn names_size(&self) -> u64 {
+        match self.file.section(self.expected.names) {
+            Some(names) => names.size(),
+            None => 0,
+        }
+    }
+
+    /// Where the name of a plain section stands, and how far the next new one is.
+    fn plain_name(&self, section: &Section<'_>, old: u32, next: &mut Next) -> u32 {
+        let Ok(name) = section.name() else {
+            return old;
+        };
+        if !is_older(name) {
+            return old;
+        }
+        let place = u32::try_from(next.name).unwrap_or(u32::MAX);
+        next.name = next.name.saturating_add(name.len() as u64);
+        place
+    }
+
+    /// The alignment of a plain content, where its header says one.
+    fn plain_alignment(&self, section: &Section<'_>, old: u64) -> u64 {
+        if !section.is_compressed() {
+            return old;
+        }
+        let Ok(content) = section.data() else {
+            return old;
+        };
+        self.manner.alignment(content).unwrap_or(old)
+    }
+
+    /// The header of a section that gets its plain content.
+    fn plain_header(
+        &self,
+        section: &Section<'_>,
+        old: &Header,
+        size: u64,
+        next: &mut Next,
+    ) -> Header {
+        let offset = next.content;
+        next.content = offset.saturating_add(size);
+        Header {
+            name: self.plain_name(section, old.name, next),
+            flags: old.flags & 0xffff_ffff_ffff_f7ff,
+            offset,
+            size,
+            alignment: self.plain_alignment(section, old.alignment),
+        }
+    }
+
+    /// The header of a section that stays: what couldn't be read can't be read in the longer file
+    /// either, and the table of names is where it is written again, if names are added.
+    fn kept_header(&self, section: &Section<'_>, old: &Header, names: u64) -> Header {
+        let mut header = *old;
+        if section.data().is_err() {
+            header.offset = nowhere(self.manner.class);
+        }
+        if self.expected.added.is_empty() {
+            return header;
+        }
+        if section.name().is_err() {
+            header.name = u32::MAX;
+        }
+        if section.number() == self.expected.names {
+            header.offset = names;
+            header.size = old.size.saturating_add(self.expected.added.len() as u64);
+        }
+        header
+    }
+
+    /// Writes the header of the i-th section.
+    fn add_header(
+        &self,
+        i: usize,
+        names: u64,
+        next: &mut Next,
+        out: &mut Vec<u8>,
+    ) -> Result<(), Refusal> {
+        let Some(raw) = self.manner.raw_header(self.bytes, i) else {
+            return Err(Refusal::TooLarge);
+        };
+        let Some(section) = self.file.section(i) else {
+            return Err(Refusal::TooLarge);
+        };
+        let old = self.manner.header(raw);
+        let size = self.expected.plain_size(i);
+        let header = match size {
+            Some(size) => self.plain_header(&section, &old, size, next),
+            None => self.kept_header(&section, &old, names),
+        };
+        self.manner.add_header(&header, raw, out)
+    }
+
+    /// Writes the plain contents.
+    fn add_contents(&self, out: &mut Vec<u8>) -> Result<(), Refusal> {
+        for content in self.expected.contents.iter() {
+            if let Some(plain) = content {
+                out.extend_from_slice(plain.as_slice())?;
+            }
+        }
+        Ok(())
+    }
+
+    /// Writes the table of names again, with those that are added.
+    fn add_names(&self, out: &mut Vec<u8>) -> Result<(), Refusal> {
+        if self.expected.added.is_empty() {
+            return Ok(());
+        }
+        if let Some(names) = self.file.section(self.expected.names) {
+            let Ok(table) = names.data() else {
+                return Err(Refusal::TooLarge);
+            };
+            out.extend_from_slice(table)?;
+        }
+        out.extend_from_slice(self.expected.added)?;
+        Ok(())
+    }
+
+    /// Writes zeros up to a multiple of 8.
+    fn add_zeros(&self, out: &mut Vec<u8>) -> Result<(), Refusal> {
+        let over = out.len() % 8;
+        if over != 0 {
+            out.extend_from_slice([0; 8].split_at(8 - over).0)?;
+        }
+        Ok(())
+    }
+
+    /// Writes the section headers.
+    fn add_headers(&self, names: u64, out: &mut Vec<u8>) -> Result<(), Refusal> {
+        let mut next = Next {
+            content: self.bytes.len() as u64,
+            name: self.names_size(),
+        };
+        for i in 0..self.file.section_count() {
+            self.add_header(i, names, &mut next, out)?;
+        }
+        Ok(())
+    }
+
+    /// Writes the file.
+    pub fn write(&self, out: &mut Vec<u8>) -> Result<(), Refusal> {
+        out.extend_from_slice(self.bytes)?;
+        self.add_contents(out)?;
+        let names = out.len() as u64;
+        self.add_names(out)?;
+        self.add_zeros(out)?;
+        let headers = out.len() as u64;
+        self.add_headers(names, out)?;
+        self.manner.set_table(headers, out)
+    }
+}

@@ -1,0 +1,101 @@
+//! The streams of compressed sections (ELF gABI, "Section Compression").
+
+ghost use Rattle.std.specs.Prelude.{◌≡◌, ◌+◌, ◌≤◌, length};
+ghost use Rattle.dwp_base.specs.Reading.{Answers};
+ghost use Rattle.dwp_elf_read.specs.Layout.{word_size, number_at};
+ghost use Rattle.dwp_elf_read.specs.View as view;
+ghost use Rattle.dwp_decompress.specs.Headers.{packed, with_type, headed, older, packed_in};
+
+use crate::fault::DecompressError;
+use dwp_base::{Class, Endianness};
+use dwp_elf_read::Section;
+
+/// A stream of zlib's, and the size of what it writes.
+#[derive(Clone, Copy)]
+pub struct Packed<'a> {
+    pub size: u64,
+    pub bytes: &'a [u8],
+}
+
+/// The bytes of an address, an offset or a size.
+pub fn word_size_of(class: Class) -> usize
+    ensures { result ≡ word_size class }
+{
+    match class {
+        Class::Elf32 => 4,
+        Class::Elf64 => 8,
+    }
+}
+
+/// The number in the word at a place.
+pub fn word_at(class: Class, order: Endianness, bytes: &[u8], place: usize) -> u64
+    requires { place + word_size class ≤ length bytes.now }
+    ensures { result ≡ number_at order (word_size class) bytes.now place }
+{
+    let rest = bytes.split_at(place).1;
+    match class {
+        Class::Elf32 => u64::from(order.read_u32(rest)),
+        Class::Elf64 => order.read_u64(rest),
+    }
+}
+
+/// The stream, where its type is that of zlib.
+#[tactic(auto, unfolding(crate::specs::Headers::with_type))]
+fn with_type(kind: u32, stream: Packed<'_>) -> Result<Packed<'_>, DecompressError>
+    ensures { Answers packed result (with_type kind (packed stream.entry)) }
+{
+    match kind {
+        1 => Ok(stream),
+        2 => Err(DecompressError::Zstd),
+        _ => Err(DecompressError::UnknownType(kind)),
+    }
+}
+
+/// The stream behind a header of three words.
+#[tactic(auto, unfolding(crate::specs::Headers::headed))]
+fn headed(class: Class, order: Endianness, content: &[u8]) -> Result<Packed<'_>, DecompressError>
+    ensures { Answers packed result (headed class order content.now) }
+{
+    let word = word_size_of(class);
+    if content.len() < 3 * word {
+        return Err(DecompressError::Header);
+    }
+    let kind = order.read_u32(content.split_at(0).1);
+    let size = word_at(class, order, content, word);
+    let bytes = content.split_at(3 * word).1;
+    with_type(kind, Packed { size, bytes })
+}
+
+/// The stream behind the older header.
+#[tactic(auto, unfolding(crate::specs::Headers::older))]
+fn older(content: &[u8]) -> Result<Packed<'_>, DecompressError>
+    ensures { Answers packed result (older content.now) }
+{
+    if content.len() < 12 {
+        return Err(DecompressError::Header);
+    }
+    if content.starts_with(b"ZLIB") {
+        let size = Endianness::Big.read_u64(content.split_at(4).1);
+        let bytes = content.split_at(12).1;
+        return Ok(Packed { size, bytes });
+    }
+    Err(DecompressError::Header)
+}
+
+/// The stream of a section with that content.
+#[tactic(auto, unfolding(crate::specs::Headers::packed_in))]
+pub fn packed_in<'a>(
+    class: Class,
+    order: Endianness,
+    section: &Section<'_>,
+    content: &'a [u8],
+) -> Result<Packed<'a>, DecompressError>
+    ensures { Answers packed result
+        (packed_in class order (view.section section.now) content.now) }
+{
+    if section.is_compressed() {
+        headed(class, order, content)
+    } else {
+        older(content)
+    }
+}
