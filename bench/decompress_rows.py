@@ -1,0 +1,196 @@
+#!/usr/bin/env python3
+"""Makes the rows of test_decompress and what they are to print, without thorin: by Python's zlib, objcopy and gcc.
+
+decompress_rows.py FOLDER: FOLDER/data/rows and FOLDER/stdout. Files of both classes and byte orders are put together here,
+their streams by zlib; two are gcc's, and what objcopy --decompress-debug-sections makes of these is what must be printed.
+"""
+import pathlib
+import struct
+import subprocess
+import sys
+import tempfile
+import zlib
+
+COMPRESSED = 0x800
+
+
+class Elf:
+    """An ELF file of a class and a byte order: (name, kind, flags, link, content) of its sections, section 0 aside."""
+
+    def __init__(self, bits=64, order="<"):
+        self.bits, self.order, self.sections = bits, order, []
+
+    def add(self, name, content, kind=1, flags=0, link=0, size=None, place=None):
+        self.sections.append((name, kind, flags, link, content, size, place))
+        return self
+
+    def chdr(self, content, kind=1, size=None, level=9):
+        size = len(content) if size is None else size
+        head = struct.pack(self.order + ("IIQQ" if self.bits == 64 else "III"),
+                           *([kind, 0, size, 1] if self.bits == 64 else [kind, size, 1]))
+        return head + zlib.compress(content, level)
+
+    def names(self):
+        return [it[0] for it in self.sections] + [".shstrtab"]
+
+    def file(self, packed_names=None):
+        """The file's bytes; where the names are packed, all begin at place 1 of those bytes."""
+        wide = self.bits == 64
+        table, places = bytearray(b"\0"), []
+        for name in self.names():
+            places.append(len(table) if packed_names is None else 1)
+            table.extend(name.encode() + b"\0")
+        table, flags = (table, 0) if packed_names is None else (packed_names, COMPRESSED)
+        head = 64 if wide else 52
+        shape = self.order + ("IIQQQQIIQQ" if wide else "IIIIIIIIII")
+        out, headers = bytearray(head), [bytes(struct.calcsize(shape))]
+        last = (".shstrtab", 3, flags, 0, bytes(table), None, None)
+        for at, (name, kind, flags, link, content, size, place) in zip(places, [*self.sections, last]):
+            size = len(content) if size is None else size
+            place = len(out) if place is None else place
+            headers.append(struct.pack(shape, at, kind, flags, 0, place, size, link, 0, 1, 0))
+            out.extend(content)
+        shape = self.order + ("HHIQQQIHHHHHH" if wide else "HHIIIIIHHHHHH")
+        count = len(headers)
+        out[:head] = b"\x7fELF" + bytes([2 if wide else 1, 1 if self.order == "<" else 2, 1]) + bytes(9) + struct.pack(
+            shape, 1, 62, 1, 0, 0, len(out), 0, head, 0, 0, len(headers[0]), count, count - 1)
+        return bytes(out) + b"".join(headers)
+
+
+def read(data):
+    """The sections of a file, as (name, kind, flags, link, content)."""
+    wide, order = data[4] == 2, "<" if data[5] == 1 else ">"
+    shape = order + ("IIQQQQIIQQ" if wide else "IIIIIIIIII")
+    start, = struct.unpack_from(order + ("Q" if wide else "I"), data, 40 if wide else 32)
+    size, count, names = struct.unpack_from(order + "HHH", data, 58 if wide else 46)
+    headers = [struct.unpack_from(shape, data, start + i * size) for i in range(count)]
+    table = data[headers[names][4]:][:headers[names][5]]
+    return [(table[at:table.index(0, at)].decode(), kind, flags, link, data[place:place + size] if kind != 8 else b"", size)
+            for at, kind, flags, _, place, size, link, _, _, _ in headers]
+
+
+def line(name, kind, flags, link, content, size=None):
+    size = len(content) if size is None else size
+    return f"  {name} kind {kind} flags {flags} link {link} size {size} {content.hex()}"
+
+
+def plain(elf, contents):
+    """What must be printed of a file whose sections of these names get contents: the others stay, the names grow."""
+    told = []
+    older = [name for name, *_ in elf.sections if name in contents and name.startswith(".zdebug_")]
+    for name, kind, flags, link, content, size in read(elf.file()):
+        if name in contents:
+            name, flags, content = name.replace(".zdebug_", ".debug_"), flags & ~COMPRESSED, contents[name]
+            size = len(content)
+        elif name == ".shstrtab":
+            content += b"".join(it.replace(".zdebug_", ".debug_").encode() + b"\0" for it in older)
+            size = len(content)
+        told.append(line(name, kind, flags, link, content, size))
+    return told
+
+
+def tool(*words, cwd):
+    subprocess.run(words, cwd=cwd, check=True)
+
+
+def made_by_gcc(folder, *flags):
+    """An object of gcc, and what objcopy makes of its compressed sections; what stays is the object's own."""
+    functions = "".join(f"int f{i}(int a, long b) {{ return a; }}\n" for i in range(12))
+    (folder / "a.c").write_text(functions)
+    tool("gcc", "-gdwarf-5", "-gsplit-dwarf", "-c", f"-fdebug-prefix-map={folder}=/", *flags, "a.c", "-o", "a.o", cwd=folder)
+    tool("objcopy", "--decompress-debug-sections", "a.dwo", "plain", cwd=folder)
+    data, told = (folder / "a.dwo").read_bytes(), []
+    made = {it[0]: it for it in read((folder / "plain").read_bytes())}
+    older = [it[0] for it in read(data) if it[0].startswith(".zdebug_")]
+    for name, kind, flags, link, content, size in read(data):
+        if flags & COMPRESSED or name in older:
+            name, kind, flags, _, content, size = made[name.replace(".zdebug_", ".debug_")]
+        elif name == ".shstrtab":
+            content += b"".join(it.replace(".zdebug_", ".debug_").encode() + b"\0" for it in older)
+            size = len(content)
+        told.append(line(name, kind, flags, link, content, size))
+    return data, told
+
+
+def older(content, size=None):
+    return b"ZLIB" + struct.pack(">Q", len(content) if size is None else size) + zlib.compress(content)
+
+
+def taken():
+    """Rows of files that are decompressed: a name, the bytes, what must be printed."""
+    info, text = b"info" * 9, bytes(range(40)) * 3
+    for bits, order, kind in ((64, "<", "little"), (64, ">", "big"), (32, "<", "little"), (32, ">", "big")):
+        elf = Elf(bits, order).add(".text", b"\x90\xc3", flags=6)
+        elf.add(".debug_info.dwo", elf.chdr(info), flags=0x80000000 | COMPRESSED)
+        elf.add(".bss", b"", kind=8, flags=3, size=100).add(".debug_str.dwo", elf.chdr(b""), flags=0x830)
+        yield f"flags_{bits}_{kind}", elf.file(), plain(elf, {".debug_info.dwo": info, ".debug_str.dwo": b""})
+        elf = Elf(bits, order).add(".zdebug_info.dwo", older(info), flags=0x80000000).add(".text", text)
+        elf.add(".zdebug_str.dwo", older(text)).add(".zdebug_line.dwo", b"").add(".zdebug_loc", b"", kind=8, size=9)
+        yield f"names_{bits}_{kind}", elf.file(), plain(elf, {".zdebug_info.dwo": info, ".zdebug_str.dwo": text})
+    elf = Elf().add(".debug_none", bytes(5))
+    elf.add(".zdebug_info", elf.chdr(info), flags=COMPRESSED)
+    yield "both_forms", elf.file(), plain(elf, {".zdebug_info": info})
+    elf = Elf().add(".outside", b"", size=2 ** 40, place=2 ** 41)
+    elf.add(".debug_info", elf.chdr(info), flags=COMPRESSED)
+    told = plain(elf, {".debug_info": info})
+    told[1] = f"  .outside kind 1 flags 0 link 0 size {2 ** 40} {b'outside'.hex()}"
+    yield "another_section_outside", elf.file(), told
+    for level in (0, 1):
+        elf = Elf()
+        elf.add(".debug_info", elf.chdr(text, level=level) + b"behind", flags=COMPRESSED)
+        yield f"level_{level}_and_bytes_behind", elf.file(), plain(elf, {".debug_info": text})
+
+
+def one(content, name=".debug_info", flags=COMPRESSED, bits=64, **more):
+    return Elf(bits).add(name, content, flags=flags, **more).file()
+
+
+def damaged(content):
+    return content[:-1] + bytes([content[-1] ^ 1])
+
+
+def refused():
+    """Rows of files that are refused, and those that are as they were to be."""
+    elf, text = Elf(), b"plain text, plain text"
+    yield "no_compressed_section", Elf().add(".debug_info", text).file(), "as it is"
+    yield "an_empty_one", one(b""), "as it is"
+    yield "without_bytes", one(b"", kind=8, size=24), "as it is"
+    yield "no_elf_file", b"!<arch>\n" + bytes(60), "Read(NotElf): File can't be read"
+    yield "outside", one(b"", size=100, place=2 ** 40), "Read(SectionRange): File can't be read"
+    yield "shorter_than_its_header", one(elf.chdr(text)[:23]), "Header: Bad header of a compressed section"
+    yield "shorter_than_its_header_32", one(bytes(11), bits=32), "Header: Bad header of a compressed section"
+    yield "no_older_header", one(b"zlib" + older(text)[4:], ".zdebug_info", 0), "Header: Bad header of a compressed section"
+    yield "shorter_than_an_older_header", one(older(text)[:11], ".zdebug_str", 0), "Header: Bad header of a compressed section"
+    yield "zstd", one(elf.chdr(text, kind=2)), "Zstd: Section is compressed by zstd"
+    yield "type_3", one(elf.chdr(text, kind=3)), "UnknownType(3): Unknown type of compression"
+    yield "type_0", one(elf.chdr(text, kind=0)), "UnknownType(0): Unknown type of compression"
+    stream = "Compressed section can't be read"
+    yield "check_sum", one(damaged(elf.chdr(text))), f"Stream(CheckSum): {stream}"
+    yield "a_byte_more_said", one(elf.chdr(text, size=23)), f"Stream(TooShort): {stream}"
+    yield "a_byte_less_said", one(elf.chdr(text, size=21)), f"Stream(TooLong): {stream}"
+    yield "out_of_reach", one(elf.chdr(text, size=2 ** 63)), f"Stream(Unreachable): {stream}"
+    yield "ends_early", one(elf.chdr(text)[:-5]), f"Stream(EndOfInput): {stream}"
+    first = Elf().add(".debug_a", elf.chdr(text), flags=COMPRESSED).add(".debug_b", elf.chdr(text, kind=2), flags=COMPRESSED)
+    first.add(".debug_c", bytes(9), flags=COMPRESSED)
+    yield "the_first_that_has_a_fault", first.file(), "Zstd: Section is compressed by zstd"
+    data = Elf().file(elf.chdr(b"other names"))
+    yield "compressed_names_by_which_names_change", data, "Unrepresentable: Decompressed file can't be written"
+
+
+def main():
+    if len(sys.argv) != 2:
+        sys.exit(__doc__)
+    folder = pathlib.Path(sys.argv[1]).resolve()
+    rows, told = ["# a name, and a file's bytes; made by bench/decompress_rows.py"], []
+    with tempfile.TemporaryDirectory() as place:
+        made = [("gcc_gz", *made_by_gcc(pathlib.Path(place), "-gz")),
+                ("gcc_gz_gnu", *made_by_gcc(pathlib.Path(place), "-gz=zlib-gnu"))]
+    for name, data, lines in [*taken(), *made, *refused()]:
+        rows.append(f"{name} {data.hex()}")
+        told += [name, *([f"  {lines}"] if isinstance(lines, str) else lines)]
+    (folder / "data/rows").write_text("\n".join(rows) + "\n")
+    (folder / "stdout").write_text("\n".join(told) + "\n")
+
+
+if __name__ == "__main__":
+    main()
