@@ -128,7 +128,8 @@ impl WritableObject {
         }))
     }
 
-    /// As `append`, of bytes that are moved: where they make the section, nothing is copied.
+    /// As `append`, but it takes the bytes themselves: where they are the first of their kind,
+    /// nothing is copied.
     ///
     /// # Errors
     /// Those of `append`.
@@ -159,8 +160,8 @@ impl WritableObject {
         }))
     }
 
-    /// Keeps as many sections as there are sizes, the first ones, each cut to its size. A content
-    /// that is as short stays.
+    /// Keeps the first sections, as many as there are sizes, and cuts each to its size. A section
+    /// that isn't longer than that stays as it is.
     pub fn truncate(&mut self, sizes: &[usize])
         ensures { self.new ≡ record self.old { contents = truncated self.old.contents sizes.now } }
     {
@@ -199,12 +200,12 @@ impl WritableObject {
         Ok(file)
     }
 
-    /// Hands the file to a writer, large contents whole. It takes no memory, and calls no `write`
-    /// again that failed.
+    /// Hands the file to a writer. A section's content is offered in one piece, and no call is
+    /// repeated after it failed. It takes no memory.
     ///
     /// # Errors
-    /// `NumberTooLarge` where `file_size` refuses, and then nothing is written; `Io` just where a
-    /// write failed or took no bytes, and then the writer has a beginning of the file.
+    /// `NumberTooLarge` where `file_size` refuses: nothing is written then. `Io` exactly where a
+    /// write failed or took no bytes: the writer then has a beginning of the file.
     pub fn write_to<O: Output>(&self, out: &mut O) -> Result<(), WriteError>
         ensures fits { OnOk result (Fits self.now) }
         ensures text { OnOk result

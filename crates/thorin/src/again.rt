@@ -48,9 +48,9 @@ pub fn accepted_inputs_are_taken<R: InputReader>(reader: &R)
     let _ = reader;
 }
 
-/// The laws of written packages: where `packs_again` is true of the state that inputs left, what is
-/// written of it is taken again; and where each input has one encoding, it answers as its units,
-/// with all their strings. It does nothing.
+/// The laws of written packages: where `packs_again` is true of the state after the inputs, the
+/// written package can be an input again; and where each input has one encoding, look-ups in the
+/// written package give just its units, with all their strings. It does nothing.
 pub fn written_packages_are_taken_again()
     ensures again { (accepted : List (List ℕ)) (state : State) (bytes : List ℕ)
         → AreTaken accepted start state
@@ -67,7 +67,7 @@ pub fn written_packages_are_taken_again()
     inputs_of_one_encoding_keep_their_strings();
 }
 
-/// The same of what `pack` gives. It does nothing.
+/// The same laws as `written_packages_are_taken_again`, of what `pack` gives. It does nothing.
 pub fn packed_files_are_taken_again<Sess: Session<RelocationEntry>>(session: &Sess)
     ensures again { (inputs : List Input) (packed : Packed)
         (is : IsPacked (Sess.offer session.now) inputs packed)
@@ -82,10 +82,11 @@ pub fn packed_files_are_taken_again<Sess: Session<RelocationEntry>>(session: &Se
     let _ = session;
 }
 
-/// The same of what `pack_groups` packs of each group. And where every group's package can be
-/// packed again, and they have one byte order, all that can still end the packing is a compilation
-/// unit that stands in two of them, the offset of a string that doesn't fit, or an error of
-/// finishing or writing what was joined. It does nothing.
+/// The package of each group can be an input again where `packs_again` is true of the state after
+/// the group's inputs. And where this is so for every group, and the packages have one byte order,
+/// only three things can still end `pack_groups`, memory aside: a compilation unit that stands in
+/// two packages, the offset of a string that doesn't fit, and an error of finishing or writing what
+/// was joined. It does nothing.
 pub fn packages_of_groups_are_taken_again()
     ensures alone { (inputs : List (List ℕ)) (bytes : List ℕ) (is : IsPackedAlone inputs bytes)
         → packs_again is.state ≡ true
@@ -120,9 +121,10 @@ pub fn groups_of_one_encoding_are_packed_alike()
 }
 
 /// The law of packages that may be refused: what a written package means as an input is what a
-/// reader of packages finds in it, whether or not the builder at hand takes it. This is so where
-/// `packs_again` is true of the state that inputs left; and where each of its units has the
-/// encoding of the first that is read of it, and some builder takes it. It does nothing.
+/// reader of packages finds in it, whether or not the builder at hand takes it. This holds where
+/// `packs_again` was true of the state that was written. It also holds where some builder takes the
+/// package, and each of its units has the encoding that the package has as an input. It does
+/// nothing.
 pub fn refused_packages_mean_what_is_read()
     ensures own { (accepted : List (List ℕ)) (state : State) (bytes : List ℕ)
         → AreTaken accepted start state
@@ -146,11 +148,11 @@ pub fn refused_packages_mean_what_is_read()
     packages_that_pack_again_are_accepted();
 }
 
-/// The law of any package as an input, whoever takes or refuses it: where the bytes mean units, each
-/// of those that stand in their sections has what a reader of packages finds in the row of its
-/// place, in the index of its kind: its pieces, and its strings by the input's encoding. It has
-/// nothing where there is no such row, a range lies outside its section, or a string can't be read.
-/// It does nothing.
+/// The law of any package that has an index, as an input, taken or refused. Where it means any
+/// unit, each unit that stands in its sections means what a reader of packages finds in the unit's
+/// row: its pieces, and its strings, read with the input's encoding. Its row is the one in the
+/// index of its kind that names the unit's place. A unit means nothing where there is no such row,
+/// where a range lies outside its section, or where a string can't be read. It does nothing.
 pub fn packages_mean_what_is_read()
     ensures { (bytes : List ℕ) (pack : Package) (meant : List (DwarfObject × Option Meaning))
         → package_of bytes ≡ Ok pack

@@ -13,8 +13,8 @@ use thorin_builder::DwarfPackage;
 use thorin_faults::{Error, Session};
 
 /// Packs each group of inputs, given by their bytes, into a package of its own, and then these
-/// packages, in order, into the one that it answers (DWARF 5, 7.3.5). The session holds the groups'
-/// packages. No input is passed over: the first refusal ends it.
+/// packages, in order, into one, whose bytes are the answer (DWARF 5, 7.3.5). The session holds the
+/// groups' packages. No input is passed over: the first refusal ends it.
 ///
 /// # Errors
 /// The first error, of each group in order and then of the packages: what

@@ -45,10 +45,10 @@ pub fn groups_are_joined_alike()
         (joining [] (flat_map (λ units. units) results)) }
 {}
 
-/// The law of packing in groups. Groups were packed, and in each group's package every unit has the
-/// encoding of the first. Then the file is a package of the units that joining all inputs of all
-/// groups at once gives: under each name the same unit, whichever row it has (DWARF 5, 7.3.5). It
-/// does nothing.
+/// The law of packing in groups. Where groups were packed, and every unit of each group's package
+/// has the encoding of that package's first unit, the file is a package of the units that all
+/// inputs of all groups join at once: under each name the same unit, in whichever row (DWARF 5,
+/// 7.3.5). It does nothing.
 pub fn groups_are_packed_alike()
     ensures joined { (groups : List (List (List ℕ))) (file : List ℕ)
         (packed : IsPackedInGroups groups file)
@@ -76,10 +76,10 @@ pub fn runs_go_on<R: InputReader>(reader: &R)
     let _ = reader;
 }
 
-/// The law of type units that differ. An input that is taken adds the signatures of some of its type
-/// units to the list, in file order: of those whose name is there or came earlier in the input, and
-/// whose bytes differ from the ones kept for that name. The units before and the input's own decide
-/// which. It does nothing.
+/// The law of type units that differ. Taking an input appends signatures to the list, in file
+/// order: one for each of its type units that is passed over, because its signature was there or
+/// came earlier in the input, although its bytes differ from the kept ones. Only the units that
+/// were there and the input's own decide this. It does nothing.
 pub fn passed_type_units_are_compared()
     ensures { (bytes : List ℕ) (old new : State) (units : List (DwarfObject × List ℕ))
         → taken bytes old ≡ Ok new
@@ -87,9 +87,9 @@ pub fn passed_type_units_are_compared()
         → differing_in new ≡ differing_in old ++ differing (own_bytes (units_in old)) [] units }
 {}
 
-/// The laws of numbers past their limits that no test is large enough to reach. An ELF 32 file
-/// whose section headers would begin at 2 ^ 32 or later doesn't fit its class, and each refusal to
-/// write it is `NumberTooLarge`. An index of n entries, 3 n being 2 ^ 32 or more, is refused with
+/// The laws of numbers that pass their limits, and are too large for any test. An ELF 32 file whose
+/// section headers would begin at 2 ^ 32 or later doesn't fit its class, and each refusal to write
+/// it is `NumberTooLarge`. An index of n entries, 3 n being 2 ^ 32 or more, is refused with
 /// `NumberTooLarge` of n. A string whose offset in the package would pass its format's limit is
 /// refused with `NumberTooLarge` of that offset. It does nothing.
 pub fn numbers_past_limits_are_refused()

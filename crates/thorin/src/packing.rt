@@ -30,7 +30,7 @@ pub enum Input<'a> {
 pub struct Packed {
     /// For each input Ok where it was accepted, else its first error or `Memory`.
     pub outcomes: Vec<Result<(), Error>>,
-    /// The written package, or the first error of finishing or writing it or `Memory`.
+    /// The written package; else the first error of finishing or of writing it, or `Memory`.
     pub file: Result<Vec<u8>, Error>,
     /// The signatures of type units that were passed over though their bytes differ from those of
     /// the kept unit of that signature, as `DwarfPackage::differing_types` gives them.
@@ -40,8 +40,8 @@ pub struct Packed {
 /// Packs inputs in order, passing over those that are refused, and writes the package.
 ///
 /// # Errors
-/// `Memory` where there is none for the list of outcomes, and nothing else: the errors of refused
-/// inputs, and of a package that can't be written, stand in `Packed`.
+/// `Memory` alone, where there is none for the list of outcomes. The errors of refused inputs, and
+/// of a package that can't be written, stand in `Packed`.
 pub fn pack<'s, Sess: Session<RelocationEntry>>(
     alloc: Global,
     session: &'s Sess,

@@ -42,8 +42,7 @@ use thorin_join::{
     own_packages_are_accepted_by_a_new_one, plain_packages_are_kept,
 };
 
-/// A package that is made of input objects, one after another. What inputs hold is kept by a
-/// session.
+/// A package in the making: it takes one input after another. The session keeps what is read.
 #[derive(Drop)]
 pub struct DwarfPackage<'output, 'session: 'output, Sess: Session<RelocationEntry>> {
     alloc: Global,
@@ -91,7 +90,7 @@ impl<'output, 'session: 'output, Sess: Session<RelocationEntry>> DwarfPackage<
     'session,
     Sess,
 > {
-    /// A package that nothing has begun. It takes no memory.
+    /// A package without any input yet. It takes no memory.
     pub fn new(alloc: Global, session: &'session Sess) -> Self
         ensures session { result.session ≡ session.now }
         ensures state { result.state ≡ spec.start }
@@ -122,8 +121,7 @@ impl<'output, 'session: 'output, Sess: Session<RelocationEntry>> DwarfPackage<
         self.add_input_by(session, &mut room, path)
     }
 
-    /// The same of the object that a reader reads at a path, into room that is free again
-    /// afterwards.
+    /// Adds the object that a reader reads at a path, into room that is free again afterwards.
     ///
     /// # Errors
     /// Those of `add_input_object`.
@@ -145,8 +143,8 @@ impl<'output, 'session: 'output, Sess: Session<RelocationEntry>> DwarfPackage<
     }
 
     /// Adds an object or a finished package: its units that aren't contained, with all that belongs
-    /// to them (DWARF 5, 7.3.5). An object without split units' info section adds nothing and
-    /// begins the package.
+    /// to them (DWARF 5, 7.3.5). An object without `.debug_info.dwo` adds no unit, but begins the
+    /// package.
     ///
     /// # Errors
     /// An `Err` leaves the package as it was; it is `Memory`, or the first error from left to
@@ -185,11 +183,10 @@ impl<'output, 'session: 'output, Sess: Session<RelocationEntry>> DwarfPackage<
         Ok(())
     }
 
-    /// Adds the objects that the executable at a path refers to, in the order of its units: of a
-    /// compilation unit that isn't contained and of each type unit the object at the path that is
-    /// named beside it. Each such compilation unit joins the targets, which `finish` wants to be
-    /// contained, before its object is read; with `Skip` an object that can't be read is passed
-    /// over.
+    /// Adds the objects that the executable at a path names, in the order of its units: an object
+    /// for each compilation unit that isn't contained yet, and for each type unit. Before the
+    /// object is read, the compilation unit joins the targets, which `finish` wants to be
+    /// contained. With `Skip` an object that can't be read is passed over.
     ///
     /// # Errors
     /// `ReadInput` where the executable, or with `Error` an object, can't be read; what `skeletons`
@@ -210,9 +207,10 @@ impl<'output, 'session: 'output, Sess: Session<RelocationEntry>> DwarfPackage<
         self.add_executable_by(session, &mut room, path, missing)
     }
 
-    /// The same with a reader, which reads each object into room that is free again afterwards, and
-    /// the executable into room of its own. No more than one object and the path of one are held
-    /// beside it. The executable's relocations are placed in the session.
+    /// Adds the objects that an executable names, as `add_executable` does, but a reader reads the
+    /// files: each object into `room`, which is free again afterwards, and the executable into room
+    /// of its own. Beside the executable no more than one object and one path are held. The
+    /// executable's relocations are placed in the session.
     ///
     /// # Errors
     /// Those of `add_executable`.
@@ -346,10 +344,10 @@ impl<'output, 'session: 'output, Sess: Session<RelocationEntry>> DwarfPackage<
     /// or the offset of a string doesn't fit (`NumberTooLarge`).
     ///
     /// # Errors
-    /// `MissingReferencedUnit` for the first unit that an executable refers to and that isn't
-    /// contained, `NoOutputObjectCreated` where no input began a package, for the rows of each
-    /// index `NumberTooLarge`, `MixedInputEncodings` and `SectionOutsideFormat`, as `write_index`
-    /// has them, and `Memory`.
+    /// `MissingReferencedUnit` for the first unit that an executable names and that isn't
+    /// contained; `NoOutputObjectCreated` where no input began a package; what `write_index`
+    /// answers of each index (`NumberTooLarge`, `MixedInputEncodings`, `SectionOutsideFormat`);
+    /// `Memory`.
     pub fn finish(self) -> Result<WritableObject, Error>
         ensures refusal { Gives (λ _. tt) result (spec.finish_test self.entry.state) }
         ensures finished { IfOk result (IsFinishedState self.entry.state) }
@@ -361,8 +359,8 @@ impl<'output, 'session: 'output, Sess: Session<RelocationEntry>> DwarfPackage<
         file
     }
 
-    /// The object to be written, or why there is none, as `finish` has it; and the signatures that
-    /// `differing_types` gives. The list is handed on as it is, without memory.
+    /// What `finish` gives, and beside it, even where `finish` refuses, the signatures that
+    /// `differing_types` gives. The list is moved, which takes no memory.
     #[tactic(auto, unfolding(thorin_join::specs::Builder::finish_test))]
     pub fn finish_with_differing(self) -> (Result<WritableObject, Error>, Vec<DebugTypeSignature>)
         ensures refusal { Gives (λ _. tt) result.0 (spec.finish_test self.entry.state) }
@@ -397,9 +395,9 @@ impl<'output, 'session: 'output, Sess: Session<RelocationEntry>> DwarfPackage<
         }
     }
 
-    /// The units that the package contains, in order of acceptance. It takes no memory. A proof that
-    /// borrows a package learns here that its units can be found and read, as the laws of
-    /// `thorin_join` ask.
+    /// The units that the package contains, in order of acceptance. It takes no memory. A proof
+    /// about a borrowed package learns here that the builder's invariant holds, which the laws of
+    /// `thorin_join` ask for.
     pub fn contained_units(&self) -> &IndexSet<DwarfObject>
         ensures names { result.now.keys ≡ keys (units_in self.now.state) }
         ensures sound { IsSoundBegun self.now.state.begun }
@@ -410,9 +408,8 @@ impl<'output, 'session: 'output, Sess: Session<RelocationEntry>> DwarfPackage<
         }
     }
 
-    /// The signatures of type units that were passed over and whose bytes differ from those of the
-    /// unit of their name that is kept, in the order of passing over, as often as it happened. It
-    /// takes no memory.
+    /// The signatures of type units that were passed over although their bytes differ from those of
+    /// the kept unit: one for each such unit, in order. It takes no memory.
     pub fn differing_types(&self) -> &[DebugTypeSignature]
         ensures { map (λ s. s.0) result.now ≡ spec.differing_in self.now.state }
     {
@@ -423,9 +420,9 @@ impl<'output, 'session: 'output, Sess: Session<RelocationEntry>> DwarfPackage<
     }
 
     /// Whether the package, once it is finished and written, may be an input again: every accepted
-    /// input was a plain object that added a unit, all their units have one encoding, those that
-    /// were passed over too, and there are abbreviations and, where there are string offsets,
-    /// strings. It takes no memory.
+    /// input was a plain object that added a unit; all their units, passed-over ones too, have one
+    /// encoding; there are abbreviations, and strings if there are string offsets. It takes no
+    /// memory.
     pub fn packs_again(&self) -> bool
         ensures exact { result ≡ packs_again self.now.state }
         ensures encoding { IsTrue result → HasOneEncoding self.now.state }

@@ -9,8 +9,8 @@ use dwp_bytes::RelocationEntry;
 use std::path::Path;
 use thorin_faults::{InputError, Session};
 
-/// Reads the inputs that paths name, into room that is used again for each. Each session is one;
-/// it needs no room, since it keeps what it reads.
+/// Reads the inputs that paths name, each into the same room. Every session is such a reader; it
+/// needs no room, since it keeps what it reads.
 pub trait InputReader {
     // What a read of the file at a path may answer.
     ghost offer: { Self → List ℕ → Result (List ℕ) IoError → Type 0 };
@@ -18,7 +18,7 @@ pub trait InputReader {
     /// Reads the file at a path, into the room or elsewhere.
     ///
     /// # Errors
-    /// Why it couldn't be read; want of memory is `InputError::Memory` alone.
+    /// Why the file couldn't be read. Where memory ran out, it is always `InputError::Memory`.
     fn read_into<'b>(
         &'b self,
         path: Path<'_>,

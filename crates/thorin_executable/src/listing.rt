@@ -181,8 +181,8 @@ impl<R: Reader> UnitsLeft<R> {
     }
 }
 
-/// The split units that an executable names, one after another; it holds the path of no more than
-/// one. It ends after the first error.
+/// Gives the split units that an executable names, one after another, and holds one path at a time.
+/// It ends after the first error.
 #[derive(Drop)]
 pub struct SkeletonUnits<'a> {
     left: UnitsLeft<SectionReader<'a>>,
@@ -198,8 +198,8 @@ impl<'a> Model for SkeletonUnits<'a> {
 }
 
 impl<'a> SkeletonUnits<'a> {
-    /// Those of an executable's bytes, of which nothing is copied. The relocations are placed in
-    /// the session.
+    /// Begins to read the units of an executable. Nothing of its bytes is copied; the relocations
+    /// are placed in the session.
     ///
     /// # Errors
     /// `ParseObjectFile`; of a section that is used `DecompressData`, `ObjectRead`,
@@ -219,7 +219,7 @@ impl<'a> SkeletonUnits<'a> {
         })
     }
 
-    /// The next of them; None at the end.
+    /// The next unit; None at the end.
     ///
     /// # Errors
     /// Of a unit `ParseUnitHeader`, those of `dwo_identifier_of_unit`, `NoDie`, `ParseUnit`,
@@ -245,8 +245,8 @@ fn push_all(left: &mut SkeletonUnits<'_>, units: &mut Vec<Skeleton>) -> Result<(
 
 /// The split units that an executable names, in order, up to the first error, and that error. Of
 /// each unit with an identity it gives the identity and the object's path. A type unit that names
-/// no object is passed over. The relocations are placed in the session. All paths are held;
-/// `SkeletonUnits` gives one after another.
+/// no object is passed over. The relocations are placed in the session. All paths are held at once;
+/// `SkeletonUnits` holds one at a time.
 ///
 /// The errors: `ParseObjectFile`; of a section that is used `DecompressData`, `ObjectRead`,
 /// `NamelessSection`, `RelocationWithInvalidSymbol`, `MultipleRelocations` and

@@ -19,8 +19,8 @@ pub use arena::{ArenaSession, read_into};
 pub use bytes::BytesSession;
 pub use memory::MemorySession;
 
-/// What holds the data of a run: inputs that were read, and what was made from them. Its memory
-/// isn't given back while it lives.
+/// Holds the data of a run: inputs that were read, and what was made from them. It frees nothing
+/// while it lives.
 pub trait Session<Relocations> {
     // What a read of the file at a path may answer.
     ghost offer: { Self → List ℕ → Result (List ℕ) IoError → Type 0 };
@@ -28,14 +28,14 @@ pub trait Session<Relocations> {
     /// Places bytes in the session.
     ///
     /// # Errors
-    /// Want of memory, and then nothing is handed back.
+    /// `AllocError` where memory runs out; the bytes are then dropped.
     fn alloc_data<'s>(&'s self, bytes: Vec<u8>) -> Result<&'s [u8], AllocError>
         ensures { IfOk result (λ placed. placed.now ≡ bytes.items) };
 
     /// Gives borrowed bytes back as they are, and places owned ones in the session.
     ///
     /// # Errors
-    /// Want of memory for owned bytes.
+    /// `AllocError` where memory runs out, for owned bytes alone.
     fn alloc_owned_cow<'i, 's: 'i>(
         &'s self,
         bytes: CowSlice<'i, u8>,
@@ -49,17 +49,17 @@ pub trait Session<Relocations> {
         }
     }
 
-    /// Places relocations in the session, in the order that they have.
+    /// Places relocations in the session, in their order.
     ///
     /// # Errors
-    /// Want of memory.
+    /// `AllocError` where memory runs out.
     fn alloc_relocation<'s>(&'s self, list: &[Relocations]) -> Result<&'s [Relocations], AllocError>
         ensures { IfOk result (λ placed. placed.now ≡ list.now) };
 
     /// Reads the file at a path.
     ///
     /// # Errors
-    /// Why it couldn't be read; want of memory is `InputError::Memory` alone.
+    /// Why the file couldn't be read. Where memory ran out, it is always `InputError::Memory`.
     fn read_input<'s>(&'s self, path: Path<'_>) -> Result<&'s [u8], InputError>
         ensures offered { IsOffered (offer self.now (path_bytes path.entry)) result }
         ensures memory { IfErr result IsNoWantOfMemory };

@@ -18,9 +18,9 @@ use dwp_index::{Bucketable, DwarfObject, Row, UnitIndex};
 use std::marker::Model;
 use thorin_faults::Error;
 
-/// Tells where the parts of one section of an input come to lie in the output. The parts of an
-/// input without an index are the whole section; else they are the ranges of the units' rows
-/// (DWARF 5, 7.3.5.3).
+/// Tells where a unit's part of one section of an input comes to lie in the output. In an input
+/// without an index that part is the whole section; else it is the range of the unit's row (DWARF
+/// 5, 7.3.5.3).
 #[derive(Drop)]
 pub struct ContributionAdjustor<'i, 'a> {
     cu_index: Option<&'i UnitIndex<'a>>,
@@ -58,16 +58,17 @@ impl<'i, 'a> ContributionAdjustor<'i, 'a> {
         }
     }
 
-    /// The unit's part of the section, which as a whole is `whole` in the output; None where the
-    /// section isn't there. An input without an index has `whole` itself. Else it is the range of
-    /// the unit's row, from the place on where `whole` begins; None where the range has no bytes,
-    /// where only the other index has the section's column, or where neither has it and the section
-    /// isn't there.
+    /// The unit's part of the section in the output. `whole` says where the input's whole section
+    /// lies there; it is None where the input lacks the section. Without an index the answer is
+    /// `whole` itself. Else it is the range of the unit's row, moved by the place where `whole`
+    /// begins. It is None where the range has no bytes. Where the unit's index has no column for
+    /// the section, it is None too, if the other index has one, or the input lacks the section.
     ///
     /// # Errors
-    /// `UnitNotInIndex` where the unit's index is missing, or the unit in it; `RowNotInIndex` a row
-    /// number past the rows; `BadContribution` a range outside the section, or of one that isn't
-    /// there; `SectionNotInRow` where the section is there and neither index has its column.
+    /// `UnitNotInIndex` where the unit's index is missing, or doesn't name the unit;
+    /// `RowNotInIndex` where a row number is past the rows; `BadContribution` where a range lies
+    /// outside the section, or the input lacks the section; `SectionNotInRow` where the section is
+    /// there and neither index has its column.
     #[tactic(auto, unfolding(crate::specs::Adjusting::adjusted))]
     pub fn adjust(
         &self,

@@ -21,11 +21,11 @@ pub struct Buckets {
     pub looked: Vec<u32>,
 }
 
-/// Places units in a hash table in their order, each at the first of its places that is unused. A
-/// look-up finds each of them where no two have one identifier.
+/// Places units in a hash table in their order, each in the first unused slot of its probe
+/// sequence. Where no two have one identifier, a look-up finds each of them.
 ///
 /// # Errors
-/// `NumberTooLarge` of more than 1,431,655,765 units; else `Memory` alone.
+/// `NumberTooLarge` for more than 1,431,655,765 units; else `Memory` alone.
 pub fn bucket<B: Bucketable>(alloc: Global, units: &[B]) -> Result<Buckets, Error>
     ensures refusal { Gives (λ _. tt) result (count_test (length units.now)) }
     ensures table { IfOk result (λ b. IsHashTable (map B.identifier units.now) b.slots.items) }

@@ -32,14 +32,14 @@ use dwp_table::{Bucketable, CONTRIBUTION_KINDS, column_of};
 use std::alloc::{AllocError, Global};
 use thorin_faults::Error;
 
-/// The bytes of the index of the entries, whose rows are in their order (DWARF 5, 7.3.5.3; the
-/// GNU page DebugFissionDWP); none where there are no entries. A look-up in it finds each entry
-/// where no two have one identifier.
+/// The bytes of an index that has a row for each entry, in their order (DWARF 5, 7.3.5.3; the GNU
+/// page DebugFissionDWP); no bytes where there are no entries. Where no two entries have one
+/// identifier, a look-up finds each of them.
 ///
 /// # Errors
-/// In this order: `NumberTooLarge` of more units than an index can name; `MixedInputEncodings` of
-/// encodings that differ; `SectionOutsideFormat` of a part of a section that packages of the
-/// version don't have; `NumberTooLarge` of an offset past 32 bits, then of a size. Beside these
+/// In this order: `NumberTooLarge` for more units than an index can name; `MixedInputEncodings`
+/// where encodings differ; `SectionOutsideFormat` for a part of a section that packages of the
+/// version don't have; `NumberTooLarge` for an offset past 32 bits, then for a size. Beside these
 /// `Memory` alone.
 pub fn write_index(
     alloc: Global,

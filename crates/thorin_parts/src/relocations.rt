@@ -59,10 +59,10 @@ enum Flaw {
 ///
 /// # Errors
 /// The first error in file order: `ObjectRead` where a table of relocations can't be read;
-/// `UnsupportedRelocation` of a type that isn't an absolute one of x86-64, i386 or AArch64;
-/// `RelocationWithInvalidSymbol` of a symbol that can't be read; `MultipleRelocations` of a second
-/// one at a place; in place of the last three `NamelessSection` where the section's name can't be
-/// read. Beside these `Memory` alone.
+/// `UnsupportedRelocation` for a type that isn't an absolute one of x86-64, i386 or AArch64;
+/// `RelocationWithInvalidSymbol` for a symbol that can't be read; `MultipleRelocations` for a
+/// second relocation at one place. These three name the section: where its name can't be read, the
+/// error is `NamelessSection`. Beside these `Memory` alone.
 pub fn add_relocations(
     alloc: Global,
     executable: &ElfFile,

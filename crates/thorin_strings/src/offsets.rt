@@ -163,8 +163,8 @@ fn known_string(debug_str: &[u8], offset: u64) -> Option<&[u8]>
 }
 
 impl PackageStringTable {
-    /// A range of string offsets, rewritten to the same strings in this table, under the same
-    /// encoding. Strings that are new go last. A refusal leaves the table as it was.
+    /// A range of string offsets, rewritten so that each entry names the same string in this table,
+    /// under the same encoding. New strings are appended. A refusal leaves the table as it was.
     ///
     /// `section_size` is how many bytes the range has; in a file that is whole it isn't past
     /// `debug_str_offsets`. A range of no bytes gives none.
@@ -198,8 +198,9 @@ impl PackageStringTable {
         )
     }
 
-    /// The same of one of many ranges that name strings of one section: a long one is read once for
-    /// all of them. What is remembered is of that section and of this table.
+    /// As `remap_str_offsets_section`, for one of many ranges that name strings of the same
+    /// section: a long string is read once for all of them. `repeats` remembers strings of that
+    /// section alone, and where they are in this table.
     ///
     /// # Errors
     /// Those of `remap_str_offsets_section`; then nothing is remembered.

@@ -41,7 +41,8 @@ enum Strings {
     Sorted(SortedStrings),
 }
 
-/// The distinct strings of a package, in order of first use. A clause sees the table as their list.
+/// The distinct strings of a package, in order of first use. In clauses the table is the list of
+/// these strings.
 ///
 /// No string is copied but into the data; beside it the table keeps where each begins. A string is
 /// found by its hash, as long as no two have one hash and each hash has its place among few; once
@@ -126,7 +127,7 @@ impl PackageStringTable {
         }
     }
 
-    /// The offset of a string, which goes last where the table hasn't it.
+    /// The offset of a string, which is appended where the table lacks it.
     ///
     /// # Errors
     /// `Memory` alone, and then the table is as it was.
@@ -209,7 +210,7 @@ impl PackageStringTable {
         }
     }
 
-    /// How much the table holds now, to which `truncate` goes back.
+    /// How much the table holds now: hand it to `truncate` to come back to this.
     pub fn mark(&self) -> TableMark
         ensures { result ≡ mark_of self.now }
     {
