@@ -52,7 +52,7 @@ extern "C" {
   (THORIN_VERSION_MAJOR * 65536u + THORIN_VERSION_MINOR * 256u + THORIN_VERSION_PATCH)
 
 /**
- * The version of the library that is linked.
+ * Tells the version of the library that is linked.
  * @return The version as one number, composed as THORIN_VERSION is.
  */
 uint32_t thorin_version(void);
@@ -246,7 +246,7 @@ int32_t thorin_list(const uint8_t *bytes, size_t size, thorin_name *names, size_
 
 /**
  * Where the sections of a package lie among its bytes: plain numbers, in memory of yours, and
- * nothing to close. The calls that take it are safe for any numbers: they then answer what the
+ * nothing to close. The calls that take it are safe whatever numbers it has: they answer what the
  * bytes at these places mean, or a status, and read nothing outside of the package.
  */
 typedef struct {
@@ -348,11 +348,12 @@ int32_t thorin_list_in(const thorin_package *package, const uint8_t *bytes, size
 
 /**
  * Why an input was refused, a package can't be finished, or a list of skeletons ended. The calls
- * here take bytes and follow no executable, so they never report 1 and 33 (files that are read or
- * written) and 30 (an executable's units that are missing), nor 38, for which the status is
- * THORIN_NO_MEMORY. Only thorin_skeletons() reports 6 to 10 (relocations and skeletons). An input
- * of another byte order is refused with 32. Whether all units have one encoding is tested when the
- * package is finished: the answer is THORIN_UNFINISHED with 32, and names no input.
+ * here take bytes and follow no executable, so they never report 1 or 33 (files that are read or
+ * written) or 30 (an executable's units that are missing). Nor do they report 38: the status is
+ * THORIN_NO_MEMORY then. Only thorin_skeletons() reports 6 to 10 (relocations and skeletons). An
+ * input of another byte order is refused with 32. Whether the first units of all inputs have one
+ * encoding is tested when the package is finished: the answer is THORIN_UNFINISHED with 32, and
+ * names no input.
  */
 enum thorin_fault {
   THORIN_FAULT_READ_INPUT = 1,         /**< An input file could not be read. */
@@ -445,9 +446,10 @@ typedef struct {
   /**
    * THORIN_DONE, THORIN_TOO_SMALL: 1 where each input is an object that added a unit, all their
    * units have one encoding, and there are abbreviations, and strings if there are string offsets;
-   * else 0. Where it is 1 at THORIN_DONE the package is proved to be taken as an input again, memory
-   * aside: as a first input in any case, and behind others of its byte order unless a compilation
-   * unit is there already or a string offset gets too large. Where it is 0 it may be refused.
+   * else 0. Where it is 1 at THORIN_DONE, it is proved that the package is taken as an input again,
+   * memory aside: as a first input always, and behind others of its byte order unless one of its
+   * compilation units is there already or a string offset gets too large. Where it is 0, the
+   * package may be refused.
    */
   uint32_t packs_again;
   /** THORIN_REFUSED, THORIN_UNFINISHED: the number of the fault, one of thorin_fault. */
@@ -460,7 +462,7 @@ typedef struct {
 
 /**
  * Packs objects (.dwo, or .o with .dwo sections) and packages (.dwp), in order, into one package.
- * It seldom has more bytes than its inputs together plus 4096.
+ * A package seldom has more bytes than its inputs together plus 4096.
  * @param inputs The objects and packages.
  * @param count How many there are.
  * @param[out] out Where the package is written. At THORIN_DONE the package stands at the beginning
@@ -489,7 +491,7 @@ int32_t thorin_differing_types(const thorin_bytes *inputs, size_t count, uint64_
 
 /* ---- executables */
 
-/** A split unit that an executable names: a skeleton unit, or a type unit's. */
+/** A split unit that an executable names, in a skeleton unit or in a type unit. */
 typedef struct {
   uint64_t id;        /**< the DWO id of a compilation unit, or the signature of a type unit */
   uint64_t path_size; /**< how many bytes the path of its object has */
