@@ -77,9 +77,9 @@ pub fn runs_go_on<R: InputReader>(reader: &R)
 }
 
 /// The law of type units that differ. Taking an input appends signatures to the list, in file
-/// order: one for each of its type units that is passed over, because its signature was there or
-/// came earlier in the input, although its bytes differ from the kept ones. Only the units that
-/// were there and the input's own decide this. It does nothing.
+/// order: one for each of its type units that is passed over although its bytes differ from the
+/// kept ones. A type unit is passed over where its signature was there or came earlier in the
+/// input. It does nothing.
 pub fn passed_type_units_are_compared()
     ensures { (bytes : List ℕ) (old new : State) (units : List (DwarfObject × List ℕ))
         → taken bytes old ≡ Ok new

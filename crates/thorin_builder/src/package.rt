@@ -147,18 +147,17 @@ impl<'output, 'session: 'output, Sess: Session<RelocationEntry>> DwarfPackage<
     /// package.
     ///
     /// # Errors
-    /// An `Err` leaves the package as it was; it is `Memory`, or the first error from left to
-    /// right: of the file's kind (`ParseFileKind`, `InvalidInputKind`), the ELF file
-    /// (`ParseObjectFile`), the used sections (`DecompressData`, `ObjectRead`), the first unit
-    /// (`ParseUnitHeader`, `NoCompilationUnits`), the byte order (`MixedInputEncodings`), both
-    /// indexes (`ParseIndex`, `IncompatibleIndexVersion`), each section's kind and string offsets
-    /// (`RepeatedSection`, `SectionOutsideFormat`, `MissingRequiredSection`, `BadStringOffsets`,
-    /// `OverlappingStringOffsets`, `OffsetAtIndex`, `StrAtOffset`, `NumberTooLarge`), the
-    /// abbreviations (`MissingRequiredSection`), the units in file order: of a package a second
-    /// section of units (`MultipleDebugInfoSection`, `MultipleDebugTypesSection`),
-    /// `ParseUnitHeader`, what `dwo_identifier_of_unit` answers, `NotSplitUnit`, `DuplicateUnit`,
-    /// `EmptyUnit`, and of a package `UnitNotInIndex`, `RowNotInIndex`, `BadContribution`,
-    /// `SectionNotInRow`.
+    /// An `Err` leaves the package as it was. It is `Memory`, or the first error of these steps.
+    /// The file: `ParseFileKind`, `InvalidInputKind`, `ParseObjectFile`. Its used sections:
+    /// `DecompressData`, `ObjectRead`. The first unit: `ParseUnitHeader`, `NoCompilationUnits`. The
+    /// byte order: `MixedInputEncodings`. Both indexes: `ParseIndex`, `IncompatibleIndexVersion`.
+    /// Section by section, the kind: `RepeatedSection`, `SectionOutsideFormat`; and the string
+    /// offsets: `MissingRequiredSection`, `BadStringOffsets`, `OverlappingStringOffsets`,
+    /// `OffsetAtIndex`, `StrAtOffset`, `NumberTooLarge`. The abbreviations:
+    /// `MissingRequiredSection`. The units in file order: a package's second section of units
+    /// (`MultipleDebugInfoSection`, `MultipleDebugTypesSection`), `ParseUnitHeader`, what
+    /// `dwo_identifier_of_unit` answers, `NotSplitUnit`, `DuplicateUnit`, `EmptyUnit`, and in a
+    /// package `UnitNotInIndex`, `RowNotInIndex`, `BadContribution`, `SectionNotInRow`.
     #[tactic(auto, unfolding(thorin_join::specs::Builder::taken))]
     pub fn add_object_bytes(&mut self, bytes: &[u8]) -> Result<(), Error>
         ensures meaning { Gives (λ _. self.new.state) result (spec.taken bytes.now self.old.state) }

@@ -61,8 +61,8 @@ impl<'i, 'a> ContributionAdjustor<'i, 'a> {
     /// The unit's part of the section in the output. `whole` says where the input's whole section
     /// lies there; it is None where the input lacks the section. Without an index the answer is
     /// `whole` itself. Else it is the range of the unit's row, moved by the place where `whole`
-    /// begins. It is None where the range has no bytes. Where the unit's index has no column for
-    /// the section, it is None too, if the other index has one, or the input lacks the section.
+    /// begins. It is None where the range has no bytes, and where the unit's index has no column
+    /// for the section, unless that is an error (`SectionNotInRow`).
     ///
     /// # Errors
     /// `UnitNotInIndex` where the unit's index is missing, or doesn't name the unit;
