@@ -1,4 +1,4 @@
-use Rattle.thorin_join.proofs.PackedAgain.{again-is}
+use Rattle.thorin_join.proofs.Meant.Package.{again-is}
 use Rattle.thorin_join.proofs.again.written_packages_mean_their_units.Goals as goal
 
 pub returns : goal.returns

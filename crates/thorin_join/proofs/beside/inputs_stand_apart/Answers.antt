@@ -1,5 +1,5 @@
 use Rattle.std.proofs.Common.{Some}
-use Rattle.thorin_join.proofs.StandingApart.{stand-apart}
+use Rattle.thorin_join.proofs.Rows.StandApart.{stand-apart}
 use Rattle.thorin_join.proofs.beside.inputs_stand_apart.Goals as goal
 
 pub returns : goal.returns

@@ -1,4 +1,4 @@
-use Rattle.thorin_join.proofs.InputsAlike.{inputs-alike}
+use Rattle.thorin_join.proofs.Lists.OneEncoding.{inputs-alike}
 use Rattle.thorin_join.proofs.inputs.packages_have_the_encoding_of_their_inputs.Goals as goal
 
 pub returns : goal.returns

@@ -1,4 +1,4 @@
-use Rattle.thorin_join.proofs.InputsAccepted.{inputs-hold}
+use Rattle.thorin_join.proofs.Lists.Held.{inputs-hold}
 use Rattle.thorin_join.proofs.inputs.packages_that_pack_again_are_accepted.Goals as goal
 
 pub returns-clause-accepted : goal.returns-clause-accepted

@@ -1,4 +1,4 @@
-use Rattle.thorin_join.proofs.PlainInputs.{again-exactly}
+use Rattle.thorin_join.proofs.Lists.PlainInputs.{again-exactly}
 use Rattle.thorin_join.proofs.inputs.plain_objects_pack_again.Goals as goal
 
 pub returns : goal.returns

@@ -1,4 +1,4 @@
-use Rattle.thorin_join.proofs.EachWhole.{taken-order}
+use Rattle.thorin_join.proofs.Lists.StringsWhole.{taken-order}
 use Rattle.thorin_join.proofs.inputs.the_first_byte_order_stays.Goals as goal
 
 pub returns : goal.returns

@@ -1,6 +1,6 @@
-use Rattle.thorin_join.proofs.PartsMean.{parts-kept}
-use Rattle.thorin_join.proofs.RowShares.{row-shares}
-use Rattle.thorin_join.proofs.InputJoined.{input-keeps}
+use Rattle.thorin_join.proofs.Parts.Strings.{parts-kept}
+use Rattle.thorin_join.proofs.Rows.Shares.{row-shares}
+use Rattle.thorin_join.proofs.Joined.Input.{input-keeps}
 use Rattle.thorin_join.proofs.joins.inputs_are_joined.Goals as goal
 
 pub returns-clause-sound : goal.returns-clause-sound

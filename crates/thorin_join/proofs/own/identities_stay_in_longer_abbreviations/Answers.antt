@@ -1,5 +1,5 @@
 use Rattle.dwp_bytes.specs.Input.{section}
-use Rattle.thorin_join.proofs.LongerTables.{identity-stays}
+use Rattle.thorin_join.proofs.Kept.LongerTables.{identity-stays}
 use Rattle.thorin_join.proofs.own.identities_stay_in_longer_abbreviations.Goals as goal
 
 pub returns : goal.returns

@@ -1,4 +1,4 @@
-use Rattle.thorin_join.proofs.OwnEncodings.{taken-holds}
+use Rattle.thorin_join.proofs.Kept.OneEncoding.{taken-holds}
 use Rattle.thorin_join.proofs.own.one_encoding_is_kept.Goals as goal
 
 pub returns : goal.returns

@@ -1,5 +1,5 @@
-use Rattle.thorin_join.proofs.OwnIndexes.{up-to-parts}
-use Rattle.thorin_join.proofs.OwnParts.{own-parts}
+use Rattle.thorin_join.proofs.Opened.Indexes.{up-to-parts}
+use Rattle.thorin_join.proofs.Opened.Parts.{own-parts}
 use Rattle.thorin_join.proofs.own.own_packages_are_taken_up_to_their_parts.Goals as goal
 
 pub returns-clause-tests : goal.returns-clause-tests

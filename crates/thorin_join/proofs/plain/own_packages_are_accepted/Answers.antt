@@ -1,4 +1,4 @@
-use Rattle.thorin_join.proofs.OwnAccepted.{own-all}
+use Rattle.thorin_join.proofs.Accepted.ByAnyPackage.{own-all}
 use Rattle.thorin_join.proofs.plain.own_packages_are_accepted.Goals as goal
 
 pub returns : goal.returns

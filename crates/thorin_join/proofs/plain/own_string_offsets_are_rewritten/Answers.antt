@@ -1,4 +1,4 @@
-use Rattle.thorin_join.proofs.OwnAgain.{own-offsets}
+use Rattle.thorin_join.proofs.Offsets.OfPackage.{own-offsets}
 use Rattle.thorin_join.proofs.plain.own_string_offsets_are_rewritten.Goals as goal
 
 pub returns : goal.returns

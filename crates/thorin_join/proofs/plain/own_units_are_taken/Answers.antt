@@ -1,4 +1,4 @@
-use Rattle.thorin_join.proofs.OwnUnitsGiven.{own-units}
+use Rattle.thorin_join.proofs.Taken.ByAnyPackage.{own-units}
 use Rattle.thorin_join.proofs.plain.own_units_are_taken.Goals as goal
 
 pub returns : goal.returns

@@ -1,4 +1,4 @@
-use Rattle.thorin_join.proofs.PlainKept.{taken-plain}
+use Rattle.thorin_join.proofs.Kept.PlainPackage.{taken-plain}
 use Rattle.thorin_join.proofs.plain.plain_packages_are_kept.Goals as goal
 
 pub returns : goal.returns

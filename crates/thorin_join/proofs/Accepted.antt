@@ -1,0 +1,4 @@
+-- A written package is accepted.
+pub mod Alone
+pub mod ByNewPackage
+pub mod ByAnyPackage

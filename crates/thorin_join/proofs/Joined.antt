@@ -1,0 +1,3 @@
+-- An input that is taken joins its units to a package.
+pub mod Source
+pub mod Input

@@ -1,0 +1,200 @@
+-- An input that is taken joins its units to those of the package, and all of them can be found and
+-- read.
+use Rattle.std.proofs.Common.{◌≡◌, ◌∙◌, ℕ, Bool, true, false, cond, true≢false, List, [], ◌++◌, ap}
+use Rattle.std.proofs.Common.{sym, refl, subst, Result, Ok, Err, Option, Some, None, arith}
+use Rattle.std.proofs.lemmas.List.{append-nil}
+use Rattle.dwp_base.specs.Reading.{◌>>=◌}
+use Rattle.dwp_base.specs.declared.class.Class.{Class}
+use Rattle.dwp_base.specs.declared.endian.Endianness.{Endianness}
+use Rattle.dwp_base.specs.declared.endian.Endianness.TheVariants.{Little, Big}
+use Rattle.dwp_elf_read.specs.Elf.{Elf}
+use Rattle.dwp_bytes.specs.declared.encoding.Encoding.{Encoding}
+use Rattle.dwp_dwarf.specs.Units.{UnitsAreTaken}
+use Rattle.dwp_table.specs.declared.object.DwarfObject.{DwarfObject}
+use Rattle.thorin_strings.specs.Strings.{IsTable}
+use Rattle.thorin_faults.specs.Fault.{Fault, MixedInputEncodings}
+use Rattle.thorin_join.specs.Builder.{package_or_new, order_of, same_order, order_test}
+use Rattle.thorin_join.specs.Builder.{with_source_or_new, with_units, with_input}
+use Rattle.thorin_input.specs.Encodings.{encoding_of}
+use Rattle.thorin_input.specs.Indexes.{Indexes, Source, indexes_of}
+use Rattle.thorin_join.specs.Join.{Joins}
+use Rattle.thorin_join.specs.Laid.{IsLaid}
+use Rattle.thorin_join.specs.Meaning.{Meaning, Members, source_meaning, object_meaning}
+use Rattle.thorin_join.specs.Meaning.{input_meaning}
+use Rattle.thorin_join.specs.Represents.{Represents, AreApart, IsSound, IsSoundBegun, units_of}
+use Rattle.thorin_join.specs.Represents.{units_begun}
+use Rattle.thorin_join.specs.State.{InProgress, empty, names_of, with_source}
+use Rattle.thorin_input.specs.Used.{InputFile, opened, has_info, input_file_of, used_from}
+use Rattle.thorin_join.proofs.Units.NamesApart.{apart-none}
+use Rattle.thorin_join.proofs.Units.HeadersRead.{ReadAlone, ReadAnywhere}
+use Rattle.thorin_join.proofs.Parts.Strings.{PartsLaw}
+use Rattle.thorin_join.proofs.Rows.Shares.{RowsLaw}
+use Rattle.thorin_join.proofs.Joined.Source.{source-joins}
+use Rattle.thorin_join.proofs.Steps.{err-ok, ok-eq, bind-ok, bind-inv}
+use Rattle.thorin_join.proofs.Units.InRows.{units-are, keys-units}
+
+order-eq : (a b : Endianness) → same_order a b ≡ true → a ≡ b
+order-eq Little Little h = refl
+order-eq Big Big h = refl
+order-eq Little Big h = absurd (true≢false (sym h))
+order-eq Big Little h = absurd (true≢false (sym h))
+
+order-cond : (b : Bool) → ◌≡◌ {A = Result (Unit {0}) Fault}
+    (cond b (Ok tt) (Err MixedInputEncodings)) (Ok tt) → b ≡ true
+order-cond true h = refl
+order-cond false h = absurd (err-ok MixedInputEncodings tt h)
+
+tested-order : (order : Endianness) (begun : Option InProgress) → order_test order begun ≡ Ok tt
+    → order_of begun order ≡ order
+unfolding order_test
+tested-order order begun h = order-eq (order_of begun order) order
+    (order-cond (same_order (order_of begun order) order) h)
+
+object-order : (file : Elf) (object : InputFile) → input_file_of file ≡ Ok object
+    → object.order ≡ file.order
+unfolding input_file_of
+object-order file object h =
+    let s = bind-inv (used_from [] file.sections) _ object h in
+    sym (ap (λ (o : InputFile). o.order) (ok-eq _ object s.2))
+
+pub made-order : (file : Elf) (object : InputFile) (begun : Option InProgress) → input_file_of file
+    ≡ Ok object → order_test object.order begun ≡ Ok tt
+    → object.order ≡ (package_or_new file begun).file.order
+made-order file object None h t = object-order file object h
+made-order file object (Some made) h t = sym (tested-order object.order (Some made) t)
+
+-- a table of no strings
+no_strings : IsTable []
+no_strings = record {
+  distinct = λ i j d before within. absurd (omega arith);
+  zero_free =
+      λ k d within. absurd (omega arith);
+}
+
+-- a package that nothing was added to
+pub empty-sound : (class : Class) (machine : ℕ) (order : Endianness)
+    → IsSound (empty class machine order)
+empty-sound class machine order = record {
+  units = record {
+    table = no_strings;
+    no_strings = refl;
+    no_compilations = refl;
+    no_types =
+        refl;
+    rows = tt;
+  };
+  apart = apart-none;
+  laid = record { info = refl; types = refl; once = tt };
+}
+
+pub new-sound : (file : Elf) (begun : Option InProgress) → IsSoundBegun begun
+    → IsSound (package_or_new file begun)
+new-sound file None h = empty-sound file.class file.machine file.order
+new-sound file (Some made) h = h
+
+new-units : (file : Elf) (begun : Option InProgress) → units_of (package_or_new file begun) ≡
+    units_begun begun
+new-units file None = refl
+new-units file (Some made) = refl
+
+-- what an input makes of a package
+pub record InputKeeps (bytes : List ℕ) (begun now : Option InProgress) : Type 0 where
+  pub sound : IsSoundBegun now
+  pub joins : Joins bytes (units_begun begun) (units_begun now)
+
+pub meaning-at : (bytes : List ℕ) (file : Elf) (b : Bool) → opened bytes ≡ Ok file
+    → has_info file ≡ b → input_meaning bytes ≡ cond b (input_file_of file >>=
+    object_meaning) (Ok [])
+unfolding input_meaning
+meaning-at bytes file b h k = bind-ok (opened bytes) file _ h ∙ ap (λ e.
+    cond e (input_file_of file >>= object_meaning) (Ok [])) k
+
+pub object-means : (object : InputFile) (encoding : Encoding) (indexes : Indexes)
+    (units : List (DwarfObject × Option Meaning)) → encoding_of object ≡ Ok encoding
+    → indexes_of object encoding ≡ Ok indexes
+    → source_meaning (record { object = object; encoding = encoding; indexes = indexes }) ≡ Ok units
+    → object_meaning object ≡ Ok units
+unfolding object_meaning
+object-means object encoding indexes units h k m = bind-ok (encoding_of object) encoding _ h ∙
+    bind-ok (indexes_of object encoding) indexes _ k ∙ m
+
+-- a package that has these units is sound, and they are its units
+sound-of : (made : InProgress) (ms : Members) → Represents made ms → AreApart (names_of made)
+    → IsLaid made → IsSound made
+sound-of made ms rep apart laid = record {
+  units = subst (Represents made) (units-are made ms rep)
+      rep;
+  apart = apart;
+  laid = laid;
+}
+
+units-keep : PartsLaw → RowsLaw → ReadAlone → ReadAnywhere → UnitsAreTaken
+    → (bytes : List ℕ) (file : Elf) (begun now : Option InProgress)
+    → IsSoundBegun begun → opened bytes ≡ Ok file → has_info file ≡ true → with_units file begun ≡
+    Ok now → InputKeeps bytes begun now
+unfolding with_units with_source_or_new
+units-keep parts_law rows_law alone anywhere reads bytes file begun now sound opens info h =
+    let s1 = bind-inv (input_file_of file) _ now h in
+    let s2 = bind-inv (encoding_of s1.0) _ now s1.2 in
+    let s3 = bind-inv (order_test s1.0.order begun) _ now s2.2 in
+    let s4 = bind-inv (indexes_of s1.0 s2.0) _ now s3.2 in
+    let source : Source = record { object = s1.0; encoding = s2.0; indexes = s4.0 } in
+    let s5 = bind-inv (with_source source (package_or_new file begun)) _ now s4.2 in
+    let before = package_or_new file begun in
+    let fine = new-sound file begun sound in
+    let ms = units_of before in
+    let j = source-joins parts_law rows_law alone anywhere reads source before s5.0 ms fine.units
+    (sym (keys-units before)) fine.apart fine.laid (made-order file s1.0 begun
+    s1.1 s3.1) s5.1 in
+    let was : ms ≡ units_begun begun = new-units file begun in
+    let is : Some s5.0 ≡ now = ok-eq _ now s5.2 in
+    record {
+      sound = subst IsSoundBegun is (sound-of s5.0 (ms ++ j.added) j.has j.apart j.laid);
+      joins = subst (λ n. Joins bytes (units_begun begun) (units_begun n)) is
+          (subst (λ m. Joins bytes m (units_of s5.0)) was (record {
+            units = j.units;
+            meaning = meaning-at bytes file true opens info ∙ bind-ok (input_file_of file) s1.0 _
+                s1.1 ∙ object-means s1.0 s2.0 s4.0 j.units s2.1 s4.1 j.meaning;
+            defined = j.defined;
+            added = j.added;
+            joined = j.joined;
+            is = sym (units-are s5.0 (ms ++ j.added) j.has);
+          }));
+    }
+
+none-keep : (bytes : List ℕ) (file : Elf) (begun now : Option InProgress)
+    → IsSoundBegun begun → opened bytes ≡ Ok file → has_info file ≡ false
+    → ◌≡◌ {A = Result (Option InProgress) Fault} (Ok (Some (package_or_new file begun))) (Ok now)
+    → InputKeeps bytes begun now
+none-keep bytes file begun now sound opens info h =
+    let is : Some (package_or_new file begun) ≡ now = ok-eq _ now h in
+    record {
+      sound = subst IsSoundBegun is (new-sound file begun sound);
+      joins = subst (λ n. Joins bytes (units_begun begun) (units_begun n)) is (record {
+        units = [];
+        meaning = meaning-at bytes file false opens info;
+        defined = refl;
+        added = [];
+        joined = refl;
+        is = new-units file begun ∙ sym (append-nil (units_begun begun));
+      });
+    }
+
+by-info : PartsLaw → RowsLaw → ReadAlone → ReadAnywhere → UnitsAreTaken
+    → (bytes : List ℕ) (file : Elf) (begun now : Option InProgress) (b : Bool)
+    → IsSoundBegun begun → opened bytes ≡ Ok file → has_info file ≡ b
+    → cond b (with_units file begun) (Ok (Some (package_or_new file begun))) ≡ Ok now
+    → InputKeeps bytes begun now
+by-info parts_law rows_law alone anywhere reads bytes file begun now true sound opens info h =
+    units-keep parts_law rows_law alone anywhere reads bytes file begun now sound opens info h
+by-info parts_law rows_law alone anywhere reads bytes file begun now false sound opens info h =
+    none-keep bytes file begun now sound opens info h
+
+pub input-keeps : PartsLaw → RowsLaw → ReadAlone → ReadAnywhere → UnitsAreTaken
+    → (bytes : List ℕ) (begun now : Option InProgress) → IsSoundBegun begun → with_input bytes begun
+    ≡ Ok now → InputKeeps bytes begun now
+unfolding with_input
+input-keeps parts_law rows_law alone anywhere reads bytes begun now sound h =
+    let s = bind-inv (opened bytes) _ now h in
+    by-info parts_law rows_law alone anywhere reads bytes s.0 begun now (has_info s.0)
+    sound s.1 refl s.2

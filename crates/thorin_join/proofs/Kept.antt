@@ -1,0 +1,10 @@
+-- What plain objects of one encoding keep of a package.
+pub mod OneEncoding
+pub mod LongerTables
+pub mod PlainObject
+pub mod SharedParts
+pub mod ObjectNames
+pub mod Names
+pub mod FirstHeaders
+pub mod InfoThere
+pub mod PlainPackage

@@ -1,0 +1,216 @@
+-- The first unit of a plain object stands in info, with the object's encoding, and has a name that
+-- goes there.
+use Rattle.std.proofs.Common.{◌≡◌, ◌∙◌, ℕ, zero, suc, ◌-◌, Bool, true, false, cond, eqb, leb, ◌&&◌}
+use Rattle.std.proofs.Common.{◌||◌, ◌⊎◌, inl, inr, ⊎_elim, List, [], ◌∷◌, ◌++◌, length, refl, sym}
+use Rattle.std.proofs.Common.{ap, subst, Result, Ok, Err, Option, Some, None}
+use Rattle.std.specs.Prelude.{find}
+use Rattle.std.specs.List.{list_any}
+use Rattle.std.specs.Option.{ok_or}
+use Rattle.dwp_base.specs.declared.endian.Endianness.{Endianness}
+use Rattle.dwp_base.specs.declared.section.SectionKind.{SectionKind}
+use Rattle.dwp_base.specs.declared.section.SectionKind.TheVariants as kinds
+use Rattle.dwp_base.specs.Sections.{same_kind}
+use Rattle.dwp_bytes.specs.Input.{Input, section, number_at, split_at, offset_at}
+use Rattle.dwp_bytes.specs.declared.encoding.Encoding.{Encoding}
+use Rattle.dwp_bytes.specs.declared.encoding.Format.{Format}
+use Rattle.dwp_bytes.specs.declared.fault.ReadError.{ReadError}
+use Rattle.dwp_bytes.specs.declared.fault.ReadError.TheVariants.{UnknownVersion}
+use Rattle.dwp_dwarf.specs.Units.{Unit as Header, initial_length_at, address_size_at, older_type_at}
+use Rattle.dwp_dwarf.specs.Units.{older_at, newer_at, header_at, unit_at, listed, units_within}
+use Rattle.dwp_dwarf.specs.Units.{units}
+use Rattle.dwp_dwarf.specs.declared.unit.UnitSection.TheVariants as places
+use Rattle.dwp_dwarf.specs.declared.unit.UnitType.{UnitType}
+use Rattle.dwp_dwarf.specs.declared.unit.UnitType.TheVariants as unit_types
+use Rattle.dwp_table.specs.declared.object.DwarfObject.{DwarfObject}
+use Rattle.thorin_faults.specs.Fault.{Fault, ParseUnitHeader, NotSplitUnit, NoCompilationUnits}
+use Rattle.thorin_identity.specs.Identity.{identity}
+use Rattle.thorin_input.specs.Encodings.{first_encoding}
+use Rattle.thorin_input.specs.Indexes.{Source}
+use Rattle.thorin_join.specs.Laid.{type_signature, name_signature}
+use Rattle.thorin_join.specs.Meaning.{UnitRead, keys, named_unit, named_each, named_at}
+use Rattle.thorin_join.specs.Meaning.{named_sections}
+use Rattle.thorin_input.specs.Names.{same_name}
+use Rattle.thorin_input.specs.NewUnits.{name_for, unit_section}
+use Rattle.thorin_input.specs.Rows.{abbreviations_for}
+use Rattle.thorin_input.specs.Used.{Used, has_kind, bytes_of, first}
+use Rattle.thorin_join.proofs.Units.NamesApart.{same_name-self}
+use Rattle.thorin_join.proofs.Units.HeadersRead.{newer-five, no_header}
+use Rattle.thorin_join.proofs.Units.Sorts.{identity-sort}
+use Rattle.thorin_join.proofs.Parts.Appended.{same-kind}
+use Rattle.thorin_join.proofs.Steps.{err-ok, ok-eq, bind-inv, by-choice}
+
+abbrev pub Reads : Type 0
+Reads = List (DwarfObject × UnitRead)
+
+-- ---- a unit in info is of version 5, or no type unit
+
+abbrev FiveOrNone : Header → Type 0
+FiveOrNone unit = (unit.encoding.version ≡ 5) ⊎ (type_signature unit.unit_type ≡ None)
+
+older-sort : (format : Format) (i : Input) (t : UnitType × Input) → older_type_at places.Info format
+    i ≡ Ok t → type_signature t.0 ≡ None
+unfolding older_type_at
+older-sort format i t h = ap (λ (x : UnitType × Input). type_signature x.0)
+    (sym (ok-eq {E = ReadError} (unit_types.Compilation, i) t h))
+
+older-none : (format : Format) (version : ℕ) (whole i : Input) (u : Header) → older_at places.Info
+    format version whole i ≡ Ok u → FiveOrNone u
+unfolding older_at
+older-none format version whole i u h =
+    let a = bind-inv (offset_at format i) _ u h in
+    let b = bind-inv (address_size_at a.0.1) _ u a.2 in
+    let c = bind-inv (older_type_at places.Info format b.0.1) _ u b.2 in
+    let t = older-sort format b.0.1 c.0 c.1 in
+    inr (sym (ap (λ (x : Header). type_signature x.unit_type) (ok-eq {E = ReadError} _ u c.2)) ∙ t)
+
+header-none : (format : Format) (whole i : Input) (u : Header) → header_at places.Info format whole
+    i ≡ Ok u → FiveOrNone u
+unfolding header_at
+header-none format whole i u h =
+    let a = bind-inv (number_at 2 i) _ u h in
+    let older : Result Header ReadError = older_at places.Info format a.0.0 whole a.0.1 in
+    let others : Result Header ReadError = cond (leb 2 a.0.0 && leb a.0.0 4) older
+    (Err UnknownVersion) in
+    by-choice (FiveOrNone u) (eqb a.0.0 5) (newer_at format whole a.0.1) others (Ok u) a.2
+    (λ newer. inl (newer-five format whole a.0.1 u newer))
+    (λ other. by-choice (FiveOrNone u) (leb 2 a.0.0 && leb a.0.0 4) older (Err UnknownVersion)
+    (Ok u) other (older-none format a.0.0 whole a.0.1 u) (no_header (FiveOrNone u) u))
+
+unit-none : (i : Input) (x : Header × Input) → unit_at places.Info i ≡ Ok x → FiveOrNone x.0
+unfolding unit_at
+unit-none i x h =
+    let a = bind-inv (initial_length_at i) _ x h in
+    let b = bind-inv (split_at a.0.0.1 a.0.1) _ x a.2 in
+    let c = bind-inv (split_at (b.0.1.place - i.place) i) _ x b.2 in
+    let d = bind-inv (header_at places.Info a.0.0.0 c.0.0 b.0.0) _ x c.2 in
+    subst FiveOrNone (ap (λ (y : Header × Input). y.0) (ok-eq {E = ReadError} _ x d.2))
+    (header-none a.0.0.0 c.0.0 b.0.0 d.0 d.1)
+
+-- what is read first, where its encoding is that
+record FirstUnit (reads : List (Result Header ReadError)) (encoding : Encoding) : Type 0 where
+  unit : Header
+  others : List (Result Header ReadError)
+  are : reads ≡ Ok unit ∷ others
+  is : unit.encoding ≡ encoding
+  sort : FiveOrNone unit
+
+first-of : (n : ℕ) (i : Input) (encoding : Encoding) → first_encoding (units_within n places.Info i)
+    ≡ Ok encoding → FirstUnit (units_within n places.Info i) encoding
+unfolding units_within
+first-of zero i encoding h = absurd (err-ok NoCompilationUnits encoding h)
+first-of (suc n) i encoding h = by (eqb (length i.bytes) 0) (unit_at places.Info i) refl h
+  where
+    by : (b : Bool) (r : Result (Header × Input) ReadError) → unit_at places.Info i ≡ r
+        → first_encoding (cond b [] (listed r (units_within n places.Info))) ≡ Ok encoding
+        → FirstUnit (cond b [] (listed r (units_within n places.Info))) encoding
+    by true r k e = absurd (err-ok NoCompilationUnits encoding e)
+    by false (Ok x) k e = record {
+      unit = x.0;
+      others = units_within n places.Info x.1;
+      are = refl;
+      is = ok-eq {E = Fault} _ encoding e;
+      sort = unit-none i x k;
+    }
+    by false (Err f) k e = absurd (err-ok (ParseUnitHeader f) encoding e)
+
+first-units : (order : Endianness) (bytes : List ℕ) (encoding : Encoding)
+    → first_encoding (units places.Info (section order bytes)) ≡ Ok encoding
+    → FirstUnit (units places.Info (section order bytes)) encoding
+unfolding units
+first-units order bytes encoding h = first-of (length bytes) (section order bytes) encoding h
+
+no-units : (order : Endianness) (encoding : Encoding)
+    → first_encoding (units places.Info (section order [])) ≡ Ok encoding → ⊥
+unfolding units units_within
+no-units order encoding h = err-ok NoCompilationUnits encoding h
+
+-- ---- its name
+
+ok-some : {A : Type 0} (r : Option A) (x : A) → ok_or r NotSplitUnit ≡ Ok x → r ≡ Some x
+ok-some None x h = absurd (err-ok NotSplitUnit x h)
+ok-some (Some y) x h = ap (λ v. Some v) (ok-eq {E = Fault} y x h)
+
+any-behind : (test : DwarfObject → Bool) (us vs : Reads) → list_any test (keys vs) ≡ true
+    → list_any test (keys (us ++ vs)) ≡ true
+any-behind test [] vs h = h
+any-behind test (u ∷ us) vs h = or-right (test u.0) (any-behind test us vs h)
+  where
+    or-right : (b : Bool) {c : Bool} → c ≡ true → (b || c) ≡ true
+    or-right true h = refl
+    or-right false h = h
+
+module _ (source : Source) (encoding : Encoding) where
+  -- a name is there, of a unit that stands in info
+  pub record FirstNamed (all : Reads) : Type 0 where
+    pub name : DwarfObject
+    pub there : list_any (same_name name) (keys all) ≡ true
+    pub sort : (encoding.version ≡ 5) ⊎ (name_signature name ≡ None)
+
+  record HeadNamed (u : Header) (us : Reads) : Type 0 where
+    read : DwarfObject × UnitRead
+    rest : Reads
+    are : us ≡ read ∷ rest
+    sort : type_signature u.unit_type ≡ name_signature read.0
+
+  head-named : (kind : SectionKind) (u : Header) (others : List (Result Header ReadError))
+      (us : Reads) → named_each source kind (Ok u ∷ others) ≡ Ok us → HeadNamed u us
+  unfolding named_each named_unit name_for
+  head-named kind u others us h =
+      let a = bind-inv (named_unit source kind (Ok u)) _ us h in
+      let b = bind-inv (named_each source kind others) _ us a.2 in
+      let d = bind-inv (name_for source kind u) _ a.0 a.1 in
+      let e = bind-inv (abbreviations_for source kind u) _ d.0 d.1 in
+      let f = bind-inv (identity (section source.object.order e.0) u) _ d.0 e.2 in
+      let name : d.0 ≡ a.0.0 = ap (λ (x : DwarfObject × UnitRead). x.0)
+      (ok-eq {E = Fault} _ a.0 d.2) in
+      record {
+        read = a.0;
+        rest = b.0;
+        are = sym (ok-eq {E = Fault} _ us b.2);
+        sort = identity-sort (section source.object.order e.0) u d.0
+            (f.1 ∙ ap (λ x. Ok x) (ok-some f.0 d.0 f.2)) ∙ ap name_signature name;
+      }
+
+  pub first-named : (sections : List Used) (all : Reads) → named_sections source sections ≡ Ok all
+      → first_encoding (units places.Info (section source.object.order (first kinds.Info sections)))
+      ≡ Ok encoding → FirstNamed all
+  unfolding named_sections
+  first-named [] all h e = absurd (no-units source.object.order encoding e)
+  first-named (from ∷ rest) all h e =
+      let a = bind-inv (named_at source from (unit_section from.kind)) _ all h in
+      let b = bind-inv (named_sections source rest) _ all a.2 in
+      subst FirstNamed (ok-eq {E = Fault} (a.0 ++ b.0) all b.2)
+      (by a.0 b.0 a.1 (same_kind from.kind kinds.Info) refl e (λ k. first-named rest b.0 b.1 k))
+    where
+      by : (here others : Reads) → named_at source from (unit_section from.kind) ≡ Ok here
+          → (c : Bool) → same_kind from.kind kinds.Info ≡ c
+          → first_encoding (units places.Info (section source.object.order
+          (bytes_of (cond c (Some from) (find (has_kind kinds.Info) rest))))) ≡ Ok encoding
+          → (first_encoding (units places.Info (section source.object.order
+          (first kinds.Info rest))) ≡ Ok encoding → FirstNamed others)
+          → FirstNamed (here ++ others)
+      by here others named true is k later =
+          let kind : from.kind ≡ kinds.Info = same-kind from.kind kinds.Info is in
+          let f = first-units source.object.order from.bytes encoding k in
+          let each : named_each source from.kind (units places.Info (section source.object.order
+          from.bytes)) ≡ Ok here = ap (λ n. named_at source from (unit_section n))
+          (sym kind) ∙ named in
+          let head = head-named from.kind f.unit f.others here (ap (named_each source from.kind)
+          (sym f.are) ∙ each) in
+          let version = ap (λ (x : Encoding). x.version) f.is in
+          record {
+            name = head.read.0;
+            there = ap (λ (l : Reads). list_any (same_name head.read.0) (keys (l ++ others)))
+                head.are ∙ ap (λ c. c || list_any (same_name head.read.0)
+                (keys (head.rest ++ others))) (same_name-self head.read.0);
+            sort = ⊎_elim (λ five. inl (sym version ∙ five)) (λ none.
+                inr (sym head.sort ∙ none)) f.sort;
+          }
+      by here others named false is k later =
+          let l = later k in
+          record {
+            name = l.name;
+            there = any-behind (same_name l.name) here others
+                l.there;
+            sort = l.sort;
+          }

@@ -1,0 +1,6 @@
+-- What a written package means as an input.
+pub mod UnitsBySection
+pub mod RowPlaces
+pub mod OneRow
+pub mod OneSection
+pub mod Package

@@ -1,0 +1,8 @@
+-- A written package as an input: its sections, encoding and indexes.
+pub mod SectionsWritten
+pub mod Sections
+pub mod ContentsByName
+pub mod Parts
+pub mod Indexes
+pub mod Format
+pub mod FirstEncoding

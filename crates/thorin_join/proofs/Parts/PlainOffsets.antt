@@ -1,0 +1,227 @@
+-- The string offsets of the parts of a plain input read alike.
+use Rattle.std.proofs.Common.{◌≡◌, ◌∙◌, ℕ, ◌+◌, ◌-◌, ◌<◌, Bool, true, false, cond, leb, List, []}
+use Rattle.std.proofs.Common.{◌∷◌, ◌++◌, length, take, subst, ◌*◌, ◌&&◌, ◌||◌, IsOk, zero-mul}
+use Rattle.std.proofs.Common.{zero-add, nat_lt, Ok, refl, sym, ap, inl, inr, ⊎_elim, true≢false}
+use Rattle.std.proofs.Common.{arith}
+use Rattle.std.proofs.lemmas.List.{append_assoc, append-nil}
+use Rattle.std.proofs.lemmas.Bool.{leb-true, leb-false}
+use Rattle.dwp_base.specs.declared.section.SectionKind.{SectionKind}
+use Rattle.dwp_base.specs.declared.section.SectionKind.TheVariants.{StrOffsets, Str}
+use Rattle.dwp_base.specs.Sections.{same_kind}
+use Rattle.dwp_bytes.specs.declared.encoding.Encoding.{Encoding}
+use Rattle.dwp_bytes.specs.Encoding.{offset_size}
+use Rattle.dwp_bytes.specs.StringOffsets.{entry_count}
+use Rattle.dwp_index.specs.Strings.{string_in}
+use Rattle.thorin_parts.specs.ReadStrings.{ReadsAlike}
+use Rattle.thorin_strings.specs.Strings.{IsTable, data_of}
+use Rattle.thorin_strings.specs.StringOffsets.{remapped}
+use Rattle.thorin_input.specs.Growing.{Contents, joined_parts}
+use Rattle.thorin_input.specs.Indexes.{Source, is_package}
+use Rattle.thorin_join.specs.Meaning.{whole_entries, joined_offsets}
+use Rattle.thorin_input.specs.Parts.{Parts, has_part, stands_once, with_part, with_each_part}
+use Rattle.thorin_input.specs.Parts.{parts_of}
+use Rattle.thorin_input.specs.Used.{Used, InputFile, first}
+use Rattle.thorin_join.proofs.Parts.OffsetRanges.{whole-long, whole-read, empty-read, no-header}
+use Rattle.thorin_join.proofs.Parts.OffsetRanges.{rewritten-long, alike-by, IsWhole, whole-more}
+use Rattle.thorin_join.proofs.Parts.Appended.{either, same-kind, joined-front, joined_parts-more}
+use Rattle.thorin_join.proofs.Parts.Appended.{joined_parts-other, Rewritten, Adds, step}
+use Rattle.thorin_join.proofs.Parts.OffsetLaws.{NamesTheSameLaw, ReadsAlikeLaw, ReadInTurnLaw}
+use Rattle.thorin_join.proofs.Parts.Strings.{front-front, rewritten-plain}
+use Rattle.thorin_join.proofs.Steps.{bind-inv}
+
+has-by : (a b : Bool) → b ≡ true → (a || b) ≡ true
+has-by true b h = refl
+has-by false b h = h
+
+pub has-more : (a : Contents) (bytes : List ℕ) → has_part StrOffsets
+    (a ++ (StrOffsets, bytes) ∷ []) ≡ true
+has-more [] bytes = refl
+has-more (p ∷ ps) bytes = has-by (same_kind p.0 StrOffsets)
+    (has_part StrOffsets (ps ++ (StrOffsets, bytes) ∷ [])) (has-more ps bytes)
+
+pub has-other : (a : Contents) (k : SectionKind) (bytes : List ℕ) → same_kind k StrOffsets ≡ false
+    → has_part StrOffsets (a ++ (k, bytes) ∷ []) ≡ has_part StrOffsets a
+has-other [] k bytes other = rw other refl
+has-other (p ∷ ps) k bytes other = ap (λ b. same_kind p.0 StrOffsets || b)
+    (has-other ps k bytes other)
+
+-- of a kind that may stand once alone, nothing is there yet
+pub not-there : (packed standard has : Bool) → standard ≡ true
+    → ((packed || (standard && true)) && has) ≡ false → has ≡ false
+not-there true standard has h once = once
+not-there false true has h once = once
+not-there false false has h once = absurd (true≢false (sym h))
+
+module _ (names : NamesTheSameLaw) (alike : ReadsAlikeLaw) (in_turn : ReadInTurnLaw)
+    (source : Source) (plain : is_package source.indexes ≡ false) where
+  abbrev object : InputFile
+  object = source.object
+
+  abbrev encoding : Encoding
+  encoding = source.encoding
+
+  abbrev section : List ℕ
+  section = first Str object.sections
+
+  -- the rewritten ranges so far read as those of the object, with the strings of any table that
+  -- begins with these
+  record Reads (new : List ℕ) (strings : List (List ℕ)) (has : Bool) (old : List ℕ) : Type 0 where
+    table : IsTable strings
+    read : (final : List (List ℕ)) → IsTable final → take (length strings) final ≡ strings → (i : ℕ)
+        → ReadsAlike object.order encoding section old (data_of final) new i
+    whole : encoding.version < 5 → IsWhole (offset_size encoding.format) old new
+    fresh : leb 5 encoding.version ≡ true → has ≡ false → (new ≡ []) × (old ≡ [])
+
+  abbrev ReadsBy : Parts → List ℕ → Type 0
+  ReadsBy before old = Reads (joined_parts StrOffsets before.0) before.1
+      (has_part StrOffsets before.0) old
+
+  reads-none : (strings : List (List ℕ)) → IsTable strings → Reads [] strings false []
+  reads-none strings table =
+      let none = empty-read object.order encoding in
+      record {
+        table = table;
+        read = λ final final_table kept i. record {
+          readable = subst IsOk (sym (none section i))
+              refl;
+          same = none (data_of final) i ∙ sym (none section i);
+        };
+        whole = λ old. record {
+          count = 0;
+          old_long = sym (zero-mul (offset_size encoding.format));
+          new_long = sym (zero-mul (offset_size encoding.format));
+        };
+        fresh = λ standard has. (refl, refl);
+      }
+
+  -- a range alone reads as its whole entries
+  alone : (bytes : List ℕ) (strings : List (List ℕ)) (written : List ℕ × List (List ℕ))
+      → IsTable strings → remapped object.order encoding section bytes (length bytes)
+      strings ≡ Ok written
+      → (final : List (List ℕ)) → IsTable final → take (length written.1) final ≡ written.1
+      → (i : ℕ) → ReadsAlike object.order encoding section (whole_entries encoding bytes)
+      (data_of final) written.0 i
+  alone bytes strings written table h final final_table kept i =
+      let law = alike object.order encoding section bytes strings written.0 written.1 final table h
+      final_table kept i in
+      let same = whole-read object.order encoding section bytes i in
+      record { readable = subst IsOk (sym same) law.readable; same = law.same ∙ sym same }
+
+  -- in DWARF 5 it is the only one
+  reads-only : (new old bytes : List ℕ) (strings : List (List ℕ)) (written : List ℕ × List (List ℕ))
+      → leb 5 encoding.version ≡ true → IsTable strings
+      → remapped object.order encoding section bytes (length bytes) strings ≡ Ok written → new ≡ []
+      → old ≡ [] → Reads (new ++ written.0) written.1 true (old ++ whole_entries encoding bytes)
+  reads-only new old bytes strings written standard table h no_new no_old =
+      let law = names object.order encoding section bytes (length bytes) strings written.0
+      written.1 table h in
+      rw (no_new, no_old) (record {
+        table = law.table;
+        read = alone bytes strings written table h;
+        whole = λ gnu. absurd (omega (arith, leb-true 5 encoding.version standard));
+        fresh = λ again has. absurd (true≢false has);
+      })
+
+  -- before it is joined to those before
+  reads-joined : (new old bytes : List ℕ) (strings : List (List ℕ)) (has : Bool) (written : List ℕ
+      × List (List ℕ)) → encoding.version < 5 → Reads new strings has old
+      → remapped object.order encoding section bytes (length bytes) strings ≡ Ok written
+      → Reads (new ++ written.0) written.1 true (old ++ whole_entries encoding bytes)
+  reads-joined new old bytes strings has written gnu before h =
+      let law = names object.order encoding section bytes (length bytes) strings written.0 written.1
+      before.table h in
+      let width = offset_size encoding.format in
+      let header = no-header encoding gnu in
+      let whole = before.whole gnu in
+      let long : length (whole_entries encoding bytes) ≡ entry_count encoding (length bytes) *
+      width = whole-long encoding bytes (omega (arith, header)) ∙ ap (λ n.
+      n + entry_count encoding (length bytes) * width) header ∙ zero-add
+      (entry_count encoding (length bytes) * width) in
+      record {
+        table = law.table;
+        read = λ final final_table kept i. alike-by object.order encoding section (data_of final)
+            (old ++ whole_entries encoding bytes) old (whole_entries encoding bytes)
+            (new ++ written.0) new written.0 i (i - whole.count) (nat_lt i whole.count)
+            (in_turn object.order encoding section old (whole_entries encoding bytes) whole.count i
+            gnu whole.old_long)
+            (in_turn object.order encoding (data_of final) new written.0 whole.count i
+            gnu whole.new_long)
+            (before.read final final_table (front-front strings written.1 final law.kept kept) i)
+            (alone bytes strings written before.table h final final_table kept (i - whole.count));
+        whole = λ again. whole-more width (entry_count encoding (length bytes)) old new
+            (whole_entries encoding bytes) written.0 whole long (rewritten-long names object.order
+            encoding section bytes strings written gnu before.table h);
+        fresh = λ standard has. absurd (true≢false has);
+      }
+
+  reads-rewritten : (before : Parts) (bytes : List ℕ) (next : Parts) (old : List ℕ)
+      → ReadsBy before old → (leb 5 encoding.version ≡ true → has_part StrOffsets before.0 ≡ false)
+      → Rewritten source before bytes next → ReadsBy next (old ++ whole_entries encoding bytes)
+  reads-rewritten before bytes next old so_far once w =
+      let joined_is : joined_parts StrOffsets (before.0 ++ (StrOffsets, w.written.0) ∷ []) ≡
+      joined_parts StrOffsets before.0 ++ w.written.0 = joined_parts-more StrOffsets before.0
+      StrOffsets w.written.0 in
+      let has = has-more before.0 w.written.0 in
+      let is = w.is in
+      let rewrites : remapped object.order encoding section bytes (length bytes) before.1 ≡ Ok
+      w.written = sym (rewritten-plain source bytes before.1 plain) ∙ w.rewrites in
+      rw is (rw (joined_is, has) (⊎_elim
+      (λ standard. let empty = so_far.fresh standard (once standard) in
+      reads-only (joined_parts StrOffsets before.0) old bytes before.1 w.written standard
+      so_far.table rewrites empty.0 empty.1)
+      (λ gnu. reads-joined (joined_parts StrOffsets before.0) old bytes before.1
+      (has_part StrOffsets before.0) w.written (leb-false 5 encoding.version gnu)
+      so_far rewrites)
+      (either (leb 5 encoding.version))))
+
+  step-reads : (before : Parts) (s : Used) (next : Parts) (old : List ℕ) → ReadsBy before old
+      → (stands_once source s.kind && has_part s.kind before.0) ≡ false → Adds source before s next
+      → ReadsBy next (old ++ cond (same_kind s.kind StrOffsets) (whole_entries encoding s.bytes) [])
+  step-reads before s next old so_far once (inl (o, w)) =
+      let here : (stands_once source StrOffsets && has_part StrOffsets before.0) ≡ false =
+      subst (λ (k : SectionKind). (stands_once source k && has_part k before.0) ≡ false)
+      (same-kind s.kind StrOffsets o) once in
+      rw o (reads-rewritten before s.bytes next old so_far (λ standard.
+      not-there (is_package source.indexes) (leb 5 encoding.version)
+      (has_part StrOffsets before.0) standard here) w)
+  step-reads before s next old so_far once (inr (inl (o, c, is))) =
+      let same = joined_parts-other StrOffsets before.0 s.kind s.bytes o in
+      let has = has-other before.0 s.kind s.bytes o in
+      let ends = append-nil old in
+      rw (is, o) (rw (same, has, ends) so_far)
+  step-reads before s next old so_far once (inr (inr (o, c, is))) =
+      let ends = append-nil old in
+      rw (is, o) (rw ends so_far)
+
+  each-reads : (sections : List Used) (before after : Parts) (old : List ℕ) → ReadsBy before old
+      → with_each_part source before sections ≡ Ok after
+      → ReadsBy after (old ++ joined_offsets encoding sections)
+  unfolding with_each_part
+  each-reads [] before after old so_far h =
+      let same : before ≡ after = cc in
+      subst (λ (n : Parts). ReadsBy n (old ++ [])) same (subst (ReadsBy before)
+      (sym (append-nil old)) so_far)
+  each-reads (s ∷ ss) before after old so_far h =
+      let next = bind-inv (with_part source before s) _ after h in
+      let made = step source before s next.0 next.1 in
+      let here = old ++ cond (same_kind s.kind StrOffsets) (whole_entries encoding s.bytes) [] in
+      let together : here ++ joined_offsets encoding ss ≡ old ++ joined_offsets encoding (s ∷ ss) =
+      append_assoc old (cond (same_kind s.kind StrOffsets) (whole_entries encoding s.bytes) [])
+      (joined_offsets encoding ss)
+      ∙ ap (λ v. old ++ v) (joined-front (same_kind s.kind StrOffsets) (whole_entries encoding
+      s.bytes) (joined_offsets encoding ss)) in
+      subst (ReadsBy after) together (each-reads ss next.0 after here (step-reads before s next.0
+      old so_far made.once made.adds) next.2)
+
+  -- the strings that the part of string offsets names are those that the object's name
+  pub parts-read : (strings : List (List ℕ)) (parts : Contents) (after : List (List ℕ))
+      → IsTable strings → parts_of source strings ≡ Ok (parts, after)
+      → (final : List (List ℕ)) → IsTable final → take (length after) final ≡ after → (i : ℕ)
+      → (string_in object.order encoding (data_of final) (joined_parts StrOffsets parts) i ≡
+      string_in object.order encoding section (joined_offsets encoding object.sections) i)
+      × IsOk (string_in object.order encoding section (joined_offsets encoding object.sections) i)
+  parts-read strings parts after table h final final_table kept i =
+      let all = each-reads object.sections ([], strings) (parts, after) []
+      (reads-none strings table) h in
+      let one = all.read final final_table kept i in
+      (one.same, one.readable)

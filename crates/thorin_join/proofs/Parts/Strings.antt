@@ -1,0 +1,129 @@
+-- What the parts of an input are, beside their bytes.
+use Rattle.std.proofs.Common.{◌≡◌, ◌∙◌, ℕ, ◌≤◌, Bool, true, false, cond, List, [], ◌∷◌, length}
+use Rattle.std.proofs.Common.{take, min, subst, refl, sym, ap, inl, inr, Result, Ok, arith}
+use Rattle.std.proofs.lemmas.List.{length-take, take-take}
+use Rattle.std.proofs.Math.Seq.{take-length}
+use Rattle.dwp_base.specs.declared.section.SectionKind.TheVariants.{Str, CuIndex, TuIndex}
+use Rattle.thorin_faults.specs.Fault.{Fault}
+use Rattle.thorin_packaged.specs.PackagedOffsets.{packaged_offsets}
+use Rattle.thorin_strings.specs.Strings.{IsTable}
+use Rattle.thorin_strings.specs.StringOffsets.{remapped}
+use Rattle.thorin_input.specs.Growing.{Contents, joined_parts}
+use Rattle.thorin_input.specs.Indexes.{Source, is_package}
+use Rattle.thorin_input.specs.Parts.{Parts, rewritten, with_part, with_each_part, parts_of}
+use Rattle.thorin_input.specs.Used.{Used, first}
+use Rattle.thorin_join.proofs.Parts.Appended.{Adds, step, parts-none}
+use Rattle.thorin_join.proofs.Steps.{bind-inv}
+pub use Rattle.thorin_join.proofs.PartLaws.{NamesTheSameLaw, ReadsAlikeLaw, ReadInTurnLaw}
+pub use Rattle.thorin_join.proofs.PartLaws.{PackagedLaw}
+
+-- what stands in front of what stands in front
+pub front-front : {A : Type 0} (a b c : List A) → take (length a) b ≡ a → take (length b) c ≡ b
+    → take (length a) c ≡ a
+front-front a b c first second =
+    let long : length a ≡ min (length a) (length b) = ap length (sym first) ∙
+    length-take (length a) b in
+    let short : length a ≤ length b = omega (arith, long) in
+    sym (take-take (length a) (length b) c short) ∙ ap (take (length a)) second ∙ first
+
+-- a table of strings, with the one before in front
+pub record Follows (before after : List (List ℕ)) : Type 0 where
+  pub table : IsTable after
+  pub kept : take (length before) after ≡ before
+
+pub follows-refl : (a : List (List ℕ)) → IsTable a → Follows a a
+follows-refl a table = record { table = table; kept = take-length a }
+
+module _ (source : Source) where
+  abbrev pub packaged : List ℕ → List (List ℕ) → Result (List ℕ × List (List ℕ)) Fault
+  packaged bytes strings = packaged_offsets source.object.order source.encoding
+      source.indexes.compilations source.indexes.types
+      (first Str source.object.sections) bytes strings
+
+  abbrev pub unpackaged : List ℕ → List (List ℕ) → Result (List ℕ × List (List ℕ)) Fault
+  unpackaged bytes strings = remapped source.object.order source.encoding
+      (first Str source.object.sections) bytes (length bytes) strings
+
+  -- string offsets of a package are rewritten range by range, others as one range
+  pub rewritten-package : (bytes : List ℕ) (strings : List (List ℕ)) → is_package source.indexes ≡
+      true → rewritten source bytes strings ≡ packaged bytes strings
+  unfolding rewritten
+  rewritten-package bytes strings h = rw h refl
+
+  pub rewritten-plain : (bytes : List ℕ) (strings : List (List ℕ)) → is_package source.indexes ≡
+      false → rewritten source bytes strings ≡ unpackaged bytes strings
+  unfolding rewritten
+  rewritten-plain bytes strings h = rw h refl
+
+module _ (names : NamesTheSameLaw) (law : PackagedLaw) (source : Source) where
+  follows-by : (packed : Bool) (bytes : List ℕ) (strings : List (List ℕ)) (written : List ℕ
+      × List (List ℕ)) → IsTable strings
+      → cond packed (packaged source bytes strings) (unpackaged source bytes strings) ≡ Ok written
+      → Follows strings written.1
+  follows-by true bytes strings written table h =
+      let reads = law source.object.order source.encoding source.indexes.compilations
+      source.indexes.types (first Str source.object.sections) bytes strings written.0
+      written.1 table h in
+      record { table = reads.table; kept = reads.kept }
+  follows-by false bytes strings written table h =
+      let same = names source.object.order source.encoding (first Str source.object.sections) bytes
+      (length bytes) strings written.0 written.1 table h in
+      record { table = same.table; kept = same.kept }
+
+  pub rewritten-follows : (bytes : List ℕ) (strings : List (List ℕ)) (written : List ℕ
+      × List (List ℕ)) → IsTable strings → rewritten source bytes strings ≡ Ok written
+      → Follows strings written.1
+  unfolding rewritten
+  rewritten-follows bytes strings written table h = follows-by (is_package source.indexes) bytes
+      strings written table h
+
+  pub step-strings : (before : Parts) (s : Used) (next : Parts) → IsTable before.1
+      → Adds source before s next → Follows before.1 next.1
+  step-strings before s next table (inl (o, w)) =
+      let same : w.written.1 ≡ next.1 = ap (λ (n : Parts). n.1) (sym w.is) in
+      subst (Follows before.1) same (rewritten-follows s.bytes before.1 w.written table w.rewrites)
+  step-strings before s next table (inr (inl (o, c, is))) =
+      subst (λ (n : Parts). Follows before.1 n.1) (sym is) (follows-refl before.1 table)
+  step-strings before s next table (inr (inr (o, c, is))) =
+      subst (λ (n : Parts). Follows before.1 n.1) (sym is) (follows-refl before.1 table)
+
+  pub each-strings : (sections : List Used) (before after : Parts) → IsTable before.1
+      → with_each_part source before sections ≡ Ok after → Follows before.1 after.1
+  unfolding with_each_part
+  each-strings [] before after table h =
+      let same : before ≡ after = cc in
+      subst (λ (n : Parts). Follows before.1 n.1) same (follows-refl before.1 table)
+  each-strings (s ∷ ss) before after table h =
+      let next = bind-inv (with_part source before s) _ after h in
+      let here = step-strings before s next.0 table (step source before s next.0 next.1).adds in
+      let later = each-strings ss next.0 after here.table next.2 in
+      record {
+        table = later.table;
+        kept = front-front before.1 next.0.1 after.1
+            here.kept later.kept;
+      }
+
+-- no part is of strings or of indexes, and the distinct strings go on from those before
+pub record PartsKept (strings : List (List ℕ)) (parts : Contents)
+    (after : List (List ℕ)) : Type 0 where
+  pub no_strings : joined_parts Str parts ≡ []
+  pub no_compilations : joined_parts CuIndex parts ≡ []
+  pub no_types : joined_parts TuIndex parts ≡ []
+  pub table : IsTable after
+  pub longer : take (length strings) after ≡ strings
+
+abbrev pub PartsLaw : Type 0
+PartsLaw = (source : Source) (strings : List (List ℕ)) (parts : Contents) (after : List (List ℕ))
+    → IsTable strings → parts_of source strings ≡ Ok (parts, after) → PartsKept strings parts after
+
+pub parts-kept : NamesTheSameLaw → PackagedLaw → PartsLaw
+parts-kept names law source strings parts after table h =
+    let follows = each-strings names law source source.object.sections ([], strings)
+    (parts, after) table h in
+    record {
+      no_strings = parts-none source strings parts after h Str refl refl;
+      no_compilations = parts-none source strings parts after h CuIndex refl refl;
+      no_types = parts-none source strings parts after h TuIndex refl refl;
+      table = follows.table;
+      longer = follows.kept;
+    }

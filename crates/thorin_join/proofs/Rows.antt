@@ -1,0 +1,10 @@
+-- The rows of units: what stands in their ranges, and stays there.
+pub mod Stay
+pub mod OneAdded
+pub mod AllAdded
+pub mod Ranges
+pub mod OfUnits
+pub mod Meaning
+pub mod Shares
+pub mod StandApart
+pub mod LieInTurn

@@ -1,0 +1,184 @@
+-- The units of an input that are added stand in their rows.
+use Rattle.std.proofs.Common.{◌≡◌, ◌∙◌, ℕ, Bool, true, false, cond, List, [], ◌∷◌, ◌++◌, ap, sym}
+use Rattle.std.proofs.Common.{subst, refl, Ok}
+use Rattle.std.specs.List.{list_any}
+use Rattle.std.proofs.lemmas.List.{append_assoc, append-nil, map-append}
+use Rattle.std.proofs.Math.Seq.{take-length}
+use Rattle.dwp_base.specs.declared.section.SectionKind.{SectionKind}
+use Rattle.dwp_base.specs.declared.section.SectionKind.TheVariants.{Str, CuIndex, TuIndex}
+use Rattle.dwp_base.specs.declared.endian.Endianness.{Endianness}
+use Rattle.dwp_base.specs.Sections.{same_kind}
+use Rattle.dwp_elf.specs.Contents.{content_of}
+use Rattle.dwp_bytes.specs.declared.encoding.Encoding.{Encoding}
+use Rattle.dwp_dwarf.specs.declared.unit.UnitSection.{UnitSection}
+use Rattle.dwp_dwarf.specs.declared.unit.UnitSection.TheVariants as places
+use Rattle.dwp_index.specs.Package.{encoding_in}
+use Rattle.dwp_table.specs.declared.object.DwarfObject.{DwarfObject}
+use Rattle.thorin_input.specs.Growing.{Contents}
+use Rattle.thorin_join.specs.Meaning.{Meaning, Members, keys, joining}
+use Rattle.thorin_input.specs.Names.{same_name}
+use Rattle.thorin_input.specs.NewUnits.{NewUnit}
+use Rattle.thorin_join.specs.Represents.{LieInside, Shares, AreRowsOf}
+use Rattle.thorin_join.specs.State.{InProgress, kind_at, names_of, row_at, with_unit_added}
+use Rattle.thorin_join.specs.State.{with_new_unit, with_new_units}
+use Rattle.thorin_join.proofs.Rows.Stay.{Grows, grows-with_bytes, keep-lie, keep-shares, keep-rows}
+use Rattle.thorin_join.proofs.Rows.Stay.{rows-next}
+use Rattle.thorin_join.proofs.Parts.Appended.{content-with_bytes}
+use Rattle.thorin_join.proofs.Rows.OneAdded.{Fits, unit-added, row-name}
+
+-- ---- units whose names are new
+
+abbrev pub AllNew : {X : Type 0} → List DwarfObject → List (DwarfObject × X) → Type 0
+AllNew names [] = Unit {0}
+AllNew names (u ∷ us) = (list_any (same_name u.0) names ≡ false) × AllNew (names ++ u.0 ∷ []) us
+
+-- so are those that are joined
+new-cond : {X : Type 0} (names : List DwarfObject) (u : DwarfObject × X)
+    (kept more : List (DwarfObject × X)) (b : Bool) → list_any (same_name u.0) names ≡ b
+    → AllNew names kept → AllNew (names ++ u.0 ∷ []) more → AllNew names (cond b kept (u ∷ more))
+new-cond names u kept more true e k m = k
+new-cond names u kept more false e k m = (e, m)
+
+pub joined-new : {X : Type 0} (names : List DwarfObject) (us : List (DwarfObject × X))
+    → AllNew names (joining names us)
+joined-new names [] = tt
+joined-new names (u ∷ us) =
+    new-cond names u (joining names us) (joining (names ++ u.0 ∷ []) us) (list_any (same_name u.0)
+    names) refl (joined-new names us) (joined-new (names ++ u.0 ∷ []) us)
+
+-- it depends on the names alone
+pub new-by-keys : {X Y : Type 0} (names : List DwarfObject) (us : List (DwarfObject × X))
+    (vs : List (DwarfObject × Y)) → keys us ≡ keys vs → AllNew names us → AllNew names vs
+new-by-keys names us [] h n = tt
+new-by-keys names [] (v ∷ vs) h n = absurd cc
+new-by-keys names (u ∷ us) (v ∷ vs) h n =
+    let here : u.0 ≡ v.0 = cc in
+    let rest : keys us ≡ keys vs = cc in (
+      subst (λ k. list_any (same_name k) names ≡ false) here n.0,
+      new-by-keys (names ++ v.0 ∷ []) us
+          vs rest (subst (λ k. AllNew (names ++ k ∷ []) us) here n.1),
+    )
+
+-- a unit whose name is new is added
+pub is-new : (p : InProgress) (u : DwarfObject × NewUnit) → list_any (same_name u.0) (names_of p) ≡
+    false → with_new_unit p u ≡ with_unit_added p u
+unfolding with_new_unit
+is-new p u h = rw h refl
+
+pub names-added : (p : InProgress) (u : DwarfObject × NewUnit) → names_of (with_unit_added p u) ≡
+    names_of p ++ u.0 ∷ []
+names-added p u =
+    map-append (λ row. row.id) p.rows (row_at u.1.row p.file.contents u.0 u.1.bytes u.1.place ∷ [])
+    ∙ ap (λ n. names_of p ++ n ∷ []) (row-name u.1.row p.file.contents u.0 u.1.bytes u.1.place)
+
+-- ---- units that can be added
+
+-- a unit has its place in what its row shares, and its header can be read
+pub record CanBeAdded (order : Endianness) (c : Contents) (strings : List (List ℕ)) (u : DwarfObject
+    × NewUnit) (m : DwarfObject × Meaning) : Type 0 where
+  pub name : u.0 ≡ m.0
+  pub bytes : u.1.bytes ≡ m.1.bytes
+  pub encoded : u.1.row.encoding ≡ m.1.encoding
+  pub lie : LieInside c u.1.row
+  pub shares : Shares order c strings u.1.row m.1
+  pub fits : Fits u.1.row u.0 u.1.bytes u.1.place
+  pub encoding : Encoding
+  pub header : encoding_in order u.1.place u.1.bytes ≡ Ok encoding
+
+abbrev pub AllCanBeAdded : Endianness → Contents → List (List ℕ) → List (DwarfObject × NewUnit)
+    → Members → Type 0
+AllCanBeAdded order c strings [] [] = Unit {0}
+AllCanBeAdded order c strings [] (m ∷ ms) = ⊥
+AllCanBeAdded order c strings (u ∷ us) [] = ⊥
+AllCanBeAdded order c strings (u ∷ us) (m ∷ ms) = CanBeAdded order c strings u m
+    × AllCanBeAdded order c strings us ms
+
+-- they still can when contents grew
+keep-can : (order : Endianness) (c d : Contents) (strings : List (List ℕ))
+    (us : List (DwarfObject × NewUnit)) (ms : Members) → Grows c d → AllCanBeAdded order c strings
+    us ms → AllCanBeAdded order d strings us ms
+keep-can order c d strings [] [] grows can = tt
+keep-can order c d strings [] (m ∷ ms) grows can = absurd can
+keep-can order c d strings (u ∷ us) [] grows can = absurd can
+keep-can order c d strings (u ∷ us) (m ∷ ms) grows can = (
+  record {
+    name = can.0.name;
+    bytes = can.0.bytes;
+    encoded = can.0.encoded;
+    lie = keep-lie c d u.1.row grows can.0.lie;
+    shares = keep-shares order c d strings strings u.1.row m.1 grows (take-length strings)
+        can.0.lie can.0.shares;
+    fits = can.0.fits;
+    encoding = can.0.encoding;
+    header = can.0.header;
+  },
+  keep-can order c d strings us ms grows can.1,
+)
+
+-- what is known of a package with these units
+pub record Added (p : InProgress) (us : List (DwarfObject × NewUnit)) (ms : Members) : Type 0 where
+  pub strings : (with_new_units p us).strings ≡ p.strings
+  pub order : (with_new_units p us).file.order ≡ p.file.order
+  pub rows : AreRowsOf p.file.order (with_new_units p us).file.contents p.strings
+      (with_new_units p us).rows ms
+  pub other : (kind : SectionKind) → ((place : UnitSection) → same_kind (kind_at place) kind ≡
+      false) → content_of kind (with_new_units p us).file.contents ≡ content_of kind p.file.contents
+  pub names : names_of (with_new_units p us) ≡ names_of p ++ keys us
+
+same-added : (p q : InProgress) (us : List (DwarfObject × NewUnit)) (ms : Members) → q ≡ p
+    → Added p us ms → Added q us ms
+same-added p q us ms h a = subst (λ r. Added r us ms) (sym h) a
+
+pub units-added : (p : InProgress) (us : List (DwarfObject × NewUnit)) (ms added : Members)
+    → AllNew (names_of p) us → AllCanBeAdded p.file.order p.file.contents p.strings us added
+    → AreRowsOf p.file.order p.file.contents p.strings p.rows ms → Added p us (ms ++ added)
+unfolding with_new_units
+units-added p [] ms [] new can rows = record {
+  strings = refl;
+  order = refl;
+  rows = rw (append-nil ms) rows;
+  other = λ kind h. refl;
+  names = sym (append-nil (names_of p));
+}
+units-added p [] ms (m ∷ added) new can rows = absurd can
+units-added p (u ∷ us) ms [] new can rows = absurd can
+units-added p (u ∷ us) ms (m ∷ added) new can rows =
+    let k = kind_at u.1.place in
+    let c = p.file.contents in
+    let q = with_unit_added p u in
+    let d = q.file.contents in
+    let grows = grows-with_bytes k u.1.bytes c in
+    let row = unit-added p.file.order c p.strings u.1.row u.0 u.1.bytes u.1.place m can.0.encoding
+    can.0.name can.0.bytes can.0.encoded can.0.lie can.0.shares can.0.fits can.0.header in
+    let before = keep-rows p.file.order c d p.strings p.strings p.rows ms grows
+    (take-length p.strings) rows in
+    let here = rows-next p.file.order d p.strings p.rows ms _ m before row in
+    let names = names-added p u in
+    let is = is-new p u new.0 in
+    let a = units-added q us (ms ++ m ∷ []) added (subst (λ n. AllNew n us) (sym names) new.1)
+    (keep-can p.file.order c d p.strings us added grows can.1) here in
+    record {
+      strings = (λ i. (with_new_units (is i) us).strings) ∙ a.strings;
+      order = (λ i. (with_new_units (is i) us).file.order) ∙ a.order;
+      rows = subst (λ r. AreRowsOf p.file.order (with_new_units r us).file.contents p.strings
+          (with_new_units r us).rows (ms ++ m ∷ added)) (sym is)
+          (subst (λ l. AreRowsOf p.file.order (with_new_units q us).file.contents p.strings
+          (with_new_units q us).rows l) (append_assoc ms (m ∷ []) added) a.rows);
+      other = λ kind h. (λ i. content_of kind (with_new_units (is i) us).file.contents) ∙ a.other
+          kind h ∙ content-with_bytes kind k u.1.bytes c ∙ rw (h u.1.place) refl;
+      names = (λ i. names_of (with_new_units (is i) us)) ∙ a.names ∙ ap (λ n. n ++ keys us) names ∙
+          append_assoc (names_of p) (u.0 ∷ []) (keys us);
+    }
+
+-- sections that no unit's bytes go to
+pub str-other : (place : UnitSection) → same_kind (kind_at place) Str ≡ false
+str-other places.Info = refl
+str-other places.Types = refl
+
+pub cu-other : (place : UnitSection) → same_kind (kind_at place) CuIndex ≡ false
+cu-other places.Info = refl
+cu-other places.Types = refl
+
+pub tu-other : (place : UnitSection) → same_kind (kind_at place) TuIndex ≡ false
+tu-other places.Info = refl
+tu-other places.Types = refl

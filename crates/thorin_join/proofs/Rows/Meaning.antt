@@ -1,0 +1,139 @@
+-- What a row means, where each of its ranges was put behind the contents before.
+use Rattle.std.proofs.Common.{◌≡◌, ◌∙◌, ℕ, true, false, cond, List, length, take, Option, Some}
+use Rattle.std.proofs.Common.{None, refl, sym, ap, ⊎_elim, true≢false}
+use Rattle.std.proofs.Math.Seq.{take-length}
+use Rattle.std.proofs.lemmas.Option.{none-some}
+use Rattle.dwp_base.specs.declared.section.SectionKind.{SectionKind}
+use Rattle.dwp_base.specs.declared.section.SectionKind.TheVariants.{Info, Types, Abbrev, Line, Loc}
+use Rattle.dwp_base.specs.declared.section.SectionKind.TheVariants.{Loclists, Rnglists, StrOffsets}
+use Rattle.dwp_base.specs.declared.section.SectionKind.TheVariants.{Macinfo, Macro, Str, CuIndex}
+use Rattle.dwp_base.specs.declared.section.SectionKind.TheVariants.{TuIndex}
+use Rattle.dwp_elf.specs.Contents.{content_of}
+use Rattle.dwp_index.specs.Index.{Ranges}
+use Rattle.dwp_index.specs.Strings.{string_in}
+use Rattle.thorin_parts.specs.Entries.{contribution_to}
+use Rattle.thorin_parts.specs.ReadStrings.{ReadsAlike}
+use Rattle.thorin_parts.specs.declared.entry.IndexEntry.{IndexEntry}
+use Rattle.thorin_strings.specs.Strings.{IsTable, data_of}
+use Rattle.thorin_input.specs.Growing.{Contents, with_parts}
+use Rattle.thorin_input.specs.Indexes.{Source}
+use Rattle.thorin_join.specs.Meaning.{Meaning, pieces_by, piece, part_by, offsets_by, lie_inside}
+use Rattle.thorin_join.specs.Meaning.{meaning_with, meaning_by}
+use Rattle.thorin_input.specs.Parts.{is_copied}
+use Rattle.thorin_join.specs.Represents.{LieInside, Shares}
+use Rattle.thorin_join.specs.Strings.{strings_of}
+use Rattle.thorin_input.specs.Used.{first}
+use Rattle.thorin_join.proofs.Rows.OfUnits.{is_shared, shared-copied}
+use Rattle.thorin_join.proofs.Parts.Appended.{either}
+use Rattle.thorin_join.proofs.Rows.Ranges.{Lies}
+use Rattle.thorin_join.proofs.Parts.StringLists.{strings-there, strings-read}
+
+-- the unit of a row, by its input's ranges, with all that belongs to it
+pub record RowMeans (source : Source) (before parts : Contents) (after : List (List ℕ))
+    (bytes : List ℕ) (ranges : Option Ranges) (row : IndexEntry) : Type 0 where
+  pub unit : Meaning
+  pub meaning : meaning_by source bytes ranges ≡ Some unit
+  pub bytes_are : unit.bytes ≡ bytes
+  pub encoding : row.encoding ≡ unit.encoding
+  pub lie : LieInside (with_parts parts before) row
+  pub shares : Shares source.object.order (with_parts parts before) after row unit
+
+-- the ranges of the kinds that units share lie inside the contents, and these bytes stand there
+abbrev pub SharedLie : Contents → IndexEntry → (SectionKind → List ℕ) → Type 0
+SharedLie contents row part = (kind : SectionKind) → is_shared kind ≡ true
+    → Lies (content_of kind contents) (contribution_to kind row) (part kind)
+
+-- the kinds that units don't share have no range
+unshared : (row : IndexEntry) → row.debug_info ≡ None → row.debug_types ≡ None
+    → (kind : SectionKind) → is_shared kind ≡ false → contribution_to kind row ≡ None
+unshared row info types Info h = info
+unshared row info types Types h = types
+unshared row info types Abbrev h = absurd (true≢false h)
+unshared row info types Line h = absurd (true≢false h)
+unshared row info types Loc h = absurd (true≢false h)
+unshared row info types Loclists h = absurd (true≢false h)
+unshared row info types Rnglists h = absurd (true≢false h)
+unshared row info types StrOffsets h = absurd (true≢false h)
+unshared row info types Macinfo h = absurd (true≢false h)
+unshared row info types Macro h = absurd (true≢false h)
+unshared row info types Str h = refl
+unshared row info types CuIndex h = refl
+unshared row info types TuIndex h = refl
+
+lie-inside : (contents : Contents) (row : IndexEntry) (part : SectionKind → List ℕ)
+    → SharedLie contents row part → row.debug_info ≡ None → row.debug_types ≡ None
+    → LieInside contents row
+lie-inside contents row part lies info types = record {
+  inside = λ kind range h. ⊎_elim
+      (λ shared. (lies kind shared).inside range h)
+      (λ other. absurd (none-some range (sym (unshared row info types kind other) ∙ h)))
+      (either (is_shared kind));
+  some = λ kind range h. ⊎_elim
+      (λ shared. (lies kind shared).some range h)
+      (λ other. absurd (none-some range (sym (unshared row info types kind other) ∙ h)))
+      (either (is_shared kind));
+}
+
+piece-of : (bytes : SectionKind → List ℕ) (kind : SectionKind) → is_copied kind ≡ true
+    → bytes kind ≡ piece (pieces_by bytes) kind
+piece-of bytes Info h = absurd (true≢false (sym h))
+piece-of bytes Types h = absurd (true≢false (sym h))
+piece-of bytes Abbrev h = refl
+piece-of bytes Line h = refl
+piece-of bytes Loc h = refl
+piece-of bytes Loclists h = refl
+piece-of bytes Rnglists h = refl
+piece-of bytes StrOffsets h = absurd (true≢false (sym h))
+piece-of bytes Macinfo h = refl
+piece-of bytes Macro h = refl
+piece-of bytes Str h = absurd (true≢false (sym h))
+piece-of bytes CuIndex h = absurd (true≢false (sym h))
+piece-of bytes TuIndex h = absurd (true≢false (sym h))
+
+-- string offsets read as those of the unit's ranges, with the strings of any table that begins with
+-- these
+abbrev pub OffsetsRead : Source → Option Ranges → List (List ℕ) → List ℕ → Type 0
+OffsetsRead source ranges after new = (final : List (List ℕ)) → IsTable final → take (length after)
+    final ≡ after → (i : ℕ)
+    → ReadsAlike source.object.order source.encoding (first Str source.object.sections)
+    (offsets_by source ranges) (data_of final) new i
+
+-- such a row is that of the unit
+pub row-means : (source : Source) (before parts : Contents) (after : List (List ℕ)) (bytes : List ℕ)
+    (ranges : Option Ranges) (row : IndexEntry) (part : SectionKind → List ℕ)
+    → SharedLie (with_parts parts before) row part → ((kind : SectionKind) → is_copied kind ≡ true
+    → part kind ≡ part_by source ranges kind) → lie_inside source ranges ≡ true
+    → OffsetsRead source ranges after (part StrOffsets) → IsTable after
+    → row.encoding ≡ source.encoding → row.debug_info ≡ None → row.debug_types ≡ None
+    → RowMeans source before parts after bytes ranges row
+unfolding meaning_by
+row-means source before parts after bytes ranges row part lies copied inside reads table
+    encoding info types =
+    let order = source.object.order in
+    let old = first Str source.object.sections in
+    let offsets = offsets_by source ranges in
+    let strings = strings-there order source.encoding old offsets (λ i.
+    (reads after table (take-length after) i).readable) in
+    record {
+      unit = record {
+        bytes = bytes;
+        pieces = pieces_by (part_by source ranges);
+        strings =
+            strings.0;
+        encoding = source.encoding;
+      };
+      meaning = ap (λ b. cond b (meaning_with source bytes ranges (strings_of order source.encoding
+          old offsets)) None) inside ∙ ap (meaning_with source bytes ranges) strings.1;
+      bytes_are = refl;
+      encoding = encoding;
+      lie = lie-inside (with_parts parts before) row part lies info types;
+      shares = record {
+        content = λ kind copies. (lies kind (shared-copied kind copies)).part_is ∙ copied kind
+            copies ∙ piece-of (part_by source ranges) kind copies;
+        string = λ final final_table kept i.
+            ap (λ v. string_in order source.encoding (data_of final) v i)
+            (lies StrOffsets refl).part_is
+            ∙ (reads final final_table kept i).same
+            ∙ strings-read order source.encoding old offsets strings.0 strings.1 i;
+      };
+    }

@@ -1,0 +1,338 @@
+-- The ranges of an input's units lie behind those of the inputs before it.
+use Rattle.std.proofs.Common.{◌≡◌, ◌∙◌, ℕ, ◌+◌, ◌≤◌, Bool, true, false, cond, true≢false, is_none}
+use Rattle.std.proofs.Common.{◌&&◌, nat_eq, nat_le, List, [], ◌∷◌, ◌++◌, length, ap, sym, subst}
+use Rattle.std.proofs.Common.{refl, Result, Ok, Err, Option, Some, None, ◌⊎◌, inl, inr, ⊎_elim}
+use Rattle.std.proofs.Common.{arith}
+use Rattle.std.specs.List.{list_any}
+use Rattle.std.proofs.lemmas.List.{append_assoc, append-nil, length-append}
+use Rattle.std.proofs.lemmas.Option.{none-some, same_Some}
+use Rattle.dwp_base.specs.Reading.{◌>>=◌}
+use Rattle.dwp_base.specs.Sections.{name_of}
+use Rattle.dwp_base.specs.declared.section.SectionKind.{SectionKind}
+use Rattle.dwp_base.specs.declared.section.SectionKind.TheVariants.{Info, Types, Abbrev, Line, Loc}
+use Rattle.dwp_base.specs.declared.section.SectionKind.TheVariants.{Loclists, Rnglists, StrOffsets}
+use Rattle.dwp_base.specs.declared.section.SectionKind.TheVariants.{Macinfo, Macro, Str, CuIndex}
+use Rattle.dwp_base.specs.declared.section.SectionKind.TheVariants.{TuIndex}
+use Rattle.dwp_base.specs.declared.section.Contribution.{Contribution}
+use Rattle.dwp_base.specs.declared.endian.Endianness.{Endianness}
+use Rattle.dwp_elf.specs.Contents.{content_of}
+use Rattle.dwp_elf_read.specs.Elf.{Elf}
+use Rattle.dwp_dwarf.specs.declared.unit.UnitSection.{UnitSection}
+use Rattle.dwp_index.specs.Index.{range_in}
+use Rattle.dwp_table.specs.Objects.{identifier_of}
+use Rattle.dwp_table.specs.declared.object.DwarfObject.{DwarfObject}
+use Rattle.thorin_faults.specs.Fault.{Fault, BadContribution}
+use Rattle.thorin_parts.specs.Adjusting.{Adjustor, own_index, other_index, row_of, has_column_for}
+use Rattle.thorin_parts.specs.Adjusting.{moved, moved_range, without_column, part_by_row, adjusted}
+use Rattle.thorin_parts.specs.Entries.{contribution_to}
+use Rattle.thorin_parts.specs.declared.entry.IndexEntry.{IndexEntry}
+use Rattle.thorin_join.specs.Builder.{package_or_new, order_test, with_source_or_new, with_units}
+use Rattle.thorin_join.specs.Builder.{with_input}
+use Rattle.thorin_input.specs.Encodings.{encoding_of}
+use Rattle.thorin_input.specs.Growing.{Contents, HasFront, range_put, joined_parts, with_parts}
+use Rattle.thorin_input.specs.Indexes.{Indexes, Source, indexes_of}
+use Rattle.thorin_join.specs.Meaning.{Members, UnitRead}
+use Rattle.thorin_input.specs.Names.{same_name}
+use Rattle.thorin_input.specs.NewUnits.{NewUnit, new_units}
+use Rattle.thorin_input.specs.Parts.{parts_of}
+use Rattle.thorin_join.specs.Represents.{LieInside, AreRowsOf, IsSound, IsSoundBegun}
+use Rattle.thorin_input.specs.Rows.{adjusted_part, whole_row, unit_row}
+use Rattle.thorin_join.specs.StandApart.{rows_begun, contents_begun, LieBehind, EachRow, StandApart}
+use Rattle.thorin_join.specs.State.{InProgress, names_of, kind_at, row_at, adding}
+use Rattle.thorin_join.specs.State.{abbreviations_test, with_unit_added, with_new_unit}
+use Rattle.thorin_join.specs.State.{with_new_units, with_all, with_source}
+use Rattle.thorin_input.specs.Used.{opened, has_info, input_file_of}
+use Rattle.thorin_join.proofs.Units.JoinedByName.{AreAdded, units-joined}
+use Rattle.thorin_join.proofs.Rows.Stay.{Grows, grows-trans, grows-with_bytes}
+use Rattle.thorin_join.proofs.Rows.OfUnits.{is_shared, is-unit_row, whole-part, whole-else}
+use Rattle.thorin_join.proofs.Parts.Appended.{either}
+use Rattle.thorin_join.proofs.Joined.Source.{grows-with_parts}
+use Rattle.thorin_join.proofs.Steps.{ok-eq, bind-inv}
+use Rattle.thorin_join.proofs.Rows.OneAdded.{range_for, row-part}
+
+-- ---- a range that begins at a place or behind
+abbrev Behind : ℕ → Option Contribution → Type 0
+Behind n part = (r : Contribution) → part ≡ Some r → n ≤ r.offset.0
+
+moved-behind : (kind : SectionKind) (id n : ℕ) (range : Contribution)
+    (whole part : Option Contribution) → Behind n whole → moved kind id range whole ≡ Ok
+    part → Behind n part
+unfolding moved
+moved-behind kind id n range None part h is = absurd cc
+moved-behind kind id n range (Some w) part h is =
+    by (nat_le (range.offset.0 + range.size) w.size) is
+  where
+    by : (b : Bool) → cond {A = Result (Option Contribution) Fault} b
+        (Ok (Some (record {
+          offset = record { 0 = w.offset.0 + range.offset.0 };
+          size =
+              range.size;
+        }))) (Err (BadContribution (name_of kind) id)) ≡ Ok part → Behind n part
+    by true e r k =
+        let start : w.offset.0 + range.offset.0 ≡ r.offset.0 = ap (λ (c : Contribution). c.offset.0)
+        (same_Some _ _ (ok-eq {E = Fault} _ _ e ∙ k)) in
+        let low = h w refl in
+        omega (arith, start, low)
+    by false e r k = absurd cc
+
+column-behind : (kind : SectionKind) (id n : ℕ) (range whole part : Option Contribution)
+    (own other : Bool) → Behind n whole
+    → cond own (moved_range kind id range whole) (cond other (Ok None) (without_column whole)) ≡ Ok
+    part → Behind n part
+column-behind kind id n None whole part true other h is r k =
+    absurd (none-some r (ok-eq {E = Fault} None part is ∙ k))
+column-behind kind id n (Some range) whole part true other h is r k = moved-behind kind id n range
+    whole part h is r k
+column-behind kind id n range whole part false true h is r k =
+    absurd (none-some r (ok-eq {E = Fault} None part is ∙ k))
+column-behind kind id n range None part false false h is r k =
+    absurd (none-some r (ok-eq {E = Fault} None part is ∙ k))
+column-behind kind id n range (Some w) part false false h is r k = absurd cc
+
+abbrev adjustor : Indexes → SectionKind → Adjustor
+adjustor indexes kind = record {
+  compilation = indexes.compilations;
+  types = indexes.types;
+  section = kind;
+}
+
+adjusted-behind : (indexes : Indexes) (name : DwarfObject) (kind : SectionKind) (n : ℕ)
+    (whole part : Option Contribution) → Behind n whole
+    → adjusted_part indexes name kind whole ≡ Ok part → Behind n part
+unfolding adjusted
+adjusted-behind indexes name kind n whole part h is = by (is_none indexes.compilations && is_none
+    indexes.types) is
+  where
+    by : (b : Bool) → cond b (Ok whole) (row_of (own_index (adjustor indexes kind) name)
+        (identifier_of name) >>= part_by_row (adjustor indexes kind) name whole) ≡ Ok
+        part → Behind n part
+    by true e = subst (Behind n) (ok-eq {E = Fault} whole part e) h
+    by false e =
+        let row = bind-inv (row_of (own_index (adjustor indexes kind) name) (identifier_of name))
+        (part_by_row (adjustor indexes kind) name whole) part e in
+        column-behind kind (identifier_of name) n (range_in row.0 kind) whole part
+        (has_column_for kind (own_index (adjustor indexes kind) name))
+        (has_column_for kind (other_index (adjustor indexes kind) name)) h row.2
+
+put-behind : (kind : SectionKind) (x : List ℕ) (c : Contents) → Behind (length (content_of kind c))
+    (range_put kind x c)
+put-behind kind x c = by (nat_eq (length x) 0)
+  where
+    by : (b : Bool) → Behind (length (content_of kind c)) (cond b None (Some (range_for kind x c)))
+    by true r k = absurd (none-some r k)
+    by false r k =
+        let start : length (content_of kind c) ≡ r.offset.0 = ap (λ (s : Contribution). s.offset.0)
+        (same_Some _ _ k) in
+        omega (arith, start)
+
+-- ---- the rows of an input's units
+abbrev no_part : SectionKind → IndexEntry → Type 0
+no_part kind row = contribution_to kind row ≡ None
+
+without-part : (row : IndexEntry) → row.debug_info ≡ None → row.debug_types ≡ None
+    → (kind : SectionKind) → is_shared kind ≡ false → no_part kind row
+without-part row info types Info h = info
+without-part row info types Types h = types
+without-part row info types Abbrev h = absurd (true≢false h)
+without-part row info types Line h = absurd (true≢false h)
+without-part row info types Loc h = absurd (true≢false h)
+without-part row info types Loclists h = absurd (true≢false h)
+without-part row info types Rnglists h = absurd (true≢false h)
+without-part row info types StrOffsets h = absurd (true≢false h)
+without-part row info types Macinfo h = absurd (true≢false h)
+without-part row info types Macro h = absurd (true≢false h)
+without-part row info types Str h = refl
+without-part row info types CuIndex h = refl
+without-part row info types TuIndex h = refl
+
+row-behind : (source : Source) (before parts : Contents) (name : DwarfObject) (row : IndexEntry)
+    → unit_row source.indexes (whole_row source.encoding before parts) name ≡ Ok row
+    → LieBehind before row
+row-behind source before parts name row h kind range is =
+    let whole = whole_row source.encoding before parts in
+    let made = is-unit_row source.indexes whole name row h in
+    let else = whole-else source.encoding before parts in
+    ⊎_elim
+    (λ shared. adjusted-behind source.indexes name kind (length (content_of kind before))
+    (contribution_to kind whole) (contribution_to kind row)
+    (subst (Behind (length (content_of kind before)))
+    (sym (whole-part source.encoding before parts kind shared))
+    (put-behind kind (joined_parts kind parts) before))
+    (made.parts kind shared) range is)
+    (λ other. absurd (none-some range
+    (sym (without-part row (made.info ∙ else.1) (made.types ∙ else.2) kind other) ∙ is)))
+    (either (is_shared kind))
+
+-- with its own bytes behind contents that grew
+front-long : (a b : List ℕ) → HasFront a b → length a ≤ length b
+front-long a b h =
+    let long : length b ≡ length a + length h.rest = ap length h.is ∙ length-append a h.rest in
+    omega (arith, long)
+
+own-behind : (base c : Contents) (row : IndexEntry) (name : DwarfObject) (x : List ℕ)
+    (place : UnitSection) → Grows base c → LieBehind base row
+    → LieBehind base (row_at row c name x place)
+own-behind base c row name x place grows h kind range is = by (row-part row c name x place kind)
+  where
+    by : (contribution_to kind (row_at row c name x place) ≡ contribution_to kind row)
+        ⊎ ((kind ≡ kind_at place) × (contribution_to kind (row_at row c name x place) ≡ range_put
+        (kind_at place) x c)) → length (content_of kind base) ≤ range.offset.0
+    by (inl e) = h kind range (sym e ∙ is)
+    by (inr e) =
+        let low = front-long (content_of kind base) (content_of kind c) (grows kind) in
+        let at : length (content_of kind c) ≤ range.offset.0 =
+        subst (λ k. length (content_of k c) ≤ range.offset.0) (sym e.0)
+        (put-behind (kind_at place) x c range (sym e.1 ∙ is)) in
+        omega (arith, low, at)
+
+-- ---- units that are added
+abbrev EachNew : Contents → List (DwarfObject × NewUnit) → Type 0
+EachNew base [] = Unit {0}
+EachNew base (u ∷ us) = LieBehind base u.1.row × EachNew base us
+
+added-behind : (source : Source) (before : InProgress) (parts : Contents)
+    (ns : List (DwarfObject × NewUnit)) (rs : List (DwarfObject × UnitRead))
+    → AreAdded (adding source before parts) ns rs → EachNew before.file.contents ns
+added-behind source before parts [] rs are = tt
+added-behind source before parts (n ∷ ns) [] are = absurd are
+added-behind source before parts (n ∷ ns) (r ∷ rs) are = (
+  row-behind source before.file.contents parts r.0 n.1.row are.0.row,
+  added-behind source before
+      parts ns rs are.1,
+)
+
+record Appended (base : Contents) (rows now : List IndexEntry) : Type 0 where
+  added : List IndexEntry
+  is : now ≡ rows ++ added
+  behind : EachRow (LieBehind base) added
+
+one-more : (base : Contents) (p : InProgress) (u : DwarfObject × NewUnit)
+    (us : List (DwarfObject × NewUnit)) (there : Bool) → Grows base p.file.contents
+    → LieBehind base u.1.row
+    → Appended base p.rows (with_new_units p us).rows → Appended base (with_unit_added p u).rows
+    (with_new_units (with_unit_added p u) us).rows
+    → Appended base p.rows (with_new_units (cond there p (with_unit_added p u)) us).rows
+one-more base p u us true grows h same more = same
+one-more base p u us false grows h same more =
+    let c = p.file.contents in
+    let row = row_at u.1.row c u.0 u.1.bytes u.1.place in
+    record {
+      added = row ∷ more.added;
+      is = more.is ∙ append_assoc p.rows (row ∷ []) more.added;
+      behind = (own-behind base c u.1.row u.0 u.1.bytes u.1.place grows h, more.behind);
+    }
+
+units-behind : (base : Contents) (p : InProgress) (us : List (DwarfObject × NewUnit))
+    → Grows base p.file.contents → EachNew base us → Appended base p.rows (with_new_units p us).rows
+unfolding with_new_units with_new_unit
+units-behind base p [] grows all = record { added = []; is = sym (append-nil p.rows); behind = tt }
+units-behind base p (u ∷ us) grows all =
+    one-more base p u us (list_any (same_name u.0) (names_of p)) grows all.0
+    (units-behind base p us grows all.1)
+    (units-behind base (with_unit_added p u) us (grows-trans base p.file.contents
+    (with_unit_added p u).file.contents grows (grows-with_bytes (kind_at u.1.place) u.1.bytes
+    p.file.contents)) all.1)
+
+-- ---- an input
+source-behind : (source : Source) (before now : InProgress) → with_source source before ≡ Ok now
+    → Appended before.file.contents before.rows now.rows
+unfolding with_source with_all
+source-behind source before now h =
+    let s1 = bind-inv (parts_of source before.strings) _ now h in
+    let s2 = bind-inv (abbreviations_test source.object) _ now s1.2 in
+    let s3 = bind-inv (new_units (adding source before s1.0.0)) _ now s2.2 in
+    let new = s3.0 in
+    let j = units-joined (adding source before s1.0.0) new s3.1 in
+    let c = before.file.contents in
+    let q : InProgress = record before {
+      file = record before.file { contents = with_parts s1.0.0 c };
+      strings = s1.0.1;
+      differing = before.differing ++ new.differing;
+    } in
+    let a = units-behind c q new.units (grows-with_parts s1.0.0 c) (added-behind source before
+    s1.0.0 new.units _ j.are) in
+    subst (λ (n : InProgress). Appended c before.rows n.rows) (ok-eq {E = Fault} _ now s3.2) a
+
+each-inside : (order : Endianness) (c : Contents) (strings : List (List ℕ)) (rows : List IndexEntry)
+    (ms : Members) → AreRowsOf order c strings rows ms → EachRow (LieInside c) rows
+each-inside order c strings [] ms are = tt
+each-inside order c strings (r ∷ rs) [] are = absurd are
+each-inside order c strings (r ∷ rs) (m ∷ ms) are =
+    (are.0.lie, each-inside order c strings rs ms are.1)
+
+pub sound-inside : (made : InProgress) → IsSound made
+    → EachRow (LieInside made.file.contents) made.rows
+sound-inside made sound = each-inside made.file.order made.file.contents made.strings made.rows _
+    sound.units.rows
+
+first-inside : (begun : Option InProgress) → IsSoundBegun begun
+    → EachRow (LieInside (contents_begun begun)) (rows_begun begun)
+first-inside None sound = tt
+first-inside (Some made) sound = sound-inside made sound
+
+-- a package that an input begins has nothing
+new-rows : (file : Elf) (begun : Option InProgress) → (package_or_new file begun).rows ≡
+    rows_begun begun
+new-rows file None = refl
+new-rows file (Some made) = refl
+
+new-contents : (file : Elf) (begun : Option InProgress) → (package_or_new file begun).file.contents
+    ≡ contents_begun begun
+new-contents file None = refl
+new-contents file (Some made) = refl
+
+abbrev AppendedBegun : Option InProgress → Option InProgress → Type 0
+AppendedBegun begun now = (made : InProgress) → now ≡ Some made → Appended (contents_begun begun)
+    (rows_begun begun) made.rows
+
+is-made : (begun : Option InProgress) (file : Elf) (made next : InProgress)
+    → Appended (package_or_new file begun).file.contents (package_or_new file begun).rows
+    next.rows → next ≡ made
+    → Appended (contents_begun begun) (rows_begun begun) made.rows
+is-made begun file made next a h =
+    subst (λ c. Appended c (rows_begun begun) made.rows) (new-contents file begun)
+    (subst (λ r. Appended (package_or_new file begun).file.contents r made.rows)
+    (new-rows file begun)
+    (subst (λ (n : InProgress). Appended (package_or_new file begun).file.contents
+    (package_or_new file begun).rows n.rows) h a))
+
+units-appended : (file : Elf) (begun now : Option InProgress) → with_units file begun ≡ Ok now
+    → AppendedBegun begun now
+unfolding with_units with_source_or_new
+units-appended file begun now h made is =
+    let s1 = bind-inv (input_file_of file) _ now h in
+    let s2 = bind-inv (encoding_of s1.0) _ now s1.2 in
+    let s3 = bind-inv (order_test s1.0.order begun) _ now s2.2 in
+    let s4 = bind-inv (indexes_of s1.0 s2.0) _ now s3.2 in
+    let source : Source = record { object = s1.0; encoding = s2.0; indexes = s4.0 } in
+    let s5 = bind-inv (with_source source (package_or_new file begun)) _ now s4.2 in
+    is-made begun file made s5.0 (source-behind source (package_or_new file begun) s5.0 s5.1)
+    (same_Some _ _ (ok-eq {E = Fault} _ now s5.2 ∙ is))
+
+info-appended : (file : Elf) (begun now : Option InProgress) (b : Bool)
+    → cond b (with_units file begun) (Ok (Some (package_or_new file begun))) ≡ Ok now
+    → AppendedBegun begun now
+info-appended file begun now true h made is = units-appended file begun now h made is
+info-appended file begun now false h made is =
+    is-made begun file made (package_or_new file begun) (record {
+      added = [];
+      is =
+          sym (append-nil (package_or_new file begun).rows);
+      behind = tt;
+    })
+    (same_Some _ _ (ok-eq {E = Fault} _ now h ∙ is))
+
+pub stand-apart : (bytes : List ℕ) (begun : Option InProgress) (now : InProgress)
+    → IsSoundBegun begun → IsSound now → with_input bytes begun ≡ Ok (Some now)
+    → StandApart begun now
+unfolding with_input
+stand-apart bytes begun now sound fine h =
+    let s = bind-inv (opened bytes) _ (Some now) h in
+    let a = info-appended s.0 begun (Some now) (has_info s.0) s.2 now refl in
+    record {
+      added = a.added;
+      rows = a.is;
+      first = first-inside begun sound;
+      behind = a.behind;
+      inside = sound-inside now fine;
+    }

@@ -1,0 +1,86 @@
+-- The units that a package represents are those that stand in the ranges of its rows.
+use Rattle.std.proofs.Common.{◌≡◌, ◌∙◌, ℕ, List, [], ◌∷◌, map, ap, sym, refl}
+use Rattle.std.specs.Prelude.{Ok}
+use Rattle.std.specs.Result.{result_unwrap_or}
+use Rattle.std.proofs.Math.Seq.{take-length}
+use Rattle.dwp_base.specs.declared.section.SectionKind.TheVariants.{Abbrev, Line, Loc, Loclists}
+use Rattle.dwp_base.specs.declared.section.SectionKind.TheVariants.{Rnglists, StrOffsets, Macinfo}
+use Rattle.dwp_base.specs.declared.section.SectionKind.TheVariants.{Macro}
+use Rattle.dwp_base.specs.declared.endian.Endianness.{Endianness}
+use Rattle.dwp_elf.specs.Contents.{content_of}
+use Rattle.dwp_index.specs.Package.{part_of, place_of}
+use Rattle.dwp_table.specs.declared.object.DwarfObject.{DwarfObject}
+use Rattle.thorin_strings.specs.Strings.{IsTable, data_of}
+use Rattle.thorin_parts.specs.Entries.{contribution_to}
+use Rattle.thorin_parts.specs.declared.entry.IndexEntry.{IndexEntry}
+use Rattle.thorin_input.specs.Growing.{Contents}
+use Rattle.thorin_join.specs.Meaning.{Meaning, Members, pieces_by, keys}
+use Rattle.thorin_join.specs.Represents.{IsRowOf, AreRowsOf, Represents, meaning_at, units_of}
+use Rattle.thorin_join.specs.State.{InProgress, kind_at, names_of, unit_bytes}
+use Rattle.thorin_join.specs.Strings.{strings_of}
+use Rattle.thorin_join.proofs.Parts.StringLists.{strings-are}
+
+module _ (order : Endianness) (contents : Contents) (strings : List (List ℕ))
+    (table : IsTable strings) where
+  module _ (row : IndexEntry) (member : DwarfObject × Meaning) (is : IsRowOf order contents strings
+      row member) where
+    bytes-are : member.1.bytes ≡ unit_bytes contents row
+    bytes-are =
+        sym is.owns.bytes
+        ∙ ap (λ place. part_of (content_of (kind_at place) contents)
+        (contribution_to (kind_at place) row)) (is.owns.place_is ∙ ap (λ name.
+        place_of name row.debug_types) (sym is.name))
+
+    pieces-are : member.1.pieces ≡ pieces_by (λ kind. part_of (content_of kind contents)
+        (contribution_to kind row))
+    pieces-are = λ i. record {
+      abbreviations = sym (is.shares.content Abbrev refl) i;
+      line = sym (is.shares.content Line refl) i;
+      loc = sym (is.shares.content Loc refl) i;
+      loclists = sym (is.shares.content Loclists refl) i;
+      rnglists = sym (is.shares.content Rnglists refl) i;
+      macinfo = sym (is.shares.content Macinfo refl) i;
+      macros = sym (is.shares.content Macro refl) i;
+    }
+
+    strings-found : strings_of order row.encoding (data_of strings)
+        (part_of (content_of StrOffsets contents) (contribution_to StrOffsets row)) ≡ Ok
+        member.1.strings
+    strings-found =
+        ap (λ encoding. strings_of order encoding (data_of strings)
+        (part_of (content_of StrOffsets contents) (contribution_to StrOffsets row))) is.encoding
+        ∙ strings-are order member.1.encoding (data_of strings)
+        (part_of (content_of StrOffsets contents) (contribution_to StrOffsets row))
+        member.1.strings
+        (is.shares.string strings table (take-length strings))
+
+    meaning-is : member.1 ≡ meaning_at order contents strings row
+    meaning-is = λ i. record {
+      bytes = bytes-are i;
+      pieces = pieces-are i;
+      strings = sym (ap (λ found. result_unwrap_or found []) strings-found) i;
+      encoding = sym is.encoding i;
+    }
+
+  rows-are : (rows : List IndexEntry) (ms : Members) → AreRowsOf order contents strings rows ms
+      → ms ≡ map {B = DwarfObject × Meaning} (λ row.
+      (row.id, meaning_at order contents strings row)) rows
+  rows-are [] [] are = refl
+  rows-are [] (m ∷ ms) are = absurd are
+  rows-are (r ∷ rs) [] are = absurd are
+  rows-are (r ∷ rs) (m ∷ ms) are = λ i. (sym are.0.name i, meaning-is r m are.0 i) ∷
+      rows-are rs ms are.1 i
+
+pub units-are : (made : InProgress) (ms : Members) → Represents made ms → ms ≡ units_of made
+units-are made ms has = rows-are made.file.order made.file.contents made.strings has.table
+    made.rows ms has.rows
+
+rows-keys : (order : Endianness) (contents : Contents) (strings : List (List ℕ))
+    (rows : List IndexEntry)
+    → keys (map {B = DwarfObject × Meaning} (λ row. (row.id, meaning_at order contents strings row))
+    rows) ≡ map (λ row. row.id) rows
+rows-keys order contents strings [] = refl
+rows-keys order contents strings (r ∷ rs) = ap (λ l. r.id ∷ l) (rows-keys order contents strings rs)
+
+pub keys-units : (made : InProgress) → keys (units_of made) ≡ names_of made
+keys-units made = rows-keys made.file.order made.file.contents made.strings made.rows

@@ -1,0 +1,299 @@
+-- The units of an input are whole units of their names, wherever their bytes come to stand.
+use Rattle.std.proofs.Common.{◌≡◌, ◌∙◌, inl, inr, ℕ, zero, suc, ◌+◌, Bool, true, false, cond}
+use Rattle.std.proofs.Common.{nat_eq, List, [], ◌∷◌, ◌++◌, length, take, drop, ap, sym, refl, subst}
+use Rattle.std.proofs.Common.{Result, Ok, Err, Option, Some, None, arith}
+use Rattle.std.specs.Prelude.{slice_get}
+use Rattle.std.specs.List.{list_any}
+use Rattle.std.proofs.lemmas.List.{take-append-drop}
+use Rattle.std.proofs.lemmas.Option.{none-some}
+use Rattle.dwp_base.specs.declared.endian.Endianness.{Endianness}
+use Rattle.dwp_base.specs.declared.section.SectionKind.{SectionKind}
+use Rattle.dwp_base.specs.declared.section.SectionKind.TheVariants as kinds
+use Rattle.dwp_bytes.specs.Input.{Input, section}
+use Rattle.dwp_bytes.specs.declared.encoding.Encoding.{Encoding}
+use Rattle.dwp_bytes.specs.declared.fault.ReadError.{ReadError}
+use Rattle.dwp_dwarf.specs.Units.{Unit as Header, UnitsAreTaken, unit_at, listed, units_within}
+use Rattle.dwp_dwarf.specs.Units.{units, unit_bytes}
+use Rattle.dwp_dwarf.specs.declared.unit.UnitSection.{UnitSection}
+use Rattle.dwp_dwarf.specs.declared.unit.UnitSection.TheVariants as places
+use Rattle.dwp_index.specs.Package.{encoding_in}
+use Rattle.dwp_table.specs.declared.object.DwarfObject.{DwarfObject}
+use Rattle.dwp_table.specs.declared.object.DwarfObject.TheVariants.{Compilation, TypeUnit}
+use Rattle.thorin_faults.specs.Fault.{Fault, ParseUnitHeader}
+use Rattle.thorin_faults.specs.Answers.{as_fault}
+use Rattle.thorin_input.specs.Indexes.{Source}
+use Rattle.thorin_join.specs.Laid.{type_signature, name_signature, IsWhole}
+use Rattle.thorin_join.specs.Meaning.{UnitRead, named_unit, named_each, named_at, named_sections}
+use Rattle.thorin_join.specs.Meaning.{source_units, joining}
+use Rattle.thorin_input.specs.Names.{same_name}
+use Rattle.thorin_input.specs.NewUnits.{name_for, place_for, unit_section}
+use Rattle.thorin_join.specs.State.{kind_at}
+use Rattle.thorin_input.specs.Used.{Used}
+use Rattle.thorin_join.proofs.Units.HeadersRead.{ReadAlone, FiveOrType, types_or_five}
+use Rattle.thorin_join.proofs.Units.HeadersRead.{name-identity}
+use Rattle.thorin_join.proofs.Units.Sorts.{identity-sort}
+use Rattle.thorin_join.proofs.Moved.RootEntries.{IsShifted}
+use Rattle.thorin_join.proofs.Steps.{ok-eq, bind-inv}
+use Rattle.thorin_join.proofs.Moved.Readings.{plain}
+use Rattle.thorin_join.proofs.Moved.Units.{unit-moves, unit-anywhere}
+
+-- a unit as it is read of its own bytes alone
+pub record ReadsAlone (order : Endianness) (place : UnitSection) (unit : Header) : Type 0 where
+  pub alone : Header
+  pub rest : Input
+  pub read : unit_at place (section order unit.whole.bytes) ≡ Ok (alone, rest)
+  pub whole : alone.whole.bytes ≡ unit.whole.bytes
+  pub type : alone.unit_type ≡ unit.unit_type
+  pub encoding : alone.encoding ≡ unit.encoding
+  pub behind : ℕ
+  pub shifted : IsShifted behind alone unit
+
+-- where a unit was read
+record ReadAt (order : Endianness) (place : UnitSection) (unit : Header) : Type 0 where
+  d : ℕ
+  left : List ℕ
+  rest : Input
+  read : unit_at place (plain order d left) ≡ Ok (unit, rest)
+
+within-at : UnitsAreTaken → (n : ℕ) (order : Endianness) (place : UnitSection) (d : ℕ)
+    (left : List ℕ) (k : ℕ) (u : Header)
+    → slice_get (units_within n place (plain order d left)) k ≡ Some (Ok u) → ReadAt order place u
+unfolding units_within
+within-at taken zero order place d left k u h = absurd cc
+within-at taken (suc n) order place d left k u h =
+    by (nat_eq (length left) 0) (unit_at place (plain order d left)) k refl h (λ e m j g.
+    within-at taken n order place e m j u g)
+  where
+    by : (e : Bool) (r : Result (Header × Input) ReadError) (k : ℕ)
+        → unit_at place (plain order d left) ≡ r
+        → slice_get (cond e [] (listed r (units_within n place))) k ≡ Some (Ok u)
+        → ((e : ℕ) (m : List ℕ) (j : ℕ) → slice_get (units_within n place (plain order e m)) j ≡
+        Some (Ok u) → ReadAt order place u) → ReadAt order place u
+    by true r k e h' go = absurd cc
+    by false (Ok x) zero e h' go =
+        let same : x.0 ≡ u = cc in
+        record { d = d; left = left; rest = x.1; read = e ∙ ap (λ (v : Header). Ok (v, x.1)) same }
+    by false (Ok x) (suc k) e h' go =
+        let t = taken place (plain order d left) x.1 x.0 e in
+        go (d + t.0.taken) (drop t.0.taken left) k (ap (λ i. slice_get (units_within n place i) k)
+        (sym t.0.is) ∙ h')
+    by false (Err f) zero e h' go = absurd cc
+    by false (Err f) (suc k) e h' go = absurd cc
+
+alone-of : UnitsAreTaken → (order : Endianness) (place : UnitSection) (unit : Header)
+    → ReadAt order place unit → encoding_in order place (unit_bytes unit) ≡ Ok unit.encoding
+    → ReadsAlone order place unit
+unfolding encoding_in
+alone-of taken order place unit at enc =
+    let t = taken place (plain order at.d at.left) at.rest unit at.read in
+    let own = unit.whole.bytes in
+    let more = drop t.0.taken at.left in
+    let own_is : own ≡ take t.0.taken at.left = ap (λ (i : Input). i.bytes) t.1 in
+    let whole_is : own ++ more ≡ at.left = ap (λ l. l ++ more) own_is ∙ take-append-drop
+    t.0.taken at.left in
+    let s = bind-inv (unit_at place (section order own)) _ unit.encoding enc in
+    let moved = unit-moves taken order place own more at.d s.0.0 s.0.1 s.1 in
+    let same : moved.unit ≡ unit = ap (λ (x : Header × Input). x.0)
+    (ok-eq _ _ (sym moved.read ∙ ap (λ l. unit_at place (plain order at.d l))
+    whole_is ∙ at.read)) in
+    record {
+      alone = s.0.0;
+      rest = s.0.1;
+      read = s.1;
+      whole = sym (ap (λ (i : Input). i.bytes) moved.whole) ∙ ap (λ (v : Header).
+          v.whole.bytes) same;
+      type = moved.type ∙ ap (λ (v : Header). v.unit_type) same;
+      encoding = ok-eq _ _ s.2;
+      behind = at.d;
+      shifted = subst (IsShifted at.d s.0.0) same (record {
+        type = sym moved.type;
+        encoding =
+            sym moved.encoding;
+        offset = moved.offset;
+        entries = moved.entries;
+      });
+    }
+
+-- what is known of a unit that was read in a section of that place
+abbrev pub IsKnown : Endianness → UnitSection → Header → Type 0
+IsKnown order place unit = ReadsAlone order place unit × (place ≡ places.Types → FiveOrType unit)
+
+abbrev pub Listed : Type 0
+Listed = List (Result Header ReadError)
+
+abbrev pub AreKnown : Endianness → UnitSection → Listed → Type 0
+AreKnown order place reads = (k : ℕ) (unit : Header) → slice_get reads k ≡ Some (Ok unit)
+    → IsKnown order place unit
+
+pub known-in : UnitsAreTaken → ReadAlone → (order : Endianness) (place : UnitSection)
+    (bytes : List ℕ) → AreKnown order place (units place (section order bytes))
+unfolding units
+known-in taken alone order places.Info bytes k unit h = (
+  alone-of taken order places.Info unit (within-at taken (length bytes) order places.Info 0 bytes
+      k unit h) (alone order places.Info bytes k unit h),
+  λ is. absurd cc,
+)
+known-in taken alone order places.Types bytes k unit h = (
+  alone-of taken order places.Types unit (within-at taken (length bytes) order places.Types 0
+      bytes k unit h) (alone order places.Types bytes k unit h),
+  λ is.
+      types_or_five order bytes k unit h,
+)
+
+-- the place of a kind of section
+pub kind-place : (kind : SectionKind) (place : UnitSection) → unit_section kind ≡ Some place
+    → kind ≡ kind_at place
+kind-place kinds.Info places.Info h = refl
+kind-place kinds.Types places.Types h = refl
+kind-place kinds.Info places.Types h = absurd cc
+kind-place kinds.Types places.Info h = absurd cc
+kind-place kinds.Abbrev place h = absurd cc
+kind-place kinds.Line place h = absurd cc
+kind-place kinds.Loc place h = absurd cc
+kind-place kinds.Loclists place h = absurd cc
+kind-place kinds.Rnglists place h = absurd cc
+kind-place kinds.StrOffsets place h = absurd cc
+kind-place kinds.Macinfo place h = absurd cc
+kind-place kinds.Macro place h = absurd cc
+kind-place kinds.Str place h = absurd cc
+kind-place kinds.CuIndex place h = absurd cc
+kind-place kinds.TuIndex place h = absurd cc
+
+whole-by : UnitsAreTaken → (order : Endianness) (place : UnitSection) (name : DwarfObject)
+    (unit : Header) → ReadsAlone order place unit → type_signature unit.unit_type ≡
+    name_signature name
+    → IsWhole order place name unit.whole.bytes
+whole-by taken order place name unit a sort =
+    let t = taken place (section order unit.whole.bytes) a.rest a.alone a.read in
+    record {
+      unit = a.alone;
+      rest = a.rest;
+      read = a.read;
+      whole = a.whole;
+      some = let least = t.0.some in let most = t.0.enough in omega arith;
+      sort = ap type_signature a.type ∙ sort;
+    }
+
+-- in the other section
+pub other-alone : (order : Endianness) (place other : UnitSection) (unit : Header)
+    → unit.encoding.version ≡ 5 → ReadsAlone order place unit → ReadsAlone order other unit
+other-alone order place other unit five a = record {
+  alone = a.alone;
+  rest = a.rest;
+  read = unit-anywhere place other (section order unit.whole.bytes) a.alone a.rest
+      (ap (λ (e : Encoding). e.version) a.encoding ∙ five) a.read;
+  whole = a.whole;
+  type = a.type;
+  encoding = a.encoding;
+  behind = a.behind;
+  shifted = a.shifted;
+}
+
+-- a unit is a whole one of its name where it goes to
+abbrev pub Goes : Endianness → DwarfObject × UnitRead → Type 0
+Goes order read = IsWhole order (place_for read.0 read.1.from) read.0 read.1.unit.whole.bytes
+
+pub five-named : (unit : Header) (sort : type_signature unit.unit_type ≡ None) → FiveOrType unit
+    → unit.encoding.version ≡ 5
+five-named unit sort (inl five) = five
+five-named unit sort (inr t) = absurd (none-some t.0 (sym sort ∙ ap type_signature t.2))
+
+unit-goes : UnitsAreTaken → (order : Endianness) (place : UnitSection) (name : DwarfObject)
+    (unit : Header) → IsKnown order place unit → type_signature unit.unit_type ≡ name_signature name
+    → Goes order (name, record { from = kind_at place; unit = unit })
+unit-goes taken order places.Info (Compilation id) unit known sort = whole-by taken order
+    places.Info (Compilation id) unit known.0 sort
+unit-goes taken order places.Info (TypeUnit signature) unit known sort = whole-by taken order
+    places.Info (TypeUnit signature) unit known.0 sort
+unit-goes taken order places.Types (Compilation id) unit known sort =
+    whole-by taken order places.Info (Compilation id) unit (other-alone order places.Types
+    places.Info unit (five-named unit sort (known.1 refl)) known.0) sort
+unit-goes taken order places.Types (TypeUnit signature) unit known sort = whole-by taken order
+    places.Types (TypeUnit signature) unit known.0 sort
+
+abbrev pub AllGo : Endianness → List (DwarfObject × UnitRead) → Type 0
+AllGo order [] = Unit {0}
+AllGo order (u ∷ us) = Goes order u × AllGo order us
+
+go-cond : (order : Endianness) (u : DwarfObject × UnitRead) (kept more : List (DwarfObject
+    × UnitRead)) (b : Bool) → Goes order u → AllGo order kept → AllGo order more
+    → AllGo order (cond b kept (u ∷ more))
+go-cond order u kept more true h k m = k
+go-cond order u kept more false h k m = (h, m)
+
+-- those that are joined too
+pub go-joining : (order : Endianness) (names : List DwarfObject)
+    (us : List (DwarfObject × UnitRead)) → AllGo order us → AllGo order (joining names us)
+go-joining order names [] h = tt
+go-joining order names (u ∷ us) h =
+    go-cond order u (joining names us) (joining (names ++ u.0 ∷ []) us) (list_any (same_name u.0)
+    names) h.0 (go-joining order names us h.1) (go-joining order (names ++ u.0 ∷ []) us h.1)
+
+go-append : (order : Endianness) (us vs : List (DwarfObject × UnitRead)) → AllGo order us
+    → AllGo order vs → AllGo order (us ++ vs)
+go-append order [] vs h k = k
+go-append order (u ∷ us) vs h k = (h.0, go-append order us vs h.1 k)
+
+pub fault-ok : (f : ReadError → Fault) (r : Result Header ReadError) (x : Header)
+    → as_fault f r ≡ Ok x → r ≡ Ok x
+fault-ok f (Ok y) x h = cc
+fault-ok f (Err e) x h = absurd cc
+
+named-goes : UnitsAreTaken → (source : Source) (kind : SectionKind) (place : UnitSection)
+    (read : Result Header ReadError) (u : DwarfObject × UnitRead)
+    → unit_section kind ≡ Some place → ((unit : Header) → read ≡ Ok unit
+    → IsKnown source.object.order place unit) → named_unit source kind read ≡ Ok u
+    → Goes source.object.order u
+unfolding named_unit
+named-goes taken source kind place read u at known h =
+    let a = bind-inv (as_fault ParseUnitHeader read) _ u h in
+    let b = bind-inv (name_for source kind a.0) _ u a.2 in
+    let id = name-identity source kind a.0 b.0 b.1 in
+    let goes = unit-goes taken source.object.order place b.0 a.0
+    (known a.0 (fault-ok ParseUnitHeader read a.0 a.1)) (identity-sort id.0 a.0 b.0 id.1) in
+    subst (Goes source.object.order) (ok-eq _ u b.2)
+    (subst (λ k. Goes source.object.order (b.0, record { from = k; unit = a.0 }))
+    (sym (kind-place kind place at)) goes)
+
+each-goes : UnitsAreTaken → (source : Source) (kind : SectionKind) (place : UnitSection)
+    (reads : Listed) (us : List (DwarfObject × UnitRead))
+    → unit_section kind ≡ Some place → AreKnown source.object.order place reads
+    → named_each source kind reads ≡ Ok us → AllGo source.object.order us
+unfolding named_each
+each-goes taken source kind place [] us at known h = subst (AllGo source.object.order)
+    (ok-eq [] us h) tt
+each-goes taken source kind place (read ∷ rest) us at known h =
+    let a = bind-inv (named_unit source kind read) _ us h in
+    let b = bind-inv (named_each source kind rest) _ us a.2 in
+    let one = named-goes taken source kind place read a.0 at (λ unit is.
+    known 0 unit (ap Some is)) a.1 in
+    let others = each-goes taken source kind place rest b.0 at (λ k unit is.
+    known (suc k) unit is) b.1 in
+    subst (AllGo source.object.order) (ok-eq (a.0 ∷ b.0) us b.2) (one, others)
+
+at-goes : UnitsAreTaken → ReadAlone → (source : Source) (from : Used) (place : Option UnitSection)
+    (us : List (DwarfObject × UnitRead))
+    → unit_section from.kind ≡ place → named_at source from place ≡ Ok us
+    → AllGo source.object.order us
+at-goes taken alone source from None us at h = subst (AllGo source.object.order) (ok-eq [] us h) tt
+at-goes taken alone source from (Some place) us at h =
+    each-goes taken source from.kind place (units place (section source.object.order from.bytes)) us
+    at (known-in taken alone source.object.order place from.bytes) h
+
+sections-go : UnitsAreTaken → ReadAlone → (source : Source) (sections : List Used)
+    (us : List (DwarfObject × UnitRead)) → named_sections source sections ≡ Ok us
+    → AllGo source.object.order us
+unfolding named_sections
+sections-go taken alone source [] us h = subst (AllGo source.object.order) (ok-eq [] us h) tt
+sections-go taken alone source (from ∷ rest) us h =
+    let a = bind-inv (named_at source from (unit_section from.kind)) _ us h in
+    let b = bind-inv (named_sections source rest) _ us a.2 in
+    let here = at-goes taken alone source from (unit_section from.kind) a.0 refl a.1 in
+    let others = sections-go taken alone source rest b.0 b.1 in
+    subst (AllGo source.object.order) (ok-eq (a.0 ++ b.0) us b.2) (go-append source.object.order a.0
+    b.0 here others)
+
+-- all units of an input do so
+pub units-go : UnitsAreTaken → ReadAlone → (source : Source) (all : List (DwarfObject × UnitRead))
+    → source_units source ≡ Ok all → AllGo source.object.order all
+units-go taken alone source all h = sections-go taken alone source source.object.sections all h
