@@ -21,7 +21,8 @@ use Rattle.thorin_input.specs.Parts.{with_each_part, parts_of}
 use Rattle.thorin_input.specs.Used.{Used, first, has_kind, bytes_of}
 use Rattle.thorin_join.proofs.Parts.Appended.{either, kind-like, same-kind, joined_parts-more}
 use Rattle.thorin_join.proofs.Parts.Appended.{joined_parts-other, Adds, step, parts-copied}
-use Rattle.thorin_join.proofs.Parts.Strings.{NamesTheSameLaw, PackagedLaw, front-front, packaged}
+use Rattle.thorin_join.proofs.Parts.OffsetLaws.{NamesTheSameLaw, PackagedLaw}
+use Rattle.thorin_join.proofs.Parts.Strings.{front-front, packaged}
 use Rattle.thorin_join.proofs.Parts.Strings.{rewritten-package, step-strings, each-strings}
 use Rattle.thorin_join.proofs.Steps.{bind-inv}
 

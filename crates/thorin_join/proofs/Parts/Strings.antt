@@ -14,8 +14,7 @@ use Rattle.thorin_input.specs.Parts.{Parts, rewritten, with_part, with_each_part
 use Rattle.thorin_input.specs.Used.{Used, first}
 use Rattle.thorin_join.proofs.Parts.Appended.{Adds, step, parts-none}
 use Rattle.thorin_join.proofs.Steps.{bind-inv}
-pub use Rattle.thorin_join.proofs.PartLaws.{NamesTheSameLaw, ReadsAlikeLaw, ReadInTurnLaw}
-pub use Rattle.thorin_join.proofs.PartLaws.{PackagedLaw}
+use Rattle.thorin_join.proofs.Parts.OffsetLaws.{NamesTheSameLaw, PackagedLaw}
 
 -- what stands in front of what stands in front
 pub front-front : {A : Type 0} (a b c : List A) → take (length a) b ≡ a → take (length b) c ≡ b
