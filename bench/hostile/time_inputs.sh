@@ -8,8 +8,14 @@ for input in "$2"/*; do
     case "$input" in
         *.dwp) continue ;;
         *.exe) words=(-e "$input" --skip-missing) ;;
+        *.rsp) words=("@$input") ;;
+        *.dwo) continue ;;
         *) words=("$input") ;;
     esac
-    said=$(/usr/bin/time -f '%x %e s (%U s) %M KiB' timeout 600 "$program" pack -o "$2/out.dwp" "${words[@]}" 2>&1 | tr '\n' ' ')
+    case "$input" in
+        *.check) words=(check "$input") ;;
+        *) words=(pack -o "$2/out.dwp" "${words[@]}") ;;
+    esac
+    said=$(/usr/bin/time -f '%x %e s (%U s) %M KiB' timeout 600 "$program" "${words[@]}" 2>&1 | tail -c 200 | tr '\n' ' ')
     echo "$(basename "$input"): $(stat -c %s "$input") bytes $said"
 done
