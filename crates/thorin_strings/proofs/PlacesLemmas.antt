@@ -37,7 +37,7 @@ at_other slots at (suc n) m h more some other =
     place_from slots (at + 1) k h) same
 
 -- where it begins
-pub begun : (slots : List Slot) (mask h at n : ℕ) → at ≡ home mask h → n ≡ 16 → place_of slots mask
+pub begun : (slots : List Slot) (mask h at n : ℕ) → at ≡ home mask h → n ≡ 64 → place_of slots mask
     h ≡ place_from slots at n h
 unfolding place_of
 begun slots mask h at n is_at is_n = ap₂ (λ a k. place_from slots a k h) (sym is_at) (sym is_n)
@@ -45,7 +45,7 @@ begun slots mask h at n is_at is_n = ap₂ (λ a k. place_from slots a k h) (sym
 -- no slots, no places
 pub none_of : (slots : List Slot) (mask h : ℕ) → slots ≡ [] → place_of slots mask h ≡ None
 unfolding place_of
-none_of slots mask h none = at_free slots (home mask h) 16 h (ap (λ (s : Slot). s.behind)
+none_of slots mask h none = at_free slots (home mask h) 64 h (ap (λ (s : Slot). s.behind)
     (ap (λ l. get_or l (home mask h) free) none ∙ get_or_past [] (home mask h) free (omega arith)))
 
 -- a slot that was free has its place
@@ -97,18 +97,18 @@ kept_from slots s k at (suc n) h p was is =
     some other) ∙ is)))
 
 pub put_of : (slots : List Slot) (mask : ℕ) (s : Slot) (k at : ℕ) → at ≡ home mask s.hash
-    → k < length slots → at ≤ k → k < at + 16 → ((j : ℕ) → at ≤ j → j < k
+    → k < length slots → at ≤ k → k < at + 64 → ((j : ℕ) → at ≤ j → j < k
     → (get_or slots j free).behind ≢ 0) → place_of slots mask s.hash ≡ None → s.behind ≢ 0
     → place_of (set slots k s) mask s.hash ≡ Some (s.behind - 1)
 put_of slots mask s k at is_at within low high used none some =
-    begun (set slots k s) mask s.hash at 16 is_at refl
-    ∙ put_from slots s k at 16 within low high used
-    (sym (begun slots mask s.hash at 16 is_at refl) ∙ none) some
+    begun (set slots k s) mask s.hash at 64 is_at refl
+    ∙ put_from slots s k at 64 within low high used
+    (sym (begun slots mask s.hash at 64 is_at refl) ∙ none) some
 
 pub kept_of : (slots : List Slot) (mask : ℕ) (s : Slot) (k h p : ℕ) → (get_or slots k free).behind ≡
     0 → place_of slots mask h ≡ Some p → place_of (set slots k s) mask h ≡ Some p
 unfolding place_of
-kept_of slots mask s k h p was is = kept_from slots s k (home mask h) 16 h p was is
+kept_of slots mask s k h p was is = kept_from slots s k (home mask h) 64 h p was is
 
 -- a slot that has the place of a hash
 pub record IsSlotOf (slots : List Slot) (h p : ℕ) : Type 0 where
@@ -141,7 +141,7 @@ there_from slots at (suc n) h p is =
 pub there_of : (slots : List Slot) (mask h p : ℕ) → place_of slots mask h ≡ Some p
     → IsSlotOf slots h p
 unfolding place_of
-there_of slots mask h p is = there_from slots (home mask h) 16 h p is
+there_of slots mask h p is = there_from slots (home mask h) 64 h p is
 
 -- the first slots whose places were entered in other slots
 abbrev pub AreEntered : List Slot → ℕ → List Slot → ℕ → Type 0

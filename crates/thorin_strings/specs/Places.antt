@@ -31,4 +31,4 @@ home mask h = bit_and (h / 2 ^ 32) mask
 
 -- the place that a hash has
 unfoldable pub place_of : List Slot → ℕ → ℕ → Option ℕ
-place_of slots mask h = place_from slots (home mask h) 16 h
+place_of slots mask h = place_from slots (home mask h) 64 h

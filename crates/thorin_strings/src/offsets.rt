@@ -41,6 +41,7 @@ pub(crate) fn offset_limit(format: Format) -> u64
 }
 
 /// Appends a number that fits the format's offset size.
+#[inline(always)]
 pub(crate) fn push_offset(
     out: &mut Vec<u8>,
     endian: Endianness,
@@ -51,9 +52,13 @@ pub(crate) fn push_offset(
     ensures { OnOk result (out.new.items
         ≡ out.old.items ++ number_bytes endian (offset_size format) value) }
 {
-    match format {
-        Format::Dwarf32 => out.extend_from_slice(&endian.bytes_of_u32(value as u32)),
-        Format::Dwarf64 => out.extend_from_slice(&endian.bytes_of_u64(value)),
+    // (each order has its own call: so each is one store)
+    match (format, endian) {
+        (Format::Dwarf32, Endianness::Little) => {
+            out.extend_from_slice(&(value as u32).to_le_bytes())
+        }
+        (Format::Dwarf32, Endianness::Big) => out.extend_from_slice(&(value as u32).to_be_bytes()),
+        (Format::Dwarf64, _) => out.extend_from_slice(&endian.bytes_of_u64(value)),
     }
 }
 
@@ -248,6 +253,7 @@ impl PackageStringTable {
 
     /// The same of a range that is whole, with its new strings entered together. None where it
     /// refuses, and where that can't be done; the table is then as it was.
+    #[inline(never)]
     #[tactic(auto, unfolding(crate::specs::StringOffsets::remapped))]
     fn remapped_together(
         &mut self,
@@ -295,6 +301,7 @@ impl PackageStringTable {
     }
 
     /// The same, but that a refusal leaves what was added before it.
+    #[inline(never)]
     #[tactic(auto, unfolding(crate::specs::StringOffsets::remapped))]
     fn remapped(
         &mut self,
@@ -385,6 +392,7 @@ impl PackageStringTable {
     }
 
     /// The offset of the string that an entry names, which is added where it is new.
+    #[inline(never)]
     #[tactic(auto, using(crate::proofs::KnownLemmas::entry_read, crate::proofs::KnownLemmas::entry_large, crate::proofs::KnownLemmas::entry_unread))]
     fn remapped_entry(
         &mut self,

@@ -8,7 +8,7 @@ use std::alloc::Global;
 use std::hash::{FoldHasher, Hasher};
 
 /// How many slots are looked at for a hash.
-const PROBES: usize = 16;
+const PROBES: usize = 64;
 
 /// One less than how many hashes have a slot of their own at first.
 const FIRST_MASK: usize = 1023;
@@ -85,7 +85,7 @@ fn put(slots: &mut [Slot], mask: usize, slot: Slot) -> bool
 
 /// Places of strings by their hashes.
 ///
-/// What has a place keeps it, and one of a hash is found by at most sixteen slots: where a new one
+/// What has a place keeps it, and one of a hash is found by at most 64 slots: where a new one
 /// would need more, or there is no memory for more slots, it isn't entered, and that is told.
 #[derive(Drop)]
 pub(crate) struct Places {

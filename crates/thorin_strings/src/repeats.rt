@@ -139,6 +139,9 @@ impl Repeats {
         ensures { (section : List ℕ) (strings : List (List ℕ)) → AreKnown section strings self.now
             → IfSome result (λ known. IsKnown section strings (offset, known)) }
     {
+        if self.pairs.is_empty() {
+            return None;
+        }
         if let Some(known) = look(&self.cells, &self.pairs, offset) {
             return Some(known);
         }
@@ -147,18 +150,42 @@ impl Repeats {
 
     /// Remembers the offset in the table of the string at an offset, where that string is long or
     /// its cell is free.
+    #[inline(always)]
     pub(crate) fn enter(&mut self, string: &[u8], offset: u64, known: u64) -> Result<(), AllocError>
         ensures { (section : List ℕ) (strings : List (List ℕ)) → AreKnown section strings self.old
             → IsKnown section strings (offset, known)
             → AreKnown section strings self.new }
     {
-        if string.len() < LONG {
-            let number = self.pairs.len() + 1;
-            if lead_cell(&mut self.cells, offset, number) {
-                self.pairs.push((offset, known))?;
-            }
+        if string.len() >= LONG {
+            return self.enter_long(offset, known);
+        }
+        if self.cells.is_empty() {
             return Ok(());
         }
+        self.enter_short(offset, known)
+    }
+
+    /// The same of a string whose cell is free.
+    #[inline(never)]
+    fn enter_short(&mut self, offset: u64, known: u64) -> Result<(), AllocError>
+        ensures { (section : List ℕ) (strings : List (List ℕ)) → AreKnown section strings self.old
+            → IsKnown section strings (offset, known)
+            → AreKnown section strings self.new }
+    {
+        let number = self.pairs.len() + 1;
+        if lead_cell(&mut self.cells, offset, number) {
+            self.pairs.push((offset, known))?;
+        }
+        Ok(())
+    }
+
+    /// The same of a long string.
+    #[inline(never)]
+    fn enter_long(&mut self, offset: u64, known: u64) -> Result<(), AllocError>
+        ensures { (section : List ℕ) (strings : List (List ℕ)) → AreKnown section strings self.old
+            → IsKnown section strings (offset, known)
+            → AreKnown section strings self.new }
+    {
         plant(self.alloc, &mut self.links)?;
         let Err(at) = walk(&self.links, &self.pairs, offset) else {
             return Ok(());

@@ -50,6 +50,7 @@ fn is_at(bytes: &[u8], at: usize, string: &[u8]) -> bool
 }
 
 /// Whether a string begins at a place of a section of ended strings and is this one.
+#[inline(always)]
 pub(crate) fn stands_at(bytes: &[u8], at: usize, string: &[u8]) -> bool
     requires { IsZeroFree string.now }
     ensures { IsTrue result ↔ (BeginsAt bytes.now at × (string_from bytes.now at ≡ string.now)) }

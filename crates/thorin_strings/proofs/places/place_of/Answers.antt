@@ -20,7 +20,7 @@ returns-then-number-slots c =
 pub loop-number-preserved : goal.loop-number-preserved
 loop-number-preserved c = record {
   looked = c.loop-number.invariant.looked
-      ∙ at_other c.args.slots.now c.loop-number.number (c.home-home.result + 16 -
-      c.loop-number.number) (c.home-home.result + 16 - (c.loop-number.number + 1)) c.args.hash
+      ∙ at_other c.args.slots.now c.loop-number.number (c.home-home.result + 64 -
+      c.loop-number.number) (c.home-home.result + 64 - (c.loop-number.number + 1)) c.args.hash
       (omega arith) c.if-slot-eq0.false c.if-slot-hash.false;
 }
