@@ -113,6 +113,7 @@ impl HashedStrings {
     ///
     /// # Errors
     /// Why it has no place. Nothing changed then.
+    #[inline(always)]
     pub fn place(&mut self, string: &[u8]) -> Result<usize, Unplaced>
         requires { IsZeroFree string.now }
         ensures placed { IfOk result (λ offset. IsPlaced self.old self.new string.now offset) }

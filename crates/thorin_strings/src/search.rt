@@ -37,6 +37,7 @@ fn begins_at(bytes: &[u8], at: usize) -> bool
 }
 
 /// Whether the string at a place is one without zero bytes, which is told faster than their order.
+#[inline(always)]
 fn is_at(bytes: &[u8], at: usize, string: &[u8]) -> bool
     requires within { at ≤ length bytes.now }
     requires zero_free { IsZeroFree string.now }
