@@ -26,6 +26,8 @@ use std::marker::Model;
 #[derive(Drop)]
 pub struct AbbreviationCache<R: Reader> {
     section: R,
+    // Whether a table is at hand.
+    is_begun: bool,
     // Where the table at hand begins.
     offset: u64,
     // What was read of it: the first declaration of each code.
@@ -53,6 +55,7 @@ impl<R: Reader> AbbreviationCache<R> {
     {
         AbbreviationCache {
             section,
+            is_begun: false,
             offset: 0,
             known: BTreeMap::new(alloc),
             rest: section,
@@ -69,8 +72,9 @@ impl<R: Reader> AbbreviationCache<R> {
     /// What `Abbreviations::get` says of a code in the table at that offset of the section.
     ///
     /// While the offset stays the same no declaration is read a third time, where there is memory to
-    /// remember it. Another offset forgets the table at hand, and its first code is sought without
-    /// remembering: so units that use two tables by turns cost no more than reading these.
+    /// remember it. Another offset forgets the table at hand, and the first code of a table is sought
+    /// without remembering: so one unit, and units that use two tables by turns, cost no more than
+    /// reading these.
     ///
     /// # Errors
     /// `OffsetOutOfRange` past the section's end, and those of `Abbreviations::get`. Want of memory
@@ -82,7 +86,8 @@ impl<R: Reader> AbbreviationCache<R> {
             → result ≡ Err e }
         ensures kept { self.new ≡ self.old }
     {
-        if offset != self.offset {
+        if !self.is_begun || offset != self.offset {
+            self.is_begun = true;
             self.rest = from_offset(self.section, offset)?;
             self.offset = offset;
             self.known.clear();
