@@ -19,7 +19,7 @@ use Rattle.thorin_join.specs.Meaning.{Meaning, Members, keys, joining, can_join}
 use Rattle.thorin_input.specs.Names.{same_name}
 use Rattle.thorin_join.specs.Represents.{IsSoundBegun, units_in}
 use Rattle.thorin_join.specs.State.{InProgress}
-use Rattle.thorin_join.specs.Again.{HaveEncodingOf, all_meant, MeansWhereTaken, MeansOnceWritten}
+use Rattle.thorin_again.specs.Again.{HaveEncodingOf, all_meant, MeansWhereTaken, MeansOnceWritten}
 use Rattle.thorin.specs.Groups.{taken_each, IsPackedAlone, ArePackedAlone, IsPackedInGroups}
 use Rattle.thorin.specs.Groups.{AreJoined, HaveTheirEncodings, inputs_of, IsPackageOfAll}
 use Rattle.thorin.proofs.GroupJoins.{groups-defined, groups-joined, joined-distinct, none-distinct}

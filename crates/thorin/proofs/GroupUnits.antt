@@ -5,7 +5,7 @@ use Rattle.std.proofs.lemmas.List.{map-append}
 use Rattle.dwp_table.specs.declared.object.DwarfObject.{DwarfObject}
 use Rattle.thorin_join.specs.Join.{Joins, JoinAll}
 use Rattle.thorin_join.specs.Meaning.{Meaning, Members, keys, input_meaning, joining, can_join}
-use Rattle.thorin_join.specs.Again.{all_meant}
+use Rattle.thorin_again.specs.Again.{all_meant}
 use Rattle.thorin.proofs.GroupJoins.{joining-append, can_join-append}
 
 abbrev pub Units : Type 0

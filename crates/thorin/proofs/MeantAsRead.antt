@@ -10,12 +10,12 @@ use Rattle.dwp_elf_read.specs.Elf.{Elf, elf_of}
 use Rattle.thorin_faults.specs.Fault.{Fault}
 use Rattle.thorin_input.specs.Encodings.{encoding_of, section_has}
 use Rattle.thorin_input.specs.Used.{InputFile, opened, input_file_of}
-use Rattle.thorin_join.specs.Again.{HaveEncodingOf, MeansWhereTaken, input_encoding}
+use Rattle.thorin_again.specs.Again.{HaveEncodingOf, MeansWhereTaken, input_encoding}
 use Rattle.thorin_join.specs.Builder.{State, start, taken, with_input, finish_test, IsFinishedState}
 use Rattle.thorin_join.specs.Join.{Joins, IsPackageOf, IsPackageOnceWritten}
-use Rattle.thorin_join.specs.OneEncoding.{IsOfOneEncoding, IsOfEncoding}
-use Rattle.thorin_join.specs.Own.{packs_again}
-use Rattle.thorin_join.specs.PlainInputs.{AreTaken, IsPlainOf, IsOfPlainObjects}
+use Rattle.thorin_again.specs.OneEncoding.{IsOfOneEncoding, IsOfEncoding}
+use Rattle.thorin_again.specs.Own.{packs_again}
+use Rattle.thorin_again.specs.PlainInputs.{AreTaken, IsPlainOf, IsOfPlainObjects}
 use Rattle.thorin_join.specs.Represents.{IsSoundBegun, units_begun, units_in}
 use Rattle.thorin_join.specs.State.{InProgress}
 use Rattle.thorin.specs.Again.{MeansAsRead}

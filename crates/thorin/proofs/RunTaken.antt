@@ -13,7 +13,7 @@ use Rattle.thorin.specs.declared.packing.Input.{Input}
 use Rattle.thorin.specs.declared.packing.Input.TheVariants as inputs
 use Rattle.thorin_input.specs.Encodings.{own_encoding}
 use Rattle.thorin_join.specs.Builder.{State, taken, with_input}
-use Rattle.thorin_join.specs.PlainInputs.{AreTaken}
+use Rattle.thorin_again.specs.PlainInputs.{AreTaken}
 use Rattle.thorin_builder.specs.Taking.{Outcome, Takes, accepted_of, TakesRead, with_target}
 use Rattle.thorin_builder.specs.Taking.{TakesReferred, TakesSkeleton, Step, GoesOn, TakesSkeletons}
 use Rattle.thorin_builder.specs.Taking.{TakesExecutableRead}

@@ -12,14 +12,14 @@ use Rattle.dwp_elf.specs.Written.{written_elf}
 use Rattle.dwp_elf_read.specs.Elf.{Elf, elf_of}
 use Rattle.thorin_faults.specs.Fault.{Fault}
 use Rattle.thorin_faults.specs.declared.fault.Error.{Error}
-use Rattle.thorin_join.specs.Again.{HaveEncodingOf}
+use Rattle.thorin_again.specs.Again.{HaveEncodingOf}
 use Rattle.thorin_join.specs.Builder.{State, start, taken, order_of, finish_test, IsFinishedState}
-use Rattle.thorin_join.specs.OneEncoding.{IsOfOneEncoding, IsOfEncoding, AnswersAs}
-use Rattle.thorin_join.specs.OneEncoding.{AnswersOnceWritten, HaveEncodingOnceWritten}
-use Rattle.thorin_join.specs.Own.{packs_again}
-use Rattle.thorin_join.specs.OwnAccepted.{IsAcceptedOnceWritten, IsAcceptedByNewOnceWritten}
-use Rattle.thorin_join.specs.OwnRefusals.{UnlessForeseen}
-use Rattle.thorin_join.specs.PlainInputs.{AreTaken}
+use Rattle.thorin_again.specs.OneEncoding.{IsOfOneEncoding, IsOfEncoding, AnswersAs}
+use Rattle.thorin_again.specs.OneEncoding.{AnswersOnceWritten, HaveEncodingOnceWritten}
+use Rattle.thorin_again.specs.Own.{packs_again}
+use Rattle.thorin_again.specs.OwnAccepted.{IsAcceptedOnceWritten, IsAcceptedByNewOnceWritten}
+use Rattle.thorin_again.specs.OwnRefusals.{UnlessForeseen}
+use Rattle.thorin_again.specs.PlainInputs.{AreTaken}
 use Rattle.thorin_join.specs.Represents.{IsSoundBegun, units_in}
 use Rattle.thorin.specs.Again.{IsTakenAgain, CanBePackedAgain, IsLeft, HasCommonEncoding}
 use Rattle.thorin.specs.Groups.{taken_each, IsPackedAlone, ArePackedAlone, RefusesPackages}

@@ -6,13 +6,13 @@ use Rattle.dwp_bytes.specs.declared.encoding.Encoding.{Encoding}
 use Rattle.dwp_elf.specs.FileText.{Object as File, file_text}
 use Rattle.dwp_table.specs.declared.object.DwarfObject.{DwarfObject}
 use Rattle.thorin_faults.specs.Fault.{Fault}
-use Rattle.thorin_join.specs.Again.{all_meant}
+use Rattle.thorin_again.specs.Again.{all_meant}
 use Rattle.thorin_join.specs.Join.{IsPackageOf}
 use Rattle.thorin_join.specs.Meaning.{Meaning, Members, input_meaning}
-use Rattle.thorin_join.specs.OneEncoding.{IsOfEncoding}
-use Rattle.thorin_join.specs.Own.{packs_again}
-use Rattle.thorin_join.specs.OwnAccepted.{IsAccepted, IsAcceptedByNew}
-use Rattle.thorin_join.specs.OwnRefusals.{IsForeseen}
+use Rattle.thorin_again.specs.OneEncoding.{IsOfEncoding}
+use Rattle.thorin_again.specs.Own.{packs_again}
+use Rattle.thorin_again.specs.OwnAccepted.{IsAccepted, IsAcceptedByNew}
+use Rattle.thorin_again.specs.OwnRefusals.{IsForeseen}
 use Rattle.thorin.specs.Groups.{ArePackedAlone, IsUnwritten}
 
 -- bytes are a file that any package of its byte order takes, unless a compilation unit is there

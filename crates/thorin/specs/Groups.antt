@@ -10,7 +10,7 @@ use Rattle.dwp_table.specs.declared.object.DwarfObject.{DwarfObject}
 use Rattle.thorin_faults.specs.declared.fault.Error.{Error}
 use Rattle.thorin_faults.specs.Fault.{Fault, fault_of}
 use Rattle.thorin_faults.specs.Answers.{MemoryAside}
-use Rattle.thorin_join.specs.Again.{HaveEncodingOf}
+use Rattle.thorin_again.specs.Again.{HaveEncodingOf}
 use Rattle.thorin_join.specs.Builder.{State, start, taken}
 use Rattle.thorin_join.specs.Join.{JoinAll, IsPackageOf}
 use Rattle.thorin_join.specs.Meaning.{Members, joining, can_join}

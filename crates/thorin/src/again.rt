@@ -5,12 +5,12 @@ ghost use Rattle.dwp_base.specs.declared.endian.Endianness.{Endianness};
 ghost use Rattle.dwp_index.specs.Package.{Package, package_of};
 ghost use Rattle.dwp_table.specs.declared.object.DwarfObject.{DwarfObject};
 ghost use Rattle.thorin_faults.specs.Fault.{Fault};
-ghost use Rattle.thorin_join.specs.Again.{HaveEncodingOf};
+ghost use Rattle.thorin_again.specs.Again.{HaveEncodingOf};
 ghost use Rattle.thorin_join.specs.Builder.{State, start, taken};
 ghost use Rattle.thorin_join.specs.Meaning.{Meaning, input_meaning};
-ghost use Rattle.thorin_join.specs.OneEncoding.{IsOfOneEncoding, AnswersAs};
-ghost use Rattle.thorin_join.specs.Own.{packs_again};
-ghost use Rattle.thorin_join.specs.PlainInputs.{AreTaken};
+ghost use Rattle.thorin_again.specs.OneEncoding.{IsOfOneEncoding, AnswersAs};
+ghost use Rattle.thorin_again.specs.Own.{packs_again};
+ghost use Rattle.thorin_again.specs.PlainInputs.{AreTaken};
 ghost use Rattle.thorin_join.specs.Represents.{IsSoundBegun, units_in};
 ghost use Rattle.thorin_builder.specs.Taking.{Outcome};
 ghost use Rattle.thorin.specs.declared.packing.Input.{Input};
@@ -26,16 +26,17 @@ ghost use Rattle.thorin.specs.Run.{Ran, IsWritten};
 
 use crate::laws::groups_are_packed_alike;
 use dwp_bytes::RelocationEntry;
+use thorin_again::{
+    inputs_of_one_encoding_keep_their_strings, packages_have_the_encoding_of_their_inputs,
+    packages_that_pack_again_are_accepted, plain_objects_pack_again, the_first_byte_order_stays,
+    written_packages_mean_their_units,
+};
 use thorin_builder::InputReader;
 use thorin_faults::Session;
-use thorin_join::{
-    finished_packages_are_read, inputs_are_joined, inputs_of_one_encoding_keep_their_strings,
-    packages_have_the_encoding_of_their_inputs, packages_that_pack_again_are_accepted,
-    plain_objects_pack_again, the_first_byte_order_stays, written_packages_mean_their_units,
-};
+use thorin_join::{finished_packages_are_read, inputs_are_joined};
 
 /// The law of accepted inputs: those of a run were taken one after another. So the laws of
-/// `thorin_join` on lists of inputs speak of runs, and of inputs that are all taken. It does
+/// `thorin_again` on lists of inputs speak of runs, and of inputs that are all taken. It does
 /// nothing.
 pub fn accepted_inputs_are_taken<R: InputReader>(reader: &R)
     ensures ran { (inputs : List Input) (old new : State) (outcomes : List Outcome)

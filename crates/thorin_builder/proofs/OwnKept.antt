@@ -7,7 +7,7 @@ use Rattle.dwp_base.specs.Reading.{◌>>=◌}
 use Rattle.dwp_bytes.specs.declared.encoding.Encoding.{Encoding}
 use Rattle.thorin_input.specs.Encodings.{own_encoding, common}
 use Rattle.thorin_join.specs.Builder.{State, taken, with_input, with_own, own_after, names_in}
-use Rattle.thorin_join.specs.OwnUnits.{HoldsOwn, HasOneEncoding}
+use Rattle.thorin_again.specs.OwnUnits.{HoldsOwn, HasOneEncoding}
 use Rattle.thorin_join.specs.State.{InProgress}
 
 -- a step that gives x goes on with it

@@ -10,10 +10,10 @@ ghost use Rattle.thorin_join.specs.Join.{Joins, IsPackageOnceWritten};
 ghost use Rattle.thorin_join.specs.Meaning.{keys};
 ghost use Rattle.thorin_join.specs.Represents.{IsSoundBegun, units_in};
 ghost use Rattle.thorin_builder.specs.Missing.{missing_left};
-ghost use Rattle.thorin_join.specs.Own.{packs_again};
-ghost use Rattle.thorin_join.specs.OwnAccepted.{IsAcceptedByNewOnceWritten};
-ghost use Rattle.thorin_join.specs.OwnAccepted.{IsAcceptedOnceWritten};
-ghost use Rattle.thorin_join.specs.OwnUnits.{HasOneEncoding};
+ghost use Rattle.thorin_again.specs.Own.{packs_again};
+ghost use Rattle.thorin_again.specs.OwnAccepted.{IsAcceptedByNewOnceWritten};
+ghost use Rattle.thorin_again.specs.OwnAccepted.{IsAcceptedOnceWritten};
+ghost use Rattle.thorin_again.specs.OwnUnits.{HasOneEncoding};
 ghost use Rattle.thorin_builder.specs.StateView.{begun_of};
 ghost use Rattle.thorin_builder.specs.Taking.{TakesFile, TakesExecutable, TakesNamed};
 ghost use Rattle.thorin_builder.specs.Taking.{TakesSkeleton, TakesReferredFile, with_target};
@@ -34,13 +34,14 @@ use std::alloc::Global;
 use std::fmt;
 use std::marker::{Model, PhantomData};
 use std::path::Path;
+use thorin_again::{
+    one_encoding_is_kept, own_packages_are_accepted, own_packages_are_accepted_by_a_new_one,
+    plain_packages_are_kept,
+};
 use thorin_executable::{Skeleton, SkeletonUnits};
 use thorin_faults::{Error, InputError, MissingReferencedObjectBehaviour, Session};
 use thorin_input::common;
-use thorin_join::{
-    finished_packages_are_read, inputs_are_joined, one_encoding_is_kept, own_packages_are_accepted,
-    own_packages_are_accepted_by_a_new_one, plain_packages_are_kept,
-};
+use thorin_join::{finished_packages_are_read, inputs_are_joined};
 
 /// A package in the making: it takes one input after another. The session keeps what is read.
 #[derive(Drop)]
@@ -64,8 +65,8 @@ impl<'output, 'session: 'output, Sess: Session<RelocationEntry>> Model
 
     ghost use Rattle.thorin_builder.specs.BuilderView.{building};
     ghost use Rattle.std.specs.Prelude.{◌≡◌, []};
-    ghost use Rattle.thorin_join.specs.OwnUnits.{HoldsOwn};
-    ghost use Rattle.thorin_join.specs.Plain.{HoldsPlain};
+    ghost use Rattle.thorin_again.specs.OwnUnits.{HoldsOwn};
+    ghost use Rattle.thorin_again.specs.Plain.{HoldsPlain};
     ghost use Rattle.thorin_join.specs.Represents.{IsSoundBegun};
     ghost use Rattle.thorin_builder.specs.StateView.{begun_of};
 

@@ -11,7 +11,7 @@ ghost use Rattle.thorin_strings.specs.Marks.{mark_of};
 ghost use Rattle.thorin_join.specs.Builder.{IsFinished, indexes_test, IdentifiersFit, rows_of};
 ghost use Rattle.thorin_input.specs.Encodings.{are_alike};
 ghost use Rattle.thorin_input.specs.Names.{same_name, is_compilation};
-ghost use Rattle.thorin_join.specs.Own.{has_sections};
+ghost use Rattle.thorin_again.specs.Own.{has_sections};
 ghost use Rattle.thorin_join.specs.State as spec;
 ghost use Rattle.thorin_builder.specs.StateView.{in_progress_of, mark_in};
 ghost use Rattle.thorin_builder.specs.UnitView.{new_unit, new_of};

@@ -18,8 +18,8 @@ use Rattle.thorin_join.specs.Builder.{State, start, taken, differing_in, finish_
 use Rattle.thorin_join.specs.Join.{Joins, JoinAll, IsPackageOf}
 use Rattle.thorin_join.specs.Meaning.{Members}
 use Rattle.thorin_join.specs.Represents.{units_in}
-use Rattle.thorin_join.specs.Own.{packs_again}
-use Rattle.thorin_join.specs.PlainInputs.{AreTaken}
+use Rattle.thorin_again.specs.Own.{packs_again}
+use Rattle.thorin_again.specs.PlainInputs.{AreTaken}
 use Rattle.thorin.specs.Again.{IsTakenAgain}
 use Rattle.thorin_c.specs.Packing.{bytes_of, all_taken, Accepts, RefusesAt, StopsAt, Leaves}
 use Rattle.thorin_c.specs.Packing.{TellsRefused, TellsLeft, TellsUnfinished, Refuses, RunsOutAt}

@@ -10,7 +10,7 @@ use Rattle.thorin_faults.specs.declared.fault.Error.TheVariants as error
 use Rattle.thorin_join.specs.Builder.{State, start, taken, differing_in}
 use Rattle.thorin_join.specs.Join.{JoinAll, IsPackageOf}
 use Rattle.thorin_join.specs.Meaning.{Members}
-use Rattle.thorin_join.specs.Own.{packs_again}
+use Rattle.thorin_again.specs.Own.{packs_again}
 use Rattle.thorin_join.specs.Represents.{units_in}
 use Rattle.thorin.specs.Again.{IsTakenAgain}
 use Rattle.thorin.specs.Run.{IsWritten, RefusesToWrite}

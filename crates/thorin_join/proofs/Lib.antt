@@ -5,10 +5,3 @@ pub mod Rows
 pub mod Units
 pub mod Joined
 pub mod Files
-pub mod Kept
-pub mod Offsets
-pub mod Opened
-pub mod Meant
-pub mod Taken
-pub mod Accepted
-pub mod Lists

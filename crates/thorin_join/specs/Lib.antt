@@ -7,12 +7,3 @@ pub mod Represents
 pub mod Join
 pub mod StandApart
 pub mod FirstUse
-pub mod Again
-pub mod OneEncoding
-pub mod Own
-pub mod OwnUnits
-pub mod OwnInput
-pub mod Plain
-pub mod OwnRefusals
-pub mod OwnAccepted
-pub mod PlainInputs

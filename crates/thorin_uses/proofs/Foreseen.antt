@@ -5,7 +5,7 @@ use Rattle.thorin_faults.specs.Answers.{Gives, MemoryAside}
 use Rattle.thorin_faults.specs.Fault.{Fault, fault_of}
 use Rattle.thorin_faults.specs.declared.fault.Error.{Error}
 use Rattle.thorin_join.specs.Builder.{State}
-use Rattle.thorin_join.specs.OwnRefusals.{IsForeseen, UnlessForeseen}
+use Rattle.thorin_again.specs.OwnRefusals.{IsForeseen, UnlessForeseen}
 
 pub foreseen : (outcome : Result (Unit {0}) Error) (new : State) (taken : Result State Fault)
     → Gives (λ (x : Unit {0}). new) outcome taken → UnlessForeseen taken

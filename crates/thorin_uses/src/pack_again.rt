@@ -5,8 +5,8 @@ ghost use Rattle.dwp_elf.specs.FileText.{Object, file_text};
 ghost use Rattle.thorin_faults.specs.Answers.{MemoryAside};
 ghost use Rattle.thorin_faults.specs.Fault.{fault_of};
 ghost use Rattle.thorin_join.specs.Builder.{order_of};
-ghost use Rattle.thorin_join.specs.OwnAccepted.{IsAccepted};
-ghost use Rattle.thorin_join.specs.OwnRefusals.{IsForeseen};
+ghost use Rattle.thorin_again.specs.OwnAccepted.{IsAccepted};
+ghost use Rattle.thorin_again.specs.OwnRefusals.{IsForeseen};
 
 use std::alloc::Global;
 use thorin::{Bump, BytesSession, DwarfPackage, Error, RelocationEntry, Session};

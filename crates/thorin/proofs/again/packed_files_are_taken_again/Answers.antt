@@ -1,5 +1,5 @@
 use Rattle.thorin_join.specs.Builder.{start}
-use Rattle.thorin_join.specs.OneEncoding.{AnswersAs}
+use Rattle.thorin_again.specs.OneEncoding.{AnswersAs}
 use Rattle.thorin_join.specs.Represents.{units_in}
 use Rattle.thorin.specs.Again.{IsTakenAgain}
 use Rattle.thorin.proofs.RunTaken.{run-taken}

@@ -1,6 +1,6 @@
 use Rattle.std.proofs.Common.{◌≡◌, sym, subst}
 use Rattle.thorin_join.specs.Builder.{taken}
-use Rattle.thorin_join.specs.OwnRefusals.{UnlessForeseen}
+use Rattle.thorin_again.specs.OwnRefusals.{UnlessForeseen}
 use Rattle.thorin_uses.proofs.Foreseen.{foreseen}
 use Rattle.thorin_uses.proofs.pack_again.add_package.Goals as goal
 

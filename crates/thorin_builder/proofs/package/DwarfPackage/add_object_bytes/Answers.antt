@@ -4,8 +4,8 @@ use Rattle.std.specs.Prelude.{is_none, is_some}
 use Rattle.thorin_builder.specs.declared.in_progress.InProgressDwarfPackage.{InProgressDwarfPackage}
 use Rattle.thorin_join.specs.Builder.{State, with_input, own_after}
 use Rattle.thorin_input.specs.Encodings.{own_encoding}
-use Rattle.thorin_join.specs.OwnUnits.{HoldsOwn}
-use Rattle.thorin_join.specs.Plain.{HoldsPlain}
+use Rattle.thorin_again.specs.OwnUnits.{HoldsOwn}
+use Rattle.thorin_again.specs.Plain.{HoldsPlain}
 use Rattle.thorin_join.specs.Represents.{IsSoundBegun}
 use Rattle.thorin_join.specs.State.{InProgress}
 use Rattle.thorin_builder.specs.StateView.{begun_of}

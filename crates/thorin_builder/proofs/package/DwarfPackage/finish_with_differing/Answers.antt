@@ -3,7 +3,7 @@ use Rattle.dwp_elf.specs.FileText.{Object as File}
 use Rattle.thorin_faults.specs.declared.fault.Error.{Error}
 use Rattle.thorin_faults.specs.Answers.{Gives}
 use Rattle.thorin_join.specs.Builder.{State, finish_test, IsFinishedState}
-use Rattle.thorin_join.specs.OwnAccepted.{IsAcceptedOnceWritten, IsAcceptedByNewOnceWritten}
+use Rattle.thorin_again.specs.OwnAccepted.{IsAcceptedOnceWritten, IsAcceptedByNewOnceWritten}
 use Rattle.thorin_builder.specs.StateView.{begun_of}
 use Rattle.thorin_builder.proofs.package.DwarfPackage.finish_with_differing.Goals as goal
 

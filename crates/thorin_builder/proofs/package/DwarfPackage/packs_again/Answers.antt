@@ -1,7 +1,7 @@
 use Rattle.std.proofs.Common.{◌≡◌, ◌∙◌, sym, subst, rules, true}
 use Rattle.std.specs.Option.{is_some}
 use Rattle.thorin_join.specs.Builder.{State}
-use Rattle.thorin_join.specs.OwnUnits.{HasOneEncoding}
+use Rattle.thorin_again.specs.OwnUnits.{HasOneEncoding}
 use Rattle.thorin_builder.specs.StateView.{begun_of}
 use Rattle.thorin_builder.proofs.OwnKept.{one-of}
 use Rattle.thorin_builder.proofs.package.DwarfPackage.packs_again.Goals as goal

@@ -1,0 +1,369 @@
+-- Each unit of a package names itself by the abbreviations of its row, where plain objects of one
+-- encoding are added.
+use Rattle.std.proofs.Common.{◌≡◌, ◌∙◌, ℕ, ◌+◌, ◌<◌, ◌≤◌, Bool, true, false, cond, List, [], ◌∷◌}
+use Rattle.std.proofs.Common.{◌++◌, length, refl, sym, ap, subst, Ok, Option, Some, None, arith}
+use Rattle.std.proofs.Common.{length-append}
+use Rattle.std.specs.Prelude.{find}
+use Rattle.std.specs.List.{list_any, list_all}
+use Rattle.std.proofs.lemmas.Option.{none-some, same_Some}
+use Rattle.dwp_base.specs.declared.endian.Endianness.{Endianness}
+use Rattle.dwp_base.specs.declared.section.Contribution.{Contribution}
+use Rattle.dwp_base.specs.declared.section.SectionKind.{SectionKind}
+use Rattle.dwp_base.specs.declared.section.SectionKind.TheVariants as kinds
+use Rattle.dwp_base.specs.Sections.{same_kind}
+use Rattle.dwp_bytes.specs.Input.{Input, section}
+use Rattle.dwp_bytes.specs.declared.encoding.Encoding.{Encoding}
+use Rattle.dwp_dwarf.specs.Units.{Unit as Header, UnitsAreTaken, unit_at}
+use Rattle.dwp_elf.specs.Contents.{content_of}
+use Rattle.dwp_index.specs.Package.{part_of, place_of}
+use Rattle.dwp_table.specs.declared.object.DwarfObject.{DwarfObject}
+use Rattle.thorin_identity.specs.Identity.{identity}
+use Rattle.thorin_parts.specs.Entries.{contribution_to}
+use Rattle.thorin_parts.specs.declared.entry.IndexEntry.{IndexEntry}
+use Rattle.thorin_input.specs.Encodings.{section_has}
+use Rattle.thorin_input.specs.Growing.{Contents, with_bytes, with_parts, joined_parts, range_put}
+use Rattle.thorin_input.specs.Indexes.{Source, is_package}
+use Rattle.thorin_join.specs.Meaning.{UnitRead, keys, joining, joined_content}
+use Rattle.thorin_input.specs.Names.{same_name}
+use Rattle.thorin_input.specs.NewUnits.{NewUnit}
+use Rattle.thorin_input.specs.Parts.{parts_of}
+use Rattle.thorin_again.specs.Plain.{is_shared, NamesItself, HasNamedUnits}
+use Rattle.thorin_join.specs.Represents.{IsSound, LieInside}
+use Rattle.thorin_input.specs.Rows.{whole_row}
+use Rattle.thorin_join.specs.StandApart.{EachRow}
+use Rattle.thorin_join.specs.State.{InProgress, kind_at, names_of, row_at, unit_bytes, adding}
+use Rattle.thorin_join.specs.State.{with_unit_added, with_new_unit, with_new_units, with_source}
+use Rattle.thorin_input.specs.Used.{Used, first, has_kind, bytes_of}
+use Rattle.thorin_join.proofs.Units.HeadersRead.{ReadAlone}
+use Rattle.thorin_join.proofs.Units.JoinedByName.{IsAdded, AreAdded}
+use Rattle.thorin_join.proofs.Rows.Stay.{Grows, grows-with_bytes, keep-part, keep-lie}
+use Rattle.thorin_join.proofs.Rows.LieInTurn.{types-only}
+use Rattle.thorin_again.proofs.Kept.LongerTables.{identity-stays}
+use Rattle.thorin_again.proofs.Offsets.Tiled.{row-append, weaker, order-kept}
+use Rattle.thorin_join.proofs.Rows.OfUnits.{is-unit_row, whole-else}
+use Rattle.thorin_join.proofs.Parts.Appended.{content-with_parts, parts-copied}
+use Rattle.thorin_again.proofs.Kept.ObjectNames.{NamedAlone, AllNamed, named-joining, units-named}
+use Rattle.thorin_again.proofs.Kept.SharedParts.{shared-row, plain-part, plain-added}
+use Rattle.thorin_join.proofs.Joined.Source.{with_all_parts, grows-with_parts}
+use Rattle.thorin_join.proofs.Rows.StandApart.{sound-inside}
+use Rattle.thorin_join.proofs.Rows.OneAdded.{Fits, content-put, place-put, part-put, range_for}
+use Rattle.thorin_join.proofs.Rows.OneAdded.{row-name, row-own, own-place, row-part, lie-by}
+use Rattle.thorin_join.proofs.Units.Whole.{Goes, AllGo, go-joining, units-go}
+
+-- ---- the abbreviations of a row begin with those of the first section
+
+record Front (kind : SectionKind) (sections : List Used) : Type 0 where
+  rest : List ℕ
+  is : joined_content kind sections ≡ first kind sections ++ rest
+
+first-front : (kind : SectionKind) (sections : List Used) → Front kind sections
+first-front kind [] = record { rest = []; is = refl }
+first-front kind (s ∷ ss) = by (same_kind s.kind kind) refl (first-front kind ss)
+  where
+    by : (b : Bool) → same_kind s.kind kind ≡ b → Front kind ss → Front kind (s ∷ ss)
+    by true e later = record {
+      rest = joined_content kind ss;
+      is = ap (λ b. cond b (s.bytes ++ joined_content kind ss) (joined_content kind ss)) e ∙ sym
+          (ap (λ b. bytes_of (cond b (Some s) (find (has_kind kind) ss)) ++ joined_content kind ss)
+          e);
+    }
+    by false e later = record {
+      rest = later.rest;
+      is = ap (λ b. cond b (s.bytes ++ joined_content kind ss) (joined_content kind ss)) e ∙
+          later.is ∙ sym (ap (λ b. bytes_of (cond b (Some s) (find (has_kind kind) ss))
+          ++ later.rest) e);
+    }
+
+-- ---- units that are added name themselves
+
+-- what is so of a unit that is added behind contents in which abbreviations are these
+record CanName (order : Endianness) (encoding : Encoding) (c : Contents) (u : DwarfObject
+    × NewUnit) : Type 0 where
+  fits : Fits u.1.row u.0 u.1.bytes u.1.place
+  lie : LieInside c u.1.row
+  named : (alone : Header) (rest : Input) → unit_at u.1.place (section order u.1.bytes) ≡
+      Ok (alone, rest)
+      → (alone.encoding ≡ encoding)
+      × (identity (section order (part_of (content_of kinds.Abbrev c) u.1.row.debug_abbrev)) alone
+      ≡ Ok (Some u.0))
+
+abbrev AllCanName : Endianness → Encoding → Contents → List (DwarfObject × NewUnit) → Type 0
+AllCanName order encoding c [] = Unit {0}
+AllCanName order encoding c (u ∷ us) = CanName order encoding c u × AllCanName order encoding c us
+
+-- a row that lies inside, and whose unit names itself
+abbrev Stands : Endianness → Encoding → Contents → IndexEntry → Type 0
+Stands order encoding c row = LieInside c row × NamesItself order encoding c row
+
+pub keep-names : (order : Endianness) (encoding : Encoding) (c d : Contents) (row : IndexEntry)
+    → Grows c d → LieInside c row → NamesItself order encoding c row
+    → NamesItself order encoding d row
+keep-names order encoding c d row grows lie names unit rest read =
+    let own : unit_bytes d row ≡ unit_bytes c row = keep-part c d row grows lie
+    (kind_at (place_of row.id row.debug_types)) in
+    let there = names unit rest (ap (λ l. unit_at (place_of row.id row.debug_types)
+    (section order l)) (sym own) ∙ read) in (
+      there.0,
+      ap (λ l. identity (section order l) unit) (keep-part c d row grows lie
+          kinds.Abbrev) ∙ there.1,
+    )
+
+keep-stands : (order : Endianness) (encoding : Encoding) (c d : Contents) (rows : List IndexEntry)
+    → Grows c d → EachRow (Stands order encoding c) rows → EachRow (Stands order encoding d) rows
+keep-stands order encoding c d rows grows h =
+    weaker (Stands order encoding c) (Stands order encoding d) (λ row s.
+    (keep-lie c d row grows s.0, keep-names order encoding c d row grows s.0 s.1)) rows h
+
+keep-can : (order : Endianness) (encoding : Encoding) (c d : Contents)
+    (us : List (DwarfObject × NewUnit)) → Grows c d → AllCanName order encoding c us
+    → AllCanName order encoding d us
+keep-can order encoding c d [] grows h = tt
+keep-can order encoding c d (u ∷ us) grows h = (
+  record {
+    fits = h.0.fits;
+    lie = keep-lie c d u.1.row grows h.0.lie;
+    named = λ alone rest read. let there = h.0.named alone rest read in (
+      there.0,
+      ap (λ l. identity (section order l) alone) (keep-part c d u.1.row grows h.0.lie
+          kinds.Abbrev) ∙ there.1,
+    );
+  },
+  keep-can order encoding c d us grows h.1,
+)
+
+new-stands : (order : Endianness) (encoding : Encoding) (c : Contents) (u : DwarfObject × NewUnit)
+    → CanName order encoding c u
+    → Stands order encoding (with_bytes (kind_at u.1.place) u.1.bytes c)
+    (row_at u.1.row c u.0 u.1.bytes u.1.place)
+new-stands order encoding c u can =
+    let place = u.1.place in
+    let x = u.1.bytes in
+    let shared = u.1.row in
+    let k = kind_at place in
+    let d = with_bytes k x c in
+    let row = row_at shared c u.0 x place in
+    let grows = grows-with_bytes k x c in
+    let id = row-name shared c u.0 x place in
+    let place_is : place_of row.id row.debug_types ≡ place = ap (λ n. place_of n row.debug_types) id
+    ∙ sym (own-place shared c u.0 x place can.fits) in
+    let own : unit_bytes d row ≡ x = ap (λ p. part_of (content_of (kind_at p) d)
+    (contribution_to (kind_at p) row)) place_is ∙ ap (part_of (content_of k d))
+    (row-own shared c u.0 x place) ∙ part-put k x c can.fits.some in
+    let abbreviations : part_of (content_of kinds.Abbrev d) row.debug_abbrev ≡ part_of
+    (content_of kinds.Abbrev c) shared.debug_abbrev =
+    ap (part_of (content_of kinds.Abbrev d)) (shared-row shared c u.0 x place kinds.Abbrev refl) ∙
+    keep-part c d shared grows can.lie kinds.Abbrev in (
+      record {
+        inside = λ kind range is. (lie-by shared c k x kind (contribution_to kind row) range
+            can.fits.some can.lie is (row-part shared c u.0 x place kind)).0;
+        some = λ kind range is. (lie-by shared c k x kind (contribution_to kind row) range
+            can.fits.some can.lie is (row-part shared c u.0 x place kind)).1;
+      },
+      λ unit rest read.
+          let there = can.named unit rest
+          ((λ i. unit_at (sym place_is i) (section order (sym own i))) ∙ read) in (
+            there.0,
+            ap (λ l. identity (section order l) unit) abbreviations ∙ there.1 ∙ ap (λ n.
+                Ok (Some n)) (sym id),
+          ),
+    )
+
+either-one : (P : InProgress → Type 0) (b : Bool) (p q : InProgress) → P p → P q → P (cond b p q)
+either-one P true p q h k = h
+either-one P false p q h k = k
+
+units-stand : (order : Endianness) (encoding : Encoding) (p : InProgress)
+    (us : List (DwarfObject × NewUnit)) → AllCanName order encoding p.file.contents us
+    → EachRow (Stands order encoding p.file.contents) p.rows
+    → EachRow (Stands order encoding (with_new_units p us).file.contents) (with_new_units p us).rows
+unfolding with_new_units with_new_unit
+units-stand order encoding p [] can h = h
+units-stand order encoding p (u ∷ us) can h =
+    let d : Contents = with_bytes (kind_at u.1.place) u.1.bytes p.file.contents in
+    let grows : Grows p.file.contents d = grows-with_bytes (kind_at u.1.place) u.1.bytes
+    p.file.contents in
+    either-one (λ r. EachRow (Stands order encoding (with_new_units r us).file.contents)
+    (with_new_units r us).rows) (list_any (same_name u.0) (names_of p)) p (with_unit_added p u)
+    (units-stand order encoding p us can.1 h)
+    (units-stand order encoding (with_unit_added p u) us (keep-can order encoding p.file.contents
+    d us grows can.1)
+    (row-append (Stands order encoding d) p.rows (row_at u.1.row p.file.contents u.0 u.1.bytes
+    u.1.place) (keep-stands order encoding p.file.contents d p.rows grows h)
+    (new-stands order encoding p.file.contents u can.0)))
+
+-- ---- those of a plain object
+
+put-inside : (kind : SectionKind) (parts c : Contents) (range : Contribution)
+    → range_put kind (joined_parts kind parts) c ≡ Some range
+    → (range.offset.0 + range.size ≤ length (content_of kind (with_parts parts c)))
+    × (0 < range.size)
+put-inside kind parts c range h =
+    let x = joined_parts kind parts in
+    let long : length (content_of kind (with_parts parts c)) ≡ length (content_of kind c) + length
+    x = ap length (content-with_parts kind parts c) ∙ length-append (content_of kind c) x in
+    by x long h
+  where
+    by : (x : List ℕ) → length (content_of kind (with_parts parts c)) ≡ length (content_of kind c) +
+        length x → range_put kind x c ≡ Some range
+        → (range.offset.0 + range.size ≤ length (content_of kind (with_parts parts c)))
+        × (0 < range.size)
+    by [] long e = absurd (none-some range e)
+    by (b ∷ bs) long e =
+        let some : 0 < length (b ∷ bs) = omega arith in
+        let same : range_for kind (b ∷ bs) c ≡ range =
+        same_Some _ _ (sym (place-put kind (b ∷ bs) c some) ∙ e) in
+        let at : length (content_of kind c) ≡ range.offset.0 = ap (λ (r : Contribution).
+        r.offset.0) same in
+        let size : length (b ∷ bs) ≡ range.size = ap (λ (r : Contribution). r.size) same in
+        (omega (arith, long, at, size), omega (arith, size, some))
+
+none-inside : (kind : SectionKind) (c : Contents) (part : Option Contribution)
+    (range : Contribution) → part ≡ None → part ≡ Some range
+    → (range.offset.0 + range.size ≤ length (content_of kind c)) × (0 < range.size)
+none-inside kind c part range n e = absurd (none-some range (sym n ∙ e))
+
+module _ (source : Source) (made : InProgress) (parts : Contents) (plain : is_package source.indexes
+    ≡ false) (n : DwarfObject × NewUnit) (r : DwarfObject × UnitRead)
+    (is : IsAdded (adding source made parts) n r) where
+  abbrev c : Contents
+  c = with_parts parts made.file.contents
+
+  abbrev Inside : SectionKind → Type 0
+  Inside kind = (range : Contribution) → contribution_to kind n.1.row ≡ Some range
+      → (range.offset.0 + range.size ≤ length (content_of kind c)) × (0 < range.size)
+
+  shared-inside : (kind : SectionKind) → is_shared kind ≡ true → Inside kind
+  shared-inside kind shared range e = put-inside kind parts made.file.contents range
+      (sym (plain-part source made parts n r plain is kind shared) ∙ e)
+
+  all-inside : (kind : SectionKind) → Inside kind
+  all-inside kinds.Info range e =
+      none-inside kinds.Info c n.1.row.debug_info range
+      ((is-unit_row source.indexes (whole_row source.encoding made.file.contents parts) r.0 n.1.row
+      is.row).info ∙ (whole-else source.encoding made.file.contents parts).1) e
+  all-inside kinds.Types range e =
+      none-inside kinds.Types c n.1.row.debug_types range
+      ((is-unit_row source.indexes (whole_row source.encoding made.file.contents parts) r.0 n.1.row
+      is.row).types ∙ (whole-else source.encoding made.file.contents parts).2) e
+  all-inside kinds.Abbrev range e = shared-inside kinds.Abbrev refl range e
+  all-inside kinds.Line range e = shared-inside kinds.Line refl range e
+  all-inside kinds.Loc range e = shared-inside kinds.Loc refl range e
+  all-inside kinds.Loclists range e = shared-inside kinds.Loclists refl range e
+  all-inside kinds.Rnglists range e = shared-inside kinds.Rnglists refl range e
+  all-inside kinds.StrOffsets range e = shared-inside kinds.StrOffsets refl range e
+  all-inside kinds.Macinfo range e = shared-inside kinds.Macinfo refl range e
+  all-inside kinds.Macro range e = shared-inside kinds.Macro refl range e
+  all-inside kinds.Str range e = absurd (none-some range e)
+  all-inside kinds.CuIndex range e = absurd (none-some range e)
+  all-inside kinds.TuIndex range e = absurd (none-some range e)
+
+  pub new-inside : LieInside c n.1.row
+  new-inside = record {
+    inside = λ kind range e. (all-inside kind range e).0;
+    some = λ kind range e.
+        (all-inside kind range e).1;
+  }
+
+-- the part that was put, nothing too
+part-of-put : (kind : SectionKind) (parts c : Contents)
+    → part_of (content_of kind (with_parts parts c)) (range_put kind (joined_parts kind parts) c) ≡
+    joined_parts kind parts
+part-of-put kind parts c = ap (λ l. part_of l (range_put kind x c))
+    (content-with_parts kind parts c) ∙ by x
+  where
+    x : List ℕ
+    x = joined_parts kind parts
+
+    by : (x : List ℕ) → part_of (content_of kind c ++ x) (range_put kind x c) ≡ x
+    by [] = refl
+    by (b ∷ bs) =
+        ap (λ l. part_of l (range_put kind (b ∷ bs) c)) (sym (content-put kind (b ∷ bs) c)) ∙
+        part-put kind (b ∷ bs) c (omega arith)
+
+can-name : (source : Source) (made : InProgress) (parts : Contents) (after : List (List ℕ))
+    (n : DwarfObject × NewUnit) (r : DwarfObject × UnitRead) → is_package source.indexes ≡ false
+    → parts_of source made.strings ≡ Ok (parts, after)
+    → IsAdded (adding source made parts) n r → Goes source.object.order r
+    → NamedAlone source.object.order source.encoding (first kinds.Abbrev source.object.sections) r
+    → CanName source.object.order source.encoding (with_parts parts made.file.contents) n
+can-name source made parts after n r plain parts_are is goes named =
+    let order = source.object.order in
+    let table = first kinds.Abbrev source.object.sections in
+    let row = is-unit_row source.indexes (whole_row source.encoding made.file.contents parts) r.0
+    n.1.row is.row in
+    let f = first-front kinds.Abbrev source.object.sections in
+    let part : part_of (content_of kinds.Abbrev (with_parts parts made.file.contents))
+    n.1.row.debug_abbrev ≡ table ++ f.rest =
+    ap (part_of (content_of kinds.Abbrev (with_parts parts made.file.contents)))
+    (plain-part source made parts n r plain is kinds.Abbrev refl)
+    ∙ part-of-put kinds.Abbrev parts made.file.contents
+    ∙ parts-copied source made.strings parts after parts_are kinds.Abbrev refl
+    ∙ f.is in
+    record {
+      fits = record {
+        no_types = row.types ∙ (whole-else source.encoding made.file.contents parts).2;
+        some = subst (λ l. 0 < length l) (sym is.bytes) goes.some;
+        types_only = λ h. let t = types-only r.0 r.1.from (sym is.place ∙ h) in
+            (t.0, is.name ∙ t.1);
+      };
+      lie = new-inside source made parts plain n r is;
+      named = λ alone rest read.
+          let there = named alone rest
+          ((λ i. unit_at (sym is.place i) (section order (sym is.bytes i))) ∙ read) in (
+            there.0,
+            ap (λ l. identity (section order l) alone) part ∙ identity-stays (section order table)
+                f.rest alone (Some r.0) there.1 ∙ ap (λ x. Ok (Some x)) (sym is.name),
+          );
+    }
+
+all-can-name : (source : Source) (made : InProgress) (parts : Contents) (after : List (List ℕ))
+    → is_package source.indexes ≡ false → parts_of source made.strings ≡ Ok (parts, after)
+    → (ns : List (DwarfObject × NewUnit)) (rs : List (DwarfObject × UnitRead))
+    → AreAdded (adding source made parts) ns rs → AllGo source.object.order rs
+    → AllNamed source.object.order source.encoding (first kinds.Abbrev source.object.sections) rs
+    → AllCanName source.object.order source.encoding (with_parts parts made.file.contents) ns
+all-can-name source made parts after plain parts_are [] [] are go named = tt
+all-can-name source made parts after plain parts_are [] (r ∷ rs) are go named = absurd are
+all-can-name source made parts after plain parts_are (n ∷ ns) [] are go named = absurd are
+all-can-name source made parts after plain parts_are (n ∷ ns) (r ∷ rs) are go named = (
+  can-name source made parts after n r plain parts_are are.0 go.0 named.0,
+  all-can-name source
+      made parts after plain parts_are ns rs are.1 go.1 named.1,
+)
+
+pub both-rows : (P Q : IndexEntry → Type 0) (rows : List IndexEntry) → EachRow P rows
+    → EachRow Q rows → EachRow (λ row. P row × Q row) rows
+both-rows P Q [] h k = tt
+both-rows P Q (r ∷ rs) h k = ((h.0, k.0), both-rows P Q rs h.1 k.1)
+
+pub names-kept : UnitsAreTaken → ReadAlone → (source : Source) (before now : InProgress)
+    → is_package source.indexes ≡ false → list_all (section_has source.encoding source.object.order)
+    source.object.sections ≡ true
+    → IsSound before → source.object.order ≡ before.file.order → with_source source before ≡ Ok now
+    → HasNamedUnits source.encoding before → HasNamedUnits source.encoding now
+names-kept taken alone source before now plain has sound same h named =
+    let a = plain-added source before now h in
+    let order = source.object.order in
+    let encoding = source.encoding in
+    let table = first kinds.Abbrev source.object.sections in
+    let q = with_all_parts before a.parts a.after (before.differing ++ a.new.differing) in
+    let held = keys (adding source before a.parts).held in
+    let go = go-joining order held a.all (units-go taken alone source a.all a.all_are) in
+    let all = named-joining taken alone source plain held a.all (units-named taken alone source
+    plain a.all has a.all_are) in
+    let can = all-can-name source before a.parts a.after plain a.parts_are a.new.units
+    (joining held a.all) a.are go all in
+    let c = before.file.contents in
+    let old : EachRow (Stands order encoding c) before.rows =
+    both-rows (LieInside c) (NamesItself order encoding c) before.rows (sound-inside before sound)
+    (subst (λ o. EachRow (NamesItself o encoding c) before.rows) (sym same) named) in
+    let stand = units-stand order encoding q a.new.units can (keep-stands order encoding c
+    q.file.contents before.rows (grows-with_parts a.parts c) old) in
+    let order_is : order ≡ now.file.order = same ∙ sym (ap (λ (p : InProgress). p.file.order) a.is ∙
+    order-kept q a.new.units) in
+    subst (λ o. EachRow (NamesItself o encoding now.file.contents) now.rows) order_is
+    (subst (λ (p : InProgress). EachRow (NamesItself order encoding p.file.contents)
+    p.rows) (sym a.is)
+    (weaker (Stands order encoding (with_new_units q a.new.units).file.contents)
+    (NamesItself order encoding (with_new_units q a.new.units).file.contents) (λ row s. s.1)
+    (with_new_units q a.new.units).rows stand))

@@ -1,0 +1,386 @@
+-- What a unit of a written package means as an input: just what was joined.
+use Rattle.std.proofs.Common.{◌≡◌, ◌∙◌, inl, inr, ℕ, zero, suc, ◌+◌, ◌<◌, ◌≢◌, Bool, true, false}
+use Rattle.std.proofs.Common.{cond, List, ◌∷◌, ◌++◌, length, ap, ap₂, sym, refl, subst, Result, Ok}
+use Rattle.std.proofs.Common.{Err, Some, None, is_none, arith, length-append, ◌&&◌}
+use Rattle.std.specs.Prelude.{slice_get, slice_index}
+use Rattle.std.specs.Option.{option_and_then, ok_or}
+use Rattle.std.proofs.lemmas.Bool.{eq-eqb}
+use Rattle.std.proofs.lemmas.List.Elements.{filter-append}
+use Rattle.std.proofs.lemmas.Option.{none-some, same_Some}
+use Rattle.std.proofs.Math.Seq.{take-length}
+use Rattle.dwp_base.specs.declared.section.Contribution.{Contribution}
+use Rattle.dwp_base.specs.declared.section.SectionKind.{SectionKind}
+use Rattle.dwp_base.specs.declared.section.SectionKind.TheVariants as kinds
+use Rattle.dwp_base.specs.Reading.{◌>>=◌}
+use Rattle.dwp_base.specs.Sections.{name_of}
+use Rattle.dwp_bytes.specs.Input.{section}
+use Rattle.dwp_dwarf.specs.Units.{Unit as Header}
+use Rattle.dwp_dwarf.specs.declared.unit.UnitSection.{UnitSection}
+use Rattle.dwp_elf.specs.Contents.{content_of}
+use Rattle.dwp_index.specs.Index.{Index, Ranges, row_in, range_in}
+use Rattle.dwp_index.specs.Package.{part_of, is_outside, place_of}
+use Rattle.dwp_table.specs.Objects.{identifier_of}
+use Rattle.dwp_table.specs.Probing.{found_row}
+use Rattle.dwp_table.specs.declared.object.DwarfObject.{DwarfObject}
+use Rattle.thorin_faults.specs.Fault.{Fault, UnitNotInIndex, RowNotInIndex, BadContribution}
+use Rattle.thorin_faults.specs.Fault.{NotSplitUnit}
+use Rattle.thorin_faults.specs.Answers.{as_fault}
+use Rattle.thorin_identity.specs.Identity.{identity}
+use Rattle.thorin_packaged.specs.RowPlaces.{row_by_place, IsFirstWith}
+use Rattle.thorin_parts.specs.Adjusting.{row_found, row_of}
+use Rattle.thorin_parts.specs.Entries.{contribution_to}
+use Rattle.thorin_parts.specs.IndexText.{entry_ids}
+use Rattle.thorin_parts.specs.ReadRows.{HasEntries, HasParts}
+use Rattle.thorin_parts.specs.declared.entry.IndexEntry.{IndexEntry}
+use Rattle.thorin_strings.specs.Strings.{data_of}
+use Rattle.thorin_join.specs.Builder.{is_chosen, rows_of}
+use Rattle.thorin_input.specs.Growing.{Contents}
+use Rattle.thorin_input.specs.Indexes.{Source, is_package, index_for, looked_up}
+use Rattle.thorin_join.specs.Laid.{type_signature, name_signature, is_at}
+use Rattle.thorin_join.specs.Meaning.{Meaning, pieces_by, part_by, lie_inside, shared_kinds}
+use Rattle.thorin_join.specs.Meaning.{meaning_with, meaning_by, read_of, placed_row, unit_meaning}
+use Rattle.thorin_input.specs.Names.{is_compilation}
+use Rattle.thorin_input.specs.NewUnits.{name_for}
+use Rattle.thorin_join.specs.Represents.{IsRowOf}
+use Rattle.thorin_input.specs.Rows.{own_range, number_by_place, is_same_row, row_test, is_compile}
+use Rattle.thorin_input.specs.Rows.{row_abbreviations, numbered_abbreviations, abbreviations_for}
+use Rattle.thorin_join.specs.State.{kind_at}
+use Rattle.thorin_join.specs.Strings.{strings_of}
+use Rattle.thorin_input.specs.Used.{first}
+use Rattle.thorin_join.proofs.Units.HeadersRead.{name-identity}
+use Rattle.thorin_join.proofs.Units.Sorts.{identity-sort}
+use Rattle.thorin_join.proofs.Files.UnitsFound.{part-there}
+use Rattle.thorin_again.proofs.Meant.RowPlaces.{FirstLaw, FindLaw, IsAgain, Below, below-chosen}
+use Rattle.thorin_again.proofs.Meant.RowPlaces.{below-at}
+use Rattle.thorin_again.proofs.Meant.RowPlaces.{get-seam, get-left, get-there, among}
+use Rattle.thorin_again.proofs.Meant.RowPlaces.{non_empty-some}
+use Rattle.thorin_again.proofs.Meant.RowPlaces.{first-row, chosen-self, place-eq, sort-rows}
+use Rattle.thorin_again.proofs.Meant.RowPlaces.{some-index}
+use Rattle.thorin_again.proofs.Meant.RowPlaces.{same-number, test-inv, test-ok, compile-sort}
+use Rattle.thorin_again.proofs.Meant.RowPlaces.{identity-any}
+use Rattle.thorin_again.proofs.Meant.RowPlaces.{find-none, inside-by, signature-name, index-alike}
+use Rattle.thorin_join.proofs.Files.RowsFound.{id-at}
+use Rattle.thorin_join.proofs.Steps.{ok-eq}
+use Rattle.thorin_join.proofs.Parts.StringLists.{strings-are}
+use Rattle.thorin_join.proofs.Moved.Readings.{plain}
+use Rattle.thorin_again.proofs.Meant.UnitsBySection.{IsTested}
+
+module _ (first_law : FirstLaw) (find_law : FindLaw) (source : Source) (contents : Contents)
+    (strings : List (List ℕ)) (rows : List IndexEntry) (again : IsAgain source
+    contents strings rows)
+    (before later : List IndexEntry) (row : IndexEntry) (split : rows ≡ before ++ row ∷ later)
+    (unit : Meaning) (is : IsRowOf source.object.order contents strings row (row.id, unit))
+    (place : UnitSection) (offset : ℕ) (own : List ℕ)
+    (below : Below (kind_at place) offset before) (here : is_at place row ≡ true)
+    (range_is : contribution_to (kind_at place) row ≡ Some (record {
+      offset = record { 0 = offset };
+      size = length own;
+    }))
+    (part : part_of (content_of (kind_at place) contents)
+    (Some (record { offset = record { 0 = offset }; size = length own })) ≡ own) where
+  abbrev pub kind : SectionKind
+  kind = kind_at place
+
+  abbrev pub sort : Bool
+  sort = is_compilation row.id
+
+  abbrev pub range : Contribution
+  range = record { offset = record { 0 = offset }; size = length own }
+
+  abbrev pub number : ℕ
+  number = length (rows_of sort before)
+
+  rows-are : rows_of sort rows ≡ rows_of sort before ++ row ∷ rows_of sort later
+  rows-are = ap (rows_of sort) split ∙ filter-append (is_chosen sort) before (row ∷ later) ∙ ap
+      (λ b. rows_of sort before ++ cond b (row ∷ rows_of sort later) (rows_of sort later))
+      (chosen-self row)
+
+  pub at : slice_get (rows_of sort rows) number ≡ Some row
+  at = ap (λ l. slice_get l number) rows-are ∙ get-seam (rows_of sort before)
+      (rows_of sort later) row
+
+  pub there : (i : Index) × (index_for source.indexes row.id ≡ Some i)
+      × ((version : ℕ) × HasEntries version (rows_of sort rows) i)
+  there = some-index (index_for source.indexes row.id) (rows_of sort rows) row number
+      (sort-rows source contents strings rows row.id again) at
+
+  abbrev pub index : Index
+  index = there.0
+
+  abbrev pub has : HasEntries there.2.0 (rows_of sort rows) index
+  has = there.2.1
+
+  pub parts : HasParts index (number + 1) row
+  parts = has.each number row at
+
+  range-of : (k : SectionKind) → range_in parts.row k ≡ contribution_to k row
+  range-of k = parts.parts k ∙ part-there (contribution_to k row) (is.lie.some k)
+
+  none-before : (lower : ℕ) (other : Ranges) → lower < number + 1 → row_in index lower ≡ Ok other
+      → range_in other kind ≢ Some range
+  none-before zero other less h e = first-row index other h
+  none-before (suc l) other less h e =
+      let within : l < length (rows_of sort before) = omega arith in
+      let r = get-there (rows_of sort before) l within in
+      let get : slice_get (rows_of sort rows) l ≡ Some r.0 = ap (λ x. slice_get x l) rows-are ∙
+      get-left (rows_of sort before) (row ∷ rows_of sort later) l within ∙ r.1 in
+      let ps = has.each l r.0 get in
+      let next : suc l ≡ l + 1 = omega arith in
+      let same : other ≡ ps.row = ok-eq _ _ (sym h ∙ ap (row_in index) next ∙ ps.there) in
+      let has_range : contribution_to kind r.0 ≡ Some range =
+      non_empty-some (contribution_to kind r.0) range (sym (ps.parts kind) ∙ ap (λ x.
+      range_in x kind) (sym same) ∙ e) in
+      let less_offset : offset < offset = below-at kind offset (rows_of sort before) l r.0
+      (below-chosen kind offset sort before below) r.1 range has_range in
+      omega arith
+
+  is-first : IsFirstWith index kind range (number + 1)
+  is-first = record {
+    row = parts.row;
+    there = parts.there;
+    has = range-of kind ∙ range_is;
+    low = omega arith;
+    high = let within : number < length (rows_of sort rows) =
+        (let e = ap length rows-are ∙ length-append (rows_of sort before)
+        (row ∷ rows_of sort later) in omega arith) in let count = has.count in omega arith;
+    first = none-before;
+  }
+
+  by-place : row_by_place (index_for source.indexes row.id) kind range ≡ Some (number + 1)
+  by-place = ap (λ i. row_by_place i kind range) there.1 ∙ first_law index kind range
+      (number + 1) is-first
+
+  placed : placed_row (index_for source.indexes row.id) kind range ≡ Some parts.row
+  placed =
+      ap (λ i. placed_row i kind range) there.1
+      ∙ ap (option_and_then (λ n. read_of (row_in index n))) (first_law index kind range
+      (number + 1) is-first)
+      ∙ ap read_of parts.there
+
+  bytes-are : (k : SectionKind) → part_of (first k source.object.sections) (range_in parts.row k) ≡
+      part_of (content_of k contents) (contribution_to k row)
+  bytes-are k = ap₂ part_of (again.held k) (range-of k)
+
+  inside : lie_inside source (Some parts.row) ≡ true
+  inside = ap is_none (find-none (λ k. is_outside (first k source.object.sections)
+      (range_in parts.row k)) (λ k.
+      ap₂ is_outside (again.held k) (range-of k) ∙ inside-by (content_of k contents)
+      (contribution_to k row) (is.lie.inside k)) shared_kinds)
+
+  own-is : own ≡ unit.bytes
+  own-is =
+      let same : place ≡ is.owns.place = place-eq place (place_of row.id row.debug_types) here ∙ sym
+      is.owns.place_is in
+      sym part ∙ ap (part_of (content_of kind contents)) (sym range_is) ∙ ap (λ p.
+      part_of (content_of (kind_at p) contents) (contribution_to (kind_at p) row))
+      same ∙ is.owns.bytes
+
+  pieces-are : pieces_by (part_by source (Some parts.row)) ≡ unit.pieces
+  pieces-are = λ i. record {
+    abbreviations = (bytes-are kinds.Abbrev ∙ is.shares.content kinds.Abbrev refl) i;
+    line = (bytes-are kinds.Line ∙ is.shares.content kinds.Line refl) i;
+    loc = (bytes-are kinds.Loc ∙ is.shares.content kinds.Loc refl) i;
+    loclists = (bytes-are kinds.Loclists ∙ is.shares.content kinds.Loclists refl) i;
+    rnglists = (bytes-are kinds.Rnglists ∙ is.shares.content kinds.Rnglists refl) i;
+    macinfo = (bytes-are kinds.Macinfo ∙ is.shares.content kinds.Macinfo refl) i;
+    macros = (bytes-are kinds.Macro ∙ is.shares.content kinds.Macro refl) i;
+  }
+
+  module _ (same_encoding : source.encoding ≡ unit.encoding) where
+    strings-there : strings_of source.object.order source.encoding
+        (first kinds.Str source.object.sections)
+        (part_of (first kinds.StrOffsets source.object.sections)
+        (range_in parts.row kinds.StrOffsets)) ≡ Ok unit.strings
+    strings-there =
+        (λ i. strings_of source.object.order (same_encoding i)
+        ((again.held kinds.Str ∙ again.strings_are) i) (bytes-are kinds.StrOffsets i))
+        ∙ strings-are source.object.order unit.encoding (data_of strings)
+        (part_of (content_of kinds.StrOffsets contents) (contribution_to kinds.StrOffsets row))
+        unit.strings
+        (is.shares.string strings again.table (take-length strings))
+
+    means : meaning_by source own (Some parts.row) ≡ Some unit
+    unfolding meaning_by
+    means =
+        ap (λ b. cond b (meaning_with source own (Some parts.row) (strings_of source.object.order
+        source.encoding (first kinds.Str source.object.sections)
+        (part_of (first kinds.StrOffsets source.object.sections)
+        (range_in parts.row kinds.StrOffsets)))) None) inside
+        ∙ ap (meaning_with source own (Some parts.row)) strings-there
+        ∙ (λ i. Some (record {
+          bytes = own-is i;
+          pieces = pieces-are i;
+          strings = unit.strings;
+          encoding = same_encoding i;
+        }))
+
+  -- looking its identifier up gives its row
+  row_is : found_row index.signatures index.rows (identifier_of row.id) ≡ Some (number + 1)
+  row_is =
+      let finds = find_law (entry_ids (rows_of sort rows)) index.signatures index.rows
+      (identifier_of row.id) has.slots in
+      let id = id-at (rows_of sort rows) number row at in
+      finds.present_row number id.0 id.1
+
+  pub found-row : row_of (index_for source.indexes row.id) (identifier_of row.id) ≡ Ok parts.row
+  unfolding row_of
+  found-row = ap (λ i. row_of i (identifier_of row.id)) there.1 ∙ ap
+      (row_found index (identifier_of row.id)) row_is ∙ ap
+      (as_fault (λ fault. RowNotInIndex fault (number + 1))) parts.there
+
+  -- the row's part of a section
+  pub found-range : (k : SectionKind) → range_in parts.row k ≡ contribution_to k row
+  found-range = range-of
+
+  module _ (h : Header) (whole : h.whole ≡ plain source.object.order offset own) where
+    own-range : own_range h ≡ range
+    own-range = λ i. record {
+      offset = record { 0 = (whole i).place };
+      size =
+          length ((whole i).bytes);
+    }
+
+    -- its identifier is that of its row
+    identifier-is : (name : DwarfObject) → is_compilation name ≡ true → is_compilation row.id ≡ true
+        → row_test source.indexes kind name h ≡ Ok tt → identifier_of row.id ≡ identifier_of name
+    unfolding row_test
+    identifier-is name c d tested =
+        let alike = index-alike source name row.id c d in
+        let found = test-inv (is_package source.indexes)
+        (is_same_row (number_by_place source.indexes kind name h)
+        (looked_up (index_for source.indexes name) (identifier_of name)))
+        (UnitNotInIndex (identifier_of name)) again.packed tested in
+        let number_is : number_by_place source.indexes kind name h ≡ Some (number + 1) =
+        (λ i. row_by_place (alike i) kind (own-range i)) ∙ by-place in
+        let looked : looked_up (index_for source.indexes name) (identifier_of name) ≡
+        Some (number + 1) =
+        same-number (looked_up (index_for source.indexes name) (identifier_of name)) (number + 1)
+        (subst (λ n. is_same_row n (looked_up (index_for source.indexes name) (identifier_of name))
+        ≡ true) number_is found) in
+        let row_is : found_row index.signatures index.rows (identifier_of name) ≡ Some
+        (number + 1) = ap (λ i. looked_up i (identifier_of name))
+        (sym (alike ∙ there.1)) ∙ looked in
+        let finds = find_law (entry_ids (rows_of sort rows)) index.signatures index.rows
+        (identifier_of name) has.slots in
+        let id = (id-at (rows_of sort rows) number row at).1 in
+        elim (among (entry_ids (rows_of sort rows)) (identifier_of name)) [
+          | inl r ↦
+              let n : r.0 + 1 ≡ number + 1 =
+              same_Some _ _ (sym (finds.present_row r.0 r.1 r.2) ∙ row_is) in
+              let same : r.0 ≡ number = omega arith in
+              sym id ∙ ap (slice_index (entry_ids (rows_of sort rows))) (sym same) ∙ r.2
+          | inr none ↦ absurd (none-some (number + 1) (sym (finds.absent_row none) ∙ row_is))
+        ]
+
+    name-is : (name : DwarfObject) → type_signature h.unit_type ≡ name_signature row.id
+        → name_for source kind h ≡ Ok name → IsTested source (
+          name,
+          record {
+            from = kind;
+            unit =
+                h;
+          },
+        ) → name ≡ row.id
+    name-is name agrees named tested =
+        let id = name-identity source kind h name named in
+        signature-name row.id name (sym (identity-sort id.0 h name id.1) ∙ agrees) (λ c d.
+        identifier-is name c d (tested c))
+
+    -- the unit has the name of its row, and means what was joined
+    pub row-means-again : (name : DwarfObject) → source.encoding ≡ unit.encoding
+        → type_signature h.unit_type ≡ name_signature row.id → name_for source kind h ≡ Ok name
+        → IsTested source (name, record { from = kind; unit = h })
+        → (name ≡ row.id) × (unit_meaning source (
+          name,
+          record {
+            from = kind;
+            unit =
+                h;
+          },
+        ) ≡ Some unit)
+    unfolding unit_meaning
+    row-means-again name same_encoding agrees named tested =
+        let is_name = name-is name agrees named tested in (
+          is_name,
+          ap (λ b. cond b (option_and_then (λ r. meaning_by source h.whole.bytes (Some r))
+              (placed_row (index_for source.indexes name) kind (own_range h)))
+              (meaning_by source h.whole.bytes None)) again.packed
+              ∙ (λ i. option_and_then (λ r. meaning_by source ((whole i).bytes) (Some r))
+              (placed_row (index_for source.indexes (is_name i)) kind (own-range i)))
+              ∙ ap (option_and_then (λ r. meaning_by source own (Some r))) placed
+              ∙ means same_encoding,
+        )
+
+    -- it passes the test of its row
+    pub row-tested : row_test source.indexes kind row.id h ≡ Ok tt
+    unfolding row_test
+    row-tested =
+        let number_is : number_by_place source.indexes kind row.id h ≡ Some (number + 1) =
+        ap (row_by_place (index_for source.indexes row.id) kind) own-range ∙ by-place in
+        let looked : looked_up (index_for source.indexes row.id) (identifier_of row.id) ≡ Some
+        (number + 1) = ap (λ i. looked_up i (identifier_of row.id)) there.1 ∙ row_is in
+        test-ok (is_package source.indexes) (is_same_row (number_by_place source.indexes kind row.id
+        h) (looked_up (index_for source.indexes row.id) (identifier_of row.id)))
+        (UnitNotInIndex (identifier_of row.id)) again.packed
+        ((λ i. is_same_row (number_is i) (looked i)) ∙ eq-eqb (number + 1) (number + 1) refl)
+
+    abbrev abbreviations : List ℕ
+    abbreviations = part_of (content_of kinds.Abbrev contents) row.debug_abbrev
+
+    by-number : source.indexes.compilations ≡ index_for source.indexes row.id
+        → numbered_abbreviations (first kinds.Abbrev source.object.sections)
+        source.indexes.compilations (row_by_place source.indexes.compilations kind
+        (own_range h)) ≡ Ok abbreviations
+    unfolding row_abbreviations numbered_abbreviations
+    by-number same =
+        let bytes = first kinds.Abbrev source.object.sections in
+        let index_is : source.indexes.compilations ≡ Some index = same ∙ there.1 in
+        let number_is : row_by_place source.indexes.compilations kind (own_range h) ≡ Some
+        (number + 1) = (λ i. row_by_place (same i) kind (own-range i)) ∙ by-place in
+        let outside : is_outside bytes (range_in parts.row kinds.Abbrev) ≡ false =
+        ap₂ is_outside (again.held kinds.Abbrev) (range-of kinds.Abbrev) ∙ inside-by
+        (content_of kinds.Abbrev contents) (contribution_to kinds.Abbrev row)
+        (is.lie.inside kinds.Abbrev) in
+        (λ i. numbered_abbreviations bytes (index_is i) (number_is i))
+        ∙ ap (λ r. as_fault (λ e. RowNotInIndex e (number + 1)) r >>= row_abbreviations
+        bytes) parts.there
+        ∙ ap (λ b. cond {A = Result (List ℕ) Fault} b
+        (Err (BadContribution (name_of kinds.Abbrev) 0))
+        (Ok (part_of bytes (range_in parts.row kinds.Abbrev)))) outside
+        ∙ ap Ok (bytes-are kinds.Abbrev)
+
+    -- it has the name of its row
+    pub named-again : type_signature h.unit_type ≡ name_signature row.id
+        → identity (section source.object.order abbreviations) h ≡ Ok (Some row.id)
+        → name_for source kind h ≡ Ok row.id
+    unfolding name_for abbreviations_for
+    named-again agrees named = by (is_compile h.unit_type) refl
+      where
+        by : (b : Bool) → is_compile h.unit_type ≡ b
+            → (cond (is_package source.indexes && b) (numbered_abbreviations
+            (first kinds.Abbrev source.object.sections) source.indexes.compilations
+            (row_by_place source.indexes.compilations kind (own_range h)))
+            (Ok (first kinds.Abbrev source.object.sections)) >>= λ table.
+            identity (section source.object.order table) h >>= λ found.
+            ok_or found NotSplitUnit) ≡ Ok row.id
+        by true e =
+            ap (λ p. cond (p && true) (numbered_abbreviations
+            (first kinds.Abbrev source.object.sections) source.indexes.compilations
+            (row_by_place source.indexes.compilations kind (own_range h)))
+            (Ok (first kinds.Abbrev source.object.sections)) >>= λ table.
+            identity (section source.object.order table) h >>= λ found.
+            ok_or found NotSplitUnit) again.packed
+            ∙ ap (λ r. r >>= λ table. identity (section source.object.order table) h >>= λ found.
+            ok_or found NotSplitUnit)
+            (by-number (compile-sort source h.unit_type row.id e agrees))
+            ∙ ap (λ r. r >>= λ found. ok_or found NotSplitUnit) named
+        by false e =
+            ap (λ p. cond (p && false) (numbered_abbreviations
+            (first kinds.Abbrev source.object.sections) source.indexes.compilations
+            (row_by_place source.indexes.compilations kind (own_range h)))
+            (Ok (first kinds.Abbrev source.object.sections)) >>= λ table.
+            identity (section source.object.order table) h >>= λ found.
+            ok_or found NotSplitUnit) again.packed
+            ∙ ap (λ r. r >>= λ found. ok_or found NotSplitUnit)
+            (identity-any (section source.object.order (first kinds.Abbrev source.object.sections))
+            (section source.object.order abbreviations) h e ∙ named)

@@ -1,0 +1,279 @@
+-- A unit of a written package gets a row, whatever package it is added to.
+use Rattle.std.proofs.Common.{◌≡◌, ◌∙◌, ℕ, suc, ◌+◌, ◌<◌, ◌≤◌, Bool, true, false, cond, not, ◌||◌}
+use Rattle.std.proofs.Common.{◌⊎◌, inl, inr, ⊎_elim, List, [], ◌∷◌, length, refl, sym, ap, subst}
+use Rattle.std.proofs.Common.{Result, Ok, Err, Option, Some, None, arith, true≢false}
+use Rattle.std.specs.Prelude.{slice_get, is_some}
+use Rattle.std.proofs.lemmas.Bool.{le-leb}
+use Rattle.std.proofs.lemmas.Option.{none-some, same_Some}
+use Rattle.dwp_base.specs.Reading.{◌>>=◌}
+use Rattle.dwp_base.specs.Sections.{name_of}
+use Rattle.dwp_base.specs.declared.section.Contribution.{Contribution}
+use Rattle.dwp_base.specs.declared.section.SectionKind.{SectionKind}
+use Rattle.dwp_base.specs.declared.section.SectionKind.TheVariants as kinds
+use Rattle.dwp_elf.specs.Contents.{content_of}
+use Rattle.dwp_index.specs.Index.{Index, Ranges, row_in, range_in, column_place}
+use Rattle.dwp_table.specs.Objects.{identifier_of}
+use Rattle.dwp_table.specs.declared.object.DwarfObject.{DwarfObject}
+use Rattle.dwp_table.specs.declared.object.DwarfObject.TheVariants.{Compilation, TypeUnit}
+use Rattle.thorin_faults.specs.Fault.{Fault, BadContribution}
+use Rattle.thorin_parts.specs.Adjusting.{Adjustor, own_index, other_index, row_of, has_column_for}
+use Rattle.thorin_parts.specs.Adjusting.{moved, moved_range, without_column, part_by_row, adjusted}
+use Rattle.thorin_parts.specs.Entries.{contribution_to}
+use Rattle.thorin_parts.specs.IndexText.{is_used}
+use Rattle.thorin_parts.specs.declared.entry.IndexEntry.{IndexEntry}
+use Rattle.thorin_join.specs.Builder.{is_chosen, rows_of}
+use Rattle.thorin_input.specs.Growing.{Contents, range_put}
+use Rattle.thorin_input.specs.Indexes.{Indexes, is_package, index_for}
+use Rattle.thorin_input.specs.Names.{is_compilation}
+use Rattle.thorin_again.specs.Plain.{is_shared}
+use Rattle.thorin_join.specs.Represents.{LieInside}
+use Rattle.thorin_input.specs.Rows.{adjusted_part, unit_row}
+use Rattle.thorin_join.specs.StandApart.{EachRow}
+use Rattle.thorin_join.proofs.Files.Indexes.{HasRows}
+use Rattle.thorin_join.proofs.Rows.OfUnits.{own-index, some-index}
+use Rattle.thorin_join.proofs.Files.UnitsFound.{part-there}
+use Rattle.thorin_join.proofs.Rows.Ranges.{range-none}
+use Rattle.thorin_join.proofs.Steps.{bind-ok}
+use Rattle.thorin_join.proofs.Rows.OneAdded.{place-put, range_for}
+
+-- ---- a section that some row names has a column in the index of that row
+
+-- a row that names the section
+record IsNaming (kind : SectionKind) (rows : List IndexEntry) : Type 0 where
+  number : ℕ
+  row : IndexEntry
+  at : slice_get rows number ≡ Some row
+  range : Contribution
+  is : contribution_to kind row ≡ Some range
+  some : 0 < range.size
+
+naming : (kind : SectionKind) (c : Contents) (rows : List IndexEntry) → EachRow (LieInside c) rows
+    → is_used rows kind ≡ true → IsNaming kind rows
+naming kind c [] lie h = absurd (true≢false (sym h))
+naming kind c (r ∷ rs) lie h = by (contribution_to kind r) refl h (naming kind c rs lie.1)
+  where
+    by : (part : Option Contribution) → contribution_to kind r ≡ part
+        → (is_some part || is_used rs kind) ≡ true → (is_used rs kind ≡ true → IsNaming kind rs)
+        → IsNaming kind (r ∷ rs)
+    by (Some range) e k later = record {
+      number = 0;
+      row = r;
+      at = refl;
+      range = range;
+      is = e;
+      some = lie.0.some kind range e;
+    }
+    by None e k later = let n = later k in record {
+      number = suc n.number;
+      row = n.row;
+      at = n.at;
+      range = n.range;
+      is = n.is;
+      some = n.some;
+    }
+
+each-chosen : (P : IndexEntry → Type 0) (b : Bool) (rows : List IndexEntry) → EachRow P rows
+    → EachRow P (rows_of b rows)
+each-chosen P b [] h = tt
+each-chosen P b (r ∷ rs) h = by (is_chosen b r) (each-chosen P b rs h.1)
+  where
+    by : (c : Bool) → EachRow P (rows_of b rs)
+        → EachRow P (cond c (r ∷ rows_of b rs) (rows_of b rs))
+    by true later = (h.0, later)
+    by false later = later
+
+used-cond : (kind : SectionKind) (r : IndexEntry) (rows : List IndexEntry) (b : Bool)
+    → is_used (cond b (r ∷ rows) rows) kind ≡ cond b (is_some (contribution_to kind r) || is_used
+    rows kind) (is_used rows kind)
+used-cond kind r rows true = refl
+used-cond kind r rows false = refl
+
+pub used-chosen : (kind : SectionKind) (rows : List IndexEntry) → is_used rows kind ≡ true
+    → (is_used (rows_of true rows) kind ≡ true) ⊎ (is_used (rows_of false rows) kind ≡ true)
+used-chosen kind [] h = inl h
+used-chosen kind (r ∷ rs) h =
+    ⊎_elim
+    (λ u. inl (used-cond kind r (rows_of true rs) (is_chosen true r) ∙ u))
+    (λ u. inr (used-cond kind r (rows_of false rs) (is_chosen false r) ∙ u))
+    (by (is_compilation r.id) (is_some (contribution_to kind r)) h (used-chosen kind rs))
+  where
+    by : (b e : Bool) → (e || is_used rs kind) ≡ true → (is_used rs kind ≡ true
+        → (is_used (rows_of true rs) kind ≡ true) ⊎ (is_used (rows_of false rs) kind ≡ true))
+        → (cond b (e || is_used (rows_of true rs) kind) (is_used (rows_of true rs) kind) ≡ true)
+        ⊎ (cond (not b) (e || is_used (rows_of false rs) kind)
+        (is_used (rows_of false rs) kind) ≡ true)
+    by true true k later = inl refl
+    by false true k later = inr refl
+    by true false k later = later k
+    by false false k later = later k
+
+no-index-used : (kind : SectionKind) (rows : List IndexEntry) → rows ≡ []
+    → is_used rows kind ≡ true → ⊥
+no-index-used kind rows none h = true≢false (sym (ap (λ l. is_used l kind) (sym none) ∙ h))
+
+column-by : (kind : SectionKind) (c : Contents) (index : Option Index) (rows : List IndexEntry)
+    → HasRows index rows → EachRow (LieInside c) rows → is_used rows kind ≡ true
+    → has_column_for kind index ≡ true
+column-by kind c None rows has lie h = absurd (no-index-used kind rows has h)
+column-by kind c (Some index) rows has lie h =
+    let n = naming kind c rows lie h in
+    let parts = has.1.each n.number n.row n.at in
+    let there : range_in parts.row kind ≡ Some n.range =
+    parts.parts kind ∙ part-there (contribution_to kind n.row) (λ range e.
+    subst (λ (r : Contribution). 0 < r.size) (same_Some n.range range (sym n.is ∙ e))
+    n.some) ∙ n.is in
+    by (is_some (column_place index.version index.columns kind)) refl (n.number + 1) parts.row
+    n.range parts.there there
+  where
+    by : (b : Bool) → is_some (column_place index.version index.columns kind) ≡ b
+        → (number : ℕ) (row : Ranges) (range : Contribution) → row_in index number ≡ Ok row
+        → range_in row kind ≡ Some range → b ≡ true
+    by true e number row range there k = refl
+    by false e number row range there k =
+        absurd (none-some range (sym (range-none index number row kind there e) ∙ k))
+
+-- either index has it
+either-column : (kind : SectionKind) (c : Contents) (compilations types : Option Index)
+    (rows : List IndexEntry) → HasRows compilations (rows_of true rows)
+    → HasRows types (rows_of false rows) → EachRow (LieInside c) rows
+    → is_used rows kind ≡ true → (has_column_for kind compilations ≡ true)
+    ⊎ (has_column_for kind types ≡ true)
+either-column kind c compilations types rows h k lie used =
+    ⊎_elim
+    (λ u. inl (column-by kind c compilations (rows_of true rows) h (each-chosen (LieInside c)
+    true rows lie) u))
+    (λ u. inr (column-by kind c types (rows_of false rows) k (each-chosen (LieInside c)
+    false rows lie) u))
+    (used-chosen kind rows used)
+
+-- ---- a unit's part is moved
+
+-- a part of a section which as a whole has so many bytes
+abbrev Gives : Result (Option Contribution) Fault → Type 0
+Gives r = (part : Option Contribution) × (r ≡ Ok part)
+
+moved-there : (kind : SectionKind) (id : ℕ) (range : Option Contribution) (x : List ℕ)
+    (before : Contents) → ((r : Contribution) → range ≡ Some r
+    → (r.offset.0 + r.size ≤ length x) × (0 < r.size))
+    → Gives (moved_range kind id range (range_put kind x before))
+unfolding moved
+moved-there kind id None x before h = (None, refl)
+moved-there kind id (Some r) x before h =
+    let i = h r refl in
+    let some : 0 < length x = let a = i.0 in let b = i.1 in omega (arith, a, b) in
+    let whole = range_for kind x before in (
+      Some (record { offset = record { 0 = whole.offset.0 + r.offset.0 }; size = r.size }),
+      ap (moved kind id r) (place-put kind x before some)
+          ∙ ap (λ b. cond {A = Result (Option Contribution) Fault} b
+          (Ok (Some (record {
+            offset = record { 0 = whole.offset.0 + r.offset.0 };
+            size =
+                r.size;
+          }))) (Err (BadContribution (name_of kind) id))) (le-leb _ _ i.0),
+    )
+
+none-there : (kind : SectionKind) (x : List ℕ) (before : Contents) → (0 < length x → ⊥)
+    → Gives (without_column (range_put kind x before))
+none-there kind [] before h = (None, refl)
+none-there kind (b ∷ bs) before h = absurd (h (omega arith))
+
+by-columns : (kind : SectionKind) (id : ℕ) (range : Option Contribution) (x : List ℕ)
+    (before : Contents) (own other : Bool) → ((r : Contribution) → range ≡ Some r
+    → (r.offset.0 + r.size ≤ length x) × (0 < r.size))
+    → (0 < length x → (own ≡ true) ⊎ (other ≡ true))
+    → Gives (cond own (moved_range kind id range (range_put kind x before))
+    (cond other (Ok None) (without_column (range_put kind x before))))
+by-columns kind id range x before true other h k = moved-there kind id range x before h
+by-columns kind id range x before false true h k = (None, refl)
+by-columns kind id range x before false false h k = none-there kind x before (λ some.
+    neither (k some))
+  where
+    neither : (false ≡ true) ⊎ (false ≡ true) → ⊥
+    neither (inl e) = true≢false (sym e)
+    neither (inr e) = true≢false (sym e)
+
+-- either index, as a unit of a name sees them
+sorted-columns : (kind : SectionKind) (a : Adjustor) (name : DwarfObject)
+    → (has_column_for kind a.compilation ≡ true) ⊎ (has_column_for kind a.types ≡ true)
+    → (has_column_for kind (own_index a name) ≡ true)
+    ⊎ (has_column_for kind (other_index a name) ≡ true)
+sorted-columns kind a (Compilation id) h = h
+sorted-columns kind a (TypeUnit signature) (inl h) = inr h
+sorted-columns kind a (TypeUnit signature) (inr h) = inl h
+
+module _ (indexes : Indexes) (packed : is_package indexes ≡ true) (contents : Contents)
+    (rows : List IndexEntry) (compilations : HasRows indexes.compilations (rows_of true rows))
+    (types : HasRows indexes.types (rows_of false rows))
+    (lie : EachRow (LieInside contents) rows) (named : (kind : SectionKind) → is_shared kind ≡ true
+    → 0 < length (content_of kind contents) → is_used rows kind ≡ true)
+    (row : IndexEntry) (inside : LieInside contents row) (found : Ranges)
+    (found_is : row_of (index_for indexes row.id) (identifier_of row.id) ≡ Ok found)
+    (ranges : (kind : SectionKind) → range_in found kind ≡ contribution_to kind row) where
+  part-given : (kind : SectionKind) → is_shared kind ≡ true → (x : List ℕ) (before : Contents)
+      → length x ≡ length (content_of kind contents)
+      → Gives (adjusted_part indexes row.id kind (range_put kind x before))
+  unfolding adjusted
+  part-given kind shared x before long =
+      let a : Adjustor = record {
+        compilation = indexes.compilations;
+        types = indexes.types;
+        section = kind;
+      } in
+      let whole = range_put kind x before in
+      let own_row : row_of (own_index a row.id) (identifier_of row.id) ≡ Ok found =
+      ap (λ i. row_of i (identifier_of row.id)) (own-index indexes kind row.id) ∙ found_is in
+      let given = by-columns kind (identifier_of row.id) (range_in found kind) x before
+      (has_column_for kind (own_index a row.id)) (has_column_for kind (other_index a row.id))
+      (λ r e. let there = sym (ranges kind) ∙ e in let i = inside.inside kind r there in
+      (omega (arith, i, long), inside.some kind r there))
+      (λ some. sorted-columns kind a row.id (either-column kind contents indexes.compilations
+      indexes.types rows compilations types lie
+      (named kind shared (omega (arith, some, long))))) in (
+        given.0,
+        ap (λ b. cond b (Ok whole) (row_of (own_index a row.id) (identifier_of row.id) >>=
+            part_by_row a row.id whole)) (some-index indexes.compilations indexes.types packed)
+            ∙ bind-ok (row_of (own_index a row.id) (identifier_of row.id)) found
+            (part_by_row a row.id whole) own_row
+            ∙ given.1,
+      )
+
+  -- where the wholes lie
+  pub row-given : (whole : IndexEntry) (x : SectionKind → List ℕ) (before : Contents)
+      → ((kind : SectionKind) → is_shared kind ≡ true → length (x kind) ≡ length
+      (content_of kind contents))
+      → ((kind : SectionKind) → is_shared kind ≡ true → contribution_to kind whole ≡ range_put kind
+      (x kind) before) → (given : IndexEntry) × (unit_row indexes whole row.id ≡ Ok given)
+  unfolding unit_row
+  row-given whole x before long put =
+      let one = λ (kind : SectionKind) (shared : is_shared kind ≡ true). part-given kind shared
+      (x kind) before (long kind shared) in
+      let at = λ (kind : SectionKind) (shared : is_shared kind ≡ true).
+      ap (adjusted_part indexes row.id kind) (put kind shared) ∙ (one kind shared).1 in (
+        record whole {
+          id = row.id;
+          debug_abbrev = (one kinds.Abbrev refl).0;
+          debug_line = (one kinds.Line refl).0;
+          debug_loc = (one kinds.Loc refl).0;
+          debug_loclists = (one kinds.Loclists refl).0;
+          debug_rnglists = (one kinds.Rnglists refl).0;
+          debug_str_offsets = (one kinds.StrOffsets refl).0;
+          debug_macinfo = (one kinds.Macinfo refl).0;
+          debug_macro = (one kinds.Macro refl).0;
+        },
+        bind-ok (adjusted_part indexes row.id kinds.Abbrev whole.debug_abbrev)
+            (one kinds.Abbrev refl).0 _ (at kinds.Abbrev refl)
+            ∙ bind-ok (adjusted_part indexes row.id kinds.Line whole.debug_line)
+            (one kinds.Line refl).0 _ (at kinds.Line refl)
+            ∙ bind-ok (adjusted_part indexes row.id kinds.Loc whole.debug_loc)
+            (one kinds.Loc refl).0 _ (at kinds.Loc refl)
+            ∙ bind-ok (adjusted_part indexes row.id kinds.Loclists whole.debug_loclists)
+            (one kinds.Loclists refl).0 _ (at kinds.Loclists refl)
+            ∙ bind-ok (adjusted_part indexes row.id kinds.Rnglists whole.debug_rnglists)
+            (one kinds.Rnglists refl).0 _ (at kinds.Rnglists refl)
+            ∙ bind-ok (adjusted_part indexes row.id kinds.StrOffsets whole.debug_str_offsets)
+            (one kinds.StrOffsets refl).0 _ (at kinds.StrOffsets refl)
+            ∙ bind-ok (adjusted_part indexes row.id kinds.Macinfo whole.debug_macinfo)
+            (one kinds.Macinfo refl).0 _ (at kinds.Macinfo refl)
+            ∙ bind-ok (adjusted_part indexes row.id kinds.Macro whole.debug_macro)
+            (one kinds.Macro refl).0 _ (at kinds.Macro refl),
+      )

@@ -1,0 +1,9 @@
+pub mod Again
+pub mod OneEncoding
+pub mod Own
+pub mod OwnUnits
+pub mod OwnInput
+pub mod Plain
+pub mod OwnRefusals
+pub mod OwnAccepted
+pub mod PlainInputs

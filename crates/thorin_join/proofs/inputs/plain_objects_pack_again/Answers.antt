@@ -1,5 +1,0 @@
-use Rattle.thorin_join.proofs.Lists.PlainInputs.{again-exactly}
-use Rattle.thorin_join.proofs.inputs.plain_objects_pack_again.Goals as goal
-
-pub returns : goal.returns
-returns c = again-exactly c.inputs_are_joined.ensures.sound c.inputs_are_joined.ensures.joins
