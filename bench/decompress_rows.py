@@ -3,6 +3,9 @@
 
 decompress_rows.py FOLDER: FOLDER/data/rows and FOLDER/stdout. Files of both classes and byte orders are put together here,
 their streams by zlib; two are gcc's, and what objcopy --decompress-debug-sections makes of these is what must be printed.
+
+decompress_rows.py compress FILE OUT [TYPE]: an ELF file of 64 bits, little endian, with its debug sections compressed by
+zlib, and said to be of a type of compression (1 is zlib, 2 zstd); TYPE older gives them the older names and headers.
 """
 import pathlib
 import struct
@@ -177,7 +180,24 @@ def refused():
     yield "compressed_names_by_which_names_change", data, "Unrepresentable: Decompressed file can't be written"
 
 
+def compressed(data, kind):
+    """The same file with its debug sections compressed."""
+    elf = Elf()
+    for name, type_, flags, link, content, _ in read(data)[1:]:
+        if name.startswith(".debug_") and kind == "older":
+            elf.add(name.replace(".debug_", ".zdebug_"), older(content), type_, flags, link)
+        elif name.startswith(".debug_"):
+            elf.add(name, elf.chdr(content, kind=int(kind)), type_, flags | COMPRESSED, link)
+        elif name != ".shstrtab":
+            elf.add(name, content, type_, flags, link)
+    return elf.file()
+
+
 def main():
+    if sys.argv[1:2] == ["compress"] and len(sys.argv) in (4, 5):
+        data = pathlib.Path(sys.argv[2]).read_bytes()
+        pathlib.Path(sys.argv[3]).write_bytes(compressed(data, (*sys.argv, "1")[4]))
+        return
     if len(sys.argv) != 2:
         sys.exit(__doc__)
     folder = pathlib.Path(sys.argv[1]).resolve()

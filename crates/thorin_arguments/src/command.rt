@@ -74,6 +74,11 @@ const FILE: Word = Word::Place("file", "FILE", "The package");
 
 const PACKED: Word = Word::Executables("Executables whose objects are packed, after all inputs");
 
+const DECOMPRESS: Word = Word::Flag(
+    "decompress",
+    "Read inputs and executables that are compressed by zlib",
+);
+
 const COMMANDS: [Line; 4] = [
     Line {
         name: "pack",
@@ -87,6 +92,7 @@ const COMMANDS: [Line; 4] = [
                 "Skip missing objects; their units must come from another input",
             ),
             Word::Flag("force", "Write OUT even if it is an input"),
+            DECOMPRESS,
             Word::Verbose,
             Word::Inputs,
         ],
@@ -124,6 +130,7 @@ const COMMANDS: [Line; 4] = [
         words: &[
             FILE,
             Word::Executables("Executables whose units have to be in the package"),
+            DECOMPRESS,
         ],
     },
 ];

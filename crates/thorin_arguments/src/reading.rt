@@ -19,6 +19,8 @@ pub struct PackArguments<'m, 'a> {
     pub skips_missing: bool,
     /// Whether the package may take the place of an input.
     pub force: bool,
+    /// Whether compressed sections are decompressed.
+    pub decompresses: bool,
     /// Whether the package is checked, and none is made.
     pub verifies_only: bool,
     /// Whether a line tells of each input.
@@ -36,8 +38,8 @@ pub trait Commands {
     /// Lists the units of a package.
     fn list(&mut self, file: &str, has_sizes: bool) -> u8;
 
-    /// Goes over a package, for these executables.
-    fn check(&mut self, file: &str, executables: &[&str]) -> u8;
+    /// Goes over a package, for these executables, whose compressed sections may be decompressed.
+    fn check(&mut self, file: &str, executables: &[&str], decompresses: bool) -> u8;
 
     /// Prints a text that was asked for, as help.
     fn show<D: fmt::Display>(&mut self, text: &D) -> u8;
@@ -148,7 +150,8 @@ fn list<C: Commands>(matches: &ArgMatches<'_>, commands: &mut C) -> u8 {
 /// Checks the package that the words name, for the executables that they name.
 fn check<C: Commands>(matches: &ArgMatches<'_>, commands: &mut C) -> u8 {
     let executables = values_of(matches, "exec").unwrap_or(&[]);
-    commands.check(word_of(matches, "file"), executables)
+    let decompresses = has_flag(matches, "decompress");
+    commands.check(word_of(matches, "file"), executables, decompresses)
 }
 
 /// Looks up the unit that the words name.
@@ -185,11 +188,12 @@ fn arguments_of<'m, 'a>(matches: &'m ArgMatches<'a>) -> PackArguments<'m, 'a> {
     PackArguments {
         skips_missing: has_flag(matches, "skip-missing"),
         force: has_flag(matches, "force"),
+        decompresses: has_flag(matches, "decompress"),
         ..arguments_of_peer(matches)
     }
 }
 
-/// What the command lines of `dwp` and `llvm-dwp` ask for.
+/// What the command lines of `dwp` and `llvm-dwp` ask for. Those decompress without being told.
 fn arguments_of_peer<'m, 'a>(matches: &'m ArgMatches<'a>) -> PackArguments<'m, 'a> {
     PackArguments {
         output: value_of(matches, "output"),
@@ -197,6 +201,7 @@ fn arguments_of_peer<'m, 'a>(matches: &'m ArgMatches<'a>) -> PackArguments<'m, '
         executables: values_of(matches, "exec"),
         skips_missing: false,
         force: false,
+        decompresses: true,
         verifies_only: has_flag(matches, "verify-only"),
         verbose: has_flag(matches, "verbose"),
     }

@@ -80,8 +80,8 @@ impl<O: Write, E: Write> Commands for Program<'_, '_, '_, O, E> {
         self.status(answer)
     }
 
-    fn check(&mut self, file: &str, executables: &[&str]) -> u8 {
-        let answer = check(self.rt, file, executables, self.out);
+    fn check(&mut self, file: &str, executables: &[&str], decompresses: bool) -> u8 {
+        let answer = check(self.rt, file, executables, decompresses, self.out);
         self.status(answer)
     }
 
@@ -119,6 +119,7 @@ fn packing_of<'m, 'a>(arguments: PackArguments<'m, 'a>) -> Packing<'m, 'a> {
         executables: arguments.executables,
         missing,
         force: arguments.force,
+        decompresses: arguments.decompresses,
         verbose: arguments.verbose,
     }
 }

@@ -1,3 +1,4 @@
 mod Inputs
 mod Puts
 mod Readable
+mod Taken

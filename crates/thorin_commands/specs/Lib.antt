@@ -1,2 +1,3 @@
 pub mod Files
 pub mod Packing
+pub mod Plain

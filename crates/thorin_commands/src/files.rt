@@ -1,35 +1,50 @@
 //! The files that `pack` reads, and the one that it writes.
 
-ghost use Rattle.std.specs.Prelude.{ℕ, List, Option, Some, None, OnOk, OnErr, IfErr};
+ghost use Rattle.std.specs.Prelude.{ℕ, List, Result, Option, Some, None, OnOk, OnErr, IfErr};
+ghost use Rattle.std.specs.Path.{path_bytes};
+ghost use Rattle.std.specs.declared.io.Error.{Error as IoError};
 ghost use Rattle.dwp_elf.specs.FileText.{file_text};
+ghost use Rattle.thorin_faults.specs.Sessions.{IsNoWantOfMemory};
 ghost use Rattle.thorin_commands.specs.Files.{Begun, Adds, IsOfWriting};
 ghost use Rattle.thorin_commands.specs.Packing.{anything};
+ghost use Rattle.thorin_commands.specs.Plain.{IsReadOver};
 
 use crate::output::hand_over;
 use dwp_elf::WritableObject;
 use std::io::Write;
 use std::path::Path;
-use thorin::InputReader;
 use thorin_faults::InputError;
 use thorin_files::{Contents, WriteError};
 use thorin_queries::{Failure, unit_count};
 
 /// The files that `pack` reads and writes. It has no other way to a file.
-pub trait FileSystem: InputReader {
+pub trait FileSystem {
+    // What a read of the file at a path may answer.
+    ghost offer: { Self → List ℕ → Result (List ℕ) IoError → Type 0 };
+
     // The files that were begun, in order, where that is known: the name of each, with all its
     // bytes where it was written to its end.
     ghost begun: { Self → Option (List Begun) } = { λ _. None };
+
+    /// Reads the file at a path whole, into room that other files were read into before.
+    ///
+    /// # Errors
+    /// Why it couldn't be read; want of memory is `InputError::Memory` alone.
+    fn read_over(&self, path: Path<'_>, room: &mut Vec<u8>) -> Result<(), InputError>
+        ensures offered { IsReadOver (offer self.now (path_bytes path.entry)) room.new.items
+            result }
+        ensures memory { IfErr result IsNoWantOfMemory };
 
     /// The device and the number of the file at a path, by which two names of one file are known.
     /// None where there is no file.
     fn identity(&self, name: &str) -> Option<(u64, u64)>;
 
-    /// How many units an object has that was accepted. It is read a second time: none where that
-    /// can't be done.
+    /// How many units an object has that was accepted, decompressed where that was asked for. It
+    /// is read a second time: none where that can't be done.
     ///
     /// # Errors
     /// `Input` where the read fails, `Memory`.
-    fn unit_count(&self, name: &str) -> Result<Option<usize>, Failure>;
+    fn unit_count(&self, name: &str, decompresses: bool) -> Result<Option<usize>, Failure>;
 
     /// Writes an object's file under a name.
     ///
@@ -55,26 +70,20 @@ impl<'a> HostFiles<'a> {
     }
 }
 
-impl InputReader for HostFiles<'_> {
+impl FileSystem for HostFiles<'_> {
     ghost offer = { λ _. anything };
 
-    fn read_into<'b>(
-        &'b self,
-        path: Path<'_>,
-        room: &'b mut Vec<u8>,
-    ) -> Result<&'b [u8], InputError> {
+    fn read_over(&self, path: Path<'_>, room: &mut Vec<u8>) -> Result<(), InputError> {
         thorin_files::read_over(self.rt, path, room)?;
-        Ok(room.as_slice())
+        Ok(())
     }
-}
 
-impl FileSystem for HostFiles<'_> {
     fn identity(&self, name: &str) -> Option<(u64, u64)> {
         thorin_files::identity(self.rt, name)
     }
 
-    fn unit_count(&self, name: &str) -> Result<Option<usize>, Failure> {
-        unit_count(self.rt, name)
+    fn unit_count(&self, name: &str, decompresses: bool) -> Result<Option<usize>, Failure> {
+        unit_count(self.rt, name, decompresses)
     }
 
     fn write_object(&mut self, object: &WritableObject, name: &str) -> Result<(), Failure> {

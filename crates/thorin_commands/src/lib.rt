@@ -5,6 +5,7 @@
 mod files;
 mod output;
 mod packing;
+mod plain;
 mod telling;
 
 pub use files::{FileSystem, HostFiles};

@@ -12,9 +12,11 @@ ghost use Rattle.thorin_commands.specs.Files.{IsOfWriting, Put, Begins};
 ghost use Rattle.thorin_commands.specs.Packing.{asked, object_asked, executable_asked, asks};
 ghost use Rattle.thorin_commands.specs.Packing.{out_of, AreAllAccepted, IsPackedOf, Packs, Comes};
 ghost use Rattle.thorin_commands.specs.Packing.{IsPackageFor, Fails, paths_in};
+ghost use Rattle.thorin_commands.specs.Plain.{taken_from};
 
 use crate::files::FileSystem;
 use crate::output::{Refusal, flush, write_package};
+use crate::plain::{InputFiles, Inputs};
 use crate::telling::{tell, tell_fault};
 use bumpalo::Bump;
 use dwp_bytes::RelocationEntry;
@@ -43,6 +45,8 @@ pub struct Packing<'m, 'a> {
     pub missing: MissingReferencedObjectBehaviour,
     /// Whether the package may take the place of an input.
     pub force: bool,
+    /// Whether compressed sections of inputs are decompressed first.
+    pub decompresses: bool,
     /// Whether a line tells of each input.
     pub verbose: bool,
 }
@@ -91,7 +95,8 @@ pub fn verify<O: Write>(
     out: &mut O,
 ) -> Result<u8, Failure> {
     let output = packing.output_name(rt.alloc())?;
-    check(rt, output.as_str(), paths_in(packing.executables), out)
+    let executables = paths_in(packing.executables);
+    check(rt, output.as_str(), executables, packing.decompresses, out)
 }
 
 /// Packs the inputs in order, then what each executable refers to, and writes the package: to the
@@ -110,12 +115,12 @@ pub fn pack<F: FileSystem, O: Write, E: Write>(
     out: &mut O,
     err: &mut E,
 ) -> Result<u8, Failure>
-    ensures packed { result ≡ Ok 0 → Packs (F.offer files.old) packing.now
+    ensures packed { result ≡ Ok 0 → Packs (taken_from packing.now.decompresses (F.offer files.old)) packing.now
         (Put F.begun O.contents files.old files.new out.old out.new) }
     ensures status { IfOk result (λ status. status ≤ 1) }
     ensures refused { result ≡ Ok 1 → (files.new ≡ files.old) × (out.new ≡ out.old) }
     ensures failed { IfErr result (λ failure. Fails failure
-        ((files.new ≡ files.old) × (out.new ≡ out.old)) (Packs (F.offer files.old) packing.now
+        ((files.new ≡ files.old) × (out.new ≡ out.old)) (Packs (taken_from packing.now.decompresses (F.offer files.old)) packing.now
         (Begins F.begun O.contents files.old files.new out.old out.new))) }
 {
     match pack_all(alloc, files, packing, out, err) {
@@ -135,9 +140,9 @@ fn pack_all<F: FileSystem, O: Write, E: Write>(
     err: &mut E,
 ) -> Result<(), Refusal>
     ensures { Comes result ((files.new ≡ files.old) × (out.new ≡ out.old))
-        (Packs (F.offer files.old) packing.now
+        (Packs (taken_from packing.now.decompresses (F.offer files.old)) packing.now
         (Begins F.begun O.contents files.old files.new out.old out.new))
-        (Packs (F.offer files.old) packing.now
+        (Packs (taken_from packing.now.decompresses (F.offer files.old)) packing.now
         (Put F.begun O.contents files.old files.new out.old out.new)) }
 {
     match packing.output_name(alloc) {
@@ -158,9 +163,9 @@ fn pack_as<F: FileSystem, O: Write, E: Write>(
 ) -> Result<(), Refusal>
     requires { out_of packing.now ≡ Some output.now }
     ensures { Comes result ((files.new ≡ files.old) × (out.new ≡ out.old))
-        (Packs (F.offer files.old) packing.now
+        (Packs (taken_from packing.now.decompresses (F.offer files.old)) packing.now
         (Begins F.begun O.contents files.old files.new out.old out.new))
-        (Packs (F.offer files.old) packing.now
+        (Packs (taken_from packing.now.decompresses (F.offer files.old)) packing.now
         (Put F.begun O.contents files.old files.new out.old out.new)) }
 {
     if packing.overwrites(files, output) {
@@ -257,12 +262,14 @@ fn packed<F: FileSystem, E: Write>(
     packing: &Packing<'_, '_>,
     err: &mut E,
 ) -> Result<(WritableObject, Vec<DebugTypeSignature>), Refusal>
-    ensures { IfOk result (λ made. IsPackageFor (F.offer files.now) packing.now made.0) }
+    ensures { IfOk result (λ made. IsPackageFor
+        (taken_from packing.now.decompresses (F.offer files.now)) packing.now made.0) }
 {
     let objects = paths_in(packing.inputs);
     let executables = paths_in(packing.executables);
     let inputs = inputs_of(alloc, objects, executables, packing.missing)?;
-    packed_inputs(alloc, files, inputs.as_slice(), packing.verbose, err)
+    let files = InputFiles::new(alloc, files, packing.decompresses);
+    packed_inputs(alloc, &files, inputs.as_slice(), packing.verbose, err)
 }
 
 /// The paths of a list, none where there is no list.
@@ -296,14 +303,14 @@ fn inputs_of<'a>(
 }
 
 /// The object to be written for these inputs, and those signatures.
-fn packed_inputs<F: FileSystem, E: Write>(
+fn packed_inputs<I: Inputs, E: Write>(
     alloc: Global,
-    files: &F,
+    files: &I,
     inputs: &[Input<'_>],
     verbose: bool,
     err: &mut E,
 ) -> Result<(WritableObject, Vec<DebugTypeSignature>), Refusal>
-    ensures { IfOk result (λ made. IsPackedOf (F.offer files.now) inputs.now made.0) }
+    ensures { IfOk result (λ made. IsPackedOf (I.offer files.now) inputs.now made.0) }
 {
     let bump = Bump::new(alloc);
     let session = BytesSession::new(&bump);
@@ -311,15 +318,15 @@ fn packed_inputs<F: FileSystem, E: Write>(
 }
 
 /// The same, over a session that holds what is read.
-fn packed_over<'s, Sess: Session<RelocationEntry>, F: FileSystem, E: Write>(
+fn packed_over<'s, Sess: Session<RelocationEntry>, I: Inputs, E: Write>(
     alloc: Global,
     session: &'s Sess,
-    files: &F,
+    files: &I,
     inputs: &[Input<'_>],
     verbose: bool,
     err: &mut E,
 ) -> Result<(WritableObject, Vec<DebugTypeSignature>), Refusal>
-    ensures { IfOk result (λ made. IsPackedOf (F.offer files.now) inputs.now made.0) }
+    ensures { IfOk result (λ made. IsPackedOf (I.offer files.now) inputs.now made.0) }
 {
     runs_go_on(files);
     let mut builder = DwarfPackage::new(alloc, session);
@@ -374,15 +381,15 @@ fn can_be_written(object: &WritableObject) -> Result<(), Error>
 }
 
 /// Takes the inputs in order, up to the first that is refused.
-fn take_all<'o, 's: 'o, Sess: Session<RelocationEntry>, F: FileSystem, E: Write>(
+fn take_all<'o, 's: 'o, Sess: Session<RelocationEntry>, I: Inputs, E: Write>(
     alloc: Global,
-    files: &F,
+    files: &I,
     builder: &mut DwarfPackage<'o, 's, Sess>,
     inputs: &[Input<'_>],
     verbose: bool,
     err: &mut E,
 ) -> Result<(), Refusal>
-    ensures { OnOk result ((accepted : List (List ℕ)) × AreAllAccepted (F.offer files.now)
+    ensures { OnOk result ((accepted : List (List ℕ)) × AreAllAccepted (I.offer files.now)
         inputs.now builder.old.state builder.new.state accepted) }
 {
     let mut room = Vec::new(alloc);
@@ -394,8 +401,8 @@ fn take_all<'o, 's: 'o, Sess: Session<RelocationEntry>, F: FileSystem, E: Write>
 }
 
 /// Takes an input, and tells what came of it where that is asked for.
-fn take<'o, 's: 'o, Sess: Session<RelocationEntry>, F: FileSystem, E: Write>(
-    files: &F,
+fn take<'o, 's: 'o, Sess: Session<RelocationEntry>, I: Inputs, E: Write>(
+    files: &I,
     builder: &mut DwarfPackage<'o, 's, Sess>,
     room: &mut Vec<u8>,
     input: Input<'_>,
@@ -403,7 +410,7 @@ fn take<'o, 's: 'o, Sess: Session<RelocationEntry>, F: FileSystem, E: Write>(
     err: &mut E,
 ) -> Result<(), Refusal>
     ensures { OnOk result
-        (Took (F.offer files.now) input.entry builder.old.state (Ok tt) builder.new.state) }
+        (Took (I.offer files.now) input.entry builder.old.state (Ok tt) builder.new.state) }
 {
     let before = builder.contained_units().len();
     let outcome = take_input(builder, files, room, input);

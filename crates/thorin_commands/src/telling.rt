@@ -2,7 +2,7 @@
 
 ghost use Rattle.std.specs.Prelude.{◌≡◌};
 
-use crate::files::FileSystem;
+use crate::plain::Inputs;
 use std::io::Write;
 use std::path::AsPath;
 use thorin::Input;
@@ -10,8 +10,8 @@ use thorin_faults::Error;
 use thorin_queries::{Failure, tell_refused, tell_taken};
 
 /// Tells what came of an input that a path names, and how many units of it were added.
-pub(crate) fn tell<F: FileSystem, E: Write>(
-    files: &F,
+pub(crate) fn tell<I: Inputs, E: Write>(
+    inputs: &I,
     input: Input<'_>,
     added: usize,
     outcome: &Result<(), Error>,
@@ -19,22 +19,22 @@ pub(crate) fn tell<F: FileSystem, E: Write>(
 ) -> Result<(), Failure> {
     match (input, outcome) {
         (Input::Bytes(_), _) => Ok(()),
-        (Input::Object(path), Ok(())) => tell_object(files, path.path_text(), added, err),
+        (Input::Object(path), Ok(())) => tell_object(inputs, path.path_text(), added, err),
         (Input::Executable(path, _), Ok(())) => tell_taken(err, path.path_text(), added, None),
         (Input::Object(path) | Input::Executable(path, _), Err(fault)) => {
-            tell_refused(err, path.path_text(), fault)
+            tell_refused(err, path.path_text(), fault, inputs.decompresses())
         }
     }
 }
 
 /// Tells how many units of an object were added, and how many were passed over.
-fn tell_object<F: FileSystem, E: Write>(
-    files: &F,
+fn tell_object<I: Inputs, E: Write>(
+    inputs: &I,
     name: &str,
     added: usize,
     err: &mut E,
 ) -> Result<(), Failure> {
-    let all = files.unit_count(name)?;
+    let all = inputs.unit_count(name)?;
     tell_taken(err, name, added, all)
 }
 

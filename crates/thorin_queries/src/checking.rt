@@ -1,7 +1,7 @@
 //! `thorin check`.
 
 use crate::abbreviations::Remembered;
-use crate::executables::check_executables;
+use crate::executables::{Named, check_executables};
 use crate::finding::short_kind;
 use crate::input::{contents_of, elf_of, package_of, read_file};
 use crate::listing::{entries_by_row, is_type};
@@ -19,7 +19,7 @@ use thorin_faults::Error;
 /// Goes over a package: each unit that a slot of an index names is found under its identifier, its
 /// ranges are inside their sections, its header and all its strings can be read, and the identifier
 /// is its own; a slot names each row; and the package has each split unit that the executables
-/// name. Prints a line for each fault, and how many units and faults there are. Answers the status,
+/// name. Compressed sections of these may be decompressed. Prints a line for each fault, and how many units and faults there are. Answers the status,
 /// 1 where there are faults.
 ///
 /// # Errors
@@ -29,31 +29,36 @@ pub fn check<O: Write>(
     rt: &HostRuntime,
     file: &str,
     executables: &[&str],
+    decompresses: bool,
     out: &mut O,
 ) -> Result<u8, Failure> {
     let bytes = read_file(rt, file)?;
-    check_through(rt, bytes.as_slice(), executables, out)
+    let named = Named {
+        executables,
+        decompresses,
+    };
+    check_through(rt, bytes.as_slice(), named, out)
 }
 
 /// Checks a package's bytes, and prints through a buffer.
 fn check_through<O: Write>(
     rt: &HostRuntime,
     bytes: &[u8],
-    executables: &[&str],
+    named: Named<'_, '_>,
     out: &mut O,
 ) -> Result<u8, Failure> {
     let mut lines = buffer(rt.alloc(), out)?;
-    check_bytes(rt, bytes, executables, &mut lines)
+    check_bytes(rt, bytes, named, &mut lines)
 }
 
 /// Checks a package's bytes, and prints all of it. Answers the status.
 fn check_bytes<W: Write>(
     rt: &HostRuntime,
     bytes: &[u8],
-    executables: &[&str],
+    named: Named<'_, '_>,
     lines: &mut W,
 ) -> Result<u8, Failure> {
-    let (units, faults) = check_package(rt, bytes, executables, lines)?;
+    let (units, faults) = check_package(rt, bytes, named, lines)?;
     tell_counts(units, faults, lines)?;
     flush(lines)?;
     Ok(u8::from(faults != 0))
@@ -70,7 +75,7 @@ fn tell_counts<W: Write>(units: usize, faults: u64, lines: &mut W) -> Result<(),
 fn check_package<W: Write>(
     rt: &HostRuntime,
     bytes: &[u8],
-    executables: &[&str],
+    named: Named<'_, '_>,
     lines: &mut W,
 ) -> Result<(usize, u64), Failure> {
     let package = package_of(bytes)?;
@@ -79,7 +84,7 @@ fn check_package<W: Write>(
         return Err(Failure::NoIndex);
     }
     let entries = entries_by_row(rt, &package)?;
-    let faults = check_parts(rt, &package, &file, entries.as_slice(), executables, lines)?;
+    let faults = check_parts(rt, &package, &file, entries.as_slice(), named, lines)?;
     Ok((entries.len(), faults))
 }
 
@@ -95,12 +100,12 @@ fn check_parts<W: Write>(
     package: &PackageFile<'_>,
     file: &ElfFile<'_>,
     entries: &[UnitEntry],
-    executables: &[&str],
+    named: Named<'_, '_>,
     lines: &mut W,
 ) -> Result<u64, Failure> {
     let of_units = check_units(rt, package, file.endianness(), entries, lines)?;
     let of_rows = check_indexes(file, entries, lines)?;
-    let of_executables = check_executables(rt, package, executables, lines)?;
+    let of_executables = check_executables(rt, package, named, lines)?;
     Ok(
         of_units
             .saturating_add(of_rows)

@@ -1,6 +1,7 @@
 //! The units that executables name, in `thorin check`.
 
 use crate::finding::short_kind;
+use crate::input::plain_of;
 use crate::output::{Failure, written};
 use bumpalo::Bump;
 use dwp_bytes::RelocationEntry;
@@ -12,16 +13,26 @@ use std::path::Path;
 use thorin_executable::SkeletonUnits;
 use thorin_faults::{ArenaSession, Error, InputError, Session};
 
+/// The executables whose units are to be in a package.
+#[derive(Clone, Copy)]
+pub(crate) struct Named<'m, 'a> {
+    /// Their paths.
+    pub executables: &'m [&'a str],
+    /// Whether their compressed sections are decompressed.
+    pub decompresses: bool,
+}
+
 /// Each split unit that executables name is in the package. Answers the number of faults.
 pub(crate) fn check_executables<W: Write>(
     rt: &HostRuntime,
     package: &PackageFile<'_>,
-    executables: &[&str],
+    named: Named<'_, '_>,
     lines: &mut W,
 ) -> Result<u64, Failure> {
     let mut faults = 0u64;
-    for i in 0..executables.len() {
-        let found = check_executable(rt, package, executables[i], lines)?;
+    for i in 0..named.executables.len() {
+        let executable = named.executables[i];
+        let found = check_executable(rt, package, executable, named.decompresses, lines)?;
         faults = faults.saturating_add(found);
     }
     Ok(faults)
@@ -32,6 +43,7 @@ fn check_executable<W: Write>(
     rt: &HostRuntime,
     package: &PackageFile<'_>,
     executable: &str,
+    decompresses: bool,
     lines: &mut W,
 ) -> Result<u64, Failure> {
     if thorin_files::is_device(rt, executable) {
@@ -39,18 +51,20 @@ fn check_executable<W: Write>(
     }
     let bump = Bump::new(rt.alloc());
     let session = ArenaSession::new(rt, &bump);
-    check_named(rt.alloc(), &session, package, executable, lines)
+    let bytes = read_executable(&session, executable)?;
+    let bytes = plain_in(rt.alloc(), &session, bytes, decompresses)?;
+    check_named(rt.alloc(), &session, package, executable, bytes, lines)
 }
 
-/// The same, with a session that reads the executable.
+/// The same of an executable's bytes, with a session that holds them.
 fn check_named<'s, Sess: Session<RelocationEntry>, W: Write>(
     alloc: Global,
     session: &'s Sess,
     package: &PackageFile<'_>,
     executable: &str,
+    bytes: &'s [u8],
     lines: &mut W,
 ) -> Result<u64, Failure> {
-    let bytes = read_executable(session, executable)?;
     match SkeletonUnits::read(alloc, session, bytes) {
         Ok(mut units) => check_skeletons(package, executable, &mut units, lines),
         Err(fault) => tell_fault(executable, &fault, lines),
@@ -66,6 +80,19 @@ fn read_executable<'s, Sess: Session<RelocationEntry>>(
         Ok(bytes) => Ok(bytes),
         Err(InputError::Io(_)) => Err(Failure::Input),
         Err(InputError::Memory) => Err(Failure::Memory),
+    }
+}
+
+/// Bytes that a session holds, decompressed where that is asked for.
+fn plain_in<'s, Sess: Session<RelocationEntry>>(
+    alloc: Global,
+    session: &'s Sess,
+    bytes: &'s [u8],
+    decompresses: bool,
+) -> Result<&'s [u8], Failure> {
+    match plain_of(alloc, bytes, decompresses)? {
+        None => Ok(bytes),
+        Some(plain) => Ok(session.alloc_data(plain)?),
     }
 }
 

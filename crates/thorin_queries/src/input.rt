@@ -1,8 +1,10 @@
 //! Reading files.
 
 use crate::output::Failure;
+use dwp_decompress::{DecompressError, decompressed};
 use dwp_elf::{ElfFile, Section, SectionKind};
 use dwp_index::PackageFile;
+use std::alloc::Global;
 use std::io;
 
 /// Reads a file whole. A device isn't read.
@@ -19,6 +21,23 @@ fn read_failure(e: &io::Error) -> Failure {
         Failure::Memory
     } else {
         Failure::Input
+    }
+}
+
+/// A file's bytes with plain sections in place of compressed ones, where that is asked for. None
+/// where it has none, or one of them can't be read: who uses that section refuses it.
+pub(crate) fn plain_of(
+    alloc: Global,
+    bytes: &[u8],
+    decompresses: bool,
+) -> Result<Option<Vec<u8>>, Failure> {
+    if !decompresses {
+        return Ok(None);
+    }
+    match decompressed(alloc, bytes) {
+        Ok(plain) => Ok(plain),
+        Err(DecompressError::Memory) => Err(Failure::Memory),
+        Err(_) => Ok(None),
     }
 }
 

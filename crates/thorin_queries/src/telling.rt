@@ -1,6 +1,6 @@
 //! What `pack` tells of its inputs, and of type units that differ.
 
-use crate::input::read_file;
+use crate::input::{plain_of, read_file};
 use crate::output::{Failure, written};
 use dwp_dwarf::{SliceReader, UnitHeaders, UnitSection};
 use dwp_elf::{ElfFile, Endianness, Section, SectionKind};
@@ -27,14 +27,21 @@ pub fn tell_taken<E: Write>(
     written(told)
 }
 
-/// How many units an object has that was accepted. It is read a second time: none where it is no
-/// regular file.
-pub fn unit_count(rt: &HostRuntime, path: &str) -> Result<Option<usize>, Failure> {
+/// How many units an object has that was accepted, decompressed where that was asked for. It is
+/// read a second time: none where it is no regular file.
+pub fn unit_count(
+    rt: &HostRuntime,
+    path: &str,
+    decompresses: bool,
+) -> Result<Option<usize>, Failure> {
     if !thorin_files::is_file(rt, path) {
         return Ok(None);
     }
     let bytes = read_file(rt, path)?;
-    Ok(count_units(bytes.as_slice()))
+    match plain_of(rt.alloc(), bytes.as_slice(), decompresses)? {
+        Some(plain) => Ok(count_units(plain.as_slice())),
+        None => Ok(count_units(bytes.as_slice())),
+    }
 }
 
 /// How many units the bytes of an object have.
@@ -69,10 +76,31 @@ fn count_headers(reader: SliceReader<'_>, kind: UnitSection) -> usize {
     units
 }
 
-/// Tells which input was refused, and why, with all causes.
-pub fn tell_refused<E: Write>(err: &mut E, name: &str, fault: &Error) -> Result<(), Failure> {
+/// Tells which input was refused, and why, with all causes; of a compressed section also that
+/// `--decompress` is there, or why that didn't help.
+pub fn tell_refused<E: Write>(
+    err: &mut E,
+    name: &str,
+    fault: &Error,
+    decompresses: bool,
+) -> Result<(), Failure> {
     let causes = Causes(fault);
-    written(writeln!(err, "{name}: {causes}"))
+    let advice = advice_on(fault, decompresses);
+    written(writeln!(err, "{name}: {causes}{advice}"))
+}
+
+/// What can be done about a fault, if anything.
+fn advice_on(fault: &Error, decompresses: bool) -> &'static str {
+    match fault {
+        Error::DecompressData(_) => {
+            if decompresses {
+                ": not by zlib, or damaged"
+            } else {
+                ": --decompress packs it"
+            }
+        }
+        _ => "",
+    }
 }
 
 /// Warns of each type unit that was passed over and differs from the one kept.

@@ -11,6 +11,7 @@ complete -c thorin -n '__fish_seen_subcommand_from pack; and not __fish_seen_sub
 complete -c thorin -n '__fish_seen_subcommand_from pack; and not __fish_seen_subcommand_from help' -s e -l exec -r -F -d 'Executables whose objects are packed, after all inputs'
 complete -c thorin -n '__fish_seen_subcommand_from pack; and not __fish_seen_subcommand_from help' -l skip-missing -d 'Skip missing objects; their units must come from another input'
 complete -c thorin -n '__fish_seen_subcommand_from pack; and not __fish_seen_subcommand_from help' -l force -d 'Write OUT even if it is an input'
+complete -c thorin -n '__fish_seen_subcommand_from pack; and not __fish_seen_subcommand_from help' -l decompress -d 'Read inputs and executables that are compressed by zlib'
 complete -c thorin -n '__fish_seen_subcommand_from pack; and not __fish_seen_subcommand_from help' -s v -l verbose -d 'Report each input'
 complete -c thorin -n '__fish_seen_subcommand_from pack; and not __fish_seen_subcommand_from help' -s h -l help -d 'Print help'
 complete -c thorin -n '__fish_seen_subcommand_from find; and not __fish_seen_subcommand_from help' -s h -l help -d 'Print help'
@@ -18,4 +19,5 @@ complete -c thorin -n '__fish_seen_subcommand_from find; and not __fish_seen_sub
 complete -c thorin -n '__fish_seen_subcommand_from list; and not __fish_seen_subcommand_from help' -l sizes -d 'Add each unit\'s size in each kind of section, and totals'
 complete -c thorin -n '__fish_seen_subcommand_from list; and not __fish_seen_subcommand_from help' -s h -l help -d 'Print help'
 complete -c thorin -n '__fish_seen_subcommand_from check; and not __fish_seen_subcommand_from help' -s e -l exec -r -F -d 'Executables whose units have to be in the package'
+complete -c thorin -n '__fish_seen_subcommand_from check; and not __fish_seen_subcommand_from help' -l decompress -d 'Read inputs and executables that are compressed by zlib'
 complete -c thorin -n '__fish_seen_subcommand_from check; and not __fish_seen_subcommand_from help' -s h -l help -d 'Print help'

@@ -9,7 +9,7 @@ pub returns : goal.returns
 returns g c =
     let state = c.take_all.new.builder.state in
     let outcome : Input → Outcome = λ i. Ok tt in
-    let ran : (accepted : List (List ℕ)) × AreAllAccepted (g.F.InputReader.offer c.args.files.now)
+    let ran : (accepted : List (List ℕ)) × AreAllAccepted (g.I.InputReader.offer c.args.files.now)
     c.args.inputs.now start state accepted =
     rw c.new-builder.ensures.state at c.in_ok-take_all.ensures in
     record {

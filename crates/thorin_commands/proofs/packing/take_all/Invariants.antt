@@ -5,5 +5,5 @@ use Rattle.thorin_commands.proofs.packing.take_all.Given as goal
 -- the inputs so far were taken
 abbrev pub invariant-loop-input : goal.invariant-loop-input
 invariant-loop-input g l = (accepted : List (List ℕ))
-    × AreAllAccepted (g.F.InputReader.offer l.files)
+    × AreAllAccepted (g.I.InputReader.offer l.files)
     (take l.input-index l.inputs) l.fn.builder.state l.builder.state accepted
