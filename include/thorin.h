@@ -21,9 +21,9 @@
  * over one package.
  *
  * A call returns a status: 0 (THORIN_DONE) where it did what was asked. The calls that read a
- * package allocate nothing. Those that pack use malloc, realloc and free, and free all that they
- * allocate. They pack bytes: to pack the objects that an executable names, run the program (thorin
- * pack -e), or ask thorin_skeletons() for their paths and read them yourself.
+ * package allocate nothing. Those that pack or decompress use malloc, realloc and free, and free all
+ * that they allocate. They take bytes: to pack the objects that an executable names, run the program
+ * (thorin pack -e), or ask thorin_skeletons() for their paths and read them yourself.
  *
  * The soname of the shared library has the first number of the version, as libthorin.so.1. While
  * that number stays, a program that was built with one version runs with every later one: calls,
@@ -74,7 +74,11 @@ enum thorin_status {
   THORIN_TOO_SMALL = 10,       /**< the package needs more room */
   THORIN_REFUSED = 11,         /**< an input was refused */
   THORIN_UNFINISHED = 12,      /**< the package can't be finished or written */
-  THORIN_NO_MEMORY = 13        /**< memory ran out */
+  THORIN_NO_MEMORY = 13,       /**< memory ran out */
+  THORIN_NOT_COMPRESSED = 14,  /**< no section is compressed */
+  THORIN_DAMAGED = 15,         /**< a compressed section is damaged, or its size is another */
+  THORIN_NOT_ZLIB = 16,        /**< a section is compressed by something else than zlib, as zstd */
+  THORIN_UNWRITABLE = 17       /**< the decompressed file can't be written, as it is too large */
 };
 
 /**
@@ -488,6 +492,25 @@ int32_t thorin_pack(const thorin_bytes *inputs, size_t count, uint8_t *out, size
  */
 int32_t thorin_differing_types(const thorin_bytes *inputs, size_t count, uint64_t *types,
                                size_t room, thorin_report *report);
+
+/**
+ * Decompresses an object, a package or an executable whose sections zlib compressed (-gz): the file
+ * that it writes can be given to thorin_pack() and thorin_skeletons(), which refuse compressed
+ * sections that they need. Each compressed section gets its plain content, and the name .debug_X
+ * where it had .zdebug_X; other sections stay as they are.
+ * @param bytes The file.
+ * @param size How many bytes it has.
+ * @param[out] out Where the decompressed file is written. At THORIN_DONE it stands at the beginning
+ *   and the rest is as it was; else all is as it was.
+ * @param room How many bytes there is room for.
+ * @param[in,out] length At THORIN_DONE and THORIN_TOO_SMALL, how many bytes the decompressed file
+ *   has; else as it was.
+ * @return THORIN_DONE; THORIN_NOT_COMPRESSED: take the file as it is; THORIN_TOO_SMALL: ask again
+ *   with as much room as length says; THORIN_MALFORMED_FILE, THORIN_DAMAGED or THORIN_NOT_ZLIB, by
+ *   the first section that has a fault; THORIN_UNWRITABLE; THORIN_NO_MEMORY.
+ */
+int32_t thorin_decompress(const uint8_t *bytes, size_t size, uint8_t *out, size_t room,
+                          uint64_t *length);
 
 /* ---- executables */
 

@@ -148,6 +148,15 @@ static inline int32_t thorin_checked_skeletons(const uint8_t *bytes, size_t size
   return thorin_skeletons(bytes, size, names, room, paths, paths_room, count, report);
 }
 
+static inline int32_t thorin_checked_decompress(const uint8_t *bytes, size_t size, uint8_t *out, size_t room,
+                                                uint64_t *length) {
+  THORIN_CHECK_BYTES, THORIN_CHECK_ONE(length);
+  thorin_check_some(out, room, 1, 1);
+  thorin_check_apart(out, room, bytes, size);
+  thorin_check_apart(out, room, length, sizeof *length);
+  return thorin_decompress(bytes, size, out, room, length);
+}
+
 static inline int32_t thorin_checked_pack(const thorin_bytes *inputs, size_t count, uint8_t *out, size_t room,
                                           thorin_report *report) {
   thorin_check_some(out, room, 1, 1);
@@ -177,6 +186,7 @@ static inline int32_t thorin_checked_differing_types(const thorin_bytes *inputs,
 #define thorin_string_in thorin_checked_string_in
 #define thorin_list_in thorin_checked_list_in
 #define thorin_skeletons thorin_checked_skeletons
+#define thorin_decompress thorin_checked_decompress
 #define thorin_pack thorin_checked_pack
 #define thorin_differing_types thorin_checked_differing_types
 

@@ -1,5 +1,6 @@
 pub mod Writing
 pub mod Looking
+pub mod PlainFiles
 pub mod Taking
 pub mod Steps
 pub mod Called

@@ -5,5 +5,6 @@ pub mod Listing
 pub mod OpenedFields
 pub mod Opening
 pub mod Packing
+pub mod Plain
 pub mod Skeletons
 pub mod Statuses

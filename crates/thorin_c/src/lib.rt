@@ -10,6 +10,7 @@ mod listing;
 mod opened;
 mod opening;
 mod packing;
+mod plain;
 mod rows;
 mod sections;
 mod session;
@@ -26,6 +27,7 @@ pub use inside::{
 pub use listing::{thorin_list, thorin_unit_count};
 pub use opening::thorin_open;
 pub use packing::{thorin_differing_types, thorin_pack};
+pub use plain::thorin_decompress;
 pub use rows::thorin_find_rows;
 pub use skeletons::thorin_skeletons;
 pub use types::{

@@ -47,6 +47,18 @@ pub(crate) const UNFINISHED: i32 = 12;
 /// Memory ran out.
 pub(crate) const NO_MEMORY: i32 = 13;
 
+/// No section is compressed.
+pub(crate) const NOT_COMPRESSED: i32 = 14;
+
+/// A compressed section is damaged.
+pub(crate) const DAMAGED: i32 = 15;
+
+/// A section is compressed in a way that isn't read.
+pub(crate) const UNKNOWN_COMPRESSION: i32 = 16;
+
+/// The file can't be written once its sections are plain.
+pub(crate) const UNWRITABLE: i32 = 17;
+
 /// The status of a package, or of one of its units, that can't be read.
 pub(crate) fn status_of(fault: PackageError) -> i32
     ensures { result ≡ status_of fault }

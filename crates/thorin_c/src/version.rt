@@ -5,8 +5,9 @@ ghost use Rattle.thorin_c.specs.Listing.{written_over};
 ghost use Rattle.thorin_c.specs.Statuses.{status_text};
 
 use crate::status::{
-    ABSENT, DONE, MALFORMED_FILE, MALFORMED_INDEX, MALFORMED_STRING, MALFORMED_UNIT, NO_MEMORY,
-    NO_SUCH_KIND, NO_SUCH_SECTION, NO_SUCH_STRING, RANGE_OUTSIDE, REFUSED, TOO_SMALL, UNFINISHED,
+    ABSENT, DAMAGED, DONE, MALFORMED_FILE, MALFORMED_INDEX, MALFORMED_STRING, MALFORMED_UNIT,
+    NO_MEMORY, NO_SUCH_KIND, NO_SUCH_SECTION, NO_SUCH_STRING, NOT_COMPRESSED, RANGE_OUTSIDE,
+    REFUSED, TOO_SMALL, UNFINISHED, UNKNOWN_COMPRESSION, UNWRITABLE,
 };
 
 /// The version, 1.0.0: 65,536 times its first number, 256 times its second, and its third.
@@ -48,6 +49,10 @@ fn status_text(status: i32) -> &'static str
         REFUSED => "An input was refused",
         UNFINISHED => "The package can't be finished",
         NO_MEMORY => "Out of memory",
+        NOT_COMPRESSED => "No section is compressed",
+        DAMAGED => "A compressed section is damaged",
+        UNKNOWN_COMPRESSION => "A section isn't compressed by zlib",
+        UNWRITABLE => "The plain file can't be written",
         _ => "No such status",
     }
 }

@@ -107,6 +107,7 @@ extern "C" {
     pub fn thorin_content_in(package: *const thorin_package, bytes: *const u8, size: usize, kind: u8, id: u64, section: u8, found: *mut thorin_bytes) -> i32;
     pub fn thorin_string_in(package: *const thorin_package, bytes: *const u8, size: usize, kind: u8, id: u64, index: u64, found: *mut thorin_bytes) -> i32;
     pub fn thorin_list_in(package: *const thorin_package, bytes: *const u8, size: usize, names: *mut thorin_name, room: usize, count: *mut u64) -> i32;
+    pub fn thorin_decompress(bytes: *const u8, size: usize, out: *mut u8, room: usize, length: *mut u64) -> i32;
     pub fn thorin_pack(inputs: *const thorin_bytes, count: usize, out: *mut u8, room: usize, report: *mut thorin_report) -> i32;
     pub fn thorin_differing_types(inputs: *const thorin_bytes, count: usize, types: *mut u64, room: usize, report: *mut thorin_report) -> i32;
 }

@@ -1,0 +1,48 @@
+-- What the export that decompresses answers.
+use Rattle.std.specs.Prelude.{◌≡◌, ◌<◌, ◌≤◌, ℕ, ℤ, pos, List, take, drop, length, Option, Some}
+use Rattle.std.specs.Prelude.{None}
+use Rattle.std.specs.Prelude.{Result, Ok, Err, ◌⊎◌}
+use Rattle.dwp_elf_read.specs.Elf.{elf_of}
+use Rattle.dwp_elf_read.specs.declared.fault.ReadError.{ReadError}
+use Rattle.dwp_inflate.specs.declared.fault.InflateError.{InflateError}
+use Rattle.dwp_decompress.specs.Result.{decompressed_of}
+use Rattle.dwp_decompress.specs.declared.fault.DecompressError.{DecompressError}
+use Rattle.dwp_decompress.specs.declared.fault.DecompressError.TheVariants as faults
+
+-- the file with plain sections stands at the beginning of the room, the rest of which is as it was
+pub record Decompresses (bytes : List ℕ) (size : ℕ) (old new : List ℕ) : Type 0 where
+  pub fits : size ≤ length new
+  pub plain : decompressed_of bytes ≡ Ok (Some (elf_of (take size new)))
+  pub rest : drop size new ≡ drop size old
+
+-- it has a size past the room
+pub record NeedsRoom (bytes : List ℕ) (size room : ℕ) : Type 0 where
+  pub file : List ℕ
+  pub plain : decompressed_of bytes ≡ Ok (Some (elf_of file))
+  pub size_of : size ≡ length file
+  pub past : room < size
+
+-- the status of a file that isn't decompressed: it can't be read; one of its compressed sections is
+-- damaged, or of a type that isn't read; it can't be written, or memory ran out
+abbrev pub status_of : DecompressError → ℤ
+status_of (faults.Read e) = pos 3
+status_of faults.Header = pos 15
+status_of (faults.Stream e) = pos 15
+status_of faults.Zstd = pos 16
+status_of (faults.UnknownType type) = pos 16
+status_of faults.Unrepresentable = pos 17
+status_of faults.Memory = pos 13
+
+-- the fault of such a file
+pub record IsFault (bytes : List ℕ) (status : ℤ) : Type 0 where
+  pub fault : DecompressError
+  pub is : decompressed_of bytes ≡ Err fault
+  pub status_is : status ≡ status_of fault
+
+-- the statuses under which a fault is told
+abbrev pub TellsFault : ℤ → Type 0
+TellsFault status = (status ≡ pos 3) ⊎ ((status ≡ pos 15) ⊎ (status ≡ pos 16))
+
+abbrev pub IsPlainStatus : ℤ → Type 0
+IsPlainStatus status = (status ≡ pos 0) ⊎ ((status ≡ pos 10) ⊎ ((status ≡ pos 14)
+    ⊎ (TellsFault status ⊎ ((status ≡ pos 17) ⊎ (status ≡ pos 13)))))

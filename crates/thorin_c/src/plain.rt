@@ -1,0 +1,75 @@
+//! Files with plain sections in place of compressed ones.
+
+ghost use Rattle.std.specs.Prelude.{◌≡◌, ◌≢◌, ◌⊎◌, ◌≤◌, ◌<◌, pos, length, take, drop, Ok, Err, Some, None};
+ghost use Rattle.dwp_elf_read.specs.Elf.{elf_of};
+ghost use Rattle.dwp_decompress.specs.Result.{decompressed_of};
+ghost use Rattle.dwp_decompress.specs.declared.fault.DecompressError.TheVariants.{Memory};
+ghost use Rattle.dwp_decompress.specs.declared.fault.DecompressError.TheVariants.{Unrepresentable};
+ghost use Rattle.thorin_c.specs.Plain.{Decompresses, NeedsRoom, IsFault, TellsFault};
+ghost use Rattle.thorin_c.specs.Plain.{IsPlainStatus, status_of};
+
+use crate::status::{
+    DAMAGED, DONE, MALFORMED_FILE, NO_MEMORY, NOT_COMPRESSED, TOO_SMALL, UNKNOWN_COMPRESSION,
+    UNWRITABLE,
+};
+use dwp_decompress::{DecompressError, decompressed};
+use std::alloc::Global;
+
+/// Writes a file with plain sections in place of compressed ones to the beginning of `out`, and
+/// answers 0; its length is in `size`. 14 where no section is compressed: the file is to be used as
+/// it is. 10 where `out` is too small, and `size` is the length that is needed. 3 where the file
+/// can't be read, 15 where a compressed section is damaged, 16 where it is compressed in another way
+/// than zlib's, 17 where the plain file can't be written, 13 where memory ran out. `out` is left as
+/// it is but at 0, and `size` but at 0 and 10.
+#[tactic(auto, using(crate::proofs::PlainFiles::plain_put, crate::proofs::PlainFiles::room_needed, crate::proofs::PlainFiles::told, crate::proofs::PlainFiles::tells_none))]
+#[unsafe(no_mangle)]
+pub extern "C" fn thorin_decompress(
+    alloc: Global,
+    bytes: &[u8],
+    out: &mut [u8],
+    size: &mut u64,
+) -> i32
+    ensures plain { result ≡ pos 0 → Decompresses bytes.now size.new out.old out.new }
+    ensures small { result ≡ pos 10 → NeedsRoom bytes.now size.new (length out.old) }
+    ensures none { result ≡ pos 14 → decompressed_of bytes.now ≡ Ok None }
+    ensures fault { TellsFault result → IsFault bytes.now result }
+    ensures status { IsPlainStatus result }
+    ensures unchanged { result ≢ pos 0 → out.new ≡ out.old }
+    ensures untold { result ≢ pos 0 → result ≢ pos 10 → size.new ≡ size.old }
+{
+    match decompressed(alloc, bytes) {
+        Ok(Some(file)) => put(file.as_slice(), out, size),
+        Ok(None) => NOT_COMPRESSED,
+        Err(fault) => status_of(fault),
+    }
+}
+
+/// Writes a file to the beginning of `out`, where it has room.
+fn put(file: &[u8], out: &mut [u8], size: &mut u64) -> i32
+    ensures size { size.new ≡ length file.now }
+    ensures whole { result ≡ pos 0 → (length file.now ≤ length out.new)
+        × ((take (length file.now) out.new ≡ file.now)
+        × (drop (length file.now) out.new ≡ drop (length file.now) out.old)) }
+    ensures small { result ≡ pos 10 → (length out.old < length file.now) × (out.new ≡ out.old) }
+    ensures status { (result ≡ pos 0) ⊎ (result ≡ pos 10) }
+{
+    *size = file.len() as u64;
+    if file.len() > out.len() {
+        return TOO_SMALL;
+    }
+    out[..file.len()].copy_from_slice(file);
+    DONE
+}
+
+/// The status of a file that isn't decompressed.
+fn status_of(fault: DecompressError) -> i32
+    ensures { result ≡ status_of fault }
+{
+    match fault {
+        DecompressError::Read(_) => MALFORMED_FILE,
+        DecompressError::Header | DecompressError::Stream(_) => DAMAGED,
+        DecompressError::Zstd | DecompressError::UnknownType(_) => UNKNOWN_COMPRESSION,
+        DecompressError::Unrepresentable => UNWRITABLE,
+        DecompressError::Memory => NO_MEMORY,
+    }
+}
