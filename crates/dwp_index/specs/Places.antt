@@ -1,10 +1,7 @@
 -- Where the columns of an index stand, as a `Places` holds it.
-use Rattle.std.specs.Prelude.{◌≡◌, ℕ, ◌<◌, List, Option, Some, None}
+use Rattle.std.specs.Prelude.{◌≡◌, ℕ, ◌<◌, List, slice_index, Option, Some, None}
+use Rattle.dwp_base.specs.Sections.{rank_of}
 use Rattle.dwp_base.specs.declared.section.SectionKind.{SectionKind}
-use Rattle.dwp_base.specs.declared.section.SectionKind.TheVariants.{Info, Types, Abbrev, Line, Loc}
-use Rattle.dwp_base.specs.declared.section.SectionKind.TheVariants.{Loclists, Rnglists, StrOffsets}
-use Rattle.dwp_base.specs.declared.section.SectionKind.TheVariants.{Macinfo, Macro, Str, CuIndex}
-use Rattle.dwp_base.specs.declared.section.SectionKind.TheVariants.{TuIndex}
 use Rattle.dwp_index.specs.Index.{column_place}
 use Rattle.dwp_index.specs.declared.places.Places.{Places}
 
@@ -13,19 +10,7 @@ abbrev pub NO_COLUMN : ℕ
 NO_COLUMN = 4294967295
 
 abbrev pub place_held : Places → SectionKind → ℕ
-place_held p Info = p.info
-place_held p Types = p.types
-place_held p Abbrev = p.abbrev_codes
-place_held p Line = p.line
-place_held p Loc = p.loc
-place_held p Loclists = p.loclists
-place_held p Rnglists = p.rnglists
-place_held p StrOffsets = p.str_offsets
-place_held p Macinfo = p.macinfo
-place_held p Macro = p.macros
-place_held p Str = NO_COLUMN
-place_held p CuIndex = NO_COLUMN
-place_held p TuIndex = NO_COLUMN
+place_held p kind = slice_index p.by_rank (rank_of kind)
 
 -- a number says the place of one of so many columns, or that there is none
 abbrev pub IsPlace : ℕ → ℕ → Option ℕ → Type 0

@@ -197,12 +197,7 @@ impl<'a> PackageFile<'a> {
             → IsIndexOfIds self.now.types signatures
             → IsPermutation (entries_of ids signatures) (units_left result) }
     {
-        Units {
-            compilations: self.compilations.as_ref(),
-            types: self.types.as_ref(),
-            compilation: 0,
-            type_unit: 0,
-        }
+        Units::new(self.compilations.as_ref(), self.types.as_ref())
     }
 
     /// The index of the units of a kind.

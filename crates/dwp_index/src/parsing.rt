@@ -8,7 +8,9 @@ ghost use Rattle.dwp_base.specs.Reading.{Answers};
 ghost use Rattle.dwp_index.specs.Index.{column_place};
 ghost use Rattle.dwp_index.specs.IndexBytes.{numbers, after, version_of, counts_of, columns_at};
 ghost use Rattle.dwp_index.specs.IndexBytes.{is_slot_count, Counts};
+ghost use Rattle.dwp_index.specs.Places.{ArePlaces};
 
+use crate::places::{NO_COLUMN, Places};
 use dwp_base::{Endianness, SectionKind};
 use dwp_bytes::ReadError;
 use dwp_table::{column_of, kind_of_column};
@@ -23,6 +25,7 @@ pub(crate) struct Sizes {
 
 /// The bytes from a place on.
 #[tactic(auto, using(std::proofs::lemmas::List::take_rest))]
+#[inline(always)]
 pub(crate) fn tail(bytes: &[u8], at: usize) -> &[u8]
     requires { at ≤ length bytes.now }
     ensures { result.now ≡ drop at bytes.now }
@@ -31,6 +34,7 @@ pub(crate) fn tail(bytes: &[u8], at: usize) -> &[u8]
 }
 
 /// The number in the four bytes at a place.
+#[inline(always)]
 pub(crate) fn read_u32_at(bytes: &[u8], order: Endianness, at: usize) -> u32
     requires { at + 4 ≤ length bytes.now }
     ensures { result ≡ number order 4 (drop at bytes.now) }
@@ -110,31 +114,36 @@ pub(crate) fn after_rows(bytes: &[u8], columns: u32, units: u32) -> Result<&[u8]
     }
 }
 
-/// What is left after so many columns, each of which the version has, and none twice.
-pub(crate) fn after_columns(
+/// The places of so many columns, each of which the version has, and none twice; and what is left
+/// after them.
+pub(crate) fn read_columns(
     bytes: &[u8],
     order: Endianness,
     version: u16,
     count: u32,
-) -> Result<&[u8], ReadError>
-    ensures exact { Answers (λ x. (numbers order 4 count bytes.now, x.now)) result
+) -> Result<(Places, &[u8]), ReadError>
+    ensures exact { Answers (λ x. (numbers order 4 count bytes.now, x.1.now)) result
         (columns_at order version [] count bytes.now) }
     ensures enough { OnOk result (4 * count ≤ length bytes.now) }
+    ensures places { IfOk result (λ x. ArePlaces x.0 version count
+        (numbers order 4 count bytes.now)) }
 {
+    let mut places = Places::none();
     for i in 0..count {
         let at = 4 * i as usize;
         if bytes.len() < at + 4 {
             return Err(ReadError::UnexpectedEof);
         }
         let number = read_u32_at(bytes, order, at);
-        if kind_of_column(version, number).is_none() {
+        let Some(kind) = kind_of_column(version, number) else {
             return Err(ReadError::UnknownColumn);
-        }
-        if place_of_number(bytes, order, i as usize, number).is_some() {
+        };
+        if places.of(kind) != NO_COLUMN {
             return Err(ReadError::RepeatedColumn);
         }
+        places.put(kind, i);
     }
-    Ok(tail(bytes, 4 * count as usize))
+    Ok((places, tail(bytes, 4 * count as usize)))
 }
 
 /// The place of a section's column among the columns, where it has one.

@@ -8,10 +8,10 @@ ghost use Rattle.dwp_index.specs.Index.{row_in, column_place, contribution, rang
 ghost use Rattle.dwp_index.specs.IndexBytes.{index_of};
 
 use crate::parsing::{
-    after, after_columns, after_rows, column_place, counts_of, read_u32_at, read_u64_at, tail,
+    after, after_rows, column_place, counts_of, read_columns, read_u32_at, read_u64_at, tail,
     version_of,
 };
-use crate::places::{Columns, NO_COLUMN, Places};
+use crate::places::{NO_COLUMN, Places};
 use dwp_base::{Contribution, ContributionOffset, Endianness, SectionKind};
 use dwp_bytes::ReadError;
 use dwp_table::laws::look_up_finds_exactly;
@@ -90,16 +90,9 @@ impl<'a> UnitIndex<'a> {
         let signatures = tail(bytes, 16);
         let rows = after(signatures, 8 * counts.slots as u64)?;
         let columns = after(rows, 4 * counts.slots as u64)?;
-        let offsets = after_columns(columns, order, version, counts.columns)?;
+        let (places, offsets) = read_columns(columns, order, version, counts.columns)?;
         let sizes = after_rows(offsets, counts.columns, counts.units)?;
         after_rows(sizes, counts.columns, counts.units)?;
-        let places = Columns {
-            bytes: columns,
-            order,
-            version,
-            count: counts.columns,
-        }
-        .places();
         Ok(UnitIndex {
             order,
             version,
@@ -234,6 +227,7 @@ impl<'a> UnitIndex<'a> {
 
 impl<'a> Row<'a> {
     /// The row's range in a section; None where it has none, or one of no bytes.
+    #[inline(always)]
     pub fn range(&self, kind: SectionKind) -> Option<Contribution>
         ensures { result ≡ range_in self.now kind }
     {

@@ -19,10 +19,31 @@ pub struct UnitEntry {
 /// compilation index first.
 #[derive(Drop)]
 pub struct Units<'a> {
-    pub(crate) compilations: Option<&'a UnitIndex<'a>>,
-    pub(crate) types: Option<&'a UnitIndex<'a>>,
-    pub(crate) compilation: u32,
-    pub(crate) type_unit: u32,
+    compilations: Option<&'a UnitIndex<'a>>,
+    types: Option<&'a UnitIndex<'a>>,
+    compilation: u32,
+    type_unit: u32,
+}
+
+impl<'a> Units<'a> {
+    ghost use Rattle.std.specs.Option.{option_copied};
+    ghost use Rattle.dwp_index.specs.Entries.{units_left, entries_from};
+
+    /// The units that these indexes name: the one of compilation units and the one of type units.
+    pub fn new(
+        compilations: Option<&'a UnitIndex<'a>>,
+        types: Option<&'a UnitIndex<'a>>,
+    ) -> Units<'a>
+        ensures { units_left result
+            ≡ entries_from (option_copied compilations.entry) (option_copied types.entry) 0 0 }
+    {
+        Units {
+            compilations,
+            types,
+            compilation: 0,
+            type_unit: 0,
+        }
+    }
 }
 
 impl Iterator for Units<'_> {
