@@ -1,7 +1,8 @@
 //! Runs the lines of the file `script` as command lines of `thorin`, and prints what each printed
 //! and its status: first what went to standard output, then, each line behind a mark `!`, what
 //! went to standard error. A line `size FILE` prints how many bytes a file has, if it is there; one
-//! that begins with `full` has a standard output that takes nothing. For the gate alone.
+//! that begins with `full` has a standard output that takes nothing, one that begins with `built` a
+//! program that knows its commit. For the gate alone.
 #![tactic(auto)]
 
 use std::alloc::AllocError;
@@ -30,9 +31,11 @@ fn answer(rt: &HostRuntime, line: &str, text: &mut Vec<u8>) -> io::Result<()> {
     if let Some(file) = line.strip_prefix("size ") {
         tell_size(rt, file, text)
     } else if let Some(line) = line.strip_prefix("full ") {
-        run_line(rt, line, true, text)
+        run_line(rt, line, "", true, text)
+    } else if let Some(line) = line.strip_prefix("built ") {
+        run_line(rt, line, "0123abc", false, text)
     } else {
-        run_line(rt, line, false, text)
+        run_line(rt, line, "", false, text)
     }
 }
 
@@ -66,10 +69,16 @@ fn tell_size(rt: &HostRuntime, file: &str, text: &mut Vec<u8>) -> io::Result<()>
 }
 
 /// Adds what a command line prints, and the line of its status.
-fn run_line(rt: &HostRuntime, line: &str, is_full: bool, text: &mut Vec<u8>) -> io::Result<()> {
+fn run_line(
+    rt: &HostRuntime,
+    line: &str,
+    commit: &str,
+    is_full: bool,
+    text: &mut Vec<u8>,
+) -> io::Result<()> {
     let words: Result<Vec<&str>, AllocError> = line.split_whitespace().collect(rt.alloc());
     match words {
-        Ok(words) => run_words(rt, words.as_slice(), is_full, text),
+        Ok(words) => run_words(rt, words.as_slice(), commit, is_full, text),
         Err(AllocError) => Err(io::Error::from(io::ErrorKind::OutOfMemory)),
     }
 }
@@ -77,6 +86,7 @@ fn run_line(rt: &HostRuntime, line: &str, is_full: bool, text: &mut Vec<u8>) -> 
 fn run_words(
     rt: &HostRuntime,
     words: &[&str],
+    commit: &str,
     is_full: bool,
     text: &mut Vec<u8>,
 ) -> io::Result<()> {
@@ -88,7 +98,7 @@ fn run_words(
         taken: Vec::new(rt.alloc()),
         is_full: false,
     };
-    let status = thorin_cli::run(rt, words, &mut out, &mut err);
+    let status = thorin_cli::run(rt, words, commit, &mut out, &mut err);
     tell_run(text, out.taken.as_slice(), err.taken.as_slice(), status)
 }
 

@@ -143,15 +143,24 @@ const PEER: [Word; 4] = [
     Word::Inputs,
 ];
 
+/// What `--version` prints behind the program's name: the version, and the commit where one is named.
+pub(crate) fn version_of(alloc: Global, commit: &str) -> Result<String, AllocError> {
+    if commit.is_empty() {
+        format!(in alloc; "{VERSION}")
+    } else {
+        format!(in alloc; "{VERSION} ({commit})")
+    }
+}
+
 /// The program's command line: `pack`, `find`, `list` and `check`.
-pub(crate) fn command<'a>(alloc: Global) -> Result<Command<'a>, AllocError> {
+pub(crate) fn command<'a>(alloc: Global, version: &'a str) -> Result<Command<'a>, AllocError> {
     let mut command = titled(
         alloc,
         "thorin",
         "Pack split DWARF objects into DWARF packages, and read such packages",
         EXAMPLES,
     )
-    .version(VERSION)
+    .version(version)
     .subcommand_required(true);
     for line in &COMMANDS {
         command = with_subcommand(command, command_of(alloc, line))?;
@@ -160,22 +169,31 @@ pub(crate) fn command<'a>(alloc: Global) -> Result<Command<'a>, AllocError> {
 }
 
 /// The command line of `dwp` and `llvm-dwp`, under one of these names.
-pub(crate) fn peer<'a>(alloc: Global, name: &'a str) -> Result<Command<'a>, AllocError> {
+pub(crate) fn peer<'a>(
+    alloc: Global,
+    name: &'a str,
+    version: &'a str,
+) -> Result<Command<'a>, AllocError> {
     match output(alloc).required_unless_present("exec") {
-        Ok(output) => with_words(alloc, peer_with(alloc, name, output), &PEER),
+        Ok(output) => with_words(alloc, peer_with(alloc, name, version, output), &PEER),
         Err(e) => Err(e),
     }
 }
 
 /// The same, with its `-o` alone.
-fn peer_with<'a>(alloc: Global, name: &'a str, output: Arg<'a>) -> Result<Command<'a>, AllocError> {
+fn peer_with<'a>(
+    alloc: Global,
+    name: &'a str,
+    version: &'a str,
+    output: Arg<'a>,
+) -> Result<Command<'a>, AllocError> {
     let command = titled(
         alloc,
         name,
         "Pack split DWARF objects into a DWARF package",
         "Without -o the package of one EXEC is EXEC.dwp. This is thorin by another name.",
     )
-    .version(VERSION)
+    .version(version)
     .arg(output)?;
     command.bin_name(name)
 }

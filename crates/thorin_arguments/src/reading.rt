@@ -55,10 +55,19 @@ pub trait Commands {
 }
 
 /// Does what a command line asks for, and answers the status. Under the names `dwp` and `llvm-dwp`,
-/// with a target or a version in them too, it takes the command lines of those programs.
-pub fn run<C: Commands>(alloc: Global, words: &[String], commands: &mut C) -> u8 {
+/// with a target or a version in them too, it takes the command lines of those programs. `commit` is
+/// the one that the program was built from, where that is known, for `--version`.
+pub fn run<C: Commands>(alloc: Global, words: &[String], commit: &str, commands: &mut C) -> u8 {
+    match command::version_of(alloc, commit) {
+        Ok(version) => run_as(alloc, words, version.as_str(), commands),
+        Err(AllocError) => commands.lack_memory(),
+    }
+}
+
+/// The same of a program of this version.
+fn run_as<C: Commands>(alloc: Global, words: &[String], version: &str, commands: &mut C) -> u8 {
     let peer = peer_name(words);
-    match read(alloc, peer, words) {
+    match read(alloc, peer, version, words) {
         Ok(matches) => dispatch(&matches, peer.is_some(), commands),
         Err(error) => tell(&error, commands),
     }
@@ -68,16 +77,21 @@ pub fn run<C: Commands>(alloc: Global, words: &[String], commands: &mut C) -> u8
 fn read<'a>(
     alloc: Global,
     peer: Option<&'a str>,
+    version: &'a str,
     words: &'a [String],
 ) -> Result<ArgMatches<'a>, Error> {
-    let command = command_line(alloc, peer)?;
+    let command = command_line(alloc, peer, version)?;
     command.try_get_matches_from(words)
 }
 
-fn command_line<'a>(alloc: Global, peer: Option<&'a str>) -> Result<Command<'a>, AllocError> {
+fn command_line<'a>(
+    alloc: Global,
+    peer: Option<&'a str>,
+    version: &'a str,
+) -> Result<Command<'a>, AllocError> {
     match peer {
-        Some(name) => command::peer(alloc, name),
-        None => command::command(alloc),
+        Some(name) => command::peer(alloc, name, version),
+        None => command::command(alloc, version),
     }
 }
 

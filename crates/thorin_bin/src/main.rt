@@ -1,15 +1,19 @@
 //! The program `thorin`.
 #![tactic(auto)]
 
+mod commit;
+
+use crate::commit::COMMIT;
 use std::process::ExitCode;
 use std::{env, io};
 
-/// Hands the words and the standard streams to `thorin_cli::run`, and ends with its status.
+/// Hands the words, the commit and the standard streams to `thorin_cli::run`, and ends with its
+/// status.
 fn main(rt: HostRuntime) -> ExitCode {
     let mut out = rt.stdout();
     let mut err = rt.stderr();
     let status = match words_of(&rt) {
-        Ok(words) => thorin_cli::run(&rt, words.as_slice(), &mut out, &mut err),
+        Ok(words) => thorin_cli::run(&rt, words.as_slice(), COMMIT, &mut out, &mut err),
         Err(cause) => thorin_cli::refuse_words(&mut err, &cause),
     };
     ExitCode::from(status)

@@ -15,17 +15,19 @@ use thorin_faults::MissingReferencedObjectBehaviour;
 /// `@FILE` stands for the words of a file. What is printed goes to `out`, and a fault as one line
 /// `error: ` and its text to `err`. Answers the status: 0; 1 where the command was refused, a
 /// package has faults or a line can't be written; 2 for a bad command line. Under the names `dwp`
-/// and `llvm-dwp` it takes the command lines of those programs.
+/// and `llvm-dwp` it takes the command lines of those programs. `commit` is the one that the program
+/// was built from, and empty where that isn't known: `--version` prints it.
 pub fn run<S: AsStr, O: Write, E: Write>(
     rt: &HostRuntime,
     words: &[S],
+    commit: &str,
     out: &mut O,
     err: &mut E,
 ) -> u8 {
     match expanded(rt, words) {
         Ok(words) => {
             let mut program = Program { rt, out, err };
-            thorin_arguments::run(rt.alloc(), words.as_slice(), &mut program)
+            thorin_arguments::run(rt.alloc(), words.as_slice(), commit, &mut program)
         }
         Err(failure) => report(err, &failure),
     }
