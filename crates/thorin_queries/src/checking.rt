@@ -83,7 +83,7 @@ fn check_package<W: Write>(
     if has_no_index(&file) {
         return Err(Failure::NoIndex);
     }
-    let entries = entries_by_row(rt, &package)?;
+    let entries = entries_by_row(rt.alloc(), &package)?;
     let faults = check_parts(rt, &package, &file, entries.as_slice(), named, lines)?;
     Ok((entries.len(), faults))
 }

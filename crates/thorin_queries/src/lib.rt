@@ -5,6 +5,7 @@
 mod abbreviations;
 mod checking;
 mod executables;
+mod files;
 mod finding;
 mod identifier;
 mod input;
@@ -15,8 +16,9 @@ mod sizes;
 mod telling;
 
 pub use checking::check;
-pub use finding::find;
-pub use listing::list;
+pub use files::FileReader;
+pub use finding::{find, find_by};
+pub use listing::{list, list_by};
 pub use output::{Failure, buffer, flush, report, show};
 pub use response::expanded;
 pub use telling::{tell_refused, tell_taken, unit_count, warn_differing};

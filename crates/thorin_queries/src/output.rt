@@ -1,5 +1,9 @@
 //! What the program prints of faults.
 
+ghost use Rattle.std.specs.Prelude.{◌≤◌, length, take, IfOk, OnOk, OnErr};
+ghost use Rattle.std.specs.Io.KnownBytes.{Appends, Keeps};
+ghost use Rattle.thorin_queries.specs.Answers.{HasBeginning, Comes};
+
 use std::alloc::{AllocError, AllocFailed, Global};
 use std::fmt;
 use std::io::{self, BufWriter, Write};
@@ -87,6 +91,66 @@ pub(crate) fn written(outcome: io::Result<()>) -> Result<(), Failure> {
     match outcome {
         Ok(()) => Ok(()),
         Err(_) => Err(Failure::Line),
+    }
+}
+
+/// Prints a text. Answers then what is given.
+#[tactic(auto, using(crate::proofs::Printed::came, crate::proofs::Printed::stopped))]
+pub(crate) fn answer<O: Write>(
+    text: &str,
+    given: Result<u8, Failure>,
+    out: &mut O,
+) -> Result<u8, Failure>
+    ensures { Comes result (record { printed = text.now; answer = given })
+        (O.contents out.old) (O.contents out.new) }
+{
+    match put(text.as_bytes(), out) {
+        Ok(()) => given,
+        Err(_) => Err(Failure::Line),
+    }
+}
+
+/// Hands bytes to a writer, in as many writes as it takes.
+///
+/// # Errors
+/// `Line` where it doesn't take all.
+fn put<O: Write>(bytes: &[u8], out: &mut O) -> Result<(), Failure>
+    ensures whole { OnOk result (Appends (O.contents out.old) (O.contents out.new) bytes.now) }
+    ensures part { OnErr result (HasBeginning (O.contents out.old) (O.contents out.new)
+        bytes.now) }
+{
+    let mut rest = bytes;
+    for _turn in 0..u64::MAX {
+        if rest.is_empty() {
+            return Ok(());
+        }
+        let taken = put_some(rest, out)?;
+        rest = &rest[taken..];
+    }
+    Err(Failure::Line)
+}
+
+/// Hands bytes to a writer in one write. Answers how many it took, 0 where it was interrupted.
+///
+/// # Errors
+/// `Line` where it takes none.
+#[tactic(auto, using(crate::proofs::Printed::none_taken, crate::proofs::Printed::none_added))]
+fn put_some<O: Write>(bytes: &[u8], out: &mut O) -> Result<usize, Failure>
+    ensures bound { IfOk result (λ taken. taken ≤ length bytes.now) }
+    ensures bytes { IfOk result (λ taken. Appends (O.contents out.old) (O.contents out.new)
+        (take taken bytes.now)) }
+    ensures kept { OnErr result (Keeps (O.contents out.old) (O.contents out.new)) }
+{
+    match out.write(bytes) {
+        Ok(0) => Err(Failure::Line),
+        Ok(taken) => Ok(taken),
+        Err(e) => {
+            if e.kind() == io::ErrorKind::Interrupted {
+                Ok(0)
+            } else {
+                Err(Failure::Line)
+            }
+        }
     }
 }
 

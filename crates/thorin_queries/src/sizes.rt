@@ -1,13 +1,13 @@
 //! Where the bytes of a package go.
 
-ghost use Rattle.std.specs.Prelude.{◌≡◌, ◌-◌, ◌^◌, min, sum_by};
+ghost use Rattle.std.specs.Prelude.{◌≡◌, ◌-◌, ◌^◌, ◌++◌, min, sum_by, OnOk, List, ℕ};
+ghost use Rattle.std.specs.Prelude.{string_bytes};
 
-use crate::finding::columns;
-use crate::input::{contents_of, elf_of};
-use crate::output::{Failure, written};
+use crate::finding::short_name;
+use crate::input::contents_of;
 use dwp_elf::{Contribution, ElfFile, SectionKind};
-use std::alloc::Global;
-use std::io::Write;
+use dwp_table::CONTRIBUTION_KINDS;
+use std::alloc::{AllocError, Global};
 
 /// A range of a section that a unit has.
 #[derive(Clone, Copy, PartialEq, Eq, PartialOrd, Ord)]
@@ -20,26 +20,23 @@ struct Range {
 /// The ranges that units have of the sections of a package.
 #[derive(Drop)]
 pub(crate) struct Sizes {
-    is_asked: bool,
     ranges: Vec<Range>,
 }
 
 impl Sizes {
-    /// No range. They are gathered and printed where they are asked for.
-    pub(crate) fn new(alloc: Global, is_asked: bool) -> Sizes {
+    /// No range.
+    pub(crate) fn new(alloc: Global) -> Sizes {
         Sizes {
-            is_asked,
             ranges: Vec::new(alloc),
         }
     }
 
-    /// Whether they are asked for.
-    pub(crate) fn is_asked(&self) -> bool {
-        self.is_asked
-    }
-
     /// Adds a range of a section that a unit has.
-    pub(crate) fn add(&mut self, section: SectionKind, range: Contribution) -> Result<(), Failure> {
+    pub(crate) fn add(
+        &mut self,
+        section: SectionKind,
+        range: Contribution,
+    ) -> Result<(), AllocError> {
         self.ranges.push(Range {
             section: section.rank(),
             offset: range.offset.0,
@@ -48,46 +45,55 @@ impl Sizes {
         Ok(())
     }
 
-    /// Prints a line `total` for each section of a package: its bytes in the file; for a section
+    /// Adds a line `total` for each section of a package: its bytes in the file; for a section
     /// that units have ranges of, also the bytes of its distinct ranges, and how many more all
     /// ranges have together. Then the file's bytes.
-    pub(crate) fn print<W: Write>(&mut self, bytes: &[u8], lines: &mut W) -> Result<(), Failure> {
-        let file = elf_of(bytes)?;
-        self.ranges.sort_unstable();
-        self.print_columns(&file, lines)?;
-        print_wholes(&file, lines)?;
+    pub(crate) fn put(&mut self, bytes: &[u8], text: &mut String) -> Result<(), AllocError>
+        ensures { OnOk result ((totals : List ℕ)
+            × (string_bytes text.new ≡ string_bytes text.old ++ totals)) }
+    {
+        let mut totals = String::new(*self.ranges.allocator());
+        self.put_totals(bytes, &mut totals)?;
+        text.push_str(totals.as_str())
+    }
+
+    /// Adds these lines; none where the bytes are no ELF file.
+    fn put_totals(&mut self, bytes: &[u8], text: &mut String) -> Result<(), AllocError> {
+        if let Ok(file) = ElfFile::parse(bytes) {
+            self.ranges.sort_unstable();
+            self.put_columns(&file, text)?;
+            put_wholes(&file, text)?;
+        }
         let size = bytes.len();
-        written(writeln!(lines, "total file {size}"))
+        writeln!(text, "total file {size}")
     }
 
     /// The totals of the sections that units have ranges of.
-    fn print_columns<W: Write>(&self, file: &ElfFile<'_>, lines: &mut W) -> Result<(), Failure> {
-        let columns = columns();
-        for i in 0..columns.len() {
-            let (kind, name) = columns[i];
-            self.print_column(kind, name, contents_of(file, kind).len(), lines)?;
+    fn put_columns(&self, file: &ElfFile<'_>, text: &mut String) -> Result<(), AllocError> {
+        for kind in &CONTRIBUTION_KINDS {
+            self.put_column(*kind, contents_of(file, *kind).len(), text)?;
         }
         Ok(())
     }
 
     /// The total of a section that units have ranges of, where it isn't empty.
-    fn print_column<W: Write>(
+    fn put_column(
         &self,
         kind: SectionKind,
-        name: &str,
         content: usize,
-        lines: &mut W,
-    ) -> Result<(), Failure> {
+        text: &mut String,
+    ) -> Result<(), AllocError> {
         if content == 0 {
             return Ok(());
         }
+        let name = short_name(kind);
         let (all, once) = self.of(kind)?;
         let shared = all.saturating_sub(once);
-        written(writeln!(lines, "total {name} {content} units {once} shared {shared}"))
+        writeln!(text, "total {name} {content} units {once} shared {shared}")
     }
 
     /// The bytes of all ranges of a section together, and those of its distinct ranges.
-    fn of(&self, kind: SectionKind) -> Result<(u64, u64), Failure> {
+    fn of(&self, kind: SectionKind) -> Result<(u64, u64), AllocError> {
         let section = kind.rank();
         let mut ranges = Vec::new(*self.ranges.allocator());
         for range in &self.ranges {
@@ -102,26 +108,19 @@ impl Sizes {
 }
 
 /// The totals of the sections that no unit has a range of.
-fn print_wholes<W: Write>(file: &ElfFile<'_>, lines: &mut W) -> Result<(), Failure> {
-    print_whole("str", contents_of(file, SectionKind::Str).len(), lines)?;
-    print_whole(
-        "cu_index",
-        contents_of(file, SectionKind::CuIndex).len(),
-        lines,
-    )?;
-    print_whole(
-        "tu_index",
-        contents_of(file, SectionKind::TuIndex).len(),
-        lines,
-    )
+fn put_wholes(file: &ElfFile<'_>, text: &mut String) -> Result<(), AllocError> {
+    for kind in &[SectionKind::Str, SectionKind::CuIndex, SectionKind::TuIndex] {
+        put_whole(short_name(*kind), contents_of(file, *kind).len(), text)?;
+    }
+    Ok(())
 }
 
 /// The total of a section that no unit has a range of, where it isn't empty.
-fn print_whole<W: Write>(name: &str, content: usize, lines: &mut W) -> Result<(), Failure> {
+fn put_whole(name: &str, content: usize, text: &mut String) -> Result<(), AllocError> {
     if content == 0 {
         return Ok(());
     }
-    written(writeln!(lines, "total {name} {content}"))
+    writeln!(text, "total {name} {content}")
 }
 
 /// The bytes of ranges together, as far as 64 bits go.

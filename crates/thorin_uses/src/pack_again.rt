@@ -1,10 +1,12 @@
 //! Adds a package that was packed before to a builder that the caller has.
 
-ghost use Rattle.std.specs.Prelude.{◌≡◌, IfErr};
+ghost use Rattle.std.specs.Prelude.{◌≡◌, OnOk, IfErr};
 ghost use Rattle.dwp_elf.specs.FileText.{Object, file_text};
-ghost use Rattle.thorin_faults.specs.Answers.{MemoryAside};
+ghost use Rattle.thorin_faults.specs.Answers.{Gives, MemoryAside};
 ghost use Rattle.thorin_faults.specs.Fault.{fault_of};
-ghost use Rattle.thorin_join.specs.Builder.{order_of};
+ghost use Rattle.thorin_join.specs.Builder.{order_of, taken};
+ghost use Rattle.thorin_join.specs.Join.{Joins};
+ghost use Rattle.thorin_join.specs.Represents.{units_in};
 ghost use Rattle.thorin_again.specs.OwnAccepted.{IsAccepted};
 ghost use Rattle.thorin_again.specs.OwnRefusals.{IsForeseen};
 
@@ -20,13 +22,17 @@ pub fn units_packed_again(alloc: Global, package: &[u8]) -> Result<usize, Error>
     Ok(builder.contained_units().len())
 }
 
-/// Adds a package of the builder's byte order, of whose own builder `packs_again` was true. Memory
-/// aside, it can be refused only for a compilation unit that is there already, or for the offset of
-/// a string that doesn't fit.
+/// Adds a package: the builder then has its units beside those that it had, or answers why not. One
+/// of the builder's byte order, of whose own builder `packs_again` was true, can be refused, memory
+/// aside, only for a compilation unit that is there already, or for the offset of a string that
+/// doesn't fit.
 pub fn add_package<'output, 'session: 'output, Sess: Session<RelocationEntry>>(
     builder: &mut DwarfPackage<'output, 'session, Sess>,
     bytes: &[u8],
 ) -> Result<(), Error>
+    ensures meaning { Gives (λ _. builder.new.state) result (taken bytes.now builder.old.state) }
+    ensures joins { OnOk result
+        (Joins bytes.now (units_in builder.old.state) (units_in builder.new.state)) }
     ensures refused { (file : Object) → bytes.now ≡ file_text file → IsAccepted file
         → order_of builder.old.state.begun file.order ≡ file.order
         → IfErr result (λ e. MemoryAside e (IsForeseen (fault_of e))) }

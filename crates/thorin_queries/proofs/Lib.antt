@@ -1,0 +1,6 @@
+mod Asked
+mod Hex
+mod Lines
+mod Listed
+mod Printed
+mod Walk

@@ -1,0 +1,136 @@
+-- What was listed.
+use Rattle.std.proofs.Common.{◌≡◌, ◌∙◌, ℕ, Bool, true, false, List, [], ◌++◌, refl, sym, ap, subst}
+use Rattle.std.proofs.Common.{inl, inr}
+use Rattle.std.specs.Prelude.{Option, Result, Ok, Err, ◌⊎◌}
+use Rattle.std.specs.declared.io.Error.{Error as IoError}
+use Rattle.std.specs.Io.KnownBytes.{Keeps}
+use Rattle.std.proofs.KnownBytes.{Appends-nil, Keeps-refl}
+use Rattle.std.proofs.lemmas.Bool.{true≢false}
+use Rattle.std.proofs.lemmas.List.{append-nil}
+use Rattle.dwp_index.specs.Package.{Package, package_of}
+use Rattle.dwp_index.specs.declared.fault.PackageError.{PackageError}
+use Rattle.dwp_index.specs.declared.units.UnitEntry.{UnitEntry}
+use Rattle.thorin_queries.specs.Answers.{Comes, FailsToRead, OrNoMemory}
+use Rattle.thorin_queries.specs.Listing.{AreByRow, Lines, lines_of, after_lines, IsListed}
+use Rattle.thorin_queries.specs.Listing.{ListsPackage, ListsBytes, Lists}
+use Rattle.thorin_queries.specs.declared.output.Failure.{Failure}
+use Rattle.thorin_queries.specs.declared.output.Failure.TheVariants as failures
+
+-- ---- the text of a list
+
+after_part : (lines : Lines) (b : Bool) → lines.is_all ≡ b → b ≡ false → (totals : List ℕ)
+    → after_lines lines totals
+    ≡ record { printed = lines.printed; answer = Err failures.Malformed }
+after_part lines b e ends totals = rw (e ∙ ends) refl
+
+after_all : (lines : Lines) (b : Bool) → lines.is_all ≡ b → b ≡ true → (totals : List ℕ)
+    → after_lines lines totals ≡ record { printed = lines.printed ++ totals; answer = Ok 0 }
+after_all lines b e goes totals = rw (e ∙ goes) refl
+
+module _ (has_sizes : Bool) (lines : Lines) (is_all : Bool) (old text : List ℕ) where
+  -- up to a unit that can't be looked up
+  pub listed_part : old ≡ [] → text ≡ old ++ lines.printed → is_all ≡ lines.is_all
+      → is_all ≡ false
+      → IsListed has_sizes lines (record { printed = text; answer = Err failures.Malformed })
+  listed_part none added all ends =
+      let same : text ≡ lines.printed = added ∙ ap (λ l. l ++ lines.printed) none in
+      record {
+        totals = [];
+        no_totals = λ e. refl;
+        is = after_part lines is_all (sym all) ends []
+            ∙ ap (λ l. record { printed = l; answer = Err failures.Malformed }) (sym same);
+      }
+
+  -- without totals
+  pub listed_plain : old ≡ [] → text ≡ old ++ lines.printed → is_all ≡ lines.is_all
+      → is_all ≡ true → IsListed has_sizes lines (record { printed = text; answer = Ok 0 })
+  listed_plain none added all goes =
+      let same : text ≡ lines.printed ++ [] =
+      added ∙ ap (λ l. l ++ lines.printed) none ∙ sym (append-nil lines.printed) in
+      record {
+        totals = [];
+        no_totals = λ e. refl;
+        is = after_all lines is_all (sym all) goes []
+            ∙ ap (λ l. record { printed = l; answer = Ok 0 }) (sym same);
+      }
+
+  -- with totals
+  pub listed_sized : (new : List ℕ) → old ≡ [] → text ≡ old ++ lines.printed
+      → is_all ≡ lines.is_all → is_all ≡ true → has_sizes ≡ true
+      → ((totals : List ℕ) × (new ≡ text ++ totals))
+      → IsListed has_sizes lines (record { printed = new; answer = Ok 0 })
+  listed_sized new none added all goes asked more =
+      let same : new ≡ lines.printed ++ more.0 =
+      more.1 ∙ ap (λ l. l ++ more.0) (added ∙ ap (λ l. l ++ lines.printed) none) in
+      record {
+        totals = more.0;
+        no_totals = λ e. absurd (true≢false (sym asked ∙ e));
+        is = after_all lines is_all (sym all) goes more.0
+            ∙ ap (λ l. record { printed = l; answer = Ok 0 }) (sym same);
+      }
+
+-- ---- what came of it
+
+pub no_memory : (P : Type 0) (a : Option (List ℕ)) → OrNoMemory P a a (Err failures.Memory)
+unfolding OrNoMemory
+no_memory P a = inr (refl, Keeps-refl a)
+
+pub same_entries : (pack : Package) (entries lent : List UnitEntry) → lent ≡ entries
+    → AreByRow pack entries → AreByRow pack lent
+same_entries pack entries lent same h = subst (AreByRow pack) (sym same) h
+
+pub entries_listed : (has_sizes : Bool) (pack : Package) (old new : Option (List ℕ))
+    (result : Result ℕ Failure) (entries : List UnitEntry) (given : Result ℕ Failure)
+    (text lent : List ℕ) → AreByRow pack entries
+    → IsListed has_sizes (lines_of has_sizes pack entries)
+    (record { printed = text; answer = given })
+    → lent ≡ text → Comes result (record { printed = lent; answer = given }) old new
+    → OrNoMemory (ListsPackage has_sizes pack old new result) old new result
+unfolding OrNoMemory
+entries_listed has_sizes pack old new result entries given text lent by_row listed same comes =
+    inl (record {
+      entries = entries;
+      by_row = by_row;
+      meant = record { printed = text; answer = given };
+      listed = listed;
+      comes = subst (λ l. Comes result (record { printed = l; answer = given }) old new) same comes;
+    })
+
+pub bytes_listed : (has_sizes : Bool) (pack : Package) (p : Result Package PackageError)
+    (old new : Option (List ℕ)) (result : Result ℕ Failure) → p ≡ Ok pack
+    → OrNoMemory (ListsPackage has_sizes pack old new result) old new result
+    → OrNoMemory (ListsBytes has_sizes p old new result) old new result
+bytes_listed has_sizes pack p old new result e h =
+    subst (λ q. OrNoMemory (ListsBytes has_sizes q old new result) old new result) (sym e) h
+
+pub bytes_malformed : (has_sizes : Bool) (cause : PackageError) (p : Result Package PackageError)
+    (a : Option (List ℕ)) → p ≡ Err cause
+    → OrNoMemory (ListsBytes has_sizes p a a (Err failures.Malformed)) a a (Err failures.Malformed)
+unfolding OrNoMemory
+bytes_malformed has_sizes cause p a e = inl (rw e (refl, Appends-nil a))
+
+module _ (offer : List ℕ → Result (List ℕ) IoError → Type 0) (path : List ℕ)
+    (has_sizes : Bool) where
+  listed_or : (old new : Option (List ℕ)) (result : Result ℕ Failure) (bytes : List ℕ)
+      → offer path (Ok bytes)
+      → ListsBytes has_sizes (package_of bytes) old new result
+      ⊎ ((result ≡ Err failures.Memory) × Keeps old new)
+      → Lists offer path has_sizes old new result
+  unfolding Lists
+  listed_or old new result bytes read (inl h) = inl (bytes, read, h)
+  listed_or old new result bytes read (inr h) = inr (rw h.0 (tt, h.1))
+
+  pub was_listed : (old new : Option (List ℕ)) (result : Result ℕ Failure)
+      (bytes lent : List ℕ) → offer path (Ok bytes) → lent ≡ bytes
+      → OrNoMemory (ListsBytes has_sizes (package_of lent) old new result) old new result
+      → Lists offer path has_sizes old new result
+  unfolding OrNoMemory
+  was_listed old new result bytes lent read same h =
+      listed_or old new result bytes read
+      (subst (λ bs. ListsBytes has_sizes (package_of bs) old new result
+      ⊎ ((result ≡ Err failures.Memory) × Keeps old new)) same h)
+
+  pub not_listed : (a : Option (List ℕ)) (failure : Failure) → FailsToRead offer path failure
+      → Lists offer path has_sizes a a (Err failure)
+  unfolding Lists
+  not_listed a failure h = inr (h, Keeps-refl a)

@@ -1,0 +1,105 @@
+-- What was printed, or begun.
+use Rattle.std.proofs.Common.{◌≡◌, ℕ, List, length, take, sym, ◌∙◌, ap}
+use Rattle.std.proofs.Common.{subst}
+use Rattle.std.proofs.Common.{arith, refl}
+use Rattle.std.specs.Prelude.{Option, Some, None, Result, Ok, Err, OnErr}
+use Rattle.std.proofs.Common.{inl, inr}
+use Rattle.std.specs.declared.io.Error.{Error as IoError}
+use Rattle.std.specs.Io.KnownBytes.{Appends, Keeps}
+use Rattle.std.proofs.KnownBytes.{Appends-kept, Appends-nil, Keeps-refl}
+use Rattle.std.proofs.lemmas.List.{take_all}
+use Rattle.std.proofs.Math.Seq.{take-append_seam}
+use Rattle.std.proofs.lemmas.List.{append-nil}
+use Rattle.dwp_elf.proofs.SoFar.{SoFar, Keeps-from_none}
+use Rattle.thorin_queries.specs.Answers.{Answer, HasBeginning, Comes, Reads, FailsToRead}
+use Rattle.thorin_queries.specs.declared.output.Failure.{Failure}
+use Rattle.thorin_queries.specs.declared.output.Failure.TheVariants as failures
+
+-- all of it is a beginning
+pub whole : (old new : Option (List ℕ)) (bytes : List ℕ) → Appends old new bytes
+    → HasBeginning old new bytes
+unfolding HasBeginning
+whole old new bytes h = (
+  length bytes,
+  subst (λ bs. Appends old new bs) (sym (take_all (length bytes) bytes (omega arith))) h,
+)
+
+-- what was handed over so far is a beginning
+pub part : (old new : Option (List ℕ)) (all rest : List ℕ) → SoFar old new all rest
+    → HasBeginning old new all
+unfolding HasBeginning
+part old new all rest s = (
+  length s.done,
+  subst (λ bs. Appends old new bs)
+      (sym (ap (take (length s.done)) s.split ∙ take-append_seam s.done rest)) s.appended,
+)
+
+-- all was printed, and the answer is the one that is meant
+pub came : (given : Result ℕ Failure) (text : List ℕ) (old new : Option (List ℕ))
+    → Appends old new text
+    → Comes given (record { printed = text; answer = given }) old new
+came (Ok status) text old new h = (refl, h)
+came (Err failures.Line) text old new h = whole old new text h
+came (Err failures.Memory) text old new h = whole old new text h
+came (Err failures.Output) text old new h = (refl, h)
+came (Err failures.Overwrites) text old new h = (refl, h)
+came (Err failures.Input) text old new h = (refl, h)
+came (Err failures.Malformed) text old new h = (refl, h)
+came (Err failures.NoIndex) text old new h = (refl, h)
+came (Err (failures.NoUnit id)) text old new h = (refl, h)
+came (Err failures.BadKind) text old new h = (refl, h)
+came (Err failures.BadIdentifier) text old new h = (refl, h)
+came (Err failures.BadCommand) text old new h = (refl, h)
+came (Err failures.Response) text old new h = (refl, h)
+
+-- a write failed
+pub stopped : (given : Result ℕ Failure) (text : List ℕ) (old new : Option (List ℕ))
+    → HasBeginning old new text
+    → Comes (Err failures.Line) (record { printed = text; answer = given }) old new
+stopped given text old new h = h
+
+-- what holds at any error
+pub on_err : {X E : Type 0} (result : Result X E) (P : Type 0) → P → OnErr result P
+on_err (Ok x) P h = tt
+on_err (Err e) P h = h
+
+-- nothing was handed over
+pub nothing : (a : Option (List ℕ)) (bytes : List ℕ) → HasBeginning a a bytes
+unfolding HasBeginning
+nothing a bytes = (0, Appends-nil a)
+
+-- where nothing more was handed over
+pub part_kept : (old middle new : Option (List ℕ)) (all rest : List ℕ)
+    → SoFar old middle all rest → Keeps middle new → HasBeginning old new all
+part_kept old middle new all rest s k = part old new all rest (record {
+  done = s.done;
+  split = s.split;
+  appended = Appends-kept old middle new s.done s.appended k;
+})
+
+-- a write that took no bytes, and one that was interrupted
+pub none_taken : (old new : Option (List ℕ)) (bytes : List ℕ)
+    → Appends old new (take 0 bytes) → Keeps old new
+none_taken old new bytes h = Keeps-from_none old new 0 bytes refl h
+
+pub none_added : (old new : Option (List ℕ)) (bytes : List ℕ) → Keeps old new
+    → Appends old new (take 0 bytes)
+none_added None new bytes h = tt
+none_added (Some xs) None bytes h = h
+none_added (Some xs) (Some ys) bytes h = h ∙ sym (append-nil xs)
+
+module _ (offer : List ℕ → Result (List ℕ) IoError → Type 0) (path : List ℕ)
+    (meant : List ℕ → Answer) where
+  -- a file was read, and its bytes answered
+  pub was_read : (old new : Option (List ℕ)) (result : Result ℕ Failure) (bytes lent : List ℕ)
+      → offer path (Ok bytes) → lent ≡ bytes → Comes result (meant lent) old new
+      → Reads offer path meant old new result
+  unfolding Reads
+  was_read old new result bytes lent read same comes =
+      inl (bytes, read, subst (λ bs. Comes result (meant bs) old new) same comes)
+
+  -- it can't be read
+  pub unread : (a : Option (List ℕ)) (failure : Failure) → FailsToRead offer path failure
+      → Reads offer path meant a a (Err failure)
+  unfolding Reads
+  unread a failure h = inr (h, Keeps-refl a)

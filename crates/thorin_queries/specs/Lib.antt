@@ -1,0 +1,4 @@
+pub mod Answers
+pub mod Finding
+pub mod Lines
+pub mod Listing

@@ -1,0 +1,138 @@
+-- What `list` prints.
+use Rattle.std.specs.Prelude.{◌≡◌, ◌⊎◌, ℕ, ◌+◌, ◌^◌, Bool, true, false, List, [], ◌∷◌, ◌++◌}
+use Rattle.std.specs.Prelude.{codes}
+use Rattle.std.specs.Prelude.{length, Option, Some, None, Result, Ok, Err, ◌==◌, if◌then◌else◌}
+use Rattle.std.specs.Fmt.{decimal}
+use Rattle.std.specs.List.{flat_map}
+use Rattle.std.specs.List.Sorted.{IsPermutation, IsSortedByKey, IsStableByKey}
+use Rattle.std.specs.Ordering.{nat_cmp}
+use Rattle.std.specs.declared.io.Error.{Error as IoError}
+use Rattle.std.specs.Io.KnownBytes.{Keeps}
+use Rattle.dwp_base.specs.declared.section.SectionKind.{SectionKind}
+use Rattle.dwp_base.specs.declared.section.Contribution.{Contribution}
+use Rattle.dwp_index.specs.Entries.{entries_from}
+use Rattle.dwp_index.specs.Index.{range_in}
+use Rattle.dwp_index.specs.Package.{Package, FoundUnit, package_of, found}
+use Rattle.dwp_index.specs.declared.fault.PackageError.{PackageError}
+use Rattle.dwp_index.specs.declared.units.UnitEntry.{UnitEntry}
+use Rattle.dwp_table.specs.Columns.{contribution_kinds}
+use Rattle.dwp_table.specs.Objects.{identifier_of}
+use Rattle.dwp_table.specs.declared.object.DwarfObject.{DwarfObject}
+use Rattle.dwp_table.specs.declared.object.DwarfObject.TheVariants.{Compilation, TypeUnit}
+use Rattle.thorin_queries.specs.Answers.{Answer, refused, Comes, RefusesFile}
+use Rattle.thorin_queries.specs.Lines.{hex16, line_end, short_kind, short_name}
+use Rattle.thorin_queries.specs.declared.output.Failure.{Failure}
+use Rattle.thorin_queries.specs.declared.output.Failure.TheVariants as failures
+
+-- ---- the order of lines
+
+-- compilation units by row, then type units by row
+abbrev pub place_by : DwarfObject → ℕ → ℕ
+place_by (Compilation id) row = row
+place_by (TypeUnit signature) row = 2 ^ 32 + row
+
+abbrev pub place_of_line : UnitEntry → ℕ
+place_of_line entry = place_by entry.object entry.row
+
+-- what the slots of a package name, in the order of lines; those of one row in order of slot
+pub record AreByRow (pack : Package) (entries : List UnitEntry) : Type 0 where
+  pub all : IsPermutation (entries_from pack.compilations pack.types 0 0) entries
+  pub by_row : IsSortedByKey place_of_line nat_cmp entries
+  pub by_slot : IsStableByKey place_of_line nat_cmp (entries_from pack.compilations pack.types 0 0)
+      entries
+
+-- ---- the line of a unit
+
+-- the size of a range, behind the short name of its section
+abbrev pub range_size : SectionKind → Option Contribution → List ℕ
+range_size kind None = []
+range_size kind (Some range) = codes " " ++ (short_name kind ++ (codes " " ++ decimal range.size))
+
+unfoldable pub range_sizes : FoundUnit → List ℕ
+range_sizes unit = flat_map (λ kind. range_size kind (range_in unit.row kind)) contribution_kinds
+
+-- a unit's kind, its identifier and the size of its bytes; also the sizes of its ranges, where
+-- these
+-- are asked for
+unfoldable pub unit_front : DwarfObject → FoundUnit → List ℕ
+unit_front object unit =
+    short_kind object ++ (codes " 0x" ++ (hex16 (identifier_of object)
+    ++ (codes " " ++ decimal (length unit.bytes))))
+
+unfoldable pub unit_line : (has_sizes : Bool) → DwarfObject → FoundUnit → List ℕ
+unit_line has_sizes object unit =
+    unit_front object unit ++ (if has_sizes then range_sizes unit else []) ++ line_end
+
+-- the line for a slot: that of the unit which is found under its identifier, if that is the one of
+-- the slot's row; no line, if another or none is found
+abbrev pub slot_line : (has_sizes : Bool) → UnitEntry → Option FoundUnit → List ℕ
+slot_line has_sizes entry None = []
+slot_line has_sizes entry (Some unit) =
+    if unit.number == entry.row then unit_line has_sizes entry.object unit else []
+
+-- ---- all lines
+
+-- the lines of these slots, up to the first whose unit can't be looked up; and whether there is
+-- none
+-- such
+pub record Lines : Type 0 where
+  pub printed : List ℕ
+  pub is_all : Bool
+
+abbrev pub behind_line : (has_sizes : Bool) → UnitEntry → Result (Option FoundUnit) PackageError
+    → Lines → Lines
+behind_line has_sizes entry (Err cause) lines = record { printed = []; is_all = false }
+behind_line has_sizes entry (Ok unit) lines = record {
+  printed = slot_line has_sizes entry unit ++ lines.printed;
+  is_all = lines.is_all;
+}
+
+abbrev pub lines_of : (has_sizes : Bool) → Package → List UnitEntry → Lines
+lines_of has_sizes pack [] = record { printed = []; is_all = true }
+lines_of has_sizes pack (entry ∷ entries) =
+    behind_line has_sizes entry (found pack entry.object) (lines_of has_sizes pack entries)
+
+-- where a unit was looked up, its line is added, and else nothing
+abbrev pub AddsLine : (has_sizes : Bool) → UnitEntry → Result (Option FoundUnit) PackageError
+    → (old new : List ℕ) → Bool → Type 0
+AddsLine has_sizes entry (Err cause) old new is_found = (is_found ≡ false) × (new ≡ old)
+AddsLine has_sizes entry (Ok unit) old new is_found =
+    (is_found ≡ true) × (new ≡ old ++ slot_line has_sizes entry unit)
+
+-- ---- what comes of it
+
+-- the answer once such lines are printed; totals stand behind them, where sizes are asked for
+abbrev pub after_lines : Lines → (totals : List ℕ) → Answer
+after_lines lines totals = if lines.is_all
+    then record { printed = lines.printed ++ totals; answer = Ok 0 }
+    else record { printed = lines.printed; answer = Err failures.Malformed }
+
+-- that is meant, with some totals; there are none where sizes aren't asked for
+pub record IsListed (has_sizes : Bool) (lines : Lines) (meant : Answer) : Type 0 where
+  pub totals : List ℕ
+  pub no_totals : has_sizes ≡ false → totals ≡ []
+  pub is : after_lines lines totals ≡ meant
+
+-- `list`, where the bytes of a file are a package
+pub record ListsPackage (has_sizes : Bool) (pack : Package) (old new : Option (List ℕ))
+    (result : Result ℕ Failure) : Type 0 where
+  pub entries : List UnitEntry
+  pub by_row : AreByRow pack entries
+  pub meant : Answer
+  pub listed : IsListed has_sizes (lines_of has_sizes pack entries) meant
+  pub comes : Comes result meant old new
+
+-- the same for what the bytes are: where they are no package, that is answered
+abbrev pub ListsBytes : (has_sizes : Bool) → Result Package PackageError
+    → (old new : Option (List ℕ)) → Result ℕ Failure → Type 0
+ListsBytes has_sizes (Err cause) old new result = Comes result (refused failures.Malformed) old new
+ListsBytes has_sizes (Ok pack) old new result = ListsPackage has_sizes pack old new result
+
+-- `list`: the file at the path was read and listed; or it can't be read, or there is no memory to
+-- do so, and nothing was printed
+unfoldable pub Lists : (List ℕ → Result (List ℕ) IoError → Type 0) → (path : List ℕ)
+    → (has_sizes : Bool) → (old new : Option (List ℕ)) → Result ℕ Failure → Type 0
+Lists offer path has_sizes old new result =
+    ((bytes : List ℕ) × offer path (Ok bytes)
+    × ListsBytes has_sizes (package_of bytes) old new result)
+    ⊎ (RefusesFile offer path result × Keeps old new)
