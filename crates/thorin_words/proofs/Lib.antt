@@ -1,2 +1,4 @@
+pub mod Naming
 pub mod Numerals
 pub mod Splitting
+pub mod Standing

@@ -6,7 +6,8 @@ use Rattle.std.proofs.lemmas.List.{append-nil, at_drop_more}
 use Rattle.thorin_words.specs.declared.words.Place.{Place}
 use Rattle.thorin_words.specs.declared.words.Place.TheVariants.{Between, Inside, Escaped}
 use Rattle.thorin_words.specs.Words.{is_space, is_mark, is_between, behind, keeps, put, words_from}
-use Rattle.thorin_words.specs.Words.{escaped, quoted}
+use Rattle.thorin_words.specs.Words.{escaped, quoted, words_of}
+use Rattle.std.proofs.Math.Seq.{drop-length}
 
 -- what was read of a word, in front of the first of these
 abbrev pub prefix : List ℕ → List (List ℕ) → List (List ℕ)
@@ -80,6 +81,35 @@ pub words_from-passed : (text : List ℕ) (i : ℕ) (place : Place) (word : List
 words_from-passed text i place word here dropped stays =
     at_drop_more (λ rest. prefix word (words_from place rest)) text i 0 here ∙ rw
     (dropped, stays) refl
+
+between : (place : Place) → is_between place ≡ true → place ≡ Between
+between Between is = refl
+between (Inside quote) is = cc
+between (Escaped quote) is = cc
+
+-- a word that ends, in front of those that the rest has
+pub words_of-ended : (text : List ℕ) (i : ℕ) (place : Place) (word : List ℕ) → i < length text
+    → keeps place (get_or text i 0) ≡ false
+    → is_between (behind place (get_or text i 0)) ≡ true → is_between place ≡ false
+    → prefix word (words_from place (drop i text)) ≡ word ∷ words_of (drop (i + 1) text)
+unfolding words_of
+words_of-ended text i place word here dropped ends inside =
+    words_from-ended text i place word here dropped ends inside ∙ ap (λ p. word ∷ words_from p
+    (drop (i + 1) text)) (between (behind place (get_or text i 0)) ends)
+
+-- the text's end ends the last one
+last : (place : Place) (word : List ℕ) → is_between place ≡ false → prefix word
+    (words_from place []) ≡ word ∷ words_of []
+unfolding words_of
+last place word inside = rw inside (ap (λ w. w ∷ []) (append-nil word))
+
+pub words_of-last : (text : List ℕ) (i : ℕ) (place : Place) (word : List ℕ) → i ≡ length text
+    → is_between place ≡ false → prefix word (words_from place (drop i text)) ≡ word ∷ words_of
+    (drop (length text) text)
+words_of-last text i place word ends inside =
+    let none : drop i text ≡ [] = ap (λ n. drop n text) ends ∙ drop-length text in
+    ap (λ rest. prefix word (words_from place rest)) none ∙ (last place word inside ∙ ap (λ rest.
+    word ∷ words_of rest) (sym (drop-length text)))
 
 -- the words of an escaped word between marks
 pub words_from-escaped : (word rest : List ℕ)

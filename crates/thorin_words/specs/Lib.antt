@@ -1,2 +1,4 @@
 pub mod Identifiers
+pub mod Printed
+pub mod Responses
 pub mod Words

@@ -2,7 +2,7 @@
 -- separates; a word, or a part of it, may stand between single or double quotation marks; a
 -- backslash takes the byte behind it, whatever it is.
 use Rattle.std.specs.Prelude.{ℕ, Bool, true, false, ◌==◌, ◌&&◌, ◌||◌, not, nat_le, List, [], ◌∷◌}
-use Rattle.std.specs.Prelude.{◌++◌, Option, Some, None, if◌then◌else◌}
+use Rattle.std.specs.Prelude.{◌≡◌, ◌<◌, ◌≤◌, ◌++◌, length, drop, Option, Some, None, if◌then◌else◌}
 use Rattle.thorin_words.specs.declared.words.Place.{Place}
 use Rattle.thorin_words.specs.declared.words.Place.TheVariants.{Between, Inside, Escaped}
 
@@ -64,6 +64,13 @@ words_from place (byte ∷ rest) =
 -- the words of a text
 unfoldable pub words_of : List ℕ → List (List ℕ)
 words_of text = words_from Between text
+
+-- what is read from a place of a text on: no word, and it has none; or a word, and the place behind
+-- it, where the other words go on
+abbrev pub IsNext : List ℕ → ℕ → List ℕ → Option ℕ → Type 0
+IsNext text start word None = words_of (drop start text) ≡ []
+IsNext text start word (Some end) = (start < end) × (end ≤ length text)
+    × (words_of (drop start text) ≡ word ∷ words_of (drop end text))
 
 -- a text of words: each between marks, with a backslash before each byte, and a blank behind it
 abbrev pub escaped : List ℕ → List ℕ

@@ -3,7 +3,12 @@
 
 mod identifier;
 pub mod laws;
+mod next;
+mod printing;
+mod responses;
 mod words;
 
 pub use identifier::hexadecimal;
+pub use printing::printed;
+pub use responses::{ResponseError, ResponseFiles, expanded};
 pub use words::split_words;

@@ -8,7 +8,7 @@ use std::mem;
 
 /// Where a byte of the text stands.
 #[derive(Clone, Copy)]
-enum Place {
+pub(crate) enum Place {
     /// Between two words.
     Between,
     /// In a word, behind this quotation mark where there is one.
@@ -19,7 +19,7 @@ enum Place {
 
 impl Place {
     /// The place behind a byte.
-    fn behind(self, byte: u8) -> Place
+    pub(crate) fn behind(self, byte: u8) -> Place
         ensures { result ≡ behind self byte }
     {
         let quote = match self {
@@ -38,7 +38,7 @@ impl Place {
     }
 
     /// Whether a byte at this place belongs to the word.
-    fn keeps(self, byte: u8) -> bool
+    pub(crate) fn keeps(self, byte: u8) -> bool
         ensures { result ≡ keeps self byte }
     {
         match self {
@@ -48,7 +48,7 @@ impl Place {
         }
     }
 
-    fn is_between(self) -> bool
+    pub(crate) fn is_between(self) -> bool
         ensures { result ≡ is_between self }
     {
         matches!(self, Place::Between)

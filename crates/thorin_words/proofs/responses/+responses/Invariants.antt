@@ -1,0 +1,28 @@
+use Rattle.std.proofs.Common.{◌≡◌, ◌≤◌, ◌+◌, ◌-◌, ◌*◌, ◌++◌, ℕ, List, length, drop}
+use Rattle.thorin_words.specs.Responses.{words_in}
+use Rattle.thorin_words.specs.Words.{words_of}
+use Rattle.thorin_words.proofs.Standing.{Continues}
+use Rattle.thorin_words.proofs.responses.+responses.Given as goal
+
+abbrev pub decreases-add_file : goal.decreases-add_file
+decreases-add_file g l = 3 * l.left.files + 2
+
+abbrev pub decreases-add_text : goal.decreases-add_text
+decreases-add_text g l = 3 * l.left.files + 1
+
+abbrev pub decreases-add_word : goal.decreases-add_word
+decreases-add_word g l = 3 * l.left.files
+
+-- what the words stand for that were read, in front of what the rest does
+abbrev pub invariant-add_text-loop-word : goal.invariant-add_text-loop-word
+invariant-add_text-loop-word g l = record {
+  within : l.at ≤ length l.text;
+  fewer : l.left.files ≤ l.fn.left.files;
+  same : words_in l.names ≡ words_in l.fn.names;
+  added : (own : List (List ℕ)) × (words_in l.all ≡ words_in l.fn.all ++ own)
+      × Continues (g.F.ResponseFiles.offer l.files) (words_in l.fn.names) (words_of l.text)
+      (words_of (drop l.at l.text)) own;
+}
+
+abbrev pub decreases-add_text-loop-word : goal.decreases-add_text-loop-word
+decreases-add_text-loop-word g l = length l.text - l.at

@@ -1,0 +1,337 @@
+//! `@FILE` among the words of a command line: a response file, as linkers have it.
+
+ghost use Rattle.std.specs.Prelude.{◌≡◌, ◌≤◌, ◌+◌, ◌++◌, ◌∷◌, [], ℕ, List, Option, Some, None, map, length};
+ghost use Rattle.std.specs.Prelude.{IfOk, IfErr, OnOk, IfSome, MatchOption, option_map, string_bytes};
+ghost use Rattle.thorin_words.specs.Responses.{is_among, Answers, IsAdded, AreAdded, Opens};
+ghost use Rattle.thorin_words.specs.Responses.{is_inside_of, words_in, name_in};
+ghost use Rattle.std.specs.List.{list_any};
+ghost use Rattle.std.specs.Str.{bytes_eq};
+ghost use Rattle.thorin_words.specs.Words.{words_of};
+ghost use Rattle.thorin_words.specs.declared.responses.ResponseError.TheVariants as errors;
+
+use crate::next::next_word;
+use std::alloc::{AllocError, AllocFailed, Global};
+use std::convert::AsStr;
+use std::str;
+
+/// How many response files a command line may name, those among them that response files name.
+const MOST_FILES: u32 = 2000;
+
+/// How many bytes these files may have together, each as often as it is named, and those that the
+/// words cost beside.
+const MOST_BYTES: u32 = 1 << 26;
+
+/// What a word costs beside its bytes.
+const BYTES_OF_A_WORD: usize = 32;
+
+/// Where response files are read.
+pub trait ResponseFiles {
+    // What a read of the file of a name may give: its text, or that there is no such file.
+    ghost offer: { Self → List ℕ → Option (List ℕ) → Type 0 };
+
+    /// The text of the file of a name, none where there is no such file.
+    ///
+    /// # Errors
+    /// `Unreadable`, `TooLong` where it has more bytes than `most`, `Memory`.
+    fn text(&self, name: &str, most: u32) -> Result<Option<Vec<u8>>, ResponseError>
+        ensures offered { IfOk result (λ text. offer self.now name.now
+            (option_map (λ bytes. bytes.items) text)) }
+        ensures within { IfOk result (λ text. IfSome text (λ bytes. length bytes.items ≤ most)) }
+        ensures outside { IfErr result (λ e. is_inside_of e ≡ None) };
+}
+
+/// Why the words of a command line can't be told.
+#[derive(Debug, Drop)]
+pub enum ResponseError {
+    /// A response file is inside itself, over any number of steps; its name.
+    Inside(String),
+    /// A response file can't be read.
+    Unreadable,
+    /// There are too many response files.
+    TooMany,
+    /// The response files have too many bytes together.
+    TooLong,
+    /// A word isn't UTF-8.
+    NotUtf8,
+    /// Memory ran out.
+    Memory,
+}
+
+impl From<AllocError> for ResponseError {
+    ghost from_gives = { λ _ error. error ≡ errors.Memory };
+
+    fn from(_e: AllocError) -> ResponseError {
+        ResponseError::Memory
+    }
+}
+
+impl<T: Drop> From<AllocFailed<T>> for ResponseError {
+    ghost from_gives = { λ _ error. error ≡ errors.Memory };
+
+    fn from(_e: AllocFailed<T>) -> ResponseError {
+        ResponseError::Memory
+    }
+}
+
+/// How many files may still be named, and how many bytes may still be held.
+#[derive(Clone, Copy)]
+struct Left {
+    files: u32,
+    bytes: u32,
+}
+
+/// What a word is.
+#[derive(Drop)]
+enum Opened<'w> {
+    /// One that stands for itself.
+    Word(&'w str),
+    /// The name of a file, its text, and what is left after it.
+    File(String, Vec<u8>, Left),
+}
+
+/// A program's name, and the words of its command line with the words of response files in place of
+/// each `@FILE`. Those of a file may name files again. A name for which there is no file stays a
+/// word.
+///
+/// # Errors
+/// `Inside` where a file is inside itself; `Unreadable`, `TooMany`, `TooLong`, `NotUtf8`, `Memory`.
+pub fn expanded<S: AsStr, F: ResponseFiles>(
+    alloc: Global,
+    files: &F,
+    program: &str,
+    line: &[S],
+) -> Result<Vec<String>, ResponseError>
+    ensures { Answers (F.offer files.now) program.now (map S.text line.now) result }
+{
+    let mut all = begun(alloc, program)?;
+    let mut names = Vec::new(alloc);
+    let left = Left {
+        files: MOST_FILES,
+        bytes: MOST_BYTES,
+    };
+    add_line(files, line, &mut names, left, &mut all)?;
+    Ok(all)
+}
+
+/// The program's name alone.
+#[tactic(auto, using(crate::proofs::Standing::alone))]
+fn begun(alloc: Global, program: &str) -> Result<Vec<String>, ResponseError>
+    ensures words { IfOk result (λ all. words_in all ≡ program.now ∷ []) }
+    ensures outside { IfErr result (λ e. is_inside_of e ≡ None) }
+{
+    let mut all = Vec::new(alloc);
+    all.push(String::from_str(alloc, program)?)?;
+    Ok(all)
+}
+
+/// Adds the words of a line, with those of files in place of each `@FILE`.
+fn add_line<S: AsStr, F: ResponseFiles>(
+    files: &F,
+    line: &[S],
+    names: &mut Vec<String>,
+    left: Left,
+    all: &mut Vec<String>,
+) -> Result<(), ResponseError>
+    ensures { AreAdded (F.offer files.now) (words_in names.old) (map S.text line.now)
+        (words_in all.old) (words_in all.new) result }
+{
+    let mut left = left;
+    for word in line {
+        left = add_word(files, word.as_str(), names, left, all)?;
+    }
+    Ok(())
+}
+
+/// Adds a word, or those of the file that it names. Answers what is left.
+#[cycle(responses)]
+fn add_word<F: ResponseFiles>(
+    files: &F,
+    word: &str,
+    names: &mut Vec<String>,
+    left: Left,
+    all: &mut Vec<String>,
+) -> Result<Left, ResponseError>
+    ensures added { IsAdded (F.offer files.now) (words_in names.old) word.now (words_in all.old)
+        (words_in all.new) result }
+    ensures names { OnOk result (words_in names.new ≡ words_in names.old) }
+    ensures files { IfOk result (λ now. now.files ≤ left.files) }
+{
+    match open_word(files, *all.allocator(), word, names.as_slice(), left)? {
+        Opened::Word(word) => {
+            let left = add_plain(word, left, all)?;
+            Ok(left)
+        }
+        Opened::File(name, text, left) => {
+            let left = add_file(files, name, text, names, left, all)?;
+            Ok(left)
+        }
+    }
+}
+
+/// Adds the words of a file, whose name is among the others meanwhile. Answers what is left.
+#[cycle(responses)]
+fn add_file<F: ResponseFiles>(
+    files: &F,
+    name: String,
+    text: Vec<u8>,
+    names: &mut Vec<String>,
+    left: Left,
+    all: &mut Vec<String>,
+) -> Result<Left, ResponseError>
+    ensures added { AreAdded (F.offer files.now) (words_in names.old ++ string_bytes name ∷ [])
+        (words_of text.items) (words_in all.old) (words_in all.new) result }
+    ensures names { OnOk result (words_in names.new ≡ words_in names.old) }
+    ensures files { IfOk result (λ now. now.files ≤ left.files) }
+{
+    let before = names.as_slice().len();
+    push_name(names, name)?;
+    let left = add_text(files, text.as_slice(), names, left, all)?;
+    names.truncate(before);
+    Ok(left)
+}
+
+/// Adds the words of a text, with those of files in place of each `@FILE`. Answers what is left.
+#[cycle(responses)]
+fn add_text<F: ResponseFiles>(
+    files: &F,
+    text: &[u8],
+    names: &mut Vec<String>,
+    left: Left,
+    all: &mut Vec<String>,
+) -> Result<Left, ResponseError>
+    ensures added { AreAdded (F.offer files.now) (words_in names.old) (words_of text.now)
+        (words_in all.old) (words_in all.new) result }
+    ensures names { OnOk result (words_in names.new ≡ words_in names.old) }
+    ensures files { IfOk result (λ now. now.files ≤ left.files) }
+{
+    let mut left = left;
+    let mut at = 0;
+    let mut word = Vec::new(*all.allocator());
+    while let Some(end) = next_word(text, at, &mut word)? {
+        at = end;
+        let word = text_of(word.as_slice())?;
+        left = add_word(files, word, names, left, all)?;
+    }
+    Ok(left)
+}
+
+/// Adds the name of a file.
+#[tactic(auto, using(crate::proofs::Standing::named))]
+fn push_name(names: &mut Vec<String>, name: String) -> Result<(), ResponseError>
+    ensures names { OnOk result (words_in names.new ≡ words_in names.old ++ string_bytes name ∷ []) }
+    ensures outside { IfErr result (λ e. is_inside_of e ≡ None) }
+{
+    names.push(name)?;
+    Ok(())
+}
+
+/// Adds a word that stands for itself. Answers what is left.
+#[tactic(auto, using(crate::proofs::Standing::pushed))]
+fn add_plain(word: &str, left: Left, all: &mut Vec<String>) -> Result<Left, ResponseError>
+    ensures added { OnOk result (words_in all.new ≡ words_in all.old ++ word.now ∷ []) }
+    ensures files { IfOk result (λ now. now.files ≡ left.files) }
+    ensures outside { IfErr result (λ e. is_inside_of e ≡ None) }
+{
+    let left = left_after(left, BYTES_OF_A_WORD)?;
+    all.push(String::from_str(*all.allocator(), word)?)?;
+    Ok(left)
+}
+
+/// A word is UTF-8.
+fn text_of(word: &[u8]) -> Result<&str, ResponseError>
+    ensures text { IfOk result (λ text. text.now ≡ word.now) }
+    ensures outside { IfErr result (λ e. is_inside_of e ≡ None) }
+{
+    match str::from_utf8(word) {
+        Ok(text) => Ok(text),
+        Err(_) => Err(ResponseError::NotUtf8),
+    }
+}
+
+/// What a word is inside the files of these names.
+fn open_word<'w, F: ResponseFiles>(
+    files: &F,
+    alloc: Global,
+    word: &'w str,
+    names: &[String],
+    left: Left,
+) -> Result<Opened<'w>, ResponseError>
+    ensures { Opens (F.offer files.now) (map string_bytes names.now) word.entry.now left.files
+        result }
+{
+    let Some(name) = file_name(word) else {
+        return Ok(Opened::Word(word));
+    };
+    if has_name(names, name) {
+        return Err(ResponseError::Inside(String::from_str(alloc, name)?));
+    }
+    match files.text(name, left.bytes)? {
+        None => Ok(Opened::Word(word)),
+        Some(text) => {
+            let left = left_after(with_file_less(left)?, text.len())?;
+            Ok(Opened::File(String::from_str(alloc, name)?, text, left))
+        }
+    }
+}
+
+/// The name that a word `@NAME` has.
+fn file_name(word: &str) -> Option<&str>
+    ensures { MatchOption result (name_in word.entry.now ≡ None) (λ name.
+        word.entry.now ≡ 64 ∷ name.now) }
+{
+    word.strip_prefix("@")
+}
+
+/// What is left where one file more is named.
+fn with_file_less(left: Left) -> Result<Left, ResponseError>
+    ensures files { IfOk result (λ now. now.files + 1 ≡ left.files) }
+    ensures outside { IfErr result (λ e. is_inside_of e ≡ None) }
+{
+    if left.files == 0 {
+        return Err(ResponseError::TooMany);
+    }
+    Ok(Left {
+        files: left.files - 1,
+        bytes: left.bytes,
+    })
+}
+
+/// What is left after so many bytes.
+fn left_after(left: Left, count: usize) -> Result<Left, ResponseError>
+    ensures files { IfOk result (λ now. now.files ≡ left.files) }
+    ensures bytes { IfOk result (λ now. now.bytes + count ≡ left.bytes) }
+    ensures outside { IfErr result (λ e. is_inside_of e ≡ None) }
+{
+    if count > left.bytes as usize {
+        return Err(ResponseError::TooLong);
+    }
+    Ok(Left {
+        files: left.files,
+        bytes: left.bytes - count as u32,
+    })
+}
+
+/// Whether a name is among those of files.
+fn has_name(names: &[String], name: &str) -> bool
+    ensures { result ≡ is_among (map string_bytes names.now) name.now }
+{
+    is_any(names, name)
+}
+
+/// Whether some text is this one.
+fn is_any(texts: &[String], text: &str) -> bool
+    ensures { result ≡ list_any (λ outer. bytes_eq (string_bytes outer) text.now) texts.now }
+{
+    for outer in texts {
+        if is_text(outer, text) {
+            return true;
+        }
+    }
+    false
+}
+
+fn is_text(outer: &String, text: &str) -> bool
+    ensures { result ≡ bytes_eq (string_bytes outer.now) text.now }
+{
+    outer.as_str() == text
+}
