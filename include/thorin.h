@@ -21,9 +21,9 @@
  * over one package.
  *
  * A call returns a status: 0 (THORIN_DONE) where it did what was asked. The calls that read a
- * package allocate nothing. Those that pack or decompress use malloc, realloc and free, and free all
- * that they allocate. They take bytes: to pack the objects that an executable names, run the program
- * (thorin pack -e), or ask thorin_skeletons() for their paths and read them yourself.
+ * package allocate nothing. Those that pack or decompress use malloc, realloc and free, and free
+ * all that they allocate. They take bytes: to pack the objects that an executable names, run the
+ * program (thorin pack -e), or ask thorin_skeletons() for their paths and read them yourself.
  *
  * The soname of the shared library has the first number of the version, as libthorin.so.1. While
  * that number stays, a program that was built with one version runs with every later one: calls,

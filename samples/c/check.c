@@ -34,9 +34,11 @@ static const char names[] = "\0.debug_info.dwo\0.debug_abbrev.dwo\0.debug_str.dw
 #define SECTIONS 6
 static uint8_t object[HEADERS + SECTIONS * 64];
 
-static void put(size_t at, uint64_t value, size_t size) {
-  for (size_t i = 0; i < size; i++) object[at + i] = (uint8_t)(value >> (8 * i));
+static void put_in(uint8_t *to, uint64_t value, size_t size) {
+  for (size_t i = 0; i < size; i++) to[i] = (uint8_t)(value >> (8 * i));
 }
+
+static void put(size_t at, uint64_t value, size_t size) { put_in(object + at, value, size); }
 
 /* Puts a section's content and its header: its number, the place of its name, its type and its place in the file. */
 static size_t put_section(size_t number, size_t name, uint32_t type, size_t at, const void *content, size_t size) {
@@ -225,6 +227,48 @@ static void a_split_object_names_no_other(void) {
   SAME(path[0], 7);
 }
 
+/* The same object with its abbreviations compressed: behind a header of 24 bytes a stream of one stored block, and the check
+ * sum that Python's zlib gives (RFC 1950 and 1951; ELF gABI, "Section Compression"). */
+static void a_compressed_object_becomes_plain(void) {
+  static const uint8_t begins[7] = {0x78, 1, 1, 9, 0, 0xf6, 0xff}, ends[4] = {0x06, 0x26, 0x01, 0x0d};
+  static uint8_t packed[sizeof object + 44], plain[2 * sizeof packed], package[1024], wanted[1024];
+  uint8_t *content = packed + sizeof object, *header = packed + HEADERS + 2 * 64;
+  thorin_report report = {0}, other = {0};
+  uint64_t length = 7;
+  memcpy(packed, object, sizeof object);
+  put_in(content, 1, 8);
+  put_in(content + 8, sizeof abbreviations, 8);
+  put_in(content + 16, 1, 8);
+  memcpy(content + 24, begins, sizeof begins);
+  memcpy(content + 31, abbreviations, sizeof abbreviations);
+  memcpy(content + 40, ends, sizeof ends);
+  put_in(header + 8, 0x800, 8);
+  put_in(header + 24, sizeof object, 8);
+  put_in(header + 32, 44, 8);
+  thorin_bytes before = {object, sizeof object}, input = {packed, sizeof packed};
+
+  CALL(thorin_pack(&input, 1, package, sizeof package, &report), THORIN_REFUSED);
+  SAME(report.fault, THORIN_FAULT_DECOMPRESS_DATA);
+  CALL(thorin_decompress(object, sizeof object, plain, sizeof plain, &length), THORIN_NOT_COMPRESSED);
+  CALL(thorin_decompress(NULL, 0, NULL, 0, &length), THORIN_MALFORMED_FILE);
+  packed[sizeof packed - 1] ^= 1;
+  CALL(thorin_decompress(packed, sizeof packed, plain, sizeof plain, &length), THORIN_DAMAGED);
+  packed[sizeof packed - 1] ^= 1;
+  content[0] = 2;
+  CALL(thorin_decompress(packed, sizeof packed, plain, sizeof plain, &length), THORIN_NOT_ZLIB);
+  content[0] = 1;
+  SAME(length, 7);
+  SAME(plain[0], 0);
+  CALL(thorin_decompress(packed, sizeof packed, NULL, 0, &length), THORIN_TOO_SMALL);
+  input.at = plain;
+  input.size = length;
+  CALL(thorin_decompress(packed, sizeof packed, plain, length, &length), THORIN_DONE);
+  SAME(length, input.size);
+  CALL(thorin_pack(&input, 1, package, sizeof package, &report), THORIN_DONE);
+  CALL(thorin_pack(&before, 1, wanted, sizeof wanted, &other), THORIN_DONE);
+  SAME(report.size == other.size && memcmp(package, wanted, report.size) == 0, 1);
+}
+
 int main(void) {
   SAME(thorin_version(), THORIN_VERSION);
   make_object();
@@ -234,6 +278,7 @@ int main(void) {
   a_package_stays_open();
   null_is_a_place_of_nothing();
   a_split_object_names_no_other();
+  a_compressed_object_becomes_plain();
   if (failed) return 1;
   printf("check: %u calls as expected\n", calls);
   return 0;
