@@ -1,15 +1,17 @@
 //! The program `thorin`, as a function over its words and two writers.
 #![tactic(auto)]
 
+mod responses;
+
+use crate::responses::HostResponses;
 use std::convert::AsStr;
 use std::fmt;
 use std::io::{self, Write};
 use thorin_arguments::{Commands, PackArguments};
 pub use thorin_commands::Failure;
-use thorin_commands::{
-    HostFiles, Packing, check, expanded, find, list, pack, report, show, verify,
-};
+use thorin_commands::{HostFiles, Packing, check, find, list, pack, report, show, verify};
 use thorin_faults::MissingReferencedObjectBehaviour;
+use thorin_words::{ResponseError, expanded, printed};
 
 /// Does what a command line asks for: `words` are the program's name and its arguments, where
 /// `@FILE` stands for the words of a file. What is printed goes to `out`, and a fault as one line
@@ -24,12 +26,41 @@ pub fn run<S: AsStr, O: Write, E: Write>(
     out: &mut O,
     err: &mut E,
 ) -> u8 {
-    match expanded(rt, words) {
+    let (program, line) = match words.split_first() {
+        Some((program, line)) => (program.as_str(), line),
+        None => ("thorin", words),
+    };
+    match expanded(rt.alloc(), &HostResponses(rt), program, line) {
         Ok(words) => {
             let mut program = Program { rt, out, err };
             thorin_arguments::run(rt.alloc(), words.as_slice(), commit, &mut program)
         }
-        Err(failure) => report(err, &failure),
+        Err(error) => refuse_response(rt, err, &error),
+    }
+}
+
+/// Prints why the words of a command line can't be told, and answers the status.
+fn refuse_response<E: Write>(rt: &HostRuntime, err: &mut E, error: &ResponseError) -> u8 {
+    match error {
+        ResponseError::Inside(name) => refuse_inside(rt, err, name.as_str()),
+        ResponseError::TooLong => {
+            let _ = show(err, &"error: Response files are too long\n");
+            1
+        }
+        ResponseError::Unreadable | ResponseError::TooMany => report(err, &Failure::Response),
+        ResponseError::NotUtf8 => report(err, &Failure::BadCommand),
+        ResponseError::Memory => report(err, &Failure::Memory),
+    }
+}
+
+/// Prints that a response file is inside itself, and answers the status.
+fn refuse_inside<E: Write>(rt: &HostRuntime, err: &mut E, name: &str) -> u8 {
+    match printed(rt.alloc(), name) {
+        Ok(name) => {
+            let _ = writeln!(err, "error: Response file {name} is inside itself");
+            1
+        }
+        Err(_) => report(err, &Failure::Memory),
     }
 }
 
