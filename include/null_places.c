@@ -31,6 +31,7 @@ int32_t proved_thorin_string_in(const thorin_package *, const uint8_t *, size_t,
 int32_t proved_thorin_list_in(const thorin_package *, const uint8_t *, size_t, thorin_name *, size_t, uint64_t *);
 int32_t proved_thorin_pack(const thorin_bytes *, size_t, uint8_t *, size_t, thorin_report *);
 int32_t proved_thorin_differing_types(const thorin_bytes *, size_t, uint64_t *, size_t, thorin_report *);
+int32_t proved_thorin_decompress(const uint8_t *, size_t, uint8_t *, size_t, uint64_t *);
 int32_t proved_thorin_skeletons(const uint8_t *, size_t, thorin_skeleton *, size_t, uint8_t *, size_t, uint64_t *, thorin_report *);
 
 size_t thorin_status_text(int32_t status, uint8_t *text, size_t room) {
@@ -92,6 +93,10 @@ int32_t thorin_string_in(const thorin_package *package, const uint8_t *bytes, si
 int32_t thorin_list_in(const thorin_package *package, const uint8_t *bytes, size_t size, thorin_name *names, size_t room,
                        uint64_t *count) {
   return proved_thorin_list_in(package, AT(bytes, size), size, AT(names, room), room, count);
+}
+
+int32_t thorin_decompress(const uint8_t *bytes, size_t size, uint8_t *out, size_t room, uint64_t *length) {
+  return proved_thorin_decompress(AT(bytes, size), size, AT(out, room), room, length);
 }
 
 int32_t thorin_skeletons(const uint8_t *bytes, size_t size, thorin_skeleton *names, size_t room, uint8_t *paths,
