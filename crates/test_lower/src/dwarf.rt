@@ -7,9 +7,7 @@ use dwp_dwarf::*;
 /// Makes the call of a row.
 pub fn call(row: Row<'_>, said: &mut Said) {
     match row.word(0) {
-        "unit" => unit(reader(row, 3), reader(row, 4), section(row), said),
-        "relocated_unit" => relocated_unit(reader(row, 1), reader(row, 2), said),
-        "relocated_type_unit" => relocated_type_unit(reader(row, 1), reader(row, 2), said),
+        "unit" | "relocated_unit" | "relocated_type_unit" => units(row, said),
         "attribute" => attribute(row, said),
         _ => call_of_tables(row, said),
     }
@@ -17,10 +15,24 @@ pub fn call(row: Row<'_>, said: &mut Said) {
 
 fn call_of_tables(row: Row<'_>, said: &mut Said) {
     match row.word(0) {
-        "remembered" => remembered(row, slice(row.bytes(1)), row.rest(2), said),
+        "remembered" => remembered_of(row, said),
         "sizes" => sizes(row.bytes(1), row.rest(2), said),
         "object" => object(row, said),
         _ => crate::elf_read::call(row, said),
+    }
+}
+
+/// Units and abbreviations, words 3 and 4, or 1 and 2 where a unit is relocated.
+fn units(row: Row<'_>, said: &mut Said) {
+    let place = if row.word(0) == "unit" { 3 } else { 1 };
+    of_units(reader(row, place), reader(row, place + 1), row, said);
+}
+
+fn of_units<R: Reader>(units: R, abbreviations: R, row: Row<'_>, said: &mut Said) {
+    match row.word(0) {
+        "unit" => unit(units, abbreviations, section(row), said),
+        "relocated_unit" => relocated_unit(units, abbreviations, said),
+        _ => relocated_type_unit(units, abbreviations, said),
     }
 }
 
@@ -205,17 +217,27 @@ const OFFSETS: &[u8] = b"\xff\xff\xff\xff\x02\0\0\0\0\0\0\0\x06\0\0\0\x07\0\0\0\
 
 /// The string of a form and a value, by sections of strings that are always the same.
 fn attribute(row: Row<'_>, said: &mut Said) {
-    let sections = strings(slice(b"a\0bc\0d"), slice(b"x\0"), slice(OFFSETS));
-    put_text(&sections, row.number(1), slice(row.bytes(2)), said);
+    put_text(
+        [slice(b"a\0bc\0d"), slice(b"x\0"), slice(OFFSETS)],
+        row.number(1),
+        slice(row.bytes(2)),
+        said,
+    );
 }
 
-fn put_text<R: Reader>(sections: &StringSections<R>, form: u64, value: R, said: &mut Said) {
+fn put_text<R: Reader>(
+    [debug_str, debug_line_str, debug_str_offsets]: [R; 3],
+    form: u64,
+    value: R,
+    said: &mut Said,
+) {
+    let sections = strings(debug_str, debug_line_str, debug_str_offsets);
     let attribute = Attribute {
         name: 0x03,
         form,
         value,
     };
-    match attr_string(sections, Format::Dwarf32, 4, &attribute) {
+    match attr_string(&sections, Format::Dwarf32, 4, &attribute) {
         Ok(text) => said.ok(&Text(text.to_slice())),
         Err(fault) => said.err(&fault),
     }
@@ -238,6 +260,10 @@ fn as_read<R: Reader>(section: R, offset: u64, code: u64) -> Told {
         Ok(table) => told_of(table.get(code)),
         Err(fault) => Err(fault),
     }
+}
+
+fn remembered_of(row: Row<'_>, said: &mut Said) {
+    remembered(row, slice(row.bytes(1)), row.rest(2), said);
 }
 
 /// Tables of abbreviations, and places and codes with a colon between: what is remembered of each
@@ -319,14 +345,24 @@ fn put_header<R: Reader>(units: R, section: UnitSection, said: &mut Said) {
 /// `info` or `types`, units, abbreviations, strings, string offsets, where these begin and the format
 /// of their offsets: the first unit of an object that a compiler wrote, and its root.
 fn object(row: Row<'_>, said: &mut Said) {
-    let sections = strings(slice(row.bytes(4)), slice(b""), slice(row.bytes(5)));
-    put_object(
+    object_of(
         slice(row.bytes(2)),
         slice(row.bytes(3)),
-        &sections,
+        [slice(row.bytes(4)), slice(b""), slice(row.bytes(5))],
         row,
         said,
     );
+}
+
+fn object_of<R: Reader>(
+    units: R,
+    abbreviations: R,
+    [debug_str, debug_line_str, debug_str_offsets]: [R; 3],
+    row: Row<'_>,
+    said: &mut Said,
+) {
+    let sections = strings(debug_str, debug_line_str, debug_str_offsets);
+    put_object(units, abbreviations, &sections, row, said);
 }
 
 fn put_object<R: Reader>(

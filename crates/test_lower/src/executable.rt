@@ -6,8 +6,8 @@ use dwp_dwarf::RelocationEntry;
 use std::alloc::Global;
 use std::collections::BTreeMap;
 use std::path::Path;
-use thorin_executable::{SkeletonList, SkeletonUnits, skeletons};
-use thorin_faults::{ArenaSession, Error, MemorySession, Session};
+use thorin_executable::{Skeleton, SkeletonList, SkeletonUnits, skeletons};
+use thorin_faults::{ArenaSession, Error, InputError, MemorySession, Session};
 
 /// Makes the call of a row.
 pub fn call(row: Row<'_>, said: &mut Said) {
@@ -68,10 +68,34 @@ impl Layout {
         let (name, digits) = split(word, "=");
         let (name, of) = split(name, ":");
         let bytes = said.bytes_of(row.alloc, digits);
-        self.add_header(kind_of(of), bytes.len(), said);
-        said.extend(&mut self.contents, &bytes);
+        self.add_section(name, kind_of(of), &bytes, said);
+    }
+
+    fn add_section(&mut self, name: &str, kind: (u64, u64, u64), bytes: &[u8], said: &mut Said) {
+        self.add_header(kind, bytes.len(), said);
+        said.extend(&mut self.contents, bytes);
         said.extend(&mut self.names, name.as_bytes());
         said.extend(&mut self.names, b"\0");
+    }
+
+    /// Adds the sections of words, and then the names of them all.
+    fn fill(&mut self, row: Row<'_>, words: &[&str], said: &mut Said) {
+        said.extend(&mut self.names, b"\0");
+        said.extend(&mut self.headers, &[0; 64]);
+        for word in words {
+            self.add(row, word, said);
+        }
+        let size = self.names.len();
+        self.add_header((1, 0, 0), size, said);
+    }
+
+    /// Adds the bytes of a file whose last section is of this number to others.
+    fn put(&self, file: &mut Vec<u8>, last: u64, said: &mut Said) {
+        said.extend(file, b"\x7fELF\x02\x01\x01\0\0\0\0\0\0\0\0\0");
+        add_words(file, &self.header(last), said);
+        said.extend(file, &self.contents);
+        said.extend(file, &self.names);
+        said.extend(file, &self.headers);
     }
 }
 
@@ -90,13 +114,7 @@ fn laid_out(row: Row<'_>, said: &mut Said) -> Layout {
         names: Vec::new(row.alloc),
         headers: Vec::new(row.alloc),
     };
-    said.extend(&mut layout.names, b"\0");
-    said.extend(&mut layout.headers, &[0; 64]);
-    for word in row.rest(2) {
-        layout.add(row, word, said);
-    }
-    let size = layout.names.len();
-    layout.add_header((1, 0, 0), size, said);
+    layout.fill(row, row.rest(2), said);
     layout
 }
 
@@ -104,21 +122,20 @@ fn laid_out(row: Row<'_>, said: &mut Said) -> Layout {
 fn file(row: Row<'_>, said: &mut Said) -> Vec<u8> {
     let layout = laid_out(row, said);
     let mut file = Vec::new(row.alloc);
-    said.extend(&mut file, b"\x7fELF\x02\x01\x01\0\0\0\0\0\0\0\0\0");
-    let header = layout.header((row.rest(2).len() as u64 & 0xff) + 1);
-    add_words(&mut file, &header, said);
-    said.extend(&mut file, &layout.contents);
-    said.extend(&mut file, &layout.names);
-    said.extend(&mut file, &layout.headers);
+    layout.put(&mut file, (row.rest(2).len() as u64 & 0xff) + 1, said);
     file
 }
 
 /// The units that a list has, and its fault.
 fn put_list(list: &SkeletonList, said: &mut Said) {
     for unit in &list.units {
-        said.put(&(unit.target, unit.path.as_str()));
+        put_named(unit, said);
     }
     said.put(&list.fault);
+}
+
+fn put_named(unit: &Skeleton, said: &mut Said) {
+    said.put(&(unit.target, unit.path.as_str()));
 }
 
 /// What a file names.
@@ -146,7 +163,7 @@ fn skeletons_in(row: Row<'_>, said: &mut Said) {
 
 fn put_next(left: &mut SkeletonUnits<'_>, said: &mut Said) {
     match left.next() {
-        Ok(Some(unit)) => said.put(&(unit.target, unit.path.as_str())),
+        Ok(Some(unit)) => put_named(&unit, said),
         Ok(None) => said.word("none"),
         Err(fault) => said.put(&fault),
     }
@@ -155,12 +172,14 @@ fn put_next(left: &mut SkeletonUnits<'_>, said: &mut Said) {
 /// Four units, one after the other.
 fn put_units(left: Result<SkeletonUnits<'_>, Error>, said: &mut Said) {
     match left {
-        Ok(mut left) => {
-            for _ in 0..4 {
-                put_next(&mut left, said);
-            }
-        }
+        Ok(mut left) => put_four(&mut left, said),
         Err(fault) => said.put(&fault),
+    }
+}
+
+fn put_four(left: &mut SkeletonUnits<'_>, said: &mut Said) {
+    for _ in 0..4 {
+        put_next(left, said);
     }
 }
 
@@ -171,11 +190,15 @@ fn put_one_by_one(alloc: Global, bytes: &[u8], said: &mut Said) {
     put_units(SkeletonUnits::read(alloc, &session, bytes), said);
 }
 
+fn put_sections_one_by_one(row: Row<'_>, said: &mut Said) {
+    let bytes = file(row, said);
+    put_one_by_one(row.alloc, &bytes, said);
+}
+
 /// `-` and the sections of an executable, or the bytes of a file: what it names, one after the other.
 fn one_by_one(row: Row<'_>, said: &mut Said) {
     if row.word(1) == "-" {
-        let bytes = file(row, said);
-        put_one_by_one(row.alloc, &bytes, said);
+        put_sections_one_by_one(row, said);
     } else {
         put_one_by_one(row.alloc, row.bytes(1), said);
     }
@@ -185,12 +208,12 @@ fn one_by_one(row: Row<'_>, said: &mut Said) {
 fn put_named_at<Sess: Session<RelocationEntry>>(session: &Sess, row: Row<'_>, said: &mut Said) {
     match session.read_input(Path::new(row.word(1))) {
         Ok(bytes) => put_skeletons(row.alloc, session, bytes, said),
-        Err(fault) => put_fault(&Error::from(fault), said),
+        Err(fault) => put_fault(fault, said),
     }
 }
 
-fn put_fault(fault: &Error, said: &mut Said) {
-    said.put(fault);
+fn put_fault(fault: InputError, said: &mut Said) {
+    said.put(&Error::from(fault));
 }
 
 /// The path of a file: what it names.

@@ -18,7 +18,7 @@ mod sessions;
 mod strings;
 
 use row::{Row, Said, bytes_of_word};
-use std::alloc::AllocError;
+use std::alloc::{AllocError, Global};
 use std::{fs, io};
 
 /// The files of rows, one for each crate.
@@ -78,17 +78,27 @@ fn answers(rt: &HostRuntime, named: &str, rows: &str) -> Result<String, AllocErr
 fn answer(rt: &HostRuntime, named: &str, line: &str, said: &mut Said) {
     let alloc = rt.alloc();
     let words: Vec<&str> = said.made(line.split_whitespace().collect(alloc), Vec::new(alloc));
+    answer_words(rt, named, &words, said);
+}
+
+fn answer_words(rt: &HostRuntime, named: &str, words: &[&str], said: &mut Said) {
+    let alloc = rt.alloc();
     let mut data = Vec::new(alloc);
-    for word in &words {
-        let bytes = said.made(bytes_of_word(alloc, named, word), Vec::new(alloc));
-        add_bytes(&mut data, bytes, said);
+    for word in words {
+        add_word(alloc, &mut data, named, word, said);
     }
-    let row = Row {
-        alloc,
-        words: &words,
-        data: &data,
-    };
-    call(rt, row, said);
+    call_with(rt, words, &data, said);
+}
+
+fn call_with(rt: &HostRuntime, words: &[&str], data: &[Vec<u8>], said: &mut Said) {
+    let alloc = rt.alloc();
+    call(rt, Row { alloc, words, data }, said);
+}
+
+/// Adds the bytes of a word.
+fn add_word(alloc: Global, data: &mut Vec<Vec<u8>>, named: &str, word: &str, said: &mut Said) {
+    let bytes = said.made(bytes_of_word(alloc, named, word), Vec::new(alloc));
+    add_bytes(data, bytes, said);
 }
 
 fn add_bytes(data: &mut Vec<Vec<u8>>, bytes: Vec<u8>, said: &mut Said) {

@@ -33,8 +33,17 @@ fn parsed(index: &[u8]) -> Result<UnitIndex<'_>, ReadError> {
 fn rewritten(row: Row<'_>, said: &mut Said) {
     let compilations = indexed(row.alloc, encoding(row.word(1)), row.word(3), said);
     let types = indexed(row.alloc, encoding(row.word(1)), row.word(4), said);
-    match parsed(&compilations) {
-        Ok(compilations) => rewrite(row, &compilations, parsed(&types), said),
+    rewrite_by(row, parsed(&compilations), parsed(&types), said);
+}
+
+fn rewrite_by(
+    row: Row<'_>,
+    compilations: Result<UnitIndex<'_>, ReadError>,
+    types: Result<UnitIndex<'_>, ReadError>,
+    said: &mut Said,
+) {
+    match compilations {
+        Ok(compilations) => rewrite(row, &compilations, types, said),
         Err(fault) => said.err(&fault),
     }
 }
@@ -58,18 +67,31 @@ fn put_rewritten(
     said: &mut Said,
 ) {
     let mut strings = PackageStringTable::new(row.alloc);
+    add_string(&mut strings, said);
+    let range = remapped(row, &mut strings, compilations, types);
+    put_range(&range, &strings.finish(), said);
+}
+
+fn add_string(strings: &mut PackageStringTable, said: &mut Said) {
     said.note_that(strings.get_or_insert(b"b").is_ok());
-    let range = remap_packaged_offsets(
+}
+
+fn remapped(
+    row: Row<'_>,
+    strings: &mut PackageStringTable,
+    compilations: &UnitIndex<'_>,
+    types: &UnitIndex<'_>,
+) -> Result<Vec<u8>, Error> {
+    remap_packaged_offsets(
         row.alloc,
-        &mut strings,
+        strings,
         Some(compilations),
         Some(types),
         b"a\0b\0",
         row.bytes(2),
         Endianness::Little,
         encoding(row.word(1)),
-    );
-    put_range(&range, &strings.finish(), said);
+    )
 }
 
 fn put_range(range: &Result<Vec<u8>, Error>, data: &[u8], said: &mut Said) {
@@ -82,9 +104,13 @@ fn put_range(range: &Result<Vec<u8>, Error>, data: &[u8], said: &mut Said) {
 /// String offsets of a package without indexes, and whether there is no string then.
 fn without_indexes(row: Row<'_>, said: &mut Said) {
     let mut strings = PackageStringTable::new(row.alloc);
+    put_without_indexes(row, &mut strings, said);
+}
+
+fn put_without_indexes(row: Row<'_>, strings: &mut PackageStringTable, said: &mut Said) {
     said.bytes(&remap_packaged_offsets(
         row.alloc,
-        &mut strings,
+        strings,
         None,
         None,
         b"",
@@ -112,7 +138,11 @@ fn put_row(
 /// Ranges of abbreviations and of string offsets, a section, and a range of it: the row that has it.
 fn row_at(row: Row<'_>, said: &mut Said) {
     let index = indexed(row.alloc, encoding("gnu"), row.word(1), said);
-    match parsed(&index) {
+    put_row_of(row, parsed(&index), said);
+}
+
+fn put_row_of(row: Row<'_>, index: Result<UnitIndex<'_>, ReadError>, said: &mut Said) {
+    match index {
         Ok(index) => put_row(
             row,
             Some(&index),

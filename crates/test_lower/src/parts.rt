@@ -3,7 +3,7 @@
 use crate::row::{Row, Said, encoding, number, place, split};
 use dwp_base::{Contribution, ContributionOffset, Endianness, SectionKind};
 use dwp_bytes::{Encoding, ReadError, RelocationEntry};
-use dwp_elf_read::ElfFile;
+use dwp_elf_read::{ElfFile, Section};
 use dwp_index::{DwarfObject, DwoId, UnitIndex};
 use std::alloc::{AllocError, Global};
 use thorin_faults::Error;
@@ -89,12 +89,21 @@ fn ranged(encoding: Encoding, word: &str) -> IndexEntry {
 /// An index whose rows have the ranges of a word, with a comma between.
 pub fn indexed(alloc: Global, encoding: Encoding, word: &str, said: &mut Said) -> Vec<u8> {
     let mut entries = Vec::new(alloc);
+    add_ranged(&mut entries, encoding, word, said);
+    written(alloc, &entries, said)
+}
+
+fn add_ranged(entries: &mut Vec<IndexEntry>, encoding: Encoding, word: &str, said: &mut Said) {
     for range in word.split(',') {
         let mut entry = ranged(encoding, range);
         entry.id = DwarfObject::Compilation(DwoId(entries.len() as u64));
-        add(&mut entries, entry, said);
+        add(entries, entry, said);
     }
-    match write_index(alloc, Endianness::Little, &entries) {
+}
+
+/// The index of entries, or no bytes where it is refused, which is said.
+fn written(alloc: Global, entries: &[IndexEntry], said: &mut Said) -> Vec<u8> {
+    match write_index(alloc, Endianness::Little, entries) {
         Ok(index) => index,
         Err(fault) => {
             said.err(&fault);
@@ -129,11 +138,16 @@ fn index_of(row: Row<'_>, said: &mut Said) {
     said.sized(&write_index(row.alloc, row.order(1), &entries));
 }
 
+/// Adds an identifier to others.
+fn add_unit(units: &mut Vec<DwoId>, id: u64, said: &mut Said) {
+    said.note_that(units.push(DwoId(id)).is_ok());
+}
+
 /// Identifiers: the slots of their hash table, and how many were looked at for each.
 fn slots(row: Row<'_>, said: &mut Said) {
     let mut units = Vec::new(row.alloc);
     for word in row.rest(1) {
-        said.note_that(units.push(DwoId(number(word))).is_ok());
+        add_unit(&mut units, number(word), said);
     }
     put_table(bucket(row.alloc, &units), said);
 }
@@ -152,7 +166,7 @@ fn put_table(table: Result<Buckets, Error>, said: &mut Said) {
 fn slots_of(row: Row<'_>, said: &mut Said) {
     let mut units = Vec::new(row.alloc);
     for id in 0..row.number(1) {
-        said.note_that(units.push(DwoId(id)).is_ok());
+        add_unit(&mut units, id, said);
     }
     put_size(bucket(row.alloc, &units), said);
 }
@@ -222,15 +236,22 @@ fn relocations_of(row: Row<'_>, said: &mut Said) {
 }
 
 fn put_section(file: &ElfFile<'_>, row: Row<'_>, said: &mut Said) {
-    let section = if row.word(2).is_empty() {
-        file.section_by_name(".debug_info")
-    } else {
-        file.section(place(row.word(2)))
-    };
-    match section {
-        Some(section) => put_relocations(&add_relocations(row.alloc, file, &section), said),
+    match asked(file, row.word(2)) {
+        Some(section) => put_relocated(row.alloc, file, &section, said),
         None => said.word("no section"),
     }
+}
+
+fn asked<'a>(file: &ElfFile<'a>, word: &str) -> Option<Section<'a>> {
+    if word.is_empty() {
+        file.section_by_name(".debug_info")
+    } else {
+        file.section(place(word))
+    }
+}
+
+fn put_relocated(alloc: Global, file: &ElfFile<'_>, section: &Section<'_>, said: &mut Said) {
+    put_relocations(&add_relocations(alloc, file, section), said);
 }
 
 fn put_relocations(found: &Result<Vec<RelocationEntry>, Error>, said: &mut Said) {

@@ -8,14 +8,25 @@ use dwp_bytes::{Format, ReadError, Reader, Relocate, Relocation, RelocationEntry
 /// Makes the call of a row.
 pub fn call(row: Row<'_>, said: &mut Said) {
     match row.word(0) {
-        "read" => steps(
-            SliceReader::new(row.bytes(2), row.order(1)),
-            row.rest(3),
-            said,
-        ),
-        "relocated" => once(SliceReader::new(row.bytes(1), Little), row.rest(2), said),
-        "relocated_twice" => twice(SliceReader::new(row.bytes(1), Little), row.rest(2), said),
+        "read" | "relocated" | "relocated_twice" => of_reader(reader(row), row, said),
         _ => crate::dwarf::call(row, said),
+    }
+}
+
+/// A reader of a byte order and bytes, or of bytes alone.
+fn reader(row: Row<'_>) -> SliceReader<'_> {
+    match row.word(0) {
+        "read" => SliceReader::new(row.bytes(2), row.order(1)),
+        _ => SliceReader::new(row.bytes(1), Little),
+    }
+}
+
+/// Takes the steps of a row with a reader.
+fn of_reader<R: Reader>(at: R, row: Row<'_>, said: &mut Said) {
+    match row.word(0) {
+        "read" => steps(at, row.rest(3), said),
+        "relocated" => once(at, row.rest(2), said),
+        _ => twice(at, row.rest(2), said),
     }
 }
 

@@ -68,8 +68,22 @@ fn put_session_alone<S: Session<u64>>(session: &S, bytes: Vec<u8>, said: &mut Sa
 
 /// The file `a.dwo` with the bytes `abc`.
 fn files(alloc: Global) -> Result<BTreeMap<String, Vec<u8>>, AllocError> {
+    let name = String::from_str(alloc, "a.dwo")?;
+    file(alloc, name)
+}
+
+fn file(alloc: Global, name: String) -> Result<BTreeMap<String, Vec<u8>>, AllocError> {
+    let bytes = b"abc".to_vec(alloc)?;
+    holding(alloc, name, bytes)
+}
+
+fn holding(
+    alloc: Global,
+    name: String,
+    bytes: Vec<u8>,
+) -> Result<BTreeMap<String, Vec<u8>>, AllocError> {
     let mut files = BTreeMap::new(alloc);
-    files.insert(String::from_str(alloc, "a.dwo")?, b"abc".to_vec(alloc)?)?;
+    files.insert(name, bytes)?;
     Ok(files)
 }
 
@@ -78,7 +92,11 @@ fn files(alloc: Global) -> Result<BTreeMap<String, Vec<u8>>, AllocError> {
 fn memory(row: Row<'_>, said: &mut Said) {
     let files = said.made(files(row.alloc), BTreeMap::new(row.alloc));
     let mut bump = Bump::new(row.alloc);
-    put_session(&MemorySession::new(&bump, &files), row, said);
+    put_memory(&files, &mut bump, row, said);
+}
+
+fn put_memory(files: &BTreeMap<String, Vec<u8>>, bump: &mut Bump, row: Row<'_>, said: &mut Said) {
+    put_session(&MemorySession::new(bump, files), row, said);
     // Before the last use of what was placed this doesn't compile: the arena is still borrowed
     // (E0502).
     said.put(&bump.reset().is_ok());

@@ -5,7 +5,7 @@ ghost use Rattle.thorin_strings.specs.Known.{AreKnown};
 use crate::row::{Row, Said, Text, encoding, number, order, split};
 use Endianness::Little;
 use dwp_base::Endianness;
-use dwp_bytes::string_at;
+use dwp_bytes::{Encoding, string_at};
 use thorin_faults::Error;
 use thorin_strings::{PackageStringOffset, PackageStringTable, Repeats};
 
@@ -58,15 +58,20 @@ fn remap(table: &mut PackageStringTable, row: Row<'_>, argument: &str, said: &mu
     let (endian, rest) = split(rest, ":");
     let (size, rest) = split(rest, ":");
     let (strings, offsets) = split(rest, ":");
+    let as_written = (number(size), order(endian), encoding(format));
     let strings = said.bytes_of(row.alloc, strings);
     let offsets = said.bytes_of(row.alloc, offsets);
-    said.bytes(&table.remap_str_offsets_section(
-        &strings,
-        &offsets,
-        number(size),
-        order(endian),
-        encoding(format),
-    ));
+    put_remapped(table, &strings, &offsets, as_written, said);
+}
+
+fn put_remapped(
+    table: &mut PackageStringTable,
+    strings: &[u8],
+    offsets: &[u8],
+    (size, endian, encoding): (u64, Endianness, Encoding),
+    said: &mut Said,
+) {
+    said.bytes(&table.remap_str_offsets_section(strings, offsets, size, endian, encoding));
 }
 
 /// The offset of the string before a zero byte.
@@ -150,28 +155,65 @@ fn put_data(table: &PackageStringTable, said: &mut Said) {
 /// A section and offsets: the sums of the offsets and of the strings, in a table of its own, and of
 /// another table twice with what is remembered of the section.
 fn remapped_thrice(row: Row<'_>, said: &mut Said) {
-    let mut table = PackageStringTable::new(row.alloc);
-    put_sum(&alone(&mut table, row.bytes(1), row.bytes(2)), said);
-    put_data(&table, said);
+    remapped_once(row, said);
     remapped_twice(row, said);
 }
 
+fn remapped_once(row: Row<'_>, said: &mut Said) {
+    let mut table = PackageStringTable::new(row.alloc);
+    put_alone(&mut table, row.bytes(1), row.bytes(2), said);
+}
+
+fn put_alone(table: &mut PackageStringTable, section: &[u8], offsets: &[u8], said: &mut Said) {
+    put_sum(&alone(table, section, offsets), said);
+    put_data(table, said);
+}
+
 fn remapped_twice(row: Row<'_>, said: &mut Said) {
-    let (section, offsets) = (row.bytes(1), row.bytes(2));
     let mut repeats = Repeats::new(row.alloc);
     let mut table = PackageStringTable::new(row.alloc);
-    put_sum(&again(&mut table, &mut repeats, section, offsets), said);
-    put_sum(&again(&mut table, &mut repeats, section, offsets), said);
-    put_data(&table, said);
+    put_twice(&mut table, &mut repeats, row.bytes(1), row.bytes(2), said);
+}
+
+fn put_twice(
+    table: &mut PackageStringTable,
+    repeats: &mut Repeats,
+    section: &[u8],
+    offsets: &[u8],
+    said: &mut Said,
+)
+    requires { AreKnown section.now table.old repeats.old }
+{
+    put_sum_again(table, repeats, section, offsets, said);
+    put_sum_again(table, repeats, section, offsets, said);
+    put_data(table, said);
+}
+
+fn put_sum_again(
+    table: &mut PackageStringTable,
+    repeats: &mut Repeats,
+    section: &[u8],
+    offsets: &[u8],
+    said: &mut Said,
+)
+    requires { AreKnown section.now table.old repeats.old }
+    ensures { AreKnown section.now table.new repeats.new }
+{
+    let range = again(table, repeats, section, offsets);
+    put_sum(&range, said);
 }
 
 /// A string that is there, a section, and four ranges of offsets, which are rewritten one after the
 /// other, with what is remembered of the section's short strings; and the data behind them.
 fn short_strings(row: Row<'_>, said: &mut Said) {
     let mut table = PackageStringTable::new(row.alloc);
-    said.note_that(inserted(&mut table, row.bytes(1)).is_ok());
+    add_string(&mut table, row.bytes(1), said);
     put_ranges(&mut table, row, said);
     said.put(&Text(&table.finish()));
+}
+
+fn add_string(table: &mut PackageStringTable, bytes: &[u8], said: &mut Said) {
+    said.note_that(inserted(table, bytes).is_ok());
 }
 
 fn put_ranges(table: &mut PackageStringTable, row: Row<'_>, said: &mut Said) {
@@ -196,32 +238,55 @@ fn refused_range(row: Row<'_>, said: &mut Said) {
 fn put_refused(row: Row<'_>, section: &[u8], said: &mut Said) {
     let mut repeats = Repeats::new(row.alloc);
     let mut table = PackageStringTable::new(row.alloc);
-    put_again(&mut table, &mut repeats, section, row.bytes(2), said);
+    put_both(&mut table, &mut repeats, section, row, said);
+}
+
+fn put_both(
+    table: &mut PackageStringTable,
+    repeats: &mut Repeats,
+    section: &[u8],
+    row: Row<'_>,
+    said: &mut Said,
+)
+    requires { AreKnown section.now table.old repeats.old }
+{
+    put_again(table, repeats, section, row.bytes(2), said);
     let is_empty = table.is_empty();
     repeats.clear();
-    said.note_that(table.get_or_insert(b"kept").is_ok());
-    put_again(&mut table, &mut repeats, section, row.bytes(3), said);
+    keep(table, said);
+    put_again(table, repeats, section, row.bytes(3), said);
     said.put(&(is_empty, table.len()));
+}
+
+fn keep(table: &mut PackageStringTable, said: &mut Said) {
+    said.note_that(table.get_or_insert(b"kept").is_ok());
 }
 
 /// Whether a range comes out as it went in, and the data are the section.
 fn is_kept(table: &mut PackageStringTable, section: &[u8], offsets: &[u8]) -> bool {
     match alone(table, section, offsets) {
-        Ok(range) => range.as_slice() == offsets && table.data() == section,
+        Ok(range) => are_kept(&range, offsets, table.data(), section),
         Err(_) => false,
     }
+}
+
+fn are_kept(range: &[u8], offsets: &[u8], data: &[u8], section: &[u8]) -> bool {
+    range == offsets && data == section
 }
 
 /// A section of strings, and the offsets of each, twice: used again in another range, they are found
 /// all the same, and others are not.
 fn crowded(row: Row<'_>, said: &mut Said) {
-    let section = row.bytes(1);
     let mut table = PackageStringTable::new(row.alloc);
-    let first = is_kept(&mut table, section, row.bytes(2));
-    let second = is_kept(&mut table, section, row.bytes(2));
+    crowd(&mut table, row.bytes(1), row.bytes(2), said);
+}
+
+fn crowd(table: &mut PackageStringTable, section: &[u8], offsets: &[u8], said: &mut Said) {
+    let first = is_kept(table, section, offsets);
+    let second = is_kept(table, section, offsets);
     said.put(&(section.len(), first, second, table.len()));
-    put_found(&table, section.get(8..11).unwrap_or(&[]), said);
-    put_found(&table, b"none", said);
+    put_found(table, section.get(8..11).unwrap_or(&[]), said);
+    put_found(table, b"none", said);
     put_offset(table.get_or_insert(b"none"), said);
 }
 
@@ -229,7 +294,11 @@ fn crowded(row: Row<'_>, said: &mut Said) {
 /// there, as where they are looked for in their order, and no more than six.
 fn in_order(row: Row<'_>, said: &mut Said) {
     let mut table = PackageStringTable::new(row.alloc);
-    said.note_that(alone(&mut table, row.bytes(1), row.bytes(2)).is_ok());
+    put_compared(&mut table, row, said);
+}
+
+fn put_compared(table: &mut PackageStringTable, row: Row<'_>, said: &mut Said) {
+    said.note_that(alone(table, row.bytes(1), row.bytes(2)).is_ok());
     let (_found, count) = table.find_counted(b"none");
     said.put(&(count > 1, count <= 6));
 }
