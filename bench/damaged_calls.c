@@ -150,6 +150,24 @@ static void test_row(const thorin_lookup *row, const thorin_lookup *unit, int32_
     fail("a row has an encoding", row->status);
 }
 
+/* The list of an open package: that of thorin_list where the package is as it was opened, so that the units are known; else any
+ * that fits together. */
+static void list_in(const thorin_package *package, const uint8_t *bytes, size_t size, const thorin_name *listed, size_t room,
+                    uint64_t units) {
+  uint64_t again = 7;
+  thorin_name names[5];
+  memset(names, 0x5a, sizeof names);
+  int32_t answer = thorin_list_in(package, bytes, size, names, room, &again);
+  count(answer, "list_in");
+  int is_opened = units != UINT64_MAX;
+  if (answer != THORIN_DONE && (is_opened || answer != THORIN_MALFORMED_INDEX)) fail("no status of a list", answer);
+  if (((uint8_t *)&names[room])[0] != 0x5a) fail("names past the room", answer);
+  if (answer != THORIN_DONE && (again != 7 || ((uint8_t *)names)[0] != 0x5a)) fail("a list was written", answer);
+  for (size_t i = 0; is_opened && i < room; i++)
+    if (names[i].id != listed[i].id || names[i].row != listed[i].row || names[i].kind != listed[i].kind) fail("another name", answer);
+  if (is_opened && again != units) fail("another list", answer);
+}
+
 /* The calls that read a package. */
 static void read_package(const uint8_t *bytes, size_t size) {
   uint64_t units = 7, listed = 7;
@@ -186,11 +204,11 @@ static void read_package(const uint8_t *bytes, size_t size) {
   if (opened != THORIN_DONE && memcmp(&package, &before, sizeof package) != 0) fail("an open package was written", opened);
   for (size_t i = 0; opened == THORIN_DONE && i < 7; i++)
     look_up_in(&package, bytes, size, &lookups[i], &rows[i], 1);
-  uint64_t again = 7;
-  if (thorin_list_in(&package, bytes, size, NULL, 0, &again) != status || again != units) fail("another list", status);
+  list_in(&package, bytes, size, names, names_room, opened == THORIN_DONE ? units : UINT64_MAX);
   for (size_t i = 0; i < 4; i++) {
     change(&package, size);
     look_up_in(&package, bytes, size, &lookups[i], &rows[i], 0);
+    list_in(&package, bytes, size, names, names_room, UINT64_MAX);
   }
   for (size_t i = 0; i < 7; i++) {
     test_row(&rows[i], &lookups[i], answer);

@@ -335,8 +335,7 @@ int32_t thorin_string_in(const thorin_package *package, const uint8_t *bytes, si
                          uint8_t kind, uint64_t id, uint64_t index, thorin_bytes *found);
 
 /**
- * thorin_list() of a package that is open. It finds the sections anew, which takes far less time
- * than the list, and doesn't look at the numbers in *package.
+ * thorin_list() of a package that is open.
  * @param package What thorin_open() wrote.
  * @param bytes The same bytes.
  * @param size How many there are.

@@ -175,6 +175,8 @@ static void a_package_stays_open(void) {
   /* Numbers that are wrong are no danger. */
   package.cu_index.offset = UINT64_MAX;
   CALL(thorin_find_in(&package, out, sizeof out, THORIN_COMPILATION, 5, &unit), THORIN_ABSENT);
+  CALL(thorin_list_in(&package, out, sizeof out, &listed, 1, &count), THORIN_DONE);
+  SAME(count, 0);
   CALL(thorin_open(object, 100, &package), THORIN_MALFORMED_FILE);
 }
 
@@ -197,7 +199,8 @@ static void null_is_a_place_of_nothing(void) {
   CALL(thorin_string_in(&package, NULL, 0, THORIN_COMPILATION, 5, 0, &lent), THORIN_ABSENT);
   CALL(thorin_unit_count(NULL, 0, &count), THORIN_MALFORMED_FILE);
   CALL(thorin_list(NULL, 0, NULL, 0, &count), THORIN_MALFORMED_FILE);
-  CALL(thorin_list_in(&package, NULL, 0, NULL, 0, &count), THORIN_MALFORMED_FILE);
+  CALL(thorin_list_in(&package, NULL, 0, NULL, 0, &count), THORIN_DONE);
+  SAME(count, 0);
   CALL(thorin_status_text(THORIN_DONE, NULL, 0), 4);
   CALL(thorin_pack(NULL, 0, NULL, 0, &report), THORIN_UNFINISHED);
   SAME(report.fault, THORIN_FAULT_NO_OUTPUT_OBJECT_CREATED);

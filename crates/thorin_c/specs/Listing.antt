@@ -4,9 +4,8 @@ use Rattle.dwp_base.specs.Reading.{◌>>=◌}
 use Rattle.dwp_table.specs.declared.object.DwarfObject.{DwarfObject}
 use Rattle.dwp_table.specs.declared.object.DwarfObject.TheVariants.{Compilation, TypeUnit}
 use Rattle.dwp_index.specs.Entries.{entries_from}
-use Rattle.dwp_index.specs.Package.{Package, package_of}
+use Rattle.dwp_index.specs.Package.{Package}
 use Rattle.dwp_index.specs.declared.units.UnitEntry.{UnitEntry}
-use Rattle.thorin_c.specs.Finding.{as_status}
 use Rattle.thorin_c.specs.declared.types.ThorinName.{ThorinName}
 
 -- a unit that an index names, by its kind and identifier
@@ -25,8 +24,9 @@ names_of pack = map name_of (entries_from pack.compilations pack.types 0 0)
 abbrev pub counted : List ThorinName → ℕ
 counted names = min (length names) (2 ^ 64 - 1)
 
-abbrev pub count_in : List ℕ → Result ℕ ℤ
-count_in bytes = as_status (package_of bytes) >>= λ pack. Ok (counted (names_of pack))
+-- the same of a package that was read
+abbrev pub count_in : Result Package ℤ → Result ℕ ℤ
+count_in read = read >>= λ pack. Ok (counted (names_of pack))
 
 -- a list written over another from its beginning on, as far as there is room
 abbrev pub written_over : {A : Type 0} → List A → List A → List A

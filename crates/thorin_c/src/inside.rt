@@ -2,7 +2,7 @@
 
 ghost use Rattle.std.specs.Prelude.{◌≡◌, Ok};
 ghost use Rattle.dwp_base.specs.Reading.{Answers};
-ghost use Rattle.dwp_index.specs.Package.{package_of, found_counted};
+ghost use Rattle.dwp_index.specs.Package.{found_counted};
 ghost use Rattle.thorin_c.specs.Finding.{as_status, unit_in, unit_of, unit_found, looked_up};
 ghost use Rattle.thorin_c.specs.Finding.{row_found, row_found_in, content_found, string_found};
 ghost use Rattle.thorin_c.specs.Finding.{Fills};
@@ -10,7 +10,7 @@ ghost use Rattle.thorin_c.specs.Listing.{count_in, Lists};
 ghost use Rattle.thorin_c.specs.Opening.{package_in};
 
 use crate::finding::{object_of, section_of, write_row};
-use crate::listing::thorin_list;
+use crate::listing::list;
 use crate::opened::Opened;
 use crate::status::{ABSENT, DONE, MALFORMED_STRING, NO_SUCH_STRING, status_of};
 use crate::types::{ThorinBytes, ThorinName, ThorinPackage, ThorinUnit};
@@ -100,8 +100,7 @@ pub extern "C" fn thorin_string_in<'a>(
     }
 }
 
-/// `thorin_list` of a package that is open. Next to the list, reading where the sections lie takes
-/// no time: it is read anew, and `places` isn't looked at.
+/// `thorin_list` of a package that is open.
 #[unsafe(no_mangle)]
 pub extern "C" fn thorin_list_in(
     places: &ThorinPackage,
@@ -109,11 +108,17 @@ pub extern "C" fn thorin_list_in(
     names: &mut [ThorinName],
     count: &mut u64,
 ) -> i32
-    ensures count { Fills (λ count. count) (count_in bytes.now) count.old count.new result }
-    ensures names { Lists (as_status (package_of bytes.now)) names.old names.new }
+    ensures count { Fills (λ count. count)
+        (count_in (as_status (package_in places.now bytes.now))) count.old count.new result }
+    ensures names { Lists (as_status (package_in places.now bytes.now)) names.old names.new }
 {
-    let _places = places;
-    thorin_list(bytes, names, count)
+    match opened(places, bytes) {
+        Ok(pack) => {
+            *count = list(pack.units(), names);
+            DONE
+        }
+        Err(status) => status,
+    }
 }
 
 /// The package whose sections are at these places.

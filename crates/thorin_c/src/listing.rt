@@ -1,25 +1,26 @@
 //! Listing the units of a package.
 
-ghost use Rattle.std.specs.Prelude.{◌≡◌, length};
-ghost use Rattle.dwp_index.specs.Package.{Package, package_of};
+ghost use Rattle.std.specs.Prelude.{◌≡◌, map};
+ghost use Rattle.dwp_index.specs.Entries.{units_left};
+ghost use Rattle.dwp_index.specs.Package.{package_of};
 ghost use Rattle.thorin_c.specs.Finding.{as_status, Fills};
-ghost use Rattle.thorin_c.specs.Listing.{names_of, name_of, counted, count_in, written_over, Lists};
+ghost use Rattle.thorin_c.specs.Listing.{name_of, counted, count_in, written_over, Lists};
 
 use crate::finding::open;
 use crate::status::DONE;
 use crate::types::ThorinName;
-use dwp_index::{PackageFile, UnitEntry};
+use dwp_index::{UnitEntry, Units};
 use dwp_table::DwarfObject;
 
 /// How many units the indexes of a package name, written to `count`: 0; or 3 or 4 where the package
 /// can't be read.
 #[unsafe(no_mangle)]
 pub extern "C" fn thorin_unit_count(bytes: &[u8], count: &mut u64) -> i32
-    ensures { Fills (λ count. count) (count_in bytes.now) count.old count.new result }
+    ensures { Fills (λ count. count) (count_in (as_status (package_of bytes.now))) count.old count.new result }
 {
     match open(bytes) {
         Ok(file) => {
-            *count = list(&file, &mut []);
+            *count = list(file.units(), &mut []);
             DONE
         }
         Err(status) => status,
@@ -31,12 +32,12 @@ pub extern "C" fn thorin_unit_count(bytes: &[u8], count: &mut u64) -> i32
 /// many there are in `count`; or 3 or 4 where the package can't be read, and nothing is written.
 #[unsafe(no_mangle)]
 pub extern "C" fn thorin_list(bytes: &[u8], names: &mut [ThorinName], count: &mut u64) -> i32
-    ensures count { Fills (λ count. count) (count_in bytes.now) count.old count.new result }
+    ensures count { Fills (λ count. count) (count_in (as_status (package_of bytes.now))) count.old count.new result }
     ensures names { Lists (as_status (package_of bytes.now)) names.old names.new }
 {
     match open(bytes) {
         Ok(file) => {
-            *count = list(&file, names);
+            *count = list(file.units(), names);
             DONE
         }
         Err(status) => status,
@@ -44,12 +45,12 @@ pub extern "C" fn thorin_list(bytes: &[u8], names: &mut [ThorinName], count: &mu
 }
 
 /// Writes as many names as there is room for, and answers how many there are.
-fn list(file: &PackageFile<'_>, names: &mut [ThorinName]) -> u64
-    ensures count { result ≡ counted (names_of file.now) }
-    ensures names { names.new ≡ written_over names.old (names_of file.now) }
+pub(crate) fn list(units: Units<'_>, names: &mut [ThorinName]) -> u64
+    ensures count { result ≡ counted (map name_of (units_left units.entry)) }
+    ensures names { names.new ≡ written_over names.old (map name_of (units_left units.entry)) }
 {
     let mut count = 0u64;
-    for entry in file.units() {
+    for entry in units {
         let place = count as usize;
         if place < names.len() {
             names[place] = name_of(entry);

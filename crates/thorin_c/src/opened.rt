@@ -3,6 +3,7 @@
 ghost use Rattle.std.specs.Prelude.{◌≡◌};
 ghost use Rattle.std.specs.Option.{option_copied};
 ghost use Rattle.dwp_base.specs.Reading.{Answers};
+ghost use Rattle.dwp_index.specs.Entries.{units_left, entries_from};
 ghost use Rattle.dwp_index.specs.Index.{row_in};
 ghost use Rattle.dwp_index.specs.Package.{as_fault, index_in_section, index_for, unit_in};
 ghost use Rattle.dwp_index.specs.Package.{encoding_in};
@@ -16,7 +17,7 @@ use crate::unit::{Found, encoding_in, kind_of, place_of};
 use dwp_base::{Endianness, SectionKind};
 use dwp_bytes::Encoding;
 use dwp_dwarf::UnitSection;
-use dwp_index::{PackageError, Row, UnitIndex};
+use dwp_index::{PackageError, Row, UnitIndex, Units};
 use dwp_table::{Bucketable, DwarfObject};
 use std::marker::Model;
 
@@ -97,6 +98,14 @@ impl<'p, 'a> Opened<'p, 'a> {
             return Ok((None, count));
         };
         self.row_inside(number, count, read_row(index, number)?)
+    }
+
+    /// The units that the slots of both indexes name, in order of slot, those of the compilation
+    /// index first.
+    pub(crate) fn units(&self) -> Units<'_>
+        ensures { units_left result ≡ entries_from self.now.compilations self.now.types 0 0 }
+    {
+        Units::new(self.compilations.as_ref(), self.types.as_ref())
     }
 
     /// The index of the units of a kind.
