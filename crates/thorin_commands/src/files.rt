@@ -35,6 +35,15 @@ pub trait FileSystem {
             result }
         ensures memory { IfErr result IsNoWantOfMemory };
 
+    /// The same of a regular file; all else, as a pipe, is refused before it is opened.
+    ///
+    /// # Errors
+    /// As those of `read_over`.
+    fn read_regular_over(&self, path: Path<'_>, room: &mut Vec<u8>) -> Result<(), InputError>
+        ensures offered { IsReadOver (offer self.now (path_bytes path.entry)) room.new.items
+            result }
+        ensures memory { IfErr result IsNoWantOfMemory };
+
     /// The device and the number of the file at a path, by which two names of one file are known.
     /// None where there is no file.
     fn identity(&self, name: &str) -> Option<(u64, u64)>;
@@ -75,6 +84,11 @@ impl FileSystem for HostFiles<'_> {
 
     fn read_over(&self, path: Path<'_>, room: &mut Vec<u8>) -> Result<(), InputError> {
         thorin_files::read_over(self.rt, path, room)?;
+        Ok(())
+    }
+
+    fn read_regular_over(&self, path: Path<'_>, room: &mut Vec<u8>) -> Result<(), InputError> {
+        thorin_files::read_regular_over(self.rt, path, room)?;
         Ok(())
     }
 

@@ -413,6 +413,7 @@ fn take<'o, 's: 'o, Sess: Session<RelocationEntry>, I: Inputs, E: Write>(
         (Took (I.offer files.now) input.entry builder.old.state (Ok tt) builder.new.state) }
 {
     let before = builder.contained_units().len();
+    files.begin();
     let outcome = take_input(builder, files, room, input);
     let added = builder.contained_units().len().saturating_sub(before);
     if verbose {

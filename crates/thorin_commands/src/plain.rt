@@ -1,11 +1,14 @@
 //! The inputs of `pack`, decompressed where that is asked for.
 
-ghost use Rattle.std.specs.Prelude.{◌≡◌, OnOk};
-ghost use Rattle.thorin_commands.specs.Plain.{IsPlainOf, taken_from};
+ghost use Rattle.std.specs.Prelude.{◌≡◌, OnOk, IfErr};
+ghost use Rattle.std.specs.Path.{path_bytes};
+ghost use Rattle.thorin_faults.specs.Sessions.{IsNoWantOfMemory};
+ghost use Rattle.thorin_commands.specs.Plain.{IsPlainOf, IsReadOver, taken_from};
 
 use crate::files::FileSystem;
 use dwp_decompress::{DecompressError, decompressed};
 use std::alloc::{AllocError, Global};
+use std::cell::Cell;
 use std::path::Path;
 use thorin::InputReader;
 use thorin_faults::InputError;
@@ -13,6 +16,10 @@ use thorin_queries::Failure;
 
 /// What reads inputs, and tells of them.
 pub(crate) trait Inputs: InputReader {
+    /// Begins an input: the next read is that of its own path. Those behind it are of objects that
+    /// the input names, and these must be regular files: a read of another may wait for ever.
+    fn begin(&self);
+
     /// Whether compressed sections are decompressed.
     fn decompresses(&self) -> bool;
 
@@ -29,6 +36,8 @@ pub(crate) struct InputFiles<'f, F> {
     alloc: Global,
     files: &'f F,
     decompresses: bool,
+    /// Whether the next read is that of an input's own path.
+    begins: Cell<bool>,
 }
 
 impl<'f, F: FileSystem> InputFiles<'f, F> {
@@ -41,6 +50,7 @@ impl<'f, F: FileSystem> InputFiles<'f, F> {
             alloc,
             files,
             decompresses,
+            begins: Cell::new(false),
         }
     }
 }
@@ -54,7 +64,8 @@ impl<F: FileSystem> InputReader for InputFiles<'_, F> {
         path: Path<'_>,
         room: &'b mut Vec<u8>,
     ) -> Result<&'b [u8], InputError> {
-        match self.files.read_over(path, room) {
+        let is_own = self.begins.replace(false);
+        match read_file(self.files, is_own, path, room) {
             Ok(()) => {}
             Err(InputError::Io(cause)) => return Err(InputError::Io(cause)),
             Err(InputError::Memory) => return Err(InputError::Memory),
@@ -70,12 +81,33 @@ impl<F: FileSystem> InputReader for InputFiles<'_, F> {
 }
 
 impl<F: FileSystem> Inputs for InputFiles<'_, F> {
+    fn begin(&self) {
+        self.begins.set(true);
+    }
+
     fn decompresses(&self) -> bool {
         self.decompresses
     }
 
     fn unit_count(&self, name: &str) -> Result<Option<usize>, Failure> {
         self.files.unit_count(name, self.decompresses)
+    }
+}
+
+/// Reads the file at a path: any where it is an input's own path, else a regular one alone.
+fn read_file<F: FileSystem>(
+    files: &F,
+    is_own: bool,
+    path: Path<'_>,
+    room: &mut Vec<u8>,
+) -> Result<(), InputError>
+    ensures offered { IsReadOver (F.offer files.now (path_bytes path.entry)) room.new.items result }
+    ensures memory { IfErr result IsNoWantOfMemory }
+{
+    if is_own {
+        files.read_over(path, room)
+    } else {
+        files.read_regular_over(path, room)
     }
 }
 
