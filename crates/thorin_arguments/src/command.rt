@@ -74,6 +74,8 @@ const FILE: Word = Word::Place("file", "FILE", "The package");
 
 const PACKED: Word = Word::Executables("Executables whose objects are packed, after all inputs");
 
+const FORCE: Word = Word::Flag("force", "Write OUT even if it is an input");
+
 const DECOMPRESS: Word = Word::Flag(
     "decompress",
     "Read inputs and executables that are compressed by zlib",
@@ -91,7 +93,7 @@ const COMMANDS: [Line; 4] = [
                 "skip-missing",
                 "Skip missing objects; their units must come from another input",
             ),
-            Word::Flag("force", "Write OUT even if it is an input"),
+            FORCE,
             DECOMPRESS,
             Word::Verbose,
             Word::Inputs,
@@ -136,8 +138,9 @@ const COMMANDS: [Line; 4] = [
 ];
 
 /// The words of a peer, but for its `-o`.
-const PEER: [Word; 4] = [
+const PEER: [Word; 5] = [
     PACKED,
+    FORCE,
     Word::Flag("verify-only", "Check the package OUT instead of writing it"),
     Word::Verbose,
     Word::Inputs,

@@ -6,6 +6,8 @@ use clap::{ArgMatches, Command, Error};
 use std::alloc::{AllocError, Global};
 use std::fmt;
 
+const NO_OUTPUT: &'static str = "--output <OUT> is required with more than one --exec <EXEC>";
+
 /// What a command line names to be packed.
 #[derive(Clone, Copy)]
 pub struct PackArguments<'m, 'a> {
@@ -80,8 +82,18 @@ fn read<'a>(
     version: &'a str,
     words: &'a [String],
 ) -> Result<ArgMatches<'a>, Error> {
-    let command = command_line(alloc, peer, version)?;
-    command.try_get_matches_from(words)
+    let mut command = command_line(alloc, peer, version)?;
+    let matches = command.try_get_matches_from_mut(words)?;
+    if peer.is_some() && lacks_output(&matches) {
+        return Err(command.error(ErrorKind::MissingRequiredArgument, NO_OUTPUT)?);
+    }
+    Ok(matches)
+}
+
+/// Whether a peer's command line names no package, and no single executable either that would name
+/// it.
+fn lacks_output(matches: &ArgMatches<'_>) -> bool {
+    value_of(matches, "output").is_none() && values_of(matches, "exec").unwrap_or(&[]).len() != 1
 }
 
 fn command_line<'a>(
@@ -201,7 +213,6 @@ fn has_flag(matches: &ArgMatches<'_>, name: &str) -> bool {
 fn arguments_of<'m, 'a>(matches: &'m ArgMatches<'a>) -> PackArguments<'m, 'a> {
     PackArguments {
         skips_missing: has_flag(matches, "skip-missing"),
-        force: has_flag(matches, "force"),
         decompresses: has_flag(matches, "decompress"),
         ..arguments_of_peer(matches)
     }
@@ -214,7 +225,7 @@ fn arguments_of_peer<'m, 'a>(matches: &'m ArgMatches<'a>) -> PackArguments<'m, '
         inputs: values_of(matches, "input"),
         executables: values_of(matches, "exec"),
         skips_missing: false,
-        force: false,
+        force: has_flag(matches, "force"),
         decompresses: true,
         verifies_only: has_flag(matches, "verify-only"),
         verbose: has_flag(matches, "verbose"),
