@@ -2,14 +2,14 @@
 """Shows what comes of compressed inputs.
 
 decompress.py THORIN INFLATE [FOLDER]: THORIN is the program, INFLATE that of inflate.source (bench/run_source --keep INFLATE
-inflate FILE leaves it). Works in FOLDER, else in a temporary one. It needs gcc, clang, gdb and llvm-symbolizer; each call of
+inflate FILE leaves it). Works in FOLDER, else in a temporary one. It needs gcc, clang, gdb, lldb and llvm-symbolizer; each call of
 these readers has a time limit.
 
 1. Streams of each kind that Python's zlib writes, and damaged ones: INFLATE gives Python's bytes, or a fault where Python has
    one. A stream that gives far more than was said takes no memory for it.
 2. Programs compiled with -gz or with older names, by both compilers, DWARF 4 and 5, linked with compressed sections: the
    package by --decompress, and under the name dwp, has the bytes of that of the same sources without -gz.
-3. Readers say of both packages the same.
+3. Readers (gdb, lldb, llvm-symbolizer) say of both packages the same, and whether that is more than without a package.
 4. How long INFLATE takes beside Python's zlib on the sections of those objects.
 """
 import itertools
@@ -235,36 +235,54 @@ def show_packages(thorin, folder):
 
 
 def told_by(reader, executable, package):
-    """What a reader tells of an executable with that package beside it, and nothing else of its split units."""
+    """What a reader tells of an executable with that package beside it (None: with none), and nothing else of its split units;
+    None where the reader itself crashes or doesn't end."""
     beside = executable.with_name(executable.name + ".dwp")
-    beside.write_bytes(package.read_bytes())
+    beside.unlink(missing_ok=True)
+    if package:
+        beside.write_bytes(package.read_bytes())
     if reader == "gdb":
         words = ["gdb", "-nx", "-batch", "-ex", "break main", "-ex", "run", "-ex", "next", "-ex", "bt", "-ex", "info locals",
                  "-ex", "info scope main", str(executable)]
+    elif reader == "lldb":
+        words = ["lldb", "-x", "-b", "-o", "breakpoint set -n main", "-o", "run", "-o", "next", "-o", "bt", "-o",
+                 "frame variable", str(executable)]
     else:
         places = [line.split()[0] for line in run("nm", executable).decode().splitlines() if " T main" in line]
         words = ["llvm-symbolizer", f"--obj={executable}", "--functions", "--inlines", *(f"0x{it}" for it in places)]
-    done = subprocess.run(words, stdout=subprocess.PIPE, stderr=subprocess.STDOUT, timeout=120, cwd=executable.parent)
-    beside.unlink()
-    return [line for line in done.stdout.decode(errors="replace").splitlines() if "0x7ff" not in line and "process" not in line]
+    try:
+        done = subprocess.run(words, stdout=subprocess.PIPE, stderr=subprocess.STDOUT, timeout=60, cwd=executable.parent)
+    except subprocess.TimeoutExpired:
+        return None
+    finally:
+        beside.unlink(missing_ok=True)
+    told = done.stdout.decode(errors="replace")
+    if done.returncode < 0 or "A fatal error internal to GDB" in told or "PLEASE submit a bug report" in told:
+        return None
+    return [line for line in told.splitlines() if "0x7ff" not in line and "rocess" not in line]
 
 
 def show_readers(pairs):
     counts = {}
     for compiler, version, here, name, executable in pairs:
-        for reader in ("gdb", "llvm-symbolizer"):
+        for reader in ("gdb", "lldb", "llvm-symbolizer"):
             objects = [(it, it.read_bytes()) for it in executable.parent.glob("*.dwo")]
             for it, _ in objects:
                 it.unlink()
-            try:
-                one, other = (told_by(reader, executable, here / f"{name}{it}.dwp") for it in ("", "_plain"))
-                counts.setdefault((reader, version), []).append(one == other)
-            except subprocess.TimeoutExpired:
-                counts.setdefault((reader, version), []).append(False)
+            one, other = (told_by(reader, executable, here / f"{name}{it}.dwp") for it in ("", "_plain"))
+            without = told_by(reader, executable, None)
             for it, data in objects:
                 it.write_bytes(data)
-    for (reader, version), alike in counts.items():
-        print(f"{reader}, DWARF {version}: tells the same of {sum(alike)} of {len(alike)}")
+            if one is None or other is None:
+                told = "crashes with both" if one is other else "crashes with one"
+            elif one != other:
+                told = "differs"
+            else:
+                told = "the same" if one != without else "the same, and without a package"
+            kinds = counts.setdefault((reader, version), {})
+            kinds[told] = kinds.get(told, 0) + 1
+    for (reader, version), kinds in sorted(counts.items()):
+        print(f"{reader}, DWARF {version}: {', '.join(f'{it} {count}' for it, count in kinds.items())}")
 
 
 # ---- 4. speed
