@@ -1,10 +1,12 @@
-/* look_ups PACKAGE COUNT: looks COUNT identifiers of a package up, by their rows alone and as units in one call, and one by
- * one, in a package that is open and in one that is read anew; prints nanoseconds for each, the least of seven rounds, and a sum of what was found. */
+/* look_ups PACKAGE COUNT [CALL]: looks COUNT identifiers of a package up, by their rows alone and as units in one call, and
+ * one by one, in a package that is open and in one that is read anew; prints nanoseconds for each, the least of seven rounds,
+ * and a sum of what was found. Where a call is named, it is made alone, in one round. */
 #include "thorin.h"
 #include <fcntl.h>
 #include <inttypes.h>
 #include <stdio.h>
 #include <stdlib.h>
+#include <string.h>
 #include <sys/mman.h>
 #include <sys/stat.h>
 #include <time.h>
@@ -50,8 +52,26 @@ static double one_by_one(look_up_in_t *call, const thorin_package *package, cons
   return now() - start;
 }
 
+/* thorin_find, as the calls over an open package are called. */
+static int32_t find_anew(const thorin_package *package, const uint8_t *bytes, size_t size, uint8_t kind, uint64_t id,
+                         thorin_unit *found) {
+  (void)package;
+  return thorin_find(bytes, size, kind, id, found);
+}
+
+/* Each call, by many look-ups or one by one. */
+static const struct {
+  const char *name;
+  look_up_t *many;
+  look_up_in_t *one;
+} calls[] = {{"thorin_find_rows", thorin_find_rows, NULL},
+             {"thorin_find_each", thorin_find_each, NULL},
+             {"thorin_find_row_in", NULL, thorin_find_row_in},
+             {"thorin_find_in", NULL, thorin_find_in},
+             {"thorin_find", NULL, find_anew}};
+
 int main(int argc, char **argv) {
-  if (argc != 3) return 2;
+  if (argc != 3 && argc != 4) return 2;
   int file = open(argv[1], O_RDONLY);
   struct stat about;
   if (file < 0 || fstat(file, &about) != 0) return 1;
@@ -62,37 +82,19 @@ int main(int argc, char **argv) {
   thorin_name *names = calloc(units, sizeof *names);
   thorin_lookup *lookups = calloc(count, sizeof *lookups);
   if (!names || !lookups || thorin_list(bytes, size, names, units, &units) != THORIN_DONE) return 1;
-
   thorin_package package;
   if (thorin_open(bytes, size, &package) != THORIN_DONE) return 1;
-  double rows = 1e18, each = 1e18, single = 1e18, row_in = 1e18, in = 1e18;
-  uint64_t rows_sum = 0, each_sum = 0, single_sum = 0, row_in_sum = 0, in_sum = 0;
-  for (int round = 0; round < 7; round++) {
-    double took = many(thorin_find_rows, bytes, size, names, units, lookups, count, &rows_sum);
-    if (took < rows) rows = took;
-    took = many(thorin_find_each, bytes, size, names, units, lookups, count, &each_sum);
-    if (took < each) each = took;
 
-    took = one_by_one(thorin_find_row_in, &package, bytes, size, names, units, count, &row_in_sum);
-    if (took < row_in) row_in = took;
-    took = one_by_one(thorin_find_in, &package, bytes, size, names, units, count, &in_sum);
-    if (took < in) in = took;
-
-    single_sum = 0;
-    double start = now();
-    for (size_t i = 0; i < count; i++) {
-      thorin_unit unit;
-      const thorin_name *name = &names[i * 7919 % units];
-      if (thorin_find(bytes, size, name->kind, name->id, &unit) == THORIN_DONE)
-        single_sum += unit.info.size + unit.str_offsets.size;
+  for (size_t i = 0; i < sizeof calls / sizeof *calls; i++) {
+    if (argc == 4 && strcmp(argv[3], calls[i].name) != 0) continue;
+    double least = 1e18;
+    uint64_t sum = 0;
+    for (int round = 0; round < (argc == 4 ? 1 : 7); round++) {
+      double took = calls[i].many ? many(calls[i].many, bytes, size, names, units, lookups, count, &sum)
+                                  : one_by_one(calls[i].one, &package, bytes, size, names, units, count, &sum);
+      if (took < least) least = took;
     }
-    took = now() - start;
-    if (took < single) single = took;
+    printf("%s %.0f ns, sum %" PRIu64 "\n", calls[i].name, least / (double)count, sum);
   }
-  printf("thorin_find_rows %.0f ns, sum %" PRIu64 "\n", rows / (double)count, rows_sum);
-  printf("thorin_find_each %.0f ns, sum %" PRIu64 "\n", each / (double)count, each_sum);
-  printf("thorin_find_row_in %.0f ns, sum %" PRIu64 "\n", row_in / (double)count, row_in_sum);
-  printf("thorin_find_in %.0f ns, sum %" PRIu64 "\n", in / (double)count, in_sum);
-  printf("thorin_find %.0f ns, sum %" PRIu64 "\n", single / (double)count, single_sum);
   return 0;
 }

@@ -2,9 +2,11 @@
 """look_ups.py [FOLDER [TIMES]]: looks 100,000 identifiers up in a package of 100,000 units and about 40 MB that it writes
 into the folder, by lib/libthorin.a (what build-library leaves), opened and not, and by Debian's gimli (librust-gimli-dev,
 librust-object-dev). Both programs run TIMES times (5) in turn, seven rounds each; it prints the least time that each
-call took, in nanoseconds for one identifier."""
+call took, in nanoseconds for one identifier. Where valgrind is there, also how many instructions a call takes: those of a
+run of 20,000 identifiers less those of one of 10,000, so that what is read before doesn't count."""
 import random
 import re
+import shutil
 import struct
 import subprocess
 import sys
@@ -58,6 +60,17 @@ def write_package(path):
                           (".debug_cu_index", index(ids, [1, 3, 6], rows))]))
 
 
+def instructions(folder, program, package, call):
+    """How many instructions of the processor one look-up by a call takes."""
+    ran = []
+    for count in (10_000, 20_000):
+        out = folder / "callgrind.out"
+        subprocess.run(["valgrind", "--quiet", "--tool=callgrind", f"--callgrind-out-file={out}", program, package, str(count), call],
+                       check=True, stdout=subprocess.DEVNULL, stderr=subprocess.DEVNULL)
+        ran.append(int(re.search(r"^(?:summary|totals): (\d+)", out.read_text(), re.M)[1]))
+    return (ran[1] - ran[0]) / 10_000
+
+
 def main():
     folder = Path(sys.argv[1] if len(sys.argv) > 1 else tempfile.mkdtemp())
     folder.mkdir(parents=True, exist_ok=True)
@@ -88,15 +101,17 @@ directory = "/usr/share/cargo/registry"
 ''')
     subprocess.run(["cargo", "build", "--quiet", "--release", "--offline"], cwd=crate, check=True)
     times = int(sys.argv[2]) if len(sys.argv) > 2 else TIMES
-    programs, least, sums = [folder / "look_ups", crate / "target/release/look_ups_gimli"], {}, set()
+    programs, least, sums, of = [folder / "look_ups", crate / "target/release/look_ups_gimli"], {}, set(), {}
     for _ in range(times):
         for program in programs:
             said = subprocess.run([program, package, str(ASKED)], check=True, stdout=subprocess.PIPE).stdout.decode()
             for call, time, found in re.findall(r"(.+) (\d+) ns, sum (\d+)", said):
                 least[call] = min(least.get(call, int(time)), int(time))
                 sums.add(found)
+                of[call] = program
     for call, time in least.items():
-        print(f"{call}: {time} ns")
+        steps = f", {instructions(folder, of[call], package, call):.0f} instructions" if shutil.which("valgrind") else ""
+        print(f"{call}: {time} ns{steps}", flush=True)
     if len(sums) != 1:
         sys.exit(f"they found different units: {sums}")
 

@@ -12,8 +12,9 @@
  * - No other argument of a call refers to memory that the call writes to.
  * - What a call reads doesn't change while it runs: a mapped file is neither written nor cut short.
  *
- * Compiled with -DTHORIN_CHECK, each call of this header asserts what a program can see of this:
- * the pointers, their alignment, and that nothing that is written overlaps anything else.
+ * Compiled with -DTHORIN_CHECK, and without -DNDEBUG, each call of this header asserts what a
+ * program can see of this: the pointers, their alignment, and that nothing that is written overlaps
+ * anything else.
  *
  * Memory that a call only writes to needn't be initialized. Bytes that a call lends lie in the
  * package: they are valid as long as its memory is there and unchanged; don't free them. A call

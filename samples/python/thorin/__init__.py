@@ -1,4 +1,5 @@
-"""Packages of split DWARF, read and packed by libthorin.so: `Package` reads a file, `pack` makes one's bytes.
+"""Packages of split DWARF, read and packed by libthorin.so: `Package` reads a file, `pack` makes one's bytes, `skeletons` tells
+which objects an executable names, and `decompress` makes the sections of an object plain.
 
 The library is that of the folder THORIN_LIB, else of the checkout that this file lies in, else the one that is installed.
 The structures are those of include/thorin.h."""
@@ -9,10 +10,10 @@ from pathlib import Path
 from typing import Any, Callable, Iterator, List, NamedTuple, Optional, Sequence, Tuple, Union
 
 __version__ = "1.0.0"
-__all__ = ["COMPILATION", "TYPE_UNIT", "SECTIONS", "Error", "Found", "Lookup", "Package", "Packed", "Unit", "differing_types",
-           "pack", "version"]
+__all__ = ["COMPILATION", "TYPE_UNIT", "SECTIONS", "Error", "Found", "Lookup", "Package", "Packed", "Skeleton", "Skeletons", "Unit",
+           "decompress", "differing_types", "pack", "skeletons", "version"]
 
-DONE, TOO_SMALL, REFUSED, UNFINISHED = 0, 10, 11, 12
+DONE, MALFORMED_FILE, TOO_SMALL, REFUSED, UNFINISHED, NOT_COMPRESSED = 0, 3, 10, 11, 12, 14
 COMPILATION, TYPE_UNIT = 1, 2
 SECTIONS = ("info", "types", "abbreviations", "line", "loc", "loclists", "rnglists", "str_offsets", "macinfo", "macro")
 
@@ -43,13 +44,16 @@ class Lookup(c.Structure):
     _fields_ = [("id", c.c_uint64), ("kind", c.c_uint8), ("status", c.c_int32), ("unit", Unit)]
 
 
+class Named(c.Structure):
+    _fields_ = [("id", c.c_uint64), ("path_size", c.c_uint64), ("kind", c.c_uint8)]
+
+
 class Report(c.Structure):
     _fields_ = [("size", c.c_uint64), ("input", c.c_uint64), ("differing", c.c_uint64),
                 ("packs_again", c.c_uint32), ("fault", c.c_uint32), ("text_size", c.c_uint32), ("text", c.c_char * 256)]
 
 
-assert [c.sizeof(s) for s in (Bytes, Range, Unit, Opened, Name, Lookup, Report)] == [16, 16, 176, 216, 16, 192, 296]
-
+assert [c.sizeof(s) for s in (Bytes, Range, Unit, Opened, Name, Lookup, Named, Report)] == [16, 16, 176, 216, 16, 192, 24, 296]
 
 
 def _library() -> c.CDLL:
@@ -64,9 +68,10 @@ _lib = _library()
 
 
 def _call(name: str, *types: Any, result: Any = c.c_int32) -> Callable[..., int]:
-    call = getattr(_lib, name)
+    call: Any = getattr(_lib, name)
     call.argtypes, call.restype = types, result
-    return call
+    typed: Callable[..., int] = call
+    return typed
 
 
 _OPENED = (c.POINTER(Opened), c.c_void_p, c.c_size_t)
@@ -82,6 +87,9 @@ _list_in = _call("thorin_list_in", *_OPENED, c.POINTER(Name), c.c_size_t, c.POIN
 _pack = _call("thorin_pack", c.POINTER(Bytes), c.c_size_t, c.c_void_p, c.c_size_t, c.POINTER(Report))
 _differing_types = _call("thorin_differing_types", c.POINTER(Bytes), c.c_size_t, c.POINTER(c.c_uint64), c.c_size_t,
                          c.POINTER(Report))
+_decompress = _call("thorin_decompress", c.c_void_p, c.c_size_t, c.c_void_p, c.c_size_t, c.POINTER(c.c_uint64))
+_skeletons = _call("thorin_skeletons", c.c_void_p, c.c_size_t, c.POINTER(Named), c.c_size_t, c.c_void_p, c.c_size_t,
+                   c.POINTER(c.c_uint64), c.POINTER(Report))
 _version = _call("thorin_version", result=c.c_uint32)
 
 
@@ -126,6 +134,8 @@ class Package:
 
     def __enter__(self) -> "Package":
         with open(self._path, "rb") as file:
+            if os.fstat(file.fileno()).st_size == 0:
+                raise Error(MALFORMED_FILE)
             self._map = mmap.mmap(file.fileno(), 0, access=mmap.ACCESS_COPY)
         self._view = (c.c_char * len(self._map)).from_buffer(self._map)
         self._at, self._size, self._opened = c.addressof(self._view), len(self._map), Opened()
@@ -236,4 +246,52 @@ def differing_types(inputs: Sequence[bytes]) -> List[int]:
     _answer(_differing_types(lent, len(inputs), None, 0, report), report)
     types = (c.c_uint64 * max(report.differing, 1))()
     _answer(_differing_types(lent, len(inputs), types, report.differing, report), report)
-    return types[:report.differing]
+    found: List[int] = types[:report.differing]
+    return found
+
+
+def decompress(file: bytes) -> bytes:
+    """A file with plain sections in place of compressed ones: an object, a package or an executable. The same where all are plain."""
+    length, room, status = c.c_uint64(), 0, TOO_SMALL
+    while status == TOO_SMALL:
+        room = length.value
+        out = c.create_string_buffer(max(room, 1))
+        status = _decompress(file, len(file), out, room, length)
+    if status == NOT_COMPRESSED:
+        return file
+    _answer(status)
+    return out.raw[:length.value]
+
+
+class Skeleton(NamedTuple):
+    """A unit that an executable names: its kind, its DWO id or type signature, and the path of its object."""
+
+    kind: int
+    identifier: int
+    path: bytes
+
+
+class Skeletons(NamedTuple):
+    """The units that an executable names, in order; where a fault ended the list its number and its text, else 0 and nothing."""
+
+    units: List[Skeleton]
+    fault: int
+    text: str
+
+
+def skeletons(executable: bytes) -> Skeletons:
+    """The units that an executable names, up to the first that can't be read."""
+    count, report, room, paths_room = c.c_uint64(), Report(), 0, 0
+    while True:
+        names, paths = (Named * max(room, 1))(), c.create_string_buffer(max(paths_room, 1))
+        status = _skeletons(executable, len(executable), names, room, paths, paths_room, count, report)
+        if status != REFUSED:
+            _answer(status)
+        if count.value <= room and report.size <= paths_room:
+            break
+        room, paths_room = count.value, report.size
+    units, at = [], 0
+    for name in names[:count.value]:
+        units.append(Skeleton(name.kind, name.id, paths.raw[at:at + name.path_size]))
+        at += name.path_size + 1
+    return Skeletons(units, report.fault, report.text.decode())

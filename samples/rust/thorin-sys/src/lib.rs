@@ -3,11 +3,37 @@
 #![allow(non_camel_case_types)]
 
 pub const THORIN_DONE: i32 = 0;
+pub const THORIN_ABSENT: i32 = 1;
+pub const THORIN_NO_SUCH_KIND: i32 = 2;
+pub const THORIN_MALFORMED_FILE: i32 = 3;
+pub const THORIN_MALFORMED_INDEX: i32 = 4;
+pub const THORIN_RANGE_OUTSIDE: i32 = 5;
+pub const THORIN_MALFORMED_UNIT: i32 = 6;
+pub const THORIN_NO_SUCH_SECTION: i32 = 7;
+pub const THORIN_NO_SUCH_STRING: i32 = 8;
+pub const THORIN_MALFORMED_STRING: i32 = 9;
 pub const THORIN_TOO_SMALL: i32 = 10;
 pub const THORIN_REFUSED: i32 = 11;
 pub const THORIN_UNFINISHED: i32 = 12;
+pub const THORIN_NO_MEMORY: i32 = 13;
+pub const THORIN_NOT_COMPRESSED: i32 = 14;
+pub const THORIN_DAMAGED: i32 = 15;
+pub const THORIN_NOT_ZLIB: i32 = 16;
+pub const THORIN_UNWRITABLE: i32 = 17;
+
 pub const THORIN_COMPILATION: u8 = 1;
 pub const THORIN_TYPE_UNIT: u8 = 2;
+
+pub const THORIN_INFO: u8 = 0;
+pub const THORIN_TYPES: u8 = 1;
+pub const THORIN_ABBREVIATIONS: u8 = 2;
+pub const THORIN_LINE: u8 = 3;
+pub const THORIN_LOC: u8 = 4;
+pub const THORIN_LOCLISTS: u8 = 5;
+pub const THORIN_RNGLISTS: u8 = 6;
+pub const THORIN_STR_OFFSETS: u8 = 7;
+pub const THORIN_MACINFO: u8 = 8;
+pub const THORIN_MACRO: u8 = 9;
 
 #[repr(C)]
 #[derive(Clone, Copy, Debug)]
@@ -80,6 +106,14 @@ pub struct thorin_lookup {
 }
 
 #[repr(C)]
+#[derive(Clone, Copy, Debug, Default, PartialEq, Eq)]
+pub struct thorin_skeleton {
+    pub id: u64,
+    pub path_size: u64,
+    pub kind: u8,
+}
+
+#[repr(C)]
 #[derive(Clone, Copy, Debug)]
 pub struct thorin_report {
     pub size: u64,
@@ -108,6 +142,7 @@ extern "C" {
     pub fn thorin_string_in(package: *const thorin_package, bytes: *const u8, size: usize, kind: u8, id: u64, index: u64, found: *mut thorin_bytes) -> i32;
     pub fn thorin_list_in(package: *const thorin_package, bytes: *const u8, size: usize, names: *mut thorin_name, room: usize, count: *mut u64) -> i32;
     pub fn thorin_decompress(bytes: *const u8, size: usize, out: *mut u8, room: usize, length: *mut u64) -> i32;
+    pub fn thorin_skeletons(bytes: *const u8, size: usize, names: *mut thorin_skeleton, room: usize, paths: *mut u8, paths_room: usize, count: *mut u64, report: *mut thorin_report) -> i32;
     pub fn thorin_pack(inputs: *const thorin_bytes, count: usize, out: *mut u8, room: usize, report: *mut thorin_report) -> i32;
     pub fn thorin_differing_types(inputs: *const thorin_bytes, count: usize, types: *mut u64, room: usize, report: *mut thorin_report) -> i32;
 }
@@ -120,6 +155,7 @@ const _: () = {
     assert!(size_of::<thorin_name>() == 16);
     assert!(size_of::<thorin_lookup>() == 192);
     assert!(offset_of!(thorin_lookup, unit) == 16);
+    assert!(size_of::<thorin_skeleton>() == 24);
     assert!(size_of::<thorin_report>() == 296);
     assert!(offset_of!(thorin_report, text) == 36);
 };

@@ -61,6 +61,13 @@ impl Name {
     }
 }
 
+fn name_of(kind: u8, id: u64) -> Name {
+    match kind {
+        sys::THORIN_TYPE_UNIT => Name::TypeUnit(id),
+        _ => Name::Compilation(id),
+    }
+}
+
 type LookUp = unsafe extern "C" fn(*const u8, usize, *mut sys::thorin_lookup, usize) -> i32;
 
 /// A package that is open: its bytes, and where its sections lie among them.
@@ -106,11 +113,7 @@ impl<'a> Package<'a> {
     pub fn names(&self) -> Result<Vec<Name>, Status> {
         let mut names = vec![sys::thorin_name::default(); self.unit_count()?];
         self.list(&mut names)?;
-        let named = |n: &sys::thorin_name| match n.kind {
-            sys::THORIN_TYPE_UNIT => Name::TypeUnit(n.id),
-            _ => Name::Compilation(n.id),
-        };
-        Ok(names.iter().map(named).collect())
+        Ok(names.iter().map(|named| name_of(named.kind, named.id)).collect())
     }
 
     /// The unit of a name.
@@ -242,4 +245,68 @@ pub fn differing_types(inputs: &[impl AsRef<[u8]>]) -> Result<Vec<u64>, PackErro
             return Ok(types);
         }
     }
+}
+
+/// A file with plain sections in place of those that zlib compressed: an object, a package or an executable. None where all
+/// sections are plain.
+pub fn decompress(file: &[u8]) -> Result<Option<Vec<u8>>, Status> {
+    let (mut plain, mut size) = (Vec::new(), 0);
+    loop {
+        plain.resize(size as usize, 0);
+        let status = unsafe {
+            sys::thorin_decompress(file.as_ptr(), file.len(), plain.as_mut_ptr(), plain.len(), &mut size)
+        };
+        match status {
+            sys::THORIN_TOO_SMALL => {}
+            sys::THORIN_NOT_COMPRESSED => return Ok(None),
+            _ => return answer(status, Some(plain)),
+        }
+    }
+}
+
+/// A unit that an executable names.
+#[derive(Clone, Debug, PartialEq, Eq)]
+pub struct Skeleton {
+    /// Its name.
+    pub name: Name,
+    /// The path of its object, as the executable has it.
+    pub path: Vec<u8>,
+}
+
+/// The units that an executable names, in order.
+#[derive(Clone, Debug, PartialEq, Eq)]
+pub struct Skeletons {
+    /// The units; up to the fault, where there is one.
+    pub units: Vec<Skeleton>,
+    /// The number and the text of the fault that ended the list.
+    pub fault: Option<(u32, String)>,
+}
+
+/// The units that an executable names, and the paths of their objects: read these files, and pack them.
+pub fn skeletons(executable: &[u8]) -> Result<Skeletons, Status> {
+    let (mut names, mut paths, mut count, mut report) = (Vec::new(), Vec::new(), 0, NO_REPORT);
+    let status = loop {
+        names.resize(count as usize, sys::thorin_skeleton::default());
+        paths.resize(report.size as usize, 0u8);
+        let status = unsafe {
+            sys::thorin_skeletons(
+                executable.as_ptr(), executable.len(), names.as_mut_ptr(), names.len(), paths.as_mut_ptr(), paths.len(),
+                &mut count, &mut report)
+        };
+        if status != sys::THORIN_DONE && status != sys::THORIN_REFUSED {
+            return Err(Status(status));
+        }
+        if count as usize <= names.len() && report.size as usize <= paths.len() {
+            break status;
+        }
+    };
+    let mut rest = &paths[..];
+    let units = names.iter().map(|named| {
+        let (path, next) = rest.split_at(named.path_size as usize);
+        rest = &next[1..];
+        Skeleton { name: name_of(named.kind, named.id), path: path.to_vec() }
+    });
+    let units = units.collect();
+    let text = || String::from_utf8_lossy(&report.text[..report.text_size as usize]).into_owned();
+    Ok(Skeletons { units, fault: (status == sys::THORIN_REFUSED).then(|| (report.fault, text())) })
 }
