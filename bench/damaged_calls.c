@@ -16,7 +16,7 @@ static void test_lent(const thorin_bytes *lent, int32_t status, int is_string, c
     if (!is_untouched(lent, sizeof *lent)) fail("bytes are lent without an answer", status);
     return;
   }
-  if (lent->size > 0 && !is_inside(*lent, bytes, size)) fail("bytes outside", status);
+  if (!lent->at || (lent->size > 0 && !is_inside(*lent, bytes, size))) fail("bytes outside", status);
   if (!is_string) return;
   if (!is_inside(*lent, bytes, size) || lent->at + lent->size == bytes + size) fail("a string outside", status);
   if (lent->at[lent->size] != 0 || memchr(lent->at, 0, lent->size)) fail("a string without an end", status);

@@ -204,8 +204,8 @@ int32_t thorin_find_rows(const uint8_t *bytes, size_t size, thorin_lookup *looku
  * @param kind THORIN_COMPILATION or THORIN_TYPE_UNIT.
  * @param id The DWO id or type signature.
  * @param section One of thorin_section.
- * @param[out] found The bytes at THORIN_DONE, inside the package, of size 0 where the unit has
- *   none there; else as it was.
+ * @param[out] found The bytes at THORIN_DONE, inside the package; where the unit has none there,
+ *   of size 0, and at is any place but null. Else as it was.
  * @return As thorin_find(), or THORIN_NO_SUCH_SECTION.
  */
 int32_t thorin_content(const uint8_t *bytes, size_t size, uint8_t kind, uint64_t id,
