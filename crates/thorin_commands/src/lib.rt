@@ -10,4 +10,4 @@ mod telling;
 
 pub use files::{FileSystem, HostFiles};
 pub use packing::{Packing, pack, verify};
-pub use thorin_queries::{Failure, check, expanded, find, list, report, show};
+pub use thorin_queries::{Failure, check, find, list, report, show};

@@ -3,4 +3,5 @@ mod Hex
 mod Lines
 mod Listed
 mod Printed
+mod Told
 mod Walk

@@ -1,4 +1,9 @@
 pub mod Answers
+pub mod Checking
+pub mod Faults
 pub mod Finding
+pub mod Indexes
 pub mod Lines
 pub mod Listing
+pub mod Own
+pub mod Telling

@@ -1,17 +1,28 @@
 //! The units that executables name, in `thorin check`.
 
+ghost use Rattle.std.specs.Prelude.{◌≡◌, ◌≢◌, ◌++◌, OnOk, string_bytes};
+ghost use Rattle.dwp_index.specs.Package.{found};
+ghost use Rattle.thorin_executable.specs.Skeletons.{skeletons_of};
+ghost use Rattle.thorin_faults.specs.declared.fault.Error.TheVariants.{Memory};
+ghost use Rattle.thorin_queries.specs.Checking.{IsOfChecking, IsOfReading, TellsExecutables};
+ghost use Rattle.thorin_queries.specs.Checking.{TellsExecutable, TellsTaken};
+ghost use Rattle.thorin_queries.specs.Faults.{TellsListed, missing_line, missing_lines};
+ghost use Rattle.thorin_queries.specs.Faults.{broken_line, IsBroken};
+ghost use Rattle.thorin_queries.specs.Telling.{Tells, TellsOr, IsLine, Is};
+
+use crate::faults::pass_on;
+use crate::files::{FileReader, read_named};
 use crate::finding::short_kind;
 use crate::input::plain_of;
-use crate::output::{Failure, written};
+use crate::output::Failure;
 use bumpalo::Bump;
 use dwp_bytes::RelocationEntry;
 use dwp_index::PackageFile;
 use dwp_table::{Bucketable, DwarfObject};
-use std::alloc::Global;
+use std::alloc::{AllocError, Global};
 use std::io::Write;
-use std::path::Path;
 use thorin_executable::SkeletonUnits;
-use thorin_faults::{ArenaSession, Error, InputError, Session};
+use thorin_faults::{ArenaSession, Error, Session};
 
 /// The executables whose units are to be in a package.
 #[derive(Clone, Copy)]
@@ -23,124 +34,251 @@ pub(crate) struct Named<'m, 'a> {
 }
 
 /// Each split unit that executables name is in the package. Answers the number of faults.
-pub(crate) fn check_executables<W: Write>(
+pub(crate) fn check_executables<F: FileReader, O: Write>(
     rt: &HostRuntime,
-    package: &PackageFile<'_>,
+    files: &F,
+    pack: &PackageFile<'_>,
     named: Named<'_, '_>,
-    lines: &mut W,
-) -> Result<u64, Failure> {
+    waiting: &mut String,
+    out: &mut O,
+) -> Result<u64, Failure>
+    ensures { TellsOr (IsOfChecking (F.offer files.now) named.executables.now)
+        (TellsExecutables (F.offer files.now) named.decompresses pack.now named.executables.now)
+        (O.contents out.old) (string_bytes waiting.old) (O.contents out.new)
+        (string_bytes waiting.new) result }
+{
     let mut faults = 0u64;
     for i in 0..named.executables.len() {
         let executable = named.executables[i];
-        let found = check_executable(rt, package, executable, named.decompresses, lines)?;
-        faults = faults.saturating_add(found);
-    }
-    Ok(faults)
-}
-
-/// Each split unit that an executable names is in the package. Answers the number of faults.
-fn check_executable<W: Write>(
-    rt: &HostRuntime,
-    package: &PackageFile<'_>,
-    executable: &str,
-    decompresses: bool,
-    lines: &mut W,
-) -> Result<u64, Failure> {
-    if thorin_files::is_device(rt, executable) {
-        return Err(Failure::Input);
-    }
-    let bump = Bump::new(rt.alloc());
-    let session = ArenaSession::new(rt, &bump);
-    let bytes = read_executable(&session, executable)?;
-    let bytes = plain_in(rt.alloc(), &session, bytes, decompresses)?;
-    check_named(rt.alloc(), &session, package, executable, bytes, lines)
-}
-
-/// The same of an executable's bytes, with a session that holds them.
-fn check_named<'s, Sess: Session<RelocationEntry>, W: Write>(
-    alloc: Global,
-    session: &'s Sess,
-    package: &PackageFile<'_>,
-    executable: &str,
-    bytes: &'s [u8],
-    lines: &mut W,
-) -> Result<u64, Failure> {
-    match SkeletonUnits::read(alloc, session, bytes) {
-        Ok(mut units) => check_skeletons(package, executable, &mut units, lines),
-        Err(fault) => tell_fault(executable, &fault, lines),
-    }
-}
-
-/// The bytes of an executable.
-fn read_executable<'s, Sess: Session<RelocationEntry>>(
-    session: &'s Sess,
-    executable: &str,
-) -> Result<&'s [u8], Failure> {
-    match session.read_input(Path::new(executable)) {
-        Ok(bytes) => Ok(bytes),
-        Err(InputError::Io(_)) => Err(Failure::Input),
-        Err(InputError::Memory) => Err(Failure::Memory),
-    }
-}
-
-/// Bytes that a session holds, decompressed where that is asked for.
-fn plain_in<'s, Sess: Session<RelocationEntry>>(
-    alloc: Global,
-    session: &'s Sess,
-    bytes: &'s [u8],
-    decompresses: bool,
-) -> Result<&'s [u8], Failure> {
-    match plain_of(alloc, bytes, decompresses)? {
-        None => Ok(bytes),
-        Some(plain) => Ok(session.alloc_data(plain)?),
-    }
-}
-
-/// The same of the units that are left of those that an executable names.
-fn check_skeletons<W: Write>(
-    package: &PackageFile<'_>,
-    executable: &str,
-    units: &mut SkeletonUnits<'_>,
-    lines: &mut W,
-) -> Result<u64, Failure> {
-    let mut faults = 0u64;
-    while let Some(next) = units.next().transpose() {
-        let skeleton = match next {
-            Ok(skeleton) => skeleton,
-            Err(fault) => {
-                let told = tell_fault(executable, &fault, lines)?;
-                return Ok(faults.saturating_add(told));
-            }
-        };
-        // What a slot names and can't be read was told with its unit.
-        if let Ok(None) = package.find(skeleton.target) {
-            tell_missing(skeleton.target, executable, skeleton.path.as_str(), lines)?;
-            faults = faults.saturating_add(1);
+        match check_executable(rt, files, pack, executable, named.decompresses, waiting, out) {
+            Ok(found) => faults = faults.saturating_add(found),
+            Err(failure) => return Err(failure),
         }
     }
     Ok(faults)
 }
 
-/// Prints that the package lacks a unit that an executable names, and the path of its object.
-fn tell_missing<W: Write>(
+/// Each split unit that an executable names is in the package. Answers the number of faults.
+fn check_executable<F: FileReader, O: Write>(
+    rt: &HostRuntime,
+    files: &F,
+    pack: &PackageFile<'_>,
+    executable: &str,
+    decompresses: bool,
+    waiting: &mut String,
+    out: &mut O,
+) -> Result<u64, Failure>
+    ensures { TellsOr (IsOfReading (F.offer files.now) executable.now)
+        (TellsExecutable (F.offer files.now) decompresses pack.now executable.now)
+        (O.contents out.old) (string_bytes waiting.old) (O.contents out.new)
+        (string_bytes waiting.new) result }
+{
+    match read_named(files, executable) {
+        Ok(bytes) => check_read(
+            rt,
+            pack,
+            executable,
+            bytes.as_slice(),
+            decompresses,
+            waiting,
+            out,
+        ),
+        Err(failure) => Err(failure),
+    }
+}
+
+/// The same of the bytes of an executable, decompressed where that is asked for.
+fn check_read<O: Write>(
+    rt: &HostRuntime,
+    pack: &PackageFile<'_>,
+    executable: &str,
+    bytes: &[u8],
+    decompresses: bool,
+    waiting: &mut String,
+    out: &mut O,
+) -> Result<u64, Failure>
+    ensures { Tells (TellsTaken decompresses pack.now executable.now bytes.now)
+        (O.contents out.old) (string_bytes waiting.old) (O.contents out.new)
+        (string_bytes waiting.new) result }
+{
+    match plain_of(rt.alloc(), bytes, decompresses) {
+        Ok(None) => check_taken(rt, pack, executable, bytes, waiting, out),
+        Ok(Some(plain)) => check_taken(rt, pack, executable, plain.as_slice(), waiting, out),
+        Err(_) => Err(Failure::Memory),
+    }
+}
+
+/// The same of the bytes that are taken for it.
+fn check_taken<O: Write>(
+    rt: &HostRuntime,
+    pack: &PackageFile<'_>,
+    executable: &str,
+    bytes: &[u8],
+    waiting: &mut String,
+    out: &mut O,
+) -> Result<u64, Failure>
+    ensures { Tells (TellsListed pack.now executable.now (skeletons_of bytes.now))
+        (O.contents out.old) (string_bytes waiting.old) (O.contents out.new)
+        (string_bytes waiting.new) result }
+{
+    let bump = Bump::new(rt.alloc());
+    let session = ArenaSession::new(rt, &bump);
+    check_named(rt.alloc(), &session, pack, executable, bytes, waiting, out)
+}
+
+/// The same, with a session that holds what is made of them.
+fn check_named<'s, Sess: Session<RelocationEntry>, O: Write>(
+    alloc: Global,
+    session: &'s Sess,
+    pack: &PackageFile<'_>,
+    executable: &str,
+    bytes: &'s [u8],
+    waiting: &mut String,
+    out: &mut O,
+) -> Result<u64, Failure>
+    ensures { Tells (TellsListed pack.now executable.now (skeletons_of bytes.now))
+        (O.contents out.old) (string_bytes waiting.old) (O.contents out.new)
+        (string_bytes waiting.new) result }
+{
+    match SkeletonUnits::read(alloc, session, bytes) {
+        Ok(mut units) => check_skeletons(pack, executable, &mut units, waiting, out),
+        Err(fault) => tell_fault(executable, &fault, waiting, out),
+    }
+}
+
+/// The same of the units that are left of those that an executable names.
+fn check_skeletons<O: Write>(
+    pack: &PackageFile<'_>,
+    executable: &str,
+    units: &mut SkeletonUnits<'_>,
+    waiting: &mut String,
+    out: &mut O,
+) -> Result<u64, Failure>
+    ensures { Tells (TellsListed pack.now executable.now units.old) (O.contents out.old)
+        (string_bytes waiting.old) (O.contents out.new) (string_bytes waiting.new) result }
+{
+    let mut faults = 0u64;
+    loop {
+        match units.next() {
+            Ok(Some(skeleton)) => {
+                let path = skeleton.path.as_str();
+                match check_skeleton(pack, executable, skeleton.target, path, waiting, out) {
+                    Ok(found) => faults = faults.saturating_add(found),
+                    Err(failure) => return Err(failure),
+                }
+            }
+            Ok(None) => return Ok(faults),
+            Err(fault) => match tell_fault(executable, &fault, waiting, out) {
+                Ok(found) => return Ok(faults.saturating_add(found)),
+                Err(failure) => return Err(failure),
+            },
+        }
+    }
+}
+
+/// A unit that an executable names is in the package; what a slot names and can't be read was told
+/// with its unit. Answers the number of faults.
+fn check_skeleton<O: Write>(
+    pack: &PackageFile<'_>,
+    executable: &str,
+    object: DwarfObject,
+    path: &str,
+    waiting: &mut String,
+    out: &mut O,
+) -> Result<u64, Failure>
+    ensures { Tells (Is (missing_lines executable.now (object, path.now) (found pack.now object)))
+        (O.contents out.old) (string_bytes waiting.old) (O.contents out.new)
+        (string_bytes waiting.new) result }
+{
+    match pack.find(object) {
+        Ok(None) => tell_missing(object, executable, path, waiting, out),
+        Ok(Some(_)) => Ok(0),
+        Err(_) => Ok(0),
+    }
+}
+
+/// Tells that the package lacks a unit that an executable names, and the path of its object.
+/// Answers the number of faults, 1.
+fn tell_missing<O: Write>(
     object: DwarfObject,
     executable: &str,
     path: &str,
-    lines: &mut W,
-) -> Result<(), Failure> {
-    let kind = short_kind(object);
-    let id = object.index();
-    written(writeln!(
-        lines,
-        "{kind} 0x{id:016x}: not in the package, {executable} names {path}"
-    ))
+    waiting: &mut String,
+    out: &mut O,
+) -> Result<u64, Failure>
+    ensures { Tells (IsLine (missing_line object executable.now path.now)) (O.contents out.old)
+        (string_bytes waiting.old) (O.contents out.new) (string_bytes waiting.new) result }
+{
+    match put_missing(object, executable, path, waiting) {
+        Ok(()) => pass_on(waiting, out),
+        Err(_) => Err(Failure::Memory),
+    }
 }
 
-/// Prints why an executable can't be read to its end. Answers the number of faults, 1.
-fn tell_fault<W: Write>(executable: &str, fault: &Error, lines: &mut W) -> Result<u64, Failure> {
+/// Adds the line of a unit that the package lacks.
+#[tactic(auto, using(crate::proofs::Hex::hex16_written), unfolding(crate::specs::Faults::missing_line))]
+fn put_missing(
+    object: DwarfObject,
+    executable: &str,
+    path: &str,
+    waiting: &mut String,
+) -> Result<(), AllocError>
+    ensures { OnOk result (string_bytes waiting.new
+        ≡ string_bytes waiting.old ++ missing_line object executable.now path.now) }
+{
+    let kind = short_kind(object);
+    let id = object.index();
+    writeln!(
+        waiting,
+        "{kind} 0x{id:016x}: not in the package, {executable} names {path}"
+    )
+}
+
+/// Tells why an executable can't be read to its end. Answers the number of faults, 1.
+fn tell_fault<O: Write>(
+    executable: &str,
+    fault: &Error,
+    waiting: &mut String,
+    out: &mut O,
+) -> Result<u64, Failure>
+    ensures told { Tells (IsBroken executable.now) (O.contents out.old)
+        (string_bytes waiting.old) (O.contents out.new) (string_bytes waiting.new) result }
+    ensures known { OnOk result (fault.now ≢ Memory) }
+{
     if matches!(fault, Error::Memory) {
         return Err(Failure::Memory);
     }
-    written(writeln!(lines, "{executable}: {fault}"))?;
-    Ok(1)
+    match fault_text(*waiting.allocator(), fault) {
+        Ok(text) => tell_broken(executable, text.as_str(), waiting, out),
+        Err(_) => Err(Failure::Memory),
+    }
+}
+
+fn fault_text(alloc: Global, fault: &Error) -> Result<String, AllocError> {
+    format!(in alloc; "{fault}")
+}
+
+/// Tells that an executable can't be read to its end. Answers the number of faults, 1.
+fn tell_broken<O: Write>(
+    executable: &str,
+    text: &str,
+    waiting: &mut String,
+    out: &mut O,
+) -> Result<u64, Failure>
+    ensures { Tells (IsLine (broken_line executable.now text.now)) (O.contents out.old)
+        (string_bytes waiting.old) (O.contents out.new) (string_bytes waiting.new) result }
+{
+    match put_broken(executable, text, waiting) {
+        Ok(()) => pass_on(waiting, out),
+        Err(_) => Err(Failure::Memory),
+    }
+}
+
+/// Adds the line of an executable that can't be read to its end.
+#[tactic(auto, unfolding(crate::specs::Faults::broken_line))]
+fn put_broken(executable: &str, text: &str, waiting: &mut String) -> Result<(), AllocError>
+    ensures { OnOk result (string_bytes waiting.new
+        ≡ string_bytes waiting.old ++ broken_line executable.now text.now) }
+{
+    writeln!(waiting, "{executable}: {text}")
 }

@@ -278,7 +278,7 @@ pub(crate) fn short_name(kind: SectionKind) -> &'static str
 
 /// How many strings a unit has, whether or not they can be read.
 #[tactic(auto, unfolding(crate::specs::Finding::string_count))]
-fn string_count(unit: &PackagedUnit<'_>) -> u64
+pub(crate) fn string_count(unit: &PackagedUnit<'_>) -> u64
     ensures { result ≡ string_count unit.now }
 {
     let offsets = unit.section(SectionKind::StrOffsets);

@@ -1,9 +1,16 @@
 //! Reading files.
 
+ghost use Rattle.std.specs.Prelude.{◌≡◌, ℕ, List, Option, Ok, is_some, option_map};
+ghost use Rattle.std.specs.List.{find};
+ghost use Rattle.dwp_elf_read.specs.View.{elf, section};
+ghost use Rattle.dwp_index.specs.Contents.{content_among, is_of_kind, used_bytes};
+ghost use Rattle.dwp_index.specs.Index.{Index};
+ghost use Rattle.thorin_queries.specs.Indexes.{IsIndexIn};
+
 use crate::output::Failure;
 use dwp_decompress::{DecompressError, decompressed};
 use dwp_elf::{ElfFile, Section, SectionKind};
-use dwp_index::PackageFile;
+use dwp_index::UnitIndex;
 use std::alloc::Global;
 use std::io;
 
@@ -41,45 +48,73 @@ pub(crate) fn plain_of(
     }
 }
 
-/// The package that bytes are.
-pub(crate) fn package_of<'a>(bytes: &'a [u8]) -> Result<PackageFile<'a>, Failure> {
-    match PackageFile::parse(bytes) {
-        Ok(package) => Ok(package),
-        Err(_) => Err(Failure::Malformed),
+/// Whether a file has an index of a kind.
+pub(crate) fn has_index(file: &ElfFile<'_>, kind: SectionKind) -> bool
+    ensures { (index : Option Index) → IsIndexIn (elf file.now) kind index
+        → result ≡ is_some index }
+{
+    !contents_of(file, kind).is_empty()
+}
+
+/// How many rows the index of a kind has.
+pub(crate) fn row_count(file: &ElfFile<'_>, kind: SectionKind) -> u32 {
+    let bytes = contents_of(file, kind);
+    if bytes.is_empty() {
+        return 0;
+    }
+    match UnitIndex::parse(bytes, file.endianness()) {
+        Ok(index) => index.unit_count(),
+        Err(_) => 0,
     }
 }
 
-/// The ELF file that bytes are.
-pub(crate) fn elf_of<'a>(bytes: &'a [u8]) -> Result<ElfFile<'a>, Failure> {
-    match ElfFile::parse(bytes) {
-        Ok(file) => Ok(file),
-        Err(_) => Err(Failure::Malformed),
+/// The bytes of the section of a kind: of the first that has any. None where there is no such
+/// section, or it can't be used.
+pub(crate) fn contents_of<'a>(file: &ElfFile<'a>, kind: SectionKind) -> &'a [u8]
+    ensures { (bytes : List ℕ) → content_among (elf file.now).sections kind ≡ Ok bytes
+        → result.now ≡ bytes }
+{
+    match first_section(file, kind) {
+        None => &[],
+        Some(section) => contents(&section, kind),
     }
 }
 
-/// The bytes of the section of a kind: of the first that isn't empty. None where there is no such
-/// section.
-pub(crate) fn contents_of<'a>(file: &ElfFile<'a>, kind: SectionKind) -> &'a [u8] {
-    for section in file.sections() {
-        if is_section_of(&section, kind) {
-            let bytes = contents(&section);
-            if !bytes.is_empty() {
-                return bytes;
+/// The first section of a kind that has bytes.
+fn first_section<'a>(file: &ElfFile<'a>, kind: SectionKind) -> Option<Section<'a>>
+    ensures { option_map section result ≡ find (is_of_kind kind) (elf file.now).sections }
+{
+    for i in 0..file.section_count() {
+        if let Some(candidate) = file.section(i) {
+            if is_of_kind(&candidate, kind) {
+                return Some(candidate);
             }
         }
     }
-    &[]
+    None
 }
 
-/// Whether a section has the name of a kind, in either spelling. No more of a long name is read
-/// than the names of kinds are long.
-fn is_section_of(section: &Section<'_>, kind: SectionKind) -> bool {
-    section.is_called(kind.name()) || section.is_called(kind.compressed_name())
+/// Whether a section has bytes, and the name of a kind, in either spelling. No more of a long name
+/// is read than the names of kinds are long.
+#[tactic(auto, unfolding(dwp_index::specs::Contents::is_of_kind), using(dwp_index::proofs::Called::called_is_named))]
+fn is_of_kind(candidate: &Section<'_>, kind: SectionKind) -> bool
+    ensures { result ≡ is_of_kind kind (section candidate.now) }
+{
+    if candidate.is_empty() {
+        return false;
+    }
+    candidate.is_called(kind.name()) || candidate.is_called(kind.compressed_name())
 }
 
-/// The bytes of a section, none where they can't be read.
-fn contents<'a>(section: &Section<'a>) -> &'a [u8] {
-    match section.data() {
+/// The bytes of a section of a kind, none where they can't be used.
+fn contents<'a>(used: &Section<'a>, kind: SectionKind) -> &'a [u8]
+    ensures { (bytes : List ℕ) → used_bytes kind (section used.now) ≡ Ok bytes
+        → result.now ≡ bytes }
+{
+    if used.is_compressed() || used.is_called(kind.compressed_name()) {
+        return &[];
+    }
+    match used.data() {
         Ok(bytes) => bytes,
         Err(_) => &[],
     }

@@ -1,8 +1,9 @@
 //! What the program prints of faults.
 
-ghost use Rattle.std.specs.Prelude.{◌≤◌, length, take, IfOk, OnOk, OnErr};
+ghost use Rattle.std.specs.Prelude.{◌≤◌, length, take, IfOk, IfErr, OnOk, OnErr};
 ghost use Rattle.std.specs.Io.KnownBytes.{Appends, Keeps};
 ghost use Rattle.thorin_queries.specs.Answers.{HasBeginning, Comes};
+ghost use Rattle.thorin_queries.specs.Telling.{IsOfPrinting};
 
 use std::alloc::{AllocError, AllocFailed, Global};
 use std::fmt;
@@ -114,7 +115,7 @@ pub(crate) fn answer<O: Write>(
 ///
 /// # Errors
 /// `Line` where it doesn't take all.
-fn put<O: Write>(bytes: &[u8], out: &mut O) -> Result<(), Failure>
+pub(crate) fn put<O: Write>(bytes: &[u8], out: &mut O) -> Result<(), Failure>
     ensures whole { OnOk result (Appends (O.contents out.old) (O.contents out.new) bytes.now) }
     ensures part { OnErr result (HasBeginning (O.contents out.old) (O.contents out.new)
         bytes.now) }
@@ -163,7 +164,9 @@ pub fn buffer<W: Write>(alloc: Global, out: &mut W) -> Result<BufWriter<&mut W>,
 }
 
 /// What prints through a buffer can't be written, or there is no memory for the buffer.
-fn buffer_failure(e: &io::Error) -> Failure {
+fn buffer_failure(e: &io::Error) -> Failure
+    ensures { IsOfPrinting result }
+{
     if e.kind() == io::ErrorKind::OutOfMemory {
         Failure::Memory
     } else {
@@ -172,7 +175,10 @@ fn buffer_failure(e: &io::Error) -> Failure {
 }
 
 /// Hands over what a buffer holds.
-pub fn flush<W: Write>(lines: &mut W) -> Result<(), Failure> {
+pub fn flush<W: Write>(lines: &mut W) -> Result<(), Failure>
+    ensures kept { Keeps (W.contents lines.old) (W.contents lines.new) }
+    ensures cause { IfErr result IsOfPrinting }
+{
     match lines.flush() {
         Ok(()) => Ok(()),
         Err(e) => Err(buffer_failure(&e)),

@@ -1,0 +1,173 @@
+-- Lines that were told.
+use Rattle.std.proofs.Common.{◌≡◌, ◌∙◌, ℕ, ◌+◌, ◌-◌, ◌^◌, ◌<◌, List, [], ◌∷◌, ◌++◌, length, min, refl}
+use Rattle.std.proofs.Common.{sym, ap, subst, arith, append_assoc, inl, inr, take, get_or}
+use Rattle.std.proofs.Common.{length-append}
+use Rattle.std.specs.Prelude.{Option, Result, Ok, Err}
+use Rattle.std.specs.List.{concat}
+use Rattle.std.specs.Io.KnownBytes.{Appends, Keeps}
+use Rattle.std.proofs.KnownBytes.{Appends-nil, Appends-trans, Appends-kept}
+use Rattle.std.proofs.lemmas.List.{append-nil, take_more}
+use Rattle.thorin_queries.specs.Answers.{HasBeginning}
+use Rattle.thorin_queries.specs.Telling.{Grows, IsOfPrinting, fault_count, Told, TellsOr, Tells}
+use Rattle.thorin_queries.specs.Telling.{IsNone, IsLine, Passes, PassesOne, InTurn, ForEach}
+use Rattle.thorin_queries.specs.declared.output.Failure.{Failure}
+use Rattle.thorin_queries.specs.declared.output.Failure.TheVariants as failures
+
+pub concat-append : (xs ys : List (List ℕ)) → concat (xs ++ ys) ≡ concat xs ++ concat ys
+concat-append [] ys = refl
+concat-append (x ∷ xs) ys =
+    ap (λ l. x ++ l) (concat-append xs ys) ∙ sym (append_assoc x (concat xs) (concat ys))
+
+-- ---- what was printed
+
+pub begun : (old new : Option (List ℕ)) (bytes : List ℕ) → HasBeginning old new bytes
+    → Grows old new
+unfolding HasBeginning
+begun old new bytes h = (_, h.1)
+
+pub none_grown : (a : Option (List ℕ)) → Grows a a
+none_grown a = ([], Appends-nil a)
+
+pub grown : (a b c : Option (List ℕ)) → Grows a b → Grows b c → Grows a c
+grown a b c p q = (p.0 ++ q.0, Appends-trans a b c p.0 q.0 p.1 q.1)
+
+-- ---- lines
+
+module _ (P : List (List ℕ) → Type 0) where
+  -- none, where nothing was done
+  pub none_told : P [] → (a : Option (List ℕ)) (held : List ℕ) → Told P a held a held 0
+  none_told none a held = record {
+    lines = [];
+    are = none;
+    handed = [];
+    added = Appends-nil a;
+    split = append-nil held;
+    counted = omega arith;
+  }
+
+  pub told_as : (Q : List (List ℕ) → Type 0) (a : Option (List ℕ)) (held : List ℕ)
+      (b : Option (List ℕ)) (left : List ℕ) (count : ℕ)
+      → ((lines : List (List ℕ)) → P lines → Q lines)
+      → Told P a held b left count → Told Q a held b left count
+  told_as Q a held b left count goes t = record {
+    lines = t.lines;
+    are = goes t.lines t.are;
+    handed = t.handed;
+    added = t.added;
+    split = t.split;
+    counted = t.counted;
+  }
+
+  pub told_grows : (a : Option (List ℕ)) (held : List ℕ) (b : Option (List ℕ)) (left : List ℕ)
+      (count : ℕ) → Told P a held b left count → Grows a b
+  told_grows a held b left count t = (t.handed, t.added)
+
+counts : (xs ys : List (List ℕ)) (m n : ℕ) → m ≡ fault_count xs → n ≡ fault_count ys
+    → min (m + n) (2 ^ 64 - 1) ≡ fault_count (xs ++ ys)
+counts xs ys m n p q = omega (arith, p, q, length-append xs ys)
+
+split_on : (held one two handed handed' mid left : List ℕ) → held ++ one ≡ handed ++ mid
+    → mid ++ two ≡ handed' ++ left → held ++ (one ++ two) ≡ (handed ++ handed') ++ left
+split_on held one two handed handed' mid left p q =
+    sym (append_assoc held one two) ∙ ap (λ l. l ++ two) p ∙ append_assoc handed mid two
+    ∙ ap (λ l. handed ++ l) q ∙ sym (append_assoc handed handed' left)
+
+module _ (P Q R : List (List ℕ) → Type 0) (a b c : Option (List ℕ)) (held mid left : List ℕ)
+    (m n : ℕ) where
+  -- lines of one kind, and behind them those of another
+  pub told_then : ((xs ys : List (List ℕ)) → P xs → Q ys → R (xs ++ ys)) → (count : ℕ)
+      → count ≡ min (m + n) (2 ^ 64 - 1) → Told P a held b mid m → Told Q b mid c left n
+      → Told R a held c left count
+  told_then joins count e p q = record {
+    lines = p.lines ++ q.lines;
+    are = joins p.lines q.lines p.are q.are;
+    handed = p.handed ++ q.handed;
+    added = Appends-trans a b c p.handed q.handed p.added q.added;
+    split = ap (λ l. held ++ l) (concat-append p.lines q.lines)
+        ∙ split_on held (concat p.lines) (concat q.lines) p.handed q.handed mid left p.split q.split;
+    counted = e ∙ counts p.lines q.lines m n p.counted q.counted;
+  }
+
+in_turn : (P Q : List (List ℕ) → Type 0) (xs ys : List (List ℕ)) → P xs → Q ys
+    → InTurn P Q (xs ++ ys)
+in_turn P Q xs ys p q =
+    record { first = xs; rest = ys; is_first = p; is_rest = q; all = refl }
+
+module _ (P Q : List (List ℕ) → Type 0) (a b c : Option (List ℕ)) (held mid left : List ℕ)
+    (m n : ℕ) where
+  pub told_in_turn : (count : ℕ) → count ≡ min (m + n) (2 ^ 64 - 1) → Told P a held b mid m
+      → Told Q b mid c left n → Told (InTurn P Q) a held c left count
+  told_in_turn count e p q =
+      told_then P Q (InTurn P Q) a b c held mid left m n (in_turn P Q) count e p q
+
+  -- the second stopped
+  pub stopped_behind : Told P a held b mid m → Grows b c → Grows a c
+  stopped_behind p q = grown a b c (p.handed, p.added) q
+
+-- ---- one line
+
+module _ (line : List ℕ) (a b : Option (List ℕ)) (held more left : List ℕ) where
+  line_split : (t : Told IsNone a more b left 0) → more ≡ held ++ line
+      → held ++ concat (line ∷ []) ≡ t.handed ++ left
+  line_split t e =
+      ap (λ l. held ++ l) (append-nil line) ∙ sym e ∙ sym (append-nil more)
+      ∙ ap (λ l. more ++ concat l) (sym t.are) ∙ t.split
+
+  pub line_told : (count : ℕ) → count ≡ 1 → more ≡ held ++ line → Told IsNone a more b left 0
+      → Told (IsLine line) a held b left count
+  line_told count one e t = record {
+    lines = line ∷ [];
+    are = refl;
+    handed = t.handed;
+    added = t.added;
+    split = line_split t e;
+    counted = one ∙ omega arith;
+  }
+
+  -- a line that waits was passed on
+  pub passed : (result : Result ℕ Failure) → more ≡ held ++ line → PassesOne a more b left result
+      → Tells (IsLine line) a held b left result
+  passed (Ok count) e h = line_told count h.1 e h.0
+  passed (Err failure) e h = h
+
+-- what a text with a property tells
+pub tells_as : (P Q : List (List ℕ) → Type 0) (a : Option (List ℕ)) (held : List ℕ)
+    (b : Option (List ℕ)) (left : List ℕ) (result : Result ℕ Failure)
+    → ((lines : List (List ℕ)) → P lines → Q lines)
+    → Tells P a held b left result → Tells Q a held b left result
+tells_as P Q a held b left (Ok count) goes t = told_as P Q a held b left count goes t
+tells_as P Q a held b left (Err failure) goes t = t
+
+-- ---- lines for each of a list
+
+module _ {X : Type 0} (P : X → List (List ℕ) → Type 0) where
+  pub for_each_more : (xs : List X) (x : X) (lines more : List (List ℕ)) → ForEach P xs lines
+      → P x more → ForEach P (xs ++ (x ∷ [])) (lines ++ more)
+  for_each_more [] x lines more h p =
+      record {
+        first = more;
+        rest = [];
+        is_first = p;
+        is_rest = refl;
+        all = ap (λ l. l ++ more) h ∙ sym (append-nil more);
+      }
+  for_each_more (y ∷ ys) x lines more h p =
+      record {
+        first = h.first;
+        rest = h.rest ++ more;
+        is_first = h.is_first;
+        is_rest = for_each_more ys x h.rest more h.is_rest p;
+        all = ap (λ l. l ++ more) h.all ∙ append_assoc h.first h.rest more;
+      }
+
+  -- those of one more
+  pub told_next : (xs : List X) (i : ℕ) (d : X) (a b c : Option (List ℕ))
+      (held mid left : List ℕ) (m n count : ℕ) → i < length xs
+      → count ≡ min (m + n) (2 ^ 64 - 1) → Told (ForEach P (take i xs)) a held b mid m
+      → Told (P (get_or xs i d)) b mid c left n
+      → Told (ForEach P (take (i + 1) xs)) a held c left count
+  told_next xs i d a b c held mid left m n count lt e p q =
+      told_then (ForEach P (take i xs)) (P (get_or xs i d)) (ForEach P (take (i + 1) xs)) a b c
+      held mid left m n
+      (λ ls ms h k. subst (λ l. ForEach P l (ls ++ ms)) (sym (take_more xs i d lt))
+      (for_each_more (take i xs) (get_or xs i d) ls ms h k)) count e p q

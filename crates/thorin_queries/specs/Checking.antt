@@ -1,0 +1,172 @@
+-- What `check` prints.
+use Rattle.std.specs.Prelude.{◌≡◌, ◌⊎◌, ℕ, Bool, true, false, ◌&&◌, ◌==◌, List, [], ◌∷◌, ◌++◌}
+use Rattle.std.specs.Prelude.{codes, length, is_none, if◌then◌else◌, Option, Result, Ok, Err}
+use Rattle.std.specs.Borrow.{Bor}
+use Rattle.std.specs.Fmt.{decimal}
+use Rattle.std.specs.List.{concat}
+use Rattle.std.specs.declared.io.Error.{Error as IoError}
+use Rattle.std.specs.Io.KnownBytes.{Appends, Keeps}
+use Rattle.dwp_index.specs.Package.{Package, package_of, found}
+use Rattle.dwp_index.specs.declared.fault.PackageError.{PackageError}
+use Rattle.dwp_index.specs.declared.units.UnitEntry.{UnitEntry}
+use Rattle.dwp_table.specs.declared.object.DwarfObject.{DwarfObject}
+use Rattle.thorin_executable.specs.Skeletons.{skeletons_of}
+use Rattle.thorin_queries.specs.Answers.{RefusesFile}
+use Rattle.thorin_queries.specs.Faults.{TellsUnit, TellsStringsOf, AreRows, TellsListed}
+use Rattle.thorin_queries.specs.Lines.{line_end}
+use Rattle.thorin_queries.specs.Listing.{AreByRow}
+use Rattle.thorin_queries.specs.Telling.{Grows, Told, InTurn, ForEach}
+use Rattle.thorin_queries.specs.Telling.{IsOfPrinting, fault_count}
+use Rattle.thorin_queries.specs.declared.output.Failure.{Failure}
+use Rattle.thorin_queries.specs.declared.output.Failure.TheVariants as failures
+
+-- ---- the last line
+
+-- a number of things of a name: `1 unit`, `2 units`
+abbrev pub count_text : ℕ → (name : List ℕ) → List ℕ
+count_text n name =
+    if n == 1 then codes "1 " ++ name else decimal n ++ (codes " " ++ (name ++ codes "s"))
+
+unfoldable pub counts_line : (units faults : ℕ) → List ℕ
+counts_line units faults = count_text units (codes "unit")
+    ++ (codes ", " ++ (count_text faults (codes "fault") ++ line_end))
+
+-- the status: 1 where there are faults
+abbrev pub status_of : (faults : ℕ) → ℕ
+status_of faults = if faults == 0 then 0 else 1
+
+-- ---- what is told
+
+-- a package has no index of either kind
+abbrev pub has_no_index : Package → Bool
+has_no_index pack = is_none pack.compilations && is_none pack.types
+
+-- what is told of the strings of some units
+abbrev pub TellsSomeStrings : Package → List (List ℕ) → Type 0
+TellsSomeStrings pack lines = (objects : List DwarfObject)
+    × ForEach (λ object. TellsStringsOf object (found pack object)) objects lines
+
+-- what is told of the units that slots name, and then of their strings
+abbrev pub TellsUnits : Package → List UnitEntry → List (List ℕ) → Type 0
+TellsUnits pack entries =
+    InTurn (ForEach (TellsUnit pack) entries) (TellsSomeStrings pack)
+
+-- what is told of the rows of both indexes
+abbrev pub TellsRows : List (List ℕ) → Type 0
+TellsRows = InTurn (AreRows (codes "cu")) (AreRows (codes "tu"))
+
+-- what is taken for the bytes of an executable: these, where they aren't decompressed first
+abbrev pub IsTaken : (decompresses : Bool) → (bytes taken : List ℕ) → Type 0
+IsTaken false bytes taken = taken ≡ bytes
+IsTaken true bytes taken = Unit {0}
+
+-- what is told of an executable with these bytes
+pub record TellsTaken (decompresses : Bool) (pack : Package) (executable bytes : List ℕ)
+    (lines : List (List ℕ)) : Type 0 where
+  pub taken : List ℕ
+  pub is_taken : IsTaken decompresses bytes taken
+  pub listed : TellsListed pack executable (skeletons_of taken) lines
+
+-- what is told of the executable at a path
+pub record TellsExecutable (offer : List ℕ → Result (List ℕ) IoError
+    → Type 0) (decompresses : Bool) (pack : Package) (executable : List ℕ)
+    (lines : List (List ℕ)) : Type 0 where
+  pub bytes : List ℕ
+  pub read : offer executable (Ok bytes)
+  pub tells : TellsTaken decompresses pack executable bytes lines
+
+abbrev pub TellsExecutables : (List ℕ → Result (List ℕ) IoError → Type 0) → (decompresses : Bool)
+    → Package → List (Bor (List ℕ)) → List (List ℕ) → Type 0
+TellsExecutables offer decompresses pack executables =
+    ForEach (λ executable. TellsExecutable offer decompresses pack executable.now) executables
+
+-- all that is told of a package: of its units, its rows, and the units that executables name
+abbrev pub TellsPackage : (List ℕ → Result (List ℕ) IoError → Type 0) → (decompresses : Bool)
+    → Package → List UnitEntry → List (Bor (List ℕ)) → List (List ℕ) → Type 0
+TellsPackage offer decompresses pack entries executables =
+    InTurn (TellsUnits pack entries)
+    (InTurn TellsRows (TellsExecutables offer decompresses pack executables))
+
+-- ---- what comes of it
+
+-- one of the executables can't be read
+abbrev pub FailsOne : (List ℕ → Result (List ℕ) IoError → Type 0) → List (Bor (List ℕ)) → Type 0
+FailsOne offer [] = ⊥
+FailsOne offer (executable ∷ executables) =
+    ((cause : IoError) × offer executable.now (Err cause)) ⊎ FailsOne offer executables
+
+-- a line can't be written, memory ran out, or the file at a path can't be read
+abbrev pub IsOfReading : (List ℕ → Result (List ℕ) IoError → Type 0) → (path : List ℕ) → Failure
+    → Type 0
+IsOfReading offer path failures.Input = (cause : IoError) × offer path (Err cause)
+IsOfReading offer path failures.Line = Unit {0}
+IsOfReading offer path failures.Memory = Unit {0}
+IsOfReading offer path _ = ⊥
+
+-- the same, of any of the executables
+abbrev pub IsOfChecking : (List ℕ → Result (List ℕ) IoError → Type 0) → List (Bor (List ℕ))
+    → Failure → Type 0
+IsOfChecking offer executables failures.Input = FailsOne offer executables
+IsOfChecking offer executables failures.Line = Unit {0}
+IsOfChecking offer executables failures.Memory = Unit {0}
+IsOfChecking offer executables _ = ⊥
+
+-- a last text was printed to its end, and the status answered
+abbrev pub PrintsLast : (faults : ℕ) → (text : List ℕ) → (old new : Option (List ℕ))
+    → Result ℕ Failure → Type 0
+PrintsLast faults text old new (Ok status) =
+    Appends old new text × (status ≡ status_of faults)
+PrintsLast faults text old new (Err failure) = IsOfPrinting failure × Grows old new
+
+-- the same of what waited and the line of counts
+abbrev pub Finishes : (units faults : ℕ) → (old : Option (List ℕ)) → (held : List ℕ)
+    → (new : Option (List ℕ)) → Result ℕ Failure → Type 0
+Finishes units faults old held new result =
+    PrintsLast faults (held ++ counts_line units faults) old new result
+
+-- a package was checked: all lines were printed, and behind them that of the counts
+pub record Checked (offer : List ℕ → Result (List ℕ) IoError
+    → Type 0) (decompresses : Bool) (executables : List (Bor (List ℕ))) (pack : Package)
+    (old new : Option (List ℕ)) (status : ℕ) : Type 0 where
+  pub entries : List UnitEntry
+  pub by_row : AreByRow pack entries
+  pub lines : List (List ℕ)
+  pub told : TellsPackage offer decompresses pack entries executables lines
+  pub printed : Appends old new
+      (concat lines ++ counts_line (length entries) (fault_count lines))
+  pub status_is : status ≡ status_of (fault_count lines)
+
+-- the same, or it stopped, and something was printed or nothing
+abbrev pub ChecksIndexed : (List ℕ → Result (List ℕ) IoError → Type 0) → (decompresses : Bool)
+    → List (Bor (List ℕ)) → Package → (old new : Option (List ℕ)) → Result ℕ Failure → Type 0
+ChecksIndexed offer decompresses executables pack old new (Ok status) =
+    Checked offer decompresses executables pack old new status
+ChecksIndexed offer decompresses executables pack old new (Err failure) =
+    IsOfChecking offer executables failure × Grows old new
+
+-- a package without index is refused
+abbrev pub ChecksPackage : (List ℕ → Result (List ℕ) IoError → Type 0) → (decompresses : Bool)
+    → List (Bor (List ℕ)) → Package → (old new : Option (List ℕ)) → Result ℕ Failure
+    → (is_refused : Bool) → Type 0
+ChecksPackage offer decompresses executables pack old new result true =
+    (result ≡ Err failures.NoIndex) × Keeps old new
+ChecksPackage offer decompresses executables pack old new result false =
+    ChecksIndexed offer decompresses executables pack old new result
+
+-- the same for what bytes are: where they are no package, they are refused
+abbrev pub ChecksBytes : (List ℕ → Result (List ℕ) IoError → Type 0) → (decompresses : Bool)
+    → List (Bor (List ℕ)) → Result Package PackageError → (old new : Option (List ℕ))
+    → Result ℕ Failure → Type 0
+ChecksBytes offer decompresses executables (Err cause) old new result =
+    (result ≡ Err failures.Malformed) × Keeps old new
+ChecksBytes offer decompresses executables (Ok pack) old new result =
+    ChecksPackage offer decompresses executables pack old new result (has_no_index pack)
+
+-- `check`: the file at the path was read and checked; or it can't be read, and nothing was printed
+unfoldable pub Checks : (List ℕ → Result (List ℕ) IoError → Type 0) → (path : List ℕ)
+    → (decompresses : Bool) → List (Bor (List ℕ)) → (old new : Option (List ℕ))
+    → Result ℕ Failure → Type 0
+Checks offer path decompresses executables old new result =
+    ((bytes : List ℕ) × offer path (Ok bytes)
+    × ChecksBytes offer decompresses executables (package_of bytes) old new result)
+    ⊎ (RefusesFile offer path result × Keeps old new)

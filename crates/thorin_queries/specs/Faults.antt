@@ -1,0 +1,153 @@
+-- The faults of a package that `check` tells of, each on a line.
+use Rattle.std.specs.Prelude.{◌≡◌, ◌≢◌, ◌⊎◌, ℕ, List, [], ◌∷◌, ◌++◌, codes, map, Option, Some, None}
+use Rattle.std.specs.Prelude.{Result, Ok, Err}
+use Rattle.std.specs.Fmt.{decimal}
+use Rattle.std.specs.List.{flat_map, range_with_len}
+use Rattle.dwp_base.specs.Reading.{◌>>=◌}
+use Rattle.dwp_base.specs.Sections.{name_of}
+use Rattle.dwp_base.specs.declared.endian.Endianness.{Endianness}
+use Rattle.dwp_base.specs.declared.section.SectionKind.TheVariants.{Types, Abbrev, StrOffsets}
+use Rattle.dwp_bytes.specs.Input.{section}
+use Rattle.dwp_bytes.specs.declared.fault.ReadError.{ReadError}
+use Rattle.dwp_dwarf.specs.Units.{unit_at}
+use Rattle.dwp_index.specs.Index.{range_in}
+use Rattle.dwp_index.specs.Package.{Package, FoundUnit, found, place_of, row_bytes}
+use Rattle.dwp_index.specs.Strings.{string_in}
+use Rattle.dwp_index.specs.declared.fault.PackageError.{PackageError}
+use Rattle.dwp_index.specs.declared.fault.PackageError.TheVariants.{Range}
+use Rattle.dwp_index.specs.declared.units.UnitEntry.{UnitEntry}
+use Rattle.dwp_table.specs.Objects.{identifier_of}
+use Rattle.dwp_table.specs.declared.object.DwarfObject.{DwarfObject}
+use Rattle.thorin_executable.specs.Skeletons.{Named, Listed}
+use Rattle.thorin_faults.specs.Answers.{as_fault}
+use Rattle.thorin_faults.specs.Fault.{Fault, ParseUnitHeader}
+use Rattle.thorin_identity.specs.Identity.{identity}
+use Rattle.thorin_queries.specs.Finding.{string_count}
+use Rattle.thorin_queries.specs.Lines.{hex16, line_end, short_kind}
+use Rattle.thorin_queries.specs.Telling.{IsNone, IsLine, ForEach}
+
+-- ---- units
+
+-- the line of a fault of a unit
+unfoldable pub fault_line : DwarfObject → (text : List ℕ) → List ℕ
+fault_line object text =
+    short_kind object ++ (codes " 0x" ++ (hex16 (identifier_of object)
+    ++ (codes ": " ++ (text ++ line_end))))
+
+-- such a line, with the text of an error
+abbrev pub IsSomeFault : DwarfObject → List (List ℕ) → Type 0
+IsSomeFault object lines = (text : List ℕ) × IsLine (fault_line object text) lines
+
+-- what is told where the package reader can't read what the index says of a unit
+abbrev pub IsUnread : DwarfObject → PackageError → List (List ℕ) → Type 0
+IsUnread object (Range kind) lines = IsLine (fault_line object
+    (codes "its range of " ++ (name_of kind ++ codes " is outside the section"))) lines
+IsUnread object _ lines = IsSomeFault object lines
+
+-- the identifier that a unit's own bytes give
+unfoldable pub own_identifier : Endianness → FoundUnit → DwarfObject
+    → Result (Option DwarfObject) Fault
+own_identifier order unit object = do
+  read ← as_fault ParseUnitHeader (unit_at (place_of object (range_in unit.row Types))
+  (section order unit.bytes))
+  identity (section order (row_bytes unit.contents unit.row Abbrev)) read.0
+
+abbrev pub other_text : DwarfObject → List ℕ
+other_text own =
+    codes "its own identifier is " ++ (short_kind own ++ (codes " 0x" ++ hex16 (identifier_of own)))
+
+-- what is told of a unit by the identifier that its own bytes give: nothing where that is its own
+abbrev pub TellsOwn : DwarfObject → Result (Option DwarfObject) Fault → List (List ℕ) → Type 0
+TellsOwn object (Err fault) lines = IsSomeFault object lines
+TellsOwn object (Ok None) lines =
+    IsLine (fault_line object (codes "it has no identifier of its own")) lines
+TellsOwn object (Ok (Some own)) lines = ((own ≡ object) × IsNone lines)
+    ⊎ ((own ≢ object) × IsLine (fault_line object (other_text own)) lines)
+
+-- what is told of the unit that is found under the identifier of a slot
+abbrev pub TellsFound : Endianness → UnitEntry → FoundUnit → List (List ℕ) → Type 0
+TellsFound order entry unit lines =
+    ((unit.number ≢ entry.row)
+    × IsLine (fault_line entry.object (codes "found in row " ++ decimal unit.number)) lines)
+    ⊎ ((unit.number ≡ entry.row)
+    × TellsOwn entry.object (own_identifier order unit entry.object) lines)
+
+abbrev pub TellsLooked : Endianness → UnitEntry → Result (Option FoundUnit) PackageError
+    → List (List ℕ) → Type 0
+TellsLooked order entry (Err cause) lines = IsUnread entry.object cause lines
+TellsLooked order entry (Ok None) lines =
+    IsLine (fault_line entry.object (codes "not found under its identifier")) lines
+TellsLooked order entry (Ok (Some unit)) lines = TellsFound order entry unit lines
+
+-- what is told of the unit that a slot names
+unfoldable pub TellsUnit : Package → UnitEntry → List (List ℕ) → Type 0
+TellsUnit pack entry lines = TellsLooked pack.order entry (found pack entry.object) lines
+
+-- ---- strings
+
+abbrev pub string_text : ℕ → List ℕ → List ℕ
+string_text i text = codes "string " ++ (decimal i ++ (codes " can't be read: " ++ text))
+
+-- what is told of a unit's string: an error, if there is one
+abbrev pub TellsString : DwarfObject → ℕ → Result (Option (List ℕ)) ReadError → List (List ℕ)
+    → Type 0
+TellsString object i (Ok string) lines = IsNone lines
+TellsString object i (Err cause) lines =
+    (text : List ℕ) × IsLine (fault_line object (string_text i text)) lines
+
+abbrev pub string_of : FoundUnit → ℕ → Result (Option (List ℕ)) ReadError
+string_of unit i = string_in unit.order unit.encoding unit.contents.strings
+    (row_bytes unit.contents unit.row StrOffsets) i
+
+-- what is told of all strings of a unit
+unfoldable pub TellsStrings : DwarfObject → FoundUnit → List (List ℕ) → Type 0
+TellsStrings object unit lines =
+    ForEach (λ i. TellsString object i (string_of unit i)) (range_with_len 0 (string_count unit))
+    lines
+
+abbrev pub TellsStringsOf : DwarfObject → Result (Option FoundUnit) PackageError
+    → List (List ℕ) → Type 0
+TellsStringsOf object (Ok (Some unit)) lines = TellsStrings object unit lines
+TellsStringsOf object _ lines = IsNone lines
+
+-- ---- rows
+
+-- the line of a row that no slot names
+unfoldable pub row_line : (kind : List ℕ) → ℕ → List ℕ
+row_line kind row = kind ++ (codes " row " ++ (decimal row ++ (codes ": no slot names it" ++ line_end)))
+
+-- lines of rows
+abbrev pub AreRows : (kind : List ℕ) → List (List ℕ) → Type 0
+AreRows kind lines = (rows : List ℕ) × (lines ≡ map (row_line kind) rows)
+
+-- ---- executables
+
+-- the line of a unit that an executable names and the package lacks
+unfoldable pub missing_line : DwarfObject → (executable path : List ℕ) → List ℕ
+missing_line object executable path =
+    short_kind object ++ (codes " 0x" ++ (hex16 (identifier_of object)
+    ++ (codes ": not in the package, " ++ (executable ++ (codes " names " ++ (path ++ line_end))))))
+
+abbrev pub missing_lines : (executable : List ℕ) → Named → Result (Option FoundUnit) PackageError
+    → List (List ℕ)
+missing_lines executable named (Ok None) = missing_line named.0 executable named.1 ∷ []
+missing_lines executable named _ = []
+
+-- the line of an executable that can't be read to its end
+unfoldable pub broken_line : (executable text : List ℕ) → List ℕ
+broken_line executable text = executable ++ (codes ": " ++ (text ++ line_end))
+
+abbrev pub IsBroken : (executable : List ℕ) → List (List ℕ) → Type 0
+IsBroken executable lines = (text : List ℕ) × IsLine (broken_line executable text) lines
+
+abbrev pub TellsEnd : (executable : List ℕ) → Option Fault → List (List ℕ) → Type 0
+TellsEnd executable None lines = IsNone lines
+TellsEnd executable (Some fault) lines = IsBroken executable lines
+
+-- what is told of the units that an executable names, up to its first error
+pub record TellsListed (pack : Package) (executable : List ℕ) (listed : Listed)
+    (lines : List (List ℕ)) : Type 0 where
+  pub ended : List (List ℕ)
+  pub end : TellsEnd executable listed.1 ended
+  pub all : lines ≡ flat_map (λ named. missing_lines executable named (found pack named.0))
+      listed.0 ++ ended

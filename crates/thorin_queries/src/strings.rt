@@ -1,0 +1,168 @@
+//! The strings of a package's units, in `thorin check`.
+
+ghost use Rattle.std.specs.Prelude.{◌≡◌, string_bytes, IfOk};
+ghost use Rattle.dwp_index.specs.Package.{found};
+ghost use Rattle.thorin_queries.specs.Checking.{TellsSomeStrings};
+ghost use Rattle.thorin_queries.specs.Faults.{TellsStringsOf, TellsStrings, TellsString};
+ghost use Rattle.thorin_queries.specs.Faults.{string_of, string_text};
+ghost use Rattle.thorin_queries.specs.Telling.{Tells, ForEach};
+
+use crate::faults::tell;
+use crate::finding::string_count;
+use crate::output::Failure;
+use dwp_bytes::{Format, ReadError};
+use dwp_elf::SectionKind;
+use dwp_index::{PackageFile, PackagedUnit};
+use dwp_table::DwarfObject;
+use std::alloc::AllocError;
+use std::io::Write;
+
+/// The string offsets of a unit: where they begin, their size, the unit's version, and whether they
+/// have 64 bits. Units that have the same ones have the same strings.
+pub(crate) type StringRange = (u64, u64, u16, bool);
+
+/// Adds the range of a unit's string offsets, where it has one.
+pub(crate) fn add_range(
+    unit: &PackagedUnit<'_>,
+    object: DwarfObject,
+    strings: &mut Vec<(StringRange, DwarfObject)>,
+) -> Result<(), AllocError> {
+    match string_range(unit) {
+        Some(range) => {
+            strings.push((range, object))?;
+            Ok(())
+        }
+        None => Ok(()),
+    }
+}
+
+fn string_range(unit: &PackagedUnit<'_>) -> Option<StringRange> {
+    let range = unit.range(SectionKind::StrOffsets)?;
+    let encoding = unit.encoding();
+    Some((
+        range.offset.0,
+        range.size,
+        encoding.version,
+        encoding.format == Format::Dwarf64,
+    ))
+}
+
+/// Checks the strings of a unit of each range. Answers the number of faults.
+pub(crate) fn check_strings<O: Write>(
+    pack: &PackageFile<'_>,
+    strings: &mut Vec<(StringRange, DwarfObject)>,
+    waiting: &mut String,
+    out: &mut O,
+) -> Result<u64, Failure>
+    ensures { Tells (TellsSomeStrings pack.now) (O.contents out.old) (string_bytes waiting.old)
+        (O.contents out.new) (string_bytes waiting.new) result }
+{
+    match strings.sort_by_key(|(range, _)| *range) {
+        Ok(()) => {}
+        Err(_) => return Err(Failure::Memory),
+    }
+    strings.dedup_by_key(|(range, _)| *range);
+    check_distinct(pack, strings.as_slice(), waiting, out)
+}
+
+/// Checks the strings of these units. Answers the number of faults.
+fn check_distinct<O: Write>(
+    pack: &PackageFile<'_>,
+    strings: &[(StringRange, DwarfObject)],
+    waiting: &mut String,
+    out: &mut O,
+) -> Result<u64, Failure>
+    ensures { Tells (ForEach (λ s. TellsStringsOf s.1 (found pack.now s.1)) strings.now)
+        (O.contents out.old) (string_bytes waiting.old) (O.contents out.new)
+        (string_bytes waiting.new) result }
+{
+    let mut faults = 0u64;
+    for i in 0..strings.len() {
+        match check_strings_of(pack, strings[i].1, waiting, out) {
+            Ok(found) => faults = faults.saturating_add(found),
+            Err(failure) => return Err(failure),
+        }
+    }
+    Ok(faults)
+}
+
+/// Checks the strings of a unit. Answers the number of faults.
+fn check_strings_of<O: Write>(
+    pack: &PackageFile<'_>,
+    object: DwarfObject,
+    waiting: &mut String,
+    out: &mut O,
+) -> Result<u64, Failure>
+    ensures { Tells (TellsStringsOf object (found pack.now object)) (O.contents out.old)
+        (string_bytes waiting.old) (O.contents out.new) (string_bytes waiting.new) result }
+{
+    match pack.find(object) {
+        Ok(Some(unit)) => check_each_string(object, &unit, waiting, out),
+        Ok(None) => Ok(0),
+        Err(_) => Ok(0),
+    }
+}
+
+/// Reads each string of a unit. Answers the number of faults.
+#[tactic(auto, unfolding(crate::specs::Faults::TellsStrings))]
+fn check_each_string<O: Write>(
+    object: DwarfObject,
+    unit: &PackagedUnit<'_>,
+    waiting: &mut String,
+    out: &mut O,
+) -> Result<u64, Failure>
+    ensures { Tells (TellsStrings object unit.now) (O.contents out.old)
+        (string_bytes waiting.old) (O.contents out.new) (string_bytes waiting.new) result }
+{
+    let mut faults = 0u64;
+    for i in 0..string_count(unit) {
+        match check_string(object, unit, i, waiting, out) {
+            Ok(found) => faults = faults.saturating_add(found),
+            Err(failure) => return Err(failure),
+        }
+    }
+    Ok(faults)
+}
+
+/// Reads a string of a unit. Answers the number of faults.
+fn check_string<O: Write>(
+    object: DwarfObject,
+    unit: &PackagedUnit<'_>,
+    i: u64,
+    waiting: &mut String,
+    out: &mut O,
+) -> Result<u64, Failure>
+    ensures { Tells (TellsString object i (string_of unit.now i)) (O.contents out.old)
+        (string_bytes waiting.old) (O.contents out.new) (string_bytes waiting.new) result }
+{
+    match unit.string(i) {
+        Ok(_) => Ok(0),
+        Err(fault) => tell_string(object, i, fault, waiting, out),
+    }
+}
+
+/// Tells that a string can't be read. Answers the number of faults, 1.
+fn tell_string<O: Write>(
+    object: DwarfObject,
+    i: u64,
+    fault: ReadError,
+    waiting: &mut String,
+    out: &mut O,
+) -> Result<u64, Failure>
+    ensures { Tells (TellsString object i (Err fault)) (O.contents out.old)
+        (string_bytes waiting.old) (O.contents out.new) (string_bytes waiting.new) result }
+{
+    match string_text(i, fault, waiting) {
+        Ok(text) => tell(object, text.as_str(), waiting, out),
+        Err(_) => Err(Failure::Memory),
+    }
+}
+
+/// What is told of a string that can't be read.
+fn string_text(i: u64, fault: ReadError, near: &String) -> Result<String, AllocError>
+    ensures { IfOk result (λ text. (cause : List ℕ) × (string_bytes text ≡ string_text i cause)) }
+{
+    let cause = format!(in *near.allocator(); "{fault}")?;
+    let cause = cause.as_str();
+    format!(in *near.allocator(); "string {i} can't be read: {cause}")
+}
