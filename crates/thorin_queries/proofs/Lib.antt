@@ -1,4 +1,5 @@
 mod Asked
+mod Faulted
 mod Hex
 mod Lines
 mod Listed

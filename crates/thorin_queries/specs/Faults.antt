@@ -3,15 +3,10 @@ use Rattle.std.specs.Prelude.{◌≡◌, ◌≢◌, ◌⊎◌, ℕ, List, [], �
 use Rattle.std.specs.Prelude.{Result, Ok, Err}
 use Rattle.std.specs.Fmt.{decimal}
 use Rattle.std.specs.List.{flat_map, range_with_len}
-use Rattle.dwp_base.specs.Reading.{◌>>=◌}
 use Rattle.dwp_base.specs.Sections.{name_of}
-use Rattle.dwp_base.specs.declared.endian.Endianness.{Endianness}
-use Rattle.dwp_base.specs.declared.section.SectionKind.TheVariants.{Types, Abbrev, StrOffsets}
-use Rattle.dwp_bytes.specs.Input.{section}
+use Rattle.dwp_base.specs.declared.section.SectionKind.TheVariants.{StrOffsets}
 use Rattle.dwp_bytes.specs.declared.fault.ReadError.{ReadError}
-use Rattle.dwp_dwarf.specs.Units.{unit_at}
-use Rattle.dwp_index.specs.Index.{range_in}
-use Rattle.dwp_index.specs.Package.{Package, FoundUnit, found, place_of, row_bytes}
+use Rattle.dwp_index.specs.Package.{Package, FoundUnit, found, row_bytes}
 use Rattle.dwp_index.specs.Strings.{string_in}
 use Rattle.dwp_index.specs.declared.fault.PackageError.{PackageError}
 use Rattle.dwp_index.specs.declared.fault.PackageError.TheVariants.{Range}
@@ -19,12 +14,12 @@ use Rattle.dwp_index.specs.declared.units.UnitEntry.{UnitEntry}
 use Rattle.dwp_table.specs.Objects.{identifier_of}
 use Rattle.dwp_table.specs.declared.object.DwarfObject.{DwarfObject}
 use Rattle.thorin_executable.specs.Skeletons.{Named, Listed}
-use Rattle.thorin_faults.specs.Answers.{as_fault}
-use Rattle.thorin_faults.specs.Fault.{Fault, ParseUnitHeader}
-use Rattle.thorin_identity.specs.Identity.{identity}
+use Rattle.thorin_faults.specs.Fault.{Fault}
 use Rattle.thorin_queries.specs.Finding.{string_count}
 use Rattle.thorin_queries.specs.Lines.{hex16, line_end, short_kind}
-use Rattle.thorin_queries.specs.Telling.{IsNone, IsLine, ForEach}
+use Rattle.thorin_queries.specs.Telling.{Grows, IsOfPrinting, Told, IsNone, IsLine}
+use Rattle.thorin_queries.specs.Telling.{ForEach}
+use Rattle.thorin_queries.specs.declared.output.Failure.{Failure}
 
 -- ---- units
 
@@ -44,44 +39,28 @@ IsUnread object (Range kind) lines = IsLine (fault_line object
     (codes "its range of " ++ (name_of kind ++ codes " is outside the section"))) lines
 IsUnread object _ lines = IsSomeFault object lines
 
--- the identifier that a unit's own bytes give
-unfoldable pub own_identifier : Endianness → FoundUnit → DwarfObject
-    → Result (Option DwarfObject) Fault
-own_identifier order unit object = do
-  read ← as_fault ParseUnitHeader (unit_at (place_of object (range_in unit.row Types))
-  (section order unit.bytes))
-  identity (section order (row_bytes unit.contents unit.row Abbrev)) read.0
-
-abbrev pub other_text : DwarfObject → List ℕ
-other_text own =
-    codes "its own identifier is " ++ (short_kind own ++ (codes " 0x" ++ hex16 (identifier_of own)))
-
--- what is told of a unit by the identifier that its own bytes give: nothing where that is its own
-abbrev pub TellsOwn : DwarfObject → Result (Option DwarfObject) Fault → List (List ℕ) → Type 0
-TellsOwn object (Err fault) lines = IsSomeFault object lines
-TellsOwn object (Ok None) lines =
-    IsLine (fault_line object (codes "it has no identifier of its own")) lines
-TellsOwn object (Ok (Some own)) lines = ((own ≡ object) × IsNone lines)
-    ⊎ ((own ≢ object) × IsLine (fault_line object (other_text own)) lines)
+-- what is told of a unit by the identifier that its own bytes give: nothing, or a fault
+abbrev pub TellsOwn : DwarfObject → List (List ℕ) → Type 0
+TellsOwn object lines = IsNone lines ⊎ IsSomeFault object lines
 
 -- what is told of the unit that is found under the identifier of a slot
-abbrev pub TellsFound : Endianness → UnitEntry → FoundUnit → List (List ℕ) → Type 0
-TellsFound order entry unit lines =
+abbrev pub TellsFound : UnitEntry → FoundUnit → List (List ℕ) → Type 0
+TellsFound entry unit lines =
     ((unit.number ≢ entry.row)
     × IsLine (fault_line entry.object (codes "found in row " ++ decimal unit.number)) lines)
     ⊎ ((unit.number ≡ entry.row)
-    × TellsOwn entry.object (own_identifier order unit entry.object) lines)
+    × TellsOwn entry.object lines)
 
-abbrev pub TellsLooked : Endianness → UnitEntry → Result (Option FoundUnit) PackageError
+abbrev pub TellsLooked : UnitEntry → Result (Option FoundUnit) PackageError
     → List (List ℕ) → Type 0
-TellsLooked order entry (Err cause) lines = IsUnread entry.object cause lines
-TellsLooked order entry (Ok None) lines =
+TellsLooked entry (Err cause) lines = IsUnread entry.object cause lines
+TellsLooked entry (Ok None) lines =
     IsLine (fault_line entry.object (codes "not found under its identifier")) lines
-TellsLooked order entry (Ok (Some unit)) lines = TellsFound order entry unit lines
+TellsLooked entry (Ok (Some unit)) lines = TellsFound entry unit lines
 
 -- what is told of the unit that a slot names
 unfoldable pub TellsUnit : Package → UnitEntry → List (List ℕ) → Type 0
-TellsUnit pack entry lines = TellsLooked pack.order entry (found pack entry.object) lines
+TellsUnit pack entry lines = TellsLooked entry (found pack entry.object) lines
 
 -- ---- strings
 
@@ -120,17 +99,22 @@ row_line kind row = kind ++ (codes " row " ++ (decimal row ++ (codes ": no slot 
 abbrev pub AreRows : (kind : List ℕ) → List (List ℕ) → Type 0
 AreRows kind lines = (rows : List ℕ) × (lines ≡ map (row_line kind) rows)
 
+-- the same, with the row to go on with
+abbrev pub TellsGap : (kind : List ℕ) → (old : Option (List ℕ)) → (held : List ℕ)
+    → (new : Option (List ℕ)) → (left : List ℕ) → Result (ℕ × ℕ) Failure → Type 0
+TellsGap kind old held new left (Ok found) = Told (AreRows kind) old held new left found.0
+TellsGap kind old held new left (Err failure) = IsOfPrinting failure × Grows old new
+
 -- ---- executables
 
--- the line of a unit that an executable names and the package lacks
-unfoldable pub missing_line : DwarfObject → (executable path : List ℕ) → List ℕ
-missing_line object executable path =
-    short_kind object ++ (codes " 0x" ++ (hex16 (identifier_of object)
-    ++ (codes ": not in the package, " ++ (executable ++ (codes " names " ++ (path ++ line_end))))))
+-- what is told of a unit that an executable names and the package lacks
+abbrev pub missing_text : (executable path : List ℕ) → List ℕ
+missing_text executable path =
+    codes "not in the package, " ++ (executable ++ (codes " names " ++ path))
 
 abbrev pub missing_lines : (executable : List ℕ) → Named → Result (Option FoundUnit) PackageError
     → List (List ℕ)
-missing_lines executable named (Ok None) = missing_line named.0 executable named.1 ∷ []
+missing_lines executable named (Ok None) = fault_line named.0 (missing_text executable named.1) ∷ []
 missing_lines executable named _ = []
 
 -- the line of an executable that can't be read to its end

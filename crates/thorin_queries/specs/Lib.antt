@@ -5,5 +5,4 @@ pub mod Finding
 pub mod Indexes
 pub mod Lines
 pub mod Listing
-pub mod Own
 pub mod Telling

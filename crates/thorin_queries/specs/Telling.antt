@@ -1,5 +1,5 @@
 -- Lines of faults that are told one after the other, and how many these are.
-use Rattle.std.specs.Prelude.{◌≡◌, ℕ, ◌-◌, ◌^◌, min, List, [], ◌∷◌, ◌++◌, length, Option, Result, Ok}
+use Rattle.std.specs.Prelude.{◌≡◌, ℕ, ◌+◌, ◌-◌, ◌^◌, min, List, [], ◌∷◌, ◌++◌, length, Option, Result, Ok}
 use Rattle.std.specs.Prelude.{Err}
 use Rattle.std.specs.List.{concat}
 use Rattle.std.specs.Io.KnownBytes.{Appends}
@@ -15,6 +15,12 @@ abbrev pub IsOfPrinting : Failure → Type 0
 IsOfPrinting failures.Line = Unit {0}
 IsOfPrinting failures.Memory = Unit {0}
 IsOfPrinting _ = ⊥
+
+-- a text was printed, or something of it or nothing
+abbrev pub Prints : (text : List ℕ) → (old new : Option (List ℕ)) → Result (Unit {0}) Failure
+    → Type 0
+Prints text old new (Ok done) = Appends old new text
+Prints text old new (Err failure) = IsOfPrinting failure × Grows old new
 
 -- how many faults so many lines tell, as far as 64 bits go
 abbrev pub fault_count : List (List ℕ) → ℕ
@@ -64,6 +70,11 @@ abbrev pub PassesOne : (old : Option (List ℕ)) → (held : List ℕ) → (new 
     → (left : List ℕ) → Result ℕ Failure → Type 0
 PassesOne old held new left (Ok count) = Told IsNone old held new left 0 × (count ≡ 1)
 PassesOne old held new left (Err failure) = IsOfPrinting failure × Grows old new
+
+-- a number of faults, and those behind them
+abbrev pub IsSum : ℕ → (rest result : Result ℕ Failure) → Type 0
+IsSum m (Ok n) result = result ≡ Ok (min (m + n) (2 ^ 64 - 1))
+IsSum m (Err failure) result = result ≡ Err failure
 
 -- lines of one kind, and behind them those of another
 pub record InTurn (P Q : List (List ℕ) → Type 0) (lines : List (List ℕ)) : Type 0 where

@@ -1,6 +1,6 @@
 //! `thorin check`.
 
-ghost use Rattle.std.specs.Prelude.{◌≡◌, ◌++◌, OnOk, string_bytes};
+ghost use Rattle.std.specs.Prelude.{◌≡◌, ◌++◌, Err, OnOk, string_bytes};
 ghost use Rattle.dwp_elf_read.specs.View.{elf};
 ghost use Rattle.dwp_index.specs.Package.{package_of};
 ghost use Rattle.thorin_queries.specs.Answers.{anything};
@@ -13,10 +13,11 @@ ghost use Rattle.thorin_queries.specs.Listing.{AreByRow};
 ghost use Rattle.thorin_queries.specs.Telling.{Grows, InTurn, TellsOr};
 
 use crate::executables::{Named, check_executables};
+use crate::faults::with_rest;
 use crate::files::{FileReader, HostReader, read_named};
 use crate::input::has_index;
 use crate::listing::entries_by_row;
-use crate::output::{Failure, flush, put};
+use crate::output::{Failure, flush, print};
 use crate::rows::check_indexes;
 use crate::units::check_units;
 use dwp_elf::{ElfFile, SectionKind};
@@ -93,7 +94,7 @@ fn check_bytes<F: FileReader, O: Write>(
     named: Named<'_, '_>,
     out: &mut O,
 ) -> Result<u8, Failure>
-    ensures { ChecksBytes (F.offer files.now) named.decompresses named.executables.now
+    ensures { ChecksBytes (F.offer files.now) named.entry.decompresses named.entry.executables.now
         (package_of bytes.now) (O.contents out.old) (O.contents out.new) result }
 {
     match ElfFile::parse(bytes) {
@@ -115,7 +116,7 @@ fn check_package<F: FileReader, O: Write>(
     out: &mut O,
 ) -> Result<u8, Failure>
     requires { HasIndexes (elf file.now) pack.now }
-    ensures { ChecksPackage (F.offer files.now) named.decompresses named.executables.now pack.now
+    ensures { ChecksPackage (F.offer files.now) named.entry.decompresses named.entry.executables.now pack.now
         (O.contents out.old) (O.contents out.new) result (has_no_index pack.now) }
 {
     if !has_index(file, SectionKind::CuIndex) && !has_index(file, SectionKind::TuIndex) {
@@ -133,8 +134,7 @@ fn check_indexed<F: FileReader, O: Write>(
     named: Named<'_, '_>,
     out: &mut O,
 ) -> Result<u8, Failure>
-    requires { HasIndexes (elf file.now) pack.now }
-    ensures { ChecksIndexed (F.offer files.now) named.decompresses named.executables.now pack.now
+    ensures { ChecksIndexed (F.offer files.now) named.entry.decompresses named.entry.executables.now pack.now
         (O.contents out.old) (O.contents out.new) result }
 {
     match entries_by_row(rt.alloc(), pack) {
@@ -153,22 +153,19 @@ fn check_entries<F: FileReader, O: Write>(
     named: Named<'_, '_>,
     out: &mut O,
 ) -> Result<u8, Failure>
-    requires indexes { HasIndexes (elf file.now) pack.now }
-    requires by_row { AreByRow pack.now entries.now }
-    ensures { ChecksIndexed (F.offer files.now) named.decompresses named.executables.now pack.now
+    requires { AreByRow pack.now entries.now }
+    ensures { ChecksIndexed (F.offer files.now) named.entry.decompresses named.entry.executables.now pack.now
         (O.contents out.old) (O.contents out.new) result }
 {
     let mut waiting = String::new(rt.alloc());
     match check_all(rt, files, pack, file, entries, named, &mut waiting, out) {
         Ok(faults) => finish(entries.len(), faults, &mut waiting, out),
-        Err(failure) => {
-            give_up(waiting.as_str(), out);
-            Err(failure)
-        }
+        Err(failure) => give_up(failure, waiting.as_str(), out),
     }
 }
 
 /// Checks the units, the rows and the executables. Answers the number of faults.
+#[tactic(auto, using(crate::proofs::Told::in_turn_or, crate::proofs::Checked::of_printing))]
 fn check_all<F: FileReader, O: Write>(
     rt: &HostRuntime,
     files: &F,
@@ -179,23 +176,22 @@ fn check_all<F: FileReader, O: Write>(
     waiting: &mut String,
     out: &mut O,
 ) -> Result<u64, Failure>
-    requires { HasIndexes (elf file.now) pack.now }
-    ensures { TellsOr (IsOfChecking (F.offer files.now) named.executables.now)
-        (TellsPackage (F.offer files.now) named.decompresses pack.now entries.now
-        named.executables.now) (O.contents out.old) (string_bytes waiting.old)
+    ensures { TellsOr (IsOfChecking (F.offer files.now) named.entry.executables.now)
+        (TellsPackage (F.offer files.now) named.entry.decompresses pack.now entries.now
+        named.entry.executables.now) (O.contents out.old) (string_bytes waiting.old)
         (O.contents out.new) (string_bytes waiting.new) result }
 {
-    let of_units = match check_units(rt.alloc(), pack, file.endianness(), entries, waiting, out) {
-        Ok(of_units) => of_units,
-        Err(failure) => return Err(failure),
-    };
-    match check_rest(rt, files, pack, file, entries, named, waiting, out) {
-        Ok(of_rest) => Ok(of_units.saturating_add(of_rest)),
+    match check_units(rt.alloc(), pack, file.endianness(), entries, waiting, out) {
+        Ok(of_units) => with_rest(
+            of_units,
+            check_rest(rt, files, pack, file, entries, named, waiting, out),
+        ),
         Err(failure) => Err(failure),
     }
 }
 
 /// Checks the rows and the executables. Answers the number of faults.
+#[tactic(auto, using(crate::proofs::Told::in_turn_or, crate::proofs::Checked::of_printing))]
 fn check_rest<F: FileReader, O: Write>(
     rt: &HostRuntime,
     files: &F,
@@ -206,22 +202,22 @@ fn check_rest<F: FileReader, O: Write>(
     waiting: &mut String,
     out: &mut O,
 ) -> Result<u64, Failure>
-    ensures { TellsOr (IsOfChecking (F.offer files.now) named.executables.now)
-        (InTurn TellsRows (TellsExecutables (F.offer files.now) named.decompresses pack.now
-        named.executables.now)) (O.contents out.old) (string_bytes waiting.old)
+    ensures { TellsOr (IsOfChecking (F.offer files.now) named.entry.executables.now)
+        (InTurn TellsRows (TellsExecutables (F.offer files.now) named.entry.decompresses pack.now
+        named.entry.executables.now)) (O.contents out.old) (string_bytes waiting.old)
         (O.contents out.new) (string_bytes waiting.new) result }
 {
-    let of_rows = match check_indexes(file, entries, waiting, out) {
-        Ok(of_rows) => of_rows,
-        Err(failure) => return Err(failure),
-    };
-    match check_executables(rt, files, pack, named, waiting, out) {
-        Ok(of_executables) => Ok(of_rows.saturating_add(of_executables)),
+    match check_indexes(file, entries, waiting, out) {
+        Ok(of_rows) => with_rest(
+            of_rows,
+            check_executables(rt, files, pack, named, waiting, out),
+        ),
         Err(failure) => Err(failure),
     }
 }
 
 /// Prints what waits and how many units and faults there are. Answers the status.
+#[tactic(auto, using(crate::proofs::Told::none_grown))]
 fn finish<O: Write>(
     units: usize,
     faults: u64,
@@ -238,24 +234,29 @@ fn finish<O: Write>(
 }
 
 /// Prints the last text, to its end. Answers the status.
+#[tactic(auto, using(crate::proofs::Told::flushed, crate::proofs::Told::not_flushed))]
 fn print_last<O: Write>(faults: u64, text: &str, out: &mut O) -> Result<u8, Failure>
     ensures { PrintsLast faults text.now (O.contents out.old) (O.contents out.new) result }
 {
-    match put(text.as_bytes(), out) {
-        Ok(()) => {}
-        Err(_) => return Err(Failure::Line),
-    }
-    match flush(out) {
-        Ok(()) => Ok(status_of(faults)),
+    match print(text, out) {
+        Ok(()) => match flush(out) {
+            Ok(()) => Ok(status_of(faults)),
+            Err(failure) => Err(failure),
+        },
         Err(failure) => Err(failure),
     }
 }
 
-/// Prints what waits, as far as the writer takes it.
-fn give_up<O: Write>(waiting: &str, out: &mut O)
-    ensures { Grows (O.contents out.old) (O.contents out.new) }
+/// Prints what waits, as far as the writer takes it. Answers the failure.
+#[tactic(auto, using(crate::proofs::Told::appended))]
+fn give_up<O: Write>(failure: Failure, waiting: &str, out: &mut O) -> Result<u8, Failure>
+    ensures same { result ≡ Err failure }
+    ensures grown { Grows (O.contents out.old) (O.contents out.new) }
 {
-    let _ = put(waiting.as_bytes(), out);
+    match print(waiting, out) {
+        Ok(()) => Err(failure),
+        Err(_) => Err(failure),
+    }
 }
 
 /// The status: 1 where there are faults.

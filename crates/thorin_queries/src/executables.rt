@@ -1,24 +1,24 @@
 //! The units that executables name, in `thorin check`.
 
-ghost use Rattle.std.specs.Prelude.{◌≡◌, ◌≢◌, ◌++◌, OnOk, string_bytes};
+ghost use Rattle.std.specs.Prelude.{◌≡◌, ◌≢◌, ◌++◌, IfOk, OnOk, string_bytes};
 ghost use Rattle.dwp_index.specs.Package.{found};
 ghost use Rattle.thorin_executable.specs.Skeletons.{skeletons_of};
 ghost use Rattle.thorin_faults.specs.declared.fault.Error.TheVariants.{Memory};
 ghost use Rattle.thorin_queries.specs.Checking.{IsOfChecking, IsOfReading, TellsExecutables};
 ghost use Rattle.thorin_queries.specs.Checking.{TellsExecutable, TellsTaken};
-ghost use Rattle.thorin_queries.specs.Faults.{TellsListed, missing_line, missing_lines};
+ghost use Rattle.thorin_queries.specs.Faults.{TellsListed, fault_line, missing_text};
+ghost use Rattle.thorin_queries.specs.Faults.{missing_lines};
 ghost use Rattle.thorin_queries.specs.Faults.{broken_line, IsBroken};
 ghost use Rattle.thorin_queries.specs.Telling.{Tells, TellsOr, IsLine, Is};
 
-use crate::faults::pass_on;
+use crate::faults::{pass_on, tell, with_rest};
 use crate::files::{FileReader, read_named};
-use crate::finding::short_kind;
 use crate::input::plain_of;
 use crate::output::Failure;
 use bumpalo::Bump;
 use dwp_bytes::RelocationEntry;
 use dwp_index::PackageFile;
-use dwp_table::{Bucketable, DwarfObject};
+use dwp_table::DwarfObject;
 use std::alloc::{AllocError, Global};
 use std::io::Write;
 use thorin_executable::SkeletonUnits;
@@ -42,15 +42,23 @@ pub(crate) fn check_executables<F: FileReader, O: Write>(
     waiting: &mut String,
     out: &mut O,
 ) -> Result<u64, Failure>
-    ensures { TellsOr (IsOfChecking (F.offer files.now) named.executables.now)
-        (TellsExecutables (F.offer files.now) named.decompresses pack.now named.executables.now)
+    ensures { TellsOr (IsOfChecking (F.offer files.now) named.entry.executables.now)
+        (TellsExecutables (F.offer files.now) named.entry.decompresses pack.now named.entry.executables.now)
         (O.contents out.old) (string_bytes waiting.old) (O.contents out.new)
         (string_bytes waiting.new) result }
 {
     let mut faults = 0u64;
     for i in 0..named.executables.len() {
         let executable = named.executables[i];
-        match check_executable(rt, files, pack, executable, named.decompresses, waiting, out) {
+        match check_executable(
+            rt,
+            files,
+            pack,
+            executable,
+            named.decompresses,
+            waiting,
+            out,
+        ) {
             Ok(found) => faults = faults.saturating_add(found),
             Err(failure) => return Err(failure),
         }
@@ -59,6 +67,7 @@ pub(crate) fn check_executables<F: FileReader, O: Write>(
 }
 
 /// Each split unit that an executable names is in the package. Answers the number of faults.
+#[tactic(auto, using(crate::proofs::Checked::executable_read, crate::proofs::Checked::executable_unread))]
 fn check_executable<F: FileReader, O: Write>(
     rt: &HostRuntime,
     files: &F,
@@ -88,6 +97,7 @@ fn check_executable<F: FileReader, O: Write>(
 }
 
 /// The same of the bytes of an executable, decompressed where that is asked for.
+#[tactic(auto, using(crate::proofs::Checked::taken_as_it_is, crate::proofs::Checked::taken_plain, crate::proofs::Told::none_grown))]
 fn check_read<O: Write>(
     rt: &HostRuntime,
     pack: &PackageFile<'_>,
@@ -168,16 +178,16 @@ fn check_skeletons<O: Write>(
                 }
             }
             Ok(None) => return Ok(faults),
-            Err(fault) => match tell_fault(executable, &fault, waiting, out) {
-                Ok(found) => return Ok(faults.saturating_add(found)),
-                Err(failure) => return Err(failure),
-            },
+            Err(fault) => {
+                return with_rest(faults, tell_fault(executable, &fault, waiting, out));
+            }
         }
     }
 }
 
 /// A unit that an executable names is in the package; what a slot names and can't be read was told
 /// with its unit. Answers the number of faults.
+#[tactic(auto, using(crate::proofs::Skeletons::missing_none, crate::proofs::Skeletons::missing_some, crate::proofs::Skeletons::missing_unread))]
 fn check_skeleton<O: Write>(
     pack: &PackageFile<'_>,
     executable: &str,
@@ -199,6 +209,7 @@ fn check_skeleton<O: Write>(
 
 /// Tells that the package lacks a unit that an executable names, and the path of its object.
 /// Answers the number of faults, 1.
+#[tactic(auto, using(crate::proofs::Faulted::told_text, crate::proofs::Told::none_grown))]
 fn tell_missing<O: Write>(
     object: DwarfObject,
     executable: &str,
@@ -206,35 +217,23 @@ fn tell_missing<O: Write>(
     waiting: &mut String,
     out: &mut O,
 ) -> Result<u64, Failure>
-    ensures { Tells (IsLine (missing_line object executable.now path.now)) (O.contents out.old)
+    ensures { Tells (IsLine (fault_line object (missing_text executable.now path.now))) (O.contents out.old)
         (string_bytes waiting.old) (O.contents out.new) (string_bytes waiting.new) result }
 {
-    match put_missing(object, executable, path, waiting) {
-        Ok(()) => pass_on(waiting, out),
+    match missing_text(*waiting.allocator(), executable, path) {
+        Ok(text) => tell(object, text.as_str(), waiting, out),
         Err(_) => Err(Failure::Memory),
     }
 }
 
-/// Adds the line of a unit that the package lacks.
-#[tactic(auto, using(crate::proofs::Hex::hex16_written), unfolding(crate::specs::Faults::missing_line))]
-fn put_missing(
-    object: DwarfObject,
-    executable: &str,
-    path: &str,
-    waiting: &mut String,
-) -> Result<(), AllocError>
-    ensures { OnOk result (string_bytes waiting.new
-        ≡ string_bytes waiting.old ++ missing_line object executable.now path.now) }
+fn missing_text(alloc: Global, executable: &str, path: &str) -> Result<String, AllocError>
+    ensures { IfOk result (λ text. string_bytes text ≡ missing_text executable.now path.now) }
 {
-    let kind = short_kind(object);
-    let id = object.index();
-    writeln!(
-        waiting,
-        "{kind} 0x{id:016x}: not in the package, {executable} names {path}"
-    )
+    format!(in alloc; "not in the package, {executable} names {path}")
 }
 
 /// Tells why an executable can't be read to its end. Answers the number of faults, 1.
+#[tactic(auto, using(crate::proofs::Faulted::broken, crate::proofs::Told::none_grown))]
 fn tell_fault<O: Write>(
     executable: &str,
     fault: &Error,
@@ -259,6 +258,7 @@ fn fault_text(alloc: Global, fault: &Error) -> Result<String, AllocError> {
 }
 
 /// Tells that an executable can't be read to its end. Answers the number of faults, 1.
+#[tactic(auto, using(crate::proofs::Told::passed, crate::proofs::Told::none_grown))]
 fn tell_broken<O: Write>(
     executable: &str,
     text: &str,

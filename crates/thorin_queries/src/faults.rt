@@ -1,11 +1,11 @@
 //! Lines that tell of faults. They wait until they are many, and then go to a writer.
 
 ghost use Rattle.std.specs.Prelude.{◌≡◌, ◌++◌, OnOk, string_bytes};
-ghost use Rattle.thorin_queries.specs.Telling.{Tells, Passes, PassesOne, IsLine};
+ghost use Rattle.thorin_queries.specs.Telling.{Tells, Passes, PassesOne, IsLine, IsSum};
 ghost use Rattle.thorin_queries.specs.Faults.{fault_line};
 
 use crate::finding::short_kind;
-use crate::output::{Failure, put};
+use crate::output::{Failure, print};
 use dwp_table::{Bucketable, DwarfObject};
 use std::alloc::AllocError;
 use std::io::Write;
@@ -17,15 +17,20 @@ const MANY: usize = 8192;
 ///
 /// # Errors
 /// `Line` where the writer doesn't take all.
-pub(crate) fn hand_over<O: Write>(waiting: &mut String, out: &mut O) -> Result<(), Failure>
+#[tactic(auto, using(crate::proofs::Told::handed_over))]
+fn hand_over<O: Write>(waiting: &mut String, out: &mut O) -> Result<(), Failure>
     ensures { Passes (O.contents out.old) (string_bytes waiting.old) (O.contents out.new)
         (string_bytes waiting.new) result }
 {
-    let outcome = put(waiting.as_str().as_bytes(), out);
-    waiting.clear();
-    match outcome {
-        Ok(()) => Ok(()),
-        Err(_) => Err(Failure::Line),
+    match print(waiting.as_str(), out) {
+        Ok(()) => {
+            waiting.clear();
+            Ok(())
+        }
+        Err(failure) => {
+            waiting.clear();
+            Err(failure)
+        }
     }
 }
 
@@ -34,6 +39,7 @@ pub(crate) fn hand_over<O: Write>(waiting: &mut String, out: &mut O) -> Result<(
 ///
 /// # Errors
 /// Those of `hand_over`.
+#[tactic(auto, using(crate::proofs::Told::none_waits))]
 pub(crate) fn pass_on<O: Write>(waiting: &mut String, out: &mut O) -> Result<u64, Failure>
     ensures { PassesOne (O.contents out.old) (string_bytes waiting.old) (O.contents out.new)
         (string_bytes waiting.new) result }
@@ -48,6 +54,7 @@ pub(crate) fn pass_on<O: Write>(waiting: &mut String, out: &mut O) -> Result<u64
 }
 
 /// Tells a fault of a unit. Answers the number of faults, 1.
+#[tactic(auto, using(crate::proofs::Told::passed, crate::proofs::Told::none_grown))]
 pub(crate) fn tell<O: Write>(
     object: DwarfObject,
     text: &str,
@@ -72,4 +79,14 @@ fn put_fault(object: DwarfObject, text: &str, waiting: &mut String) -> Result<()
     let kind = short_kind(object);
     let id = object.index();
     writeln!(waiting, "{kind} 0x{id:016x}: {text}")
+}
+
+/// A number of faults, and those that are told behind them.
+pub(crate) fn with_rest(first: u64, rest: Result<u64, Failure>) -> Result<u64, Failure>
+    ensures { IsSum first rest result }
+{
+    match rest {
+        Ok(rest) => Ok(first.saturating_add(rest)),
+        Err(failure) => Err(failure),
+    }
 }

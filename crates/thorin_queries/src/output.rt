@@ -3,7 +3,7 @@
 ghost use Rattle.std.specs.Prelude.{◌≤◌, length, take, IfOk, IfErr, OnOk, OnErr};
 ghost use Rattle.std.specs.Io.KnownBytes.{Appends, Keeps};
 ghost use Rattle.thorin_queries.specs.Answers.{HasBeginning, Comes};
-ghost use Rattle.thorin_queries.specs.Telling.{IsOfPrinting};
+ghost use Rattle.thorin_queries.specs.Telling.{IsOfPrinting, Prints};
 
 use std::alloc::{AllocError, AllocFailed, Global};
 use std::fmt;
@@ -115,7 +115,7 @@ pub(crate) fn answer<O: Write>(
 ///
 /// # Errors
 /// `Line` where it doesn't take all.
-pub(crate) fn put<O: Write>(bytes: &[u8], out: &mut O) -> Result<(), Failure>
+fn put<O: Write>(bytes: &[u8], out: &mut O) -> Result<(), Failure>
     ensures whole { OnOk result (Appends (O.contents out.old) (O.contents out.new) bytes.now) }
     ensures part { OnErr result (HasBeginning (O.contents out.old) (O.contents out.new)
         bytes.now) }
@@ -152,6 +152,20 @@ fn put_some<O: Write>(bytes: &[u8], out: &mut O) -> Result<usize, Failure>
                 Err(Failure::Line)
             }
         }
+    }
+}
+
+/// Prints a text.
+///
+/// # Errors
+/// `Line` where the writer doesn't take all.
+#[tactic(auto, using(crate::proofs::Told::begun))]
+pub(crate) fn print<O: Write>(text: &str, out: &mut O) -> Result<(), Failure>
+    ensures { Prints text.now (O.contents out.old) (O.contents out.new) result }
+{
+    match put(text.as_bytes(), out) {
+        Ok(()) => Ok(()),
+        Err(_) => Err(Failure::Line),
     }
 }
 

@@ -2,10 +2,10 @@
 
 ghost use Rattle.std.specs.Prelude.{◌≡◌, ◌++◌, codes, OnOk, string_bytes};
 ghost use Rattle.thorin_queries.specs.Checking.{TellsRows};
-ghost use Rattle.thorin_queries.specs.Faults.{row_line, AreRows};
+ghost use Rattle.thorin_queries.specs.Faults.{row_line, AreRows, TellsGap};
 ghost use Rattle.thorin_queries.specs.Telling.{Tells, IsLine};
 
-use crate::faults::pass_on;
+use crate::faults::{pass_on, with_rest};
 use crate::input::row_count;
 use crate::listing::is_type;
 use crate::output::Failure;
@@ -16,6 +16,7 @@ use std::io::Write;
 
 /// A slot names each row of both indexes; `entries` are in the order of rows. Answers the number of
 /// faults.
+#[tactic(auto, using(crate::proofs::Told::in_turn_or))]
 pub(crate) fn check_indexes<O: Write>(
     file: &ElfFile<'_>,
     entries: &[UnitEntry],
@@ -26,18 +27,20 @@ pub(crate) fn check_indexes<O: Write>(
         (string_bytes waiting.new) result }
 {
     let rows = row_count(file, SectionKind::CuIndex);
-    let compilations = match check_rows("cu", entries, false, rows, waiting, out) {
-        Ok(compilations) => compilations,
-        Err(failure) => return Err(failure),
-    };
-    let rows = row_count(file, SectionKind::TuIndex);
-    match check_rows("tu", entries, true, rows, waiting, out) {
-        Ok(types) => Ok(compilations.saturating_add(types)),
+    match check_rows("cu", entries, false, rows, waiting, out) {
+        Ok(compilations) => {
+            let rows = row_count(file, SectionKind::TuIndex);
+            with_rest(
+                compilations,
+                check_rows("tu", entries, true, rows, waiting, out),
+            )
+        }
         Err(failure) => Err(failure),
     }
 }
 
 /// A slot names each row of an index. Answers the number of faults.
+#[tactic(auto, using(crate::proofs::Faulted::rows_or))]
 fn check_rows<O: Write>(
     kind: &str,
     entries: &[UnitEntry],
@@ -49,21 +52,60 @@ fn check_rows<O: Write>(
     ensures { Tells (AreRows kind.now) (O.contents out.old) (string_bytes waiting.old)
         (O.contents out.new) (string_bytes waiting.new) result }
 {
-    let mut faults = 0u64;
     let end = u64::from(rows) + 1;
+    match tell_gaps(kind, entries, is_types, end, waiting, out) {
+        Ok((faults, next)) => with_rest(faults, tell_rows(kind, next, end, waiting, out)),
+        Err(failure) => Err(failure),
+    }
+}
+
+/// Tells each row before that of a slot. Answers the number of faults, and the row to go on with.
+fn tell_gaps<O: Write>(
+    kind: &str,
+    entries: &[UnitEntry],
+    is_types: bool,
+    end: u64,
+    waiting: &mut String,
+    out: &mut O,
+) -> Result<(u64, u64), Failure>
+    ensures { TellsGap kind.now (O.contents out.old) (string_bytes waiting.old)
+        (O.contents out.new) (string_bytes waiting.new) result }
+{
+    let mut faults = 0u64;
     let mut next = 1u64;
     for i in 0..entries.len() {
-        let row = u64::from(entries[i].row);
-        if is_type(entries[i].object) == is_types && next <= row && row < end {
-            match tell_rows(kind, next, row, waiting, out) {
-                Ok(found) => faults = faults.saturating_add(found),
-                Err(failure) => return Err(failure),
+        match tell_gap(kind, entries[i], is_types, next, end, waiting, out) {
+            Ok((found, after)) => {
+                faults = faults.saturating_add(found);
+                next = after;
             }
-            next = row + 1;
+            Err(failure) => return Err(failure),
         }
     }
-    match tell_rows(kind, next, end, waiting, out) {
-        Ok(found) => Ok(faults.saturating_add(found)),
+    Ok((faults, next))
+}
+
+/// Tells each row from one up to that of a slot, where the slot is of the kind and its row isn't
+/// before the one or past the rows. Answers the number of faults, and the row to go on with.
+#[tactic(auto, using(crate::proofs::Faulted::no_rows))]
+fn tell_gap<O: Write>(
+    kind: &str,
+    entry: UnitEntry,
+    is_types: bool,
+    next: u64,
+    end: u64,
+    waiting: &mut String,
+    out: &mut O,
+) -> Result<(u64, u64), Failure>
+    ensures { TellsGap kind.now (O.contents out.old) (string_bytes waiting.old)
+        (O.contents out.new) (string_bytes waiting.new) result }
+{
+    let row = u64::from(entry.row);
+    if is_type(entry.object) != is_types || row < next || end <= row {
+        return Ok((0, next));
+    }
+    match tell_rows(kind, next, row, waiting, out) {
+        Ok(found) => Ok((found, row + 1)),
         Err(failure) => Err(failure),
     }
 }
@@ -90,6 +132,7 @@ fn tell_rows<O: Write>(
 }
 
 /// Tells that no slot names a row. Answers the number of faults, 1.
+#[tactic(auto, using(crate::proofs::Told::passed, crate::proofs::Told::none_grown))]
 fn tell_row<O: Write>(
     kind: &str,
     row: u64,

@@ -1,6 +1,6 @@
 //! The strings of a package's units, in `thorin check`.
 
-ghost use Rattle.std.specs.Prelude.{◌≡◌, string_bytes, IfOk};
+ghost use Rattle.std.specs.Prelude.{◌≡◌, ℕ, List, Err, IfOk, string_bytes};
 ghost use Rattle.dwp_index.specs.Package.{found};
 ghost use Rattle.thorin_queries.specs.Checking.{TellsSomeStrings};
 ghost use Rattle.thorin_queries.specs.Faults.{TellsStringsOf, TellsStrings, TellsString};
@@ -48,6 +48,7 @@ fn string_range(unit: &PackagedUnit<'_>) -> Option<StringRange> {
 }
 
 /// Checks the strings of a unit of each range. Answers the number of faults.
+#[tactic(auto, using(crate::proofs::Faulted::some_strings, crate::proofs::Told::none_grown))]
 pub(crate) fn check_strings<O: Write>(
     pack: &PackageFile<'_>,
     strings: &mut Vec<(StringRange, DwarfObject)>,
@@ -87,6 +88,7 @@ fn check_distinct<O: Write>(
 }
 
 /// Checks the strings of a unit. Answers the number of faults.
+#[tactic(auto, using(crate::proofs::Faulted::strings_none, crate::proofs::Faulted::strings_unread, crate::proofs::Faulted::strings_some))]
 fn check_strings_of<O: Write>(
     pack: &PackageFile<'_>,
     object: DwarfObject,
@@ -104,7 +106,6 @@ fn check_strings_of<O: Write>(
 }
 
 /// Reads each string of a unit. Answers the number of faults.
-#[tactic(auto, unfolding(crate::specs::Faults::TellsStrings))]
 fn check_each_string<O: Write>(
     object: DwarfObject,
     unit: &PackagedUnit<'_>,
@@ -125,6 +126,7 @@ fn check_each_string<O: Write>(
 }
 
 /// Reads a string of a unit. Answers the number of faults.
+#[tactic(auto, using(crate::proofs::Faulted::string_read))]
 fn check_string<O: Write>(
     object: DwarfObject,
     unit: &PackagedUnit<'_>,
@@ -142,6 +144,7 @@ fn check_string<O: Write>(
 }
 
 /// Tells that a string can't be read. Answers the number of faults, 1.
+#[tactic(auto, using(crate::proofs::Faulted::told_string, crate::proofs::Told::none_grown))]
 fn tell_string<O: Write>(
     object: DwarfObject,
     i: u64,

@@ -6,12 +6,11 @@ ghost use Rattle.dwp_base.specs.Sections.{name_of};
 ghost use Rattle.dwp_index.specs.declared.fault.PackageError.TheVariants as faults;
 ghost use Rattle.thorin_queries.specs.Checking.{TellsUnits};
 ghost use Rattle.thorin_queries.specs.Faults.{TellsUnit, TellsFound, TellsOwn, IsUnread};
-ghost use Rattle.thorin_queries.specs.Faults.{IsSomeFault, fault_line, own_identifier, other_text};
-ghost use Rattle.thorin_queries.specs.Own.{Remembers};
+ghost use Rattle.thorin_queries.specs.Faults.{IsSomeFault, fault_line};
 ghost use Rattle.thorin_queries.specs.Telling.{Tells, ForEach, IsLine};
 
 use crate::abbreviations::{OwnFault, Remembered, own_identifier};
-use crate::faults::tell;
+use crate::faults::{tell, with_rest};
 use crate::finding::short_kind;
 use crate::output::Failure;
 use crate::strings::{StringRange, add_range, check_strings};
@@ -23,6 +22,7 @@ use std::io::Write;
 
 /// Checks each unit that a slot names, then the strings of each range of string offsets. Answers
 /// the number of faults.
+#[tactic(auto, using(crate::proofs::Told::in_turn_or))]
 pub(crate) fn check_units<O: Write>(
     alloc: Global,
     pack: &PackageFile<'_>,
@@ -31,13 +31,12 @@ pub(crate) fn check_units<O: Write>(
     waiting: &mut String,
     out: &mut O,
 ) -> Result<u64, Failure>
-    requires { pack.now.order ≡ order }
     ensures { Tells (TellsUnits pack.now entries.now) (O.contents out.old)
         (string_bytes waiting.old) (O.contents out.new) (string_bytes waiting.new) result }
 {
     let mut strings = Vec::new(alloc);
     let mut abbreviations = Remembered::new(alloc, order);
-    let of_units = match check_each(
+    match check_each(
         pack,
         &mut abbreviations,
         entries,
@@ -45,11 +44,7 @@ pub(crate) fn check_units<O: Write>(
         waiting,
         out,
     ) {
-        Ok(of_units) => of_units,
-        Err(failure) => return Err(failure),
-    };
-    match check_strings(pack, &mut strings, waiting, out) {
-        Ok(of_strings) => Ok(of_units.saturating_add(of_strings)),
+        Ok(of_units) => with_rest(of_units, check_strings(pack, &mut strings, waiting, out)),
         Err(failure) => Err(failure),
     }
 }
@@ -64,7 +59,6 @@ fn check_each<'a, O: Write>(
     waiting: &mut String,
     out: &mut O,
 ) -> Result<u64, Failure>
-    requires { Remembers pack.now.order pack.now.contents abbreviations.old }
     ensures { Tells (ForEach (TellsUnit pack.now) entries.now) (O.contents out.old)
         (string_bytes waiting.old) (O.contents out.new) (string_bytes waiting.new) result }
 {
@@ -79,7 +73,7 @@ fn check_each<'a, O: Write>(
 }
 
 /// Checks the unit that a slot names. Answers the number of faults.
-#[tactic(auto, unfolding(crate::specs::Faults::TellsUnit))]
+#[tactic(auto, using(crate::proofs::Faulted::unit_none, crate::proofs::Faulted::unit_some, crate::proofs::Faulted::unit_unread))]
 fn check_entry<'a, O: Write>(
     pack: &PackageFile<'a>,
     abbreviations: &mut Remembered<'a>,
@@ -88,9 +82,7 @@ fn check_entry<'a, O: Write>(
     waiting: &mut String,
     out: &mut O,
 ) -> Result<u64, Failure>
-    requires { Remembers pack.now.order pack.now.contents abbreviations.old }
-    ensures kept { Remembers pack.now.order pack.now.contents abbreviations.new }
-    ensures told { Tells (TellsUnit pack.now entry) (O.contents out.old)
+    ensures { Tells (TellsUnit pack.now entry) (O.contents out.old)
         (string_bytes waiting.old) (O.contents out.new) (string_bytes waiting.new) result }
 {
     match pack.find(entry.object) {
@@ -101,6 +93,7 @@ fn check_entry<'a, O: Write>(
 }
 
 /// Checks the unit that is found under the identifier of a slot. Answers the number of faults.
+#[tactic(auto, using(crate::proofs::Faulted::in_row, crate::proofs::Faulted::other_row))]
 fn check_found<'a, O: Write>(
     abbreviations: &mut Remembered<'a>,
     entry: UnitEntry,
@@ -109,9 +102,7 @@ fn check_found<'a, O: Write>(
     waiting: &mut String,
     out: &mut O,
 ) -> Result<u64, Failure>
-    requires { Remembers abbreviations.old.order unit.now.contents abbreviations.old }
-    ensures kept { Remembers abbreviations.old.order unit.now.contents abbreviations.new }
-    ensures told { Tells (TellsFound abbreviations.old.order entry unit.now) (O.contents out.old)
+    ensures { Tells (TellsFound entry unit.now) (O.contents out.old)
         (string_bytes waiting.old) (O.contents out.new) (string_bytes waiting.new) result }
 {
     if unit.row() == entry.row {
@@ -123,6 +114,7 @@ fn check_found<'a, O: Write>(
 
 /// Checks the identifier that a unit's own bytes give, and gathers the range of its string offsets
 /// where it is its own. Answers the number of faults.
+#[tactic(auto, using(crate::proofs::Faulted::own_none, crate::proofs::Faulted::own_some, crate::proofs::Faulted::own_line, crate::proofs::Told::none_grown))]
 fn check_own<'a, O: Write>(
     abbreviations: &mut Remembered<'a>,
     object: DwarfObject,
@@ -131,10 +123,7 @@ fn check_own<'a, O: Write>(
     waiting: &mut String,
     out: &mut O,
 ) -> Result<u64, Failure>
-    requires { Remembers abbreviations.old.order unit.now.contents abbreviations.old }
-    ensures kept { Remembers abbreviations.old.order unit.now.contents abbreviations.new }
-    ensures told { Tells (TellsOwn object (own_identifier abbreviations.old.order unit.now object))
-        (O.contents out.old) (string_bytes waiting.old) (O.contents out.new)
+    ensures { Tells (TellsOwn object) (O.contents out.old) (string_bytes waiting.old) (O.contents out.new)
         (string_bytes waiting.new) result }
 {
     match own_identifier(unit, abbreviations, object) {
@@ -154,6 +143,7 @@ fn check_own<'a, O: Write>(
 }
 
 /// Tells that a unit is found in another row. Answers the number of faults, 1.
+#[tactic(auto, using(crate::proofs::Faulted::told_text, crate::proofs::Told::none_grown))]
 fn tell_row<O: Write>(
     object: DwarfObject,
     row: u32,
@@ -177,14 +167,15 @@ fn row_text(alloc: Global, row: u32) -> Result<String, AllocError>
 }
 
 /// Tells that a unit has the identifier of another. Answers the number of faults, 1.
+#[tactic(auto, using(crate::proofs::Faulted::some_fault, crate::proofs::Told::none_grown))]
 fn tell_other<O: Write>(
     object: DwarfObject,
     own: DwarfObject,
     waiting: &mut String,
     out: &mut O,
 ) -> Result<u64, Failure>
-    ensures { Tells (IsLine (fault_line object (other_text own))) (O.contents out.old)
-        (string_bytes waiting.old) (O.contents out.new) (string_bytes waiting.new) result }
+    ensures { Tells (IsSomeFault object) (O.contents out.old) (string_bytes waiting.old)
+        (O.contents out.new) (string_bytes waiting.new) result }
 {
     match other_text(*waiting.allocator(), own) {
         Ok(text) => tell(object, text.as_str(), waiting, out),
@@ -192,10 +183,7 @@ fn tell_other<O: Write>(
     }
 }
 
-#[tactic(auto, using(crate::proofs::Hex::hex16_written))]
-fn other_text(alloc: Global, own: DwarfObject) -> Result<String, AllocError>
-    ensures { IfOk result (λ text. string_bytes text ≡ other_text own) }
-{
+fn other_text(alloc: Global, own: DwarfObject) -> Result<String, AllocError> {
     let kind = short_kind(own);
     let id = own.index();
     format!(in alloc; "its own identifier is {kind} 0x{id:016x}")
@@ -220,6 +208,7 @@ fn tell_unread<O: Write>(
 }
 
 /// Tells that a unit's range is outside its section. Answers the number of faults, 1.
+#[tactic(auto, using(crate::proofs::Faulted::told_text, crate::proofs::Told::none_grown))]
 fn tell_outside<O: Write>(
     object: DwarfObject,
     kind: SectionKind,
@@ -244,6 +233,7 @@ fn outside_text(alloc: Global, kind: SectionKind) -> Result<String, AllocError>
 }
 
 /// Tells another error of the package reader. Answers the number of faults, 1.
+#[tactic(auto, using(crate::proofs::Faulted::some_fault, crate::proofs::Told::none_grown))]
 fn tell_fault<O: Write>(
     object: DwarfObject,
     fault: PackageError,
@@ -264,6 +254,7 @@ fn fault_text(alloc: Global, fault: PackageError) -> Result<String, AllocError> 
 }
 
 /// Tells why a unit's own identifier can't be read. Answers the number of faults, 1.
+#[tactic(auto, using(crate::proofs::Faulted::some_fault, crate::proofs::Told::none_grown))]
 fn tell_own_fault<O: Write>(
     object: DwarfObject,
     fault: &OwnFault,
