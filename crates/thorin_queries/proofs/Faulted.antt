@@ -1,17 +1,27 @@
 -- Faults that were told.
 use Rattle.std.proofs.Common.{◌≡◌, ◌∙◌, ◌≢◌, ℕ, List, [], ◌∷◌, ◌++◌, codes, map, refl, sym, ap, subst}
-use Rattle.std.proofs.Common.{inl, inr}
-use Rattle.std.specs.Prelude.{Option, Result, Ok, Err}
+use Rattle.std.proofs.Common.{inl, inr, arith, min, ◌+◌, ◌-◌, ◌^◌}
+use Rattle.std.specs.List.{range_with_len}
+use Rattle.std.proofs.lemmas.List.FromFn.{map-range_with_len_more}
+use Rattle.thorin_queries.specs.Finding.{string_count}
+use Rattle.thorin_queries.specs.Faults.{string_of}
+use Rattle.std.specs.Prelude.{Option, Some, None, Result, Ok, Err}
 use Rattle.std.specs.Fmt.{decimal}
 use Rattle.dwp_bytes.specs.declared.fault.ReadError.{ReadError}
-use Rattle.dwp_index.specs.Package.{FoundUnit}
+use Rattle.dwp_index.specs.Package.{Package, FoundUnit, found}
+use Rattle.dwp_index.specs.declared.fault.PackageError.{PackageError}
 use Rattle.dwp_index.specs.declared.units.UnitEntry.{UnitEntry}
 use Rattle.dwp_table.specs.declared.object.DwarfObject.{DwarfObject}
 use Rattle.thorin_queries.specs.Faults.{fault_line, IsSomeFault, TellsOwn, TellsFound, string_text}
 use Rattle.thorin_queries.specs.Faults.{TellsString, row_line, AreRows, broken_line, IsBroken}
-use Rattle.thorin_queries.specs.Telling.{Told, Tells, IsNone, IsLine}
+use Rattle.thorin_queries.specs.Faults.{TellsUnit, IsUnread, TellsStrings, TellsStringsOf}
+use Rattle.thorin_queries.specs.Faults.{TellsNumbered}
+use Rattle.thorin_queries.specs.Checking.{TellsSomeStrings}
+use Rattle.thorin_queries.specs.Telling.{Told, TellsOr, Tells, IsNone, IsLine, IsSum, InTurn}
+use Rattle.thorin_queries.specs.Telling.{ForEach}
 use Rattle.thorin_queries.specs.declared.output.Failure.{Failure}
-use Rattle.thorin_queries.proofs.Told.{told_as, none_told, tells_as, rows_more}
+use Rattle.thorin_queries.proofs.Told.{told_as, none_told, tells_as, rows_more, then_or}
+use Rattle.thorin_queries.proofs.Told.{told_then, for_each_more}
 
 module _ (object : DwarfObject) (a : Option (List ℕ)) (held : List ℕ) (b : Option (List ℕ))
     (left : List ℕ) (result : Result ℕ Failure) where
@@ -85,3 +95,121 @@ pub broken : (executable : List ℕ) (a : Option (List ℕ)) (held : List ℕ) (
 broken executable a held b left result text h =
     tells_as (IsLine (broken_line executable text)) (IsBroken executable) a held b left result
     (λ lines e. (text, e)) h
+
+module _ (kind : List ℕ) (a b c : Option (List ℕ)) (held mid left : List ℕ) (m : ℕ) where
+  pub rows_or : (rest result : Result ℕ Failure) → IsSum m rest result
+      → Told (AreRows kind) a held b mid m → Tells (AreRows kind) b mid c left rest
+      → Tells (AreRows kind) a held c left result
+  rows_or rest result e p q =
+      then_or (AreRows kind) (AreRows kind) (AreRows kind) _ a b c held mid left m (rows_then kind)
+      rest result e p q
+
+-- ---- units
+
+module _ (pack : Package) (entry : UnitEntry) (a : Option (List ℕ)) (held : List ℕ)
+    (b : Option (List ℕ)) (left : List ℕ) (result : Result ℕ Failure) where
+  pub unit_none : found pack entry.object ≡ Ok None
+      → Tells (IsLine (fault_line entry.object (codes "not found under its identifier"))) a held b
+      left result
+      → Tells (TellsUnit pack entry) a held b left result
+  unfolding TellsUnit
+  unit_none e h =
+      tells_as (IsLine (fault_line entry.object (codes "not found under its identifier")))
+      (TellsUnit pack entry) a held b left result (λ lines l. rw e l) h
+
+  pub unit_some : (unit : FoundUnit) → found pack entry.object ≡ Ok (Some unit)
+      → Tells (TellsFound entry unit) a held b left result
+      → Tells (TellsUnit pack entry) a held b left result
+  unfolding TellsUnit
+  unit_some unit e h =
+      tells_as (TellsFound entry unit) (TellsUnit pack entry) a held b left result
+      (λ lines l. rw e l) h
+
+  pub unit_unread : (cause : PackageError) → found pack entry.object ≡ Err cause
+      → Tells (IsUnread entry.object cause) a held b left result
+      → Tells (TellsUnit pack entry) a held b left result
+  unfolding TellsUnit
+  unit_unread cause e h =
+      tells_as (IsUnread entry.object cause) (TellsUnit pack entry) a held b left result
+      (λ lines l. rw e l) h
+
+-- ---- strings
+
+pub string_read : (object : DwarfObject) (i : ℕ) (read : Result (Option (List ℕ)) ReadError)
+    (string : Option (List ℕ)) (a : Option (List ℕ)) (held : List ℕ) → read ≡ Ok string
+    → Told (TellsString object i read) a held a held 0
+string_read object i read string a held e =
+    subst (λ r. Told (TellsString object i r) a held a held 0) (sym e)
+    (none_told (TellsString object i (Ok string)) refl a held)
+
+module _ (object : DwarfObject) (looked : Result (Option FoundUnit) PackageError)
+    (a : Option (List ℕ)) (held : List ℕ) where
+  pub strings_none : looked ≡ Ok None → Told (TellsStringsOf object looked) a held a held 0
+  strings_none e = subst (λ r. Told (TellsStringsOf object r) a held a held 0) (sym e)
+      (none_told (TellsStringsOf object (Ok None)) refl a held)
+
+  pub strings_unread : (cause : PackageError) → looked ≡ Err cause
+      → Told (TellsStringsOf object looked) a held a held 0
+  strings_unread cause e = subst (λ r. Told (TellsStringsOf object r) a held a held 0) (sym e)
+      (none_told (TellsStringsOf object (Err cause)) refl a held)
+
+  pub strings_some : (b : Option (List ℕ)) (left : List ℕ) (result : Result ℕ Failure)
+      (unit : FoundUnit) → looked ≡ Ok (Some unit)
+      → Tells (TellsStrings object unit) a held b left result
+      → Tells (TellsStringsOf object looked) a held b left result
+  strings_some b left result unit e h =
+      subst (λ r. Tells (TellsStringsOf object r) a held b left result) (sym e) h
+
+module _ (object : DwarfObject) (unit : FoundUnit) (i : ℕ) {a b : Option (List ℕ)}
+    {held mid : List ℕ} {m : ℕ} where
+  -- one more string
+  pub string_told : {c : Option (List ℕ)} {left : List ℕ} {n : ℕ} (count : ℕ)
+      → count ≡ min (m + n) (2 ^ 64 - 1)
+      → Told (ForEach (TellsNumbered object)
+      (map (λ k. (k, string_of unit k)) (range_with_len 0 i))) a held b mid m
+      → Told (TellsString object i (string_of unit i)) b mid c left n
+      → Told (ForEach (TellsNumbered object)
+      (map (λ k. (k, string_of unit k)) (range_with_len 0 (i + 1)))) a held c left count
+  string_told count e p q =
+      told_then (ForEach (TellsNumbered object)
+      (map (λ k. (k, string_of unit k)) (range_with_len 0 i)))
+      (TellsString object i (string_of unit i))
+      (ForEach (TellsNumbered object)
+      (map (λ k. (k, string_of unit k)) (range_with_len 0 (i + 1))))
+      (λ ls ms h k. subst (λ l. ForEach (TellsNumbered object) l (ls ++ ms))
+      (sym (map-range_with_len_more (λ j. (j, string_of unit j)) 0 i i (omega arith)))
+      (for_each_more (TellsNumbered object)
+      (map (λ j. (j, string_of unit j)) (range_with_len 0 i)) (i, string_of unit i) ls ms h k))
+      count e p q
+
+  -- all of them
+  pub strings_told : i ≡ string_count unit
+      → Told (ForEach (TellsNumbered object)
+      (map (λ k. (k, string_of unit k)) (range_with_len 0 i))) a held b mid m
+      → Told (TellsStrings object unit) a held b mid m
+  strings_told e t = subst (λ n. Told (ForEach (TellsNumbered object)
+      (map (λ k. (k, string_of unit k)) (range_with_len 0 n))) a held b mid m) e t
+
+for_each_of : {X Y : Type 0} (P : Y → List (List ℕ) → Type 0) (f : X → Y) (xs : List X)
+    (lines : List (List ℕ)) → ForEach (λ x. P (f x)) xs lines → ForEach P (map f xs) lines
+for_each_of P f [] lines h = h
+for_each_of P f (x ∷ xs) lines h = record {
+  first = h.first;
+  rest = h.rest;
+  is_first = h.is_first;
+  is_rest = for_each_of P f xs h.rest h.is_rest;
+  all = h.all;
+}
+
+pub some_strings : {R : Type 0} (pack : Package) (strings : List (R × DwarfObject))
+    (a : Option (List ℕ)) (held : List ℕ) (b : Option (List ℕ)) (left : List ℕ)
+    (result : Result ℕ Failure)
+    → Tells (ForEach (λ s. TellsStringsOf s.1 (found pack s.1)) strings) a held b left result
+    → Tells (TellsSomeStrings pack) a held b left result
+some_strings pack strings a held b left result h =
+    tells_as (ForEach (λ s. TellsStringsOf s.1 (found pack s.1)) strings) (TellsSomeStrings pack) a
+    held b left result
+    (λ lines l. (
+      map (λ s. s.1) strings,
+      for_each_of (λ o. TellsStringsOf o (found pack o)) (λ s. s.1) strings lines l,
+    )) h

@@ -1,8 +1,12 @@
 mod Asked
+mod Checked
 mod Faulted
+mod FirstSection
 mod Hex
+mod Indexed
 mod Lines
 mod Listed
 mod Printed
+mod Skeletons
 mod Told
 mod Walk

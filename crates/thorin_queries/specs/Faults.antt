@@ -78,11 +78,17 @@ abbrev pub string_of : FoundUnit → ℕ → Result (Option (List ℕ)) ReadErro
 string_of unit i = string_in unit.order unit.encoding unit.contents.strings
     (row_bytes unit.contents unit.row StrOffsets) i
 
+-- the strings of a unit, each with its number
+abbrev pub strings_of : FoundUnit → List (ℕ × Result (Option (List ℕ)) ReadError)
+strings_of unit = map (λ i. (i, string_of unit i)) (range_with_len 0 (string_count unit))
+
+abbrev pub TellsNumbered : DwarfObject → ℕ × Result (Option (List ℕ)) ReadError → List (List ℕ)
+    → Type 0
+TellsNumbered object s lines = TellsString object s.0 s.1 lines
+
 -- what is told of all strings of a unit
-unfoldable pub TellsStrings : DwarfObject → FoundUnit → List (List ℕ) → Type 0
-TellsStrings object unit lines =
-    ForEach (λ i. TellsString object i (string_of unit i)) (range_with_len 0 (string_count unit))
-    lines
+abbrev pub TellsStrings : DwarfObject → FoundUnit → List (List ℕ) → Type 0
+TellsStrings object unit lines = ForEach (TellsNumbered object) (strings_of unit) lines
 
 abbrev pub TellsStringsOf : DwarfObject → Result (Option FoundUnit) PackageError
     → List (List ℕ) → Type 0

@@ -1,6 +1,7 @@
 //! `thorin check`.
 
-ghost use Rattle.std.specs.Prelude.{◌≡◌, ◌++◌, Err, OnOk, string_bytes};
+ghost use Rattle.std.specs.Prelude.{◌≡◌, ◌++◌, Ok, Err, OnOk, string_bytes};
+ghost use Rattle.dwp_elf_read.specs.Elf.{elf_of};
 ghost use Rattle.dwp_elf_read.specs.View.{elf};
 ghost use Rattle.dwp_index.specs.Package.{package_of};
 ghost use Rattle.thorin_queries.specs.Answers.{anything};
@@ -15,12 +16,12 @@ ghost use Rattle.thorin_queries.specs.Telling.{Grows, InTurn, TellsOr};
 use crate::executables::{Named, check_executables};
 use crate::faults::with_rest;
 use crate::files::{FileReader, HostReader, read_named};
-use crate::input::has_index;
+use crate::input::has_no_index;
 use crate::listing::entries_by_row;
 use crate::output::{Failure, flush, print};
 use crate::rows::check_indexes;
 use crate::units::check_units;
-use dwp_elf::{ElfFile, SectionKind};
+use dwp_elf::ElfFile;
 use dwp_index::{PackageFile, UnitEntry};
 use std::alloc::AllocError;
 use std::io::Write;
@@ -86,7 +87,6 @@ pub fn check_by<F: FileReader, O: Write>(
 }
 
 /// Checks a package's bytes.
-#[tactic(auto, using(crate::proofs::Checked::no_elf, crate::proofs::Checked::malformed))]
 fn check_bytes<F: FileReader, O: Write>(
     rt: &HostRuntime,
     files: &F,
@@ -98,10 +98,27 @@ fn check_bytes<F: FileReader, O: Write>(
         (package_of bytes.now) (O.contents out.old) (O.contents out.new) result }
 {
     match ElfFile::parse(bytes) {
-        Ok(file) => match PackageFile::parse(bytes) {
-            Ok(pack) => check_package(rt, files, &pack, &file, named, out),
-            Err(_) => Err(Failure::Malformed),
-        },
+        Ok(file) => check_file(rt, files, bytes, &file, named, out),
+        Err(_) => Err(Failure::Malformed),
+    }
+}
+
+/// The same of bytes that are an ELF file.
+#[tactic(auto, using(crate::proofs::Checked::malformed, crate::proofs::Checked::a_package))]
+fn check_file<F: FileReader, O: Write>(
+    rt: &HostRuntime,
+    files: &F,
+    bytes: &[u8],
+    file: &ElfFile<'_>,
+    named: Named<'_, '_>,
+    out: &mut O,
+) -> Result<u8, Failure>
+    requires { elf_of bytes.now ≡ Ok (elf file.now) }
+    ensures { ChecksBytes (F.offer files.now) named.entry.decompresses named.entry.executables.now
+        (package_of bytes.now) (O.contents out.old) (O.contents out.new) result }
+{
+    match PackageFile::parse(bytes) {
+        Ok(pack) => check_package(rt, files, &pack, file, named, out),
         Err(_) => Err(Failure::Malformed),
     }
 }
@@ -119,13 +136,14 @@ fn check_package<F: FileReader, O: Write>(
     ensures { ChecksPackage (F.offer files.now) named.entry.decompresses named.entry.executables.now pack.now
         (O.contents out.old) (O.contents out.new) result (has_no_index pack.now) }
 {
-    if !has_index(file, SectionKind::CuIndex) && !has_index(file, SectionKind::TuIndex) {
+    if has_no_index(file) {
         return Err(Failure::NoIndex);
     }
     check_indexed(rt, files, pack, file, named, out)
 }
 
 /// Checks a package that has an index.
+#[tactic(auto, using(crate::proofs::Checked::no_memory_left, crate::proofs::Listed::same_entries))]
 fn check_indexed<F: FileReader, O: Write>(
     rt: &HostRuntime,
     files: &F,
@@ -165,7 +183,6 @@ fn check_entries<F: FileReader, O: Write>(
 }
 
 /// Checks the units, the rows and the executables. Answers the number of faults.
-#[tactic(auto, using(crate::proofs::Told::in_turn_or, crate::proofs::Checked::of_printing))]
 fn check_all<F: FileReader, O: Write>(
     rt: &HostRuntime,
     files: &F,
@@ -191,7 +208,6 @@ fn check_all<F: FileReader, O: Write>(
 }
 
 /// Checks the rows and the executables. Answers the number of faults.
-#[tactic(auto, using(crate::proofs::Told::in_turn_or, crate::proofs::Checked::of_printing))]
 fn check_rest<F: FileReader, O: Write>(
     rt: &HostRuntime,
     files: &F,

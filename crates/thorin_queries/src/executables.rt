@@ -137,6 +137,7 @@ fn check_taken<O: Write>(
 }
 
 /// The same, with a session that holds what is made of them.
+#[tactic(auto, using(crate::proofs::Skeletons::read_broken, crate::proofs::Skeletons::opened))]
 fn check_named<'s, Sess: Session<RelocationEntry>, O: Write>(
     alloc: Global,
     session: &'s Sess,

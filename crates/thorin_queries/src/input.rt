@@ -1,15 +1,20 @@
 //! Reading files.
 
-ghost use Rattle.std.specs.Prelude.{◌≡◌, ℕ, List, Option, Ok, is_some, option_map};
+ghost use Rattle.std.specs.Prelude.{◌≡◌, ℕ, true, List, Option, Ok, IfOk, IfSome, is_some};
+ghost use Rattle.std.specs.Prelude.{option_map};
 ghost use Rattle.std.specs.List.{find};
+ghost use Rattle.dwp_base.specs.Reading.{Answers};
 ghost use Rattle.dwp_elf_read.specs.View.{elf, section};
-ghost use Rattle.dwp_index.specs.Contents.{content_among, is_of_kind, used_bytes};
+ghost use Rattle.dwp_index.specs.Contents.{content_among, is_of_kind, has_older_name, used_bytes};
 ghost use Rattle.dwp_index.specs.Index.{Index};
-ghost use Rattle.thorin_queries.specs.Indexes.{IsIndexIn};
+ghost use Rattle.dwp_index.specs.Package.{Package};
+ghost use Rattle.thorin_queries.specs.Checking.{has_no_index};
+ghost use Rattle.thorin_queries.specs.Indexes.{IsIndexIn, HasIndexes};
 
 use crate::output::Failure;
 use dwp_decompress::{DecompressError, decompressed};
 use dwp_elf::{ElfFile, Section, SectionKind};
+use dwp_elf_read::ReadError;
 use dwp_index::UnitIndex;
 use std::alloc::Global;
 use std::io;
@@ -37,7 +42,9 @@ pub(crate) fn plain_of(
     alloc: Global,
     bytes: &[u8],
     decompresses: bool,
-) -> Result<Option<Vec<u8>>, Failure> {
+) -> Result<Option<Vec<u8>>, Failure>
+    ensures { IfOk result (λ plain. IfSome plain (λ bytes. decompresses ≡ true)) }
+{
     if !decompresses {
         return Ok(None);
     }
@@ -49,11 +56,21 @@ pub(crate) fn plain_of(
 }
 
 /// Whether a file has an index of a kind.
-pub(crate) fn has_index(file: &ElfFile<'_>, kind: SectionKind) -> bool
+fn has_index(file: &ElfFile<'_>, kind: SectionKind) -> bool
     ensures { (index : Option Index) → IsIndexIn (elf file.now) kind index
         → result ≡ is_some index }
 {
     !contents_of(file, kind).is_empty()
+}
+
+/// Whether a file has no index of either kind.
+pub(crate) fn has_no_index(file: &ElfFile<'_>) -> bool
+    ensures { (pack : Package) → HasIndexes (elf file.now) pack → result ≡ has_no_index pack }
+{
+    if has_index(file, SectionKind::CuIndex) {
+        return false;
+    }
+    !has_index(file, SectionKind::TuIndex)
 }
 
 /// How many rows the index of a kind has.
@@ -74,9 +91,20 @@ pub(crate) fn contents_of<'a>(file: &ElfFile<'a>, kind: SectionKind) -> &'a [u8]
     ensures { (bytes : List ℕ) → content_among (elf file.now).sections kind ≡ Ok bytes
         → result.now ≡ bytes }
 {
+    match content(file, kind) {
+        Ok(bytes) => bytes,
+        Err(_) => &[],
+    }
+}
+
+/// The content of the first section of a kind.
+#[tactic(auto, unfolding(dwp_index::specs::Contents::content_among))]
+fn content<'a>(file: &ElfFile<'a>, kind: SectionKind) -> Result<&'a [u8], ReadError>
+    ensures { Answers (λ bytes. bytes.now) result (content_among (elf file.now).sections kind) }
+{
     match first_section(file, kind) {
-        None => &[],
-        Some(section) => contents(&section, kind),
+        None => Ok(&[]),
+        Some(used) => used_bytes(&used, kind),
     }
 }
 
@@ -96,7 +124,7 @@ fn first_section<'a>(file: &ElfFile<'a>, kind: SectionKind) -> Option<Section<'a
 
 /// Whether a section has bytes, and the name of a kind, in either spelling. No more of a long name
 /// is read than the names of kinds are long.
-#[tactic(auto, unfolding(dwp_index::specs::Contents::is_of_kind), using(dwp_index::proofs::Called::called_is_named))]
+#[tactic(auto, unfolding(dwp_index::specs::Contents::is_of_kind), using(crate::proofs::Indexed::called_is_named))]
 fn is_of_kind(candidate: &Section<'_>, kind: SectionKind) -> bool
     ensures { result ≡ is_of_kind kind (section candidate.now) }
 {
@@ -106,16 +134,21 @@ fn is_of_kind(candidate: &Section<'_>, kind: SectionKind) -> bool
     candidate.is_called(kind.name()) || candidate.is_called(kind.compressed_name())
 }
 
-/// The bytes of a section of a kind, none where they can't be used.
-fn contents<'a>(used: &Section<'a>, kind: SectionKind) -> &'a [u8]
-    ensures { (bytes : List ℕ) → used_bytes kind (section used.now) ≡ Ok bytes
-        → result.now ≡ bytes }
+/// Whether a section's name is the older spelling, of compressed sections.
+#[tactic(auto, using(crate::proofs::Indexed::called_is_older))]
+fn has_older_name(candidate: &Section<'_>, kind: SectionKind) -> bool
+    ensures { result ≡ has_older_name kind (section candidate.now).name }
 {
-    if used.is_compressed() || used.is_called(kind.compressed_name()) {
-        return &[];
+    candidate.is_called(kind.compressed_name())
+}
+
+/// The content of a section that is used.
+#[tactic(auto, unfolding(dwp_index::specs::Contents::used_bytes))]
+fn used_bytes<'a>(used: &Section<'a>, kind: SectionKind) -> Result<&'a [u8], ReadError>
+    ensures { Answers (λ bytes. bytes.now) result (used_bytes kind (section used.now)) }
+{
+    if used.is_compressed() || has_older_name(used, kind) {
+        return Err(ReadError::Compressed);
     }
-    match used.data() {
-        Ok(bytes) => bytes,
-        Err(_) => &[],
-    }
+    used.data()
 }

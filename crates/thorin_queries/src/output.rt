@@ -163,7 +163,8 @@ fn put_some<O: Write>(bytes: &[u8], out: &mut O) -> Result<usize, Failure>
 pub(crate) fn print<O: Write>(text: &str, out: &mut O) -> Result<(), Failure>
     ensures { Prints text.now (O.contents out.old) (O.contents out.new) result }
 {
-    match put(text.as_bytes(), out) {
+    let bytes = text.as_bytes();
+    match put(bytes, out) {
         Ok(()) => Ok(()),
         Err(_) => Err(Failure::Line),
     }

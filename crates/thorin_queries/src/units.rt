@@ -22,7 +22,6 @@ use std::io::Write;
 
 /// Checks each unit that a slot names, then the strings of each range of string offsets. Answers
 /// the number of faults.
-#[tactic(auto, using(crate::proofs::Told::in_turn_or))]
 pub(crate) fn check_units<O: Write>(
     alloc: Global,
     pack: &PackageFile<'_>,

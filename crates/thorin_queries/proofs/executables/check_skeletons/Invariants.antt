@@ -1,5 +1,14 @@
 use Rattle.std.proofs.Common.{length}
+use Rattle.std.specs.Prelude.{string_bytes}
+use Rattle.thorin_queries.specs.Telling.{Told}
+use Rattle.thorin_queries.proofs.Skeletons.{GoesOn}
 use Rattle.thorin_queries.proofs.executables.check_skeletons.Given as goal
 
-abbrev pub decreases-loop-next : goal.decreases-loop-next
-decreases-loop-next g l = length l.units.0
+abbrev pub decreases-loop-skeleton : goal.decreases-loop-skeleton
+decreases-loop-skeleton g l = length l.units.0
+
+-- what was told so far, and what is left to tell
+abbrev pub invariant-loop-skeleton : goal.invariant-loop-skeleton
+invariant-loop-skeleton g l = Told (GoesOn l.pack l.executable l.initial.units l.units)
+    (g.O.Write.contents l.initial.out) (string_bytes l.initial.waiting)
+    (g.O.Write.contents l.out) (string_bytes l.waiting) l.faults

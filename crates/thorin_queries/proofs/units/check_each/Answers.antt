@@ -12,7 +12,7 @@ pub loop-i-preserved : goal.loop-i-preserved
 loop-i-preserved g c =
     let none : UnitEntry = record { object = Compilation (record { 0 = 0 }); row = 0 } in
     told_next (TellsUnit c.args.pack.now) c.args.entries.now c.loop-i.i none _ c.loop-i-test.true
-    c.saturating_add.ensures c.loop-i.invariant c.in-Ok.ensures
+    c.saturating_add-faults.ensures c.loop-i.invariant c.in-Ok.ensures
 
 pub returns-in-Err : goal.returns-in-Err
 returns-in-Err g c =

@@ -1,0 +1,251 @@
+-- What was checked.
+use Rattle.std.proofs.Common.{◌≡◌, ◌∙◌, ℕ, zero, suc, get_or, ◌<◌, Bool, true, false, List, [], ◌∷◌, ◌++◌, refl, sym, ap}
+use Rattle.std.proofs.Common.{subst, length, inl, inr, arith, append_assoc}
+use Rattle.std.specs.Prelude.{Option, Some, None, Result, Ok, Err, is_none, is_some, not, ◌&&◌}
+use Rattle.std.specs.Borrow.{Bor}
+use Rattle.std.specs.List.{concat}
+use Rattle.std.specs.declared.io.Error.{Error as IoError}
+use Rattle.std.specs.Io.KnownBytes.{Appends, Keeps}
+use Rattle.std.proofs.KnownBytes.{Appends-trans, Keeps-refl}
+use Rattle.dwp_elf_read.specs.Elf.{Elf, elf_of}
+use Rattle.dwp_elf_read.specs.declared.fault.ReadError.{ReadError as ElfError}
+use Rattle.dwp_index.specs.Package.{Package, package_of}
+use Rattle.dwp_index.specs.declared.fault.PackageError.{PackageError}
+use Rattle.dwp_index.specs.declared.units.UnitEntry.{UnitEntry}
+use Rattle.thorin_executable.specs.Skeletons.{skeletons_of}
+use Rattle.thorin_queries.specs.Answers.{FailsToRead}
+use Rattle.thorin_queries.specs.Checking.{counts_line, status_of, has_no_index, TellsTaken}
+use Rattle.thorin_queries.specs.Checking.{TellsExecutable, TellsPackage, FailsOne, IsOfReading}
+use Rattle.thorin_queries.specs.Checking.{IsOfChecking, IsTaken, PrintsLast, Finishes, Checked}
+use Rattle.thorin_queries.specs.Checking.{ChecksIndexed, ChecksPackage, ChecksBytes, Checks}
+use Rattle.thorin_queries.specs.Faults.{TellsListed}
+use Rattle.thorin_queries.specs.Listing.{AreByRow}
+use Rattle.thorin_queries.specs.Telling.{IsOfPrinting, Grows, Told, TellsOr, Tells, fault_count}
+use Rattle.thorin_queries.specs.declared.output.Failure.{Failure}
+use Rattle.thorin_queries.specs.declared.output.Failure.TheVariants as failures
+use Rattle.thorin_queries.proofs.Told.{told_as, tells_as, grown, none_grown}
+
+module _ (offer : List ℕ → Result (List ℕ) IoError → Type 0) where
+  -- ---- failures
+
+  pub of_printing : (executables : List (Bor (List ℕ))) (failure : Failure) → IsOfPrinting failure
+      → IsOfChecking offer executables failure
+  of_printing executables failures.Line h = tt
+  of_printing executables failures.Memory h = tt
+  of_printing executables failures.Output h = absurd h
+  of_printing executables failures.Overwrites h = absurd h
+  of_printing executables failures.Input h = absurd h
+  of_printing executables failures.Malformed h = absurd h
+  of_printing executables failures.NoIndex h = absurd h
+  of_printing executables (failures.NoUnit id) h = absurd h
+  of_printing executables failures.BadKind h = absurd h
+  of_printing executables failures.BadIdentifier h = absurd h
+  of_printing executables failures.BadCommand h = absurd h
+  of_printing executables failures.Response h = absurd h
+
+  pub of_reading : (path : List ℕ) (failure : Failure) → IsOfPrinting failure
+      → IsOfReading offer path failure
+  of_reading path failures.Line h = tt
+  of_reading path failures.Memory h = tt
+  of_reading path failures.Output h = absurd h
+  of_reading path failures.Overwrites h = absurd h
+  of_reading path failures.Input h = absurd h
+  of_reading path failures.Malformed h = absurd h
+  of_reading path failures.NoIndex h = absurd h
+  of_reading path (failures.NoUnit id) h = absurd h
+  of_reading path failures.BadKind h = absurd h
+  of_reading path failures.BadIdentifier h = absurd h
+  of_reading path failures.BadCommand h = absurd h
+  of_reading path failures.Response h = absurd h
+
+  not_read : (path : List ℕ) (failure : Failure) → FailsToRead offer path failure
+      → IsOfReading offer path failure
+  not_read path failures.Line h = absurd h
+  not_read path failures.Memory h = tt
+  not_read path failures.Output h = absurd h
+  not_read path failures.Overwrites h = absurd h
+  not_read path failures.Input h = h
+  not_read path failures.Malformed h = absurd h
+  not_read path failures.NoIndex h = absurd h
+  not_read path (failures.NoUnit id) h = absurd h
+  not_read path failures.BadKind h = absurd h
+  not_read path failures.BadIdentifier h = absurd h
+  not_read path failures.BadCommand h = absurd h
+  not_read path failures.Response h = absurd h
+
+  pub executable_unread : (path : List ℕ) (failure : Failure) (a : Option (List ℕ))
+      → FailsToRead offer path failure → IsOfReading offer path failure × Grows a a
+  executable_unread path failure a h = (not_read path failure h, none_grown a)
+
+  -- one of them is one of all
+  pub first_of : (e : Bor (List ℕ)) (es : List (Bor (List ℕ))) (failure : Failure)
+      → IsOfReading offer e.now failure → IsOfChecking offer (e ∷ es) failure
+  first_of e es failures.Line h = tt
+  first_of e es failures.Memory h = tt
+  first_of e es failures.Input h = inl h
+  first_of e es failures.Output h = absurd h
+  first_of e es failures.Overwrites h = absurd h
+  first_of e es failures.Malformed h = absurd h
+  first_of e es failures.NoIndex h = absurd h
+  first_of e es (failures.NoUnit id) h = absurd h
+  first_of e es failures.BadKind h = absurd h
+  first_of e es failures.BadIdentifier h = absurd h
+  first_of e es failures.BadCommand h = absurd h
+  first_of e es failures.Response h = absurd h
+
+  pub other_of : (e : Bor (List ℕ)) (es : List (Bor (List ℕ))) (failure : Failure)
+      → IsOfChecking offer es failure → IsOfChecking offer (e ∷ es) failure
+  other_of e es failures.Line h = tt
+  other_of e es failures.Memory h = tt
+  other_of e es failures.Input h = inr h
+  other_of e es failures.Output h = absurd h
+  other_of e es failures.Overwrites h = absurd h
+  other_of e es failures.Malformed h = absurd h
+  other_of e es failures.NoIndex h = absurd h
+  other_of e es (failures.NoUnit id) h = absurd h
+  other_of e es failures.BadKind h = absurd h
+  other_of e es failures.BadIdentifier h = absurd h
+  other_of e es failures.BadCommand h = absurd h
+  other_of e es failures.Response h = absurd h
+
+  pub reading_one : (es : List (Bor (List ℕ))) (i : ℕ) (d : Bor (List ℕ)) (failure : Failure)
+      → i < length es → IsOfReading offer (get_or es i d).now failure
+      → IsOfChecking offer es failure
+  reading_one [] i d failure lt h = absurd (omega arith)
+  reading_one (e ∷ es) zero d failure lt h = first_of e es failure h
+  reading_one (e ∷ es) (suc i) d failure lt h =
+      other_of e es failure (reading_one es i d failure (omega arith) h)
+
+  -- ---- an executable
+
+  module _ (decompresses : Bool) (pack : Package) (executable : List ℕ) (a : Option (List ℕ))
+      (held : List ℕ) (b : Option (List ℕ)) (left : List ℕ) where
+    pub executable_read : (result : Result ℕ Failure) (bytes lent : List ℕ)
+        → offer executable (Ok bytes) → lent ≡ bytes
+        → Tells (TellsTaken decompresses pack executable lent) a held b left result
+        → TellsOr (IsOfReading offer executable)
+        (TellsExecutable offer decompresses pack executable) a held b left result
+    executable_read (Ok count) bytes lent read same t =
+        told_as (TellsTaken decompresses pack executable lent)
+        (TellsExecutable offer decompresses pack executable) a held b left count
+        (λ lines k. record {
+          bytes = bytes;
+          read = read;
+          tells = subst (λ bs. TellsTaken decompresses pack executable bs lines) same k;
+        }) t
+    executable_read (Err failure) bytes lent read same t =
+        (of_reading executable failure t.0, t.1)
+
+-- ---- what is taken for an executable
+
+is_itself : (decompresses : Bool) (bytes : List ℕ) → IsTaken decompresses bytes bytes
+is_itself false bytes = refl
+is_itself true bytes = tt
+
+module _ (decompresses : Bool) (pack : Package) (executable bytes : List ℕ)
+    (a : Option (List ℕ)) (held : List ℕ) (b : Option (List ℕ)) (left : List ℕ)
+    (result : Result ℕ Failure) where
+  pub taken_as_it_is : Tells (TellsListed pack executable (skeletons_of bytes)) a held b left result
+      → Tells (TellsTaken decompresses pack executable bytes) a held b left result
+  taken_as_it_is h = tells_as (TellsListed pack executable (skeletons_of bytes))
+      (TellsTaken decompresses pack executable bytes) a held b left result
+      (λ lines k.
+      record { taken = bytes; is_taken = is_itself decompresses bytes; listed = k }) h
+
+  pub taken_plain : (plain : List ℕ) → decompresses ≡ true
+      → Tells (TellsListed pack executable (skeletons_of plain)) a held b left result
+      → Tells (TellsTaken decompresses pack executable bytes) a held b left result
+  taken_plain plain e h = tells_as (TellsListed pack executable (skeletons_of plain))
+      (TellsTaken decompresses pack executable bytes) a held b left result
+      (λ lines k. record { taken = plain; is_taken = rw e tt; listed = k }) h
+
+-- ---- a package
+
+module _ (offer : List ℕ → Result (List ℕ) IoError → Type 0) (decompresses : Bool)
+    (executables : List (Bor (List ℕ))) (pack : Package) (entries : List UnitEntry) where
+  pub checked : (a b c : Option (List ℕ)) (held left : List ℕ) (faults : ℕ)
+      (result : Result ℕ Failure) → AreByRow pack entries → held ≡ []
+      → Told (TellsPackage offer decompresses pack entries executables) a held b left faults
+      → Finishes (length entries) faults b left c result
+      → ChecksIndexed offer decompresses executables pack a c result
+  checked a b c held left faults (Ok status) by_row none t f = record {
+    entries = entries;
+    by_row = by_row;
+    lines = t.lines;
+    told = t.are;
+    printed = subst (Appends a c)
+        (sym (append_assoc t.handed left (counts_line (length entries) faults))
+        ∙ ap (λ l. l ++ counts_line (length entries) faults)
+        (sym t.split ∙ ap (λ l. l ++ concat t.lines) none)
+        ∙ ap (λ n. concat t.lines ++ counts_line (length entries) n) t.counted)
+        (Appends-trans a b c t.handed (left ++ counts_line (length entries) faults) t.added f.0);
+    status_is = f.1 ∙ ap status_of t.counted;
+  }
+  checked a b c held left faults (Err failure) by_row none t f =
+      (of_printing offer executables failure f.0, grown a b c (t.handed, t.added) f.1)
+
+pub gave_up : (offer : List ℕ → Result (List ℕ) IoError → Type 0) (decompresses : Bool)
+    (executables : List (Bor (List ℕ))) (pack : Package) (a b c : Option (List ℕ))
+    (failure : Failure) (result : Result ℕ Failure) → result ≡ Err failure
+    → IsOfChecking offer executables failure × Grows a b → Grows b c
+    → ChecksIndexed offer decompresses executables pack a c result
+gave_up offer decompresses executables pack a b c failure result e h g =
+    subst (ChecksIndexed offer decompresses executables pack a c) (sym e)
+    (h.0, grown a b c h.1 g)
+
+module _ (offer : List ℕ → Result (List ℕ) IoError → Type 0) (decompresses : Bool)
+    (executables : List (Bor (List ℕ))) where
+  pub no_memory_left : (pack : Package) (a : Option (List ℕ))
+      → ChecksIndexed offer decompresses executables pack a a (Err failures.Memory)
+  no_memory_left pack a = (tt, none_grown a)
+
+  pub no_index : (pack : Package) (a : Option (List ℕ)) (b : Bool) → b ≡ has_no_index pack
+      → b ≡ true
+      → ChecksPackage offer decompresses executables pack a a (Err failures.NoIndex)
+      (has_no_index pack)
+  no_index pack a b e f =
+      subst (ChecksPackage offer decompresses executables pack a a (Err failures.NoIndex))
+      (sym f ∙ e) (refl, Keeps-refl a)
+
+  pub has_index : (pack : Package) (a c : Option (List ℕ)) (result : Result ℕ Failure) (b : Bool)
+      → b ≡ has_no_index pack → b ≡ false
+      → ChecksIndexed offer decompresses executables pack a c result
+      → ChecksPackage offer decompresses executables pack a c result (has_no_index pack)
+  has_index pack a c result b e f h =
+      subst (ChecksPackage offer decompresses executables pack a c result) (sym f ∙ e) h
+
+  pub no_elf : (cause : ElfError) (bytes : List ℕ) (a : Option (List ℕ))
+      → elf_of bytes ≡ Err cause
+      → ChecksBytes offer decompresses executables (package_of bytes) a a (Err failures.Malformed)
+  unfolding package_of
+  no_elf cause bytes a e = rw e (refl, Keeps-refl a)
+
+  pub malformed : (cause : PackageError) (p : Result Package PackageError) (a : Option (List ℕ))
+      → p ≡ Err cause → ChecksBytes offer decompresses executables p a a (Err failures.Malformed)
+  malformed cause p a e = rw e (refl, Keeps-refl a)
+
+  pub a_package : (pack : Package) (p : Result Package PackageError) (a c : Option (List ℕ))
+      (result : Result ℕ Failure) → p ≡ Ok pack
+      → ChecksPackage offer decompresses executables pack a c result (has_no_index pack)
+      → ChecksBytes offer decompresses executables p a c result
+  a_package pack p a c result e h =
+      subst (λ q. ChecksBytes offer decompresses executables q a c result) (sym e) h
+
+  pub was_checked : (path : List ℕ) (a c : Option (List ℕ)) (result : Result ℕ Failure)
+      (bytes lent : List ℕ) → offer path (Ok bytes) → lent ≡ bytes
+      → ChecksBytes offer decompresses executables (package_of lent) a c result
+      → Checks offer path decompresses executables a c result
+  unfolding Checks
+  was_checked path a c result bytes lent read same h =
+      inl (
+        bytes,
+        read,
+        subst (λ bs. ChecksBytes offer decompresses executables (package_of bs) a c
+            result) same h,
+      )
+
+  pub not_checked : (path : List ℕ) (a : Option (List ℕ)) (failure : Failure)
+      → FailsToRead offer path failure
+      → Checks offer path decompresses executables a a (Err failure)
+  unfolding Checks
+  not_checked path a failure h = inr (h, Keeps-refl a)
