@@ -1,13 +1,14 @@
 -- What was checked.
-use Rattle.std.proofs.Common.{◌≡◌, ◌∙◌, ℕ, zero, suc, get_or, ◌<◌, Bool, true, false, List, [], ◌∷◌, ◌++◌, refl, sym, ap}
+use Rattle.std.proofs.Common.{◌≡◌, ◌∙◌, ℕ, zero, suc, get_or, ◌<◌, Bool, true, false, List, [], ◌∷◌}
+use Rattle.std.proofs.Common.{◌++◌, refl, sym, ap}
 use Rattle.std.proofs.Common.{subst, length, inl, inr, arith, append_assoc}
-use Rattle.std.specs.Prelude.{Option, Some, None, Result, Ok, Err, is_none, is_some, not, ◌&&◌}
+use Rattle.std.specs.Prelude.{Option, Result, Ok, Err}
 use Rattle.std.specs.Borrow.{Bor}
 use Rattle.std.specs.List.{concat}
 use Rattle.std.specs.declared.io.Error.{Error as IoError}
-use Rattle.std.specs.Io.KnownBytes.{Appends, Keeps}
+use Rattle.std.specs.Io.KnownBytes.{Appends}
 use Rattle.std.proofs.KnownBytes.{Appends-trans, Keeps-refl}
-use Rattle.dwp_elf_read.specs.Elf.{Elf, elf_of}
+use Rattle.dwp_elf_read.specs.Elf.{elf_of}
 use Rattle.dwp_elf_read.specs.declared.fault.ReadError.{ReadError as ElfError}
 use Rattle.dwp_index.specs.Package.{Package, package_of}
 use Rattle.dwp_index.specs.declared.fault.PackageError.{PackageError}
@@ -15,12 +16,12 @@ use Rattle.dwp_index.specs.declared.units.UnitEntry.{UnitEntry}
 use Rattle.thorin_executable.specs.Skeletons.{skeletons_of}
 use Rattle.thorin_queries.specs.Answers.{FailsToRead}
 use Rattle.thorin_queries.specs.Checking.{counts_line, status_of, has_no_index, TellsTaken}
-use Rattle.thorin_queries.specs.Checking.{TellsExecutable, TellsPackage, FailsOne, IsOfReading}
-use Rattle.thorin_queries.specs.Checking.{IsOfChecking, IsTaken, PrintsLast, Finishes, Checked}
+use Rattle.thorin_queries.specs.Checking.{TellsExecutable, TellsPackage, IsOfReading}
+use Rattle.thorin_queries.specs.Checking.{IsOfChecking, IsTaken, Finishes}
 use Rattle.thorin_queries.specs.Checking.{ChecksIndexed, ChecksPackage, ChecksBytes, Checks}
 use Rattle.thorin_queries.specs.Faults.{TellsListed}
 use Rattle.thorin_queries.specs.Listing.{AreByRow}
-use Rattle.thorin_queries.specs.Telling.{IsOfPrinting, Grows, Told, TellsOr, Tells, fault_count}
+use Rattle.thorin_queries.specs.Telling.{IsOfPrinting, Grows, Told, TellsOr, Tells}
 use Rattle.thorin_queries.specs.declared.output.Failure.{Failure}
 use Rattle.thorin_queries.specs.declared.output.Failure.TheVariants as failures
 use Rattle.thorin_queries.proofs.Told.{told_as, tells_as, grown, none_grown}

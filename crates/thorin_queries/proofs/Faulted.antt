@@ -1,5 +1,6 @@
 -- Faults that were told.
-use Rattle.std.proofs.Common.{◌≡◌, ◌∙◌, ◌≢◌, ℕ, List, [], ◌∷◌, ◌++◌, codes, map, refl, sym, ap, subst}
+use Rattle.std.proofs.Common.{◌≡◌, ◌∙◌, ◌≢◌, ℕ, List, [], ◌∷◌, ◌++◌, codes, map, refl, sym}
+use Rattle.std.proofs.Common.{subst}
 use Rattle.std.proofs.Common.{inl, inr, arith, min, ◌+◌, ◌-◌, ◌^◌}
 use Rattle.std.specs.List.{range_with_len}
 use Rattle.std.proofs.lemmas.List.FromFn.{map-range_with_len_more}
@@ -17,10 +18,10 @@ use Rattle.thorin_queries.specs.Faults.{TellsString, row_line, AreRows, broken_l
 use Rattle.thorin_queries.specs.Faults.{TellsUnit, IsUnread, TellsStrings, TellsStringsOf}
 use Rattle.thorin_queries.specs.Faults.{TellsNumbered}
 use Rattle.thorin_queries.specs.Checking.{TellsSomeStrings}
-use Rattle.thorin_queries.specs.Telling.{Told, TellsOr, Tells, IsNone, IsLine, IsSum, InTurn}
+use Rattle.thorin_queries.specs.Telling.{Told, Tells, IsLine, IsSum}
 use Rattle.thorin_queries.specs.Telling.{ForEach}
 use Rattle.thorin_queries.specs.declared.output.Failure.{Failure}
-use Rattle.thorin_queries.proofs.Told.{told_as, none_told, tells_as, rows_more, then_or}
+use Rattle.thorin_queries.proofs.Told.{none_told, tells_as, rows_more, then_or}
 use Rattle.thorin_queries.proofs.Told.{told_then, for_each_more}
 
 module _ (object : DwarfObject) (a : Option (List ℕ)) (held : List ℕ) (b : Option (List ℕ))

@@ -1,12 +1,16 @@
 -- The indexes of a package, and the sections that they stand in.
-use Rattle.std.proofs.Common.{◌≡◌, ◌∙◌, ℕ, Bool, true, false, List, [], refl, sym, ap, length, subst}
-use Rattle.std.specs.Prelude.{Option, Some, None, Result, Ok, Err, is_none, is_some, not, ◌&&◌, ◌||◌}
+use Rattle.std.proofs.Common.{◌≡◌, ◌∙◌, ℕ, Bool, true, false, List, refl, sym, ap, length}
+use Rattle.std.specs.Prelude.{Option, Some, None, Result, Ok, Err, is_none, is_some, not, ◌&&◌}
+use Rattle.std.specs.Prelude.{◌||◌}
 use Rattle.std.specs.Prelude.{◌==◌}
 use Rattle.dwp_base.specs.Reading.{◌>>=◌}
 use Rattle.dwp_base.specs.declared.endian.Endianness.{Endianness}
 use Rattle.dwp_base.specs.Sections.{name_of, compressed_name_of}
 use Rattle.dwp_base.specs.declared.section.SectionKind.{SectionKind}
-use Rattle.dwp_base.specs.declared.section.SectionKind.TheVariants.{CuIndex, TuIndex}
+use Rattle.dwp_base.specs.declared.section.SectionKind.TheVariants.{Info, Types, Abbrev, Line, Loc}
+use Rattle.dwp_base.specs.declared.section.SectionKind.TheVariants.{Loclists, Rnglists, StrOffsets}
+use Rattle.dwp_base.specs.declared.section.SectionKind.TheVariants.{Macinfo, Macro, Str, CuIndex}
+use Rattle.dwp_base.specs.declared.section.SectionKind.TheVariants.{TuIndex}
 use Rattle.dwp_elf_read.specs.Elf.{Elf, SectionMeaning, elf_of, name_is}
 use Rattle.dwp_elf_read.specs.declared.fault.ReadError.{ReadError as ElfError}
 use Rattle.dwp_index.specs.Contents.{Sections, contents_of, content_among, has_name, has_older_name}
@@ -23,10 +27,6 @@ bind_ok : {A B E : Type 0} (r : Result A E) (f : A → Result B E) (y : B) → (
     → (x : A) × (r ≡ Ok x) × (f x ≡ Ok y)
 bind_ok (Ok x) f y e = (x, refl, e)
 bind_ok (Err d) f y e = absurd cc
-
-fault_ok : {X E F : Type 0} (g : E → F) (r : Result X E) (x : X) → as_fault g r ≡ Ok x → r ≡ Ok x
-fault_ok g (Ok y) x e = let same : y ≡ x = cc in ap (λ z. Ok z) same
-fault_ok g (Err d) x e = absurd cc
 
 ok_same : {X E : Type 0} (x y : X) (r : Result X E) → r ≡ Ok x → r ≡ Ok y → x ≡ y
 ok_same x y r e f = cc
@@ -85,33 +85,96 @@ has_none_first file pack b d told e other h =
 
 -- ---- a package's indexes are those of its file
 
+steps : (r1 r2 r3 r4 r5 r6 r7 r8 r9 r10 r11 r12 r13 : Result (List ℕ) ElfError)
+    (contents : Sections)
+    → (r1 >>= λ info.
+    r2 >>= λ types.
+    r3 >>= λ abbrev_bytes.
+    r4 >>= λ line.
+    r5 >>= λ loc.
+    r6 >>= λ loclists.
+    r7 >>= λ rnglists.
+    r8 >>= λ str_offsets.
+    r9 >>= λ macinfo.
+    r10 >>= λ macros.
+    r11 >>= λ strings.
+    r12 >>= λ cu_index.
+    r13 >>= λ tu_index.
+    Ok (record {
+      info = info;
+      types = types;
+      abbrev_bytes = abbrev_bytes;
+      line = line;
+      loc = loc;
+      loclists = loclists;
+      rnglists = rnglists;
+      str_offsets = str_offsets;
+      macinfo = macinfo;
+      macros = macros;
+      strings = strings;
+      cu_index = cu_index;
+      tu_index = tu_index;
+    })) ≡ Ok contents
+    → (r12 ≡ Ok contents.cu_index) × (r13 ≡ Ok contents.tu_index)
+steps (Err d) r2 r3 r4 r5 r6 r7 r8 r9 r10 r11 r12 r13 contents e = absurd cc
+steps (Ok x1) (Err d) r3 r4 r5 r6 r7 r8 r9 r10 r11 r12 r13 contents e = absurd cc
+steps (Ok x1) (Ok x2) (Err d) r4 r5 r6 r7 r8 r9 r10 r11 r12 r13 contents e = absurd cc
+steps (Ok x1) (Ok x2) (Ok x3) (Err d) r5 r6 r7 r8 r9 r10 r11 r12 r13 contents e = absurd cc
+steps (Ok x1) (Ok x2) (Ok x3) (Ok x4) (Err d) r6 r7 r8 r9 r10 r11 r12 r13 contents e = absurd cc
+steps (Ok x1) (Ok x2) (Ok x3) (Ok x4) (Ok x5) (Err d) r7 r8 r9 r10 r11 r12 r13
+    contents e = absurd cc
+steps (Ok x1) (Ok x2) (Ok x3) (Ok x4) (Ok x5) (Ok x6) (Err d) r8 r9 r10 r11 r12 r13
+    contents e = absurd cc
+steps (Ok x1) (Ok x2) (Ok x3) (Ok x4) (Ok x5) (Ok x6) (Ok x7) (Err d) r9 r10 r11 r12 r13
+    contents e = absurd cc
+steps (Ok x1) (Ok x2) (Ok x3) (Ok x4) (Ok x5) (Ok x6) (Ok x7) (Ok x8) (Err d) r10 r11 r12 r13
+    contents e = absurd cc
+steps (Ok x1) (Ok x2) (Ok x3) (Ok x4) (Ok x5) (Ok x6) (Ok x7) (Ok x8) (Ok x9) (Err d) r11 r12 r13
+    contents e = absurd cc
+steps (Ok x1) (Ok x2) (Ok x3) (Ok x4) (Ok x5) (Ok x6) (Ok x7) (Ok x8) (Ok x9) (Ok x10) (Err d) r12
+    r13 contents e = absurd cc
+steps (Ok x1) (Ok x2) (Ok x3) (Ok x4) (Ok x5) (Ok x6) (Ok x7) (Ok x8) (Ok x9) (Ok x10) (Ok x11)
+    (Err d) r13 contents e = absurd cc
+steps (Ok x1) (Ok x2) (Ok x3) (Ok x4) (Ok x5) (Ok x6) (Ok x7) (Ok x8) (Ok x9) (Ok x10) (Ok x11)
+    (Ok x12) (Err d) contents e = absurd cc
+steps (Ok x1) (Ok x2) (Ok x3) (Ok x4) (Ok x5) (Ok x6) (Ok x7) (Ok x8) (Ok x9) (Ok x10) (Ok x11)
+    (Ok x12) (Ok x13) contents e =
+    let made = ok_same _ _ _ refl e in
+    (ap (λ (t : Sections). Ok t.cu_index) made, ap (λ (t : Sections). Ok t.tu_index) made)
+
 index_contents : (sections : List SectionMeaning) (contents : Sections)
     → contents_of sections ≡ Ok contents
     → (content_among sections CuIndex ≡ Ok contents.cu_index)
     × (content_among sections TuIndex ≡ Ok contents.tu_index)
 unfolding contents_of
 index_contents sections contents e =
-    let info = bind_ok _ _ _ e in
-    let types = bind_ok _ _ _ info.2 in
-    let abbrevs = bind_ok _ _ _ types.2 in
-    let line = bind_ok _ _ _ abbrevs.2 in
-    let loc = bind_ok _ _ _ line.2 in
-    let loclists = bind_ok _ _ _ loc.2 in
-    let rnglists = bind_ok _ _ _ loclists.2 in
-    let offsets = bind_ok _ _ _ rnglists.2 in
-    let macinfo = bind_ok _ _ _ offsets.2 in
-    let macros = bind_ok _ _ _ macinfo.2 in
-    let strings = bind_ok _ _ _ macros.2 in
-    let compilations = bind_ok _ _ _ strings.2 in
-    let units = bind_ok _ _ _ compilations.2 in
-    let made = ok_same _ _ _ refl units.2 in (
-      compilations.1 ∙ ap (λ (t : Sections). Ok t.cu_index) made,
-      units.1 ∙ ap (λ (t : Sections). Ok t.tu_index) made,
+    steps (content_among sections Info) (content_among sections Types) (content_among sections
+    Abbrev) (content_among sections Line) (content_among sections Loc) (content_among sections
+    Loclists) (content_among sections Rnglists) (content_among sections StrOffsets)
+    (content_among sections Macinfo) (content_among sections Macro) (content_among sections Str)
+    (content_among sections CuIndex) (content_among sections TuIndex) contents e
+
+made_of : (file : Elf) (pack : Package) (contents : Sections)
+    (a b : Result (Option Index) PackageError)
+    → (a >>= λ compilations. b >>= λ types. Ok (record {
+      order = file.order;
+      contents = contents;
+      compilations = compilations;
+      types = types;
+    })) ≡ Ok pack
+    → (a ≡ Ok pack.compilations) × (b ≡ Ok pack.types) × (pack.order ≡ file.order)
+made_of file pack contents (Err d) b e = absurd cc
+made_of file pack contents (Ok x) (Err d) e = absurd cc
+made_of file pack contents (Ok x) (Ok y) e =
+    let made = ok_same _ _ _ refl e in (
+      ap (λ (p : Package). Ok p.compilations) made,
+      ap (λ (p : Package). Ok p.types) made,
+      sym (ap (λ (p : Package). p.order) made),
     )
 
-of_file : (file : Elf) (bytes : List ℕ) (pack : Package) → elf_of bytes ≡ Ok file
-    → package_of bytes ≡ Ok pack
-    → (as_fault faults.Elf (contents_of file.sections) >>= λ contents.
+indexes_by : (file : Elf) (pack : Package) (r : Result Sections ElfError)
+    → contents_of file.sections ≡ r
+    → (as_fault faults.Elf r >>= λ contents.
     index_in_section file.order contents.cu_index >>= λ compilations.
     index_in_section file.order contents.tu_index >>= λ types.
     Ok (record {
@@ -119,28 +182,21 @@ of_file : (file : Elf) (bytes : List ℕ) (pack : Package) → elf_of bytes ≡ 
       contents = contents;
       compilations = compilations;
       types = types;
-    })) ≡ Ok pack
-unfolding package_of
-of_file file bytes pack e p = rw e at p
+    })) ≡ Ok pack → HasIndexes file pack
+indexes_by file pack (Err d) is e = absurd cc
+indexes_by file pack (Ok contents) is e =
+    let read = index_contents file.sections contents is in
+    let made = made_of file pack contents (index_in_section file.order contents.cu_index)
+    (index_in_section file.order contents.tu_index) e in
+    record {
+      order = made.2;
+      compilations =
+          record { bytes = contents.cu_index; content = read.0; is = made.0 };
+      types = record { bytes = contents.tu_index; content = read.1; is = made.1 };
+    }
 
 pub has_indexes : (file : Elf) (bytes : List ℕ) (pack : Package) → elf_of bytes ≡ Ok file
     → package_of bytes ≡ Ok pack → HasIndexes file pack
+unfolding package_of
 has_indexes file bytes pack e p =
-    let contents = bind_ok _ _ _ (of_file file bytes pack e p) in
-    let compilations = bind_ok _ _ _ contents.2 in
-    let types = bind_ok _ _ _ compilations.2 in
-    let read = index_contents file.sections contents.0 (fault_ok faults.Elf _ _ contents.1) in
-    let is = ok_same _ _ _ refl types.2 in
-    record {
-      order = sym (ap (λ (p : Package). p.order) is);
-      compilations = record {
-        bytes = contents.0.cu_index;
-        content = read.0;
-        is = compilations.1 ∙ ap (λ (p : Package). Ok p.compilations) is;
-      };
-      types = record {
-        bytes = contents.0.tu_index;
-        content = read.1;
-        is = types.1 ∙ ap (λ (p : Package). Ok p.types) is;
-      };
-    }
+    indexes_by file pack (contents_of file.sections) refl (rw e at p)

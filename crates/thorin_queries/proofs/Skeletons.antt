@@ -6,7 +6,6 @@ use Rattle.std.specs.Prelude.{Option, Some, None, Result, Ok, Err, OnOk}
 use Rattle.std.specs.List.{flat_map}
 use Rattle.dwp_index.specs.Package.{Package, FoundUnit, found}
 use Rattle.dwp_index.specs.declared.fault.PackageError.{PackageError}
-use Rattle.dwp_table.specs.declared.object.DwarfObject.{DwarfObject}
 use Rattle.thorin_executable.specs.Skeletons.{Named, Listed}
 use Rattle.thorin_faults.specs.Answers.{MemoryAside}
 use Rattle.thorin_faults.specs.Fault.{Fault, fault_of}
@@ -14,10 +13,10 @@ use Rattle.thorin_faults.specs.declared.fault.Error.{Error}
 use Rattle.thorin_faults.specs.declared.fault.Error.TheVariants.{Memory}
 use Rattle.thorin_queries.specs.Faults.{fault_line, missing_text, missing_lines, IsBroken}
 use Rattle.thorin_queries.specs.Faults.{TellsListed}
-use Rattle.thorin_queries.specs.Telling.{Told, TellsOr, Tells, Is, IsLine, IsSum}
+use Rattle.thorin_queries.specs.Telling.{Told, Tells, Is, IsLine, IsSum}
 use Rattle.thorin_queries.specs.Telling.{IsOfPrinting}
 use Rattle.thorin_queries.specs.declared.output.Failure.{Failure}
-use Rattle.thorin_queries.proofs.Told.{none_told, told_then, then_or, told_as, tells_as}
+use Rattle.thorin_queries.proofs.Told.{none_told, then_or, tells_as}
 use Rattle.thorin_queries.proofs.Told.{stopped_behind}
 
 module _ (executable : List ℕ) (named : Named) (looked : Result (Option FoundUnit) PackageError)
@@ -55,7 +54,8 @@ module _ (pack : Package) (executable : List ℕ) (all : Listed) where
       → Is (missing_lines executable first (found pack first.0)) ms → GoesOn after (ls ++ ms)
   on_next before after first e ls ms h k = record {
     on = λ more t. subst (TellsListed pack executable all) (sym (append_assoc ls ms more))
-        (h.on (ms ++ more) (subst (λ l. TellsListed pack executable l (ms ++ more)) (sym e) (record {
+        (h.on (ms ++ more) (subst (λ l. TellsListed pack executable l (ms ++ more))
+        (sym e) (record {
           ended = t.ended;
           end = t.end;
           all = ap (λ l. ms ++ l) t.all ∙ ap (λ l. l ++ (flat_map (λ named.

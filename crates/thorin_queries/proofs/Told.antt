@@ -1,6 +1,7 @@
 -- Lines that were told.
-use Rattle.std.proofs.Common.{◌≡◌, ◌∙◌, ℕ, ◌+◌, ◌-◌, ◌^◌, ◌<◌, ◌≤◌, List, [], ◌∷◌, ◌++◌, length, map, min, refl}
-use Rattle.std.proofs.Common.{sym, ap, subst, arith, append_assoc, inl, inr, take, get_or}
+use Rattle.std.proofs.Common.{◌≡◌, ◌∙◌, ℕ, ◌+◌, ◌-◌, ◌^◌, ◌<◌, ◌≤◌, List, [], ◌∷◌, ◌++◌, length}
+use Rattle.std.proofs.Common.{map, min, refl}
+use Rattle.std.proofs.Common.{sym, ap, subst, arith, append_assoc, take, get_or}
 use Rattle.std.proofs.Common.{length-append}
 use Rattle.std.specs.Prelude.{Option, Result, Ok, Err}
 use Rattle.std.specs.List.{concat}
@@ -8,11 +9,10 @@ use Rattle.std.specs.Io.KnownBytes.{Appends, Keeps}
 use Rattle.std.proofs.KnownBytes.{Appends-nil, Appends-trans, Appends-kept}
 use Rattle.std.proofs.lemmas.List.{append-nil, map-append, take_more, take_all}
 use Rattle.thorin_queries.specs.Answers.{HasBeginning}
-use Rattle.thorin_queries.specs.Telling.{Grows, IsOfPrinting, fault_count, Told, TellsOr, Tells}
-use Rattle.thorin_queries.specs.Telling.{IsNone, IsLine, Passes, PassesOne, InTurn, ForEach}
+use Rattle.thorin_queries.specs.Telling.{Grows, fault_count, Told, TellsOr, Tells}
+use Rattle.thorin_queries.specs.Telling.{IsNone, IsLine, PassesOne, InTurn, ForEach}
 use Rattle.thorin_queries.specs.Telling.{IsSum}
 use Rattle.thorin_queries.specs.declared.output.Failure.{Failure}
-use Rattle.thorin_queries.specs.declared.output.Failure.TheVariants as failures
 
 pub concat-append : (xs ys : List (List ℕ)) → concat (xs ++ ys) ≡ concat xs ++ concat ys
 concat-append [] ys = refl
@@ -101,7 +101,8 @@ module _ (P Q R : List (List ℕ) → Type 0) {a b c : Option (List ℕ)} {held 
     handed = p.handed ++ q.handed;
     added = Appends-trans a b c p.handed q.handed p.added q.added;
     split = ap (λ l. held ++ l) (concat-append p.lines q.lines)
-        ∙ split_on held (concat p.lines) (concat q.lines) p.handed q.handed mid left p.split q.split;
+        ∙ split_on held (concat p.lines) (concat q.lines) p.handed q.handed mid left
+        p.split q.split;
     counted = e ∙ counts p.lines q.lines m n p.counted q.counted;
   }
 

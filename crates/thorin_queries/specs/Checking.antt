@@ -15,7 +15,7 @@ use Rattle.thorin_queries.specs.Answers.{RefusesFile}
 use Rattle.thorin_queries.specs.Faults.{TellsUnit, TellsStringsOf, AreRows, TellsListed}
 use Rattle.thorin_queries.specs.Lines.{line_end}
 use Rattle.thorin_queries.specs.Listing.{AreByRow}
-use Rattle.thorin_queries.specs.Telling.{Grows, Told, InTurn, ForEach}
+use Rattle.thorin_queries.specs.Telling.{Grows, InTurn, ForEach}
 use Rattle.thorin_queries.specs.Telling.{IsOfPrinting, fault_count}
 use Rattle.thorin_queries.specs.declared.output.Failure.{Failure}
 use Rattle.thorin_queries.specs.declared.output.Failure.TheVariants as failures

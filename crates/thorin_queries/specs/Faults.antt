@@ -99,7 +99,8 @@ TellsStringsOf object _ lines = IsNone lines
 
 -- the line of a row that no slot names
 unfoldable pub row_line : (kind : List ℕ) → ℕ → List ℕ
-row_line kind row = kind ++ (codes " row " ++ (decimal row ++ (codes ": no slot names it" ++ line_end)))
+row_line kind row = kind ++
+    (codes " row " ++ (decimal row ++ (codes ": no slot names it" ++ line_end)))
 
 -- lines of rows
 abbrev pub AreRows : (kind : List ℕ) → List (List ℕ) → Type 0

@@ -5,5 +5,6 @@ use Rattle.thorin_queries.proofs.rows.tell_gaps.Given as goal
 
 -- the lines so far
 abbrev pub invariant-loop-i : goal.invariant-loop-i
-invariant-loop-i g l = Told (AreRows l.kind) (g.O.Write.contents l.initial.out) (string_bytes l.initial.waiting)
+invariant-loop-i g l = Told (AreRows l.kind) (g.O.Write.contents l.initial.out)
+    (string_bytes l.initial.waiting)
     (g.O.Write.contents l.out) (string_bytes l.waiting) l.faults

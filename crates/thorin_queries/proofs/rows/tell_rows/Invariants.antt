@@ -5,5 +5,6 @@ use Rattle.thorin_queries.proofs.rows.tell_rows.Given as goal
 
 -- the lines so far
 abbrev pub invariant-loop-row : goal.invariant-loop-row
-invariant-loop-row g l = Told (AreRows l.kind) (g.O.Write.contents l.initial.out) (string_bytes l.initial.waiting)
+invariant-loop-row g l = Told (AreRows l.kind) (g.O.Write.contents l.initial.out)
+    (string_bytes l.initial.waiting)
     (g.O.Write.contents l.out) (string_bytes l.waiting) l.faults

@@ -10,7 +10,8 @@ loop-i-init g c = none_told _ refl _ _
 
 pub loop-i-preserved : goal.loop-i-preserved
 loop-i-preserved g c =
-    told_next (λ (s : (ℕ × ℕ × ℕ × Bool) × DwarfObject). TellsStringsOf s.1 (found c.args.pack.now s.1)) c.args.strings.now c.loop-i.i _
+    told_next (λ (s : (ℕ × ℕ × ℕ × Bool) × DwarfObject).
+    TellsStringsOf s.1 (found c.args.pack.now s.1)) c.args.strings.now c.loop-i.i _
     _ c.loop-i-test.true c.saturating_add-faults.ensures c.loop-i.invariant c.in-Ok.ensures
 
 pub returns-in-Err : goal.returns-in-Err
@@ -18,5 +19,6 @@ returns-in-Err g c =
     (c.in-Err.ensures.0, stopped_behind _ c.loop-i.invariant c.in-Err.ensures.1)
 
 pub returns : goal.returns
-returns g c = told_all (λ (s : (ℕ × ℕ × ℕ × Bool) × DwarfObject). TellsStringsOf s.1 (found c.args.pack.now s.1)) c.args.strings.now
+returns g c = told_all (λ (s : (ℕ × ℕ × ℕ × Bool) × DwarfObject).
+    TellsStringsOf s.1 (found c.args.pack.now s.1)) c.args.strings.now
     c.loop-i.i (omega arith) c.loop-i.invariant

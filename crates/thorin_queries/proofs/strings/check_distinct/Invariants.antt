@@ -9,6 +9,7 @@ use Rattle.thorin_queries.proofs.strings.check_distinct.Given as goal
 -- the faults of the units so far
 abbrev pub invariant-loop-i : goal.invariant-loop-i
 invariant-loop-i g l = Told
-    (ForEach (λ (s : (ℕ × ℕ × ℕ × Bool) × DwarfObject). TellsStringsOf s.1 (found l.pack s.1)) (take l.i l.strings))
+    (ForEach (λ (s : (ℕ × ℕ × ℕ × Bool) × DwarfObject). TellsStringsOf s.1 (found l.pack s.1))
+    (take l.i l.strings))
     (g.O.Write.contents l.initial.out) (string_bytes l.initial.waiting)
     (g.O.Write.contents l.out) (string_bytes l.waiting) l.faults

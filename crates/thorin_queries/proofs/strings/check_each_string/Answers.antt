@@ -1,5 +1,4 @@
-use Rattle.std.proofs.Common.{◌≡◌, ◌∙◌, arith, refl, ap, subst}
-use Rattle.thorin_queries.specs.Faults.{TellsString, string_of}
+use Rattle.std.proofs.Common.{◌≡◌, ◌∙◌, arith, refl}
 use Rattle.thorin_queries.proofs.Faulted.{string_told, strings_told}
 use Rattle.thorin_queries.proofs.Told.{none_told, stopped_behind}
 use Rattle.thorin_queries.proofs.strings.check_each_string.Goals as goal
