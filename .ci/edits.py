@@ -106,6 +106,32 @@ def function_at(text, file, place):
     return name if module in ("lib", "main", "mod") else f"{module}::{name}"
 
 
+def paths_beside(crate, functions):
+    """The paths, below proofs/, of the functions of a crate that have bodies and aren't among these."""
+    texts, found = {}, []
+    for at, _folders, files in sorted(os.walk(f"{crate.folder}/src")):
+        for file in sorted(it for it in files if it.endswith(".rt")):
+            path = os.path.relpath(f"{at}/{file}", crate.folder)
+            module = re.sub(r"^src/|\.rt$", "", path)
+            texts["" if module in ("lib", "main") else f"{module}/"] = text_of(crate, path)
+    # (a type's own methods stand at the place of the type, in whichever file they are written)
+    homes = {name: module for module, text in texts.items() for name in re.findall(r"^(?:pub(?:\([^)]*\))? )?(?:struct|enum) (\w+)", text, re.M)}
+    for module, text in texts.items():
+        lines = text.split("\n")
+        for first, last, name in functions_in(lines):
+            head = "\n".join(lines[max(0, first - 6) : first + 1])
+            # (functions that call each other have one proof for all, and so has one that calls itself)
+            calls_itself = re.search(rf"(?<![\w.:])(?<!fn ){name}\(|Self::{name}\(|self\.{name}\(", "\n".join(lines[first + 1 : last]))
+            if lines[last].rstrip().endswith(";") or "#[cycle" in head or calls_itself or lines[first].startswith("     "):
+                continue
+            owner = type_above(lines, first) if lines[first].startswith(" ") else ""
+            path = (homes.get(owner, module) + f"{owner}/" if owner else module) + name
+            told = path.replace("/", "::")
+            if re.fullmatch(r"[\w/]+", path) and not any(f"::{told}".endswith(f"::{it}") for it in functions):
+                found.append(path)
+    return found
+
+
 def type_above(lines, line):
     """The type of the `impl` or the trait that a line stands in, with the trait behind it that it implements."""
     for at in range(line - 1, -1, -1):
@@ -150,8 +176,10 @@ def split_generics(head):
 class Group:
     """Edits of different functions, which one check tries."""
 
-    def __init__(self):
+    def __init__(self, assumes):
         self.edits, self.functions, self.texts, self.is_alone = [], set(), {}, False
+        # Whether the crate's other functions are taken by their contracts, unproved.
+        self.assumes = assumes
         # Whether a function that is meant was found among several of one name.
         self.is_renamed = False
 
@@ -165,15 +193,17 @@ class Group:
         self.texts, self.is_alone = changed, edit.is_alone and not edit.functions
         self.edits.append(edit)
         self.functions |= edit.functions
+        # (an edit of a definition may change what those contracts say)
+        self.assumes = self.assumes and not self.is_alone and all(file.startswith("src/") for file, _old, _new in edit.pairs)
         return True
 
 
-def grouped(edits):
+def grouped(edits, assumes=True):
     """The edits in as few groups as have different functions."""
     groups = []
     for edit in edits:
         if not any(it.takes(edit) for it in groups):
-            groups.append(Group())
+            groups.append(Group(assumes))
             if not groups[-1].takes(edit):
                 raise ValueError(edit.applied({})[1])
     return groups
