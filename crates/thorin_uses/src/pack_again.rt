@@ -1,6 +1,6 @@
 //! Adds a package that was packed before to a builder that the caller has.
 
-ghost use Rattle.std.specs.Prelude.{◌≡◌, OnOk, IfErr};
+ghost use Rattle.std.specs.Prelude.{◌≡◌, OnErr, OnOk, IfErr};
 ghost use Rattle.dwp_elf.specs.FileText.{Object, file_text};
 ghost use Rattle.thorin_faults.specs.Answers.{Gives, MemoryAside};
 ghost use Rattle.thorin_faults.specs.Fault.{fault_of};
@@ -33,6 +33,7 @@ pub fn add_package<'output, 'session: 'output, Sess: Session<RelocationEntry>>(
     ensures meaning { Gives (λ _. builder.new.state) result (taken bytes.now builder.old.state) }
     ensures joins { OnOk result
         (Joins bytes.now (units_in builder.old.state) (units_in builder.new.state)) }
+    ensures err { OnErr result (builder.new.state ≡ builder.old.state) }
     ensures refused { (file : Object) → bytes.now ≡ file_text file → IsAccepted file
         → order_of builder.old.state.begun file.order ≡ file.order
         → IfErr result (λ e. MemoryAside e (IsForeseen (fault_of e))) }
