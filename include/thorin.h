@@ -45,7 +45,7 @@ extern "C" {
 /** The first number of the version. */
 #define THORIN_VERSION_MAJOR 1
 /** The second. */
-#define THORIN_VERSION_MINOR 0
+#define THORIN_VERSION_MINOR 1
 /** The third. */
 #define THORIN_VERSION_PATCH 0
 /** The version of this header as one number. */

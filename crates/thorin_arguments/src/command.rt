@@ -3,7 +3,7 @@
 use clap::{Arg, ArgAction, Command};
 use std::alloc::{AllocError, Global};
 
-const VERSION: &'static str = "1.0.0";
+const VERSION: &'static str = "1.1.0";
 
 const EXAMPLES: &'static str = "Example:
   gcc -c -g -gsplit-dwarf hello.c          leaves hello.o and hello.dwo

@@ -10,12 +10,12 @@ use crate::status::{
     REFUSED, TOO_SMALL, UNFINISHED, UNKNOWN_COMPRESSION, UNWRITABLE,
 };
 
-/// The version, 1.0.0: 65,536 times its first number, 256 times its second, and its third.
+/// The version, 1.1.0: 65,536 times its first number, 256 times its second, and its third.
 #[unsafe(no_mangle)]
 pub extern "C" fn thorin_version() -> u32
-    ensures { result ≡ 65536 }
+    ensures { result ≡ 65792 }
 {
-    1 << 16
+    65792
 }
 
 /// What a status means: its text, as far as there is room in `text`. Answers how many bytes the
