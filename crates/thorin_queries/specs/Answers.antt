@@ -5,6 +5,13 @@ use Rattle.std.specs.Io.KnownBytes.{Appends, Keeps}
 use Rattle.thorin_queries.specs.declared.output.Failure.{Failure}
 use Rattle.thorin_queries.specs.declared.output.Failure.TheVariants as failures
 
+-- the status that the program ends with: 2 where the words are at fault, else 1
+abbrev pub exit_status : Failure → ℕ
+exit_status failures.BadKind = 2
+exit_status failures.BadIdentifier = 2
+exit_status failures.BadCommand = 2
+exit_status _ = 1
+
 -- a text, and what is answered once it is printed: a status, or why the command was refused
 pub record Answer : Type 0 where
   pub printed : List ℕ

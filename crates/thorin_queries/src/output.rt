@@ -1,8 +1,8 @@
 //! What the program prints of faults.
 
-ghost use Rattle.std.specs.Prelude.{◌≤◌, length, take, IfOk, IfErr, OnOk, OnErr};
+ghost use Rattle.std.specs.Prelude.{◌≡◌, ◌⊎◌, ◌≤◌, length, take, IfOk, IfErr, OnOk, OnErr};
 ghost use Rattle.std.specs.Io.KnownBytes.{Appends, Keeps};
-ghost use Rattle.thorin_queries.specs.Answers.{HasBeginning, Comes};
+ghost use Rattle.thorin_queries.specs.Answers.{HasBeginning, Comes, exit_status};
 ghost use Rattle.thorin_queries.specs.Telling.{IsOfPrinting, Prints};
 
 use std::alloc::{AllocError, AllocFailed, Global};
@@ -40,7 +40,9 @@ pub enum Failure {
 
 impl Failure {
     /// The status that the program ends with.
-    pub fn status(&self) -> u8 {
+    pub fn status(&self) -> u8
+        ensures { result ≡ exit_status self.now }
+    {
         match self {
             Failure::BadKind | Failure::BadIdentifier | Failure::BadCommand => 2,
             _ => 1,
@@ -201,7 +203,9 @@ pub fn flush<W: Write>(lines: &mut W) -> Result<(), Failure>
 }
 
 /// Prints a failure, and answers its status; 1 where it can't be printed.
-pub fn report<W: Write>(err: &mut W, failure: &Failure) -> u8 {
+pub fn report<W: Write>(err: &mut W, failure: &Failure) -> u8
+    ensures { (result ≡ exit_status failure.now) ⊎ (result ≡ 1) }
+{
     match writeln!(err, "error: {failure}") {
         Ok(()) => failure.status(),
         Err(_) => 1,
