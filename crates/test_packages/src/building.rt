@@ -6,7 +6,7 @@ use crate::reading::tell_name;
 use crate::table::Table;
 use crate::text::Text;
 use std::alloc::Global;
-use thorin::{Bump, BytesSession, DwarfPackage, Error, WritableObject};
+use thorin::{Bump, BytesSession, DebugTypeSignature, DwarfPackage, Error, WritableObject};
 
 /// `builder FILE INPUT..`: what a builder shows of itself, then each input's answer with what it
 /// shows then, and the file, which is kept.
@@ -69,12 +69,21 @@ fn tell_state<'o, 's: 'o>(builder: &DwarfPackage<'o, 's, BytesSession<'s>>, text
     text.debug(builder);
     text.put("\n  packs again: ");
     text.debug(&builder.packs_again());
+    tell_signatures(text, builder.differing_types());
+    tell_units(builder, text);
+}
+
+fn tell_signatures(text: &mut Text, signatures: &[DebugTypeSignature]) {
     text.put(", differing: [");
-    for signature in builder.differing_types() {
+    for i in 0..signatures.len() {
         text.put(" ");
-        text.hexadecimal(signature.0);
+        text.hexadecimal(signatures[i].0);
     }
-    text.put(" ], units: [");
+    text.put(" ]");
+}
+
+fn tell_units<'o, 's: 'o>(builder: &DwarfPackage<'o, 's, BytesSession<'s>>, text: &mut Text) {
+    text.put(", units: [");
     for unit in builder.contained_units().iter() {
         tell_name(text, *unit);
     }

@@ -19,12 +19,16 @@ fn finds(file: &[u8]) -> Result<bool, PackageError> {
 /// What a builder answers of a file, and whether the reader finds its unit 5.
 fn answers(alloc: Global, file: &[u8]) -> Text {
     let mut text = Text::new(alloc);
+    tell_answers(alloc, file, &mut text);
+    text
+}
+
+fn tell_answers(alloc: Global, file: &[u8], text: &mut Text) {
     text.put("builder ");
     text.debug(&answer(alloc, file));
     text.put(", reader ");
     text.debug(&finds(file));
     text.put("\n");
-    text
 }
 
 /// `damage FILE PLACE WORD..`: what is answered of a file with other bytes from a place on.
@@ -38,7 +42,7 @@ pub fn damage(
         return Err(Mistake::Words);
     };
     let bytes = table.damaged(file, place, words)?;
-    text.append(&answers(alloc, &bytes));
+    tell_answers(alloc, &bytes, text);
     Ok(())
 }
 
@@ -71,7 +75,7 @@ fn cut_each(alloc: Global, file: &[u8], text: &mut Text) {
     tell_run(text, first, file.len().saturating_sub(1), &last);
     text.number(file.len() as u64);
     text.put(" bytes: ");
-    text.append(&answers(alloc, file));
+    tell_answers(alloc, file, text);
 }
 
 fn tell_run(text: &mut Text, first: usize, last: usize, answers: &Text) {

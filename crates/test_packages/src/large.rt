@@ -20,15 +20,55 @@ pub fn many(
     let [file, object, from, to, count] = words else {
         return Err(Mistake::Words);
     };
-    let (from, to, count) = (number(from)?, number(to)?, number(count)?);
-    let object = table.get(object)?;
-    let copies = copies(alloc, object, to.saturating_sub(8), count)?;
-    let bytes = packed_copies(alloc, &copies, object.len(), text)?;
-    let units = found_at_once(&bytes, &copies, object.len(), from, to);
+    let unit = (number(from)?, number(to)?);
+    let count = number(count)?;
+    let bytes = packed_often(alloc, table.get(object)?, unit, count, text)?;
+    table.keep(file, bytes)
+}
+
+/// The package of so many copies of an object whose unit stands between two places.
+fn packed_often(
+    alloc: Global,
+    object: &[u8],
+    unit: (usize, usize),
+    count: usize,
+    text: &mut Text,
+) -> Result<Vec<u8>, Mistake> {
+    match copies(alloc, object, unit.1.saturating_sub(8), count) {
+        Ok(copies) => told_copies(alloc, &copies, object.len(), unit, text),
+        Err(mistake) => Err(mistake),
+    }
+}
+
+/// The package of these copies, with what is found in it.
+fn told_copies(
+    alloc: Global,
+    copies: &[u8],
+    size: usize,
+    unit: (usize, usize),
+    text: &mut Text,
+) -> Result<Vec<u8>, Mistake> {
+    match packed_copies(alloc, copies, size, text) {
+        Ok(bytes) => match tell_copies(alloc, copies, size, unit, &bytes, text) {
+            Ok(()) => Ok(bytes),
+            Err(mistake) => Err(mistake),
+        },
+        Err(mistake) => Err(mistake),
+    }
+}
+
+fn tell_copies(
+    alloc: Global,
+    copies: &[u8],
+    size: usize,
+    unit: (usize, usize),
+    file: &[u8],
+    text: &mut Text,
+) -> Result<(), Mistake> {
+    let units = found_at_once(file, copies, size, unit.0, unit.1);
     text.number(units as u64);
     text.put(" found in the first slot\n");
-    tell_grouped(alloc, &copies, object.len(), &bytes, text)?;
-    table.keep(file, bytes)
+    tell_grouped(alloc, copies, size, file, text)
 }
 
 /// The copies of an object with the identifiers from 1 on at a place, one behind another.

@@ -16,7 +16,7 @@ mod reading;
 mod table;
 mod text;
 
-use crate::mistake::Mistake;
+use crate::mistake::{Mistake, halves};
 use crate::table::Table;
 use crate::text::Text;
 use std::alloc::{AllocError, Global};
@@ -67,7 +67,7 @@ fn run_script(rt: &HostRuntime, table: &mut Table, script: &str) -> io::Result<(
 
 /// Runs a line, and prints it with what it answers, if it does. What stands behind `#` is a comment.
 fn tell_line(rt: &HostRuntime, table: &mut Table, line: &str) -> io::Result<()> {
-    let line = match line.split_once('#') {
+    let line = match halves(line, "#") {
         Some((line, _)) => line,
         None => line,
     };

@@ -1,7 +1,7 @@
 //! What is wrong with a line of a script, and what lines add to.
 
 /// Why a line of a script could not be run.
-#[derive(Debug, Drop)]
+#[derive(Clone, Copy, Debug)]
 pub enum Mistake {
     /// There is no such command.
     Command,
@@ -27,6 +27,16 @@ pub fn number(word: &str) -> Result<usize, Mistake> {
         Ok(number) => Ok(number),
         Err(_fault) => Err(Mistake::Number),
     }
+}
+
+/// The parts of a word before a mark and behind it; None where it isn't there.
+pub fn halves<'a>(word: &'a str, mark: &str) -> Option<(&'a str, &'a str)> {
+    word.split_once(mark)
+}
+
+/// A word without this end, where it has it.
+pub fn without_end<'a>(word: &'a str, end: &str) -> &'a str {
+    word.strip_suffix(end).unwrap_or(word)
 }
 
 /// Adds bytes behind others.

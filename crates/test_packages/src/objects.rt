@@ -1,6 +1,6 @@
 //! The objects of a script.
 
-use crate::mistake::{Mistake, number};
+use crate::mistake::{Mistake, halves, number};
 use crate::table::Table;
 use crate::text::Text;
 use std::alloc::Global;
@@ -65,7 +65,7 @@ fn append(
     file: &mut WritableObject,
     section: &str,
 ) -> Result<(), Mistake> {
-    let Some((kind, word)) = section.split_once('=') else {
+    let Some((kind, word)) = halves(section, "=") else {
         return Err(Mistake::Words);
     };
     let kind = kind_of(alloc, kind)?;

@@ -1,6 +1,6 @@
 //! Packing of a script's inputs, at once and in groups. Each call of packing is met here alone.
 
-use crate::mistake::{Mistake, push};
+use crate::mistake::{Mistake, push, without_end};
 use crate::table::Table;
 use crate::text::Text;
 use std::alloc::Global;
@@ -40,15 +40,16 @@ pub fn pack_named(
     let [file, names @ ..] = words else {
         return Err(Mistake::Words);
     };
-    let packed = {
-        let inputs = table.all(names)?;
-        packed(alloc, &inputs)
-    };
-    match packed {
-        Ok(packed) => {
-            tell_packed(names, &packed, text);
-            keep(table, file, file_of(packed), text)
-        }
+    let packed = packed_names(alloc, table, names)?;
+    tell_packed(names, &packed, text);
+    keep(table, file, file_of(packed), text)
+}
+
+/// What packing the inputs of these names gives.
+fn packed_names(alloc: Global, table: &Table, names: &[&str]) -> Result<Packed, Mistake> {
+    let inputs = table.all(names)?;
+    match packed(alloc, &inputs) {
+        Ok(packed) => Ok(packed),
         Err(_fault) => Err(Mistake::Memory),
     }
 }
@@ -159,7 +160,7 @@ impl<'a> Groups<'a> {
             }
             None => word,
         };
-        let word = word.strip_suffix("]").unwrap_or(word);
+        let word = without_end(word, "]");
         if word.is_empty() || self.starts.is_empty() {
             return Ok(());
         }

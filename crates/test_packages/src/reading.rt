@@ -20,14 +20,8 @@ fn named(kind: &str, id: &str) -> Result<DwarfObject, Mistake> {
 /// Adds a unit's name to a text.
 pub fn tell_name(text: &mut Text, unit: DwarfObject) {
     match unit {
-        DwarfObject::Compilation(id) => {
-            text.put(" cu ");
-            text.number(id.0);
-        }
-        DwarfObject::TypeUnit(signature) => {
-            text.put(" tu ");
-            text.number(signature.0);
-        }
+        DwarfObject::Compilation(id) => text.numbered(" cu ", id.0),
+        DwarfObject::TypeUnit(signature) => text.numbered(" tu ", signature.0),
     }
 }
 
@@ -48,12 +42,17 @@ pub fn unit(table: &Table, words: &[&str], text: &mut Text) -> Result<(), Mistak
     let [file, kind, id, rest @ ..] = words else {
         return Err(Mistake::Words);
     };
-    let first = match rest {
-        [first, ..] => number(first)? as u64,
-        [] => 0,
-    };
-    tell_unit(table.get(file)?, named(kind, id)?, first, text);
+    let (file, name, first) = (table.get(file)?, named(kind, id)?, first_of(rest)?);
+    tell_unit(file, name, first, text);
     Ok(())
+}
+
+/// The number of the first string that is asked for.
+fn first_of(words: &[&str]) -> Result<u64, Mistake> {
+    match words.first() {
+        Some(first) => Ok(number(first)? as u64),
+        None => Ok(0),
+    }
 }
 
 fn tell_unit(file: &[u8], name: DwarfObject, first: u64, text: &mut Text) {
@@ -72,8 +71,7 @@ fn tell_unit(file: &[u8], name: DwarfObject, first: u64, text: &mut Text) {
 fn tell_found(unit: Option<PackagedUnit<'_>>, slots: u32, first: u64, text: &mut Text) {
     match unit {
         None => {
-            text.put("absent, slots ");
-            text.number(slots as u64);
+            text.numbered("absent, slots ", slots as u64);
             text.put("\n");
         }
         Some(unit) => {
@@ -86,16 +84,12 @@ fn tell_found(unit: Option<PackagedUnit<'_>>, slots: u32, first: u64, text: &mut
 
 fn tell_head(text: &mut Text, unit: &PackagedUnit<'_>, slots: u32) {
     let encoding = unit.encoding();
-    text.put("version ");
-    text.number(encoding.version as u64);
+    text.numbered("version ", encoding.version as u64);
     text.put(" ");
     text.debug(&encoding.format);
-    text.put(" address ");
-    text.number(encoding.address_size as u64);
-    text.put(" row ");
-    text.number(unit.row() as u64);
-    text.put(" slots ");
-    text.number(slots as u64);
+    text.numbered(" address ", encoding.address_size as u64);
+    text.numbered(" row ", unit.row() as u64);
+    text.numbered(" slots ", slots as u64);
     text.put("\nunit ");
     text.bytes(unit.bytes());
     text.put("\n");
@@ -106,14 +100,18 @@ fn tell_ranges(text: &mut Text, unit: &PackagedUnit<'_>) {
     for kind in SectionKind::ALL {
         if let Some(range) = unit.range(kind) {
             text.debug(&kind);
-            text.put(" ");
-            text.hexadecimal(range.offset.0);
-            text.put(" ");
-            text.hexadecimal(range.size);
-            text.put(" ");
+            tell_range(text, range.offset.0, range.size);
             tell_front(text, unit.section(kind));
         }
     }
+}
+
+fn tell_range(text: &mut Text, offset: u64, size: u64) {
+    text.put(" ");
+    text.hexadecimal(offset);
+    text.put(" ");
+    text.hexadecimal(size);
+    text.put(" ");
 }
 
 fn tell_front(text: &mut Text, bytes: &[u8]) {
@@ -133,23 +131,34 @@ fn tell_front(text: &mut Text, bytes: &[u8]) {
 fn tell_strings(text: &mut Text, unit: &PackagedUnit<'_>, first: u64) {
     text.put("strings");
     for i in first..first.saturating_add(8) {
-        match unit.string(i) {
-            Ok(Some(string)) => {
-                text.put(" \"");
-                text.display(&string.escape_ascii());
-                text.put("\"");
-            }
-            Ok(None) => {
-                text.put(" none\n");
-                return;
-            }
-            Err(fault) => {
-                text.put(" ");
-                text.debug(&fault);
-            }
+        if !tell_string(text, unit, i) {
+            text.put("none\n");
+            return;
         }
     }
     text.put(" ..\n");
+}
+
+/// Adds a string, or why it can't be read; whether it is there.
+fn tell_string(text: &mut Text, unit: &PackagedUnit<'_>, number: u64) -> bool {
+    text.put(" ");
+    match unit.string(number) {
+        Ok(Some(string)) => {
+            tell_escaped(text, string);
+            true
+        }
+        Ok(None) => false,
+        Err(fault) => {
+            text.debug(&fault);
+            true
+        }
+    }
+}
+
+fn tell_escaped(text: &mut Text, string: &[u8]) {
+    text.put("\"");
+    text.display(&string.escape_ascii());
+    text.put("\"");
 }
 
 /// `units FILE`: the units that the slots of both indexes name.
@@ -169,12 +178,15 @@ fn tell_units(file: &[u8], text: &mut Text) {
         }
         Ok(package) => {
             for entry in package.units() {
-                tell_name(text, entry.object);
-                text.put(" row ");
-                text.number(entry.row as u64);
-                text.put(",");
+                tell_entry(text, entry.object, entry.row);
             }
         }
     }
     text.put("\n");
+}
+
+fn tell_entry(text: &mut Text, unit: DwarfObject, row: u32) {
+    tell_name(text, unit);
+    text.numbered(" row ", row as u64);
+    text.put(",");
 }

@@ -3,7 +3,7 @@
 //! A word is hexadecimal digits, a text between quotation marks, a name, or a part of what a name
 //! has, `name[from..to]` with places in decimal; with `*count` behind it stands so often.
 
-use crate::mistake::{Mistake, extend, number, push};
+use crate::mistake::{Mistake, extend, halves, number, push, without_end};
 use crate::text::Text;
 use std::alloc::Global;
 
@@ -52,7 +52,7 @@ impl Table {
 
     /// The bytes of a name, or the part of them that the word says.
     pub fn get(&self, word: &str) -> Result<&[u8], Mistake> {
-        match word.split_once('[') {
+        match halves(word, "[") {
             Some((name, places)) => part_of(self.named(name)?, places),
             None => self.named(word),
         }
@@ -102,7 +102,7 @@ impl Table {
     }
 
     fn put_often(&self, word: &str, bytes: &mut Vec<u8>) -> Result<(), Mistake> {
-        match word.split_once('*') {
+        match halves(word, "*") {
             Some((word, count)) => self.put_times(word, number(count)?, bytes),
             None => self.put(word, bytes),
         }
@@ -117,8 +117,7 @@ impl Table {
 
     fn put(&self, word: &str, bytes: &mut Vec<u8>) -> Result<(), Mistake> {
         if let Some(text) = word.strip_prefix("\"") {
-            let text = text.strip_suffix("\"").unwrap_or(text);
-            return extend(bytes, text.as_bytes());
+            return extend(bytes, without_end(text, "\"").as_bytes());
         }
         match self.get(word) {
             Ok(named) => extend(bytes, named),
@@ -141,9 +140,22 @@ impl Table {
         let [name, "=", words @ ..] = words else {
             return Err(Mistake::Words);
         };
-        let more = self.joined(words)?;
-        let bytes = joined(self.alloc, &[self.get(name)?, &more])?;
+        let bytes = self.longer(name, words)?;
         self.keep(name, bytes)
+    }
+
+    /// The bytes of a name, with those that words write behind them.
+    fn longer(&self, name: &str, words: &[&str]) -> Result<Vec<u8>, Mistake> {
+        let mut bytes = Vec::new(self.alloc);
+        match self.put_longer(name, words, &mut bytes) {
+            Ok(()) => Ok(bytes),
+            Err(mistake) => Err(mistake),
+        }
+    }
+
+    fn put_longer(&self, name: &str, words: &[&str], bytes: &mut Vec<u8>) -> Result<(), Mistake> {
+        extend(bytes, self.get(name)?)?;
+        self.put_all(words, bytes)
     }
 
     /// `patch NAME FROM PLACE WORD..`: the bytes of FROM, with others from a place on.
@@ -169,11 +181,8 @@ impl Table {
         let [name, from, old, new] = words else {
             return Err(Mistake::Words);
         };
-        let bytes = self.get(from)?;
-        let Some(place) = place_of(bytes, self.get(old)?) else {
-            return Err(Mistake::Place);
-        };
-        let bytes = patched(self.alloc, bytes, place, self.get(new)?)?;
+        let (from, old, new) = (self.get(from)?, self.get(old)?, self.get(new)?);
+        let bytes = replaced(self.alloc, from, old, new)?;
         self.keep(name, bytes)
     }
 
@@ -206,11 +215,11 @@ impl Table {
 
 /// The part of bytes between two places, as `from..to]`.
 fn part_of<'a>(bytes: &'a [u8], places: &str) -> Result<&'a [u8], Mistake> {
-    let Some((from, to)) = places.split_once("..") else {
+    let Some((from, to)) = halves(places, "..") else {
         return Err(Mistake::Number);
     };
-    let to = to.strip_suffix("]").unwrap_or(to);
-    bytes.get(number(from)?..number(to)?).ok_or(Mistake::Place)
+    let (from, to) = (number(from)?, number(without_end(to, "]"))?);
+    bytes.get(from..to).ok_or(Mistake::Place)
 }
 
 /// These bytes joined.
@@ -237,6 +246,14 @@ pub fn patched(alloc: Global, bytes: &[u8], place: usize, new: &[u8]) -> Result<
     }
     let parts = [part(bytes, 0, place), new, part(bytes, behind, bytes.len())];
     joined(alloc, &parts)
+}
+
+/// Bytes in which the first place of others has new ones.
+fn replaced(alloc: Global, bytes: &[u8], old: &[u8], new: &[u8]) -> Result<Vec<u8>, Mistake> {
+    match place_of(bytes, old) {
+        Some(place) => patched(alloc, bytes, place, new),
+        None => Err(Mistake::Place),
+    }
 }
 
 /// The first place of these bytes.

@@ -57,6 +57,12 @@ impl Text {
         }
     }
 
+    /// Adds a word and a number.
+    pub fn numbered(&mut self, word: &str, number: u64) {
+        self.put(word);
+        self.number(number);
+    }
+
     /// Adds a number.
     pub fn number(&mut self, number: u64) {
         self.display(&number);

@@ -140,14 +140,19 @@ fn add_one<'o, 's: 'o, Sess: Session<RelocationEntry>>(
 ) -> bool {
     let before = showing(alloc, builder, tally);
     let fault = add(builder, input);
-    let after = showing(alloc, builder, tally);
     tally.note(tally::OBJECT, fault.is_none());
-    tally.expect(match fault {
-        None => after.begins_with(&before),
-        Some(Fault::Memory) => false,
-        Some(_) => after.is(&before),
-    });
+    let after = showing(alloc, builder, tally);
+    tally.expect(follows(&before, fault, &after));
     fault.is_none()
+}
+
+/// Whether a builder that has answered an input may show this.
+fn follows(before: &Shown, fault: Option<Fault>, after: &Shown) -> bool {
+    match fault {
+        None => after.begins_with(before),
+        Some(Fault::Memory) => false,
+        Some(_) => after.is(before),
+    }
 }
 
 /// Packs inputs at once: so many are accepted, and the file is that of the builder.
@@ -161,12 +166,21 @@ fn pack_all(
     match packed(alloc, inputs) {
         Ok(packed) => {
             tally.expect(packed.outcomes.len() == inputs.len());
-            let count = accepted_count(&packed, tally);
-            tally.expect(count == accepted);
-            tally.expect(is_file(&file_of(packed), &built.file));
+            compare_packed(packed, accepted, &built.file, tally);
         }
         Err(_fault) => tally.expect(false),
     }
+}
+
+fn compare_packed(
+    packed: Packed,
+    accepted: usize,
+    file: &Result<Vec<u8>, Fault>,
+    tally: &mut Tally,
+) {
+    let count = accepted_count(&packed, tally);
+    tally.expect(count == accepted);
+    tally.expect(is_file(&file_of(packed), file));
 }
 
 /// How many inputs were accepted.
@@ -215,13 +229,18 @@ fn compare_again(alloc: Global, built: &Built<'_>, tally: &mut Tally) {
     if let Ok(file) = &built.file {
         read_back(file, &built.end.units, tally);
         if built.end.again {
-            let again = packed_alone(alloc, file);
-            tally.note(tally::OBJECT, again.is_ok());
-            match &again {
-                Ok(again) => read_back(again, &built.end.units, tally),
-                Err(fault) => tally.expect(matches!(fault, Fault::SectionNotInRow)),
-            }
+            pack_again(alloc, file, &built.end.units, tally);
         }
+    }
+}
+
+/// Packs a file alone.
+fn pack_again(alloc: Global, file: &[u8], units: &[DwarfObject], tally: &mut Tally) {
+    let again = packed_alone(alloc, file);
+    tally.note(tally::OBJECT, again.is_ok());
+    match &again {
+        Ok(again) => read_back(again, units, tally),
+        Err(fault) => tally.expect(matches!(fault, Fault::SectionNotInRow)),
     }
 }
 
@@ -240,13 +259,27 @@ fn packed_alone(alloc: Global, input: &[u8]) -> Result<Vec<u8>, Fault> {
 
 /// Packs the accepted inputs in two groups: where there is a file, it has these units.
 fn compare_groups(alloc: Global, built: &Built<'_>, tally: &mut Tally) {
-    let mut groups = Groups::new(alloc);
-    tally.expect(halve(&built.accepted, &mut groups).is_ok());
-    let file = grouped(alloc, &groups);
+    let file = packed_halves(alloc, &built.accepted);
     tally.note(tally::GROUPS, file.is_ok());
     match &file {
         Ok(file) => read_back(file, &built.end.units, tally),
-        Err(fault) => tally.expect(!matches!(sort_of(fault), Fault::Memory)),
+        Err(fault) => tally.expect(!matches!(fault, Fault::Memory)),
+    }
+}
+
+/// The file of a package of two groups of inputs.
+fn packed_halves(alloc: Global, inputs: &[&[u8]]) -> Result<Vec<u8>, Fault> {
+    let mut groups = Groups::new(alloc);
+    match halve(inputs, &mut groups) {
+        Ok(()) => grouped_file(alloc, &groups),
+        Err(_mistake) => Err(Fault::Memory),
+    }
+}
+
+fn grouped_file(alloc: Global, groups: &Groups<'_>) -> Result<Vec<u8>, Fault> {
+    match grouped(alloc, groups) {
+        Ok(file) => Ok(file),
+        Err(fault) => Err(sort_of(&fault)),
     }
 }
 

@@ -31,6 +31,12 @@ fn damage_once(generator: &mut Generator, bytes: &mut Vec<u8>) {
         1 => cut(generator, bytes),
         2 => raise(generator, bytes),
         3 => copy_over(generator, bytes),
+        kind => damage_further(kind, generator, bytes),
+    }
+}
+
+fn damage_further(kind: usize, generator: &mut Generator, bytes: &mut Vec<u8>) {
+    match kind {
         4 => repeat(generator, bytes),
         5 => count_up(generator, bytes),
         6 => swap_headers(generator, bytes),

@@ -32,14 +32,47 @@ pub fn refer(
         MissingReferencedObjectBehaviour::Error
     };
     let first = maybe_damaged(alloc, generator, samples, tally);
-    let executable = maybe_damaged(alloc, generator, &[executable], tally);
-    let list = listed(alloc, &executable, tally);
+    let files = files_of(alloc, generator, executable, samples, tally);
+    give_files(alloc, &files, &first, missing, tally);
+}
+
+/// The executable, as it is or damaged, and a file at each path that it names.
+fn files_of(
+    alloc: Global,
+    generator: &mut Generator,
+    executable: &[u8],
+    samples: &[&[u8]],
+    tally: &mut Tally,
+) -> Files {
     let mut files = BTreeMap::new(alloc);
-    put_objects(alloc, generator, &list, samples, &mut files, tally);
+    let executable = maybe_damaged(alloc, generator, &[executable], tally);
+    put_named(alloc, generator, &executable, samples, &mut files, tally);
     tally.expect(put(alloc, &mut files, EXECUTABLE, executable));
+    files
+}
+
+fn put_named(
+    alloc: Global,
+    generator: &mut Generator,
+    executable: &[u8],
+    samples: &[&[u8]],
+    files: &mut Files,
+    tally: &mut Tally,
+) {
+    let list = listed(alloc, executable, tally);
+    put_objects(alloc, generator, &list, samples, files, tally);
+}
+
+fn give_files(
+    alloc: Global,
+    files: &Files,
+    first: &[u8],
+    missing: MissingReferencedObjectBehaviour,
+    tally: &mut Tally,
+) {
     let arena = Bump::new(alloc);
-    let session = MemorySession::new(&arena, &files);
-    give(alloc, &session, &first, missing, tally);
+    let session = MemorySession::new(&arena, files);
+    give(alloc, &session, first, missing, tally);
 }
 
 /// What an executable names, up to its first fault.

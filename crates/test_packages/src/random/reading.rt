@@ -5,11 +5,11 @@ ghost use Rattle.std.specs.Prelude.{◌≡◌};
 use crate::random::tally::{self, Tally};
 use dwp_base::{Endianness, SectionKind};
 use dwp_dwarf::{
-    Abbreviation, AbbreviationCache, Abbreviations, ReadError, Reader, Relocate, Relocation,
-    RelocationEntry, SliceReader, StringSections, UnitHeader, UnitHeaders, UnitSection,
+    Abbreviation, AbbreviationCache, Abbreviations, Attribute, Format, ReadError, Reader, Relocate,
+    Relocation, RelocationEntry, SliceReader, StringSections, UnitHeader, UnitHeaders, UnitSection,
     attr_string, root,
 };
-use dwp_elf_read::{ElfFile, FileKind};
+use dwp_elf_read::{ElfFile, FileKind, Section};
 use dwp_index::{CONTRIBUTION_KINDS, PackageFile, UnitIndex};
 use dwp_table::DwarfObject;
 use std::alloc::Global;
@@ -47,20 +47,36 @@ pub fn read_all(alloc: Global, bytes: &[u8], tally: &mut Tally) {
 
 fn read_sections(file: &ElfFile<'_>, tally: &mut Tally) {
     for section in file.sections() {
-        tally.note(tally::NAME, section.name().is_ok());
-        let kind = section.name().ok().and_then(SectionKind::of_name);
-        tally.expect(kind == section.section_kind());
-        let content = section.data();
-        tally.note(tally::CONTENT, content.is_ok());
-        if let Ok(content) = content {
-            read_index(content, file.endianness(), tally);
-        }
-        for relocation in section.relocations() {
-            tally.note(tally::RELOCATION, relocation.is_ok());
-            if let Ok(relocation) = relocation {
-                let value = file.symbol_value(relocation.table, relocation.symbol);
-                tally.note(tally::SYMBOL, value.is_ok());
-            }
+        read_name(&section, tally);
+        read_content(&section, file.endianness(), tally);
+        read_relocations(file, &section, tally);
+    }
+}
+
+fn read_name(section: &Section<'_>, tally: &mut Tally) {
+    let name = section.name();
+    tally.note(tally::NAME, name.is_ok());
+    let kind = match name {
+        Ok(name) => SectionKind::of_name(name),
+        Err(_fault) => None,
+    };
+    tally.expect(kind == section.section_kind());
+}
+
+fn read_content(section: &Section<'_>, order: Endianness, tally: &mut Tally) {
+    let content = section.data();
+    tally.note(tally::CONTENT, content.is_ok());
+    if let Ok(content) = content {
+        read_index(content, order, tally);
+    }
+}
+
+fn read_relocations(file: &ElfFile<'_>, section: &Section<'_>, tally: &mut Tally) {
+    for relocation in section.relocations() {
+        tally.note(tally::RELOCATION, relocation.is_ok());
+        if let Ok(relocation) = relocation {
+            let value = file.symbol_value(relocation.table, relocation.symbol);
+            tally.note(tally::SYMBOL, value.is_ok());
         }
     }
 }
@@ -78,21 +94,45 @@ fn reader_of<'a>(file: &ElfFile<'a>, name: &str) -> SliceReader<'a> {
 
 fn read_dwarf(alloc: Global, file: &ElfFile<'_>, tally: &mut Tally) {
     let split = reader_of(file, ".debug_abbrev.dwo");
-    let info = reader_of(file, ".debug_info.dwo");
-    let types = reader_of(file, ".debug_types.dwo");
-    let strings = strings_of(file);
-    read_twice(alloc, info, UnitSection::Info, split, &strings, tally);
-    read_twice(alloc, types, UnitSection::Types, split, &strings, tally);
-    let info = reader_of(file, ".debug_info");
-    let abbreviations = reader_of(file, ".debug_abbrev");
-    read_twice(
+    read_named(
         alloc,
-        info,
+        file,
+        ".debug_info.dwo",
         UnitSection::Info,
-        abbreviations,
-        &strings,
+        split,
         tally,
     );
+    read_named(
+        alloc,
+        file,
+        ".debug_types.dwo",
+        UnitSection::Types,
+        split,
+        tally,
+    );
+    let abbreviations = reader_of(file, ".debug_abbrev");
+    read_named(
+        alloc,
+        file,
+        ".debug_info",
+        UnitSection::Info,
+        abbreviations,
+        tally,
+    );
+}
+
+/// Reads the units of the first section of a name.
+fn read_named<'a>(
+    alloc: Global,
+    file: &ElfFile<'a>,
+    name: &str,
+    section: UnitSection,
+    abbreviations: SliceReader<'a>,
+    tally: &mut Tally,
+) {
+    let units = reader_of(file, name);
+    let strings = strings_of(file);
+    read_twice(alloc, units, section, abbreviations, &strings, tally);
 }
 
 fn strings_of<'a>(file: &ElfFile<'a>) -> StringSections<SliceReader<'a>> {
@@ -113,14 +153,20 @@ fn read_twice<'a>(
     tally: &mut Tally,
 ) {
     read_units(alloc, units, section, abbreviations, strings, tally);
-    let relocated = StringSections {
+    let units = Relocate::new(&RELOCATIONS, units);
+    let abbreviations = Relocate::new(&[], abbreviations);
+    let strings = relocated(strings);
+    read_units(alloc, units, section, abbreviations, &strings, tally);
+}
+
+fn relocated<'a>(
+    strings: &StringSections<SliceReader<'a>>,
+) -> StringSections<Relocate<'a, SliceReader<'a>>> {
+    StringSections {
         debug_str: Relocate::new(&RELOCATIONS, strings.debug_str),
         debug_line_str: Relocate::new(&RELOCATIONS, strings.debug_line_str),
         debug_str_offsets: Relocate::new(&RELOCATIONS, strings.debug_str_offsets),
-    };
-    let units = Relocate::new(&RELOCATIONS, units);
-    let abbreviations = Relocate::new(&[], abbreviations);
-    read_units(alloc, units, section, abbreviations, &relocated, tally);
+    }
 }
 
 fn read_units<R: Reader>(
@@ -132,19 +178,40 @@ fn read_units<R: Reader>(
     tally: &mut Tally,
 ) {
     let mut cache = AbbreviationCache::new(alloc, abbreviations);
-    let mut read: usize = 0;
-    let mut whole = true;
-    for header in UnitHeaders::new(units, section) {
+    let length = units.len();
+    let read = read_each(UnitHeaders::new(units, section), &mut cache, strings, tally);
+    tally.expect(match read {
+        Some(read) => read == length,
+        None => true,
+    });
+}
+
+/// How many bytes the units have; None where one can't be read.
+fn read_each<R: Reader>(
+    headers: UnitHeaders<R>,
+    cache: &mut AbbreviationCache<R>,
+    strings: &StringSections<R>,
+    tally: &mut Tally,
+) -> Option<usize> {
+    let mut read: Option<usize> = Some(0);
+    for header in headers {
         tally.note(tally::UNIT, header.is_ok());
         match header {
             Ok(header) => {
-                read = read.saturating_add(header.bytes().len());
-                read_root(&header, &mut cache, strings, tally);
+                read = with(read, header.bytes().len());
+                read_root(&header, cache, strings, tally);
             }
-            Err(_) => whole = false,
+            Err(_) => read = None,
         }
     }
-    tally.expect(!whole || read == units.len());
+    read
+}
+
+fn with(read: Option<usize>, more: usize) -> Option<usize> {
+    match read {
+        Some(read) => Some(read.saturating_add(more)),
+        None => None,
+    }
 }
 
 fn tag_of<R: Reader>(
@@ -170,21 +237,37 @@ fn read_root<R: Reader>(
     if let Ok(Some((code, _))) = header.root_code() {
         tally.expect(tag_of(table.get(code)) == tag_of(cache.get(offset, code)));
     }
-    let entry = root(header, &table);
+    read_entry(header, &table, strings, tally);
+}
+
+fn read_entry<R: Reader>(
+    header: &UnitHeader<R>,
+    table: &Abbreviations<R>,
+    strings: &StringSections<R>,
+    tally: &mut Tally,
+) {
+    let entry = root(header, table);
     tally.note(tally::ROOT, entry.is_ok());
     let Ok(Some(entry)) = entry else { return };
     let format = header.encoding().format;
     for attribute in entry.attributes {
         tally.note(tally::ATTRIBUTE, attribute.is_ok());
         if let Ok(attribute) = attribute {
-            let _ = attribute.number();
-            let _ = attribute.section_offset(format);
-            tally.note(
-                tally::TEXT,
-                attr_string(strings, format, 8, &attribute).is_ok(),
-            );
+            read_attribute(&attribute, format, strings, tally);
         }
     }
+}
+
+fn read_attribute<R: Reader>(
+    attribute: &Attribute<R>,
+    format: Format,
+    strings: &StringSections<R>,
+    tally: &mut Tally,
+) {
+    let _ = attribute.number();
+    let _ = attribute.section_offset(format);
+    let text = attr_string(strings, format, 8, attribute);
+    tally.note(tally::TEXT, text.is_ok());
 }
 
 fn read_index(content: &[u8], order: Endianness, tally: &mut Tally) {
