@@ -2,8 +2,8 @@
  * @file thorin.h
  * @brief Packages of split DWARF (.dwp), read and packed. For 64-bit machines.
  *
- * The contracts of crates/thorin_c say exactly what each call returns and writes. They are proved
- * for any bytes, as long as the caller keeps to these rules:
+ * The contracts of crates/thorin_c say what each call returns and writes; docs/PROVED.md says how
+ * far. They are proved for any bytes, as long as the caller keeps to these rules:
  *
  * - Each pointer has as many elements behind it as you say. Where the size beside it is 0 it may be
  *   null, also in a thorin_bytes. No other pointer is null.
