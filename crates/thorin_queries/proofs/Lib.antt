@@ -1,5 +1,6 @@
 mod Asked
 mod Checked
+mod Cuts
 mod Faulted
 mod FirstSection
 mod Hex

@@ -17,9 +17,11 @@ use Rattle.thorin_executable.specs.Skeletons.{Named, Listed}
 use Rattle.thorin_faults.specs.Fault.{Fault}
 use Rattle.thorin_queries.specs.Finding.{string_count}
 use Rattle.thorin_queries.specs.Lines.{hex16, line_end, short_kind}
+use Rattle.thorin_queries.specs.Shown.{shown}
 use Rattle.thorin_queries.specs.Telling.{Grows, IsOfPrinting, Told, IsNone, IsLine}
 use Rattle.thorin_queries.specs.Telling.{ForEach}
 use Rattle.thorin_queries.specs.declared.output.Failure.{Failure}
+use Rattle.thorin_words.specs.Printed.{printed}
 
 -- ---- units
 
@@ -117,7 +119,7 @@ TellsGap kind old held new left (Err failure) = IsOfPrinting failure × Grows ol
 -- what is told of a unit that an executable names and the package lacks
 abbrev pub missing_text : (executable path : List ℕ) → List ℕ
 missing_text executable path =
-    codes "not in the package, " ++ (executable ++ (codes " names " ++ path))
+    codes "not in the package, " ++ (shown executable ++ (codes " names " ++ shown path))
 
 abbrev pub missing_lines : (executable : List ℕ) → Named → Result (Option FoundUnit) PackageError
     → List (List ℕ)
@@ -126,7 +128,7 @@ missing_lines executable named _ = []
 
 -- the line of an executable that can't be read to its end
 unfoldable pub broken_line : (executable text : List ℕ) → List ℕ
-broken_line executable text = executable ++ (codes ": " ++ (text ++ line_end))
+broken_line executable text = shown executable ++ (codes ": " ++ (printed text ++ line_end))
 
 abbrev pub IsBroken : (executable : List ℕ) → List (List ℕ) → Type 0
 IsBroken executable lines = (text : List ℕ) × IsLine (broken_line executable text) lines

@@ -5,4 +5,5 @@ pub mod Finding
 pub mod Indexes
 pub mod Lines
 pub mod Listing
+pub mod Shown
 pub mod Telling

@@ -15,6 +15,7 @@ use crate::faults::{pass_on, tell, with_rest};
 use crate::files::{FileReader, read_named};
 use crate::input::plain_of;
 use crate::output::Failure;
+use crate::shown::shown;
 use bumpalo::Bump;
 use dwp_bytes::RelocationEntry;
 use dwp_index::PackageFile;
@@ -23,6 +24,7 @@ use std::alloc::{AllocError, Global};
 use std::io::Write;
 use thorin_executable::SkeletonUnits;
 use thorin_faults::{ArenaSession, Error, Session};
+use thorin_words::printed;
 
 /// The executables whose units are to be in a package.
 #[derive(Clone, Copy)]
@@ -230,6 +232,10 @@ fn tell_missing<O: Write>(
 fn missing_text(alloc: Global, executable: &str, path: &str) -> Result<String, AllocError>
     ensures { IfOk result (λ text. string_bytes text ≡ missing_text executable.now path.now) }
 {
+    let executable = shown(alloc, executable)?;
+    let executable = executable.as_str();
+    let path = shown(alloc, path)?;
+    let path = path.as_str();
     format!(in alloc; "not in the package, {executable} names {path}")
 }
 
@@ -281,5 +287,9 @@ fn put_broken(executable: &str, text: &str, waiting: &mut String) -> Result<(), 
     ensures { OnOk result (string_bytes waiting.new
         ≡ string_bytes waiting.old ++ broken_line executable.now text.now) }
 {
+    let executable = shown(*waiting.allocator(), executable)?;
+    let executable = executable.as_str();
+    let text = printed(*waiting.allocator(), text)?;
+    let text = text.as_str();
     writeln!(waiting, "{executable}: {text}")
 }

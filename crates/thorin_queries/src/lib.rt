@@ -13,6 +13,7 @@ mod input;
 mod listing;
 mod output;
 mod rows;
+mod shown;
 mod sizes;
 mod strings;
 mod telling;

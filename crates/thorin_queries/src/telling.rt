@@ -5,9 +5,11 @@ use crate::output::{Failure, written};
 use dwp_dwarf::{SliceReader, UnitHeaders, UnitSection};
 use dwp_elf::{ElfFile, Endianness, Section, SectionKind};
 use dwp_table::DebugTypeSignature;
+use std::alloc::{AllocError, Global};
 use std::fmt;
 use std::io::Write;
 use thorin_faults::Error;
+use thorin_words::printed;
 
 /// Tells how many units of an input were added, and how many were passed over, where that is known.
 pub fn tell_taken<E: Write>(
@@ -16,6 +18,7 @@ pub fn tell_taken<E: Write>(
     added: usize,
     all: Option<usize>,
 ) -> Result<(), Failure> {
+    let name = Name(name);
     let units = Count(added as u64, "unit");
     let told = match all {
         Some(all) => {
@@ -84,6 +87,7 @@ pub fn tell_refused<E: Write>(
     fault: &Error,
     decompresses: bool,
 ) -> Result<(), Failure> {
+    let name = Name(name);
     let causes = Causes(fault);
     let advice = advice_on(fault, decompresses);
     written(writeln!(err, "{name}: {causes}{advice}"))
@@ -133,6 +137,28 @@ impl fmt::Display for Count {
     }
 }
 
+/// A name of a file as it is printed: each control character as `\x` and two digits.
+#[derive(Clone, Copy)]
+struct Name<'a>(&'a str);
+
+impl fmt::Display for Name<'_> {
+    fn fmt<W: fmt::Write>(&self, f: &mut fmt::Formatter<W>) -> fmt::Result {
+        let text = self.0;
+        if !text.bytes().any(|byte| byte.is_ascii_control()) {
+            return f.write_str(text);
+        }
+        for c in text.chars() {
+            if c.is_ascii_control() {
+                let number = u32::from(c);
+                write!(f, "\\x{number:02x}")?;
+            } else {
+                f.write_char(c)?;
+            }
+        }
+        Ok(())
+    }
+}
+
 /// A fault with the causes below it, outermost first.
 #[derive(Drop)]
 struct Causes<'a>(&'a Error);
@@ -153,7 +179,30 @@ impl fmt::Display for Causes<'_> {
             | Error::StrAtOffset(cause, _)
             | Error::ParseIndex(cause, _)
             | Error::RowNotInIndex(cause, _) => write!(f, "{fault}: {cause}"),
+            Error::RelocationWithInvalidSymbol(section, _)
+            | Error::MultipleRelocations(section, _)
+            | Error::UnsupportedRelocation(section, _) => {
+                write_printed(*section.allocator(), fault, f)
+            }
             _ => write!(f, "{fault}"),
         }
     }
+}
+
+/// Writes the text of a fault that has a name out of a file.
+fn write_printed<W: fmt::Write>(
+    alloc: Global,
+    fault: &Error,
+    f: &mut fmt::Formatter<W>,
+) -> fmt::Result {
+    match printed_fault(alloc, fault) {
+        Ok(text) => f.write_str(text.as_str()),
+        Err(_) => Err(fmt::Error),
+    }
+}
+
+/// The text of a fault without control characters.
+fn printed_fault(alloc: Global, fault: &Error) -> Result<String, AllocError> {
+    let text = format!(in alloc; "{fault}")?;
+    printed(alloc, text.as_str())
 }
