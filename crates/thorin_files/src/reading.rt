@@ -145,13 +145,16 @@ fn is_read_within<F: Read + Drop>(
 
 /// Reads all that is left, which is about `len` bytes, into room that is made once: a byte more
 /// than `len` lets the read that finds the end have room. The first read takes all that it gets.
+/// New room has a quarter more, where there is memory: so the next larger file mostly fits too.
 fn read_whole<F: Read>(file: &mut F, len: u64, room: &mut Vec<u8>) -> io::Result<()>
     ensures { OnOk result (IfSome (F.remaining file.old) (λ all. room.new.items ≡ all)) }
 {
     let needed = (len as usize).saturating_add(1);
     if room.capacity() < needed {
         *room = Vec::new(*room.allocator());
-        room.reserve_exact(needed)?;
+        if room.reserve_exact(needed.saturating_add(needed / 4)).is_err() {
+            room.reserve_exact(needed)?;
+        }
     }
     room.resize(needed, 0)?;
     let front = read_once(file, room)?;
