@@ -152,7 +152,8 @@ fn read_whole<F: Read>(file: &mut F, len: u64, room: &mut Vec<u8>) -> io::Result
     let needed = (len as usize).saturating_add(1);
     if room.capacity() < needed {
         *room = Vec::new(*room.allocator());
-        if room.reserve_exact(needed.saturating_add(needed / 4)).is_err() {
+        let roomy = needed.saturating_add(needed / 4);
+        if room.reserve_exact(roomy).is_err() {
             room.reserve_exact(needed)?;
         }
     }
