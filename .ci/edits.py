@@ -106,30 +106,52 @@ def function_at(text, file, place):
     return name if module in ("lib", "main", "mod") else f"{module}::{name}"
 
 
-def paths_beside(crate, functions):
-    """The paths, below proofs/, of the functions of a crate that have bodies and aren't among these."""
-    texts, found = {}, []
-    for at, _folders, files in sorted(os.walk(f"{crate.folder}/src")):
-        for file in sorted(it for it in files if it.endswith(".rt")):
-            path = os.path.relpath(f"{at}/{file}", crate.folder)
-            module = re.sub(r"^src/|\.rt$", "", path)
-            texts["" if module in ("lib", "main") else f"{module}/"] = text_of(crate, path)
-    # (a type's own methods stand at the place of the type, in whichever file they are written)
-    homes = {name: module for module, text in texts.items() for name in re.findall(r"^(?:pub(?:\([^)]*\))? )?(?:struct|enum) (\w+)", text, re.M)}
-    for module, text in texts.items():
-        lines = text.split("\n")
+def functions_beside(crate, functions, texts):
+    """The functions of a crate that have bodies and aren't among these: their file, their lines there, and their path below proofs/."""
+    homes, files = {}, {}
+    for at, _folders, names in sorted(os.walk(f"{crate.folder}/src")):
+        for name in sorted(it for it in names if it.endswith(".rt")):
+            file = os.path.relpath(f"{at}/{name}", crate.folder)
+            module = re.sub(r"^src/|\.rt$", "", file)
+            text = texts.get(file) or text_of(crate, file)
+            files[file] = ("" if module in ("lib", "main") else f"{module}/"), text.split("\n")
+            # (a type's own methods stand at the place of the type, in whichever file they are written)
+            homes |= {it: files[file][0] for it in re.findall(r"^(?:pub(?:\([^)]*\))? )?(?:struct|enum) (\w+)", text, re.M)}
+    for file, (module, lines) in files.items():
         for first, last, name in functions_in(lines):
             head = "\n".join(lines[max(0, first - 6) : first + 1])
-            # (functions that call each other have one proof for all, and so has one that calls itself)
-            calls_itself = re.search(rf"(?<![\w.:])(?<!fn ){name}\(|Self::{name}\(|self\.{name}\(", "\n".join(lines[first + 1 : last]))
-            if lines[last].rstrip().endswith(";") or "#[cycle" in head or calls_itself or lines[first].startswith("     "):
+            # (functions that call each other have one proof for all)
+            if lines[last].rstrip().endswith(";") or "#[cycle" in head or lines[first].startswith("     "):
                 continue
             owner = type_above(lines, first) if lines[first].startswith(" ") else ""
             path = (homes.get(owner, module) + f"{owner}/" if owner else module) + name
             told = path.replace("/", "::")
             if re.fullmatch(r"[\w/]+", path) and not any(f"::{told}".endswith(f"::{it}") for it in functions):
-                found.append(path)
-    return found
+                yield file, first, last, path
+
+
+def body_of(lines, first, last):
+    """The line of the brace that opens the body of a function, or None where it stands on one line."""
+    indent = re.match(r" *", lines[first])[0]
+    alone = next((at for at in range(first, last) if lines[at] == f"{indent}{{"), None)
+    if alone is not None:
+        return alone
+    return next((at for at in range(first, last) if lines[at].endswith("{") and re.match(rf"{indent}\S", lines[at])), None)
+
+
+def without_bodies(crate, functions, texts, kept):
+    """The texts of all files of src/ with no body but those of these functions and those at the kept paths, and the paths of what lost its body."""
+    found, gone = {}, set()
+    for file, first, last, path in functions_beside(crate, functions, texts):
+        lines = found.setdefault(file, (texts.get(file) or text_of(crate, file)).split("\n"))
+        opens = body_of(lines, first, last)
+        if path in kept:
+            continue
+        gone.add(path)
+        if opens is not None:
+            # (lines stay where they are)
+            lines[opens + 1 : last] = [re.match(r" *", lines[first])[0] + "    unreachable!()", *[""] * (last - opens - 2)]
+    return {**texts, **{file: "\n".join(lines) for file, lines in found.items()}}, gone
 
 
 def type_above(lines, line):
