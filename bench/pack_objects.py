@@ -1,10 +1,13 @@
 #!/usr/bin/env python3
 """Makes real split objects, and measures how long the programs that pack them take.
 
-    pack_objects.py make FOLDER [COUNT [KIND..]]     writes COUNT C++ sources (40 if left out) and compiles each as each KIND (4
-                                                 and 5 if left out): FOLDER/KIND/*.dwo. 4 and 5 are by g++ as DWARF 4 and 5,
-                                                 5t is 5 with type units, c5 is by clang++ -O2 as DWARF 5
+    pack_objects.py make FOLDER [--seed N] [COUNT [KIND..]]      writes COUNT sources (40 if left out) and compiles each as each
+                                                 KIND (4 and 5 if left out): FOLDER/KIND/*.dwo
     pack_objects.py run FOLDER RUNS NAME=PROGRAM..      packs each folder's objects by each program, RUNS times in turn
+
+KIND 4 and 5 are by g++ as DWARF 4 and 5, 4t and 5t the same with type units, c5 and c5t by clang++ -O2 as DWARF 5. With
+--seed the C++ sources differ in what they include and have, so that most units are of 20 KB to 2 MB. Two kinds need it: r4
+and r5 are by rustc, one object for each crate; one4 is one unit of COUNT thousand classes by g++ (72 make 35 MB).
 
 A PROGRAM is called as `PROGRAM -o OUT INPUT..`; of thorin write 'thorin=path/to/thorin pack'. Wall time and peak
 memory are those of GNU time (/usr/bin/time); a line gives the least wall time of the runs, and in brackets the most,
@@ -13,6 +16,7 @@ before the first run, so that all of them are in memory.
 """
 import os
 import pathlib
+import random
 import subprocess
 import sys
 
@@ -44,22 +48,91 @@ int search@(const std::string &text) {
 
 KINDS = {
     "4": ["g++", "-gdwarf-4"],
+    "4t": ["g++", "-gdwarf-4", "-fdebug-types-section"],
     "5": ["g++", "-gdwarf-5"],
     "5t": ["g++", "-gdwarf-5", "-fdebug-types-section"],
     "c5": ["clang++", "-gdwarf-5", "-O2"],
+    "c5t": ["clang++", "-gdwarf-5", "-O2", "-fdebug-types-section"],
+    "one4": ["g++", "-gdwarf-4", "-fpermissive", "-w"],
+    "r4": ["rustc", "-Cdwarf-version=4"],
+    "r5": ["rustc", "-Cdwarf-version=5"],
 }
 
+WORDS = ["count", "first", "index", "key", "last", "left", "limit", "name", "next", "node", "parent", "right", "size", "total", "value"]
+LIGHT = ["algorithm", "array", "functional", "iomanip", "iostream", "list", "memory", "numeric", "optional", "set", "tuple", "variant"]
+CPP_TYPES = ["int", "long", "double", "std::string", "unsigned char", "const char *"]
+RUST_TYPES = ["u32", "u64", "String", "Vec<u8>", "f64", "Option<String>", "Vec<String>"]
 
-def make(folder, count, kinds):
+
+def names(chance, least, most):
+    """Distinct names of fields."""
+    return dict.fromkeys(f"{chance.choice(WORDS)}{chance.randrange(60)}" for _ in range(chance.randint(least, most)))
+
+
+def cpp_source(chance):
+    """A C++ source that differs in size from others."""
+    lines = [f"#include <{name}>" for name in ["map", "string", "vector", *chance.sample(LIGHT, chance.randrange(4))]]
+    if chance.random() < 0.1:
+        lines += ["#include <regex>", "#include <thread>"]
+    for i in range(chance.choice([0, 1, 2, 3, 4, 10])):
+        fields = " ".join(f"{chance.choice(CPP_TYPES)} {name};" for name in names(chance, 2, 9))
+        item = f"Item{i}_{chance.randrange(10 ** 6)}"
+        held = chance.choice([f"std::vector<{item}>", f"std::vector<std::vector<{item}>>", "std::vector<std::string>"])
+        lines.append(f"struct {item} {{ {fields} int order; }};")
+        lines.append(f"int work_{item}(const std::string &text) {{ std::map<std::string, {held}> all; {held} one; all[text] = one;"
+                     " int sum = 0; for (auto &each : all) sum += int(each.second.size()); return sum; }")
+    return "\n".join(lines)
+
+
+def rust_source(chance):
+    """A Rust crate that differs in size from others."""
+    lines = ["use std::collections::{BTreeMap, HashMap};"]
+    for i in range(chance.randint(1, 4)):
+        fields = ", ".join(f"pub {name}: {chance.choice(RUST_TYPES)}" for name in names(chance, 2, 8))
+        item = f"Item{i}N{chance.randrange(10 ** 6)}"
+        table = chance.choice(["HashMap<String,", "BTreeMap<usize,"])
+        lines.append(f"#[derive(Clone)] pub struct {item} {{ {fields} }}")
+        lines.append(f"pub fn sum_{i}(items: &[{item}]) -> usize {{ items.iter().map(|item| std::mem::size_of_val(item)).sum() }}")
+        if chance.random() < 0.7:
+            lines.append(f"pub fn grown_{i}(mut items: Vec<{item}>) -> Vec<{item}> {{ items.extend_from_within(..); items }}")
+        if chance.random() < 0.1:
+            lines.append(f"pub fn add_{i}(table: &mut {table} {item}>, item: {item}) {{ table.insert(Default::default(), item); }}")
+    return "\n".join(lines)
+
+
+def one_source(chance, count):
+    """A C++ source of so many classes."""
+    lines = []
+    for i in range(count):
+        fields = " ".join(f"{chance.choice(['int', 'long', 'short', 'void *'])} {name}_{i};" for name in names(chance, 4, 14))
+        calls = "".join(f" int get_{name}(int x, long y) {{ int {name} = x; return {name}; }}" for name in names(chance, 1, 4))
+        lines.append(f"struct Class{i} {{ {fields}{calls} }}; Class{i} object{i};")
+    return "\n".join(lines)
+
+
+def sources(count, kind, seed):
+    """The names of a kind's sources, and their texts."""
+    chance = random.Random(f"{seed} {kind}")
+    if kind == "one4":
+        return {"source.cpp": one_source(chance, 1000 * count)}
+    if kind.startswith("r"):
+        return {f"source{i}.rs": rust_source(chance) for i in range(count)}
+    if seed is not None:
+        return {f"source{i}.cpp": cpp_source(chance) for i in range(count)}
+    more = ["".join(f"#include <{FURTHER[(i + k) % len(FURTHER)]}>\n" for k in range(i % 5)) for i in range(count)]
+    return {f"source{i}.cpp": HEADERS + more[i] + BODY.replace("@", str(i)) for i in range(count)}
+
+
+def make(folder, count, kinds, seed):
     for kind in kinds:
         place = folder / kind
         place.mkdir(parents=True, exist_ok=True)
-        for i in range(count):
-            source = place / f"source{i}.cpp"
-            more = [FURTHER[(i + k) % len(FURTHER)] for k in range(i % 5)]
-            source.write_text(HEADERS + "".join(f"#include <{name}>\n" for name in more) + BODY.replace("@", str(i)))
-            flags = ["-std=c++17", "-c", "-g", "-gsplit-dwarf"]
-            subprocess.run([*KINDS[kind], *flags, source.name, "-o", f"source{i}.o"], cwd=place, check=True)
+        flags = ["-std=c++17", "-c", "-g", "-gsplit-dwarf"]
+        if kind.startswith("r"):
+            flags = ["--edition=2021", "--crate-type=rlib", "-g", "-Csplit-debuginfo=unpacked", "-Ccodegen-units=1", "-Awarnings"]
+        for name, text in sources(count, kind, seed).items():
+            (place / name).write_text(text)
+            subprocess.run([*KINDS[kind], *flags, name], cwd=place, check=True)
 
 
 def measure(words, out):
@@ -97,11 +170,14 @@ def run(folder, runs, programs):
 
 
 def main():
-    match sys.argv[1:]:
-        case ["make", folder]:
-            make(pathlib.Path(folder), 40, ["4", "5"])
-        case ["make", folder, count, *kinds]:
-            make(pathlib.Path(folder), int(count), kinds or ["4", "5"])
+    words, seed = sys.argv[1:], None
+    if "--seed" in words[:-1]:
+        at = words.index("--seed")
+        seed = int(words[at + 1])
+        del words[at:at + 2]
+    match words:
+        case ["make", folder, *rest]:
+            make(pathlib.Path(folder), int(rest[0]) if rest else 40, rest[1:] or ["4", "5"], seed)
         case ["run", folder, runs, *programs]:
             pairs = [word.split("=", 1) for word in programs]
             run(pathlib.Path(folder).resolve(), int(runs), [(name, words.split()) for name, words in pairs])
