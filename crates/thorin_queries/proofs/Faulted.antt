@@ -8,6 +8,7 @@ use Rattle.thorin_queries.specs.Finding.{string_count}
 use Rattle.thorin_queries.specs.Faults.{string_of}
 use Rattle.std.specs.Prelude.{Option, Some, None, Result, Ok, Err}
 use Rattle.std.specs.Fmt.{decimal}
+use Rattle.dwp_base.specs.declared.section.SectionKind.{SectionKind}
 use Rattle.dwp_bytes.specs.declared.fault.ReadError.{ReadError}
 use Rattle.dwp_index.specs.Package.{Package, FoundUnit, found}
 use Rattle.dwp_index.specs.declared.fault.PackageError.{PackageError}
@@ -16,7 +17,8 @@ use Rattle.dwp_table.specs.declared.object.DwarfObject.{DwarfObject}
 use Rattle.thorin_queries.specs.Faults.{fault_line, IsSomeFault, TellsOwn, TellsFound, string_text}
 use Rattle.thorin_queries.specs.Faults.{TellsString, row_line, AreRows, broken_line, IsBroken}
 use Rattle.thorin_queries.specs.Faults.{TellsUnit, IsUnread, TellsStrings, TellsStringsOf}
-use Rattle.thorin_queries.specs.Faults.{TellsNumbered}
+use Rattle.thorin_queries.specs.Faults.{TellsNumbered, TellsInRow}
+use Rattle.thorin_queries.specs.Overlaps.{IsClash, overlap_text}
 use Rattle.thorin_queries.specs.Checking.{TellsSomeStrings}
 use Rattle.thorin_queries.specs.Telling.{Told, Tells, IsLine, IsSum}
 use Rattle.thorin_queries.specs.Telling.{ForEach}
@@ -57,20 +59,38 @@ pub own_none : (object : DwarfObject) (a : Option (List ℕ)) (held : List ℕ)
     → Told (TellsOwn object) a held a held 0
 own_none object a held = none_told (TellsOwn object) (inl refl) a held
 
-module _ (entry : UnitEntry) (unit : FoundUnit) (a : Option (List ℕ)) (held : List ℕ)
-    (b : Option (List ℕ)) (left : List ℕ) (result : Result ℕ Failure) where
-  pub in_row : unit.number ≡ entry.row → Tells (TellsOwn entry.object) a held b left result
-      → Tells (TellsFound entry unit) a held b left result
-  in_row e h = tells_as (TellsOwn entry.object) (TellsFound entry unit) a held b left result
-      (λ lines o. inr (e, o)) h
+module _ (pack : Package) (object : DwarfObject) (unit : FoundUnit) (a : Option (List ℕ))
+    (held : List ℕ) (b : Option (List ℕ)) (left : List ℕ) (result : Result ℕ Failure) where
+  pub overlapped : (kind : SectionKind) (other : DwarfObject) → IsClash pack unit kind other
+      → Tells (IsLine (fault_line object (overlap_text kind other))) a held b left result
+      → Tells (TellsInRow pack object unit) a held b left result
+  overlapped kind other clash h =
+      tells_as (IsLine (fault_line object (overlap_text kind other))) (TellsInRow pack object unit)
+      a held b left result
+      (λ lines l. inl (record { kind = kind; other = other; clash = clash; line = l })) h
+
+  pub of_its_own : Tells (TellsOwn object) a held b left result
+      → Tells (TellsInRow pack object unit) a held b left result
+  of_its_own h =
+      tells_as (TellsOwn object) (TellsInRow pack object unit) a held b left result
+      (λ lines o. inr o) h
+
+module _ (pack : Package) (entry : UnitEntry) (unit : FoundUnit) (a : Option (List ℕ))
+    (held : List ℕ) (b : Option (List ℕ)) (left : List ℕ) (result : Result ℕ Failure) where
+  pub in_row : unit.number ≡ entry.row
+      → Tells (TellsInRow pack entry.object unit) a held b left result
+      → Tells (TellsFound pack entry unit) a held b left result
+  in_row e h =
+      tells_as (TellsInRow pack entry.object unit) (TellsFound pack entry unit) a held b left
+      result (λ lines o. inr (e, o)) h
 
   pub other_row : unit.number ≢ entry.row
       → Tells (IsLine (fault_line entry.object (codes "found in row " ++ decimal unit.number))) a
       held b left result
-      → Tells (TellsFound entry unit) a held b left result
+      → Tells (TellsFound pack entry unit) a held b left result
   other_row e h =
       tells_as (IsLine (fault_line entry.object (codes "found in row " ++ decimal unit.number)))
-      (TellsFound entry unit) a held b left result (λ lines l. inl (e, l)) h
+      (TellsFound pack entry unit) a held b left result (λ lines l. inl (e, l)) h
 
 -- ---- rows
 
@@ -119,11 +139,11 @@ module _ (pack : Package) (entry : UnitEntry) (a : Option (List ℕ)) (held : Li
       (TellsUnit pack entry) a held b left result (λ lines l. rw e l) h
 
   pub unit_some : (unit : FoundUnit) → found pack entry.object ≡ Ok (Some unit)
-      → Tells (TellsFound entry unit) a held b left result
+      → Tells (TellsFound pack entry unit) a held b left result
       → Tells (TellsUnit pack entry) a held b left result
   unfolding TellsUnit
   unit_some unit e h =
-      tells_as (TellsFound entry unit) (TellsUnit pack entry) a held b left result
+      tells_as (TellsFound pack entry unit) (TellsUnit pack entry) a held b left result
       (λ lines l. rw e l) h
 
   pub unit_unread : (cause : PackageError) → found pack entry.object ≡ Err cause

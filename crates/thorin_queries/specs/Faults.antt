@@ -4,6 +4,7 @@ use Rattle.std.specs.Prelude.{Result, Ok, Err}
 use Rattle.std.specs.Fmt.{decimal}
 use Rattle.std.specs.List.{flat_map, range_with_len}
 use Rattle.dwp_base.specs.Sections.{name_of}
+use Rattle.dwp_base.specs.declared.section.SectionKind.{SectionKind}
 use Rattle.dwp_base.specs.declared.section.SectionKind.TheVariants.{StrOffsets}
 use Rattle.dwp_bytes.specs.declared.fault.ReadError.{ReadError}
 use Rattle.dwp_index.specs.Package.{Package, FoundUnit, found, row_bytes}
@@ -17,6 +18,7 @@ use Rattle.thorin_executable.specs.Skeletons.{Named, Listed}
 use Rattle.thorin_faults.specs.Fault.{Fault}
 use Rattle.thorin_queries.specs.Finding.{string_count}
 use Rattle.thorin_queries.specs.Lines.{hex16, line_end, short_kind}
+use Rattle.thorin_queries.specs.Overlaps.{IsClash, overlap_text}
 use Rattle.thorin_queries.specs.Shown.{shown}
 use Rattle.thorin_queries.specs.Telling.{Grows, IsOfPrinting, Told, IsNone, IsLine}
 use Rattle.thorin_queries.specs.Telling.{ForEach}
@@ -45,24 +47,37 @@ IsUnread object _ lines = IsSomeFault object lines
 abbrev pub TellsOwn : DwarfObject → List (List ℕ) → Type 0
 TellsOwn object lines = IsNone lines ⊎ IsSomeFault object lines
 
+-- what is told of a unit whose range of a section overlaps that of another
+pub record TellsOverlap (pack : Package) (object : DwarfObject) (unit : FoundUnit)
+    (lines : List (List ℕ)) : Type 0 where
+  pub kind : SectionKind
+  pub other : DwarfObject
+  pub clash : IsClash pack unit kind other
+  pub line : IsLine (fault_line object (overlap_text kind other)) lines
+
+-- what is told of the unit that is found in the row of a slot: an overlap, or what its own
+-- identifier gives
+abbrev pub TellsInRow : Package → DwarfObject → FoundUnit → List (List ℕ) → Type 0
+TellsInRow pack object unit lines = TellsOverlap pack object unit lines ⊎ TellsOwn object lines
+
 -- what is told of the unit that is found under the identifier of a slot
-abbrev pub TellsFound : UnitEntry → FoundUnit → List (List ℕ) → Type 0
-TellsFound entry unit lines =
+abbrev pub TellsFound : Package → UnitEntry → FoundUnit → List (List ℕ) → Type 0
+TellsFound pack entry unit lines =
     ((unit.number ≢ entry.row)
     × IsLine (fault_line entry.object (codes "found in row " ++ decimal unit.number)) lines)
     ⊎ ((unit.number ≡ entry.row)
-    × TellsOwn entry.object lines)
+    × TellsInRow pack entry.object unit lines)
 
-abbrev pub TellsLooked : UnitEntry → Result (Option FoundUnit) PackageError
+abbrev pub TellsLooked : Package → UnitEntry → Result (Option FoundUnit) PackageError
     → List (List ℕ) → Type 0
-TellsLooked entry (Err cause) lines = IsUnread entry.object cause lines
-TellsLooked entry (Ok None) lines =
+TellsLooked pack entry (Err cause) lines = IsUnread entry.object cause lines
+TellsLooked pack entry (Ok None) lines =
     IsLine (fault_line entry.object (codes "not found under its identifier")) lines
-TellsLooked entry (Ok (Some unit)) lines = TellsFound entry unit lines
+TellsLooked pack entry (Ok (Some unit)) lines = TellsFound pack entry unit lines
 
 -- what is told of the unit that a slot names
 unfoldable pub TellsUnit : Package → UnitEntry → List (List ℕ) → Type 0
-TellsUnit pack entry lines = TellsLooked entry (found pack entry.object) lines
+TellsUnit pack entry lines = TellsLooked pack entry (found pack entry.object) lines
 
 -- ---- strings
 

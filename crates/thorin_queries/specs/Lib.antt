@@ -5,5 +5,6 @@ pub mod Finding
 pub mod Indexes
 pub mod Lines
 pub mod Listing
+pub mod Overlaps
 pub mod Shown
 pub mod Telling

@@ -1,16 +1,34 @@
-//! The identifiers that units' own bytes give, with the abbreviations remembered from unit to unit.
+//! The identifiers that units' own bytes give. What was read is remembered: the abbreviations from
+//! unit to unit, and what units that share their bytes have.
 
+use crate::units::fault_text;
 use dwp_dwarf::{AbbreviationCache, ReadError, SliceReader, UnitHeader, UnitHeaders, UnitSection};
 use dwp_elf::{Contribution, Endianness, SectionKind};
-use dwp_index::PackagedUnit;
+use dwp_index::{PackageError, PackagedUnit};
 use dwp_table::DwarfObject;
-use std::alloc::Global;
+use std::alloc::{AllocError, Global};
+use std::collections::BTreeMap;
 use thorin_faults::Error;
 use thorin_identity::dwo_identifier_remembering;
 
+/// What a unit's own bytes say of its identifier.
+#[derive(Drop)]
+pub(crate) enum Own {
+    /// The identifier.
+    Is(DwarfObject),
+    /// It has none.
+    Nameless,
+    /// Why it can't be read.
+    Unread(String),
+}
+
+/// Where a unit's own bytes stand, whether these are in types, and where its abbreviations stand:
+/// what its bytes say depends on nothing else.
+type Place = (bool, (u64, u64), (u64, u64));
+
 /// Why a unit's own identifier can't be read.
 #[derive(Drop)]
-pub(crate) enum OwnFault {
+enum OwnFault {
     // Its header can't be read.
     Header(ReadError),
     // What follows the header can't.
@@ -18,7 +36,7 @@ pub(crate) enum OwnFault {
 }
 
 /// What was read of the abbreviations of the unit before: units that have the same ones, one after
-/// the other, read them once.
+/// the other, read them once. And what units say that share their bytes: these are read once.
 #[derive(Drop)]
 pub(crate) struct Remembered<'a> {
     alloc: Global,
@@ -26,6 +44,9 @@ pub(crate) struct Remembered<'a> {
     // Where the abbreviations of the unit before stand.
     range: Option<Contribution>,
     cache: AbbreviationCache<SliceReader<'a>>,
+    // What the unit before says.
+    last: Own,
+    shared: BTreeMap<Place, Own>,
 }
 
 impl<'a> Remembered<'a> {
@@ -36,6 +57,52 @@ impl<'a> Remembered<'a> {
             order,
             range: None,
             cache: AbbreviationCache::new(alloc, SliceReader::new(&[], order)),
+            last: Own::Nameless,
+            shared: BTreeMap::new(alloc),
+        }
+    }
+
+    /// What a unit's own bytes say of its identifier. Where another unit has the same ones that is
+    /// read once.
+    pub(crate) fn own(
+        &mut self,
+        unit: &PackagedUnit<'a>,
+        object: DwarfObject,
+        has_twin: bool,
+    ) -> Result<&Own, AllocError> {
+        if has_twin {
+            return self.own_once(unit, object);
+        }
+        self.last = self.read(unit, object)?;
+        Ok(&self.last)
+    }
+
+    /// The same, remembered.
+    fn own_once(
+        &mut self,
+        unit: &PackagedUnit<'a>,
+        object: DwarfObject,
+    ) -> Result<&Own, AllocError> {
+        let place = place_in(unit, object);
+        if !self.shared.contains_key(&place) {
+            let own = self.read(unit, object)?;
+            self.shared.insert(place, own)?;
+        }
+        match self.shared.get(&place) {
+            Some(own) => Ok(own),
+            None => Err(AllocError),
+        }
+    }
+
+    /// Reads what a unit's own bytes say of its identifier.
+    fn read(&mut self, unit: &PackagedUnit<'a>, object: DwarfObject) -> Result<Own, AllocError> {
+        match own_identifier(unit, self, object) {
+            Ok(Some(own)) => Ok(Own::Is(own)),
+            Ok(None) => Ok(Own::Nameless),
+            Err(fault) => {
+                let text = own_fault_text(self.alloc, &fault)?;
+                Ok(Own::Unread(text))
+            }
         }
     }
 
@@ -56,7 +123,7 @@ impl<'a> Remembered<'a> {
 }
 
 /// The identifier that a unit's own bytes give.
-pub(crate) fn own_identifier<'a>(
+fn own_identifier<'a>(
     unit: &PackagedUnit<'a>,
     abbreviations: &mut Remembered<'a>,
     object: DwarfObject,
@@ -92,5 +159,35 @@ fn place_of(unit: &PackagedUnit<'_>, object: DwarfObject) -> UnitSection {
             None => UnitSection::Info,
             Some(_) => UnitSection::Types,
         },
+    }
+}
+
+fn own_fault_text(alloc: Global, fault: &OwnFault) -> Result<String, AllocError> {
+    match fault {
+        OwnFault::Header(fault) => fault_text(alloc, PackageError::Unit(*fault)),
+        OwnFault::Identity(fault) => {
+            format!(in alloc; "its own identifier can't be read: {fault}")
+        }
+    }
+}
+
+/// Where a unit's own bytes and its abbreviations stand.
+fn place_in(unit: &PackagedUnit<'_>, object: DwarfObject) -> Place {
+    let (in_types, kind) = match place_of(unit, object) {
+        UnitSection::Info => (false, SectionKind::Info),
+        UnitSection::Types => (true, SectionKind::Types),
+    };
+    (
+        in_types,
+        numbers_of(unit.range(kind)),
+        numbers_of(unit.range(SectionKind::Abbrev)),
+    )
+}
+
+/// Where a range begins, and its size; an absent one has no bytes.
+fn numbers_of(range: Option<Contribution>) -> (u64, u64) {
+    match range {
+        Some(range) => (range.offset.0, range.size),
+        None => (0, 0),
     }
 }

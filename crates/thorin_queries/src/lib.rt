@@ -12,6 +12,7 @@ mod identifier;
 mod input;
 mod listing;
 mod output;
+mod overlaps;
 mod rows;
 mod shown;
 mod sizes;

@@ -1,18 +1,20 @@
 //! The units of a package, in `thorin check`.
 
-ghost use Rattle.std.specs.Prelude.{◌≡◌, ◌++◌, codes, IfOk, string_bytes};
+ghost use Rattle.std.specs.Prelude.{◌≡◌, ◌++◌, codes, IfOk, IfSome, string_bytes};
 ghost use Rattle.std.specs.Fmt.{decimal};
 ghost use Rattle.dwp_base.specs.Sections.{name_of};
 ghost use Rattle.dwp_index.specs.declared.fault.PackageError.TheVariants as faults;
 ghost use Rattle.thorin_queries.specs.Checking.{TellsUnits};
 ghost use Rattle.thorin_queries.specs.Faults.{TellsUnit, TellsFound, TellsOwn, IsUnread};
-ghost use Rattle.thorin_queries.specs.Faults.{IsSomeFault, fault_line};
+ghost use Rattle.thorin_queries.specs.Faults.{IsSomeFault, fault_line, TellsInRow};
+ghost use Rattle.thorin_queries.specs.Overlaps.{IsClash, overlap_text};
 ghost use Rattle.thorin_queries.specs.Telling.{Tells, ForEach, IsLine};
 
-use crate::abbreviations::{OwnFault, Remembered, own_identifier};
+use crate::abbreviations::{Own, Remembered};
 use crate::faults::{tell, with_rest};
 use crate::finding::short_kind;
 use crate::output::Failure;
+use crate::overlaps::{Clash, Overlaps, Shares, overlap};
 use crate::strings::{StringRange, add_range, check_strings};
 use dwp_elf::{Endianness, SectionKind};
 use dwp_index::{PackageError, PackageFile, PackagedUnit, UnitEntry};
@@ -22,11 +24,31 @@ use std::io::Write;
 
 /// Checks each unit that a slot names, then the strings of each range of string offsets. Answers
 /// the number of faults.
+#[tactic(auto, using(crate::proofs::Told::none_grown))]
 pub(crate) fn check_units<O: Write>(
     alloc: Global,
     pack: &PackageFile<'_>,
     order: Endianness,
     entries: &[UnitEntry],
+    waiting: &mut String,
+    out: &mut O,
+) -> Result<u64, Failure>
+    ensures { Tells (TellsUnits pack.now entries.now) (O.contents out.old)
+        (string_bytes waiting.old) (O.contents out.new) (string_bytes waiting.new) result }
+{
+    match Overlaps::find(alloc, pack, entries) {
+        Ok(overlaps) => check_all(alloc, pack, order, entries, &overlaps, waiting, out),
+        Err(_) => Err(Failure::Memory),
+    }
+}
+
+/// The same with what is known of overlaps.
+fn check_all<O: Write>(
+    alloc: Global,
+    pack: &PackageFile<'_>,
+    order: Endianness,
+    entries: &[UnitEntry],
+    overlaps: &Overlaps,
     waiting: &mut String,
     out: &mut O,
 ) -> Result<u64, Failure>
@@ -39,6 +61,7 @@ pub(crate) fn check_units<O: Write>(
         pack,
         &mut abbreviations,
         entries,
+        overlaps,
         &mut strings,
         waiting,
         out,
@@ -54,6 +77,7 @@ fn check_each<'a, O: Write>(
     pack: &PackageFile<'a>,
     abbreviations: &mut Remembered<'a>,
     entries: &[UnitEntry],
+    overlaps: &Overlaps,
     strings: &mut Vec<(StringRange, DwarfObject)>,
     waiting: &mut String,
     out: &mut O,
@@ -63,7 +87,16 @@ fn check_each<'a, O: Write>(
 {
     let mut faults = 0u64;
     for i in 0..entries.len() {
-        match check_entry(pack, abbreviations, entries[i], strings, waiting, out) {
+        let shares = overlaps.of(i);
+        match check_entry(
+            pack,
+            abbreviations,
+            entries[i],
+            shares,
+            strings,
+            waiting,
+            out,
+        ) {
             Ok(found) => faults = faults.saturating_add(found),
             Err(failure) => return Err(failure),
         }
@@ -77,6 +110,7 @@ fn check_entry<'a, O: Write>(
     pack: &PackageFile<'a>,
     abbreviations: &mut Remembered<'a>,
     entry: UnitEntry,
+    shares: Shares,
     strings: &mut Vec<(StringRange, DwarfObject)>,
     waiting: &mut String,
     out: &mut O,
@@ -85,7 +119,16 @@ fn check_entry<'a, O: Write>(
         (string_bytes waiting.old) (O.contents out.new) (string_bytes waiting.new) result }
 {
     match pack.find(entry.object) {
-        Ok(Some(unit)) => check_found(abbreviations, entry, &unit, strings, waiting, out),
+        Ok(Some(unit)) => check_found(
+            pack,
+            abbreviations,
+            entry,
+            &unit,
+            shares,
+            strings,
+            waiting,
+            out,
+        ),
         Ok(None) => tell(entry.object, "not found under its identifier", waiting, out),
         Err(fault) => tell_unread(entry.object, fault, waiting, out),
     }
@@ -94,20 +137,79 @@ fn check_entry<'a, O: Write>(
 /// Checks the unit that is found under the identifier of a slot. Answers the number of faults.
 #[tactic(auto, using(crate::proofs::Faulted::in_row, crate::proofs::Faulted::other_row))]
 fn check_found<'a, O: Write>(
+    pack: &PackageFile<'a>,
     abbreviations: &mut Remembered<'a>,
     entry: UnitEntry,
     unit: &PackagedUnit<'a>,
+    shares: Shares,
     strings: &mut Vec<(StringRange, DwarfObject)>,
     waiting: &mut String,
     out: &mut O,
 ) -> Result<u64, Failure>
-    ensures { Tells (TellsFound entry unit.now) (O.contents out.old)
+    ensures { Tells (TellsFound pack.now entry unit.now) (O.contents out.old)
         (string_bytes waiting.old) (O.contents out.new) (string_bytes waiting.new) result }
 {
     if unit.row() == entry.row {
-        check_own(abbreviations, entry.object, unit, strings, waiting, out)
+        check_in_row(
+            pack,
+            abbreviations,
+            entry.object,
+            unit,
+            shares,
+            strings,
+            waiting,
+            out,
+        )
     } else {
         tell_row(entry.object, unit.row(), waiting, out)
+    }
+}
+
+/// Checks the unit that is found in the row of a slot: none of its ranges overlaps that of another,
+/// and its own identifier is that of the slot. Answers the number of faults.
+#[tactic(auto, using(crate::proofs::Faulted::overlapped, crate::proofs::Faulted::of_its_own))]
+fn check_in_row<'a, O: Write>(
+    pack: &PackageFile<'a>,
+    abbreviations: &mut Remembered<'a>,
+    object: DwarfObject,
+    unit: &PackagedUnit<'a>,
+    shares: Shares,
+    strings: &mut Vec<(StringRange, DwarfObject)>,
+    waiting: &mut String,
+    out: &mut O,
+) -> Result<u64, Failure>
+    ensures { Tells (TellsInRow pack.now object unit.now) (O.contents out.old)
+        (string_bytes waiting.old) (O.contents out.new) (string_bytes waiting.new) result }
+{
+    match clash_of(pack, unit, shares.clash) {
+        Some((kind, other)) => tell_overlap(object, kind, other, waiting, out),
+        None => check_own(
+            abbreviations,
+            object,
+            unit,
+            shares.has_twin,
+            strings,
+            waiting,
+            out,
+        ),
+    }
+}
+
+/// A section, and a unit whose range of it overlaps that of this unit: those that are given, where
+/// that is so.
+fn clash_of(pack: &PackageFile<'_>, unit: &PackagedUnit<'_>, clash: Option<Clash>) -> Option<Clash>
+    ensures { IfSome result (λ clash. IsClash pack.now unit.now clash.0 clash.1) }
+{
+    let (kind, other) = clash?;
+    match pack.find(other) {
+        Ok(Some(second)) => {
+            if overlap(unit.range(kind), second.range(kind)) {
+                Some((kind, other))
+            } else {
+                None
+            }
+        }
+        _ => None,
     }
 }
 
@@ -118,6 +220,7 @@ fn check_own<'a, O: Write>(
     abbreviations: &mut Remembered<'a>,
     object: DwarfObject,
     unit: &PackagedUnit<'a>,
+    has_twin: bool,
     strings: &mut Vec<(StringRange, DwarfObject)>,
     waiting: &mut String,
     out: &mut O,
@@ -125,19 +228,20 @@ fn check_own<'a, O: Write>(
     ensures { Tells (TellsOwn object) (O.contents out.old) (string_bytes waiting.old) (O.contents out.new)
         (string_bytes waiting.new) result }
 {
-    match own_identifier(unit, abbreviations, object) {
-        Ok(Some(own)) => {
-            if own == object {
+    match abbreviations.own(unit, object, has_twin) {
+        Ok(Own::Is(own)) => {
+            if *own == object {
                 match add_range(unit, object, strings) {
                     Ok(()) => Ok(0),
                     Err(_) => Err(Failure::Memory),
                 }
             } else {
-                tell_other(object, own, waiting, out)
+                tell_other(object, *own, waiting, out)
             }
         }
-        Ok(None) => tell(object, "it has no identifier of its own", waiting, out),
-        Err(fault) => tell_own_fault(object, &fault, waiting, out),
+        Ok(Own::Nameless) => tell(object, "it has no identifier of its own", waiting, out),
+        Ok(Own::Unread(text)) => tell(object, text.as_str(), waiting, out),
+        Err(_) => Err(Failure::Memory),
     }
 }
 
@@ -163,6 +267,34 @@ fn row_text(alloc: Global, row: u32) -> Result<String, AllocError>
     ensures { IfOk result (λ text. string_bytes text ≡ codes "found in row " ++ decimal row) }
 {
     format!(in alloc; "found in row {row}")
+}
+
+/// Tells that a unit's range of a section overlaps that of another. Answers the number of faults, 1.
+#[tactic(auto, using(crate::proofs::Faulted::told_text, crate::proofs::Told::none_grown))]
+fn tell_overlap<O: Write>(
+    object: DwarfObject,
+    kind: SectionKind,
+    other: DwarfObject,
+    waiting: &mut String,
+    out: &mut O,
+) -> Result<u64, Failure>
+    ensures { Tells (IsLine (fault_line object (overlap_text kind other))) (O.contents out.old)
+        (string_bytes waiting.old) (O.contents out.new) (string_bytes waiting.new) result }
+{
+    match overlap_text(*waiting.allocator(), kind, other) {
+        Ok(text) => tell(object, text.as_str(), waiting, out),
+        Err(_) => Err(Failure::Memory),
+    }
+}
+
+#[tactic(auto, using(crate::proofs::Hex::hex16_written))]
+fn overlap_text(alloc: Global, kind: SectionKind, other: DwarfObject) -> Result<String, AllocError>
+    ensures { IfOk result (λ text. string_bytes text ≡ overlap_text kind other) }
+{
+    let name = kind.name();
+    let other_kind = short_kind(other);
+    let id = other.index();
+    format!(in alloc; "its range of {name} overlaps that of {other_kind} 0x{id:016x}")
 }
 
 /// Tells that a unit has the identifier of another. Answers the number of faults, 1.
@@ -248,32 +380,6 @@ fn tell_fault<O: Write>(
     }
 }
 
-fn fault_text(alloc: Global, fault: PackageError) -> Result<String, AllocError> {
+pub(crate) fn fault_text(alloc: Global, fault: PackageError) -> Result<String, AllocError> {
     format!(in alloc; "{fault}")
-}
-
-/// Tells why a unit's own identifier can't be read. Answers the number of faults, 1.
-#[tactic(auto, using(crate::proofs::Faulted::some_fault, crate::proofs::Told::none_grown))]
-fn tell_own_fault<O: Write>(
-    object: DwarfObject,
-    fault: &OwnFault,
-    waiting: &mut String,
-    out: &mut O,
-) -> Result<u64, Failure>
-    ensures { Tells (IsSomeFault object) (O.contents out.old) (string_bytes waiting.old)
-        (O.contents out.new) (string_bytes waiting.new) result }
-{
-    match own_fault_text(*waiting.allocator(), fault) {
-        Ok(text) => tell(object, text.as_str(), waiting, out),
-        Err(_) => Err(Failure::Memory),
-    }
-}
-
-fn own_fault_text(alloc: Global, fault: &OwnFault) -> Result<String, AllocError> {
-    match fault {
-        OwnFault::Header(fault) => fault_text(alloc, PackageError::Unit(*fault)),
-        OwnFault::Identity(fault) => {
-            format!(in alloc; "its own identifier can't be read: {fault}")
-        }
-    }
 }

@@ -3,7 +3,7 @@ use Rattle.thorin_queries.specs.Checking.{TellsSomeStrings}
 use Rattle.thorin_queries.specs.Faults.{TellsUnit}
 use Rattle.thorin_queries.specs.Telling.{IsOfPrinting, ForEach}
 use Rattle.thorin_queries.proofs.Told.{in_turn_or}
-use Rattle.thorin_queries.proofs.units.check_units.Goals as goal
+use Rattle.thorin_queries.proofs.units.check_all.Goals as goal
 
 pub returns-in-Ok : goal.returns-in-Ok
 returns-in-Ok g c =
