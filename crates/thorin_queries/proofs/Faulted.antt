@@ -17,7 +17,7 @@ use Rattle.dwp_table.specs.declared.object.DwarfObject.{DwarfObject}
 use Rattle.thorin_queries.specs.Faults.{fault_line, IsSomeFault, TellsOwn, TellsFound, string_text}
 use Rattle.thorin_queries.specs.Faults.{TellsString, row_line, AreRows, broken_line, IsBroken}
 use Rattle.thorin_queries.specs.Faults.{TellsUnit, IsUnread, TellsStrings, TellsStringsOf}
-use Rattle.thorin_queries.specs.Faults.{TellsNumbered, TellsInRow}
+use Rattle.thorin_queries.specs.Faults.{TellsNumbered, TellsInRow, IsOwnText}
 use Rattle.thorin_queries.specs.Overlaps.{IsClash, overlap_text}
 use Rattle.thorin_queries.specs.Checking.{TellsSomeStrings}
 use Rattle.thorin_queries.specs.Telling.{Told, Tells, IsLine, IsSum}
@@ -39,14 +39,16 @@ module _ (object : DwarfObject) (a : Option (List ℕ)) (held : List ℕ) (b : O
   told_text text told e h =
       subst (λ t. Tells (IsLine (fault_line object t)) a held b left result) e h
 
-  pub own_some : Tells (IsSomeFault object) a held b left result
+  pub own_fault : (text : List ℕ) → IsOwnText text
+      → Tells (IsLine (fault_line object text)) a held b left result
       → Tells (TellsOwn object) a held b left result
-  own_some h = tells_as (IsSomeFault object) (TellsOwn object) a held b left result
-      (λ lines f. inr f) h
+  own_fault text is h = tells_as (IsLine (fault_line object text)) (TellsOwn object) a held b left
+      result (λ lines l. inr (record { text = text; is_text = is; line = l })) h
 
-  pub own_line : (text : List ℕ) → Tells (IsLine (fault_line object text)) a held b left result
+  pub nameless : Tells (IsLine (fault_line object (codes "it has no identifier of its own"))) a
+      held b left result
       → Tells (TellsOwn object) a held b left result
-  own_line text h = own_some (some_fault text h)
+  nameless h = own_fault (codes "it has no identifier of its own") (inl refl) h
 
   pub told_string : (i : ℕ) (fault : ReadError) (text cause told : List ℕ) → text ≡ told
       → told ≡ string_text i cause → Tells (IsLine (fault_line object text)) a held b left result

@@ -43,9 +43,20 @@ IsUnread object (Range kind) lines = IsLine (fault_line object
     (codes "its range of " ++ (name_of kind ++ codes " is outside the section"))) lines
 IsUnread object _ lines = IsSomeFault object lines
 
+-- what may be wrong with the identifier that a unit's own bytes give: there is none, or it is
+-- another, or can't be read
+abbrev pub IsOwnText : List ℕ → Type 0
+IsOwnText text = (text ≡ codes "it has no identifier of its own")
+    ⊎ ((rest : List ℕ) × (text ≡ codes "its own identifier " ++ rest))
+
+pub record IsOwnFault (object : DwarfObject) (lines : List (List ℕ)) : Type 0 where
+  pub text : List ℕ
+  pub is_text : IsOwnText text
+  pub line : IsLine (fault_line object text) lines
+
 -- what is told of a unit by the identifier that its own bytes give: nothing, or a fault
 abbrev pub TellsOwn : DwarfObject → List (List ℕ) → Type 0
-TellsOwn object lines = IsNone lines ⊎ IsSomeFault object lines
+TellsOwn object lines = IsNone lines ⊎ IsOwnFault object lines
 
 -- what is told of a unit whose range of a section overlaps that of another
 pub record TellsOverlap (pack : Package) (object : DwarfObject) (unit : FoundUnit)

@@ -1,10 +1,9 @@
 //! The identifiers that units' own bytes give. What was read is remembered: the abbreviations from
 //! unit to unit, and what units that share their bytes have.
 
-use crate::units::fault_text;
 use dwp_dwarf::{AbbreviationCache, ReadError, SliceReader, UnitHeader, UnitHeaders, UnitSection};
 use dwp_elf::{Contribution, Endianness, SectionKind};
-use dwp_index::{PackageError, PackagedUnit};
+use dwp_index::PackagedUnit;
 use dwp_table::DwarfObject;
 use std::alloc::{AllocError, Global};
 use std::collections::BTreeMap;
@@ -100,8 +99,8 @@ impl<'a> Remembered<'a> {
             Ok(Some(own)) => Ok(Own::Is(own)),
             Ok(None) => Ok(Own::Nameless),
             Err(fault) => {
-                let text = own_fault_text(self.alloc, &fault)?;
-                Ok(Own::Unread(text))
+                let cause = cause_text(self.alloc, &fault)?;
+                Ok(Own::Unread(cause))
             }
         }
     }
@@ -162,12 +161,10 @@ fn place_of(unit: &PackagedUnit<'_>, object: DwarfObject) -> UnitSection {
     }
 }
 
-fn own_fault_text(alloc: Global, fault: &OwnFault) -> Result<String, AllocError> {
+fn cause_text(alloc: Global, fault: &OwnFault) -> Result<String, AllocError> {
     match fault {
-        OwnFault::Header(fault) => fault_text(alloc, PackageError::Unit(*fault)),
-        OwnFault::Identity(fault) => {
-            format!(in alloc; "its own identifier can't be read: {fault}")
-        }
+        OwnFault::Header(cause) => format!(in alloc; "{cause}"),
+        OwnFault::Identity(cause) => format!(in alloc; "{cause}"),
     }
 }
 

@@ -6,7 +6,7 @@ ghost use Rattle.dwp_base.specs.Sections.{name_of};
 ghost use Rattle.dwp_index.specs.declared.fault.PackageError.TheVariants as faults;
 ghost use Rattle.thorin_queries.specs.Checking.{TellsUnits};
 ghost use Rattle.thorin_queries.specs.Faults.{TellsUnit, TellsFound, TellsOwn, IsUnread};
-ghost use Rattle.thorin_queries.specs.Faults.{IsSomeFault, fault_line, TellsInRow};
+ghost use Rattle.thorin_queries.specs.Faults.{IsSomeFault, fault_line, TellsInRow, IsOwnText};
 ghost use Rattle.thorin_queries.specs.Overlaps.{IsClash, overlap_text};
 ghost use Rattle.thorin_queries.specs.Telling.{Tells, ForEach, IsLine};
 
@@ -215,7 +215,7 @@ fn clash_of(pack: &PackageFile<'_>, unit: &PackagedUnit<'_>, clash: Option<Clash
 
 /// Checks the identifier that a unit's own bytes give, and gathers the range of its string offsets
 /// where it is its own. Answers the number of faults.
-#[tactic(auto, using(crate::proofs::Faulted::own_none, crate::proofs::Faulted::own_some, crate::proofs::Faulted::own_line, crate::proofs::Told::none_grown))]
+#[tactic(auto, using(crate::proofs::Faulted::own_none, crate::proofs::Faulted::nameless, crate::proofs::Told::none_grown))]
 fn check_own<'a, O: Write>(
     abbreviations: &mut Remembered<'a>,
     object: DwarfObject,
@@ -240,7 +240,7 @@ fn check_own<'a, O: Write>(
             }
         }
         Ok(Own::Nameless) => tell(object, "it has no identifier of its own", waiting, out),
-        Ok(Own::Unread(text)) => tell(object, text.as_str(), waiting, out),
+        Ok(Own::Unread(cause)) => tell_own_unread(object, cause.as_str(), waiting, out),
         Err(_) => Err(Failure::Memory),
     }
 }
@@ -298,14 +298,14 @@ fn overlap_text(alloc: Global, kind: SectionKind, other: DwarfObject) -> Result<
 }
 
 /// Tells that a unit has the identifier of another. Answers the number of faults, 1.
-#[tactic(auto, using(crate::proofs::Faulted::some_fault, crate::proofs::Told::none_grown))]
+#[tactic(auto, using(crate::proofs::Faulted::own_fault, crate::proofs::Told::none_grown))]
 fn tell_other<O: Write>(
     object: DwarfObject,
     own: DwarfObject,
     waiting: &mut String,
     out: &mut O,
 ) -> Result<u64, Failure>
-    ensures { Tells (IsSomeFault object) (O.contents out.old) (string_bytes waiting.old)
+    ensures { Tells (TellsOwn object) (O.contents out.old) (string_bytes waiting.old)
         (O.contents out.new) (string_bytes waiting.new) result }
 {
     match other_text(*waiting.allocator(), own) {
@@ -314,10 +314,44 @@ fn tell_other<O: Write>(
     }
 }
 
-fn other_text(alloc: Global, own: DwarfObject) -> Result<String, AllocError> {
+fn other_text(alloc: Global, own: DwarfObject) -> Result<String, AllocError>
+    ensures { IfOk result (λ text. IsOwnText (string_bytes text)) }
+{
     let kind = short_kind(own);
     let id = own.index();
-    format!(in alloc; "its own identifier is {kind} 0x{id:016x}")
+    let rest = format!(in alloc; "is {kind} 0x{id:016x}")?;
+    own_text(alloc, rest.as_str())
+}
+
+/// Tells that a unit's own identifier can't be read. Answers the number of faults, 1.
+#[tactic(auto, using(crate::proofs::Faulted::own_fault, crate::proofs::Told::none_grown))]
+fn tell_own_unread<O: Write>(
+    object: DwarfObject,
+    cause: &str,
+    waiting: &mut String,
+    out: &mut O,
+) -> Result<u64, Failure>
+    ensures { Tells (TellsOwn object) (O.contents out.old) (string_bytes waiting.old)
+        (O.contents out.new) (string_bytes waiting.new) result }
+{
+    match unread_text(*waiting.allocator(), cause) {
+        Ok(text) => tell(object, text.as_str(), waiting, out),
+        Err(_) => Err(Failure::Memory),
+    }
+}
+
+fn unread_text(alloc: Global, cause: &str) -> Result<String, AllocError>
+    ensures { IfOk result (λ text. IsOwnText (string_bytes text)) }
+{
+    let rest = format!(in alloc; "can't be read: {cause}")?;
+    own_text(alloc, rest.as_str())
+}
+
+fn own_text(alloc: Global, rest: &str) -> Result<String, AllocError>
+    ensures { IfOk result (λ text. IsOwnText (string_bytes text)) }
+{
+    let text = format!(in alloc; "its own identifier {rest}")?;
+    Ok(text)
 }
 
 /// Tells that what the index says of a unit can't be read. Answers the number of faults, 1.
@@ -380,6 +414,6 @@ fn tell_fault<O: Write>(
     }
 }
 
-pub(crate) fn fault_text(alloc: Global, fault: PackageError) -> Result<String, AllocError> {
+fn fault_text(alloc: Global, fault: PackageError) -> Result<String, AllocError> {
     format!(in alloc; "{fault}")
 }
