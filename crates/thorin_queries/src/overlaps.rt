@@ -4,7 +4,7 @@ ghost use Rattle.std.specs.Prelude.{◌≡◌};
 ghost use Rattle.thorin_queries.specs.Overlaps.{begins_inside, overlap};
 
 use dwp_elf::{Contribution, SectionKind};
-use dwp_index::{PackageFile, Row, UnitEntry};
+use dwp_index::{PackageFile, PackagedUnit, UnitEntry};
 use dwp_table::{CONTRIBUTION_KINDS, DwarfObject};
 use std::alloc::{AllocError, Global};
 
@@ -51,17 +51,20 @@ impl Overlaps {
         let mut overlaps = Overlaps {
             shares: Vec::new(alloc),
         };
-        let mut rows = Vec::new(alloc);
-        for entry in entries {
-            overlaps.shares.push(NOTHING)?;
-            rows.push(own_row(pack, *entry))?;
+        let mut sections = Vec::new(alloc);
+        for _kind in &CONTRIBUTION_KINDS {
+            sections.push(Vec::new(alloc))?;
         }
-        let mut ranges = Vec::new(alloc);
-        for kind in &CONTRIBUTION_KINDS {
-            gather(rows.as_slice(), *kind, &mut ranges)?;
-            ranges.sort_by_key(|range| (range.offset, range.size))?;
-            overlaps.mark_earlier(*kind, ranges.as_slice(), entries);
-            overlaps.mark_later(*kind, ranges.as_slice(), entries);
+        for entry in 0..entries.len() {
+            overlaps.shares.push(NOTHING)?;
+            gather(pack, entries[entry], entry, &mut sections)?;
+        }
+        for i in 0..CONTRIBUTION_KINDS.len() {
+            if let Some(ranges) = sections.get_mut(i) {
+                ranges.sort_by_key(|range| (range.offset, range.size))?;
+                overlaps.mark_earlier(CONTRIBUTION_KINDS[i], ranges.as_slice(), entries);
+                overlaps.mark_later(CONTRIBUTION_KINDS[i], ranges.as_slice(), entries);
+            }
         }
         Ok(overlaps)
     }
@@ -137,24 +140,35 @@ impl Overlaps {
     }
 }
 
-/// The row of the unit that a slot names, where its identifier leads there.
-fn own_row<'a>(pack: &PackageFile<'a>, entry: UnitEntry) -> Option<Row<'a>> {
-    match pack.find_row(entry.object) {
-        Ok((Some((number, row)), _)) => { if number == entry.row { Some(row) } else { None } }
-        _ => None,
+/// Gathers the ranges of the unit that a slot names, where its identifier leads to the slot's row
+/// and the unit can be read; those of each section apart.
+fn gather(
+    pack: &PackageFile<'_>,
+    slot: UnitEntry,
+    entry: usize,
+    sections: &mut Vec<Vec<Placed>>,
+) -> Result<(), AllocError> {
+    match pack.find(slot.object) {
+        Ok(Some(unit)) => {
+            if unit.row() == slot.row {
+                gather_of(&unit, entry, sections)
+            } else {
+                Ok(())
+            }
+        }
+        _ => Ok(()),
     }
 }
 
-/// Gathers the ranges that rows have of a section.
-fn gather(
-    rows: &[Option<Row<'_>>],
-    kind: SectionKind,
-    ranges: &mut Vec<Placed>,
+/// Gathers the ranges of a unit.
+fn gather_of(
+    unit: &PackagedUnit<'_>,
+    entry: usize,
+    sections: &mut Vec<Vec<Placed>>,
 ) -> Result<(), AllocError> {
-    ranges.clear();
-    for entry in 0..rows.len() {
-        if let Some(row) = &rows[entry] {
-            if let Some(range) = row.range(kind) {
+    for i in 0..CONTRIBUTION_KINDS.len() {
+        if let Some(range) = unit.range(CONTRIBUTION_KINDS[i]) {
+            if let Some(ranges) = sections.get_mut(i) {
                 ranges.push(Placed {
                     offset: range.offset.0,
                     size: range.size,
