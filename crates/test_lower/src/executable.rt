@@ -1,21 +1,21 @@
 //! Calls of `thorin_executable`: executables that name split units, and those that are refused.
 
-use crate::row::{Row, Said, change, number, split};
 use bumpalo::Bump;
 use dwp_dwarf::RelocationEntry;
 use std::alloc::Global;
 use std::collections::BTreeMap;
 use std::path::Path;
+use test_rows::{Row, Said, change, number, split};
 use thorin_executable::{Skeleton, SkeletonList, SkeletonUnits, skeletons};
 use thorin_faults::{ArenaSession, Error, InputError, MemorySession, Session};
 
 /// Makes the call of a row.
 pub fn call(row: Row<'_>, said: &mut Said) {
     match row.word(0) {
-        "skeletons_of" => put_listed(row.alloc, row.bytes(1), said),
-        "skeletons_in" => skeletons_in(row, said),
+        "skeletons_of" => in_session(row, row.bytes(1), said),
+        "skeletons_in" => of_sections(row, said),
         "one_by_one" => one_by_one(row, said),
-        _ => crate::elf::call(row, said),
+        _ => said.word("no such call"),
     }
 }
 
@@ -138,11 +138,23 @@ fn put_named(unit: &Skeleton, said: &mut Said) {
     said.put(&(unit.target, unit.path.as_str()));
 }
 
-/// What a file names.
-fn put_listed(alloc: Global, bytes: &[u8], said: &mut Said) {
-    let bump = Bump::new(alloc);
-    let files = BTreeMap::new(alloc);
-    put_skeletons(alloc, &MemorySession::new(&bump, &files), bytes, said);
+/// What a file names; where it is asked so, one after the other.
+fn in_session(row: Row<'_>, bytes: &[u8], said: &mut Said) {
+    let bump = Bump::new(row.alloc);
+    let files = BTreeMap::new(row.alloc);
+    put_asked(&MemorySession::new(&bump, &files), row, bytes, said);
+}
+
+fn put_asked<Sess: Session<RelocationEntry>>(
+    session: &Sess,
+    row: Row<'_>,
+    bytes: &[u8],
+    said: &mut Said,
+) {
+    match row.word(0) {
+        "one_by_one" => put_units(SkeletonUnits::read(row.alloc, session, bytes), said),
+        _ => put_skeletons(row.alloc, session, bytes, said),
+    }
 }
 
 fn put_skeletons<Sess: Session<RelocationEntry>>(
@@ -155,10 +167,10 @@ fn put_skeletons<Sess: Session<RelocationEntry>>(
 }
 
 /// Bytes that are changed, or `-`, and the sections of an executable: what it names.
-fn skeletons_in(row: Row<'_>, said: &mut Said) {
+fn of_sections(row: Row<'_>, said: &mut Said) {
     let mut bytes = file(row, said);
     change(&mut bytes, row.word(1));
-    put_listed(row.alloc, &bytes, said);
+    in_session(row, &bytes, said);
 }
 
 fn put_next(left: &mut SkeletonUnits<'_>, said: &mut Said) {
@@ -183,24 +195,12 @@ fn put_four(left: &mut SkeletonUnits<'_>, said: &mut Said) {
     }
 }
 
-fn put_one_by_one(alloc: Global, bytes: &[u8], said: &mut Said) {
-    let bump = Bump::new(alloc);
-    let files = BTreeMap::new(alloc);
-    let session = MemorySession::new(&bump, &files);
-    put_units(SkeletonUnits::read(alloc, &session, bytes), said);
-}
-
-fn put_sections_one_by_one(row: Row<'_>, said: &mut Said) {
-    let bytes = file(row, said);
-    put_one_by_one(row.alloc, &bytes, said);
-}
-
 /// `-` and the sections of an executable, or the bytes of a file: what it names, one after the other.
 fn one_by_one(row: Row<'_>, said: &mut Said) {
     if row.word(1) == "-" {
-        put_sections_one_by_one(row, said);
+        of_sections(row, said);
     } else {
-        put_one_by_one(row.alloc, row.bytes(1), said);
+        in_session(row, row.bytes(1), said);
     }
 }
 

@@ -1,10 +1,10 @@
 //! Calls of `thorin_faults`: the texts of faults.
 
-use crate::row::{Row, Said};
 use dwp_bytes::{ReadError as DwarfReadError, WriteError as DwarfWriteError};
 use dwp_elf_read::{ReadError as ElfReadError, WriteError as ElfWriteError};
 use std::alloc::AllocError;
 use std::io;
+use test_rows::{Row, Said};
 use thorin_faults::{Error, InputError, MissingReferencedObjectBehaviour};
 
 /// Makes the call of a row.

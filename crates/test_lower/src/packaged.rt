@@ -1,10 +1,10 @@
 //! Calls of `thorin_packaged`: rows by place, and string offsets of packages that are rewritten.
 
 use crate::parts::{contribution, indexed};
-use crate::row::{Hex, Row, Said, Text, encoding};
 use dwp_base::{Contribution, Endianness, SectionKind};
 use dwp_bytes::ReadError;
 use dwp_index::UnitIndex;
+use test_rows::{Hex, Row, Said, Text, encoding};
 use thorin_faults::Error;
 use thorin_packaged::laws::{
     every_row_is_found_by_place, packaged_rows_are_read_alike, rows_are_found_by_place,

@@ -1,11 +1,11 @@
 //! Calls of `thorin_parts`: hash tables, entries, written indexes and relocations.
 
-use crate::row::{Row, Said, encoding, number, place, split};
 use dwp_base::{Contribution, ContributionOffset, Endianness, SectionKind};
 use dwp_bytes::{Encoding, ReadError, RelocationEntry};
 use dwp_elf_read::{ElfFile, Section};
 use dwp_index::{DwarfObject, DwoId, UnitIndex};
 use std::alloc::{AllocError, Global};
+use test_rows::{Row, Said, encoding, number, place, split};
 use thorin_faults::Error;
 use thorin_parts::{
     Buckets, ContributionAdjustor, IndexEntry, add_relocations, bucket, write_index,

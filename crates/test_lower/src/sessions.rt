@@ -1,6 +1,5 @@
 //! Calls of the sessions of `thorin_faults`: what they read and place.
 
-use crate::row::{Row, Said, Text};
 use bumpalo::Bump;
 use std::alloc::{AllocError, Global};
 use std::borrow::CowSlice;
@@ -9,6 +8,7 @@ use std::io;
 use std::io::Read;
 use std::path::Path;
 use std::rt::Files;
+use test_rows::{Row, Said, Text};
 use thorin_faults::{ArenaSession, BytesSession, InputError, MemorySession, Session, read_into};
 
 /// Makes the call of a row.

@@ -2,33 +2,51 @@
 
 ghost use Rattle.thorin_strings.specs.Known.{AreKnown};
 
-use crate::row::{Row, Said, Text, encoding, number, order, split};
 use Endianness::Little;
 use dwp_base::Endianness;
 use dwp_bytes::{Encoding, string_at};
+use test_rows::{Row, Said, Text, encoding, number, order, split};
 use thorin_faults::Error;
 use thorin_strings::{PackageStringOffset, PackageStringTable, Repeats};
 
 /// Makes the call of a row.
 pub fn call(row: Row<'_>, said: &mut Said) {
     match row.word(0) {
-        "table" => table(row, said),
+        "table" | "short_strings" | "crowded" | "in_order" => with_table(row, said),
         "remapped_thrice" => remapped_thrice(row, said),
-        "short_strings" => short_strings(row, said),
         "refused_range" => refused_range(row, said),
-        "crowded" => crowded(row, said),
-        "in_order" => in_order(row, said),
         _ => crate::packaged::call(row, said),
     }
 }
 
-/// Steps, which a new table takes; and its data at the end.
-fn table(row: Row<'_>, said: &mut Said) {
+/// Makes the call of a row with a new table, and says the table's data at the end where the call
+/// tells that they are asked for.
+fn with_table(row: Row<'_>, said: &mut Said) {
     let mut table = PackageStringTable::new(row.alloc);
-    for word in row.rest(1) {
-        step(&mut table, row, word, said);
+    let is_asked = of_table(&mut table, row, said);
+    let data = table.finish();
+    if is_asked {
+        said.put(&Text(&data));
     }
-    said.put(&Text(&table.finish()));
+}
+
+/// What is done to a new table; whether its data are asked for then.
+fn of_table(table: &mut PackageStringTable, row: Row<'_>, said: &mut Said) -> bool {
+    match row.word(0) {
+        "table" => steps(table, row, said),
+        "short_strings" => short_strings(table, row, said),
+        "crowded" => crowded(table, row.bytes(1), row.bytes(2), said),
+        "in_order" => in_order(table, row, said),
+        _ => put_alone(table, row.bytes(1), row.bytes(2), said),
+    }
+}
+
+/// Steps, which the table takes; and its data at the end.
+fn steps(table: &mut PackageStringTable, row: Row<'_>, said: &mut Said) -> bool {
+    for word in row.rest(1) {
+        step(table, row, word, said);
+    }
+    true
 }
 
 /// What is done to a table, and what it answers.
@@ -155,24 +173,42 @@ fn put_data(table: &PackageStringTable, said: &mut Said) {
 /// A section and offsets: the sums of the offsets and of the strings, in a table of its own, and of
 /// another table twice with what is remembered of the section.
 fn remapped_thrice(row: Row<'_>, said: &mut Said) {
-    remapped_once(row, said);
-    remapped_twice(row, said);
+    with_table(row, said);
+    with_repeats(row, row.bytes(1), said);
 }
 
-fn remapped_once(row: Row<'_>, said: &mut Said) {
-    let mut table = PackageStringTable::new(row.alloc);
-    put_alone(&mut table, row.bytes(1), row.bytes(2), said);
-}
-
-fn put_alone(table: &mut PackageStringTable, section: &[u8], offsets: &[u8], said: &mut Said) {
+fn put_alone(
+    table: &mut PackageStringTable,
+    section: &[u8],
+    offsets: &[u8],
+    said: &mut Said,
+) -> bool {
     put_sum(&alone(table, section, offsets), said);
     put_data(table, said);
+    false
 }
 
-fn remapped_twice(row: Row<'_>, said: &mut Said) {
+/// Rewrites the ranges of a row, by a section, with a new table and with what is remembered of the
+/// section.
+fn with_repeats(row: Row<'_>, section: &[u8], said: &mut Said) {
     let mut repeats = Repeats::new(row.alloc);
     let mut table = PackageStringTable::new(row.alloc);
-    put_twice(&mut table, &mut repeats, row.bytes(1), row.bytes(2), said);
+    put_ranges(&mut table, &mut repeats, section, row, said);
+}
+
+fn put_ranges(
+    table: &mut PackageStringTable,
+    repeats: &mut Repeats,
+    section: &[u8],
+    row: Row<'_>,
+    said: &mut Said,
+)
+    requires { AreKnown section.now table.old repeats.old }
+{
+    match row.word(0) {
+        "refused_range" => put_both(table, repeats, section, row, said),
+        _ => put_twice(table, repeats, section, row.bytes(2), said),
+    }
 }
 
 fn put_twice(
@@ -205,18 +241,17 @@ fn put_sum_again(
 
 /// A string that is there, a section, and four ranges of offsets, which are rewritten one after the
 /// other, with what is remembered of the section's short strings; and the data behind them.
-fn short_strings(row: Row<'_>, said: &mut Said) {
-    let mut table = PackageStringTable::new(row.alloc);
-    add_string(&mut table, row.bytes(1), said);
-    put_ranges(&mut table, row, said);
-    said.put(&Text(&table.finish()));
+fn short_strings(table: &mut PackageStringTable, row: Row<'_>, said: &mut Said) -> bool {
+    add_string(table, row.bytes(1), said);
+    put_short(table, row, said);
+    true
 }
 
 fn add_string(table: &mut PackageStringTable, bytes: &[u8], said: &mut Said) {
     said.note_that(inserted(table, bytes).is_ok());
 }
 
-fn put_ranges(table: &mut PackageStringTable, row: Row<'_>, said: &mut Said) {
+fn put_short(table: &mut PackageStringTable, row: Row<'_>, said: &mut Said) {
     let section = row.bytes(2);
     let mut repeats = Repeats::of_ranges(row.alloc, section);
     put_again(table, &mut repeats, section, row.bytes(3), said);
@@ -232,13 +267,7 @@ fn refused_range(row: Row<'_>, said: &mut Said) {
     let size = usize::from(row.half(1));
     let mut section = said.made(Vec::from_elem(row.alloc, b'x', size), Vec::new(row.alloc));
     said.extend(&mut section, b"\0");
-    put_refused(row, &section, said);
-}
-
-fn put_refused(row: Row<'_>, section: &[u8], said: &mut Said) {
-    let mut repeats = Repeats::new(row.alloc);
-    let mut table = PackageStringTable::new(row.alloc);
-    put_both(&mut table, &mut repeats, section, row, said);
+    with_repeats(row, &section, said);
 }
 
 fn put_both(
@@ -276,29 +305,26 @@ fn are_kept(range: &[u8], offsets: &[u8], data: &[u8], section: &[u8]) -> bool {
 
 /// A section of strings, and the offsets of each, twice: used again in another range, they are found
 /// all the same, and others are not.
-fn crowded(row: Row<'_>, said: &mut Said) {
-    let mut table = PackageStringTable::new(row.alloc);
-    crowd(&mut table, row.bytes(1), row.bytes(2), said);
-}
-
-fn crowd(table: &mut PackageStringTable, section: &[u8], offsets: &[u8], said: &mut Said) {
+fn crowded(
+    table: &mut PackageStringTable,
+    section: &[u8],
+    offsets: &[u8],
+    said: &mut Said,
+) -> bool {
     let first = is_kept(table, section, offsets);
     let second = is_kept(table, section, offsets);
     said.put(&(section.len(), first, second, table.len()));
     put_found(table, section.get(8..11).unwrap_or(&[]), said);
     put_found(table, b"none", said);
     put_offset(table.get_or_insert(b"none"), said);
+    false
 }
 
 /// The same strings and offsets: whether more than one of the strings is compared with one that isn't
 /// there, as where they are looked for in their order, and no more than six.
-fn in_order(row: Row<'_>, said: &mut Said) {
-    let mut table = PackageStringTable::new(row.alloc);
-    put_compared(&mut table, row, said);
-}
-
-fn put_compared(table: &mut PackageStringTable, row: Row<'_>, said: &mut Said) {
+fn in_order(table: &mut PackageStringTable, row: Row<'_>, said: &mut Said) -> bool {
     said.note_that(alone(table, row.bytes(1), row.bytes(2)).is_ok());
     let (_found, count) = table.find_counted(b"none");
     said.put(&(count > 1, count <= 6));
+    false
 }

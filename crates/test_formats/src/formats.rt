@@ -1,10 +1,10 @@
 //! Calls of `dwp_base`, `dwp_bytes` and `dwp_table`.
 
-use crate::row::{Row, Said, Text};
 use dwp_base::{Contribution, ContributionOffset, Endianness, SectionKind};
 use dwp_bytes::{Encoding, Format, ReadError, WriteError, string_at};
 use dwp_index::{Bucketable, DebugTypeSignature, DwarfObject, DwoId};
 use dwp_table::{column_of, kind_of_column, slot_count};
+use test_rows::{Row, Said, Text};
 
 /// Makes the call of a row.
 pub fn call(row: Row<'_>, said: &mut Said) {

@@ -1,32 +1,51 @@
 //! Calls of the readers of `dwp_bytes`: numbers of each size and order, relocated or not.
 
-use crate::row::{Row, Said, Text, number, split};
+ghost use Rattle.dwp_bytes.specs.Relocation.{ascends};
+ghost use Rattle.std.specs.Prelude.{IsTrue};
+
 use Endianness::Little;
 use dwp_base::Endianness;
 use dwp_bytes::{Format, ReadError, Reader, Relocate, Relocation, RelocationEntry, SliceReader};
+use test_rows::{Row, Said, Text, number, split};
 
-/// Makes the call of a row.
+/// String offsets, which begin at 4; half of one at the end.
+const OFFSETS: &[u8] = b"\xff\xff\xff\xff\x02\0\0\0\0\0\0\0\x06\0\0\0\x07\0\0\0\x05\0";
+
+/// Makes the call of a row. All readers are made here, since one place that makes them costs least.
 pub fn call(row: Row<'_>, said: &mut Said) {
-    match row.word(0) {
-        "read" | "relocated" | "relocated_twice" => of_reader(reader(row), row, said),
-        _ => crate::dwarf::call(row, said),
-    }
+    let words = [
+        reader(row, 1),
+        reader(row, 2),
+        reader(row, 3),
+        reader(row, 4),
+        reader(row, 5),
+    ];
+    let strings = [slice(b"a\0bc\0d"), slice(b"x\0"), slice(OFFSETS)];
+    of_readers(words, strings, row, said);
 }
 
-/// A reader of a byte order and bytes, or of bytes alone.
-fn reader(row: Row<'_>) -> SliceReader<'_> {
-    match row.word(0) {
-        "read" => SliceReader::new(row.bytes(2), row.order(1)),
-        _ => SliceReader::new(row.bytes(1), Little),
-    }
+/// A reader of bytes, with the lowest byte of a number first.
+pub fn slice(bytes: &[u8]) -> SliceReader<'_> {
+    SliceReader::new(bytes, Little)
 }
 
-/// Takes the steps of a row with a reader.
-fn of_reader<R: Reader>(at: R, row: Row<'_>, said: &mut Said) {
+/// A reader of the bytes of a word, in the byte order that word 1 or word 2 names.
+fn reader(row: Row<'_>, place: usize) -> SliceReader<'_> {
+    let order = match row.order(1) {
+        Endianness::Big => Endianness::Big,
+        Endianness::Little => row.order(2),
+    };
+    SliceReader::new(row.bytes(place), order)
+}
+
+/// Takes the steps of a row with a reader of the words 1 to 5, or reads units of them; the strings
+/// are always the same.
+fn of_readers<R: Reader>(words: [R; 5], strings: [R; 3], row: Row<'_>, said: &mut Said) {
     match row.word(0) {
-        "read" => steps(at, row.rest(3), said),
-        "relocated" => once(at, row.rest(2), said),
-        _ => twice(at, row.rest(2), said),
+        "read" => steps(words[1], row.rest(3), said),
+        "relocated" => relocated(words[0], &TWO, 0, row.rest(2), said),
+        "relocated_twice" => twice(words[0], row.rest(2), said),
+        _ => crate::dwarf::call(words, strings, row, said),
     }
 }
 
@@ -144,22 +163,23 @@ static AGAIN: [RelocationEntry; 1] = [RelocationEntry {
     },
 }];
 
-/// Relocated to 0x1100 itself at 0, and by 0x1000 beside what is stored at 8.
-fn once<R: Reader>(section: R, calls: &[&str], said: &mut Said) {
-    steps(Relocate::new(&TWO, section), calls, said);
+/// Takes steps behind the next so many bytes, with a reader of relocations.
+fn relocated<R: Reader>(
+    section: R,
+    relocations: &[RelocationEntry],
+    skipped: usize,
+    calls: &[&str],
+    said: &mut Said,
+)
+    requires { IsTrue (ascends relocations.now) }
+{
+    let mut at = Relocate::new(relocations, section);
+    let _done = at.skip(skipped);
+    steps(at, calls, said);
 }
 
-/// The same, and by 1 beside what was read so at 8. The reader stands there.
+/// Relocated twice: to 0x1100 itself at 0, and by 0x1000 beside what is stored at 8, and by 1 beside
+/// what was read so at 8. The reader stands there.
 fn twice<R: Reader>(section: R, calls: &[&str], said: &mut Said) {
-    again(Relocate::new(&TWO, section), calls, said);
-}
-
-fn again<R: Reader>(section: R, calls: &[&str], said: &mut Said) {
-    steps(behind(Relocate::new(&AGAIN, section)), calls, said);
-}
-
-/// The reader behind the next eight bytes.
-fn behind<R: Reader>(mut at: R) -> R {
-    let _done = at.skip(8);
-    at
+    relocated(Relocate::new(&TWO, section), &AGAIN, 8, calls, said);
 }

@@ -1,7 +1,7 @@
 //! Calls of `dwp_inflate`: streams that Python's zlib wrote, and each fault of a stream.
 
-use crate::row::{Row, Said, place};
 use dwp_inflate::inflate;
+use test_rows::{Row, Said, place};
 
 /// A stream and how many bytes it gives: these bytes, or its fault.
 pub fn inflated(row: Row<'_>, said: &mut Said) {

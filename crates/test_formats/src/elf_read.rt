@@ -1,9 +1,9 @@
 //! Calls of `dwp_elf_read`: files of both classes and orders, and damaged ones.
 
-use crate::row::{Hex, Row, Said, place};
 use dwp_base::SectionKind;
 use dwp_elf_read::{ElfFile, FileKind, ReadError, Section, WriteError};
 use std::io;
+use test_rows::{Hex, Row, Said, place};
 
 /// Makes the call of a row.
 pub fn call(row: Row<'_>, said: &mut Said) {

@@ -1,49 +1,32 @@
 //! Calls of `dwp_dwarf`: units and their root entries, read from bytes.
 
-use crate::row::{Row, Said, Text, number, split};
-use Endianness::Little;
-use dwp_dwarf::*;
+ghost use Rattle.dwp_bytes.specs.Relocation.{ascends};
+ghost use Rattle.std.specs.Prelude.{IsTrue};
 
-/// Makes the call of a row.
-pub fn call(row: Row<'_>, said: &mut Said) {
+use crate::reading::slice;
+use dwp_dwarf::*;
+use test_rows::{Row, Said, Text, number, split};
+
+/// Makes the call of a row, with readers of its words 1 to 5 and of strings.
+pub fn call<R: Reader>(words: [R; 5], strings: [R; 3], row: Row<'_>, said: &mut Said) {
     match row.word(0) {
-        "unit" | "relocated_unit" | "relocated_type_unit" => units(row, said),
-        "attribute" => attribute(row, said),
-        _ => call_of_tables(row, said),
+        "unit" => unit(words[2], words[3], section(row), said),
+        "relocated_unit" => relocated(words[0], words[1], &ROOT, UnitSection::Info, said),
+        "relocated_type_unit" => {
+            relocated(words[0], words[1], &TYPE_UNIT, UnitSection::Types, said)
+        }
+        "attribute" => put_text(strings, row.number(1), words[1], said),
+        _ => call_of_tables(words, row, said),
     }
 }
 
-fn call_of_tables(row: Row<'_>, said: &mut Said) {
+fn call_of_tables<R: Reader>(words: [R; 5], row: Row<'_>, said: &mut Said) {
     match row.word(0) {
-        "remembered" => remembered_of(row, said),
+        "remembered" => remembered(row, words[0], row.rest(2), said),
         "sizes" => sizes(row.bytes(1), row.rest(2), said),
-        "object" => object(row, said),
+        "object" => object(words, row, said),
         _ => crate::elf_read::call(row, said),
     }
-}
-
-/// Units and abbreviations, words 3 and 4, or 1 and 2 where a unit is relocated.
-fn units(row: Row<'_>, said: &mut Said) {
-    let place = if row.word(0) == "unit" { 3 } else { 1 };
-    of_units(reader(row, place), reader(row, place + 1), row, said);
-}
-
-fn of_units<R: Reader>(units: R, abbreviations: R, row: Row<'_>, said: &mut Said) {
-    match row.word(0) {
-        "unit" => unit(units, abbreviations, section(row), said),
-        "relocated_unit" => relocated_unit(units, abbreviations, said),
-        _ => relocated_type_unit(units, abbreviations, said),
-    }
-}
-
-/// A reader of bytes, with the lowest byte of a number first.
-fn slice(bytes: &[u8]) -> SliceReader<'_> {
-    SliceReader::new(bytes, Little)
-}
-
-/// A reader of the bytes of a word, in the byte order of word 2.
-fn reader(row: Row<'_>, place: usize) -> SliceReader<'_> {
-    SliceReader::new(row.bytes(place), row.order(2))
 }
 
 /// A section of units by its name.
@@ -131,12 +114,21 @@ fn put_unit<R: Reader>(units: R, abbreviations: R, section: UnitSection, said: &
 /// same, read by a reader with relocations, of which there are none.
 fn unit<R: Reader>(units: R, abbreviations: R, section: UnitSection, said: &mut Said) {
     put_unit(units, abbreviations, section, said);
-    relocated(units, abbreviations, section, said);
+    relocated(units, abbreviations, &[], section, said);
 }
 
-fn relocated<R: Reader>(units: R, abbreviations: R, section: UnitSection, said: &mut Said) {
+/// The first unit, whose section has relocations, and its root.
+fn relocated<R: Reader>(
+    units: R,
+    abbreviations: R,
+    relocations: &[RelocationEntry],
+    section: UnitSection,
+    said: &mut Said,
+)
+    requires { IsTrue (ascends relocations.now) }
+{
     put_unit(
-        Relocate::new(&[], units),
+        Relocate::new(relocations, units),
         Relocate::new(&[], abbreviations),
         section,
         said,
@@ -151,15 +143,6 @@ static ROOT: [RelocationEntry; 1] = [RelocationEntry {
         implicit_addend: false,
     },
 }];
-
-fn relocated_unit<R: Reader>(units: R, abbreviations: R, said: &mut Said) {
-    put_unit(
-        Relocate::new(&ROOT, units),
-        Relocate::new(&[], abbreviations),
-        UnitSection::Info,
-        said,
-    );
-}
 
 /// What is relocated at the places of a type unit's length, abbreviation offset, signature and type
 /// offset.
@@ -194,15 +177,6 @@ static TYPE_UNIT: [RelocationEntry; 4] = [
     },
 ];
 
-fn relocated_type_unit<R: Reader>(units: R, abbreviations: R, said: &mut Said) {
-    put_unit(
-        Relocate::new(&TYPE_UNIT, units),
-        Relocate::new(&[], abbreviations),
-        UnitSection::Types,
-        said,
-    );
-}
-
 /// Sections of strings.
 fn strings<R: Reader>(debug_str: R, debug_line_str: R, debug_str_offsets: R) -> StringSections<R> {
     StringSections {
@@ -212,19 +186,7 @@ fn strings<R: Reader>(debug_str: R, debug_line_str: R, debug_str_offsets: R) -> 
     }
 }
 
-/// String offsets, which begin at 4; half of one at the end.
-const OFFSETS: &[u8] = b"\xff\xff\xff\xff\x02\0\0\0\0\0\0\0\x06\0\0\0\x07\0\0\0\x05\0";
-
 /// The string of a form and a value, by sections of strings that are always the same.
-fn attribute(row: Row<'_>, said: &mut Said) {
-    put_text(
-        [slice(b"a\0bc\0d"), slice(b"x\0"), slice(OFFSETS)],
-        row.number(1),
-        slice(row.bytes(2)),
-        said,
-    );
-}
-
 fn put_text<R: Reader>(
     [debug_str, debug_line_str, debug_str_offsets]: [R; 3],
     form: u64,
@@ -260,10 +222,6 @@ fn as_read<R: Reader>(section: R, offset: u64, code: u64) -> Told {
         Ok(table) => told_of(table.get(code)),
         Err(fault) => Err(fault),
     }
-}
-
-fn remembered_of(row: Row<'_>, said: &mut Said) {
-    remembered(row, slice(row.bytes(1)), row.rest(2), said);
 }
 
 /// Tables of abbreviations, and places and codes with a colon between: what is remembered of each
@@ -344,25 +302,11 @@ fn put_header<R: Reader>(units: R, section: UnitSection, said: &mut Said) {
 
 /// `info` or `types`, units, abbreviations, strings, string offsets, where these begin and the format
 /// of their offsets: the first unit of an object that a compiler wrote, and its root.
-fn object(row: Row<'_>, said: &mut Said) {
-    object_of(
-        slice(row.bytes(2)),
-        slice(row.bytes(3)),
-        [slice(row.bytes(4)), slice(b""), slice(row.bytes(5))],
-        row,
-        said,
-    );
-}
-
-fn object_of<R: Reader>(
-    units: R,
-    abbreviations: R,
-    [debug_str, debug_line_str, debug_str_offsets]: [R; 3],
-    row: Row<'_>,
-    said: &mut Said,
-) {
-    let sections = strings(debug_str, debug_line_str, debug_str_offsets);
-    put_object(units, abbreviations, &sections, row, said);
+fn object<R: Reader>(words: [R; 5], row: Row<'_>, said: &mut Said) {
+    let mut empty = words[0];
+    empty.empty();
+    let sections = strings(words[3], empty, words[4]);
+    put_object(words[1], words[2], &sections, row, said);
 }
 
 fn put_object<R: Reader>(

@@ -1,10 +1,10 @@
 //! Calls of `dwp_index`.
 
-use crate::row::{Hex, Row, Said};
 use dwp_base::SectionKind;
 use dwp_bytes::ReadError;
 use dwp_elf_read::ReadError as ElfReadError;
 use dwp_index::*;
+use test_rows::{Hex, Row, Said};
 
 /// Makes the call of a row.
 pub fn call(row: Row<'_>, said: &mut Said) {

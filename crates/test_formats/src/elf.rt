@@ -3,11 +3,11 @@
 
 ghost use Rattle.std.specs.Prelude.{Some};
 
-use crate::row::{Hex, Row, Said, bytes_of, kind, place, split};
 use dwp_elf::{Class, Contribution, Watched, WritableObject, WriteError};
 use std::alloc::{AllocError, Global};
 use std::io;
 use std::io::{ErrorKind, Write};
+use test_rows::{Hex, Row, Said, bytes_of, kind, place, split};
 
 /// Makes the call of a row.
 pub fn call(row: Row<'_>, said: &mut Said) {
