@@ -106,8 +106,8 @@ def function_at(text, file, place):
     return name if module in ("lib", "main", "mod") else f"{module}::{name}"
 
 
-def functions_beside(crate, functions, texts):
-    """The functions of a crate that have bodies and aren't among these: their file, their lines there, and their path below proofs/."""
+def functions_of(crate, texts):
+    """The functions of a crate that have bodies, but for those of a cycle: their file, their lines there, their path below proofs/."""
     homes, files = {}, {}
     for at, _folders, names in sorted(os.walk(f"{crate.folder}/src")):
         for name in sorted(it for it in names if it.endswith(".rt")):
@@ -125,8 +125,7 @@ def functions_beside(crate, functions, texts):
                 continue
             owner = type_above(lines, first) if lines[first].startswith(" ") else ""
             path = (homes.get(owner, module) + f"{owner}/" if owner else module) + name
-            told = path.replace("/", "::")
-            if re.fullmatch(r"[\w/]+", path) and not any(f"::{told}".endswith(f"::{it}") for it in functions):
+            if re.fullmatch(r"[\w/]+", path):
                 yield file, first, last, path
 
 
@@ -142,11 +141,11 @@ def body_of(lines, first, last):
 def without_bodies(crate, functions, texts, kept):
     """The texts of all files of src/ with no body but those of these functions and those at the kept paths, and the paths of what lost its body."""
     found, gone = {}, set()
-    for file, first, last, path in functions_beside(crate, functions, texts):
+    for file, first, last, path in functions_of(crate, texts):
+        if path in kept or any(f"::{path.replace('/', '::')}".endswith(f"::{it}") for it in functions):
+            continue
         lines = found.setdefault(file, (texts.get(file) or text_of(crate, file)).split("\n"))
         opens = body_of(lines, first, last)
-        if path in kept:
-            continue
         gone.add(path)
         if opens is not None:
             # (lines stay where they are)
@@ -173,6 +172,12 @@ def type_above(lines, line):
     return ""
 
 
+def is_of_trait(lines, line):
+    """Whether a method stands in a trait, or in what implements one."""
+    begins = next((at for at in range(line, -1, -1) if re.match(r"(unsafe )?impl\b|(pub(\([^)]*\))? )?trait\b", lines[at])), line)
+    return bool(re.search(r"\btrait\b|\sfor\s", " ".join(lines[begins:line]).split("{")[0]))
+
+
 def plain(text, generics):
     """The last name of a type or a trait, `Any` for a parameter, and the types that it is of, as a check writes them."""
     name, arguments = re.match(r"\s*&?(?:'\w+ )?([\w:]+)\s*(?:<(.*)>)?", text).groups()
@@ -195,23 +200,59 @@ def split_generics(head):
     return "", head
 
 
-class Group:
-    """Edits of different functions, which one check tries."""
+class Copy:
+    """A copy of a function under a name of its own, with an edit of its body: another edit of the function is tried beside it."""
 
-    def __init__(self, assumes):
+    def __init__(self, edit, number):
+        """Raises a LookupError where the function can't be copied."""
+        (function,), (file,) = edit.functions, {file for file, _old, _new in edit.pairs}
+        old, new = (it.split("\n") for it in (text_of(edit.crate, file), edit.applied({})[0][file]))
+        changed = [at for at, (one, other) in enumerate(zip(old, new)) if one != other]
+        inside = [it[1:] for it in functions_of(edit.crate, {}) if it[0] == file and it[1] <= changed[0] and changed[-1] <= it[2]]
+        first, last, path = inside[0]
+        name, opens = path.rpartition("/")[2], body_of(old, first, last)
+        is_method, top = old[first].startswith(" "), first
+        while old[top - 1].strip().startswith(("///", "#[")):
+            top -= 1
+        call = rf"\b(self\.|Self::){name}\(" if is_method else rf"(?<![\w.:]){name}\("
+        calls_itself = opens is None or re.search(call, "\n".join(old[opens + 1 : last]))
+        is_known = f"::{path.replace('/', '::')}".endswith(f"::{function}") and len(old) == len(new) and opens and opens < changed[0]
+        # (a closure's proof stands elsewhere; a trait has no method of such a name)
+        has_closures = os.path.isdir(f"{edit.crate.folder}/proofs/{file[4:-3]}/fn")
+        if not is_known or calls_itself or has_closures or is_method and is_of_trait(old, first) or old[top - 1].strip()[-1:] not in ("", "{"):
+            raise LookupError(function)
+        self.file, self.last, self.path, self.name = file, last, path, f"{name}_again_{number}"
+        self.function = function.removesuffix(name) + self.name
+        self.text = re.sub(rf"\bfn {name}\b", f"fn {self.name}", "\n".join(new[top : last + 1]), count=1)
+
+    def put(self, crate, room):
+        """Puts the proof of the copy, which is that of the function, into a folder."""
+        name, dots = self.path.rpartition("/")[2], self.path.replace("/", ".")
+        proof, to = f"{crate.folder}/proofs/{self.path}", f"{room}/proofs/{self.path.removesuffix(name)}{self.name}"
+        for file in os.listdir(proof) if os.path.isdir(proof) else []:
+            os.makedirs(to, exist_ok=True)
+            with open(f"{proof}/{file}", encoding="utf-8") as one, open(f"{to}/{file}", "w", encoding="utf-8") as other:
+                text = re.sub(rf"(\.proofs\.{re.escape(dots)})\b(?!-)", rf"\1{self.name.removeprefix(name)}", one.read())
+                other.write(re.sub(rf"\b{name}_spec\b", f"{self.name}_spec", text))
+
+
+class Group:
+    """Edits of different functions, or of copies of one, which one check tries."""
+
+    def __init__(self, assumes, copies=False):
         self.edits, self.functions, self.texts, self.is_alone = [], set(), {}, False
-        # Whether the crate's other functions are taken by their contracts, unproved.
-        self.assumes = assumes
+        # Whether the crate's other functions are taken by their contracts, unproved; then edits of one function may be copied.
+        self.assumes, self.may_copy, self.copies = assumes, copies, {}
         # Whether a function that is meant was found among several of one name.
         self.is_renamed = False
 
     def takes(self, edit):
         """Adds the edit where it changes other functions than those that are here, and its texts still stand once."""
-        if self.edits and (self.is_alone or edit.is_alone and not edit.functions or self.functions & edit.functions):
+        if self.edits and (self.is_alone or edit.is_alone and not edit.functions):
             return False
         changed, _why = edit.applied(self.texts)
-        if changed is None:
-            return False
+        if changed is None or self.functions & edit.functions:
+            return self.takes_copy(edit)
         self.texts, self.is_alone = changed, edit.is_alone and not edit.functions
         self.edits.append(edit)
         self.functions |= edit.functions
@@ -219,13 +260,36 @@ class Group:
         self.assumes = self.assumes and not self.is_alone and all(file.startswith("src/") for file, _old, _new in edit.pairs)
         return True
 
+    def takes_copy(self, edit):
+        """Adds the edit to a copy of the function, where there can be one."""
+        if not (self.assumes and self.may_copy and getattr(edit, "may_copy", True)):
+            return False
+        try:
+            self.copies[edit.name] = Copy(edit, len(self.copies) + 1)
+        except (LookupError, ValueError):
+            return False
+        self.edits.append(edit)
+        self.functions.add(self.copies[edit.name].function)
+        return True
 
-def grouped(edits, assumes=True):
-    """The edits in as few groups as have different functions."""
+    def functions_of(self, edit):
+        """The functions that must be refused for an edit, as this check names them."""
+        return {self.copies[edit.name].function} if edit.name in self.copies else edit.functions
+
+    def with_copies(self, texts):
+        """These texts, which have the lines of the sources, with the copies behind the functions that they are of."""
+        for it in sorted(self.copies.values(), key=lambda it: -it.last):
+            lines = texts[it.file].split("\n")
+            texts = {**texts, it.file: "\n".join([*lines[: it.last + 1], "", *it.text.split("\n"), *lines[it.last + 1 :]])}
+        return texts
+
+
+def grouped(edits, assumes=True, copies=False):
+    """The edits in as few groups as have different functions, or with copies of one."""
     groups = []
     for edit in edits:
         if not any(it.takes(edit) for it in groups):
-            groups.append(Group(assumes))
+            groups.append(Group(assumes, copies))
             if not groups[-1].takes(edit):
                 raise ValueError(edit.applied({})[1])
     return groups
