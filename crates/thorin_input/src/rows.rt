@@ -136,8 +136,28 @@ fn adjusted_part(
 ///
 /// # Errors
 /// Those of `ContributionAdjustor::adjust`, of the sections in the order of a row.
-#[tactic(auto, unfolding(crate::specs::Rows::unit_row))]
+#[tactic(auto, unfolding(crate::specs::Rows::unit_row, thorin_parts::specs::Adjusting::adjusted))]
 pub fn unit_row(
+    indexes: &Indexes<'_>,
+    whole: &Whole,
+    name: DwarfObject,
+) -> Result<IndexEntry, Error>
+    ensures { Gives (λ row. row) result
+        (spec.unit_row (view.indexes indexes.now) whole.now.row name) }
+{
+    match (&indexes.compilations, &indexes.types) {
+        (None, None) => {
+            let mut row = whole.row;
+            row.id = name;
+            Ok(row)
+        }
+        _ => packaged_row(indexes, whole, name),
+    }
+}
+
+/// The same in a package.
+#[tactic(auto, unfolding(crate::specs::Rows::unit_row))]
+fn packaged_row(
     indexes: &Indexes<'_>,
     whole: &Whole,
     name: DwarfObject,
