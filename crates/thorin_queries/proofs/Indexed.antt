@@ -115,7 +115,8 @@ steps : (r1 r2 r3 r4 r5 r6 r7 r8 r9 r10 r11 r12 r13 : Result (List ℕ) ElfError
       cu_index = cu_index;
       tu_index = tu_index;
     })) ≡ Ok contents
-    → (r12 ≡ Ok contents.cu_index) × (r13 ≡ Ok contents.tu_index)
+    → (r3 ≡ Ok contents.abbrev_bytes) × (r12 ≡ Ok contents.cu_index)
+    × (r13 ≡ Ok contents.tu_index)
 steps (Err d) r2 r3 r4 r5 r6 r7 r8 r9 r10 r11 r12 r13 contents e = absurd cc
 steps (Ok x1) (Err d) r3 r4 r5 r6 r7 r8 r9 r10 r11 r12 r13 contents e = absurd cc
 steps (Ok x1) (Ok x2) (Err d) r4 r5 r6 r7 r8 r9 r10 r11 r12 r13 contents e = absurd cc
@@ -139,12 +140,16 @@ steps (Ok x1) (Ok x2) (Ok x3) (Ok x4) (Ok x5) (Ok x6) (Ok x7) (Ok x8) (Ok x9) (O
     (Ok x12) (Err d) contents e = absurd cc
 steps (Ok x1) (Ok x2) (Ok x3) (Ok x4) (Ok x5) (Ok x6) (Ok x7) (Ok x8) (Ok x9) (Ok x10) (Ok x11)
     (Ok x12) (Ok x13) contents e =
-    let made = ok_same _ _ _ refl e in
-    (ap (λ (t : Sections). Ok t.cu_index) made, ap (λ (t : Sections). Ok t.tu_index) made)
+    let made = ok_same _ _ _ refl e in (
+      ap (λ (t : Sections). Ok t.abbrev_bytes) made,
+      ap (λ (t : Sections). Ok t.cu_index) made,
+      ap (λ (t : Sections). Ok t.tu_index) made,
+    )
 
 index_contents : (sections : List SectionMeaning) (contents : Sections)
     → contents_of sections ≡ Ok contents
-    → (content_among sections CuIndex ≡ Ok contents.cu_index)
+    → (content_among sections Abbrev ≡ Ok contents.abbrev_bytes)
+    × (content_among sections CuIndex ≡ Ok contents.cu_index)
     × (content_among sections TuIndex ≡ Ok contents.tu_index)
 unfolding contents_of
 index_contents sections contents e =
@@ -163,6 +168,7 @@ made_of : (file : Elf) (pack : Package) (contents : Sections)
       types = types;
     })) ≡ Ok pack
     → (a ≡ Ok pack.compilations) × (b ≡ Ok pack.types) × (pack.order ≡ file.order)
+    × (contents ≡ pack.contents)
 made_of file pack contents (Err d) b e = absurd cc
 made_of file pack contents (Ok x) (Err d) e = absurd cc
 made_of file pack contents (Ok x) (Ok y) e =
@@ -170,6 +176,7 @@ made_of file pack contents (Ok x) (Ok y) e =
       ap (λ (p : Package). Ok p.compilations) made,
       ap (λ (p : Package). Ok p.types) made,
       sym (ap (λ (p : Package). p.order) made),
+      ap (λ (p : Package). p.contents) made,
     )
 
 indexes_by : (file : Elf) (pack : Package) (r : Result Sections ElfError)
@@ -190,9 +197,10 @@ indexes_by file pack (Ok contents) is e =
     (index_in_section file.order contents.tu_index) e in
     record {
       order = made.2;
+      abbreviations = read.0 ∙ ap (λ (t : Sections). Ok t.abbrev_bytes) made.3;
       compilations =
-          record { bytes = contents.cu_index; content = read.0; is = made.0 };
-      types = record { bytes = contents.tu_index; content = read.1; is = made.1 };
+          record { bytes = contents.cu_index; content = read.1; is = made.0 };
+      types = record { bytes = contents.tu_index; content = read.2; is = made.1 };
     }
 
 pub has_indexes : (file : Elf) (bytes : List ℕ) (pack : Package) → elf_of bytes ≡ Ok file

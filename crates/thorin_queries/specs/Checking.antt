@@ -1,11 +1,13 @@
 -- What `check` prints.
-use Rattle.std.specs.Prelude.{◌≡◌, ◌⊎◌, ℕ, Bool, true, false, ◌&&◌, ◌==◌, List, [], ◌∷◌, ◌++◌}
+use Rattle.std.specs.Prelude.{◌≡◌, ◌⊎◌, ℕ, Bool, true, false, not, ◌&&◌, ◌==◌, List, [], ◌∷◌, ◌++◌}
 use Rattle.std.specs.Prelude.{codes, length, is_none, if◌then◌else◌, Option, Result, Ok, Err}
 use Rattle.std.specs.Borrow.{Bor}
 use Rattle.std.specs.Fmt.{decimal}
 use Rattle.std.specs.List.{concat}
 use Rattle.std.specs.declared.io.Error.{Error as IoError}
 use Rattle.std.specs.Io.KnownBytes.{Appends, Keeps}
+use Rattle.dwp_base.specs.Sections.{name_of}
+use Rattle.dwp_base.specs.declared.section.SectionKind.TheVariants.{Abbrev}
 use Rattle.dwp_index.specs.Package.{Package, package_of, found}
 use Rattle.dwp_index.specs.declared.fault.PackageError.{PackageError}
 use Rattle.dwp_index.specs.declared.units.UnitEntry.{UnitEntry}
@@ -15,7 +17,7 @@ use Rattle.thorin_queries.specs.Answers.{RefusesFile}
 use Rattle.thorin_queries.specs.Faults.{TellsUnit, TellsStringsOf, AreRows, TellsListed}
 use Rattle.thorin_queries.specs.Lines.{line_end}
 use Rattle.thorin_queries.specs.Listing.{AreByRow}
-use Rattle.thorin_queries.specs.Telling.{Grows, InTurn, ForEach}
+use Rattle.thorin_queries.specs.Telling.{Grows, InTurn, ForEach, Is}
 use Rattle.thorin_queries.specs.Telling.{IsOfPrinting, fault_count}
 use Rattle.thorin_queries.specs.declared.output.Failure.{Failure}
 use Rattle.thorin_queries.specs.declared.output.Failure.TheVariants as failures
@@ -55,6 +57,23 @@ TellsUnits pack entries =
 abbrev pub TellsRows : List (List ℕ) → Type 0
 TellsRows = InTurn (AreRows (codes "cu")) (AreRows (codes "tu"))
 
+-- a package that has units has no section of abbreviations, or an empty one. Every unit needs
+-- abbreviations (DWARF 5, 7.5.3), and packing refuses a package without them
+abbrev pub lacks_abbreviations : Package → List UnitEntry → Bool
+lacks_abbreviations pack entries =
+    not (length entries == 0) && (length pack.contents.abbrev_bytes == 0)
+
+unfoldable pub abbreviations_line : List ℕ
+abbreviations_line = name_of Abbrev ++ (codes " is empty or absent" ++ line_end)
+
+abbrev pub abbreviations_lines : (lacks : Bool) → List (List ℕ)
+abbreviations_lines true = abbreviations_line ∷ []
+abbreviations_lines false = []
+
+-- what is told of the section of abbreviations, and of the rows
+abbrev pub TellsTables : (lacks : Bool) → List (List ℕ) → Type 0
+TellsTables lacks = InTurn (Is (abbreviations_lines lacks)) TellsRows
+
 -- what is taken for the bytes of an executable: these, where they aren't decompressed first
 abbrev pub IsTaken : (decompresses : Bool) → (bytes taken : List ℕ) → Type 0
 IsTaken false bytes taken = taken ≡ bytes
@@ -80,12 +99,14 @@ abbrev pub TellsExecutables : (List ℕ → Result (List ℕ) IoError → Type 0
 TellsExecutables offer decompresses pack executables =
     ForEach (λ executable. TellsExecutable offer decompresses pack executable.now) executables
 
--- all that is told of a package: of its units, its rows, and the units that executables name
+-- all that is told of a package: of its units, its abbreviations, its rows, and the units that
+-- executables name
 abbrev pub TellsPackage : (List ℕ → Result (List ℕ) IoError → Type 0) → (decompresses : Bool)
     → Package → List UnitEntry → List (Bor (List ℕ)) → List (List ℕ) → Type 0
 TellsPackage offer decompresses pack entries executables =
     InTurn (TellsUnits pack entries)
-    (InTurn TellsRows (TellsExecutables offer decompresses pack executables))
+    (InTurn (TellsTables (lacks_abbreviations pack entries))
+    (TellsExecutables offer decompresses pack executables))
 
 -- ---- what comes of it
 

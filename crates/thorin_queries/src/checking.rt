@@ -6,7 +6,8 @@ ghost use Rattle.dwp_elf_read.specs.View.{elf};
 ghost use Rattle.dwp_index.specs.Package.{package_of};
 ghost use Rattle.thorin_queries.specs.Answers.{anything};
 ghost use Rattle.thorin_queries.specs.Checking.{count_text, counts_line, status_of, has_no_index};
-ghost use Rattle.thorin_queries.specs.Checking.{TellsRows, TellsExecutables, TellsPackage};
+ghost use Rattle.thorin_queries.specs.Checking.{TellsTables, TellsExecutables, TellsPackage};
+ghost use Rattle.thorin_queries.specs.Checking.{lacks_abbreviations};
 ghost use Rattle.thorin_queries.specs.Checking.{IsOfChecking, Finishes, PrintsLast};
 ghost use Rattle.thorin_queries.specs.Checking.{ChecksIndexed, ChecksPackage, ChecksBytes, Checks};
 ghost use Rattle.thorin_queries.specs.Indexes.{HasIndexes};
@@ -19,7 +20,7 @@ use crate::files::{FileReader, HostReader, read_named};
 use crate::input::has_no_index;
 use crate::listing::entries_by_row;
 use crate::output::{Failure, flush, print};
-use crate::rows::check_indexes;
+use crate::tables::{check_tables, lacks_abbreviations};
 use crate::units::check_units;
 use dwp_elf::ElfFile;
 use dwp_index::{PackageFile, UnitEntry};
@@ -152,6 +153,7 @@ fn check_indexed<F: FileReader, O: Write>(
     named: Named<'_, '_>,
     out: &mut O,
 ) -> Result<u8, Failure>
+    requires { HasIndexes (elf file.now) pack.now }
     ensures { ChecksIndexed (F.offer files.now) named.entry.decompresses named.entry.executables.now pack.now
         (O.contents out.old) (O.contents out.new) result }
 {
@@ -171,7 +173,8 @@ fn check_entries<F: FileReader, O: Write>(
     named: Named<'_, '_>,
     out: &mut O,
 ) -> Result<u8, Failure>
-    requires { AreByRow pack.now entries.now }
+    requires by_row { AreByRow pack.now entries.now }
+    requires indexes { HasIndexes (elf file.now) pack.now }
     ensures { ChecksIndexed (F.offer files.now) named.entry.decompresses named.entry.executables.now pack.now
         (O.contents out.old) (O.contents out.new) result }
 {
@@ -182,7 +185,7 @@ fn check_entries<F: FileReader, O: Write>(
     }
 }
 
-/// Checks the units, the rows and the executables. Answers the number of faults.
+/// Checks the units, the abbreviations, the rows and the executables. Answers the number of faults.
 fn check_all<F: FileReader, O: Write>(
     rt: &HostRuntime,
     files: &F,
@@ -193,6 +196,7 @@ fn check_all<F: FileReader, O: Write>(
     waiting: &mut String,
     out: &mut O,
 ) -> Result<u64, Failure>
+    requires { HasIndexes (elf file.now) pack.now }
     ensures { TellsOr (IsOfChecking (F.offer files.now) named.entry.executables.now)
         (TellsPackage (F.offer files.now) named.entry.decompresses pack.now entries.now
         named.entry.executables.now) (O.contents out.old) (string_bytes waiting.old)
@@ -207,7 +211,7 @@ fn check_all<F: FileReader, O: Write>(
     }
 }
 
-/// Checks the rows and the executables. Answers the number of faults.
+/// Checks the abbreviations, the rows and the executables. Answers the number of faults.
 fn check_rest<F: FileReader, O: Write>(
     rt: &HostRuntime,
     files: &F,
@@ -218,14 +222,16 @@ fn check_rest<F: FileReader, O: Write>(
     waiting: &mut String,
     out: &mut O,
 ) -> Result<u64, Failure>
+    requires { HasIndexes (elf file.now) pack.now }
     ensures { TellsOr (IsOfChecking (F.offer files.now) named.entry.executables.now)
-        (InTurn TellsRows (TellsExecutables (F.offer files.now) named.entry.decompresses pack.now
-        named.entry.executables.now)) (O.contents out.old) (string_bytes waiting.old)
+        (InTurn (TellsTables (lacks_abbreviations pack.now entries.now)) (TellsExecutables (F.offer files.now)
+        named.entry.decompresses pack.now named.entry.executables.now)) (O.contents out.old) (string_bytes waiting.old)
         (O.contents out.new) (string_bytes waiting.new) result }
 {
-    match check_indexes(file, entries, waiting, out) {
-        Ok(of_rows) => with_rest(
-            of_rows,
+    let lacks = lacks_abbreviations(file, entries);
+    match check_tables(file, lacks, entries, waiting, out) {
+        Ok(of_tables) => with_rest(
+            of_tables,
             check_executables(rt, files, pack, named, waiting, out),
         ),
         Err(failure) => Err(failure),

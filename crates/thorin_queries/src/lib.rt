@@ -17,6 +17,7 @@ mod rows;
 mod shown;
 mod sizes;
 mod strings;
+mod tables;
 mod telling;
 mod units;
 

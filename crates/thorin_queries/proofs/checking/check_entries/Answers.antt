@@ -8,7 +8,7 @@ returns-in-Ok g c =
     c.args.named.executables.now c.args.pack.now c.args.entries.now
     (g.O.Write.contents c.args.out.now) (g.O.Write.contents c.check_all.new.out)
     (g.O.Write.contents c.finish.new.out) (string_bytes c.new-waiting.result)
-    (string_bytes c.check_all.new.waiting) c.in-Ok.faults c.finish.result c.requires
+    (string_bytes c.check_all.new.waiting) c.in-Ok.faults c.finish.result c.requires.by_row
     c.new-waiting.ensures.bytes c.in-Ok.ensures c.finish.ensures
 
 pub returns : goal.returns
