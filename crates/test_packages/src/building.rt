@@ -19,13 +19,35 @@ pub fn build(
     let [file, names @ ..] = words else {
         return Err(Mistake::Words);
     };
-    let bytes = {
-        let inputs = table.all(names)?;
-        let arena = Bump::new(alloc);
-        let session = BytesSession::new(&arena);
-        built(alloc, &session, names, &inputs, text)
-    };
-    keep(table, file, bytes, text)
+    let bytes = built_of(alloc, table, names, text);
+    match bytes {
+        Ok(bytes) => keep(table, file, bytes, text),
+        Err(mistake) => Err(mistake),
+    }
+}
+
+/// The file of a builder that is given the inputs of these names.
+fn built_of(
+    alloc: Global,
+    table: &Table,
+    names: &[&str],
+    text: &mut Text,
+) -> Result<Result<Vec<u8>, Error>, Mistake> {
+    match table.all(names) {
+        Ok(inputs) => Ok(built_in_arena(alloc, names, &inputs, text)),
+        Err(mistake) => Err(mistake),
+    }
+}
+
+fn built_in_arena(
+    alloc: Global,
+    names: &[&str],
+    inputs: &[&[u8]],
+    text: &mut Text,
+) -> Result<Vec<u8>, Error> {
+    let arena = Bump::new(alloc);
+    let session = BytesSession::new(&arena);
+    built(alloc, &session, names, inputs, text)
 }
 
 /// The file of a builder that is given these inputs.

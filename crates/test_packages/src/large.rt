@@ -22,8 +22,8 @@ pub fn many(
     };
     let unit = (number(from)?, number(to)?);
     let count = number(count)?;
-    let bytes = packed_often(alloc, table.get(object)?, unit, count, text)?;
-    table.keep(file, bytes)
+    let bytes = packed_often(alloc, table.get(object)?, unit, count, text);
+    table.keep_made(file, bytes)
 }
 
 /// The package of so many copies of an object whose unit stands between two places.
@@ -220,13 +220,18 @@ pub fn numbers(alloc: Global, table: &mut Table, words: &[&str]) -> Result<(), M
     };
     let count = number(count)?;
     let mut strings = Text::new(alloc);
+    let offsets = numbered(alloc, count, &mut strings);
+    table.keep_made(offsets_name, offsets)?;
+    table.keep_made(strings_name, joined(alloc, &[strings.as_str().as_bytes()]))
+}
+
+/// Adds so many strings to a text, and gives their offsets.
+fn numbered(alloc: Global, count: usize, strings: &mut Text) -> Result<Vec<u8>, Mistake> {
     let mut offsets = Vec::new(alloc);
-    match add_numbers(count, &mut strings, &mut offsets) {
-        Ok(()) => table.keep(offsets_name, offsets)?,
-        Err(mistake) => return Err(mistake),
+    match add_numbers(count, strings, &mut offsets) {
+        Ok(()) => Ok(offsets),
+        Err(mistake) => Err(mistake),
     }
-    let strings = joined(alloc, &[strings.as_str().as_bytes()])?;
-    table.keep(strings_name, strings)
 }
 
 fn add_numbers(count: usize, strings: &mut Text, offsets: &mut Vec<u8>) -> Result<(), Mistake> {

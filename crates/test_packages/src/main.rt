@@ -43,12 +43,21 @@ const SCRIPTS: [&str; 12] = [
 
 fn main(rt: HostRuntime) -> io::Result<()> {
     for i in 0..SCRIPTS.len() {
-        println!(rt; "== {}", SCRIPTS[i])?;
-        let mut table = Table::new(rt.alloc());
-        run_script(&rt, &mut table, COMMON)?;
-        run_script(&rt, &mut table, SCRIPTS[i])?;
+        run_named(&rt, SCRIPTS[i])?;
     }
     Ok(())
+}
+
+/// Runs the lines of the script that names parts, and then those of another.
+fn run_named(rt: &HostRuntime, script: &str) -> io::Result<()> {
+    println!(rt; "== {script}")?;
+    let mut table = Table::new(rt.alloc());
+    run_both(rt, &mut table, script)
+}
+
+fn run_both(rt: &HostRuntime, table: &mut Table, script: &str) -> io::Result<()> {
+    run_script(rt, table, COMMON)?;
+    run_script(rt, table, script)
 }
 
 /// The bytes of a file.
@@ -58,24 +67,45 @@ fn read(rt: &HostRuntime, path: &str) -> io::Result<Vec<u8>> {
 
 /// Runs the lines of a script.
 fn run_script(rt: &HostRuntime, table: &mut Table, script: &str) -> io::Result<()> {
-    let script = fs::read_to_string(rt, script)?;
+    match fs::read_to_string(rt, script) {
+        Ok(script) => run_lines(rt, table, script.as_str()),
+        Err(fault) => Err(fault),
+    }
+}
+
+fn run_lines(rt: &HostRuntime, table: &mut Table, script: &str) -> io::Result<()> {
     for line in script.lines() {
         tell_line(rt, table, line)?;
     }
     Ok(())
 }
 
-/// Runs a line, and prints it with what it answers, if it does. What stands behind `#` is a comment.
+/// Runs a line, and prints it with what it answers, if it does.
 fn tell_line(rt: &HostRuntime, table: &mut Table, line: &str) -> io::Result<()> {
-    let line = match halves(line, "#") {
+    let line = without_comment(line);
+    let mut text = Text::new(rt.alloc());
+    let asks = run_words(rt, table, line, &mut text);
+    tell_answer(rt, line.trim_ascii(), asks, text.as_str())
+}
+
+/// A line without what stands behind `#`.
+fn without_comment(line: &str) -> &str {
+    match halves(line, "#") {
         Some((line, _)) => line,
         None => line,
-    };
-    let mut text = Text::new(rt.alloc());
-    match run_words(rt, table, line, &mut text) {
+    }
+}
+
+fn tell_answer(
+    rt: &HostRuntime,
+    line: &str,
+    asks: Result<bool, Mistake>,
+    text: &str,
+) -> io::Result<()> {
+    match asks {
         Ok(false) => Ok(()),
-        Ok(true) => print!(rt; "$ {}\n{}", line.trim_ascii(), text.as_str()),
-        Err(mistake) => print!(rt; "$ {}\n{mistake:?}\n", line.trim_ascii()),
+        Ok(true) => print!(rt; "$ {line}\n{text}"),
+        Err(mistake) => print!(rt; "$ {line}\n{mistake:?}\n"),
     }
 }
 
@@ -108,23 +138,53 @@ fn run_line(
     let Some((command, words)) = words.split_first() else {
         return Ok(false);
     };
-    let named = match *command {
-        "file" => keep_file(rt, table, words),
-        "bytes" => table.define(words),
-        "more" => table.lengthen(words),
-        "patch" => table.patch(words),
-        "replace" => table.replace(words),
-        "object" => objects::object(rt.alloc(), table, words),
-        "numbers" => large::numbers(rt.alloc(), table, words),
-        command => {
-            return match ask(rt.alloc(), table, command, words, text) {
-                Ok(()) => Ok(true),
-                Err(mistake) => Err(mistake),
-            };
-        }
-    };
-    match named {
-        Ok(()) => Ok(false),
+    match named(rt, table, command, words) {
+        Some(Ok(())) => Ok(false),
+        Some(Err(mistake)) => Err(mistake),
+        None => asked(rt.alloc(), table, command, words, text),
+    }
+}
+
+/// Runs a line that only names bytes; None where it asks something.
+fn named(
+    rt: &HostRuntime,
+    table: &mut Table,
+    command: &str,
+    words: &[&str],
+) -> Option<Result<(), Mistake>> {
+    match command {
+        "file" => Some(keep_file(rt, table, words)),
+        "bytes" => Some(table.define(words)),
+        "more" => Some(table.lengthen(words)),
+        "patch" => Some(table.patch(words)),
+        _ => made(rt.alloc(), table, command, words),
+    }
+}
+
+fn made(
+    alloc: Global,
+    table: &mut Table,
+    command: &str,
+    words: &[&str],
+) -> Option<Result<(), Mistake>> {
+    match command {
+        "replace" => Some(table.replace(words)),
+        "object" => Some(objects::object(alloc, table, words)),
+        "numbers" => Some(large::numbers(alloc, table, words)),
+        _ => None,
+    }
+}
+
+/// Runs a line that asks something.
+fn asked(
+    alloc: Global,
+    table: &mut Table,
+    command: &str,
+    words: &[&str],
+    text: &mut Text,
+) -> Result<bool, Mistake> {
+    match ask(alloc, table, command, words, text) {
+        Ok(()) => Ok(true),
         Err(mistake) => Err(mistake),
     }
 }
@@ -152,15 +212,41 @@ fn ask(
         "show" => table.show(words, text),
         "same" => table.same(words, text),
         "size" => table.size(words, text),
+        "unit" => reading::unit(table, words, text),
+        "units" => reading::units(table, words, text),
+        _ => ask_packing(alloc, table, command, words, text),
+    }
+}
+
+/// The same of lines that pack.
+fn ask_packing(
+    alloc: Global,
+    table: &mut Table,
+    command: &str,
+    words: &[&str],
+    text: &mut Text,
+) -> Result<(), Mistake> {
+    match command {
         "pack" => packing::pack_named(alloc, table, words, text),
         "groups" => packing::pack_grouped(alloc, table, words, text),
         "builder" => building::build(alloc, table, words, text),
         "text" => packing::text(alloc, table, words, text),
-        "unit" => reading::unit(table, words, text),
-        "units" => reading::units(table, words, text),
+        "many" => large::many(alloc, table, words, text),
+        _ => ask_of_damage(alloc, table, command, words, text),
+    }
+}
+
+/// The same of lines that damage files.
+fn ask_of_damage(
+    alloc: Global,
+    table: &Table,
+    command: &str,
+    words: &[&str],
+    text: &mut Text,
+) -> Result<(), Mistake> {
+    match command {
         "damage" => cutting::damage(alloc, table, words, text),
         "every_cut" => cutting::every_cut(alloc, table, words, text),
-        "many" => large::many(alloc, table, words, text),
         "random" => random::random(alloc, table, words, text),
         "random_counted" => random::random_counted(alloc, table, words, text),
         _ => Err(Mistake::Command),

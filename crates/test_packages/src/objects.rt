@@ -12,11 +12,32 @@ pub fn object(alloc: Global, table: &mut Table, words: &[&str]) -> Result<(), Mi
     let [name, class, order, machine, sections @ ..] = words else {
         return Err(Mistake::Words);
     };
-    let Ok(machine) = u16::try_from(number(machine)?) else {
-        return Err(Mistake::Number);
-    };
+    let machine = machine_of(machine)?;
     let (class, order) = (class_of(class)?, order_of(order)?);
-    let mut file = WritableObject::new(alloc, class, machine, order);
+    keep_of(
+        table,
+        name,
+        sections,
+        WritableObject::new(alloc, class, machine, order),
+        alloc,
+    )
+}
+
+fn machine_of(word: &str) -> Result<u16, Mistake> {
+    match u16::try_from(number(word)?) {
+        Ok(machine) => Ok(machine),
+        Err(_fault) => Err(Mistake::Number),
+    }
+}
+
+/// Keeps a file with these sections under a name.
+fn keep_of(
+    table: &mut Table,
+    name: &str,
+    sections: &[&str],
+    mut file: WritableObject,
+    alloc: Global,
+) -> Result<(), Mistake> {
     match append_each(alloc, table, &mut file, sections) {
         Ok(()) => keep(table, name, &file),
         Err(mistake) => Err(mistake),

@@ -49,17 +49,49 @@ fn tallied(alloc: Global, table: &Table, words: &[&str]) -> Result<Tally, Mistak
     let [seed, rounds, executable, names @ ..] = words else {
         return Err(Mistake::Words);
     };
-    let mut generator = Generator::new(number(seed)? as u64);
+    let seed = number(seed)? as u64;
     let rounds = number(rounds)?;
     let executable = table.get(executable)?;
-    let samples = table.all(names)?;
-    let mut tally = Tally::new();
-    read_each(alloc, &mut generator, rounds, &samples, &mut tally);
-    for _ in 0..rounds / 4 {
-        building::build(alloc, &mut generator, &samples, &mut tally);
-        executables::refer(alloc, &mut generator, executable, &samples, &mut tally);
+    match table.all(names) {
+        Ok(samples) => Ok(tally_of(alloc, seed, rounds, executable, &samples)),
+        Err(mistake) => Err(mistake),
     }
-    Ok(tally)
+}
+
+fn tally_of(
+    alloc: Global,
+    seed: u64,
+    rounds: usize,
+    executable: &[u8],
+    samples: &[&[u8]],
+) -> Tally {
+    let mut generator = Generator::new(seed);
+    let mut tally = Tally::new();
+    damage_each(
+        alloc,
+        &mut generator,
+        rounds,
+        executable,
+        samples,
+        &mut tally,
+    );
+    tally
+}
+
+/// Damages and reads so many samples, and packs a quarter as often.
+fn damage_each(
+    alloc: Global,
+    generator: &mut Generator,
+    rounds: usize,
+    executable: &[u8],
+    samples: &[&[u8]],
+    tally: &mut Tally,
+) {
+    read_each(alloc, generator, rounds, samples, tally);
+    for _ in 0..rounds / 4 {
+        building::build(alloc, generator, samples, tally);
+        executables::refer(alloc, generator, executable, samples, tally);
+    }
 }
 
 /// Damages and reads so many samples.

@@ -43,6 +43,18 @@ impl Table {
         }
     }
 
+    /// The same of bytes that were made, if they were.
+    pub fn keep_made(
+        &mut self,
+        name: &str,
+        bytes: Result<Vec<u8>, Mistake>,
+    ) -> Result<(), Mistake> {
+        match bytes {
+            Ok(bytes) => self.keep(name, bytes),
+            Err(mistake) => Err(mistake),
+        }
+    }
+
     fn push(&mut self, named: Named) -> Result<(), Mistake> {
         match self.all.push(named) {
             Ok(()) => Ok(()),
@@ -131,8 +143,8 @@ impl Table {
         let [name, "=", words @ ..] = words else {
             return Err(Mistake::Words);
         };
-        let bytes = self.joined(words)?;
-        self.keep(name, bytes)
+        let bytes = self.joined(words);
+        self.keep_made(name, bytes)
     }
 
     /// `more NAME = WORD..`: further bytes of the name.
@@ -140,8 +152,8 @@ impl Table {
         let [name, "=", words @ ..] = words else {
             return Err(Mistake::Words);
         };
-        let bytes = self.longer(name, words)?;
-        self.keep(name, bytes)
+        let bytes = self.longer(name, words);
+        self.keep_made(name, bytes)
     }
 
     /// The bytes of a name, with those that words write behind them.
@@ -163,8 +175,8 @@ impl Table {
         let [name, from, place, words @ ..] = words else {
             return Err(Mistake::Words);
         };
-        let bytes = self.damaged(from, place, words)?;
-        self.keep(name, bytes)
+        let bytes = self.damaged(from, place, words);
+        self.keep_made(name, bytes)
     }
 
     /// The bytes of a name, with those that words write from a place on.
@@ -182,8 +194,8 @@ impl Table {
             return Err(Mistake::Words);
         };
         let (from, old, new) = (self.get(from)?, self.get(old)?, self.get(new)?);
-        let bytes = replaced(self.alloc, from, old, new)?;
-        self.keep(name, bytes)
+        let bytes = replaced(self.alloc, from, old, new);
+        self.keep_made(name, bytes)
     }
 
     /// `show WORD..`: bytes in hexadecimal.

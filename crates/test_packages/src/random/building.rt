@@ -18,14 +18,26 @@ use thorin::{
 /// holds what they answer against one another.
 pub fn build(alloc: Global, generator: &mut Generator, samples: &[&[u8]], tally: &mut Tally) {
     let few = a_few(alloc, generator, samples, tally);
+    build_few(alloc, &few, tally);
+}
+
+fn build_few(alloc: Global, few: &Few, tally: &mut Tally) {
     let mut inputs = Vec::new(alloc);
     tally.expect(few.list(&mut inputs).is_ok());
-    let built = build_each(alloc, &inputs, tally);
+    build_inputs(alloc, &inputs, tally);
+}
+
+fn build_inputs(alloc: Global, inputs: &[&[u8]], tally: &mut Tally) {
+    let built = build_each(alloc, inputs, tally);
+    compare(alloc, inputs, &built, tally);
+}
+
+fn compare(alloc: Global, inputs: &[&[u8]], built: &Built<'_>, tally: &mut Tally) {
     let count = built.accepted.len();
-    pack_all(alloc, &inputs, count, &built, tally);
-    pack_all(alloc, &built.accepted, count, &built, tally);
-    compare_again(alloc, &built, tally);
-    compare_groups(alloc, &built, tally);
+    pack_all(alloc, inputs, count, built, tally);
+    pack_all(alloc, &built.accepted, count, built, tally);
+    compare_again(alloc, built, tally);
+    compare_groups(alloc, built, tally);
 }
 
 /// Inputs, one behind another, and where each ends.

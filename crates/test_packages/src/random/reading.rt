@@ -93,44 +93,26 @@ fn reader_of<'a>(file: &ElfFile<'a>, name: &str) -> SliceReader<'a> {
 }
 
 fn read_dwarf(alloc: Global, file: &ElfFile<'_>, tally: &mut Tally) {
-    let split = reader_of(file, ".debug_abbrev.dwo");
-    read_named(
-        alloc,
-        file,
-        ".debug_info.dwo",
-        UnitSection::Info,
-        split,
-        tally,
-    );
-    read_named(
-        alloc,
-        file,
-        ".debug_types.dwo",
-        UnitSection::Types,
-        split,
-        tally,
-    );
-    let abbreviations = reader_of(file, ".debug_abbrev");
-    read_named(
-        alloc,
-        file,
-        ".debug_info",
-        UnitSection::Info,
-        abbreviations,
-        tally,
-    );
+    for (name, section, abbreviations) in [
+        (".debug_info.dwo", UnitSection::Info, ".debug_abbrev.dwo"),
+        (".debug_types.dwo", UnitSection::Types, ".debug_abbrev.dwo"),
+        (".debug_info", UnitSection::Info, ".debug_abbrev"),
+    ] {
+        read_named(alloc, file, name, section, abbreviations, tally);
+    }
 }
 
-/// Reads the units of the first section of a name.
-fn read_named<'a>(
+/// Reads the units of the first section of a name, with abbreviations of another.
+fn read_named(
     alloc: Global,
-    file: &ElfFile<'a>,
+    file: &ElfFile<'_>,
     name: &str,
     section: UnitSection,
-    abbreviations: SliceReader<'a>,
+    abbreviations: &str,
     tally: &mut Tally,
 ) {
     let units = reader_of(file, name);
+    let abbreviations = reader_of(file, abbreviations);
     let strings = strings_of(file);
     read_twice(alloc, units, section, abbreviations, &strings, tally);
 }
@@ -144,12 +126,12 @@ fn strings_of<'a>(file: &ElfFile<'a>) -> StringSections<SliceReader<'a>> {
 }
 
 /// Reads units as they are and with relocations.
-fn read_twice<'a>(
+fn read_twice<R: Reader>(
     alloc: Global,
-    units: SliceReader<'a>,
+    units: R,
     section: UnitSection,
-    abbreviations: SliceReader<'a>,
-    strings: &StringSections<SliceReader<'a>>,
+    abbreviations: R,
+    strings: &StringSections<R>,
     tally: &mut Tally,
 ) {
     read_units(alloc, units, section, abbreviations, strings, tally);
@@ -159,9 +141,7 @@ fn read_twice<'a>(
     read_units(alloc, units, section, abbreviations, &strings, tally);
 }
 
-fn relocated<'a>(
-    strings: &StringSections<SliceReader<'a>>,
-) -> StringSections<Relocate<'a, SliceReader<'a>>> {
+fn relocated<'a, R: Reader>(strings: &StringSections<R>) -> StringSections<Relocate<'a, R>> {
     StringSections {
         debug_str: Relocate::new(&RELOCATIONS, strings.debug_str),
         debug_line_str: Relocate::new(&RELOCATIONS, strings.debug_line_str),
