@@ -100,12 +100,21 @@ pub fn packed(alloc: Global, objects: &[&[u8]]) -> Result<Packed, Error> {
     let files = BTreeMap::new(alloc);
     let session = MemorySession::new(&bump, &files);
     let mut inputs = Vec::new(alloc);
+    if add_inputs(objects, &mut inputs) {
+        packed_by(alloc, &session, &inputs)
+    } else {
+        Err(Error::Memory)
+    }
+}
+
+/// Adds objects to inputs; whether none was refused.
+fn add_inputs<'s>(objects: &[&'s [u8]], inputs: &mut Vec<Input<'s>>) -> bool {
     for i in 0..objects.len() {
         if inputs.push(Input::Bytes(objects[i])).is_err() {
-            return Err(Error::Memory);
+            return false;
         }
     }
-    packed_by(alloc, &session, &inputs)
+    true
 }
 
 /// What packing these inputs gives.

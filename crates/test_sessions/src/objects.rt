@@ -141,15 +141,21 @@ pub fn executable(alloc: Global, naming: Naming) -> Result<Vec<u8>, AllocError> 
         Naming::Unit(id) => with_units(alloc, &NAMING_ONE, &naming_unit(id, 0x61, 0), &[]),
         Naming::Whole(id) => with_units(alloc, &NAMING, &naming_unit(id, 0x61, 0), &[]),
         Naming::Relocated => relocated(alloc),
-        Naming::WithType => {
-            let units = joined(alloc, &[&NAMELESS_TYPE, &naming_unit(5, 0x61, 0)])?;
-            with_units(alloc, &NAMING, &units, &[])
-        }
-        Naming::Three => {
-            let (one, two) = (naming_unit(1, 0x61, 0), naming_unit(2, 0x62, 0));
-            let units = joined(alloc, &[&one, &two, &naming_unit(3, 0x63, 0)])?;
-            with_units(alloc, &NAMING, &units, &[])
-        }
+        Naming::WithType => with_joined(alloc, &[&NAMELESS_TYPE, &naming_unit(5, 0x61, 0)]),
+        Naming::Three => with_three(alloc),
+    }
+}
+
+fn with_three(alloc: Global) -> Result<Vec<u8>, AllocError> {
+    let (one, two) = (naming_unit(1, 0x61, 0), naming_unit(2, 0x62, 0));
+    with_joined(alloc, &[&one, &two, &naming_unit(3, 0x63, 0)])
+}
+
+/// The executable with these units, joined.
+fn with_joined(alloc: Global, units: &[&[u8]]) -> Result<Vec<u8>, AllocError> {
+    match joined(alloc, units) {
+        Ok(units) => with_units(alloc, &NAMING, &units, &[]),
+        Err(fault) => Err(fault),
     }
 }
 

@@ -8,7 +8,7 @@ use crate::objects::{
 };
 use bumpalo::Bump;
 use dwp_elf::{WritableObject, WriteError};
-use dwp_index::PackageFile;
+use dwp_index::{PackageFile, PackagedUnit};
 use dwp_table::{DebugTypeSignature, DwarfObject, DwoId};
 use std::alloc::{AllocError, Global};
 use std::collections::BTreeMap;
@@ -51,9 +51,7 @@ fn add_surely<'o, 's: 'o, 'm>(
 ) {
     let units = unit_count(builder);
     let differing = differing_count(rt, builder);
-    let name = try_one(builder, object);
-    if name != "Ok" {
-        same(rt, name, "Memory");
+    if !is_added(rt, try_one(builder, object)) {
         same(rt, unit_count(builder), units);
         same(rt, differing_count(rt, builder), differing);
         same(rt, try_one(builder, object), "Ok");
@@ -87,6 +85,15 @@ fn add_all<'o, 's: 'o, 'm>(
     for bytes in objects {
         add_surely(rt, builder, Some(*bytes));
     }
+    hold_named(rt, builder, named, differing);
+}
+
+fn hold_named<'o, 's: 'o, 'm>(
+    rt: &impl Abort,
+    builder: &DwarfPackage<'o, 's, MemorySession<'m>>,
+    named: &[DwarfObject],
+    differing: usize,
+) {
     same(rt, unit_count(builder), named.len());
     for name in named {
         holds(rt, has(builder, name));
@@ -193,8 +200,15 @@ fn has_unit(file: &[u8], name: DwarfObject, bytes: &[u8], string: Option<&[u8]>)
         return false;
     };
     match package.find(name) {
-        Ok(Some(unit)) => unit.bytes() == bytes && unit.string(1) == Ok(string),
+        Ok(Some(unit)) => unit.bytes() == bytes && has_string(&unit, string),
         _ => false,
+    }
+}
+
+fn has_string(unit: &PackagedUnit<'_>, string: Option<&[u8]>) -> bool {
+    match unit.string(1) {
+        Ok(found) => found == string,
+        Err(_) => false,
     }
 }
 
@@ -203,8 +217,12 @@ fn a_refused_allocation_leaves_the_type_units(rt: HostRuntime) {
     let types = sure(rt.alloc(), Kind::Types, 7);
     let strings = sure(rt.alloc(), Kind::Strings, 8);
     let file = adds(&rt, rt.alloc(), &[&types, &strings], &[cu(7), TU, cu(8)], 0);
-    holds(&rt, has_unit(&file, TU, &TYPE_UNIT, None));
-    holds(&rt, has_unit(&file, cu(8), &unit(8), Some(b"a".as_slice())));
+    hold_units(&rt, &file);
+}
+
+fn hold_units(rt: &impl Abort, file: &[u8]) {
+    holds(rt, has_unit(file, TU, &TYPE_UNIT, None));
+    holds(rt, has_unit(file, cu(8), &unit(8), Some(b"a".as_slice())));
 }
 
 #[test]
@@ -264,14 +282,27 @@ fn added_once<'s, 'm>(
     second: &[u8],
 ) -> Option<(Vec<u8>, bool)> {
     let mut builder = DwarfPackage::new(alloc, session);
-    let one = add(&mut builder, first);
-    let two = add(&mut builder, second);
+    let one = is_added(rt, add(&mut builder, first));
+    let two = is_added(rt, add(&mut builder, second));
     let file = file_of(rt, finished(builder));
-    holds(rt, one == "Ok" || one == "Memory");
-    holds(rt, two == "Ok" || two == "Memory");
+    if one { with_refusal(file, !two) } else { None }
+}
+
+// Whether an object was added, by what was answered, where only memory may be refused.
+fn is_added(rt: &impl Abort, answer: &str) -> bool {
+    match answer {
+        "Ok" => true,
+        _ => {
+            same(rt, answer, "Memory");
+            false
+        }
+    }
+}
+
+fn with_refusal(file: Option<Vec<u8>>, is_refused: bool) -> Option<(Vec<u8>, bool)> {
     match file {
-        Some(file) if one == "Ok" => Some((file, two != "Ok")),
-        _ => None,
+        Some(file) => Some((file, is_refused)),
+        None => None,
     }
 }
 
@@ -297,22 +328,26 @@ fn a_refused_object_is_not_in_the_file(rt: HostRuntime) {
     let without = sure_whole(rt.alloc(), &[&six]);
     let with = sure_whole(rt.alloc(), &[&six, &strings]);
     match added_once_surely(&rt, rt.alloc(), &six, &strings) {
-        Some((file, true)) => holds(&rt, Some(file) == without),
-        Some((file, false)) => holds(&rt, Some(file) == with),
+        Some((file, is_refused)) => {
+            let whole = if is_refused { without } else { with };
+            hold_file(&rt, &file, whole);
+        }
         None => holds(&rt, false),
+    }
+}
+
+// Asserts that a file is this one, which there is.
+fn hold_file(rt: &impl Abort, file: &[u8], whole: Option<Vec<u8>>) {
+    match whole {
+        Some(whole) => holds(rt, whole.as_slice() == file),
+        None => holds(rt, false),
     }
 }
 
 // Tells each refusal of packing two objects: of the whole call, of an object, of the file, whose
 // size is that of this many objects refused.
 fn tells(rt: &impl Abort, packed: &Packed, sizes: [usize; 2]) {
-    let mut refused = 0usize;
-    for outcome in &packed.outcomes {
-        if outcome.is_err() {
-            same(rt, name_of(outcome), "Memory");
-            refused = refused.saturating_add(1);
-        }
-    }
+    let refused = refused_count(rt, &packed.outcomes);
     match &packed.file {
         Ok(file) => same(rt, Some(&file.len()), sizes.get(refused)),
         Err(fault) => {
@@ -322,14 +357,33 @@ fn tells(rt: &impl Abort, packed: &Packed, sizes: [usize; 2]) {
     }
 }
 
+fn refused_count(rt: &impl Abort, outcomes: &[Result<(), Error>]) -> usize {
+    let mut refused = 0usize;
+    for outcome in outcomes {
+        if outcome.is_err() {
+            same(rt, name_of(outcome), "Memory");
+            refused = refused.saturating_add(1);
+        }
+    }
+    refused
+}
+
 #[test]
 fn a_refused_allocation_of_packing_is_told(rt: HostRuntime) {
     let five = sure(rt.alloc(), Kind::Plain, 5);
     let six = sure(rt.alloc(), Kind::Plain, 6);
-    match packed(rt.alloc(), &[&five, &six]) {
-        Ok(packed) => tells(&rt, &packed, [608, 544]),
-        Err(fault) => holds(&rt, matches!(fault, Error::Memory)),
+    tell_packing(&rt, rt.alloc(), &[&five, &six]);
+    hold_packing(&rt, rt.alloc(), &[&five, &six]);
+}
+
+fn tell_packing(rt: &impl Abort, alloc: Global, objects: &[&[u8]]) {
+    match packed(alloc, objects) {
+        Ok(packed) => tells(rt, &packed, [608, 544]),
+        Err(fault) => holds(rt, matches!(fault, Error::Memory)),
     }
-    let file = sure_whole(rt.alloc(), &[&five, &six]).unwrap_or(Vec::new(rt.alloc()));
-    has_part(&rt, &file, 608, 102, &unit(6));
+}
+
+fn hold_packing(rt: &impl Abort, alloc: Global, objects: &[&[u8]]) {
+    let file = sure_whole(alloc, objects).unwrap_or(Vec::new(alloc));
+    has_part(rt, &file, 608, 102, &unit(6));
 }

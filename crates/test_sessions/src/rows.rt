@@ -325,7 +325,11 @@ fn grouped(alloc: Global, refusal: Refusal) -> &'static str {
     let bump = Bump::new(alloc);
     let session = CountingSession::new(&bump, &files, refusal);
     let answer = answer_of_groups(alloc, &session, &[&[&five], &[&six]]);
-    match (session.has_refused_placing(), answer) {
+    with_refusal(session.has_refused_placing(), answer)
+}
+
+fn with_refusal(is_refused: bool, answer: &'static str) -> &'static str {
+    match (is_refused, answer) {
         (false, "Ok") => "Ok",
         (true, "Memory") => "Memory refused",
         (true, "Ok") => "another file",

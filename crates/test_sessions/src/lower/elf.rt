@@ -11,14 +11,16 @@ const INFO: &[u8] =
 /// Appends and writes; where memory is refused, nothing has changed.
 fn append_and_write(rt: &impl Abort, alloc: Global) -> Result<usize, WriteError> {
     let mut object = WritableObject::new(alloc, Class::Elf64, 62, Endianness::Little);
-    for (kind, bytes) in [
-        (SectionKind::Info, INFO),
-        (SectionKind::Str, b"a\0"),
-        (SectionKind::Info, INFO),
-    ] {
-        append(rt, &mut object, kind, bytes)?;
+    match append_each(rt, &mut object) {
+        Ok(()) => written(&object),
+        Err(fault) => Err(fault),
     }
-    written(&object)
+}
+
+fn append_each(rt: &impl Abort, object: &mut WritableObject) -> Result<(), WriteError> {
+    append(rt, object, SectionKind::Info, INFO)?;
+    append(rt, object, SectionKind::Str, b"a\0")?;
+    append(rt, object, SectionKind::Info, INFO)
 }
 
 fn append(

@@ -1,6 +1,6 @@
 //! Rows by place, and string offsets of a package.
 
-use crate::asserting::same;
+use crate::asserting::{holds, same};
 use dwp_base::{Contribution, ContributionOffset, Endianness, SectionKind};
 use dwp_bytes::{Encoding, Format};
 use dwp_index::{DwarfObject, DwoId, UnitIndex};
@@ -86,14 +86,18 @@ fn remap(alloc: Global, strings: &mut PackageStringTable, index: &[u8]) -> Resul
 /// Where memory is refused, the string that was there still is.
 fn remap_once(rt: &impl Abort, alloc: Global, index: &[u8]) {
     let mut strings = PackageStringTable::new(alloc);
-    if strings.get_or_insert(b"b").is_err() {
-        return;
+    if strings.get_or_insert(b"b").is_ok() {
+        let range = remap(alloc, &mut strings, index);
+        hold(rt, &range, strings.data());
     }
-    match remap(alloc, &mut strings, index) {
+}
+
+fn hold(rt: &impl Abort, range: &Result<Vec<u8>, Error>, data: &[u8]) {
+    match range {
         Ok(bytes) => same(rt, bytes.as_slice(), A_THEN_B_IN_B_A.as_slice()),
         Err(fault) => {
-            assert!(rt; matches!(fault, Error::Memory));
-            same(rt, strings.data().get(..2), Some(b"b\0".as_slice()));
+            holds(rt, matches!(fault, Error::Memory));
+            same(rt, data.get(..2), Some(b"b\0".as_slice()));
         }
     }
 }
@@ -102,10 +106,13 @@ fn remap_once(rt: &impl Abort, alloc: Global, index: &[u8]) {
 fn a_refused_allocation_is_want_of_memory(rt: HostRuntime) {
     match index(rt.alloc()) {
         Ok(index) => {
-            let row = row_of(rt.alloc(), &index);
-            assert!(rt; matches!(row, Ok(Some(2)) | Err(Error::Memory)));
+            hold_row(&rt, row_of(rt.alloc(), &index));
             remap_once(&rt, rt.alloc(), &index);
         }
-        Err(fault) => assert!(rt; matches!(fault, Error::Memory)),
+        Err(fault) => holds(&rt, matches!(fault, Error::Memory)),
     }
+}
+
+fn hold_row(rt: &impl Abort, row: Result<Option<u32>, Error>) {
+    holds(rt, matches!(row, Ok(Some(2)) | Err(Error::Memory)));
 }

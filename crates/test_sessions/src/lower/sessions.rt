@@ -47,8 +47,12 @@ fn place(rt: &impl Abort, alloc: Global) {
     let files = BTreeMap::new(alloc);
     let session = MemorySession::new(&bump, &files);
     same(rt, numbers_placed(&session), Some(100));
+    place_bytes(rt, alloc, &session);
+}
+
+fn place_bytes(rt: &impl Abort, alloc: Global, session: &MemorySession<'_>) {
     if let (Ok(owned), Ok(again)) = (BYTES.to_vec(alloc), BYTES.to_vec(alloc)) {
-        same(rt, is_placed(&session, BYTES, owned, again), true);
+        same(rt, is_placed(session, BYTES, owned, again), true);
     }
 }
 
@@ -62,13 +66,18 @@ fn path_of(rt: &HostRuntime) -> io::Result<PathBuf> {
 /// Whether a file that is read has its bytes. Where memory is refused, it is read again.
 fn is_read(rt: &HostRuntime, path: Path<'_>) -> io::Result<bool> {
     fs::write(rt, path, BYTES)?;
-    let bump = Bump::new(rt.alloc());
-    let found = match has_bytes(rt, &bump, path, BYTES) {
-        Err(InputError::Memory) => has_bytes(rt, &bump, path, BYTES),
+    let is_found = is_found(rt, rt.alloc(), path);
+    fs::remove_file(rt, path)?;
+    Ok(is_found)
+}
+
+fn is_found<R: Files>(files: &R, alloc: Global, path: Path<'_>) -> bool {
+    let bump = Bump::new(alloc);
+    let found = match has_bytes(files, &bump, path, BYTES) {
+        Err(InputError::Memory) => has_bytes(files, &bump, path, BYTES),
         found => found,
     };
-    fs::remove_file(rt, path)?;
-    Ok(matches!(found, Ok(true)))
+    matches!(found, Ok(true))
 }
 
 fn read(rt: &HostRuntime) -> io::Result<bool> {

@@ -1,8 +1,9 @@
 //! A table of strings.
 
-use crate::asserting::same;
+use crate::asserting::{holds, same};
 use dwp_base::Endianness;
 use dwp_bytes::{Encoding, Format};
+use std::alloc::Global;
 use std::process::Abort;
 use thorin::PackageStringTable;
 use thorin_faults::Error;
@@ -37,26 +38,45 @@ fn rewritten(
     section: &[u8],
     offsets: &[u8],
 ) -> Result<[u8; 8], Error> {
-    let range = remap(table, section, offsets)?;
-    let mut first = [0; 8];
-    for (to, from) in first.iter_mut().zip(range.iter()) {
-        *to = *from;
+    match remap(table, section, offsets) {
+        Ok(range) => Ok(first_of(&range)),
+        Err(fault) => Err(fault),
     }
-    Ok(first)
+}
+
+/// The first bytes of a range, and zeros where it has fewer.
+fn first_of(range: &[u8]) -> [u8; 8] {
+    let mut first = [0; 8];
+    for i in 0..8 {
+        if i < range.len() {
+            first[i] = range[i];
+        }
+    }
+    first
 }
 
 /// Rewrites a range; where memory is refused, the table has what it had, and then it is again.
 fn remap_again(rt: &impl Abort, table: &mut PackageStringTable, section: &[u8], offsets: &[u8]) {
-    let want = [4, 0, 0, 0, 7, 0, 0, 0];
     match rewritten(table, section, offsets) {
-        Ok(found) => same(rt, found, want),
+        Ok(found) => same(rt, found, WANT),
         Err(fault) => {
-            assert!(rt; matches!(fault, Error::Memory));
-            same(rt, table.data(), b"int\0".as_slice());
-            same(rt, table.find_counted(b"\x01\x01").0, None);
-            same(rt, rewritten(table, section, offsets).ok(), Some(want));
+            holds(rt, matches!(fault, Error::Memory));
+            hold_before(rt, table);
+            same(rt, rewritten(table, section, offsets).ok(), Some(WANT));
         }
     }
+    hold_after(rt, table, section);
+}
+
+/// The first two offsets once the strings stand behind `int`.
+const WANT: [u8; 8] = [4, 0, 0, 0, 7, 0, 0, 0];
+
+fn hold_before(rt: &impl Abort, table: &PackageStringTable) {
+    same(rt, table.data(), b"int\0".as_slice());
+    same(rt, table.find_counted(b"\x01\x01").0, None);
+}
+
+fn hold_after(rt: &impl Abort, table: &PackageStringTable, section: &[u8]) {
     same(rt, table.len(), 1201);
     same(rt, table.data().get(4..), Some(section));
 }
@@ -72,7 +92,11 @@ fn a_refused_allocation_leaves_the_table_as_it_was(rt: HostRuntime) {
         offsets[4 * i] = (3 * i % 256) as u8;
         offsets[4 * i + 1] = (3 * i / 256) as u8;
     }
-    let mut table = PackageStringTable::new(rt.alloc());
-    insert(&rt, &mut table);
-    remap_again(&rt, &mut table, &section, &offsets);
+    hold_table(&rt, rt.alloc(), &section, &offsets);
+}
+
+fn hold_table(rt: &impl Abort, alloc: Global, section: &[u8], offsets: &[u8]) {
+    let mut table = PackageStringTable::new(alloc);
+    insert(rt, &mut table);
+    remap_again(rt, &mut table, section, offsets);
 }
