@@ -7,3 +7,4 @@ pub mod PastEnd
 pub mod Grammar
 pub mod Values
 pub mod Remembered
+pub mod Numbers

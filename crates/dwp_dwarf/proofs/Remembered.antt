@@ -1,9 +1,12 @@
 -- What is remembered of a table and the rest of it say the same after each declaration that is
 -- read.
 use Rattle.std.proofs.Common.{◌≡◌, ◌≢◌, ℕ, List, [], length, OnOk, true, false, Option, Some, None}
+use Rattle.std.proofs.Common.{Vec}
 use Rattle.std.proofs.Common.{Result, Ok, Err, eqb, refl, ap, sym, subst, ◌∙◌, eq-eqb, arith}
 use Rattle.std.specs.Result.{is_ok}
 use Rattle.std.specs.Map.{lookup}
+use Rattle.std.specs.Option.{IfSome}
+use Rattle.std.specs.declared.alloc.Global.{Global}
 use Rattle.std.proofs.lemmas.Grind.{common_steps}
 use Rattle.std.specs.Option.{is_some}
 use Rattle.std.specs.Ordering.{nat_cmp}
@@ -16,8 +19,11 @@ use Rattle.dwp_dwarf.specs.Abbreviations.{Declaration, declaration}
 use Rattle.dwp_dwarf.specs.Declarations.{declaration_of}
 use Rattle.dwp_dwarf.specs.Grammar.{next_at}
 use Rattle.dwp_dwarf.specs.Offsets.{from_at}
-use Rattle.dwp_dwarf.specs.Remembered.{known_or, remembered, RemembersTable}
+use Rattle.dwp_dwarf.specs.Remembered.{known_or, remembered, ListsBytes, HasLists, RemembersTable}
+use Rattle.dwp_dwarf.specs.Remembered.{RemembersTables}
+use Rattle.dwp_dwarf.specs.declared.abbrev.AttributeSpecification.{AttributeSpecification}
 use Rattle.dwp_dwarf.specs.declared.abbrev.Abbreviation.{Abbreviation}
+use Rattle.dwp_dwarf.specs.declared.cache.ReadTable.{ReadTable}
 use Rattle.dwp_dwarf.proofs.Grammar.{by_bool, look_up-here, look_up-other}
 use Rattle.dwp_dwarf.proofs.Values.{after-zero}
 
@@ -37,6 +43,25 @@ key_apart k q other = grind (arith, common_steps)
 pub from_start : (i : Input) → from_at 0 i ≡ Ok i
 unfolding from_at skip_at
 from_start i = rw (le-ltb (length i.bytes) 0 (omega arith), after-zero i) refl
+
+-- what a table declares for a code is one declaration
+pub same_declared : (said : Result (Option Declaration) ReadError) (d e : Declaration)
+    → said ≡ Ok (Some d) → said ≡ Ok (Some e) → d ≡ e
+same_declared said d e one other = cc
+
+-- lists with one more, of a code that had none
+pub one_more_list : (code : ℕ) (table : Input) (old new : BTreeMap ℕ (Vec AttributeSpecification
+    Global)) (list : Vec AttributeSpecification Global) → HasLists table old → ListsBytes code table
+    list → get nat_cmp new code ≡ Some list
+    → ((q : ℕ) → q ≢ code → get nat_cmp new q ≡ get nat_cmp old q) → HasLists table new
+one_more_list code table old new list has is here others other =
+    by_bool (IfSome (get nat_cmp new other) (ListsBytes other table)) (eqb code other)
+    (λ e. subst (λ (c : ℕ). IfSome (get nat_cmp new c) (ListsBytes c table)) (eqb-true _ _ e)
+    (subst (λ (o : Option (Vec AttributeSpecification Global)). IfSome o (ListsBytes code table))
+    (sym here) is))
+    (λ apart. subst (λ (o : Option (Vec AttributeSpecification Global)).
+    IfSome o (ListsBytes other table)) (sym (others other (λ e.
+    let never : true ≡ false = sym (eq-eqb code other (sym e)) ∙ apart in absurd cc))) (has other))
 
 abbrev Said : Type 0
 Said = Result (Option Declaration) ReadError
@@ -66,15 +91,26 @@ module _ {R : Type 0} (input : R → Input) where
       known_or input o (declaration code i)) e
 
   -- a table of which nothing was read
-  pub nothing_read : (section table : Input) (offset : ℕ) (known : BTreeMap ℕ (Abbreviation R))
-      → from_at offset section ≡ Ok table → known.entries ≡ [] → RemembersTable input section
-      offset known table
-  nothing_read section table offset known is empty = record {
-    table = table;
+  pub nothing_read : (section : Input) (offset : ℕ) (read : ReadTable R)
+      → from_at offset section ≡ Ok (input read.rest) → read.known.entries ≡ []
+      → read.lists.entries ≡ [] → RemembersTable input section offset read
+  nothing_read section offset read is empty unlisted = record {
+    table = input read.rest;
     is = is;
     same = λ code. ap (λ (es : List (ℕ × Abbreviation R)).
-        known_or input (lookup (is_at (nat_cmp code)) es) (declaration code table)) empty;
+        known_or input (lookup (is_at (nat_cmp code)) es) (declaration code (input read.rest)))
+        empty;
+    lists = λ code. subst (λ (es : List (ℕ × Vec AttributeSpecification Global)).
+        IfSome (lookup (is_at (nat_cmp code)) es) (ListsBytes code (input read.rest)))
+        (sym unlisted) tt;
   }
+
+  -- no table that was put away
+  pub none_put_away : (section : Input) (tables : BTreeMap ℕ (ReadTable R)) → tables.entries ≡ []
+      → RemembersTables input section tables
+  none_put_away section tables empty offset =
+      subst (λ (es : List (ℕ × ReadTable R)). IfSome (lookup (is_at (nat_cmp offset)) es)
+      (RemembersTable input section offset)) (sym empty) tt
 
   module _ (lebs : LebsTakeBytes) where
     -- a code that is remembered already

@@ -4,6 +4,7 @@ pub mod Declarations
 pub mod Entries
 pub mod Forms
 pub mod Grammar
+pub mod Numbers
 pub mod Offsets
 pub mod Remembered
 pub mod Sections

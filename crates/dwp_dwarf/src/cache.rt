@@ -1,6 +1,6 @@
 //! Abbreviations that are remembered (DWARF 5, 7.5.3).
 
-ghost use Rattle.std.specs.Prelude.{◌≡◌, ◌≢◌, ℕ, Ok, Err, Some, None, true, false};
+ghost use Rattle.std.specs.Prelude.{◌≡◌, ◌≢◌, ℕ, [], Ok, Err, Some, None, true, false, option_map};
 ghost use Rattle.std.specs.Ordering.{nat_cmp};
 ghost use Rattle.std.specs.BTreeMap.{get};
 ghost use Rattle.dwp_base.specs.Reading.{Answers};
@@ -9,35 +9,86 @@ ghost use Rattle.dwp_bytes.specs.declared.fault.ReadError.{ReadError};
 ghost use Rattle.dwp_dwarf.specs.Abbreviations.{declaration};
 ghost use Rattle.dwp_dwarf.specs.Declarations.{declaration_of, found_of};
 ghost use Rattle.dwp_dwarf.specs.Grammar.{next_at};
+ghost use Rattle.dwp_dwarf.specs.Entries.{entry};
+ghost use Rattle.dwp_dwarf.specs.Numbers.{first_number, numbered_at, numbered_of};
 ghost use Rattle.dwp_dwarf.specs.Offsets.{from_at};
-ghost use Rattle.dwp_dwarf.specs.Remembered.{next_of, remembered};
+ghost use Rattle.dwp_dwarf.specs.Remembered.{next_of, remembered, HasLists, RemembersTable};
+ghost use Rattle.dwp_dwarf.specs.Remembered.{RemembersTables};
 
-use crate::abbrev::{Abbreviation, Abbreviations, read_code, read_declaration};
+use crate::abbrev::{
+    Abbreviation, Abbreviations, AttributeSpecification, read_code, read_declaration,
+};
+use crate::number::{list_with_bytes, number_listed, number_read};
 use crate::offset::from_offset;
 use dwp_bytes::laws::lebs_take_bytes;
-use dwp_bytes::{ReadError, Reader};
+use dwp_bytes::{Encoding, ReadError, Reader};
 use std::alloc::Global;
 use std::collections::BTreeMap;
 use std::marker::Model;
+use std::mem;
 
-/// The abbreviations of a section, with what was read of the table at hand: units that use one
-/// table, one after the other, read it once. It answers as `Abbreviations` does, also where there
-/// is no memory to remember more.
+/// The abbreviations of a section, with what was read of its tables: units that use one table, or
+/// several by turns, read each once. It answers as `Abbreviations` does, also where there is no
+/// memory to remember more.
 #[derive(Drop)]
 pub struct AbbreviationCache<R: Reader> {
     section: R,
+    tables: ReadTables<R>,
+}
+
+/// An entry's tag, and the number of an attribute of it.
+#[derive(Clone, Copy, Debug)]
+pub struct EntryNumber {
+    /// What the entry describes, as `DW_TAG_compile_unit`, 0x11.
+    pub tag: u64,
+    /// The number, or the first fault before it. None where no attribute of the name has a number.
+    pub number: Result<Option<u64>, ReadError>,
+}
+
+/// What was read of the tables of a section.
+#[derive(Drop)]
+struct ReadTables<R: Reader> {
+    alloc: Global,
     // Whether a table is at hand.
     is_begun: bool,
     // Where the table at hand begins.
     offset: u64,
-    // What was read of it: the first declaration of each code.
-    known: BTreeMap<u64, Abbreviation<R>>,
-    // What is left of it.
-    rest: R,
+    // What was read of it.
+    at_hand: ReadTable<R>,
+    // What was read of others.
+    others: TablesPutAway<R>,
 }
 
+/// What was read of a table.
+#[derive(Drop)]
+pub(crate) struct ReadTable<R: Reader> {
+    // The first declaration of each code.
+    pub(crate) known: BTreeMap<u64, Abbreviation<R>>,
+    // What is left of the table.
+    pub(crate) rest: R,
+    // Of some of its codes those attributes whose values have bytes.
+    pub(crate) lists: BTreeMap<u64, Vec<AttributeSpecification>>,
+    // How many attributes are listed.
+    pub(crate) listed: usize,
+}
+
+/// What was read of tables that may be used again.
+#[derive(Drop)]
+struct TablesPutAway<R: Reader> {
+    // By the offsets at which they begin.
+    tables: BTreeMap<u64, ReadTable<R>>,
+    // How many bytes what is remembered of them has in the section, or more.
+    size: usize,
+}
+
+/// The fewest bytes of a declaration: its code, its tag, its byte on children, and the pair 0, 0.
+const DECLARATION_SIZE: usize = 5;
+
+/// The fewest bytes of an attribute and its form.
+const SPECIFICATION_SIZE: usize = 2;
+
 impl<R: Reader> Model for AbbreviationCache<R> {
-    ghost use Rattle.dwp_dwarf.specs.Remembered.{RemembersTable};
+    ghost use Rattle.dwp_dwarf.specs.Remembered.{RemembersTable, RemembersTables};
 
     // Contracts see the section.
     ghost Value = { R };
@@ -45,7 +96,8 @@ impl<R: Reader> Model for AbbreviationCache<R> {
     ghost view = { λ c. c.section };
 
     ghost invariant = { λ c.
-        RemembersTable R.input (R.input c.section) c.offset c.known (R.input c.rest) };
+        RemembersTable R.input (R.input c.section) c.tables.offset c.tables.at_hand
+        × RemembersTables R.input (R.input c.section) c.tables.others.tables };
 }
 
 impl<R: Reader> AbbreviationCache<R> {
@@ -55,10 +107,16 @@ impl<R: Reader> AbbreviationCache<R> {
     {
         AbbreviationCache {
             section,
-            is_begun: false,
-            offset: 0,
-            known: BTreeMap::new(alloc),
-            rest: section,
+            tables: ReadTables {
+                alloc,
+                is_begun: false,
+                offset: 0,
+                at_hand: ReadTable::new(alloc, section),
+                others: TablesPutAway {
+                    tables: BTreeMap::new(alloc),
+                    size: 0,
+                },
+            },
         }
     }
 
@@ -71,10 +129,11 @@ impl<R: Reader> AbbreviationCache<R> {
 
     /// What `Abbreviations::get` says of a code in the table at that offset of the section.
     ///
-    /// While the offset stays the same no declaration is read a third time, where there is memory to
-    /// remember it. Another offset forgets the table at hand, and the first code of a table is sought
-    /// without remembering: so one unit, and units that use two tables by turns, cost no more than
-    /// reading these.
+    /// No declaration of a table is read a third time, where there is memory to remember it and the
+    /// tables that are used don't overlap. The first code of a table is sought without remembering,
+    /// so a table that is used once costs no more than reading it. What is remembered of tables has
+    /// no more bytes in the section than that; where tables overlap, all but the one at hand are
+    /// forgotten when it would have more.
     ///
     /// # Errors
     /// `OffsetOutOfRange` past the section's end, and those of `Abbreviations::get`. Want of memory
@@ -86,17 +145,205 @@ impl<R: Reader> AbbreviationCache<R> {
             → result ≡ Err e }
         ensures kept { self.new ≡ self.old }
     {
-        if !self.is_begun || offset != self.offset {
-            self.is_begun = true;
-            self.rest = from_offset(self.section, offset)?;
-            self.offset = offset;
-            self.known.clear();
-            return Abbreviations { table: self.rest }.get(code);
+        if !self.tables.is_at_hand(offset) {
+            let start = from_offset(self.section, offset)?;
+            if self.tables.turn_to(self.section.len(), offset, start) {
+                return Abbreviations { table: start }.get(code);
+            }
         }
-        if let Some(abbreviation) = self.known.get(&code) {
+        if let Some(abbreviation) = self.tables.at_hand.known.get(&code) {
             return Ok(Some(*abbreviation));
         }
-        read_on(&mut self.known, &mut self.rest, code)
+        read_on(
+            &mut self.tables.at_hand.known,
+            &mut self.tables.at_hand.rest,
+            code,
+        )
+    }
+
+    /// The tag of the entry of a code in the table at that offset, whose values stand there, and the
+    /// number of its first attribute of a name whose form is data1, data2, data4, data8 or udata;
+    /// None where the table doesn't have the code.
+    ///
+    /// Once the code's declaration is remembered, its attributes whose values have no bytes are
+    /// passed over: an entry then costs no more than its bytes.
+    ///
+    /// # Errors
+    /// Those of `get`.
+    pub fn number_in(
+        &mut self,
+        offset: u64,
+        code: u64,
+        encoding: Encoding,
+        values: R,
+        name: u64,
+    ) -> Result<Option<EntryNumber>, ReadError>
+        ensures numbered { (table : Input) → from_at offset (R.input self.old) ≡ Ok table → Answers
+            (option_map numbered_of) result (numbered_at name encoding (R.input values) code table) }
+        ensures outside { (e : ReadError) → from_at offset (R.input self.old) ≡ Err e
+            → result ≡ Err e }
+        ensures kept { self.new ≡ self.old }
+    {
+        let is_known = self.tables.knows(offset, code);
+        let Some(abbreviation) = self.get(offset, code)? else {
+            return Ok(None);
+        };
+        let number = if is_known && self.tables.is_at_hand(offset) {
+            let at_hand = &mut self.tables.at_hand;
+            at_hand.number(
+                self.tables.alloc,
+                code,
+                abbreviation,
+                encoding,
+                values,
+                name,
+            )
+        } else {
+            number_read(abbreviation.entry(encoding, values), name)
+        };
+        Ok(Some(EntryNumber {
+            tag: abbreviation.tag,
+            number,
+        }))
+    }
+}
+
+impl<R: Reader> ReadTables<R> {
+    /// Whether the table at an offset is at hand.
+    fn is_at_hand(&self, offset: u64) -> bool
+        ensures { result ≡ true → offset ≡ self.now.offset }
+    {
+        self.is_begun && offset == self.offset
+    }
+
+    /// Whether a declaration of a code in the table at an offset is remembered, and that at hand.
+    fn knows(&self, offset: u64, code: u64) -> bool {
+        self.is_at_hand(offset) && self.at_hand.known.contains_key(&code)
+    }
+
+    /// Puts the table at hand away, and takes up the one of an offset, which starts there. True
+    /// where it wasn't used before. What is put away has no more than so many bytes in the section.
+    fn turn_to(&mut self, limit: usize, offset: u64, start: R) -> bool
+        ensures at_hand { (section : Input) → from_at offset section ≡ Ok (R.input start)
+            → RemembersTables R.input section self.old.others.tables
+            → RemembersTable R.input section offset self.new.at_hand }
+        ensures others { (section : Input)
+            → RemembersTable R.input section self.old.offset self.old.at_hand
+            → RemembersTables R.input section self.old.others.tables
+            → RemembersTables R.input section self.new.others.tables }
+        ensures offset { self.new.offset ≡ offset }
+    {
+        let again = self.others.take(offset);
+        let is_first = again.is_none();
+        let next = again.unwrap_or(ReadTable::new(self.alloc, start));
+        let before = mem::replace(&mut self.at_hand, next);
+        self.others.put(limit, self.is_begun, self.offset, before);
+        self.is_begun = true;
+        self.offset = offset;
+        is_first
+    }
+}
+
+impl<R: Reader> ReadTable<R> {
+    /// A table of which nothing was read.
+    fn new(alloc: Global, start: R) -> ReadTable<R>
+        ensures known { result.known.entries ≡ [] }
+        ensures rest { result.rest ≡ start }
+        ensures lists { result.lists.entries ≡ [] }
+    {
+        ReadTable {
+            known: BTreeMap::new(alloc),
+            rest: start,
+            lists: BTreeMap::new(alloc),
+            listed: 0,
+        }
+    }
+
+    /// How many bytes of the section what is remembered has at least; one is its end.
+    fn size(&self) -> usize {
+        let declarations = self.known.len().saturating_mul(DECLARATION_SIZE);
+        let attributes = self.listed.saturating_mul(SPECIFICATION_SIZE);
+        declarations.saturating_add(attributes).saturating_add(1)
+    }
+
+    /// Lists those attributes of the declaration of a code whose values have bytes, where there is
+    /// memory for it.
+    fn list(&mut self, alloc: Global, code: u64, abbreviation: Abbreviation<R>)
+        ensures lists { (table : Input)
+            → declaration code table ≡ Ok (Some (declaration_of R.input abbreviation))
+            → HasLists table self.old.lists → HasLists table self.new.lists }
+        ensures known { self.new.known ≡ self.old.known }
+        ensures rest { self.new.rest ≡ self.old.rest }
+    {
+        if self.lists.contains_key(&code) {
+            return;
+        }
+        if let Some(list) = list_with_bytes(alloc, abbreviation.specifications) {
+            let length = list.len();
+            if self.lists.insert(code, list).is_ok() {
+                self.listed = self.listed.saturating_add(length);
+            }
+        }
+    }
+
+    /// The first number of a name in the entry of that declaration of the code, whose values stand
+    /// there.
+    fn number(
+        &mut self,
+        alloc: Global,
+        code: u64,
+        abbreviation: Abbreviation<R>,
+        encoding: Encoding,
+        values: R,
+        name: u64,
+    ) -> Result<Option<u64>, ReadError>
+        ensures number { (table : Input)
+            → declaration code table ≡ Ok (Some (declaration_of R.input abbreviation))
+            → HasLists table self.old.lists → result ≡ first_number name (entry encoding
+            (declaration_of R.input abbreviation) (R.input values)).attributes }
+        ensures lists { (table : Input)
+            → declaration code table ≡ Ok (Some (declaration_of R.input abbreviation))
+            → HasLists table self.old.lists → HasLists table self.new.lists }
+        ensures known { self.new.known ≡ self.old.known }
+        ensures rest { self.new.rest ≡ self.old.rest }
+    {
+        self.list(alloc, code, abbreviation);
+        match self.lists.get(&code) {
+            Some(list) => number_listed(list, encoding, values, name),
+            None => number_read(abbreviation.entry(encoding, values), name),
+        }
+    }
+}
+
+impl<R: Reader> TablesPutAway<R> {
+    /// Takes the table of an offset out.
+    fn take(&mut self, offset: u64) -> Option<ReadTable<R>>
+        ensures taken { result ≡ get nat_cmp self.old.tables offset }
+        ensures others { (section : Input) → RemembersTables R.input section self.old.tables
+            → RemembersTables R.input section self.new.tables }
+    {
+        let table = self.tables.remove(&offset)?;
+        self.size = self.size.saturating_sub(table.size());
+        Some(table)
+    }
+
+    /// Puts the table of an offset away where it was used. Where there would be more than so many
+    /// bytes, all are forgotten.
+    fn put(&mut self, limit: usize, is_used: bool, offset: u64, table: ReadTable<R>)
+        ensures { (section : Input) → RemembersTables R.input section self.old.tables
+            → RemembersTable R.input section offset table
+            → RemembersTables R.input section self.new.tables }
+    {
+        if !is_used {
+            return;
+        }
+        let size = self.size.saturating_add(table.size());
+        if size > limit {
+            self.tables.clear();
+            self.size = 0;
+        } else if self.tables.insert(offset, table).is_ok() {
+            self.size = size;
+        }
     }
 }
 

@@ -50,7 +50,9 @@ pub struct RootEntry<R> {
 }
 
 /// The next attribute and its form; None at the end of the list.
-fn next_specification<R: Reader>(specifications: &mut R) -> Option<AttributeSpecification>
+pub(crate) fn next_specification<R: Reader>(
+    specifications: &mut R,
+) -> Option<AttributeSpecification>
     ensures { MatchOption result (pairs_in (R.input specifications.old) ≡ []) (λ s. pairs_in
         (R.input specifications.old) ≡ specification_of s ∷ pairs_in (R.input specifications.new)) }
 {
@@ -63,7 +65,7 @@ fn next_specification<R: Reader>(specifications: &mut R) -> Option<AttributeSpec
 }
 
 #[tactic(auto, unfolding(crate::specs::Entries::attribute_at))]
-fn read_attribute<R: Reader>(
+pub(crate) fn read_attribute<R: Reader>(
     values: &mut R,
     specification: AttributeSpecification,
     encoding: Encoding,

@@ -7,13 +7,14 @@ mod cache;
 mod entry;
 mod form;
 pub mod laws;
+mod number;
 mod offset;
 mod strings;
 mod unit;
 mod value;
 
 pub use abbrev::{Abbreviation, Abbreviations};
-pub use cache::AbbreviationCache;
+pub use cache::{AbbreviationCache, EntryNumber};
 pub use dwp_base::Endianness;
 pub use dwp_bytes::{
     Encoding, Format, ReadError, Reader, Relocate, Relocation, RelocationEntry, SliceReader,

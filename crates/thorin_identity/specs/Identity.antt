@@ -1,7 +1,7 @@
 -- Which unit a unit of a split object is (DWARF 5, 7.5.1: the identifier or signature in its
 -- header; before version 5 the GNU_dwo_id of its root entry: the GNU page DebugFission).
 use Rattle.std.specs.Prelude.{ℕ, List, [], ◌∷◌, Bool, ◌||◌, ◌==◌, if◌then◌else◌, Option, Some, None}
-use Rattle.std.specs.Prelude.{Result, Ok, Err}
+use Rattle.std.specs.Prelude.{Result, Ok, Err, option_map}
 use Rattle.std.specs.Option.{ok_or}
 use Rattle.dwp_base.specs.Reading.{◌>>=◌}
 use Rattle.dwp_bytes.specs.Input.{Input}
@@ -62,6 +62,12 @@ first_identifier (Err e ∷ others) = Err (GimliRead e)
 unfoldable pub entry_identity : DebugEntry → Result (Option DwarfObject) Fault
 entry_identity e =
     if is_unit_tag e.tag then first_identifier e.attributes else Err TopLevelDieNotUnit
+
+-- the same by an entry's tag and its first number of a GNU_dwo_id, up to the first fault
+abbrev pub numbered_identity : ℕ × Result (Option ℕ) ReadError → Result (Option DwarfObject) Fault
+numbered_identity n = if is_unit_tag n.0
+    then (as_fault GimliRead n.1 >>= λ id. Ok (option_map compilation id))
+    else Err TopLevelDieNotUnit
 
 -- the identifier in the root entry of a compile unit, whose abbreviations stand in that section
 unfoldable pub root_identity : Input → Unit → Result (Option DwarfObject) Fault

@@ -5,11 +5,14 @@ ghost use Rattle.dwp_bytes.specs.Input.{Input};
 ghost use Rattle.thorin_faults.specs.Answers.{Gives};
 ghost use Rattle.dwp_dwarf.specs.Units.{Unit, unit_of};
 ghost use Rattle.dwp_dwarf.specs.Attributes.{entry_of};
+ghost use Rattle.dwp_dwarf.specs.Numbers.{numbered_of};
 ghost use Rattle.thorin_identity.specs.Identity.{identity, identity_by, root_identity};
 ghost use Rattle.thorin_identity.specs.Identity.{entry_identity, first_identifier, is_unit_tag};
+ghost use Rattle.thorin_identity.specs.Identity.{numbered_identity};
 
 use dwp_dwarf::{
-    AbbreviationCache, Abbreviations, ReadError, Reader, RootEntry, UnitHeader, UnitType,
+    AbbreviationCache, Abbreviations, EntryNumber, ReadError, Reader, RootEntry, UnitHeader,
+    UnitType,
 };
 use dwp_table::{DebugTypeSignature, DwarfObject, DwoId};
 use thorin_faults::Error;
@@ -43,8 +46,8 @@ pub fn dwo_identifier_of_unit<R: Reader>(
     }
 }
 
-/// The same, where the section's table at hand is remembered: units that use one table, one after
-/// the other, read it once.
+/// The same, where the section's tables are remembered: units that use one table, or several by
+/// turns, read each once, and attributes without bytes cost each unit nothing.
 ///
 /// # Errors
 /// Those of `dwo_identifier_of_unit`.
@@ -116,11 +119,25 @@ fn root_identifier_remembering<R: Reader>(
         Error::ParseUnitAbbreviations,
     )?;
     let (code, values) = header.root_code()?.ok_or(Error::NoDie)?;
-    let abbreviation = debug_abbrev
-        .get(offset, code)
+    let found = debug_abbrev
+        .number_in(offset, code, header.encoding(), values, DW_AT_GNU_DWO_ID)
         .map_err(Error::ParseUnitAbbreviations)?
         .ok_or(Error::GimliRead(ReadError::UnknownCode))?;
-    entry_identifier(abbreviation.entry(header.encoding(), values))
+    numbered_identifier(found)
+}
+
+/// The identifier in an entry of a unit whose first number of a GNU_dwo_id was found.
+fn numbered_identifier(found: EntryNumber) -> Result<Option<DwarfObject>, Error>
+    ensures meaning { Gives (λ name. name) result (numbered_identity (numbered_of found)) }
+    ensures memory { IfErr result (λ e. e ≢ Error.Memory) }
+{
+    if found.tag != DW_TAG_COMPILE_UNIT && found.tag != DW_TAG_TYPE_UNIT {
+        return Err(Error::TopLevelDieNotUnit);
+    }
+    match found.number? {
+        Some(id) => Ok(Some(DwarfObject::Compilation(DwoId(id)))),
+        None => Ok(None),
+    }
 }
 
 /// The identifier in an entry of a unit.

@@ -1,6 +1,11 @@
-use Rattle.dwp_dwarf.proofs.Remembered.{nothing_read, from_start}
+use Rattle.std.proofs.Common.{sym, ap, ◌∙◌, Ok}
+use Rattle.dwp_dwarf.proofs.Remembered.{nothing_read, from_start, none_put_away}
 use Rattle.dwp_dwarf.proofs.cache.AbbreviationCache.new.Goals as goal
 
 pub invariant_of-result : goal.invariant_of-result
-invariant_of-result g c = nothing_read g.R.Reader.input _ _ 0 c.new.result (from_start _)
-    c.new.ensures.empty
+invariant_of-result g c = (
+  nothing_read g.R.Reader.input _ 0 _
+      (from_start _ ∙ ap (λ r. Ok (g.R.Reader.input r)) (sym c.new.ensures.rest))
+      c.new.ensures.known c.new.ensures.lists,
+  none_put_away g.R.Reader.input _ c.new-2.result c.new-2.ensures.empty,
+)

@@ -1,0 +1,13 @@
+use Rattle.std.proofs.Common.{◌≡◌, map, drop}
+use Rattle.dwp_dwarf.specs.Declarations.{specification_of}
+use Rattle.dwp_dwarf.specs.Entries.{attributes}
+use Rattle.dwp_dwarf.specs.Numbers.{first_number}
+use Rattle.dwp_dwarf.proofs.number.number_listed.Given as goal
+
+-- the first number of those that are left is the first of all
+abbrev pub invariant-loop-specification : goal.invariant-loop-specification
+invariant-loop-specification g l =
+    first_number l.name (attributes l.encoding
+    (map specification_of (drop l.specification-index l.list)) (g.R.Reader.input l.values))
+    ≡ first_number l.fn.name (attributes l.fn.encoding (map specification_of l.fn.list)
+    (g.R.Reader.input l.fn.values))
