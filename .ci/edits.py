@@ -221,14 +221,14 @@ class Copy:
         has_closures = os.path.isdir(f"{edit.crate.folder}/proofs/{file[4:-3]}/fn")
         if not is_known or calls_itself or has_closures or is_method and is_of_trait(old, first) or old[top - 1].strip()[-1:] not in ("", "{"):
             raise LookupError(function)
-        self.file, self.last, self.path, self.name = file, last, path, f"{name}_again_{number}"
+        self.crate, self.file, self.last, self.path, self.name = edit.crate, file, last, path, f"{name}_again_{number}"
         self.function = function.removesuffix(name) + self.name
         self.text = re.sub(rf"\bfn {name}\b", f"fn {self.name}", "\n".join(new[top : last + 1]), count=1)
 
-    def put(self, crate, room):
+    def put(self, room):
         """Puts the proof of the copy, which is that of the function, into a folder."""
         name, dots = self.path.rpartition("/")[2], self.path.replace("/", ".")
-        proof, to = f"{crate.folder}/proofs/{self.path}", f"{room}/proofs/{self.path.removesuffix(name)}{self.name}"
+        proof, to = f"{self.crate.folder}/proofs/{self.path}", f"{room}/proofs/{self.path.removesuffix(name)}{self.name}"
         for file in os.listdir(proof) if os.path.isdir(proof) else []:
             os.makedirs(to, exist_ok=True)
             with open(f"{proof}/{file}", encoding="utf-8") as one, open(f"{to}/{file}", "w", encoding="utf-8") as other:
@@ -279,7 +279,7 @@ class Group:
     def with_copies(self, texts):
         """These texts, which have the lines of the sources, with the copies behind the functions that they are of."""
         for it in sorted(self.copies.values(), key=lambda it: -it.last):
-            lines = texts[it.file].split("\n")
+            lines = (texts.get(it.file) or text_of(it.crate, it.file)).split("\n")
             texts = {**texts, it.file: "\n".join([*lines[: it.last + 1], "", *it.text.split("\n"), *lines[it.last + 1 :]])}
         return texts
 
