@@ -224,16 +224,26 @@ class Copy:
         self.crate, self.file, self.last, self.path, self.name = edit.crate, file, last, path, f"{name}_again_{number}"
         self.function = function.removesuffix(name) + self.name
         self.text = re.sub(rf"\bfn {name}\b", f"fn {self.name}", "\n".join(new[top : last + 1]), count=1)
+        self.proof = self.proof_of(name)
+
+    def proof_of(self, name):
+        """The files of the function's proof by their names, as a proof of the copy; each names the function's own modules."""
+        folder, own, found = f"{self.crate.folder}/proofs/{self.path}", re.escape(self.path.replace("/", ".")), {}
+        for file in os.listdir(folder) if os.path.isdir(folder) else []:
+            with open(f"{folder}/{file}", encoding="utf-8") as it:
+                text, count = re.subn(rf"(\.proofs\.{own})\b(?!-)", rf"\1{self.name.removeprefix(name)}", it.read())
+            if not count:
+                raise LookupError(f"{folder}/{file}")
+            found[file] = re.sub(rf"\b{name}_spec\b", f"{self.name}_spec", text)
+        return found
 
     def put(self, room):
-        """Puts the proof of the copy, which is that of the function, into a folder."""
-        name, dots = self.path.rpartition("/")[2], self.path.replace("/", ".")
-        proof, to = f"{self.crate.folder}/proofs/{self.path}", f"{room}/proofs/{self.path.removesuffix(name)}{self.name}"
-        for file in os.listdir(proof) if os.path.isdir(proof) else []:
-            os.makedirs(to, exist_ok=True)
-            with open(f"{proof}/{file}", encoding="utf-8") as one, open(f"{to}/{file}", "w", encoding="utf-8") as other:
-                text = re.sub(rf"(\.proofs\.{re.escape(dots)})\b(?!-)", rf"\1{self.name.removeprefix(name)}", one.read())
-                other.write(re.sub(rf"\b{name}_spec\b", f"{self.name}_spec", text))
+        """Puts the proof of the copy into a folder."""
+        folder = f"{room}/proofs/{self.path.rpartition('/')[0]}/{self.name}"
+        for file, text in self.proof.items():
+            os.makedirs(folder, exist_ok=True)
+            with open(f"{folder}/{file}", "w", encoding="utf-8") as it:
+                it.write(text)
 
 
 class Group:
