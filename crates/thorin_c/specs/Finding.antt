@@ -61,9 +61,29 @@ abbrev pub range_of : Option Contribution → ThorinRange
 range_of None = record { offset = 0; size = 0 }
 range_of (Some range) = record { offset = range.offset.0; size = range.size }
 
--- a row with its ranges; the encoding is left out, since it stands in the unit's header
+-- a row of no ranges; the encoding is left out, since it stands in the unit's header
+abbrev pub bare_row : ℕ → ℕ → ThorinUnit
+bare_row number slots = record {
+  info = range_of None;
+  types = range_of None;
+  abbreviations = range_of None;
+  line = range_of None;
+  loc = range_of None;
+  loclists = range_of None;
+  rnglists = range_of None;
+  str_offsets = range_of None;
+  macinfo = range_of None;
+  macros = range_of None;
+  row = number;
+  slots = slots;
+  version = 0;
+  offset_size = 0;
+  address_size = 0;
+}
+
+-- a row with its ranges
 abbrev pub row_of : ℕ → Ranges → ℕ → ThorinUnit
-row_of number row slots = record {
+row_of number row slots = record (bare_row number slots) {
   info = range_of (range_in row kinds.Info);
   types = range_of (range_in row kinds.Types);
   abbreviations = range_of (range_in row kinds.Abbrev);
@@ -74,11 +94,6 @@ row_of number row slots = record {
   str_offsets = range_of (range_in row kinds.StrOffsets);
   macinfo = range_of (range_in row kinds.Macinfo);
   macros = range_of (range_in row kinds.Macro);
-  row = number;
-  slots = slots;
-  version = 0;
-  offset_size = 0;
-  address_size = 0;
 }
 
 -- a unit with its ranges and its encoding

@@ -1,10 +1,11 @@
 //! Looking up the units of a package.
 
-ghost use Rattle.std.specs.Prelude.{◌≡◌, pos, Ok, map, take};
+ghost use Rattle.std.specs.Prelude.{◌≡◌, pos, None, Ok, map, take};
 ghost use Rattle.dwp_base.specs.Reading.{Answers};
 ghost use Rattle.dwp_index.specs.Package.{package_of, found_counted};
 ghost use Rattle.thorin_c.specs.Finding.{object_of, section_of, as_status, present, range_of};
-ghost use Rattle.thorin_c.specs.Finding.{row_of, unit_of, unit_in, looked_up, unit_found, looked};
+ghost use Rattle.thorin_c.specs.Finding.{bare_row, row_of, unit_of, unit_in, looked_up, unit_found};
+ghost use Rattle.thorin_c.specs.Finding.{looked};
 ghost use Rattle.thorin_c.specs.Finding.{content_found, string_found, Fills, FillsEach};
 
 use crate::status::{
@@ -254,31 +255,52 @@ fn write_unit(unit: &PackagedUnit<'_>, slots: u32, found: &mut ThorinUnit)
 pub(crate) fn write_row(row: &Row<'_>, number: u32, slots: u32, found: &mut ThorinUnit)
     ensures { found.new ≡ row_of number row.now slots }
 {
-    found.info = range_of(row.range(SectionKind::Info));
-    found.types = range_of(row.range(SectionKind::Types));
-    found.abbreviations = range_of(row.range(SectionKind::Abbrev));
-    found.line = range_of(row.range(SectionKind::Line));
-    found.loc = range_of(row.range(SectionKind::Loc));
-    found.loclists = range_of(row.range(SectionKind::Loclists));
-    found.rnglists = range_of(row.range(SectionKind::Rnglists));
-    found.str_offsets = range_of(row.range(SectionKind::StrOffsets));
-    found.macinfo = range_of(row.range(SectionKind::Macinfo));
-    found.macros = range_of(row.range(SectionKind::Macro));
-    found.row = number;
-    found.slots = slots;
-    found.version = 0;
-    found.offset_size = 0;
-    found.address_size = 0;
+    *found = without_ranges(number, slots);
+    put(row.range(SectionKind::Info), &mut found.info);
+    put(row.range(SectionKind::Types), &mut found.types);
+    put(row.range(SectionKind::Abbrev), &mut found.abbreviations);
+    put(row.range(SectionKind::Line), &mut found.line);
+    put(row.range(SectionKind::Loc), &mut found.loc);
+    put(row.range(SectionKind::Loclists), &mut found.loclists);
+    put(row.range(SectionKind::Rnglists), &mut found.rnglists);
+    put(row.range(SectionKind::StrOffsets), &mut found.str_offsets);
+    put(row.range(SectionKind::Macinfo), &mut found.macinfo);
+    put(row.range(SectionKind::Macro), &mut found.macros);
 }
 
-fn range_of(range: Option<Contribution>) -> ThorinRange
-    ensures { result ≡ range_of range }
+/// A row of no ranges.
+#[inline(always)]
+fn without_ranges(row: u32, slots: u32) -> ThorinUnit
+    ensures { result ≡ bare_row row slots }
 {
-    match range {
-        None => ThorinRange { offset: 0, size: 0 },
-        Some(range) => ThorinRange {
-            offset: range.offset.0,
-            size: range.size,
-        },
+    let none = ThorinRange { offset: 0, size: 0 };
+    ThorinUnit {
+        info: none,
+        types: none,
+        abbreviations: none,
+        line: none,
+        loc: none,
+        loclists: none,
+        rnglists: none,
+        str_offsets: none,
+        macinfo: none,
+        macros: none,
+        row,
+        slots,
+        version: 0,
+        offset_size: 0,
+        address_size: 0,
+    }
+}
+
+/// Writes a range where none stands; nothing where it is absent.
+#[inline(always)]
+fn put(range: Option<Contribution>, at: &mut ThorinRange)
+    requires { at.old ≡ range_of None }
+    ensures { at.new ≡ range_of range }
+{
+    if let Some(range) = range {
+        at.offset = range.offset.0;
+        at.size = range.size;
     }
 }

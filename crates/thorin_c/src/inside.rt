@@ -7,14 +7,15 @@ ghost use Rattle.thorin_c.specs.Finding.{as_status, unit_in, unit_of, unit_found
 ghost use Rattle.thorin_c.specs.Finding.{row_found, row_found_in, content_found, string_found};
 ghost use Rattle.thorin_c.specs.Finding.{Fills};
 ghost use Rattle.thorin_c.specs.Listing.{count_in, Lists};
-ghost use Rattle.thorin_c.specs.Opening.{package_in};
+ghost use Rattle.thorin_c.specs.Opening.{package_in, order_of};
 
 use crate::finding::{object_of, section_of, write_row};
 use crate::listing::list;
-use crate::opened::Opened;
+use crate::opened::{Opened, order_of};
 use crate::status::{ABSENT, DONE, MALFORMED_STRING, NO_SUCH_STRING, status_of};
 use crate::types::{ThorinBytes, ThorinName, ThorinPackage, ThorinUnit};
 use crate::unit::Found;
+use dwp_base::Endianness;
 use dwp_table::DwarfObject;
 
 /// `thorin_find` in a package that is open: its sections are where `places` says, whatever that
@@ -31,9 +32,9 @@ pub extern "C" fn thorin_find_in(
     ensures { Fills (λ unit. unit) (unit_found (as_status (package_in places.now bytes.now)) kind
         id) found.old found.new result }
 {
-    match opened(places, bytes) {
-        Ok(pack) => fill(&pack, kind, id, found),
-        Err(status) => status,
+    match order_of(places.big_endian) {
+        Endianness::Little => find_unit(places, bytes, Endianness::Little, kind, id, found),
+        Endianness::Big => find_unit(places, bytes, Endianness::Big, kind, id, found),
     }
 }
 
@@ -49,9 +50,9 @@ pub extern "C" fn thorin_find_row_in(
     ensures { Fills (λ unit. unit) (row_found_in (as_status (package_in places.now bytes.now)) kind
         id) found.old found.new result }
 {
-    match opened(places, bytes) {
-        Ok(pack) => fill_row(&pack, kind, id, found),
-        Err(status) => status,
+    match order_of(places.big_endian) {
+        Endianness::Little => find_row(places, bytes, Endianness::Little, kind, id, found),
+        Endianness::Big => find_row(places, bytes, Endianness::Big, kind, id, found),
     }
 }
 
@@ -121,12 +122,51 @@ pub extern "C" fn thorin_list_in(
     }
 }
 
-/// The package whose sections are at these places.
+/// `thorin_find_in` for one byte order, which is known where this is compiled.
 #[inline(always)]
+fn find_unit(
+    places: &ThorinPackage,
+    bytes: &[u8],
+    order: Endianness,
+    kind: u8,
+    id: u64,
+    found: &mut ThorinUnit,
+) -> i32
+    requires { order ≡ order_of places.now.big_endian }
+    ensures { Fills (λ unit. unit) (unit_found (as_status (package_in places.now bytes.now)) kind
+        id) found.old found.new result }
+{
+    match Opened::at(places, bytes, order) {
+        Ok(pack) => fill(&pack, kind, id, found),
+        Err(fault) => status_of(fault),
+    }
+}
+
+/// `thorin_find_row_in` for one byte order, which is known where this is compiled.
+#[inline(always)]
+fn find_row(
+    places: &ThorinPackage,
+    bytes: &[u8],
+    order: Endianness,
+    kind: u8,
+    id: u64,
+    found: &mut ThorinUnit,
+) -> i32
+    requires { order ≡ order_of places.now.big_endian }
+    ensures { Fills (λ unit. unit) (row_found_in (as_status (package_in places.now bytes.now)) kind
+        id) found.old found.new result }
+{
+    match Opened::at(places, bytes, order) {
+        Ok(pack) => fill_row(&pack, kind, id, found),
+        Err(fault) => status_of(fault),
+    }
+}
+
+/// The package whose sections are at these places.
 fn opened<'p, 'a>(places: &'p ThorinPackage, bytes: &'a [u8]) -> Result<Opened<'p, 'a>, i32>
     ensures { Answers (λ x. x) result (as_status (package_in places.now bytes.now)) }
 {
-    match Opened::at(places, bytes) {
+    match Opened::at(places, bytes, order_of(places.big_endian)) {
         Ok(pack) => Ok(pack),
         Err(fault) => Err(status_of(fault)),
     }
@@ -134,6 +174,7 @@ fn opened<'p, 'a>(places: &'p ThorinPackage, bytes: &'a [u8]) -> Result<Opened<'
 
 /// Fills in the unit of a name.
 #[tactic(auto, unfolding(crate::specs::Finding::unit_in))]
+#[inline(always)]
 fn fill(pack: &Opened<'_, '_>, kind: u8, id: u64, found: &mut ThorinUnit) -> i32
     ensures { Fills (λ unit. unit) (unit_found (Ok pack.now) kind id) found.old found.new
         result }
@@ -173,6 +214,7 @@ fn fill_row(pack: &Opened<'_, '_>, kind: u8, id: u64, found: &mut ThorinUnit) ->
 }
 
 /// Writes a unit with its ranges and its encoding.
+#[inline(always)]
 fn write_found(unit: &Found<'_, '_>, slots: u32, found: &mut ThorinUnit)
     ensures { found.new ≡ unit_of unit.now slots }
 {

@@ -5,7 +5,7 @@ ghost use Rattle.std.specs.Option.{option_copied};
 ghost use Rattle.dwp_base.specs.Reading.{Answers};
 ghost use Rattle.dwp_index.specs.Entries.{units_left, entries_from};
 ghost use Rattle.dwp_index.specs.Index.{row_in};
-ghost use Rattle.dwp_index.specs.Package.{as_fault, index_in_section, index_for, unit_in};
+ghost use Rattle.dwp_index.specs.Package.{as_fault, index_in_section, found_by, row_by, unit_in};
 ghost use Rattle.dwp_index.specs.Package.{encoding_in};
 ghost use Rattle.dwp_index.specs.Package.{unit_at_row, found_counted, row_inside, row_counted};
 ghost use Rattle.dwp_index.specs.declared.fault.PackageError.TheVariants as faults;
@@ -41,16 +41,17 @@ impl<'p, 'a> Model for Opened<'p, 'a> {
 }
 
 impl<'p, 'a> Opened<'p, 'a> {
-    /// The package whose sections are at these places.
+    /// The package whose sections are at these places, in the byte order that they say.
     #[tactic(auto, unfolding(crate::specs::Opening::package_in))]
     #[inline(always)]
     pub(crate) fn at(
         places: &'p ThorinPackage,
         bytes: &'a [u8],
+        order: Endianness,
     ) -> Result<Opened<'p, 'a>, PackageError>
+        requires { order ≡ order_of places.now.big_endian }
         ensures { Answers (λ x. x) result (package_in places.now bytes.now) }
     {
-        let order = order_of(places.big_endian);
         let compilations = read_index(bytes_at(bytes, places.cu_index), order)?;
         let types = read_index(bytes_at(bytes, places.tu_index), order)?;
         Ok(Opened {
@@ -63,21 +64,16 @@ impl<'p, 'a> Opened<'p, 'a> {
 
     /// The unit of an identifier, and how many slots were looked at.
     #[tactic(auto, unfolding(dwp_index::specs::Package::found_counted))]
+    #[inline(always)]
     pub(crate) fn find_counted(
         &self,
         object: DwarfObject,
     ) -> Result<(Option<Found<'p, 'a>>, u32), PackageError>
         ensures { Answers (λ x. x) result (found_counted self.now object) }
     {
-        match self.index_for(object) {
-            None => Ok((None, 0)),
-            Some(index) => {
-                let (found, count) = index.find_counted(object.index());
-                match found {
-                    None => Ok((None, count)),
-                    Some(number) => self.unit_at_row(object, index, number, count),
-                }
-            }
+        match object {
+            DwarfObject::Compilation(_) => self.unit_by(object, self.compilations.as_ref()),
+            DwarfObject::TypeUnit(_) => self.unit_by(object, self.types.as_ref()),
         }
     }
 
@@ -90,14 +86,10 @@ impl<'p, 'a> Opened<'p, 'a> {
     ) -> Result<(Option<(u32, Row<'a>)>, u32), PackageError>
         ensures { Answers (λ x. x) result (row_counted self.now object) }
     {
-        let Some(index) = self.index_for(object) else {
-            return Ok((None, 0));
-        };
-        let (found, count) = index.find_counted(object.index());
-        let Some(number) = found else {
-            return Ok((None, count));
-        };
-        self.row_inside(number, count, read_row(index, number)?)
+        match object {
+            DwarfObject::Compilation(_) => self.row_by(object, self.compilations.as_ref()),
+            DwarfObject::TypeUnit(_) => self.row_by(object, self.types.as_ref()),
+        }
     }
 
     /// The units that the slots of both indexes name, in order of slot, those of the compilation
@@ -108,15 +100,42 @@ impl<'p, 'a> Opened<'p, 'a> {
         Units::new(self.compilations.as_ref(), self.types.as_ref())
     }
 
-    /// The index of the units of a kind.
+    /// The unit of an identifier by an index, and how many slots were looked at.
     #[inline(always)]
-    fn index_for(&self, object: DwarfObject) -> Option<&UnitIndex<'a>>
-        ensures { option_copied result ≡ index_for self.now object }
+    fn unit_by(
+        &self,
+        object: DwarfObject,
+        index: Option<&UnitIndex<'a>>,
+    ) -> Result<(Option<Found<'p, 'a>>, u32), PackageError>
+        ensures { Answers (λ x. x) result (found_by self.now object (option_copied index.entry)) }
     {
-        match object {
-            DwarfObject::Compilation(_) => self.compilations.as_ref(),
-            DwarfObject::TypeUnit(_) => self.types.as_ref(),
+        let Some(index) = index else {
+            return Ok((None, 0));
+        };
+        let (found, count) = index.find_counted(object.index());
+        match found {
+            None => Ok((None, count)),
+            Some(number) => self.unit_at_row(object, index, number, count),
         }
+    }
+
+    /// The row of an identifier by an index, and how many slots were looked at.
+    #[inline(always)]
+    fn row_by(
+        &self,
+        object: DwarfObject,
+        index: Option<&UnitIndex<'a>>,
+    ) -> Result<(Option<(u32, Row<'a>)>, u32), PackageError>
+        ensures { Answers (λ x. x) result (row_by self.now object (option_copied index.entry)) }
+    {
+        let Some(index) = index else {
+            return Ok((None, 0));
+        };
+        let (found, count) = index.find_counted(object.index());
+        let Some(number) = found else {
+            return Ok((None, count));
+        };
+        self.row_inside(number, count, read_row(index, number)?)
     }
 
     /// A row whose ranges lie inside their sections.
@@ -137,6 +156,7 @@ impl<'p, 'a> Opened<'p, 'a> {
 
     /// The unit of a row number.
     #[tactic(auto, unfolding(dwp_index::specs::Package::unit_at_row))]
+    #[inline(always)]
     fn unit_at_row(
         &self,
         object: DwarfObject,
@@ -153,6 +173,7 @@ impl<'p, 'a> Opened<'p, 'a> {
 
     /// The unit of a row.
     #[tactic(auto, unfolding(dwp_index::specs::Package::unit_in))]
+    #[inline(always)]
     fn unit_in(
         &self,
         object: DwarfObject,
@@ -178,7 +199,8 @@ impl<'p, 'a> Opened<'p, 'a> {
     }
 }
 
-fn order_of(big_endian: u64) -> Endianness
+/// The byte order of a number.
+pub(crate) fn order_of(big_endian: u64) -> Endianness
     ensures { result ≡ order_of big_endian }
 {
     if big_endian == 0 {
@@ -203,6 +225,7 @@ fn read_index<'a>(bytes: &'a [u8], order: Endianness) -> Result<Option<UnitIndex
     }
 }
 
+#[inline(always)]
 fn read_row<'a>(index: &UnitIndex<'a>, number: u32) -> Result<Row<'a>, PackageError>
     ensures { Answers (λ x. x) result (as_fault faults.Index (row_in index.now number)) }
 {
@@ -212,6 +235,7 @@ fn read_row<'a>(index: &UnitIndex<'a>, number: u32) -> Result<Row<'a>, PackageEr
     }
 }
 
+#[inline(always)]
 fn read_encoding(
     bytes: &[u8],
     order: Endianness,

@@ -14,7 +14,7 @@ ghost use Rattle.thorin_c.specs.Opening.{IsPlaceIn, LieIn};
 ghost use Rattle.thorin_c.specs.Finding.{as_status, Fills};
 
 use crate::header::offset_of;
-use crate::opened::Opened;
+use crate::opened::{Opened, order_of};
 use crate::sections::is_inside;
 use crate::status::{DONE, status_of};
 use crate::types::{ThorinPackage, ThorinRange};
@@ -49,7 +49,7 @@ fn places_of(bytes: &[u8]) -> Result<ThorinPackage, PackageError>
 {
     let file = read_file(bytes)?;
     let places = read_places(&file, bytes)?;
-    match Opened::at(&places, bytes) {
+    match Opened::at(&places, bytes, order_of(places.big_endian)) {
         Ok(_) => Ok(places),
         Err(fault) => Err(fault),
     }

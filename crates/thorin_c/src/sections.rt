@@ -20,6 +20,7 @@ pub(crate) struct PlacedSections<'p, 'a> {
 }
 
 /// Whether `size` bytes from a place on are inside the bytes.
+#[inline(always)]
 pub(crate) fn is_inside(bytes: &[u8], place: u64, size: u64) -> bool
     ensures { result ≡ is_inside bytes.now place size }
 {
@@ -28,6 +29,7 @@ pub(crate) fn is_inside(bytes: &[u8], place: u64, size: u64) -> bool
 }
 
 /// The bytes of a place; none where it isn't inside.
+#[inline(always)]
 pub(crate) fn bytes_at(bytes: &[u8], place: ThorinRange) -> &[u8]
     ensures { result.now ≡ bytes_at bytes.now place }
 {
@@ -65,6 +67,7 @@ impl<'p, 'a> PlacedSections<'p, 'a> {
 
     /// The bytes of a row's range in a section; none where it has no such range.
     #[tactic(auto, unfolding(dwp_index::specs::Package::row_bytes))]
+    #[inline(always)]
     pub(crate) fn row_bytes(&self, row: &Row<'_>, kind: SectionKind) -> &'a [u8]
         ensures { result.now
             ≡ row_bytes (sections_at self.now.places.now self.now.bytes.now) row.now kind }
@@ -126,6 +129,7 @@ impl<'p, 'a> PlacedSections<'p, 'a> {
 }
 
 /// The bytes of a range; none where it is absent.
+#[inline(always)]
 fn part_of<'a>(bytes: &'a [u8], range: Option<Contribution>) -> &'a [u8]
     ensures { result.now ≡ part_of bytes.now range }
 {
@@ -143,6 +147,7 @@ fn part_of<'a>(bytes: &'a [u8], range: Option<Contribution>) -> &'a [u8]
 }
 
 /// Whether a range lies inside a section of these bytes.
+#[inline(always)]
 fn lies_inside(bytes: &[u8], range: Contribution) -> bool
     ensures { result ≡ lies_inside bytes.now range }
 {

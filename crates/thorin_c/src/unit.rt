@@ -76,6 +76,7 @@ fn entry_in(order: Endianness, encoding: Encoding, bytes: &[u8], i: u64) -> Opti
 }
 
 /// The section that a unit's own bytes stand in: a type unit's may be those of types.
+#[inline(always)]
 pub(crate) fn place_of(object: DwarfObject, range: Option<Contribution>) -> UnitSection
     ensures { result ≡ place_of object range }
 {
@@ -86,6 +87,7 @@ pub(crate) fn place_of(object: DwarfObject, range: Option<Contribution>) -> Unit
 }
 
 /// The kind of that section.
+#[inline(always)]
 pub(crate) fn kind_of(place: UnitSection) -> SectionKind
     ensures { result ≡ kind_of place }
 {
