@@ -7,9 +7,9 @@
 #include <stdio.h>
 #include <stdlib.h>
 #include <string.h>
-#include <sys/mman.h>
 #include <sys/stat.h>
 #include <time.h>
+#include <unistd.h>
 
 static double now(void) {
   struct timespec t;
@@ -38,15 +38,14 @@ static double many(look_up_t *call, const uint8_t *bytes, size_t size, const tho
 typedef int32_t look_up_in_t(const thorin_package *package, const uint8_t *bytes, size_t size, uint8_t kind, uint64_t id,
                              thorin_unit *found);
 
-/* Nanoseconds for look-ups one by one in an open package, and the sum. */
+/* Nanoseconds for look-ups of compilation units one by one in an open package, and the sum. */
 static double one_by_one(look_up_in_t *call, const thorin_package *package, const uint8_t *bytes, size_t size,
-                         const thorin_name *names, uint64_t units, size_t count, uint64_t *sum) {
+                         const uint64_t *ids, uint64_t units, size_t count, uint64_t *sum) {
   double start = now();
   *sum = 0;
   for (size_t i = 0; i < count; i++) {
     thorin_unit unit;
-    const thorin_name *name = &names[i * 7919 % units];
-    if (call(package, bytes, size, name->kind, name->id, &unit) == THORIN_DONE)
+    if (call(package, bytes, size, THORIN_COMPILATION, ids[i * 7919 % units], &unit) == THORIN_DONE)
       *sum += unit.info.size + unit.str_offsets.size;
   }
   return now() - start;
@@ -76,12 +75,20 @@ int main(int argc, char **argv) {
   struct stat about;
   if (file < 0 || fstat(file, &about) != 0) return 1;
   size_t size = (size_t)about.st_size, count = strtoull(argv[2], NULL, 10);
-  const uint8_t *bytes = mmap(NULL, size, PROT_READ, MAP_PRIVATE, file, 0);
+  /* The file stands in memory, and the identifiers in an array of their own, as in the program for gimli. */
+  uint8_t *bytes = malloc(size);
+  for (size_t got = 0; bytes && got < size;) {
+    ssize_t more = read(file, bytes + got, size - got);
+    if (more <= 0) return 1;
+    got += (size_t)more;
+  }
   uint64_t units = 0;
-  if (bytes == MAP_FAILED || thorin_unit_count(bytes, size, &units) != THORIN_DONE || units == 0) return 1;
+  if (!bytes || thorin_unit_count(bytes, size, &units) != THORIN_DONE || units == 0) return 1;
   thorin_name *names = calloc(units, sizeof *names);
   thorin_lookup *lookups = calloc(count, sizeof *lookups);
-  if (!names || !lookups || thorin_list(bytes, size, names, units, &units) != THORIN_DONE) return 1;
+  uint64_t *ids = calloc(units, sizeof *ids);
+  if (!names || !lookups || !ids || thorin_list(bytes, size, names, units, &units) != THORIN_DONE) return 1;
+  for (uint64_t i = 0; i < units; i++) ids[i] = names[i].id;
   thorin_package package;
   if (thorin_open(bytes, size, &package) != THORIN_DONE) return 1;
 
@@ -91,7 +98,7 @@ int main(int argc, char **argv) {
     uint64_t sum = 0;
     for (int round = 0; round < (argc == 4 ? 1 : 7); round++) {
       double took = calls[i].many ? many(calls[i].many, bytes, size, names, units, lookups, count, &sum)
-                                  : one_by_one(calls[i].one, &package, bytes, size, names, units, count, &sum);
+                                  : one_by_one(calls[i].one, &package, bytes, size, ids, units, count, &sum);
       if (took < least) least = took;
     }
     printf("%s %.0f ns, sum %" PRIu64 "\n", calls[i].name, least / (double)count, sum);
