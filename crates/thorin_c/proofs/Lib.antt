@@ -6,6 +6,7 @@ pub mod Steps
 pub mod Called
 pub mod FirstSection
 pub mod FirstUnit
+pub mod SplitHeaders
 pub mod Headers
 pub mod ByPlaces
 pub mod SkeletonLists

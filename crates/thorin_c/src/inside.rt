@@ -33,6 +33,14 @@ pub extern "C" fn thorin_find_in(
         id) found.old found.new result }
 {
     match order_of(places.big_endian) {
+        Endianness::Little if kind == 1 => find_unit(
+            places,
+            bytes,
+            Endianness::Little,
+            1,
+            id,
+            found,
+        ),
         Endianness::Little => find_unit(places, bytes, Endianness::Little, kind, id, found),
         Endianness::Big => find_unit(places, bytes, Endianness::Big, kind, id, found),
     }
@@ -51,6 +59,14 @@ pub extern "C" fn thorin_find_row_in(
         id) found.old found.new result }
 {
     match order_of(places.big_endian) {
+        Endianness::Little if kind == 1 => find_row(
+            places,
+            bytes,
+            Endianness::Little,
+            1,
+            id,
+            found,
+        ),
         Endianness::Little => find_row(places, bytes, Endianness::Little, kind, id, found),
         Endianness::Big => find_row(places, bytes, Endianness::Big, kind, id, found),
     }

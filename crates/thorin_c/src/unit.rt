@@ -1,9 +1,10 @@
 //! Units that were found in an open package.
 
-ghost use Rattle.std.specs.Prelude.{◌≡◌};
+ghost use Rattle.std.specs.Prelude.{◌≡◌, ◌≤◌, Ok, IfSome, length, take, drop};
 ghost use Rattle.std.specs.Option.{option_copied};
 ghost use Rattle.dwp_base.specs.Reading.{Answers};
 ghost use Rattle.dwp_base.specs.declared.section.SectionKind.TheVariants as kinds;
+ghost use Rattle.dwp_dwarf.specs.declared.unit.UnitSection.{UnitSection};
 ghost use Rattle.dwp_index.specs.Package.{row_bytes, kind_of, place_of, encoding_in};
 ghost use Rattle.dwp_index.specs.Strings.{entry_in, string_in};
 
@@ -98,11 +99,67 @@ pub(crate) fn kind_of(place: UnitSection) -> SectionKind
 }
 
 /// The encoding in the header of the unit that the bytes begin with.
+#[inline(always)]
 pub(crate) fn encoding_in(
     bytes: &[u8],
     order: Endianness,
     place: UnitSection,
 ) -> Result<Encoding, ReadError>
+    ensures { Answers (λ x. x) result (encoding_in order place bytes.now) }
+{
+    match split_encoding(bytes, order) {
+        Some(encoding) => Ok(encoding),
+        None => any_encoding(bytes, order, place),
+    }
+}
+
+/// The encoding of a split compilation unit of DWARF 5 in the 32-bit format whose addresses have 8
+/// bytes, which is what look-ups find most often; None for any other unit.
+#[inline(always)]
+fn split_encoding(bytes: &[u8], order: Endianness) -> Option<Encoding>
+    ensures { IfSome result (λ encoding. (place : UnitSection)
+        → encoding_in order place bytes.now ≡ Ok encoding) }
+{
+    if bytes.len() < 20 {
+        return None;
+    }
+    let length = order.read_u32(bytes);
+    if length < 16 || length >= 0xfffffff0 || bytes.len() as u64 - 4 < u64::from(length) {
+        return None;
+    }
+    let body = front(tail(bytes), length as usize);
+    if order.read_u16(body) != 5 || body[2] != 5 || body[3] != 8 {
+        return None;
+    }
+    Some(Encoding {
+        version: 5,
+        format: Format::Dwarf32,
+        address_size: 8,
+    })
+}
+
+/// The bytes behind the first four.
+#[tactic(auto, using(std::proofs::lemmas::List::take_rest))]
+#[inline(always)]
+fn tail(bytes: &[u8]) -> &[u8]
+    requires { 4 ≤ length bytes.now }
+    ensures { result.now ≡ drop 4 bytes.now }
+{
+    &bytes[4..]
+}
+
+/// The first bytes.
+#[inline(always)]
+fn front(bytes: &[u8], count: usize) -> &[u8]
+    requires { count ≤ length bytes.now }
+    ensures { result.now ≡ take count bytes.now }
+{
+    &bytes[..count]
+}
+
+/// The encoding of a unit of any form.
+#[inline(never)]
+fn any_encoding(bytes: &[u8], order: Endianness, place: UnitSection) -> Result<Encoding, ReadError>
     ensures { Answers (λ x. x) result (encoding_in order place bytes.now) }
 {
     match UnitHeaders::new(SliceReader::new(bytes, order), place).next() {
