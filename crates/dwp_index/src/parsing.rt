@@ -43,6 +43,7 @@ pub(crate) fn read_u32_at(bytes: &[u8], order: Endianness, at: usize) -> u32
 }
 
 /// The number in the eight bytes at a place.
+#[inline(always)]
 pub(crate) fn read_u64_at(bytes: &[u8], order: Endianness, at: usize) -> u64
     requires { at + 8 ≤ length bytes.now }
     ensures { result ≡ number order 8 (drop at bytes.now) }
@@ -52,6 +53,7 @@ pub(crate) fn read_u64_at(bytes: &[u8], order: Endianness, at: usize) -> u64
 
 /// The version of an index: 2 or 5.
 #[tactic(auto, unfolding(crate::specs::IndexBytes::version_of))]
+#[inline(always)]
 pub(crate) fn version_of(bytes: &[u8], order: Endianness) -> Result<u16, ReadError>
     ensures { Answers (λ x. x) result (version_of order bytes.now) }
 {
@@ -69,6 +71,7 @@ pub(crate) fn version_of(bytes: &[u8], order: Endianness) -> Result<u16, ReadErr
 
 /// The counts of an index's header.
 #[tactic(auto, unfolding(crate::specs::IndexBytes::counts_of))]
+#[inline(always)]
 pub(crate) fn counts_of(bytes: &[u8], order: Endianness) -> Result<Sizes, ReadError>
     ensures exact { Answers (λ x. record { columns = x.columns; units = x.units; slots = x.slots })
         result (counts_of order bytes.now) }
@@ -93,6 +96,7 @@ pub(crate) fn counts_of(bytes: &[u8], order: Endianness) -> Result<Sizes, ReadEr
 }
 
 /// What is left after so many bytes.
+#[inline(always)]
 pub(crate) fn after(bytes: &[u8], count: u64) -> Result<&[u8], ReadError>
     ensures exact { Answers (λ x. x.now) result (after count bytes.now) }
     ensures enough { OnOk result (count ≤ length bytes.now) }
@@ -104,6 +108,7 @@ pub(crate) fn after(bytes: &[u8], count: u64) -> Result<&[u8], ReadError>
 }
 
 /// What is left after rows of numbers of 4 bytes.
+#[inline(always)]
 pub(crate) fn after_rows(bytes: &[u8], columns: u32, units: u32) -> Result<&[u8], ReadError>
     ensures exact { Answers (λ x. x.now) result (after (4 * columns * units) bytes.now) }
     ensures enough { OnOk result (4 * columns * units ≤ length bytes.now) }
@@ -116,6 +121,7 @@ pub(crate) fn after_rows(bytes: &[u8], columns: u32, units: u32) -> Result<&[u8]
 
 /// The places of so many columns, each of which the version has, and none twice; and what is left
 /// after them.
+#[inline(always)]
 pub(crate) fn read_columns(
     bytes: &[u8],
     order: Endianness,

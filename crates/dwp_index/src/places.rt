@@ -19,6 +19,7 @@ pub(crate) struct Places {
 
 impl Places {
     /// Those of no columns.
+    #[inline(always)]
     pub(crate) fn none() -> Places
         ensures { (kind : SectionKind) → place_held result kind ≡ NO_COLUMN }
     {
@@ -36,6 +37,7 @@ impl Places {
     }
 
     /// Says where a section's column stands.
+    #[inline(always)]
     pub(crate) fn put(&mut self, kind: SectionKind, place: u32)
         ensures { (other : SectionKind) → place_held self.new other
             ≡ (if same_kind other kind then place else place_held self.old other) }

@@ -82,6 +82,7 @@ impl<'a> UnitIndex<'a> {
     /// The first error in order of place: `UnexpectedEof`, `IndexVersion`, `SlotCount`,
     /// `UnknownColumn` or `RepeatedColumn`.
     #[tactic(auto, unfolding(crate::specs::IndexBytes::index_of))]
+    #[inline(always)]
     pub fn parse(bytes: &'a [u8], order: Endianness) -> Result<UnitIndex<'a>, ReadError>
         ensures { Answers (λ x. x) result (index_of order bytes.now) }
     {
@@ -137,6 +138,7 @@ impl<'a> UnitIndex<'a> {
     }
 
     /// The row of an identifier, counted from 1, and how many slots were looked at.
+    #[inline(always)]
     pub fn find_counted(&self, identifier: u64) -> (Option<u32>, u32)
         ensures row { result.0 ≡ found_row self.now.signatures self.now.rows identifier }
         ensures count { result.1 ≡ look_count self.now.signatures self.now.rows identifier }
@@ -154,6 +156,7 @@ impl<'a> UnitIndex<'a> {
         self.look_up(identifier)
     }
 
+    #[inline(always)]
     fn look_up(&self, identifier: u64) -> (Option<u32>, u32)
         ensures row { result.0 ≡ found_row self.now.signatures self.now.rows identifier }
         ensures count { result.1 ≡ look_count self.now.signatures self.now.rows identifier }
@@ -179,6 +182,7 @@ impl<'a> UnitIndex<'a> {
     ///
     /// # Errors
     /// `RowOutOfRange` past the rows.
+    #[inline(always)]
     pub fn row(&self, row: u32) -> Result<Row<'a>, ReadError>
         ensures { result ≡ row_in self.now row }
     {
@@ -212,6 +216,7 @@ impl<'a> UnitIndex<'a> {
     }
 
     /// The signature and the row number of a slot.
+    #[inline(always)]
     pub(crate) fn slot(&self, slot: u32) -> (u64, u32)
         requires { slot < length self.now.rows }
         ensures signature { result.0 ≡ slice_index self.now.signatures slot }
@@ -243,6 +248,7 @@ impl<'a> Row<'a> {
     }
 }
 
+#[inline(always)]
 fn contribution(offset: u32, size: u32) -> Option<Contribution>
     ensures { result ≡ contribution offset size }
 {

@@ -99,6 +99,7 @@ pub fn column_of(version: u16, kind: SectionKind) -> Option<u32>
     }
 }
 
+#[inline(always)]
 fn standard_kind_of(number: u32) -> Option<SectionKind>
     ensures { result ≡ kind_with standard_column number }
 {
@@ -114,6 +115,7 @@ fn standard_kind_of(number: u32) -> Option<SectionKind>
     }
 }
 
+#[inline(always)]
 fn gnu_kind_of(number: u32) -> Option<SectionKind>
     ensures { result ≡ kind_with gnu_column number }
 {
@@ -131,6 +133,7 @@ fn gnu_kind_of(number: u32) -> Option<SectionKind>
 }
 
 /// The section whose column has that number in an index of that version, 5 or else 2.
+#[inline(always)]
 pub fn kind_of_column(version: u16, number: u32) -> Option<SectionKind>
     ensures { result ≡ kind_of_column version number }
 {

@@ -9,6 +9,7 @@ ghost use Rattle.dwp_table.specs.Table.{IsPlacedAfter, IsHashTable, first_unused
 
 /// The slot that the look-up of `x` looks at first, in a table of `size` slots.
 #[tactic(auto, unfolding(crate::specs::Probing::place))]
+#[inline(always)]
 pub fn first_place(size: u32, x: u64) -> u32
     requires { IsTrue (is_power_of_two size) }
     ensures first { result ≡ place size x 0 }
@@ -18,6 +19,7 @@ pub fn first_place(size: u32, x: u64) -> u32
 }
 
 /// The slot that the look-up of `x` looks at after `current`, in a table of `size` slots.
+#[inline(always)]
 pub fn place_after(size: u32, x: u64, current: u32) -> u32
     requires power { IsTrue (is_power_of_two size) }
     requires within { current < size }
