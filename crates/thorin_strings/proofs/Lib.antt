@@ -19,3 +19,5 @@ pub mod MergeLemmas
 pub mod KnownLemmas
 pub mod PlacesLemmas
 pub mod HashedLemmas
+pub mod LaneLemmas
+pub mod EndLemmas

@@ -8,3 +8,4 @@ pub mod Known
 pub mod Places
 pub mod Hashed
 pub mod Table
+pub mod Ends

@@ -2,6 +2,7 @@
 #![tactic(auto)]
 
 mod batch;
+mod ends;
 mod guess;
 mod hashed;
 pub mod laws;

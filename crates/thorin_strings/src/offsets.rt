@@ -4,6 +4,7 @@ ghost use Rattle.std.specs.Prelude.{◌≡◌, ◌≤◌, ◌<◌, ◌+◌, ◌*
 ghost use Rattle.std.specs.Prelude.{OnOk, OnErr, IfOk, IsNone, IfSome};
 ghost use Rattle.dwp_base.specs.Numbers.{number_bytes};
 ghost use Rattle.dwp_base.specs.Reading.{Answers};
+ghost use Rattle.dwp_bytes.specs.declared.encoding.Format.TheVariants.{Dwarf32};
 ghost use Rattle.dwp_bytes.specs.Encoding.{offset_size};
 ghost use Rattle.thorin_faults.specs.Answers.{Gives};
 ghost use Rattle.dwp_bytes.specs.StringOffsets.{header_size};
@@ -13,6 +14,7 @@ ghost use Rattle.thorin_strings.specs.StringOffsets.{remapped_entry, remapped};
 ghost use Rattle.thorin_strings.specs.Strings.{IsZeroFree};
 ghost use Rattle.thorin_strings.specs.Known.{offset_read, AreKnown};
 
+use crate::ends::end_of;
 use crate::repeats::Repeats;
 use crate::table::PackageStringTable;
 use dwp_base::Endianness;
@@ -92,6 +94,7 @@ fn header(
 }
 
 /// The offset that stands at a place.
+#[inline(always)]
 #[tactic(auto, unfolding(crate::specs::StringOffsets::offset_at))]
 fn offset_at(bytes: &[u8], endian: Endianness, format: Format, at: u64) -> Result<u64, ReadError>
     ensures { Answers (λ offset. offset) result (offset_at endian format bytes.now at) }
@@ -138,6 +141,7 @@ pub(crate) fn string_read(debug_str: &[u8], offset: u64) -> Result<&[u8], Error>
 }
 
 /// The offset that the entry of a number has, where it can be read.
+#[inline(always)]
 fn known_entry(
     debug_str_offsets: &[u8],
     endian: Endianness,
@@ -157,13 +161,30 @@ fn known_entry(
 }
 
 /// The string at an offset, where it can be read.
+#[inline(always)]
 fn known_string(debug_str: &[u8], offset: u64) -> Option<&[u8]>
     ensures meaning { IfSome result (λ string. string_read debug_str.now offset ≡ Ok string.now) }
     ensures zero_free { IfSome result (λ string. IsZeroFree string.now) }
 {
-    match string_at(debug_str, offset) {
-        Ok(string) => Some(string),
-        Err(_) => None,
+    let at = offset as usize;
+    if debug_str.len() < at {
+        return None;
+    }
+    let rest = &debug_str[at..];
+    let end = end_of(rest)?;
+    Some(&rest[..end])
+}
+
+/// The same encoding, of which the compiler knows the format.
+#[inline(always)]
+fn dwarf32(encoding: Encoding) -> Encoding
+    requires { encoding.format ≡ Dwarf32 }
+    ensures { result ≡ encoding }
+{
+    Encoding {
+        version: encoding.version,
+        format: Format::Dwarf32,
+        address_size: encoding.address_size,
     }
 }
 
@@ -236,7 +257,7 @@ impl PackageStringTable {
             return Ok(range);
         }
         let mark = self.mark();
-        let result = self.remapped(
+        let result = self.remapped_by_form(
             repeats,
             debug_str,
             debug_str_offsets,
@@ -300,8 +321,46 @@ impl PackageStringTable {
         Some(range)
     }
 
-    /// The same, but that a refusal leaves what was added before it.
+    /// The same, but that a refusal leaves what was added before it. (What nearly all ranges have is
+    /// known to the compiler in a loop of its own.)
     #[inline(never)]
+    fn remapped_by_form(
+        &mut self,
+        repeats: &mut Repeats,
+        debug_str: &[u8],
+        debug_str_offsets: &[u8],
+        section_size: u64,
+        endian: Endianness,
+        encoding: Encoding,
+    ) -> Result<Vec<u8>, Error>
+        requires known { AreKnown debug_str.now self.old repeats.old }
+        ensures meaning { Gives (λ bytes. (bytes.items, self.new)) result
+            (remapped endian encoding debug_str.now debug_str_offsets.now section_size self.old) }
+        ensures kept { take (length self.old) self.new ≡ self.old }
+        ensures known { AreKnown debug_str.now self.new repeats.new }
+    {
+        match (endian, encoding.format) {
+            (Endianness::Little, Format::Dwarf32) => self.remapped(
+                repeats,
+                debug_str,
+                debug_str_offsets,
+                section_size,
+                Endianness::Little,
+                dwarf32(encoding),
+            ),
+            _ => self.remapped(
+                repeats,
+                debug_str,
+                debug_str_offsets,
+                section_size,
+                endian,
+                encoding,
+            ),
+        }
+    }
+
+    /// The same for one form.
+    #[inline(always)]
     #[tactic(auto, unfolding(crate::specs::StringOffsets::remapped))]
     fn remapped(
         &mut self,
@@ -357,6 +416,7 @@ impl PackageStringTable {
 
     /// The offset of the string that an entry names, where that is remembered or its hash tells it.
     /// None else, where it can't be read and for want of memory; the table is then as it was.
+    #[inline(always)]
     #[tactic(auto, using(crate::proofs::KnownLemmas::entry_read, crate::proofs::KnownLemmas::read_used, crate::proofs::KnownLemmas::offset_within))]
     fn entry_by_hash(
         &mut self,

@@ -157,6 +157,7 @@ impl PackageStringTable {
 
     /// The same where a string's hash tells it. None else, and for want of memory; the table is then
     /// as it was.
+    #[inline(always)]
     pub(crate) fn place_by_hash(&mut self, string: &[u8]) -> Option<u64>
         requires { IsZeroFree string.now }
         ensures offset { IfSome result (λ o. o ≡ offset_of self.old string.now) }

@@ -1,0 +1,69 @@
+//! Where strings end, looked for 64 bytes at a time: few are longer than some such steps.
+
+ghost use Rattle.std.specs.Prelude.{◌≢◌, ℕ, ◌+◌, ◌<◌, ◌≤◌, length, slice_index, IfSome};
+ghost use Rattle.thorin_strings.specs.Ends.{IsFirstZero};
+
+use memchr::memchr;
+use std::simd::prelude::*;
+
+/// How many bytes are looked at together.
+const LANES: usize = 64;
+
+/// How often at most before `memchr` goes on, which takes larger steps.
+const ROUNDS: usize = 4;
+
+/// How many of the next 64 bytes stand before the first zero.
+#[inline(always)]
+fn before_zero(bytes: &[u8], at: usize) -> usize
+    requires { at + 64 ≤ length bytes.now }
+    ensures { (k : ℕ) → k < result → k < 64 → slice_index bytes.now (at + k) ≢ 0 }
+{
+    let next = u8x64::from_slice(&bytes[at..]);
+    let zeros = next.simd_eq(u8x64::splat(0)).to_bitmask();
+    zeros.trailing_zeros() as usize
+}
+
+/// How many bytes stand before the first zero, or some of them.
+#[inline(always)]
+fn some_before(bytes: &[u8]) -> usize
+    ensures within { result ≤ length bytes.now }
+    ensures some { (k : ℕ) → k < result → slice_index bytes.now k ≢ 0 }
+{
+    for round in 0..ROUNDS {
+        let at = round * LANES;
+        if bytes.len() - at < LANES {
+            return at;
+        }
+        let some = before_zero(bytes, at);
+        if some < LANES {
+            return at + some;
+        }
+    }
+    ROUNDS * LANES
+}
+
+/// Where the string at the front of some bytes ends, of which so many aren't zero; none where it
+/// has no end.
+#[inline(never)]
+fn end_behind(bytes: &[u8], from: usize) -> Option<usize>
+    requires within { from ≤ length bytes.now }
+    requires some { (k : ℕ) → k < from → slice_index bytes.now k ≢ 0 }
+    ensures { IfSome result (IsFirstZero bytes.now) }
+{
+    match memchr(0, &bytes[from..]) {
+        Some(end) => Some(from + end),
+        None => None,
+    }
+}
+
+/// Where the string at the front of some bytes ends; none where it has no end.
+#[inline(always)]
+pub(crate) fn end_of(bytes: &[u8]) -> Option<usize>
+    ensures { IfSome result (IsFirstZero bytes.now) }
+{
+    let some = some_before(bytes);
+    if some < bytes.len() && bytes[some] == 0 {
+        return Some(some);
+    }
+    end_behind(bytes, some)
+}
