@@ -50,6 +50,8 @@ def rows(folder):
     for made in [os.mkfifo, os.mkdir]:
         made(os.path.join(folder, "x.dwo"))
         yield f"{made.__name__}: an object that an executable names", [*pack, "-e", "app"], {}, (1, unread, False)
+        note = "note: x.dwo, named by app: not a regular file\n"
+        yield f"{made.__name__}: the same, with a note", [*pack, "-v", "-e", "app"], {}, (1, unread + note, False)
         yield f"{made.__name__}: the same, passed over", [*pack, "--skip-missing", "-e", "app"], {}, (1, lacking, False)
         (os.rmdir if made is os.mkdir else os.remove)(os.path.join(folder, "x.dwo"))
     os.symlink("/proc/kmsg", os.path.join(folder, "x.dwo"))

@@ -1,13 +1,15 @@
 //! Runs the lines of the file `script` as command lines of `thorin`, and prints what each printed
 //! and its status: first what went to standard output, then, each line behind a mark `!`, what
 //! went to standard error. A line `size FILE` prints how many bytes a file has, if it is there; one
-//! that begins with `full` has a standard output that takes nothing, one that begins with `built` a
-//! program that knows its commit. For the gate alone.
+//! that begins with `full` has a standard output that takes nothing, one that begins with `mute` such
+//! a standard error, one that begins with `built` a program that knows its commit, one that begins
+//! with `tty` a terminal for standard error. For the gate alone.
 #![tactic(auto)]
 
 use std::alloc::AllocError;
 use std::fs;
 use std::io::{self, Write};
+use thorin_cli::Facts;
 
 fn main(rt: HostRuntime) -> io::Result<()> {
     let script = fs::read_to_string(&rt, "script")?;
@@ -31,13 +33,52 @@ fn answer(rt: &HostRuntime, line: &str, text: &mut Vec<u8>) -> io::Result<()> {
     if let Some(file) = line.strip_prefix("size ") {
         tell_size(rt, file, text)
     } else if let Some(line) = line.strip_prefix("full ") {
-        run_line(rt, line, "", true, text)
+        let place = Place {
+            full_out: true,
+            ..PLAIN
+        };
+        run_line(rt, line, place, text)
+    } else if let Some(line) = line.strip_prefix("mute ") {
+        let place = Place {
+            full_err: true,
+            ..PLAIN
+        };
+        run_line(rt, line, place, text)
     } else if let Some(line) = line.strip_prefix("built ") {
-        run_line(rt, line, "0123abc", false, text)
+        let facts = Facts {
+            commit: "0123abc",
+            ..PLAIN.facts
+        };
+        run_line(rt, line, Place { facts, ..PLAIN }, text)
+    } else if let Some(line) = line.strip_prefix("tty ") {
+        let facts = Facts {
+            on_terminal: true,
+            ..PLAIN.facts
+        };
+        run_line(rt, line, Place { facts, ..PLAIN }, text)
     } else {
-        run_line(rt, line, "", false, text)
+        run_line(rt, line, PLAIN, text)
     }
 }
+
+/// Where a command line runs.
+#[derive(Clone, Copy)]
+struct Place {
+    facts: Facts<'static>,
+    /// Whether standard output, or standard error, takes nothing.
+    full_out: bool,
+    full_err: bool,
+}
+
+/// Where nothing is known, and both streams take all.
+const PLAIN: Place = Place {
+    facts: Facts {
+        commit: "",
+        on_terminal: false,
+    },
+    full_out: false,
+    full_err: false,
+};
 
 /// A stream with what it took; one that is full takes nothing.
 #[derive(Drop)]
@@ -69,36 +110,24 @@ fn tell_size(rt: &HostRuntime, file: &str, text: &mut Vec<u8>) -> io::Result<()>
 }
 
 /// Adds what a command line prints, and the line of its status.
-fn run_line(
-    rt: &HostRuntime,
-    line: &str,
-    commit: &str,
-    is_full: bool,
-    text: &mut Vec<u8>,
-) -> io::Result<()> {
+fn run_line(rt: &HostRuntime, line: &str, place: Place, text: &mut Vec<u8>) -> io::Result<()> {
     let words: Result<Vec<&str>, AllocError> = line.split_whitespace().collect(rt.alloc());
     match words {
-        Ok(words) => run_words(rt, words.as_slice(), commit, is_full, text),
+        Ok(words) => run_words(rt, words.as_slice(), place, text),
         Err(AllocError) => Err(io::Error::from(io::ErrorKind::OutOfMemory)),
     }
 }
 
-fn run_words(
-    rt: &HostRuntime,
-    words: &[&str],
-    commit: &str,
-    is_full: bool,
-    text: &mut Vec<u8>,
-) -> io::Result<()> {
+fn run_words(rt: &HostRuntime, words: &[&str], place: Place, text: &mut Vec<u8>) -> io::Result<()> {
     let mut out = Stream {
         taken: Vec::new(rt.alloc()),
-        is_full,
+        is_full: place.full_out,
     };
     let mut err = Stream {
         taken: Vec::new(rt.alloc()),
-        is_full: false,
+        is_full: place.full_err,
     };
-    let status = thorin_cli::run(rt, words, commit, &mut out, &mut err);
+    let status = thorin_cli::run(rt, words, place.facts, &mut out, &mut err);
     tell_run(text, out.taken.as_slice(), err.taken.as_slice(), status)
 }
 

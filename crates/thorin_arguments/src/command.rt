@@ -21,7 +21,8 @@ const PACK_EXAMPLES: &'static str = "Examples:
 Nothing is printed where all went well, but for a line `warning: ` for each type
 unit that was passed over though it differs from the one kept. At the first
 input that is refused a line `error: ` says why, and OUT isn't written:
-status 1.";
+status 1. On a terminal, and with --verbose, a line `note: ` says where. Where a
+warning can't be printed OUT is written, and the status is 1.";
 
 const FIND_EXAMPLES: &'static str = "Example:
   thorin find hello.dwp cu 0x084a58cc96339e44
@@ -55,6 +56,8 @@ enum Word {
     Verbose,
     /// An option without a value: its name and its help.
     Flag(&'static str, &'static str),
+    /// An option with one of some values: its name, how help shows the value, its help, the values.
+    Choice(&'static str, &'static str, &'static str, &'static [&'static str]),
     /// `INPUT`, as often as one likes.
     Inputs,
     /// One that must be there at its place: its name, how help shows it, its help.
@@ -81,6 +84,15 @@ const DECOMPRESS: Word = Word::Flag(
     "Read inputs and executables that are compressed by zlib",
 );
 
+const OVERLAP: Word = Word::Flag("allow-overlap", "Take inputs whose sections overlap");
+
+const WARNINGS: Word = Word::Choice(
+    "warnings",
+    "WHICH",
+    "Warn of type units that differ: each, once or none",
+    &["each", "once", "none"],
+);
+
 const COMMANDS: [Line; 4] = [
     Line {
         name: "pack",
@@ -95,6 +107,8 @@ const COMMANDS: [Line; 4] = [
             ),
             FORCE,
             DECOMPRESS,
+            OVERLAP,
+            WARNINGS,
             Word::Verbose,
             Word::Inputs,
         ],
@@ -138,10 +152,12 @@ const COMMANDS: [Line; 4] = [
 ];
 
 /// The words of a peer, but for its `-o`.
-const PEER: [Word; 5] = [
+const PEER: [Word; 7] = [
     PACKED,
     FORCE,
     Word::Flag("verify-only", "Check the package OUT instead of writing it"),
+    OVERLAP,
+    WARNINGS,
     Word::Verbose,
     Word::Inputs,
 ];
@@ -243,6 +259,7 @@ fn arg_of<'a>(alloc: Global, word: Word) -> Arg<'a> {
         Word::Executables(help) => executables(alloc, help),
         Word::Verbose => flag(alloc, "verbose", "Report each input").short('v'),
         Word::Flag(name, help) => flag(alloc, name, help),
+        Word::Choice(name, value, help, values) => choice(alloc, name, value, help, values),
         Word::Inputs => inputs(alloc),
         Word::Place(name, value, help) => place(alloc, name, value, help),
     }
@@ -278,6 +295,23 @@ fn option<'a>(alloc: Global, name: &'a str, short: char, value: &'a str, help: &
         .long(name)
         .value_name(value)
         .help(help)
+}
+
+/// An option with one of some values.
+fn choice<'a>(
+    alloc: Global,
+    name: &'a str,
+    value: &'a str,
+    help: &'a str,
+    values: &'a [&'a str],
+) -> Arg<'a> {
+    Arg::new(alloc, name)
+        .long(name)
+        .value_name(value)
+        .help(help)
+        .value_parser(values)
+        .hide_possible_values(true)
+        .action(ArgAction::Set)
 }
 
 /// An option without a value.

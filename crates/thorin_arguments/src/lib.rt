@@ -2,6 +2,8 @@
 #![tactic(auto)]
 
 mod command;
+mod peers;
 mod reading;
 
+pub use peers::is_peer;
 pub use reading::{Commands, PackArguments, run};

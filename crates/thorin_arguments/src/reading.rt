@@ -1,10 +1,12 @@
 //! What a command line asks for.
 
 use crate::command;
+use crate::peers::is_peer;
 use clap::error::ErrorKind;
 use clap::{ArgMatches, Command, Error};
 use std::alloc::{AllocError, Global};
 use std::fmt;
+use thorin_words::printed;
 
 const NO_OUTPUT: &'static str = "--output <OUT> is required with more than one --exec <EXEC>";
 
@@ -27,6 +29,10 @@ pub struct PackArguments<'m, 'a> {
     pub verifies_only: bool,
     /// Whether a line tells of each input.
     pub verbose: bool,
+    /// Which warnings of type units are printed, where that is said: `each`, `once` or `none`.
+    pub warnings: Option<&'a str>,
+    /// Whether sections of an input may overlap.
+    pub allows_overlap: bool,
 }
 
 /// What does the commands. Each answers the program's status.
@@ -71,8 +77,41 @@ fn run_as<C: Commands>(alloc: Global, words: &[String], version: &str, commands:
     let peer = peer_name(words);
     match read(alloc, peer, version, words) {
         Ok(matches) => dispatch(&matches, peer.is_some(), commands),
-        Err(error) => tell(&error, commands),
+        Err(error) if error.kind() == ErrorKind::OutOfMemory => commands.lack_memory(),
+        Err(error) => tell_printed(alloc, words, version, &error, commands),
     }
+}
+
+/// Prints what is said of these words: where they have characters that aren't printed, of the words
+/// as they are printed.
+fn tell_printed<C: Commands>(
+    alloc: Global,
+    words: &[String],
+    version: &str,
+    error: &Error,
+    commands: &mut C,
+) -> u8 {
+    match printed_words(alloc, words) {
+        Ok(shown) => match read(
+            alloc,
+            peer_name(shown.as_slice()),
+            version,
+            shown.as_slice(),
+        ) {
+            Err(error) => tell(&error, commands),
+            Ok(_) => tell(error, commands),
+        },
+        Err(AllocError) => commands.lack_memory(),
+    }
+}
+
+/// Words as they are printed.
+fn printed_words(alloc: Global, words: &[String]) -> Result<Vec<String>, AllocError> {
+    let mut shown = Vec::with_capacity(alloc, words.len())?;
+    for word in words {
+        shown.push(printed(alloc, word.as_str())?)?;
+    }
+    Ok(shown)
 }
 
 /// Reads the words as a command line, of a peer where one is named.
@@ -119,30 +158,14 @@ fn tell<C: Commands>(error: &Error, commands: &mut C) -> u8 {
     }
 }
 
-/// The program's name where it is that of a peer, whose command lines it then takes: its last part
-/// is `dwp`, as in `llvm-dwp` and `x86_64-linux-gnu-dwp`, or `dwp` and a version, as in
-/// `llvm-dwp-19`.
+/// The program's name without folders, where it is that of a peer, whose command lines it then
+/// takes.
 fn peer_name(words: &[String]) -> Option<&str> {
     let path = words.first()?.as_str();
-    let name = path.rsplit('/').next()?;
-    if is_peer(name) { Some(name) } else { None }
-}
-
-/// Whether the last part of a name is `dwp`, a version aside.
-fn is_peer(name: &str) -> bool {
-    let mut parts = name.rsplit('-');
-    match parts.next() {
-        Some("dwp") => true,
-        Some(last) => is_version(last) && parts.next() == Some("dwp"),
-        None => false,
-    }
-}
-
-/// Whether a text begins with a digit.
-fn is_version(text: &str) -> bool {
-    match text.as_bytes().first() {
-        Some(byte) => byte.is_ascii_digit(),
-        None => false,
+    if is_peer(path) {
+        path.rsplit('/').next()
+    } else {
+        None
     }
 }
 
@@ -229,5 +252,7 @@ fn arguments_of_peer<'m, 'a>(matches: &'m ArgMatches<'a>) -> PackArguments<'m, '
         decompresses: true,
         verifies_only: has_flag(matches, "verify-only"),
         verbose: has_flag(matches, "verbose"),
+        warnings: value_of(matches, "warnings"),
+        allows_overlap: has_flag(matches, "allow-overlap"),
     }
 }

@@ -4,16 +4,22 @@
 mod commit;
 
 use crate::commit::COMMIT;
+use std::io::IsTerminal;
 use std::process::ExitCode;
 use std::{env, io};
+use thorin_cli::Facts;
 
-/// Hands the words, the commit and the standard streams to `thorin_cli::run`, and ends with its
-/// status.
+/// Hands the words, what is known of where the program runs, and the standard streams to
+/// `thorin_cli::run`, and ends with its status.
 fn main(rt: HostRuntime) -> ExitCode {
     let mut out = rt.stdout();
     let mut err = rt.stderr();
+    let facts = Facts {
+        commit: COMMIT,
+        on_terminal: err.is_terminal(),
+    };
     let status = match words_of(&rt) {
-        Ok(words) => thorin_cli::run(&rt, words.as_slice(), COMMIT, &mut out, &mut err),
+        Ok(words) => thorin_cli::run(&rt, words.as_slice(), facts, &mut out, &mut err),
         Err(cause) => thorin_cli::refuse_words(&mut err, &cause),
     };
     ExitCode::from(status)

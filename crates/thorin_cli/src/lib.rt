@@ -1,28 +1,36 @@
 //! The program `thorin`, as a function over its words and two writers.
 #![tactic(auto)]
 
+mod manner;
+mod notes;
 mod responses;
 
+pub use crate::manner::Facts;
+use crate::manner::Manner;
+use crate::notes::{Given, note_packing, note_reading, note_unreadable};
 use crate::responses::HostResponses;
 use std::convert::AsStr;
 use std::fmt;
 use std::io::{self, Write};
-use thorin_arguments::{Commands, PackArguments};
+use thorin_arguments::{Commands, PackArguments, is_peer};
 pub use thorin_commands::Failure;
-use thorin_commands::{HostFiles, Packing, check, find, list, pack, report, show, verify};
+use thorin_commands::{
+    HostFiles, Packing, Warnings, check, find, list, pack, report, show, verify,
+};
 use thorin_faults::MissingReferencedObjectBehaviour;
 use thorin_words::{ResponseError, expanded, printed};
 
 /// Does what a command line asks for: `words` are the program's name and its arguments, where
 /// `@FILE` stands for the words of a file. What is printed goes to `out`, and a fault as one line
-/// `error: ` and its text to `err`. Answers the status: 0; 1 where the command was refused, a
-/// package has faults or a line can't be written; 2 for a bad command line. Under the names `dwp`
-/// and `llvm-dwp` it takes the command lines of those programs. `commit` is the one that the program
-/// was built from, and empty where that isn't known: `--version` prints it.
+/// `error: ` and its text to `err`; a line `note: ` behind it says what it is about where `err` is a
+/// terminal, with `--verbose`, and under the names `dwp` and `llvm-dwp`. Answers the status: 0; 1
+/// where the command was refused, a package has faults or a line can't be written; 2 for a bad
+/// command line. Under those names it takes the command lines of those programs. `facts` is what is
+/// known of where the program runs.
 pub fn run<S: AsStr, O: Write, E: Write>(
     rt: &HostRuntime,
     words: &[S],
-    commit: &str,
+    facts: Facts<'_>,
     out: &mut O,
     err: &mut E,
 ) -> u8 {
@@ -30,12 +38,25 @@ pub fn run<S: AsStr, O: Write, E: Write>(
         Some((program, line)) => (program.as_str(), line),
         None => ("thorin", words),
     };
-    match expanded(rt.alloc(), &HostResponses(rt), program, line) {
+    let manner = Manner::of(is_peer(program), facts.on_terminal);
+    let files = HostResponses::new(rt);
+    match expanded(rt.alloc(), &files, program, line) {
         Ok(words) => {
-            let mut program = Program { rt, out, err };
-            thorin_arguments::run(rt.alloc(), words.as_slice(), commit, &mut program)
+            let mut program = Program {
+                rt,
+                manner,
+                out,
+                err,
+            };
+            thorin_arguments::run(rt.alloc(), words.as_slice(), facts.commit, &mut program)
         }
-        Err(error) => refuse_response(rt, err, &error),
+        Err(error) => {
+            let status = refuse_response(rt, err, &error);
+            if manner.notes {
+                note_response(rt, &files, err);
+            }
+            status
+        }
     }
 }
 
@@ -50,6 +71,13 @@ fn refuse_response<E: Write>(rt: &HostRuntime, err: &mut E, error: &ResponseErro
         ResponseError::Unreadable | ResponseError::TooMany => report(err, &Failure::Response),
         ResponseError::NotUtf8 => report(err, &Failure::BadCommand),
         ResponseError::Memory => report(err, &Failure::Memory),
+    }
+}
+
+/// Prints the note on a response file that can't be read.
+fn note_response<E: Write>(rt: &HostRuntime, files: &HostResponses<'_>, err: &mut E) {
+    if let Some(name) = files.unread() {
+        note_unreadable(rt, name.as_str(), err);
     }
 }
 
@@ -77,15 +105,52 @@ pub fn refuse_words<E: Write>(err: &mut E, cause: &io::Error) -> u8 {
 #[derive(Drop)]
 struct Program<'r, 'o, 'e, O, E> {
     rt: &'r HostRuntime,
+    manner: Manner,
     out: &'o mut O,
     err: &'e mut E,
 }
 
 impl<O: Write, E: Write> Program<'_, '_, '_, O, E> {
-    /// The status of a command that answered one, or was refused: that is printed.
-    fn status(&mut self, answer: Result<u8, Failure>) -> u8 {
+    /// The status of a command that reads. Where it was refused, that is printed.
+    fn status(&mut self, answer: Result<u8, Failure>, given: Given<'_, '_>) -> u8 {
         match answer {
             Ok(status) => status,
+            Err(failure) => {
+                let status = report(self.err, &failure);
+                if self.manner.notes {
+                    note_reading(self.rt, &failure, given, self.err);
+                }
+                status
+            }
+        }
+    }
+
+    /// Packs.
+    fn pack_as(&mut self, packing: &Packing<'_, '_>) -> u8 {
+        let mut files = HostFiles::new(self.rt);
+        match pack(self.rt.alloc(), &mut files, packing, self.out, self.err) {
+            Ok(status) => status,
+            Err(failure) => {
+                let status = report(self.err, &failure);
+                if packing.notes {
+                    note_packing(self.rt, &failure, packing, self.err);
+                }
+                status
+            }
+        }
+    }
+
+    /// Checks the package that would be made.
+    fn verify_as(&mut self, packing: &Packing<'_, '_>) -> u8 {
+        let answer = verify(self.rt, packing, self.out);
+        match packing.output_name(self.rt.alloc()) {
+            Ok(output) => {
+                let given = Given {
+                    executables: packing.executables.unwrap_or(&[]),
+                    ..Given::file(output.as_str())
+                };
+                self.status(answer, given)
+            }
             Err(failure) => report(self.err, &failure),
         }
     }
@@ -93,29 +158,36 @@ impl<O: Write, E: Write> Program<'_, '_, '_, O, E> {
 
 impl<O: Write, E: Write> Commands for Program<'_, '_, '_, O, E> {
     fn pack(&mut self, arguments: PackArguments<'_, '_>) -> u8 {
-        let packing = packing_of(arguments);
-        let answer = if arguments.verifies_only {
-            verify(self.rt, &packing, self.out)
+        let packing = packing_of(arguments, self.manner);
+        if arguments.verifies_only {
+            self.verify_as(&packing)
         } else {
-            let mut files = HostFiles::new(self.rt);
-            pack(self.rt.alloc(), &mut files, &packing, self.out, self.err)
-        };
-        self.status(answer)
+            self.pack_as(&packing)
+        }
     }
 
     fn find(&mut self, file: &str, kind: &str, id: &str) -> u8 {
         let answer = find(self.rt, file, kind, id, self.out);
-        self.status(answer)
+        let given = Given {
+            kind,
+            id,
+            ..Given::file(file)
+        };
+        self.status(answer, given)
     }
 
     fn list(&mut self, file: &str, has_sizes: bool) -> u8 {
         let answer = list(self.rt, file, has_sizes, self.out);
-        self.status(answer)
+        self.status(answer, Given::file(file))
     }
 
     fn check(&mut self, file: &str, executables: &[&str], decompresses: bool) -> u8 {
         let answer = check(self.rt, file, executables, decompresses, self.out);
-        self.status(answer)
+        let given = Given {
+            executables,
+            ..Given::file(file)
+        };
+        self.status(answer, given)
     }
 
     fn show<D: fmt::Display>(&mut self, text: &D) -> u8 {
@@ -140,7 +212,7 @@ impl<O: Write, E: Write> Commands for Program<'_, '_, '_, O, E> {
 }
 
 /// What is to be packed, in the packer's terms.
-fn packing_of<'m, 'a>(arguments: PackArguments<'m, 'a>) -> Packing<'m, 'a> {
+fn packing_of<'m, 'a>(arguments: PackArguments<'m, 'a>, manner: Manner) -> Packing<'m, 'a> {
     let missing = if arguments.skips_missing {
         MissingReferencedObjectBehaviour::Skip
     } else {
@@ -154,5 +226,17 @@ fn packing_of<'m, 'a>(arguments: PackArguments<'m, 'a>) -> Packing<'m, 'a> {
         force: arguments.force,
         decompresses: arguments.decompresses,
         verbose: arguments.verbose,
+        notes: manner.notes || arguments.verbose,
+        warnings: warnings_of(arguments.warnings, manner.warnings),
+        allows_overlap: arguments.allows_overlap,
+        lets_empty: manner.lets_empty,
+    }
+}
+
+/// The warnings that a word asks for, where there is one.
+fn warnings_of(word: Option<&str>, default: Warnings) -> Warnings {
+    match word {
+        Some(word) => Warnings::of(word).unwrap_or(default),
+        None => default,
     }
 }

@@ -1,7 +1,9 @@
 -- What was put under a name, or begun, and what came of packing.
-use Rattle.std.proofs.Common.{◌≡◌, ℕ, Bool, true, false, List, [], ◌++◌, length, take, sym}
+use Rattle.std.proofs.Common.{◌≡◌, ℕ, Bool, true, false, List, [], ◌∷◌, ◌++◌, length, take, sym}
+use Rattle.std.proofs.Common.{refl}
 use Rattle.std.proofs.Common.{◌∙◌, inl, inr, subst, arith}
 use Rattle.std.specs.Prelude.{Option, Some, None, Result, Ok, Err, ◌⊎◌, map, codes}
+use Rattle.std.specs.Borrow.{Bor}
 use Rattle.std.specs.Str.{bytes_eq}
 use Rattle.std.specs.declared.io.Error.{Error as IoError}
 use Rattle.std.specs.Io.KnownBytes.{Appends, Keeps}
@@ -17,6 +19,7 @@ use Rattle.thorin_queries.specs.declared.output.Failure.{Failure}
 use Rattle.thorin_commands.specs.Files.{HasBeginning, Begun, Adds, IsOfWriting, PutIn, BeginsIn}
 use Rattle.thorin_commands.specs.Files.{Put, Begins}
 use Rattle.thorin_commands.specs.Packing.{asked, asks, out_of, IsPackedOf, IsPackageFor, Packs}
+use Rattle.thorin_commands.specs.Packing.{paths_in}
 use Rattle.thorin_commands.specs.Packing.{Comes}
 use Rattle.thorin_commands.specs.Packing.{Fails}
 use Rattle.thorin_commands.specs.declared.output.Refusal.{Refusal}
@@ -98,7 +101,20 @@ pub for_packing : (offer : List ℕ → Result (List ℕ) IoError → Type 0) (p
     → map asked list ≡ asks packing → IsPackedOf offer list object
     → IsPackageFor offer packing object
 for_packing offer packing list object are packed =
-    record { list = list; are = are; packed = packed }
+    record { list = list; are = inl are; packed = packed }
+
+-- the same with the first executable as an object behind them
+pub for_unsplit : (offer : List ℕ → Result (List ℕ) IoError → Type 0) (packing : Packing)
+    (more : List Input) (path : Bor (List ℕ)) (object : File) → packing.lets_empty ≡ true
+    → map asked more ≡ asks packing ++ Some (path.now, None) ∷ []
+    → take 1 (paths_in packing.executables) ≡ path ∷ []
+    → IsPackedOf offer more object → IsPackageFor offer packing object
+for_unsplit offer packing more path object lets are first packed =
+    record {
+      list = more;
+      are = inr (lets, rw first are);
+      packed = packed;
+    }
 
 -- nothing was written yet, or the package was begun
 pub early : (N B : Type 0) (failure : Failure) → N → Fails failure N B
@@ -147,6 +163,7 @@ module _ (N B D : Type 0) where
   pub stopped : (refusal : Refusal) → N → Comes (Err refusal) N B D
   unfolding Comes Fails
   stopped (refusals.Package fault) n = n
+  stopped refusals.Told n = n
   stopped (refusals.Command failure) n = inl n
 
   pub when_done : (x : Unit {0}) → Comes (Ok x) N B D → D
@@ -156,6 +173,10 @@ module _ (N B D : Type 0) where
   pub when_refused : (fault : Error) → Comes (Err (refusals.Package fault)) N B D → N
   unfolding Comes
   when_refused fault h = h
+
+  pub when_told : Comes (Err refusals.Told) N B D → N
+  unfolding Comes
+  when_told h = h
 
   pub when_failed : (failure : Failure) → Comes (Err (refusals.Command failure)) N B D
       → Fails failure N B

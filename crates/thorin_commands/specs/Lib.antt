@@ -1,3 +1,4 @@
 pub mod Files
 pub mod Packing
 pub mod Plain
+pub mod Warnings

@@ -1,7 +1,7 @@
 -- What the program packs, and what comes of it.
 use Rattle.std.specs.Prelude.{◌≡◌, ℕ, List, [], ◌∷◌, ◌++◌, map, codes, Option, Some, None, Result}
 use Rattle.std.specs.Prelude.{Ok}
-use Rattle.std.specs.Prelude.{Err, ◌⊎◌}
+use Rattle.std.specs.Prelude.{Err, ◌⊎◌, true, take}
 use Rattle.std.specs.Borrow.{Bor}
 use Rattle.std.specs.Path.{path_bytes}
 use Rattle.std.specs.declared.io.Error.{Error as IoError}
@@ -82,11 +82,18 @@ pub record IsPackedOf (offer : List ℕ → Result (List ℕ) IoError
   pub finished : IsFinishedState state object
   pub package_of : IsPackageOf (units_in state) (file_text object)
 
+-- just the inputs that were asked for; where an empty package may come of it, behind them the first
+-- executable as an object
+abbrev pub AreAsked : Packing → List Input → Type 0
+AreAsked packing list = (map asked list ≡ asks packing)
+    ⊎ ((packing.lets_empty ≡ true) × (map asked list
+    ≡ asks packing ++ map object_asked (take 1 (paths_in packing.executables))))
+
 -- the same for just the inputs that were asked for
 pub record IsPackageFor (offer : List ℕ → Result (List ℕ) IoError
     → Type 0) (packing : Packing) (object : File) : Type 0 where
   pub list : List Input
-  pub are : map asked list ≡ asks packing
+  pub are : AreAsked packing list
   pub packed : IsPackedOf offer list object
 
 -- the file of such a package was put under the name of OUT
@@ -106,4 +113,5 @@ Fails failure nothing begun = nothing ⊎ (IsOfWriting failure × begun)
 unfoldable pub Comes : Result (Unit {0}) Refusal → (nothing begun done : Type 0) → Type 0
 Comes (Ok x) nothing begun done = done
 Comes (Err (refusals.Package fault)) nothing begun done = nothing
+Comes (Err refusals.Told) nothing begun done = nothing
 Comes (Err (refusals.Command failure)) nothing begun done = Fails failure nothing begun

@@ -17,8 +17,10 @@ use thorin_queries::Failure;
 /// Why nothing was packed.
 #[derive(Drop)]
 pub(crate) enum Refusal {
-    /// An input was refused, or the package could not be finished.
+    /// The package can't be made.
     Package(Error),
+    /// An input was refused, or the package could not be finished, and that was told.
+    Told,
     /// What the command was given can't be done.
     Command(Failure),
 }

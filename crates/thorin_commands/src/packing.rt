@@ -1,7 +1,7 @@
 //! `thorin pack`.
 
 ghost use Rattle.std.specs.Prelude.{◌≡◌, ◌≤◌, ◌++◌, List, ℕ, Ok, Some, map, OnOk, OnErr, IfOk, IfErr};
-ghost use Rattle.std.specs.Prelude.{string_bytes};
+ghost use Rattle.std.specs.Prelude.{◌∷◌, [], None, string_bytes, true};
 ghost use Rattle.dwp_elf.specs.FileText.{file_text};
 ghost use Rattle.thorin_join.specs.Builder.{IsFinishedState};
 ghost use Rattle.thorin_join.specs.Join.{IsPackageOf, IsPackageOnceWritten};
@@ -15,9 +15,10 @@ ghost use Rattle.thorin_commands.specs.Packing.{IsPackageFor, Fails, paths_in};
 ghost use Rattle.thorin_commands.specs.Plain.{taken_from};
 
 use crate::files::FileSystem;
-use crate::output::{Refusal, flush, write_package};
+use crate::output::{Refusal, write_package};
 use crate::plain::{InputFiles, Inputs};
-use crate::telling::{tell, tell_fault};
+use crate::telling::{Telling, refused, tell, tell_fault, tell_unfinished, warn_unsplit};
+use crate::warnings::{Warnings, warn};
 use bumpalo::Bump;
 use dwp_bytes::RelocationEntry;
 use dwp_elf::WritableObject;
@@ -29,7 +30,7 @@ use std::path::Path;
 use thorin::laws::runs_go_on;
 use thorin::{BytesSession, DwarfPackage, Input, take_input};
 use thorin_faults::{Error, MissingReferencedObjectBehaviour, Session};
-use thorin_queries::{Failure, buffer, check, warn_differing};
+use thorin_queries::{Failure, buffer, check};
 
 /// What is to be packed, and where to.
 #[derive(Drop)]
@@ -47,13 +48,25 @@ pub struct Packing<'m, 'a> {
     pub force: bool,
     /// Whether compressed sections of inputs are decompressed first.
     pub decompresses: bool,
-    /// Whether a line tells of each input.
+    /// Whether a line tells of each input that was taken.
     pub verbose: bool,
+    /// Whether a second line says what a refusal is about.
+    pub notes: bool,
+    /// Which warnings of type units that differ are printed.
+    pub warnings: Warnings,
+    /// Whether an input may have sections that overlap.
+    pub allows_overlap: bool,
+    /// Whether the package is empty where nothing of the executables is split, and that is no error.
+    pub lets_empty: bool,
 }
 
 impl Packing<'_, '_> {
-    /// The name of the package's file.
-    fn output_name(&self, alloc: Global) -> Result<String, Failure>
+    /// The name of the package's file: the one that is named, or that of the one executable with
+    /// `.dwp` behind.
+    ///
+    /// # Errors
+    /// `BadCommand` where there is neither; `Memory`.
+    pub fn output_name(&self, alloc: Global) -> Result<String, Failure>
         ensures { IfOk result (λ name. out_of self.now ≡ Some (string_bytes name)) }
     {
         match (self.output, self.executables) {
@@ -107,7 +120,7 @@ pub fn verify<O: Write>(
 /// `Output` where the package's file can't be written, `Overwrites` where it is an input;
 /// `BadCommand` where there is no name for it; `Line` or `Memory`; `Input` where an input can't be
 /// read a second time for a line that tells of it.
-#[tactic(auto, using(crate::proofs::Puts::when_done, crate::proofs::Puts::when_refused, crate::proofs::Puts::when_failed))]
+#[tactic(auto, using(crate::proofs::Puts::when_done, crate::proofs::Puts::when_refused, crate::proofs::Puts::when_told, crate::proofs::Puts::when_failed))]
 pub fn pack<F: FileSystem, O: Write, E: Write>(
     alloc: Global,
     files: &mut F,
@@ -125,7 +138,8 @@ pub fn pack<F: FileSystem, O: Write, E: Write>(
 {
     match pack_all(alloc, files, packing, out, err) {
         Ok(()) => Ok(0),
-        Err(Refusal::Package(fault)) => Ok(tell_fault(err, &fault)),
+        Err(Refusal::Package(fault)) => Ok(tell_fault(alloc, err, &fault)),
+        Err(Refusal::Told) => Ok(1),
         Err(Refusal::Command(failure)) => Err(failure),
     }
 }
@@ -173,15 +187,11 @@ fn pack_as<F: FileSystem, O: Write, E: Write>(
     }
     match packed(alloc, files, packing, err) {
         Ok((object, differing)) => {
-            match write_and_warn(
-                alloc,
-                files,
-                &object,
-                differing.as_slice(),
-                output,
-                out,
-                err,
-            ) {
+            let differing = Differing {
+                signatures: differing.as_slice(),
+                warnings: packing.warnings,
+            };
+            match write_and_warn(alloc, files, &object, differing, output, out, err) {
                 Ok(()) => Ok(()),
                 Err(failure) => Err(Refusal::Command(failure)),
             }
@@ -190,13 +200,20 @@ fn pack_as<F: FileSystem, O: Write, E: Write>(
     }
 }
 
+/// The type units that differ from the ones kept, and which warnings of them are printed.
+#[derive(Clone, Copy)]
+struct Differing<'d> {
+    signatures: &'d [DebugTypeSignature],
+    warnings: Warnings,
+}
+
 /// Writes the package, and then warns of type units that differ.
 #[tactic(auto, using(crate::proofs::Puts::early, crate::proofs::Puts::late))]
 fn write_and_warn<F: FileSystem, O: Write, E: Write>(
     alloc: Global,
     files: &mut F,
     object: &WritableObject,
-    differing: &[DebugTypeSignature],
+    differing: Differing<'_>,
     output: &str,
     out: &mut O,
     err: &mut E,
@@ -209,7 +226,7 @@ fn write_and_warn<F: FileSystem, O: Write, E: Write>(
 {
     match buffer(alloc, err) {
         Ok(mut lines) => {
-            match write_then_warn(files, object, differing, output, out, &mut lines) {
+            match write_then_warn(alloc, files, object, differing, output, out, &mut lines) {
                 Ok(()) => Ok(()),
                 Err(failure) => Err(failure),
             }
@@ -221,9 +238,10 @@ fn write_and_warn<F: FileSystem, O: Write, E: Write>(
 /// The same, where the warnings go to a buffer.
 #[tactic(auto, using(crate::proofs::Puts::put_begins))]
 fn write_then_warn<F: FileSystem, O: Write, W: Write>(
+    alloc: Global,
     files: &mut F,
     object: &WritableObject,
-    differing: &[DebugTypeSignature],
+    differing: Differing<'_>,
     output: &str,
     out: &mut O,
     lines: &mut W,
@@ -235,21 +253,11 @@ fn write_then_warn<F: FileSystem, O: Write, W: Write>(
     ensures cause { IfErr result IsOfWriting }
 {
     match write_package(files, object, output, out) {
-        Ok(()) => match warn(differing, lines) {
+        Ok(()) => match warn(alloc, differing.warnings, differing.signatures, lines) {
             Ok(()) => Ok(()),
             Err(failure) => Err(failure),
         },
         Err(failure) => Err(failure),
-    }
-}
-
-/// Warns of type units that differ, and hands the warnings over.
-fn warn<W: Write>(differing: &[DebugTypeSignature], lines: &mut W) -> Result<(), Failure>
-    ensures { IfErr result IsOfWriting }
-{
-    match warn_differing(lines, differing) {
-        Ok(()) => flush(lines),
-        Err(_) => Err(Failure::Line),
     }
 }
 
@@ -268,8 +276,46 @@ fn packed<F: FileSystem, E: Write>(
     let objects = paths_in(packing.inputs);
     let executables = paths_in(packing.executables);
     let inputs = inputs_of(alloc, objects, executables, packing.missing)?;
-    let files = InputFiles::new(alloc, files, packing.decompresses);
-    packed_inputs(alloc, &files, inputs.as_slice(), packing.verbose, err)
+    let files = InputFiles::new(alloc, files, packing.decompresses, packing.allows_overlap);
+    let telling = Telling {
+        verbose: packing.verbose,
+        notes: packing.notes,
+    };
+    match packed_inputs(alloc, &files, inputs.as_slice(), telling, err) {
+        Ok(made) => Ok(made),
+        Err(Refusal::Package(Error::NoOutputObjectCreated)) if packing.lets_empty => {
+            packed_unsplit(alloc, &files, packing, err)
+        }
+        Err(refusal) => Err(refusal),
+    }
+}
+
+/// The object to be written where nothing is split: an executable is taken as an object too, which
+/// has nothing to be packed.
+#[tactic(auto, using(crate::proofs::Puts::for_unsplit))]
+fn packed_unsplit<I: Inputs, E: Write>(
+    alloc: Global,
+    files: &I,
+    packing: &Packing<'_, '_>,
+    err: &mut E,
+) -> Result<(WritableObject, Vec<DebugTypeSignature>), Refusal>
+    requires { packing.now.lets_empty ≡ true }
+    ensures { IfOk result (λ made. IsPackageFor (I.offer files.now) packing.now made.0) }
+{
+    let objects = paths_in(packing.inputs);
+    let executables = paths_in(packing.executables);
+    let Some(executable) = executables.first() else {
+        return Err(Refusal::Package(Error::NoOutputObjectCreated));
+    };
+    if files.unit_count(executable)? != Some(0) {
+        return Err(Refusal::Package(Error::NoOutputObjectCreated));
+    }
+    let inputs = inputs_with(alloc, objects, executables, packing.missing, *executable)?;
+    let telling = Telling {
+        verbose: false,
+        notes: false,
+    };
+    packed_inputs(alloc, files, inputs.as_slice(), telling, err)
 }
 
 /// The paths of a list, none where there is no list.
@@ -302,19 +348,35 @@ fn inputs_of<'a>(
     Ok(inputs)
 }
 
+/// The same, and behind them one more object.
+fn inputs_with<'a>(
+    alloc: Global,
+    objects: &[&'a str],
+    executables: &[&'a str],
+    missing: MissingReferencedObjectBehaviour,
+    last: &'a str,
+) -> Result<Vec<Input<'a>>, AllocError>
+    ensures { IfOk result (λ inputs. map asked inputs.items ≡ (map object_asked objects.now
+        ++ map (executable_asked missing) executables.now) ++ Some (last.entry.now, None) ∷ []) }
+{
+    let mut inputs = inputs_of(alloc, objects, executables, missing)?;
+    inputs.push(Input::Object(Path::new(last)))?;
+    Ok(inputs)
+}
+
 /// The object to be written for these inputs, and those signatures.
 fn packed_inputs<I: Inputs, E: Write>(
     alloc: Global,
     files: &I,
     inputs: &[Input<'_>],
-    verbose: bool,
+    telling: Telling,
     err: &mut E,
 ) -> Result<(WritableObject, Vec<DebugTypeSignature>), Refusal>
     ensures { IfOk result (λ made. IsPackedOf (I.offer files.now) inputs.now made.0) }
 {
     let bump = Bump::new(alloc);
     let session = BytesSession::new(&bump);
-    packed_over(alloc, &session, files, inputs, verbose, err)
+    packed_over(alloc, &session, files, inputs, telling, err)
 }
 
 /// The same, over a session that holds what is read.
@@ -323,16 +385,41 @@ fn packed_over<'s, Sess: Session<RelocationEntry>, I: Inputs, E: Write>(
     session: &'s Sess,
     files: &I,
     inputs: &[Input<'_>],
-    verbose: bool,
+    telling: Telling,
     err: &mut E,
 ) -> Result<(WritableObject, Vec<DebugTypeSignature>), Refusal>
     ensures { IfOk result (λ made. IsPackedOf (I.offer files.now) inputs.now made.0) }
 {
     runs_go_on(files);
     let mut builder = DwarfPackage::new(alloc, session);
-    take_all(alloc, files, &mut builder, inputs, verbose, err)?;
-    let made = completed(alloc, builder)?;
+    take_all(alloc, files, &mut builder, inputs, telling, err)?;
+    let made = completed_or_told(alloc, files, builder, telling, err)?;
     Ok(made)
+}
+
+/// The object of the package, and those signatures. Where it can't be finished, that is printed.
+fn completed_or_told<'o, 's: 'o, Sess: Session<RelocationEntry>, I: Inputs, E: Write>(
+    alloc: Global,
+    files: &I,
+    builder: DwarfPackage<'o, 's, Sess>,
+    telling: Telling,
+    err: &mut E,
+) -> Result<(WritableObject, Vec<DebugTypeSignature>), Refusal>
+    ensures finished { IfOk result (λ made. IsFinishedState builder.entry.state made.0) }
+    ensures packaged { IfOk result (λ made.
+        IsPackageOf (units_in builder.entry.state) (file_text made.0)) }
+{
+    match completed(alloc, builder) {
+        Ok(made) => Ok(made),
+        Err(Refusal::Package(Error::NoOutputObjectCreated)) => {
+            Err(Refusal::Package(Error::NoOutputObjectCreated))
+        }
+        Err(Refusal::Package(fault)) => {
+            tell_unfinished(alloc, files, telling, &fault, err);
+            Err(Refusal::Told)
+        }
+        Err(refusal) => Err(refusal),
+    }
 }
 
 /// The object of the package, and those signatures.
@@ -386,7 +473,7 @@ fn take_all<'o, 's: 'o, Sess: Session<RelocationEntry>, I: Inputs, E: Write>(
     files: &I,
     builder: &mut DwarfPackage<'o, 's, Sess>,
     inputs: &[Input<'_>],
-    verbose: bool,
+    telling: Telling,
     err: &mut E,
 ) -> Result<(), Refusal>
     ensures { OnOk result ((accepted : List (List ℕ)) × AreAllAccepted (I.offer files.now)
@@ -395,30 +482,37 @@ fn take_all<'o, 's: 'o, Sess: Session<RelocationEntry>, I: Inputs, E: Write>(
     let mut room = Vec::new(alloc);
     runs_go_on(files);
     for input in inputs {
-        take(files, builder, &mut room, *input, verbose, err)?;
+        take(alloc, files, builder, &mut room, *input, telling, err)?;
     }
     Ok(())
 }
 
 /// Takes an input, and tells what came of it where that is asked for.
 fn take<'o, 's: 'o, Sess: Session<RelocationEntry>, I: Inputs, E: Write>(
+    alloc: Global,
     files: &I,
     builder: &mut DwarfPackage<'o, 's, Sess>,
     room: &mut Vec<u8>,
     input: Input<'_>,
-    verbose: bool,
+    telling: Telling,
     err: &mut E,
 ) -> Result<(), Refusal>
     ensures { OnOk result
         (Took (I.offer files.now) input.entry builder.old.state (Ok tt) builder.new.state) }
 {
     let before = builder.contained_units().len();
-    files.begin();
+    files.begin(input);
     let outcome = take_input(builder, files, room, input);
     let added = builder.contained_units().len().saturating_sub(before);
-    if verbose {
-        tell(files, input, added, &outcome, err)?;
+    if let Err(fault) = outcome {
+        let room = room.as_slice();
+        return Err(refused(alloc, files, input, room, fault, telling, err));
     }
-    outcome?;
+    if telling.verbose {
+        tell(files, input, added, err)?;
+    }
+    if telling.notes && added == 0 {
+        warn_unsplit(alloc, files, input, err)?;
+    }
     Ok(())
 }

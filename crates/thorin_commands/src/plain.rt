@@ -6,11 +6,14 @@ ghost use Rattle.thorin_faults.specs.Sessions.{IsNoWantOfMemory};
 ghost use Rattle.thorin_commands.specs.Plain.{IsPlainOf, IsReadOver, taken_from};
 
 use crate::files::FileSystem;
+use crate::notes::{Unread, place_of, reason};
+use crate::overlap::has_overlap;
 use dwp_decompress::{DecompressError, decompressed};
 use std::alloc::{AllocError, Global};
 use std::cell::Cell;
-use std::path::Path;
-use thorin::InputReader;
+use std::io;
+use std::path::{AsPath, Path};
+use thorin::{Input, InputReader};
 use thorin_faults::InputError;
 use thorin_queries::Failure;
 
@@ -18,7 +21,7 @@ use thorin_queries::Failure;
 pub(crate) trait Inputs: InputReader {
     /// Begins an input: the next read is that of its own path. Those behind it are of objects that
     /// the input names, and these must be regular files: a read of another may wait for ever.
-    fn begin(&self);
+    fn begin(&self, input: Input<'_>);
 
     /// Whether compressed sections are decompressed.
     fn decompresses(&self) -> bool;
@@ -28,6 +31,15 @@ pub(crate) trait Inputs: InputReader {
     /// # Errors
     /// As those of `FileSystem::unit_count`.
     fn unit_count(&self, name: &str) -> Result<Option<usize>, Failure>;
+
+    /// The path that the input names and that was read last; none where none was.
+    fn last_named(&self) -> Option<String>;
+
+    /// The first of the reads that failed.
+    fn first_unread(&self) -> Option<Unread>;
+
+    /// Whether a file of the input was refused since its sections overlap.
+    fn found_overlap(&self) -> bool;
 }
 
 /// Files as inputs.
@@ -38,11 +50,26 @@ pub(crate) struct InputFiles<'f, F> {
     decompresses: bool,
     /// Whether the next read is that of an input's own path.
     begins: Cell<bool>,
+    /// The input's own path, and the one that was read last of those that it names.
+    own: Cell<Option<String>>,
+    named: Cell<Option<String>>,
+    unread: Cell<Option<Unread>>,
+    /// Whether a file may have sections that overlap.
+    allows_overlap: bool,
+    /// Whether the input is an executable.
+    is_executable: Cell<bool>,
+    /// Whether a file of the input was refused since its sections overlap.
+    overlap: Cell<bool>,
 }
 
 impl<'f, F: FileSystem> InputFiles<'f, F> {
     /// These files, decompressed where that is asked for.
-    pub(crate) fn new(alloc: Global, files: &'f F, decompresses: bool) -> InputFiles<'f, F>
+    pub(crate) fn new(
+        alloc: Global,
+        files: &'f F,
+        decompresses: bool,
+        allows_overlap: bool,
+    ) -> InputFiles<'f, F>
         ensures files { result.files.now ≡ files.now }
         ensures decompresses { result.decompresses ≡ decompresses }
     {
@@ -51,7 +78,62 @@ impl<'f, F: FileSystem> InputFiles<'f, F> {
             files,
             decompresses,
             begins: Cell::new(false),
+            own: Cell::new(None),
+            named: Cell::new(None),
+            unread: Cell::new(None),
+            allows_overlap,
+            is_executable: Cell::new(false),
+            overlap: Cell::new(false),
         }
+    }
+
+    /// Whether a file that was read is refused since its sections overlap, which is kept. An
+    /// executable isn't: of each name it uses one section alone.
+    fn overlaps(&self, is_own: bool, file: &[u8]) -> bool {
+        if self.allows_overlap || is_own && self.is_executable.get() {
+            return false;
+        }
+        let found = has_overlap(file);
+        self.overlap.set(found);
+        found
+    }
+
+    /// Keeps a path that is read, for notes: where there is no memory for it, they do without.
+    fn keep_path(&self, is_own: bool, path: &str) {
+        let path = String::from_str(self.alloc, path).ok();
+        if is_own {
+            self.own.set(path);
+            self.named.set(None);
+        } else {
+            self.named.set(path);
+        }
+    }
+
+    /// Keeps the first read that fails, and counts those behind it.
+    fn keep_unread(&self, is_own: bool, path: &str, cause: &io::Error) {
+        let unread = match self.unread.replace(None) {
+            Some(first) if !is_own => Some(Unread {
+                more: first.more.saturating_add(1),
+                ..first
+            }),
+            _ => self.unread_of(is_own, path, cause).ok(),
+        };
+        self.unread.set(unread);
+    }
+
+    /// A read that fails.
+    fn unread_of(&self, is_own: bool, path: &str, cause: &io::Error) -> Result<Unread, AllocError> {
+        let own = self.own.replace(None);
+        let place = match &own {
+            Some(own) if !is_own => place_of(self.alloc, own.as_str(), Some(path)),
+            _ => place_of(self.alloc, path, None),
+        };
+        self.own.set(own);
+        Ok(Unread {
+            place: place?,
+            reason: reason(self.alloc, cause)?,
+            more: 0,
+        })
     }
 }
 
@@ -65,10 +147,18 @@ impl<F: FileSystem> InputReader for InputFiles<'_, F> {
         room: &'b mut Vec<u8>,
     ) -> Result<&'b [u8], InputError> {
         let is_own = self.begins.replace(false);
+        self.keep_path(is_own, path.path_text());
         match read_file(self.files, is_own, path, room) {
             Ok(()) => {}
-            Err(InputError::Io(cause)) => return Err(InputError::Io(cause)),
+            Err(InputError::Io(cause)) => {
+                self.keep_unread(is_own, path.path_text(), &cause);
+                return Err(InputError::Io(cause));
+            }
             Err(InputError::Memory) => return Err(InputError::Memory),
+        }
+        // No behaviour passes over want of memory: for such a file none is spent.
+        if self.overlaps(is_own, room) {
+            return Err(InputError::Memory);
         }
         if !self.decompresses {
             return Ok(room.as_slice());
@@ -81,8 +171,11 @@ impl<F: FileSystem> InputReader for InputFiles<'_, F> {
 }
 
 impl<F: FileSystem> Inputs for InputFiles<'_, F> {
-    fn begin(&self) {
+    fn begin(&self, input: Input<'_>) {
         self.begins.set(true);
+        self.overlap.set(false);
+        self.is_executable
+            .set(matches!(input, Input::Executable(_, _)));
     }
 
     fn decompresses(&self) -> bool {
@@ -91,6 +184,18 @@ impl<F: FileSystem> Inputs for InputFiles<'_, F> {
 
     fn unit_count(&self, name: &str) -> Result<Option<usize>, Failure> {
         self.files.unit_count(name, self.decompresses)
+    }
+
+    fn last_named(&self) -> Option<String> {
+        self.named.replace(None)
+    }
+
+    fn first_unread(&self) -> Option<Unread> {
+        self.unread.replace(None)
+    }
+
+    fn found_overlap(&self) -> bool {
+        self.overlap.get()
     }
 }
 

@@ -54,14 +54,16 @@ module _ (name front back : List ℕ) (first last : ℕ) (long : 4096 < length n
     (nearest : (j : ℕ) → first < j → j ≤ 2047 → ¬ (IsCharBoundary name j))
     (bound-2 : last ≤ length name - 2047) (boundary-2 : IsCharBoundary name last)
     (nearest-2 : (j : ℕ) → last < j → j ≤ length name - 2047 → ¬ (IsCharBoundary name j))
-    where
-  cut_is : cut name ≡ take first name ++ (codes ".." ++ drop last name)
-  unfolding cut
-  cut_is = rw (lt-leb (length name) 4096 long,
+  where
+    cut_is : cut name ≡ take first name ++ (codes ".." ++ drop last name)
+    unfolding cut
+    cut_is = rw (
+      lt-leb (length name) 4096 long,
       floor_is name 2047 first (omega arith) (bound, boundary, nearest),
-      floor_is name (length name - 2047) last (omega arith) (bound-2, boundary-2, nearest-2))
-      refl
+      floor_is name (length name - 2047) last (omega arith) (bound-2, boundary-2, nearest-2),
+    )
+        refl
 
-  pub is_cut : front ≡ slice_range name 0 first → back ≡ drop last name
-      → front ++ (codes ".." ++ back) ≡ cut name
-  is_cut f b = rw (f ∙ ap (λ n. take n name) (sub-zero first), b) (sym cut_is)
+    pub is_cut : front ≡ slice_range name 0 first → back ≡ drop last name
+        → front ++ (codes ".." ++ back) ≡ cut name
+    is_cut f b = rw (f ∙ ap (λ n. take n name) (sub-zero first), b) (sym cut_is)

@@ -41,8 +41,12 @@ unfolding string_at
 ended_read section rest at end inside is zero =
     let within : ltb (length section) at ≡ false = le-ltb (length section) at inside in
     let there : list_any (λ b. eqb b 0) (drop at section) ≡ true =
-    ap (list_any (λ b. eqb b 0)) (sym is) ∙ (any_zero rest).1 (end, zero.within, λ d.
-    get_or_default rest end d 0 zero.within ∙ zero.ended) in
+    ap (list_any (λ b. eqb b 0)) (sym is) ∙ (any_zero rest).1 (
+      end,
+      zero.within,
+      λ d.
+          get_or_default rest end d 0 zero.within ∙ zero.ended,
+    ) in
     let front : before_first (λ b. eqb b 0) (drop at section) ≡ take end rest =
     ap (before_first (λ b. eqb b 0)) (sym is) ∙ ap (λ m. take m rest)
     (position_or_len_is (λ b. eqb b 0) rest end 0 (omega (arith, zero.within)) (λ k below.

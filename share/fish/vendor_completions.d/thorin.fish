@@ -12,6 +12,8 @@ complete -c thorin -n '__fish_seen_subcommand_from pack; and not __fish_seen_sub
 complete -c thorin -n '__fish_seen_subcommand_from pack; and not __fish_seen_subcommand_from help' -l skip-missing -d 'Skip missing objects; their units must come from another input'
 complete -c thorin -n '__fish_seen_subcommand_from pack; and not __fish_seen_subcommand_from help' -l force -d 'Write OUT even if it is an input'
 complete -c thorin -n '__fish_seen_subcommand_from pack; and not __fish_seen_subcommand_from help' -l decompress -d 'Read inputs and executables that are compressed by zlib'
+complete -c thorin -n '__fish_seen_subcommand_from pack; and not __fish_seen_subcommand_from help' -l allow-overlap -d 'Take inputs whose sections overlap'
+complete -c thorin -n '__fish_seen_subcommand_from pack; and not __fish_seen_subcommand_from help' -l warnings -x -a 'each once none' -d 'Warn of type units that differ: each, once or none'
 complete -c thorin -n '__fish_seen_subcommand_from pack; and not __fish_seen_subcommand_from help' -s v -l verbose -d 'Report each input'
 complete -c thorin -n '__fish_seen_subcommand_from pack; and not __fish_seen_subcommand_from help' -s h -l help -d 'Print help'
 complete -c thorin -n '__fish_seen_subcommand_from find; and not __fish_seen_subcommand_from help' -s h -l help -d 'Print help'

@@ -10,20 +10,20 @@ pub returns-in-Ok : goal.returns-in-Ok
 returns-in-Ok g c =
     let lacks = c.lacks_abbreviations-lacks in
     let named = TellsExecutables (g.F.FileReader.offer c.args.files.now)
-        c.args.named.decompresses c.args.pack.now c.args.named.executables.now in
+    c.args.named.decompresses c.args.pack.now c.args.named.executables.now in
     let stops = IsOfChecking (g.F.FileReader.offer c.args.files.now)
-        c.args.named.executables.now in
+    c.args.named.executables.now in
     subst (λ b. TellsOr stops (InTurn (TellsTables b) named)
-        (g.O.Write.contents c.args.out.now) (string_bytes c.args.waiting.now)
-        (g.O.Write.contents c.check_executables.new.out)
-        (string_bytes c.check_executables.new.waiting) c.with_rest.result)
-        (lacks.ensures c.args.pack.now c.requires)
-        (in_turn_or (TellsTables lacks.result) named stops (g.O.Write.contents c.args.out.now)
-        (g.O.Write.contents c.check_tables.new.out)
-        (g.O.Write.contents c.check_executables.new.out) (string_bytes c.args.waiting.now)
-        (string_bytes c.check_tables.new.waiting) (string_bytes c.check_executables.new.waiting)
-        c.in-Ok.of_tables c.check_executables.result c.with_rest.result c.with_rest.ensures
-        c.in-Ok.ensures c.check_executables.ensures)
+    (g.O.Write.contents c.args.out.now) (string_bytes c.args.waiting.now)
+    (g.O.Write.contents c.check_executables.new.out)
+    (string_bytes c.check_executables.new.waiting) c.with_rest.result)
+    (lacks.ensures c.args.pack.now c.requires)
+    (in_turn_or (TellsTables lacks.result) named stops (g.O.Write.contents c.args.out.now)
+    (g.O.Write.contents c.check_tables.new.out)
+    (g.O.Write.contents c.check_executables.new.out) (string_bytes c.args.waiting.now)
+    (string_bytes c.check_tables.new.waiting) (string_bytes c.check_executables.new.waiting)
+    c.in-Ok.of_tables c.check_executables.result c.with_rest.result c.with_rest.ensures
+    c.in-Ok.ensures c.check_executables.ensures)
 
 pub returns-in-Err : goal.returns-in-Err
 returns-in-Err g c = (

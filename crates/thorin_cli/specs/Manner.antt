@@ -1,0 +1,18 @@
+-- What a program tells that wasn't asked for.
+use Rattle.std.specs.Prelude.{Bool, ◌||◌, if◌then◌else◌}
+use Rattle.thorin_commands.specs.declared.warnings.Warnings.{Warnings}
+use Rattle.thorin_commands.specs.declared.warnings.Warnings.TheVariants.{Each, Once, Never}
+use Rattle.thorin_cli.specs.declared.manner.Manner.{Manner}
+
+-- whoever reads a terminal wants to know where, and not each of a thousand lines
+abbrev pub warnings : (is_peer on_terminal : Bool) → Warnings
+warnings is_peer on_terminal =
+    if is_peer then Never else if on_terminal then Once else Each
+
+-- the peers say where, don't compare type units, and pack nothing without a word
+unfoldable pub manner : (is_peer on_terminal : Bool) → Manner
+manner is_peer on_terminal = record {
+  notes = is_peer || on_terminal;
+  warnings = warnings is_peer on_terminal;
+  lets_empty = is_peer;
+}

@@ -1,0 +1,47 @@
+//! How the program speaks: what that depends on beside the words is decided here alone.
+
+ghost use Rattle.std.specs.Prelude.{◌≡◌};
+ghost use Rattle.thorin_cli.specs.Manner.{manner};
+
+use thorin_commands::Warnings;
+
+/// What is known of where the program runs.
+#[derive(Clone, Copy)]
+pub struct Facts<'a> {
+    /// The commit that the program was built from, and empty where that isn't known: `--version`
+    /// prints it.
+    pub commit: &'a str,
+    /// Whether standard error is a terminal.
+    pub on_terminal: bool,
+}
+
+/// What a program tells that wasn't asked for.
+#[derive(Clone, Copy)]
+pub(crate) struct Manner {
+    /// Whether a line `note: ` behind a refusal says what it is about.
+    pub(crate) notes: bool,
+    /// Which warnings of type units that differ are printed.
+    pub(crate) warnings: Warnings,
+    /// Whether an executable without anything split gives an empty package.
+    pub(crate) lets_empty: bool,
+}
+
+impl Manner {
+    #[tactic(auto, unfolding(crate::specs::Manner::manner))]
+    /// That of a program under a peer's name or not, which tells it to a terminal or not.
+    pub(crate) fn of(is_peer: bool, on_terminal: bool) -> Manner
+        ensures { result ≡ manner is_peer on_terminal }
+    {
+        Manner {
+            notes: is_peer || on_terminal,
+            warnings: if is_peer {
+                Warnings::Never
+            } else if on_terminal {
+                Warnings::Once
+            } else {
+                Warnings::Each
+            },
+            lets_empty: is_peer,
+        }
+    }
+}

@@ -1,0 +1,103 @@
+//! The line behind a refusal that says what it is about: which file, and what is the matter with it.
+
+use std::alloc::{AllocError, Global};
+use std::fmt;
+use std::io::{self, Write};
+use thorin_faults::Error;
+use thorin_words::printed;
+
+/// A read that failed.
+#[derive(Drop)]
+pub(crate) struct Unread {
+    /// What couldn't be read, and which input names it.
+    pub(crate) place: String,
+    /// What is the matter with it.
+    pub(crate) reason: String,
+    /// How many more objects couldn't be read.
+    pub(crate) more: u64,
+}
+
+/// An input, or an object that it names, as it is printed.
+pub(crate) fn place_of(
+    alloc: Global,
+    input: &str,
+    named: Option<&str>,
+) -> Result<String, AllocError> {
+    let input = printed(alloc, input)?;
+    match named {
+        Some(named) => {
+            let named = printed(alloc, named)?;
+            format!(in alloc; "{named}, named by {input}")
+        }
+        None => Ok(input),
+    }
+}
+
+/// Why a file can't be read or written, in the system's words without its number for them.
+///
+/// # Errors
+/// Want of memory.
+pub fn reason(alloc: Global, cause: &io::Error) -> Result<String, AllocError> {
+    if cause.kind() == io::ErrorKind::Unsupported {
+        return String::from_str(alloc, "not a regular file");
+    }
+    let text = format!(in alloc; "{cause}")?;
+    match text.as_str().split_once(" (os error ") {
+        Some((words, _)) => String::from_str(alloc, words),
+        None => Ok(text),
+    }
+}
+
+/// Prints the note on a read that failed.
+pub(crate) fn note_unread<E: Write>(unread: &Unread, err: &mut E) {
+    let place = unread.place.as_str();
+    let reason = unread.reason.as_str();
+    let _ = match unread.more {
+        0 => writeln!(err, "note: {place}: {reason}"),
+        more => writeln!(err, "note: {place}: {reason} (and {more} more)"),
+    };
+}
+
+/// Prints the note on an input, or an object that it names, that was read and refused.
+pub(crate) fn note_refused<E: Write>(place: &str, fault: &Error, decompresses: bool, err: &mut E) {
+    let cause = Cause(fault);
+    let advice = advice_on(fault, decompresses);
+    let _ = writeln!(err, "note: {place}{cause}{advice}");
+}
+
+/// What can be done about a fault, if anything.
+fn advice_on(fault: &Error, decompresses: bool) -> &'static str {
+    match fault {
+        Error::DecompressData(_) => {
+            if decompresses {
+                ": not by zlib, or damaged"
+            } else {
+                ": --decompress packs it"
+            }
+        }
+        _ => "",
+    }
+}
+
+/// The cause below a fault, where there is one: the fault itself was told.
+#[derive(Drop)]
+struct Cause<'a>(&'a Error);
+
+impl fmt::Display for Cause<'_> {
+    fn fmt<W: fmt::Write>(&self, f: &mut fmt::Formatter<W>) -> fmt::Result {
+        match self.0 {
+            Error::ParseFileKind(cause)
+            | Error::ParseObjectFile(cause)
+            | Error::DecompressData(cause)
+            | Error::NamelessSection(cause, _) => write!(f, ": {cause}"),
+            Error::ParseUnitAbbreviations(cause)
+            | Error::ParseUnitHeader(cause)
+            | Error::ParseUnit(cause)
+            | Error::OffsetAtIndex(cause, _)
+            | Error::StrAtOffset(cause, _)
+            | Error::ParseIndex(cause, _)
+            | Error::RowNotInIndex(cause, _) => write!(f, ": {cause}"),
+            _ => Ok(()),
+        }
+    }
+}

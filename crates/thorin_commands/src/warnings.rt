@@ -1,0 +1,114 @@
+//! Warnings of type units that differ from the ones kept.
+
+ghost use Rattle.std.specs.Prelude.{◌≡◌, IfErr};
+ghost use Rattle.thorin_commands.specs.Files.{IsOfWriting};
+ghost use Rattle.thorin_commands.specs.Warnings as spec;
+
+use crate::output::flush;
+use dwp_table::DebugTypeSignature;
+use std::alloc::{AllocError, Global};
+use std::io::Write;
+use thorin_queries::{Failure, warn_differing};
+
+/// Which warnings of type units that differ are printed.
+#[derive(Clone, Copy)]
+pub enum Warnings {
+    /// One for each.
+    Each,
+    /// One for all.
+    Once,
+    /// None.
+    Never,
+}
+
+impl Warnings {
+    /// Those that a word of the command line asks for: `each`, `once` or `none`.
+    #[tactic(auto, unfolding(crate::specs::Warnings::warnings_of))]
+    pub fn of(word: &str) -> Option<Warnings>
+        ensures { result ≡ spec.warnings_of word.now }
+    {
+        if word == "each" {
+            Some(Warnings::Each)
+        } else if word == "once" {
+            Some(Warnings::Once)
+        } else if word == "none" {
+            Some(Warnings::Never)
+        } else {
+            None
+        }
+    }
+}
+
+/// Warns of type units that differ, and hands the warnings over.
+pub(crate) fn warn<W: Write>(
+    alloc: Global,
+    warnings: Warnings,
+    differing: &[DebugTypeSignature],
+    lines: &mut W,
+) -> Result<(), Failure>
+    ensures { IfErr result IsOfWriting }
+{
+    match print_warnings(alloc, warnings, differing, lines) {
+        Ok(()) => flush(lines),
+        Err(failure) => Err(failure),
+    }
+}
+
+/// Prints what is asked for of them.
+fn print_warnings<W: Write>(
+    alloc: Global,
+    warnings: Warnings,
+    differing: &[DebugTypeSignature],
+    lines: &mut W,
+) -> Result<(), Failure>
+    ensures { IfErr result IsOfWriting }
+{
+    match warnings {
+        Warnings::Each => match warn_differing(lines, differing) {
+            Ok(()) => Ok(()),
+            Err(_) => Err(Failure::Line),
+        },
+        Warnings::Once if !differing.is_empty() => warn_once(alloc, differing, lines),
+        _ => Ok(()),
+    }
+}
+
+/// Prints one line: how many type units differ, and in how many copies.
+fn warn_once<W: Write>(
+    alloc: Global,
+    differing: &[DebugTypeSignature],
+    lines: &mut W,
+) -> Result<(), Failure>
+    ensures { IfErr result IsOfWriting }
+{
+    let Ok(units) = count_distinct(alloc, differing) else {
+        return Err(Failure::Memory);
+    };
+    let copies = differing.len();
+    let told = if units == 1 {
+        writeln!(
+            lines,
+            "warning: 1 type unit differs from the one kept, copies: {copies}"
+        )
+    } else {
+        writeln!(
+            lines,
+            "warning: {units} type units differ from the ones kept, copies: {copies}"
+        )
+    };
+    match told {
+        Ok(()) => Ok(()),
+        Err(_) => Err(Failure::Line),
+    }
+}
+
+/// How many signatures a list has, each once.
+fn count_distinct(alloc: Global, signatures: &[DebugTypeSignature]) -> Result<usize, AllocError> {
+    let mut numbers = Vec::with_capacity(alloc, signatures.len())?;
+    for signature in signatures {
+        numbers.push(signature.0)?;
+    }
+    numbers.sort_unstable();
+    numbers.dedup();
+    Ok(numbers.len())
+}
