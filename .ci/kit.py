@@ -28,6 +28,11 @@ library.Crate.cuts_libraries = True
 library.guarded()
 
 
+def keeps():
+    """Whether this toolchain's `rt ci` keeps what it proved; an older one proves all in each run (`.ci/kept-ci` helps)."""
+    return hasattr(rt, "own_sum")
+
+
 def crates_of(tree):
     """The crates of a tree by their names, each after those that it stands on."""
     os.chdir(tree)
@@ -51,7 +56,30 @@ def sum_of_library(folder):
     return found.hexdigest()
 
 
+@functools.lru_cache(maxsize=None)
+def sum_of_kit():
+    """A sum of the toolchain: its name, and the files of its prover, its commands and their rules."""
+    with open(f"{HOME}/KIT-ID", "rb") as it:
+        found = hashlib.sha256(it.read())
+    for name in sorted(os.listdir(f"{HOME}/bin")):
+        found.update(f"{name} {library.sum_of(f'{HOME}/bin/{name}')}\n".encode())
+    return found.hexdigest()
+
+
+def own_sum(crate):
+    """A sum of the toolchain, what crates.txt says of a crate, and its own files."""
+    if keeps():
+        return rt.own_sum(crate)
+    found = hashlib.sha256(repr((sum_of_kit(), sorted(crate.said.items(), key=repr))).encode())
+    for part in library.PARTS:
+        for at, folders, files in os.walk(f"{crate.folder}/{part}"):
+            folders.sort()
+            for name in sorted(files):
+                found.update(f"{os.path.relpath(f'{at}/{name}', crate.folder)} {library.sum_of(f'{at}/{name}')}\n".encode())
+    return found.hexdigest()
+
+
 def sum_of_crate(crate):
     """A sum of all that a check of the crate reads: the kit, its own files, and the libraries below as they were built."""
     below = [(it.name, sum_of_library(it.rlib)) for it in crate.below()]
-    return hashlib.sha256(repr((rt.own_sum(crate), below)).encode()).hexdigest()
+    return hashlib.sha256(repr((own_sum(crate), below)).encode()).hexdigest()

@@ -184,7 +184,7 @@ def prove(copy, say, on_proved=lambda name: None, shown=lambda line: False, anew
     """Runs `rt ci` in the copy, over what earlier runs on this machine proved or anew; its status, its last line, and the seconds of one core by crate and part."""
     listed, start = crates_listed(copy.at), time.time()
     left, known = set(listed), costs()
-    words = ["rt", "ci", *["--anew"] * anew]
+    words = [f"{os.path.dirname(COSTS)}/kept-ci", *["--anew"] * anew]
     asked = {**os.environ, "RT_JOBS": os.environ.get("RT_JOBS") or str(lanes())}
     ran = subprocess.Popen(words, cwd=copy.at, env=asked, stdin=subprocess.DEVNULL, stdout=subprocess.PIPE, stderr=subprocess.STDOUT, text=True, errors="replace")
     meter = Meter(ran.pid)

@@ -8,5 +8,7 @@ pub mod FirstSection
 pub mod FirstUnit
 pub mod SplitHeaders
 pub mod Headers
+pub mod ByIndex
+pub mod RowsTold
 pub mod ByPlaces
 pub mod SkeletonLists

@@ -1,3 +1,4 @@
+pub mod ByIndex
 pub mod Faults
 pub mod Finding
 pub mod Headers

@@ -2,6 +2,8 @@
 
 ghost use Rattle.std.specs.Prelude.{◌≡◌, Ok};
 ghost use Rattle.dwp_base.specs.Reading.{Answers};
+ghost use Rattle.dwp_base.specs.declared.endian.Endianness.TheVariants as orders;
+ghost use Rattle.dwp_bytes.specs.Encoding.{offset_size};
 ghost use Rattle.dwp_index.specs.Package.{found_counted};
 ghost use Rattle.thorin_c.specs.Finding.{as_status, unit_in, unit_of, unit_found, looked_up};
 ghost use Rattle.thorin_c.specs.Finding.{row_found, row_found_in, content_found, string_found};
@@ -12,10 +14,11 @@ ghost use Rattle.thorin_c.specs.Opening.{package_in, order_of};
 use crate::finding::{object_of, section_of, write_row};
 use crate::listing::list;
 use crate::opened::{Opened, order_of};
-use crate::status::{ABSENT, DONE, MALFORMED_STRING, NO_SUCH_STRING, status_of};
+use crate::status::{ABSENT, DONE, MALFORMED_STRING, NO_SUCH_STRING, RANGE_OUTSIDE, status_of};
 use crate::types::{ThorinBytes, ThorinName, ThorinPackage, ThorinUnit};
 use crate::unit::Found;
 use dwp_base::Endianness;
+use dwp_bytes::Encoding;
 use dwp_table::DwarfObject;
 
 /// `thorin_find` in a package that is open: its sections are where `places` says, whatever that
@@ -33,16 +36,11 @@ pub extern "C" fn thorin_find_in(
         id) found.old found.new result }
 {
     match order_of(places.big_endian) {
-        Endianness::Little if kind == 1 => find_unit(
-            places,
-            bytes,
-            Endianness::Little,
-            1,
-            id,
-            found,
-        ),
-        Endianness::Little => find_unit(places, bytes, Endianness::Little, kind, id, found),
-        Endianness::Big => find_unit(places, bytes, Endianness::Big, kind, id, found),
+        Endianness::Little => find_unit(places, bytes, kind, id, found),
+        Endianness::Big => match opened(places, bytes) {
+            Ok(pack) => fill(&pack, kind, id, found),
+            Err(status) => status,
+        },
     }
 }
 
@@ -59,16 +57,11 @@ pub extern "C" fn thorin_find_row_in(
         id) found.old found.new result }
 {
     match order_of(places.big_endian) {
-        Endianness::Little if kind == 1 => find_row(
-            places,
-            bytes,
-            Endianness::Little,
-            1,
-            id,
-            found,
-        ),
-        Endianness::Little => find_row(places, bytes, Endianness::Little, kind, id, found),
-        Endianness::Big => find_row(places, bytes, Endianness::Big, kind, id, found),
+        Endianness::Little => find_row(places, bytes, kind, id, found),
+        Endianness::Big => match opened(places, bytes) {
+            Ok(pack) => fill_row(&pack, kind, id, found),
+            Err(status) => status,
+        },
     }
 }
 
@@ -138,44 +131,62 @@ pub extern "C" fn thorin_list_in(
     }
 }
 
-/// `thorin_find_in` for one byte order, which is known where this is compiled.
-#[inline(always)]
-fn find_unit(
-    places: &ThorinPackage,
-    bytes: &[u8],
-    order: Endianness,
-    kind: u8,
-    id: u64,
-    found: &mut ThorinUnit,
-) -> i32
-    requires { order ≡ order_of places.now.big_endian }
+/// `thorin_find_in` where numbers have their lowest byte first: all that it calls is compiled into
+/// it.
+fn find_unit(places: &ThorinPackage, bytes: &[u8], kind: u8, id: u64, found: &mut ThorinUnit) -> i32
+    requires { order_of places.now.big_endian ≡ orders.Little }
     ensures { Fills (λ unit. unit) (unit_found (as_status (package_in places.now bytes.now)) kind
         id) found.old found.new result }
 {
-    match Opened::at(places, bytes, order) {
-        Ok(pack) => fill(&pack, kind, id, found),
+    let pack = match Opened::at(places, bytes, Endianness::Little) {
+        Ok(pack) => pack,
+        Err(fault) => return status_of(fault),
+    };
+    let object = match object_of(kind, id) {
+        Ok(object) => object,
+        Err(status) => return status,
+    };
+    let ((number, row), slots) = match pack.row_present(object) {
+        Ok(present) => present,
+        Err(status) => return status,
+    };
+    if pack.is_outside(&row) {
+        return RANGE_OUTSIDE;
+    }
+    match pack.row_encoding(object, &row) {
+        Ok(encoding) => {
+            write_row(&row, number, slots, found);
+            write_encoding(encoding, found);
+            DONE
+        }
         Err(fault) => status_of(fault),
     }
 }
 
-/// `thorin_find_row_in` for one byte order, which is known where this is compiled.
-#[inline(always)]
-fn find_row(
-    places: &ThorinPackage,
-    bytes: &[u8],
-    order: Endianness,
-    kind: u8,
-    id: u64,
-    found: &mut ThorinUnit,
-) -> i32
-    requires { order ≡ order_of places.now.big_endian }
+/// `thorin_find_row_in` where numbers have their lowest byte first: all that it calls is compiled into
+/// it.
+fn find_row(places: &ThorinPackage, bytes: &[u8], kind: u8, id: u64, found: &mut ThorinUnit) -> i32
+    requires { order_of places.now.big_endian ≡ orders.Little }
     ensures { Fills (λ unit. unit) (row_found_in (as_status (package_in places.now bytes.now)) kind
         id) found.old found.new result }
 {
-    match Opened::at(places, bytes, order) {
-        Ok(pack) => fill_row(&pack, kind, id, found),
-        Err(fault) => status_of(fault),
+    let pack = match Opened::at(places, bytes, Endianness::Little) {
+        Ok(pack) => pack,
+        Err(fault) => return status_of(fault),
+    };
+    let object = match object_of(kind, id) {
+        Ok(object) => object,
+        Err(status) => return status,
+    };
+    let ((number, row), slots) = match pack.row_present(object) {
+        Ok(present) => present,
+        Err(status) => return status,
+    };
+    if pack.is_outside(&row) {
+        return RANGE_OUTSIDE;
     }
+    write_row(&row, number, slots, found);
+    DONE
 }
 
 /// The package whose sections are at these places.
@@ -190,7 +201,6 @@ fn opened<'p, 'a>(places: &'p ThorinPackage, bytes: &'a [u8]) -> Result<Opened<'
 
 /// Fills in the unit of a name.
 #[tactic(auto, unfolding(crate::specs::Finding::unit_in))]
-#[inline(always)]
 fn fill(pack: &Opened<'_, '_>, kind: u8, id: u64, found: &mut ThorinUnit) -> i32
     ensures { Fills (λ unit. unit) (unit_found (Ok pack.now) kind id) found.old found.new
         result }
@@ -211,7 +221,6 @@ fn fill(pack: &Opened<'_, '_>, kind: u8, id: u64, found: &mut ThorinUnit) -> i32
 
 /// Fills in the row of a name.
 #[tactic(auto, unfolding(crate::specs::Finding::row_found))]
-#[inline(always)]
 fn fill_row(pack: &Opened<'_, '_>, kind: u8, id: u64, found: &mut ThorinUnit) -> i32
     ensures { Fills (λ unit. unit) (row_found pack.now kind id) found.old found.new result }
 {
@@ -230,14 +239,25 @@ fn fill_row(pack: &Opened<'_, '_>, kind: u8, id: u64, found: &mut ThorinUnit) ->
 }
 
 /// Writes a unit with its ranges and its encoding.
-#[inline(always)]
 fn write_found(unit: &Found<'_, '_>, slots: u32, found: &mut ThorinUnit)
     ensures { found.new ≡ unit_of unit.now slots }
 {
     write_row(&unit.row, unit.number, slots, found);
-    found.version = unit.encoding.version;
-    found.offset_size = unit.encoding.format.offset_size() as u8;
-    found.address_size = unit.encoding.address_size;
+    write_encoding(unit.encoding, found);
+}
+
+/// Writes an encoding.
+#[inline(always)]
+fn write_encoding(encoding: Encoding, found: &mut ThorinUnit)
+    ensures { found.new ≡ record found.old {
+      version = encoding.version;
+      offset_size = offset_size encoding.format;
+      address_size = encoding.address_size;
+    } }
+{
+    found.version = encoding.version;
+    found.offset_size = encoding.format.offset_size() as u8;
+    found.address_size = encoding.address_size;
 }
 
 /// The unit of a name, and how many slots were looked at.

@@ -1,17 +1,19 @@
 //! A package whose sections' places are known, and looking its units up.
 
-ghost use Rattle.std.specs.Prelude.{◌≡◌};
+ghost use Rattle.std.specs.Prelude.{◌≡◌, is_some};
 ghost use Rattle.std.specs.Option.{option_copied};
 ghost use Rattle.dwp_base.specs.Reading.{Answers};
 ghost use Rattle.dwp_index.specs.Entries.{units_left, entries_from};
 ghost use Rattle.dwp_index.specs.Index.{row_in};
-ghost use Rattle.dwp_index.specs.Package.{as_fault, index_in_section, found_by, row_by, unit_in};
-ghost use Rattle.dwp_index.specs.Package.{encoding_in};
-ghost use Rattle.dwp_index.specs.Package.{unit_at_row, found_counted, row_inside, row_counted};
+ghost use Rattle.dwp_index.specs.Package.{as_fault, index_in_section, index_for, unit_in};
+ghost use Rattle.dwp_index.specs.Package.{encoding_in, found_counted, row_inside, row_counted};
+ghost use Rattle.dwp_index.specs.Package.{first_outside};
 ghost use Rattle.dwp_index.specs.declared.fault.PackageError.TheVariants as faults;
+ghost use Rattle.thorin_c.specs.ByIndex.{row_named, row_present, row_encoding};
 ghost use Rattle.thorin_c.specs.Opening.{package_in, order_of};
 
 use crate::sections::{PlacedSections, bytes_at};
+use crate::status::{ABSENT, status_of};
 use crate::types::ThorinPackage;
 use crate::unit::{Found, encoding_in, kind_of, place_of};
 use dwp_base::{Endianness, SectionKind};
@@ -63,32 +65,35 @@ impl<'p, 'a> Opened<'p, 'a> {
     }
 
     /// The unit of an identifier, and how many slots were looked at.
-    #[tactic(auto, unfolding(dwp_index::specs::Package::found_counted))]
-    #[inline(always)]
+    #[tactic(auto, using(crate::proofs::ByIndex::unit_is))]
     pub(crate) fn find_counted(
         &self,
         object: DwarfObject,
     ) -> Result<(Option<Found<'p, 'a>>, u32), PackageError>
         ensures { Answers (λ x. x) result (found_counted self.now object) }
     {
-        match object {
-            DwarfObject::Compilation(_) => self.unit_by(object, self.compilations.as_ref()),
-            DwarfObject::TypeUnit(_) => self.unit_by(object, self.types.as_ref()),
+        let (found, count) = self.row_named(object)?;
+        match found {
+            None => Ok((None, count)),
+            Some((number, row)) => {
+                let unit = self.unit_in(object, number, row)?;
+                Ok((Some(unit), count))
+            }
         }
     }
 
     /// The row of an identifier's unit, and how many slots were looked at.
-    #[tactic(auto, unfolding(dwp_index::specs::Package::row_counted))]
-    #[inline(always)]
+    #[tactic(auto, using(crate::proofs::ByIndex::row_is))]
     pub(crate) fn find_row(
         &self,
         object: DwarfObject,
     ) -> Result<(Option<(u32, Row<'a>)>, u32), PackageError>
         ensures { Answers (λ x. x) result (row_counted self.now object) }
     {
-        match object {
-            DwarfObject::Compilation(_) => self.row_by(object, self.compilations.as_ref()),
-            DwarfObject::TypeUnit(_) => self.row_by(object, self.types.as_ref()),
+        let (found, count) = self.row_named(object)?;
+        match found {
+            None => Ok((None, count)),
+            Some((number, row)) => self.row_inside(number, count, row),
         }
     }
 
@@ -100,42 +105,53 @@ impl<'p, 'a> Opened<'p, 'a> {
         Units::new(self.compilations.as_ref(), self.types.as_ref())
     }
 
-    /// The unit of an identifier by an index, and how many slots were looked at.
+    /// The row of an identifier in the index of its kind, with its number, and how many slots were
+    /// looked at; or the status. Its ranges aren't looked at.
     #[inline(always)]
-    fn unit_by(
-        &self,
-        object: DwarfObject,
-        index: Option<&UnitIndex<'a>>,
-    ) -> Result<(Option<Found<'p, 'a>>, u32), PackageError>
-        ensures { Answers (λ x. x) result (found_by self.now object (option_copied index.entry)) }
+    pub(crate) fn row_present(&self, object: DwarfObject) -> Result<((u32, Row<'a>), u32), i32>
+        ensures { Answers (λ x. x) result (row_present self.now object) }
     {
-        let Some(index) = index else {
-            return Ok((None, 0));
-        };
-        let (found, count) = index.find_counted(object.index());
-        match found {
-            None => Ok((None, count)),
-            Some(number) => self.unit_at_row(object, index, number, count),
+        match self.row_named(object) {
+            Ok((found, count)) => match found {
+                None => Err(ABSENT),
+                Some((number, row)) => Ok(((number, row), count)),
+            },
+            Err(fault) => Err(status_of(fault)),
         }
     }
 
-    /// The row of an identifier by an index, and how many slots were looked at.
+    /// Whether a range of a row isn't inside its section.
     #[inline(always)]
-    fn row_by(
+    pub(crate) fn is_outside(&self, row: &Row<'a>) -> bool
+        ensures { result ≡ is_some (first_outside self.now.contents row.now) }
+    {
+        self.sections.first_outside(row).is_some()
+    }
+
+    /// The encoding of the unit of a row.
+    #[inline(always)]
+    pub(crate) fn row_encoding(
         &self,
         object: DwarfObject,
-        index: Option<&UnitIndex<'a>>,
-    ) -> Result<(Option<(u32, Row<'a>)>, u32), PackageError>
-        ensures { Answers (λ x. x) result (row_by self.now object (option_copied index.entry)) }
+        row: &Row<'a>,
+    ) -> Result<Encoding, PackageError>
+        ensures { Answers (λ x. x) result
+            (as_fault faults.Unit (row_encoding self.now object row.now)) }
     {
-        let Some(index) = index else {
-            return Ok((None, 0));
-        };
-        let (found, count) = index.find_counted(object.index());
-        let Some(number) = found else {
-            return Ok((None, count));
-        };
-        self.row_inside(number, count, read_row(index, number)?)
+        let place = place_of(object, row.range(SectionKind::Types));
+        let bytes = self.sections.row_bytes(row, kind_of(place));
+        read_encoding(bytes, self.order, place)
+    }
+
+    /// The row of an identifier in the index of its kind, and how many slots were looked at.
+    #[inline(always)]
+    fn row_named(&self, object: DwarfObject) -> Result<(Option<(u32, Row<'a>)>, u32), PackageError>
+        ensures { Answers (λ x. x) result (row_named object (index_for self.now object)) }
+    {
+        match object {
+            DwarfObject::Compilation(_) => row_by(object, self.compilations.as_ref()),
+            DwarfObject::TypeUnit(_) => row_by(object, self.types.as_ref()),
+        }
     }
 
     /// A row whose ranges lie inside their sections.
@@ -152,23 +168,6 @@ impl<'p, 'a> Opened<'p, 'a> {
             None => Ok((Some((number, row)), count)),
             Some(kind) => Err(PackageError::Range(kind)),
         }
-    }
-
-    /// The unit of a row number.
-    #[tactic(auto, unfolding(dwp_index::specs::Package::unit_at_row))]
-    #[inline(always)]
-    fn unit_at_row(
-        &self,
-        object: DwarfObject,
-        index: &UnitIndex<'a>,
-        number: u32,
-        count: u32,
-    ) -> Result<(Option<Found<'p, 'a>>, u32), PackageError>
-        ensures { Answers (λ x. x) result (unit_at_row self.now object index.now number count) }
-    {
-        let row = read_row(index, number)?;
-        let unit = self.unit_in(object, number, row)?;
-        Ok((Some(unit), count))
     }
 
     /// The unit of a row.
@@ -197,6 +196,24 @@ impl<'p, 'a> Opened<'p, 'a> {
             encoding,
         })
     }
+}
+
+/// The row of an identifier in an index, and how many slots were looked at.
+#[inline(always)]
+fn row_by<'a>(
+    object: DwarfObject,
+    index: Option<&UnitIndex<'a>>,
+) -> Result<(Option<(u32, Row<'a>)>, u32), PackageError>
+    ensures { Answers (λ x. x) result (row_named object (option_copied index.entry)) }
+{
+    let Some(index) = index else {
+        return Ok((None, 0));
+    };
+    let (found, count) = index.find_counted(object.index());
+    let Some(number) = found else {
+        return Ok((None, count));
+    };
+    Ok((Some((number, read_row(index, number)?)), count))
 }
 
 /// The byte order of a number.

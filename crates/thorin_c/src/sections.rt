@@ -82,48 +82,47 @@ impl<'p, 'a> PlacedSections<'p, 'a> {
         ensures { result
             ≡ first_outside (sections_at self.now.places.now self.now.bytes.now) row.now }
     {
-        if self.is_outside(row, SectionKind::Info) {
+        if self.is_outside(row, SectionKind::Info, self.places.info) {
             return Some(SectionKind::Info);
         }
-        if self.is_outside(row, SectionKind::Types) {
+        if self.is_outside(row, SectionKind::Types, self.places.types) {
             return Some(SectionKind::Types);
         }
-        if self.is_outside(row, SectionKind::Abbrev) {
+        if self.is_outside(row, SectionKind::Abbrev, self.places.abbreviations) {
             return Some(SectionKind::Abbrev);
         }
-        if self.is_outside(row, SectionKind::Line) {
+        if self.is_outside(row, SectionKind::Line, self.places.line) {
             return Some(SectionKind::Line);
         }
-        if self.is_outside(row, SectionKind::Loc) {
+        if self.is_outside(row, SectionKind::Loc, self.places.loc) {
             return Some(SectionKind::Loc);
         }
-        if self.is_outside(row, SectionKind::Loclists) {
+        if self.is_outside(row, SectionKind::Loclists, self.places.loclists) {
             return Some(SectionKind::Loclists);
         }
-        if self.is_outside(row, SectionKind::Rnglists) {
+        if self.is_outside(row, SectionKind::Rnglists, self.places.rnglists) {
             return Some(SectionKind::Rnglists);
         }
-        if self.is_outside(row, SectionKind::StrOffsets) {
+        if self.is_outside(row, SectionKind::StrOffsets, self.places.str_offsets) {
             return Some(SectionKind::StrOffsets);
         }
-        if self.is_outside(row, SectionKind::Macinfo) {
+        if self.is_outside(row, SectionKind::Macinfo, self.places.macinfo) {
             return Some(SectionKind::Macinfo);
         }
-        if self.is_outside(row, SectionKind::Macro) {
+        if self.is_outside(row, SectionKind::Macro, self.places.macros) {
             return Some(SectionKind::Macro);
         }
         None
     }
 
+    /// Whether a row has a range of a kind that isn't inside the section at a place.
     #[inline(always)]
-    fn is_outside(&self, row: &Row<'_>, kind: SectionKind) -> bool
-        ensures { result ≡ is_outside
-            (content (sections_at self.now.places.now self.now.bytes.now) kind)
-            (range_in row.now kind) }
+    fn is_outside(&self, row: &Row<'_>, kind: SectionKind, place: ThorinRange) -> bool
+        ensures { result ≡ is_outside (bytes_at self.now.bytes.now place) (range_in row.now kind) }
     {
         match row.range(kind) {
             None => false,
-            Some(range) => !lies_inside(self.of(kind), range),
+            Some(range) => !lies_inside(bytes_at(self.bytes, place), range),
         }
     }
 }
