@@ -1,0 +1,82 @@
+-- Entries taken one after the other.
+use Rattle.std.proofs.Common.{◌≡◌, ℕ, zero, suc, ◌+◌, ◌-◌, ◌<◌, ◌≤◌, ◌==◌, true, false, List, []}
+use Rattle.std.proofs.Common.{◌∷◌, ◌++◌, length}
+use Rattle.std.proofs.Common.{Result, Ok, Err, sym, ap, ◌∙◌, refl, arith, append_assoc, append-nil}
+use Rattle.std.proofs.lemmas.Bool.Decides.{nat_tests}
+use Rattle.dwp_base.specs.Reading.{◌>>=◌}
+use Rattle.dwp_archive.specs.declared.fault.ArchiveError.{ArchiveError}
+use Rattle.dwp_archive.specs.Entries.{Member, Entry, entry_at}
+use Rattle.dwp_archive.specs.Members.{members_from}
+
+abbrev Members : Type 0
+Members = Result (List Member) ArchiveError
+
+abbrev whole : List Member → Members
+whole members = Ok members
+
+-- members behind others
+abbrev pub behind : List Member → Members → Members
+behind front rest = rest >>= λ members. Ok (front ++ members)
+
+pub behind_none : (rest : Members) → behind [] rest ≡ rest
+behind_none (Ok members) = refl
+behind_none (Err e) = refl
+
+some_more : (front more : List Member) (rest : Members)
+    → behind front (rest >>= λ members. Ok (more ++ members)) ≡ behind (front ++ more) rest
+some_more front more (Ok members) = ap whole (sym (append_assoc front more members))
+some_more front more (Err e) = refl
+
+pub some_left : (n : ℕ) → (n == 0) ≡ false → 0 < n
+some_left n h = grind (arith, nat_tests)
+
+pub none_left : (n : ℕ) → (n == 0) ≡ true → n ≡ 0
+none_left n h = grind (arith, nat_tests)
+
+module _ (n i : ℕ) (names bytes : List ℕ) (front : List Member) where
+  -- one entry of those that are left
+  taken : (entry : Result Entry ArchiveError) → i < n → 0 < length bytes
+      → entry_at names bytes ≡ entry → members_from (n - i) names bytes
+      ≡ (entry >>= λ entry. members_from (n - (i + 1)) entry.names entry.rest >>= λ members.
+      Ok (entry.members ++ members))
+  unfolding members_from
+  taken entry h some is = at_count bytes (n - i) (n - (i + 1)) (omega arith) some is
+    where
+      at_count : (bytes : List ℕ) (m k : ℕ) → m ≡ suc k → 0 < length bytes
+          → entry_at names bytes ≡ entry → members_from m names bytes
+          ≡ (entry >>= λ entry. members_from k entry.names entry.rest >>= λ members.
+          Ok (entry.members ++ members))
+      at_count [] m k e some is = absurd (omega arith)
+      at_count (b ∷ bytes) m k e some is =
+          ap (λ (m : ℕ). members_from m names (b ∷ bytes)) e
+          ∙ ap (λ (r : Result Entry ArchiveError). r >>= λ entry.
+          members_from k entry.names entry.rest >>= λ members. Ok (entry.members ++ members)) is
+
+  pub entry_taken : (entry : Entry) → i < n → 0 < length bytes
+      → entry_at names bytes ≡ Ok entry
+      → behind front (members_from (n - i) names bytes)
+      ≡ behind (front ++ entry.members) (members_from (n - (i + 1)) entry.names entry.rest)
+  entry_taken entry h some is =
+      ap (behind front) (taken (Ok entry) h some is)
+      ∙ some_more front entry.members (members_from (n - (i + 1)) entry.names entry.rest)
+
+  pub entry_fails : (e : ArchiveError) → i < n → 0 < length bytes → entry_at names bytes ≡ Err e
+      → behind front (members_from (n - i) names bytes) ≡ Err e
+  entry_fails e h some is = ap (behind front) (taken (Err e) h some is)
+
+  pub entries_end : length bytes ≡ 0 → behind front (members_from (n - i) names bytes) ≡ Ok front
+  unfolding members_from
+  entries_end h = ap (behind front) (none (n - i) bytes h) ∙ ap whole (append-nil front)
+    where
+      none : (m : ℕ) (bytes : List ℕ) → length bytes ≡ 0 → members_from m names bytes ≡ Ok []
+      none zero bytes h = refl
+      none (suc m) [] h = refl
+      none (suc m) (b ∷ bytes) h = absurd (omega arith)
+
+  pub entries_done : n ≤ i → behind front (members_from (n - i) names bytes) ≡ Ok front
+  unfolding members_from
+  entries_done h = ap (behind front) (none (n - i) (omega arith)) ∙ ap whole (append-nil front)
+    where
+      none : (m : ℕ) → m ≡ 0 → members_from m names bytes ≡ Ok []
+      none zero h = refl
+      none (suc m) h = absurd (omega arith)

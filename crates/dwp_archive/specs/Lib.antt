@@ -1,0 +1,6 @@
+pub mod Answers
+pub mod Entries
+pub mod Headers
+pub mod Members
+pub mod Names
+pub mod View

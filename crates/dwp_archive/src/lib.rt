@@ -1,0 +1,12 @@
+//! Archives (ar(5)): their members, in the variants of System V, GNU and BSD.
+#![tactic(auto)]
+
+mod entry;
+mod fault;
+mod header;
+mod member;
+mod reading;
+
+pub use fault::ArchiveError;
+pub use member::Member;
+pub use reading::members;

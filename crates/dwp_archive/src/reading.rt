@@ -1,0 +1,69 @@
+//! The members of an archive.
+
+ghost use Rattle.std.specs.Prelude.{◌≡◌, ◌++◌, [], map, OnOk};
+ghost use Rattle.dwp_base.specs.Reading.{Answers};
+ghost use Rattle.dwp_archive.specs.Answers.{Gives};
+ghost use Rattle.dwp_archive.specs.Members.{entries_of, members_from, members_of};
+ghost use Rattle.dwp_archive.specs.View.{member, listed};
+
+use crate::entry::entry_at;
+use crate::fault::ArchiveError;
+use crate::member::Member;
+use std::alloc::{AllocError, Global};
+
+/// What stands behind an archive's first line.
+#[tactic(auto, unfolding(crate::specs::Members::entries_of))]
+fn entries_of(bytes: &[u8]) -> Result<&[u8], ArchiveError>
+    ensures { Answers (λ entries. entries.now) result (entries_of bytes.now) }
+{
+    if bytes.starts_with(b"!<arch>\n") {
+        return Ok(bytes.split_at(8).1);
+    }
+    if bytes.starts_with(b"!<thin>\n") {
+        return Err(ArchiveError::Thin);
+    }
+    Err(ArchiveError::NotArchive)
+}
+
+/// Adds a member, if there is one.
+fn add<'a>(members: &mut Vec<Member<'a>>, more: Option<Member<'a>>) -> Result<(), AllocError>
+    ensures { OnOk result
+        (map member members.new.items ≡ map member members.old.items ++ listed more.entry) }
+{
+    if let Some(member) = more {
+        members.push(member)?;
+    }
+    Ok(())
+}
+
+/// The members of entries, of which there are at most so many.
+fn members_in(alloc: Global, most: usize, entries: &[u8]) -> Result<Vec<Member<'_>>, ArchiveError>
+    ensures { Gives (λ members. map member members.items) result
+        (members_from most [] entries.now) }
+{
+    let mut members = Vec::new(alloc);
+    let mut names: &[u8] = &[];
+    let mut rest = entries;
+    for _ in 0..most {
+        if rest.is_empty() {
+            return Ok(members);
+        }
+        let entry = entry_at(names, rest)?;
+        add(&mut members, entry.member)?;
+        names = entry.names;
+        rest = entry.rest;
+    }
+    Ok(members)
+}
+
+/// The members of an archive, in order, as bytes of it. Tables of symbols and of names are none.
+///
+/// # Errors
+/// The first fault, and `Memory`.
+#[tactic(auto, unfolding(crate::specs::Members::members_of))]
+pub fn members(alloc: Global, bytes: &[u8]) -> Result<Vec<Member<'_>>, ArchiveError>
+    ensures { Gives (λ members. map member members.items) result (members_of bytes.now) }
+{
+    let entries = entries_of(bytes)?;
+    members_in(alloc, bytes.len(), entries)
+}
