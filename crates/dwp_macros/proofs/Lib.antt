@@ -1,0 +1,2 @@
+mod Alike
+mod Walks

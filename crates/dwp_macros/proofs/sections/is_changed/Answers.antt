@@ -1,0 +1,47 @@
+use Rattle.std.proofs.Common.{◌≡◌, ◌+◌, ◌-◌, ◌<◌, ◌≤◌, ◌||◌, Bool, length, sym, ap, ◌∙◌, arith}
+use Rattle.std.specs.Prelude.{option_map}
+use Rattle.dwp_elf_read.specs.View.{elf, section}
+use Rattle.dwp_macros.specs.Last.{has_macros, is_index}
+use Rattle.dwp_macros.proofs.Walks.{any_step, any_end, several_step, several_end, slice_get_none}
+use Rattle.dwp_macros.proofs.sections.is_changed.Goals as goal
+
+pub loop-left-init : goal.loop-left-init
+loop-left-init c =
+    let count = c.section_count-left.result in
+    let xs = (elf c.args.file.now).sections in
+    let h : length xs ≤ count = omega arith in
+    record {
+      inside = omega arith;
+      more = any_end has_macros xs count h;
+      several = several_end xs count h;
+      indexed = any_end is_index xs count h;
+    }
+
+pub returns-in_default : goal.returns-in_default
+returns-in_default c =
+    let xs = (elf c.args.file.now).sections in
+    let inside : c.loop-left.left - 1 < length xs = omega arith in
+    absurd (slice_get_none xs (c.loop-left.left - 1) inside
+    (sym c.section.ensures.found ∙ ap (option_map section) c.in_default.is))
+
+pub loop-left-preserved : goal.loop-left-preserved
+loop-left-preserved c =
+    let j = c.loop-left.left in
+    let i = c.loop-left.left - 1 in
+    let xs = (elf c.args.file.now).sections in
+    let x = section c.in-Some.section in
+    let next : j ≡ i + 1 = omega arith in
+    let at = sym c.section.ensures.found ∙ ap (option_map section) c.in-Some.is in
+    let more = c.loop-left.invariant.more in
+    record {
+      inside = omega arith;
+      more = c.either-has_more.ensures ∙ any_step has_macros xs i j x
+          c.has_macros-in-loop-left.result c.loop-left.has_more next at
+          c.has_macros-in-loop-left.ensures more;
+      several = c.either-several.ensures
+          ∙ ap (λ (a : Bool). c.loop-left.several || a) c.both.ensures
+          ∙ several_step xs i j x c.loop-left.has_more next at more c.loop-left.several
+          c.has_macros.result c.loop-left.invariant.several c.has_macros.ensures;
+      indexed = c.either-indexed.ensures ∙ any_step is_index xs i j x c.is_index.result
+          c.loop-left.indexed next at c.is_index.ensures c.loop-left.invariant.indexed;
+    }

@@ -1,0 +1,61 @@
+-- An object in which of the sections of macros only the last counts. A compiler that puts macros
+-- into COMDAT groups (ELF gABI, "Section Groups") leaves several of one name in an object; GNU's
+-- `dwp` and LLVM's `llvm-dwp` have a unit refer to the last of them.
+use Rattle.std.specs.Prelude.{ℕ, List, [], ◌∷◌, Bool, false, ◌&&◌, ◌||◌, ◌==◌, not}
+use Rattle.std.specs.Prelude.{if◌then◌else◌, Option, Some, None, Result, Ok, Err}
+use Rattle.std.specs.List.{list_any}
+use Rattle.dwp_base.specs.declared.section.SectionKind.{SectionKind}
+use Rattle.dwp_base.specs.declared.section.SectionKind.TheVariants.{Macro, CuIndex, TuIndex}
+use Rattle.dwp_base.specs.Sections.{name_of, compressed_name_of}
+use Rattle.dwp_elf_read.specs.declared.fault.ReadError.{ReadError}
+use Rattle.dwp_elf_read.specs.Elf.{Elf, SectionMeaning, SHT_NOBITS, is_named, elf_of}
+
+-- a section has bytes, and one of the names of a kind
+unfoldable pub holds : SectionKind → SectionMeaning → Bool
+holds kind section = not (section.size == 0 || section.kind == SHT_NOBITS)
+    && (is_named (name_of kind) section || is_named (compressed_name_of kind) section)
+
+-- macros
+abbrev pub has_macros : SectionMeaning → Bool
+has_macros section = holds Macro section
+
+-- an index: its file is a package
+abbrev pub is_index : SectionMeaning → Bool
+is_index section = holds CuIndex section || holds TuIndex section
+
+-- macros, and more behind them
+abbrev pub isnt_last : SectionMeaning → (behind : List SectionMeaning) → Bool
+isnt_last section behind = has_macros section && list_any has_macros behind
+
+-- several sections have macros
+unfoldable pub has_several : List SectionMeaning → Bool
+has_several [] = false
+has_several (section ∷ behind) = has_several behind || isnt_last section behind
+
+-- a section without its bytes
+unfoldable pub emptied : SectionMeaning → SectionMeaning
+emptied section = record section { size = 0; content = Some [] }
+
+-- a section loses its macros where there are more behind it, and else stays
+unfoldable pub kept_section : SectionMeaning → (behind : List SectionMeaning) → SectionMeaning
+kept_section section behind = if isnt_last section behind then emptied section else section
+
+unfoldable pub kept_sections : List SectionMeaning → List SectionMeaning
+kept_sections [] = []
+kept_sections (section ∷ behind) = kept_section section behind ∷ kept_sections behind
+
+-- a file with these sections
+unfoldable pub kept_file : Elf → Elf
+kept_file file = record file { sections = kept_sections file.sections }
+
+-- an object, and no package, of which several sections have macros
+unfoldable pub is_changed : List SectionMeaning → Bool
+is_changed sections = has_several sections && not (list_any is_index sections)
+
+-- what the reader is to say of the result; there is none where nothing is to change
+abbrev pub last_of : Result Elf ReadError → Option (Result Elf ReadError)
+last_of (Err e) = None
+last_of (Ok file) = if is_changed file.sections then Some (Ok (kept_file file)) else None
+
+unfoldable pub last_macros_of : List ℕ → Option (Result Elf ReadError)
+last_macros_of bytes = last_of (elf_of bytes)

@@ -1,0 +1,2 @@
+pub mod Agreement
+pub mod Last

@@ -1,0 +1,67 @@
+//! The sections of an object that have macros.
+
+ghost use Rattle.std.specs.Prelude.{◌≡◌, ◌||◌, ◌&&◌};
+ghost use Rattle.dwp_elf_read.specs.View as view;
+ghost use Rattle.dwp_elf_read.specs.View.{elf};
+ghost use Rattle.dwp_macros.specs.Last as spec;
+
+use dwp_base::SectionKind;
+use dwp_elf_read::{ElfFile, Section};
+
+/// Whether a section has bytes, and one of the names of a kind.
+#[tactic(auto, unfolding(crate::specs::Last::holds))]
+fn holds(kind: SectionKind, section: &Section<'_>) -> bool
+    ensures { result ≡ spec.holds kind (view.section section.now) }
+{
+    !section.is_empty()
+        && (section.is_called(kind.name()) || section.is_called(kind.compressed_name()))
+}
+
+/// Whether a section has macros.
+pub fn has_macros(section: &Section<'_>) -> bool
+    ensures { result ≡ spec.has_macros (view.section section.now) }
+{
+    holds(SectionKind::Macro, section)
+}
+
+/// Whether a section is an index.
+fn is_index(section: &Section<'_>) -> bool
+    ensures { result ≡ spec.is_index (view.section section.now) }
+{
+    holds(SectionKind::CuIndex, section) || holds(SectionKind::TuIndex, section)
+}
+
+/// Either of two.
+pub fn either(a: bool, b: bool) -> bool
+    ensures { result ≡ (a || b) }
+{
+    a || b
+}
+
+/// Both of two.
+fn both(a: bool, b: bool) -> bool
+    ensures { result ≡ (a && b) }
+{
+    a && b
+}
+
+/// Whether several sections of an object have macros; of a package that isn't asked.
+#[tactic(auto, unfolding(crate::specs::Last::is_changed))]
+pub fn is_changed(file: &ElfFile<'_>) -> bool
+    ensures { result ≡ spec.is_changed (elf file.now).sections }
+{
+    let mut has_more = false;
+    let mut several = false;
+    let mut indexed = false;
+    let mut left = file.section_count();
+    while left > 0 {
+        left -= 1;
+        let Some(section) = file.section(left) else {
+            return false;
+        };
+        several = either(several, both(has_macros(&section), has_more));
+        has_more = either(has_macros(&section), has_more);
+        indexed = either(is_index(&section), indexed);
+    }
+    several && !indexed
+}
