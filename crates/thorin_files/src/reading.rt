@@ -8,6 +8,10 @@ use std::io::{self, ErrorKind, Read};
 use std::os::unix::fs::{FileTypeExt, MetadataExt};
 use std::path::{AsPath, Path};
 
+/// How much room is made at least for files that are read one after another: 16 MiB. Most objects
+/// fit, and new room costs the system a fault for each page that it touches for the first time.
+const ROOM: usize = 0x100_0000;
+
 /// Reads a file whole, into room of its length where the system tells the length, so that it is
 /// held once.
 ///
@@ -145,14 +149,15 @@ fn is_read_within<F: Read + Drop>(
 
 /// Reads all that is left, which is about `len` bytes, into room that is made once: a byte more
 /// than `len` lets the read that finds the end have room. The first read takes all that it gets.
-/// New room has a quarter more, where there is memory: so the next larger file mostly fits too.
+/// New room has a quarter more and at least `ROOM` bytes, where there is memory: so the next larger
+/// file mostly fits too. What of it no file fills takes none of the machine's memory.
 fn read_whole<F: Read>(file: &mut F, len: u64, room: &mut Vec<u8>) -> io::Result<()>
     ensures { OnOk result (IfSome (F.remaining file.old) (λ all. room.new.items ≡ all)) }
 {
     let needed = (len as usize).saturating_add(1);
     if room.capacity() < needed {
         *room = Vec::new(*room.allocator());
-        let roomy = needed.saturating_add(needed / 4);
+        let roomy = needed.saturating_add(needed / 4).max(ROOM);
         if room.reserve_exact(roomy).is_err() {
             room.reserve_exact(needed)?;
         }
