@@ -17,7 +17,8 @@ use std::marker::Model;
 use std::mem::replace;
 
 /// Distinct strings, in order of first use, each of which is found by its hash: that has the
-/// string's place. So no two have one hash, and one string at most is compared with another.
+/// string's place. So no two have one hash, and one string at most is compared with another. The
+/// hashes are kept too: by them the places are entered again where there are more slots.
 ///
 /// The place behind the string that was found last is looked at first: inputs that share strings
 /// often use them in the same order.
@@ -26,6 +27,7 @@ pub(crate) struct HashedStrings {
     alloc: Global,
     bytes: Vec<u8>,
     begins: Vec<u64>,
+    hashes: Vec<u64>,
     places: Places,
     next: usize,
 }
@@ -54,8 +56,8 @@ impl Model for HashedStrings {
 
     ghost view = { λ t. strings_in t.bytes.items };
 
-    ghost invariant = { λ t. IsHashed t.bytes.items t.begins.items t.places.slots.items
-        t.places.mask };
+    ghost invariant = { λ t. IsHashed t.bytes.items t.begins.items t.hashes.items
+        t.places.slots.items t.places.mask };
 }
 
 impl HashedStrings {
@@ -67,6 +69,7 @@ impl HashedStrings {
             alloc,
             bytes: Vec::new(alloc),
             begins: Vec::new(alloc),
+            hashes: Vec::new(alloc),
             places: Places::new(alloc),
             next: 0,
         }
@@ -136,10 +139,12 @@ impl HashedStrings {
         let place = self.bytes.len();
         self.bytes.reserve(string.len() + 1)?;
         self.begins.reserve(1)?;
-        if !self.places.enter(hash, place) {
+        self.hashes.reserve(1)?;
+        if !self.places.enter(hash, place, &self.hashes, &self.begins) {
             return Err(Unplaced::Clash);
         }
         self.begins.push(place as u64).unwrap();
+        self.hashes.push(hash).unwrap();
         self.bytes.extend_from_slice(string).unwrap();
         self.bytes.push(0).unwrap();
         Ok(place)
@@ -155,6 +160,7 @@ impl HashedStrings {
         let bytes = replace(&mut self.bytes, Vec::new(self.alloc));
         let sorted = SortedStrings::of(self.alloc, bytes, positions, &self.begins);
         self.begins.clear();
+        self.hashes.clear();
         Some(sorted)
     }
 
@@ -168,13 +174,15 @@ impl HashedStrings {
         }
     }
 
-    /// Forgets every string that came after a mark. What its hash has as its place may stay there.
+    /// Forgets every string that came after a mark. The place of its hash may stay there until there
+    /// are more slots.
     pub fn truncate(&mut self, mark: TableMark)
         requires { mark ≡ mark_of (take mark.strings self.old) }
         ensures { self.new ≡ take mark.strings self.old }
     {
         self.bytes.truncate(mark.bytes);
         self.begins.truncate(mark.strings);
+        self.hashes.truncate(mark.strings);
     }
 
     /// Each string and a zero byte.

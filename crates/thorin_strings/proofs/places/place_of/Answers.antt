@@ -7,20 +7,20 @@ use Rattle.thorin_strings.proofs.places.place_of.Goals as goal
 
 pub loop-number-init : goal.loop-number-init
 loop-number-init c = record {
-  looked = begun c.args.slots.now c.args.mask c.args.hash _ _
-      c.home-home.ensures.value (omega arith);
+  looked = begun c.args.slots.now c.args.mask c.args.hash _ _ c.tag-tag.result
+      c.home-home.ensures.value (omega arith) c.tag-tag.ensures;
 }
 
 pub returns-then-number-slots : goal.returns-then-number-slots
 returns-then-number-slots c =
     sym (c.loop-number.invariant.looked ∙ at_free c.args.slots.now c.loop-number.number _
-    c.args.hash (ap (λ (s : Slot). s.behind) (get_or_past c.args.slots.now c.loop-number.number
+    c.tag-tag.result (ap (λ (s : Slot). s.behind) (get_or_past c.args.slots.now c.loop-number.number
     free (omega arith))))
 
 pub loop-number-preserved : goal.loop-number-preserved
 loop-number-preserved c = record {
   looked = c.loop-number.invariant.looked
       ∙ at_other c.args.slots.now c.loop-number.number (c.home-home.result + 64 -
-      c.loop-number.number) (c.home-home.result + 64 - (c.loop-number.number + 1)) c.args.hash
-      (omega arith) c.if-slot-eq0.false c.if-slot-hash.false;
+      c.loop-number.number) (c.home-home.result + 64 - (c.loop-number.number + 1)) c.tag-tag.result
+      (omega arith) c.if-slot-eq0.false c.if-slot-tag.false;
 }

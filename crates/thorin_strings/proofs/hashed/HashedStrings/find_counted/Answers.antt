@@ -5,7 +5,7 @@ use Rattle.thorin_strings.specs.Strings.{IsZeroFree, strings_in}
 use Rattle.thorin_strings.specs.Places.{place_of}
 use Rattle.thorin_strings.proofs.StringLemmas.{zero_within, zero_free-strings_in}
 use Rattle.thorin_strings.proofs.PlaceLemmas.{known_place_in}
-use Rattle.thorin_strings.proofs.HashedLemmas.{misplaced}
+use Rattle.thorin_strings.proofs.HashedLemmas.{misplaced, unplaced}
 use Rattle.thorin_strings.proofs.hashed.HashedStrings.find_counted.Goals as goal
 
 pub returns-then-is_some-clause-found : goal.returns-then-is_some-clause-found
@@ -38,8 +38,17 @@ returns-else-stands_at-clause-found c =
     (sym c.hash.ensures) ∙ sym c.find.ensures ∙ c.in-Some.is in
     rw (← c.self.view_is) (
       λ e. absurd (false≢true e),
-      λ there. absurd (misplaced _ _ _ _ c.args.string.now
+      λ there. absurd (misplaced _ _ _ _ _ c.args.string.now
           c.in-Some.place c.self.invariant placed (λ here.
           false≢true (sym c.if-stands_at.false ∙ c.stands_at.ensures.1
           (rw c.deref.ensures.value here))) there),
+    )
+
+pub returns-in_default-clause-found : goal.returns-in_default-clause-found
+returns-in_default-clause-found c =
+    let none = ap (place_of c.self.inside.places.slots.items c.self.inside.places.mask)
+    (sym c.hash.ensures) ∙ sym c.find.ensures ∙ c.in_default.is in
+    rw (← c.self.view_is) (
+      λ e. absurd (false≢true e),
+      λ there. absurd (unplaced _ _ _ _ _ c.args.string.now c.self.invariant none there),
     )
