@@ -18,11 +18,12 @@ const PACK_EXAMPLES: &'static str = "Examples:
   thorin pack -o all.dwp @objects.txt      packs those that objects.txt names
   thorin pack -o app.dwp -e app            packs those that app refers to
 
-Nothing is printed where all went well, but for a line `warning: ` for each type
-unit that was passed over though it differs from the one kept. At the first
-input that is refused a line `error: ` says why, and OUT isn't written:
-status 1. On a terminal, and with --verbose, a line `note: ` says where. Where a
-warning can't be printed OUT is written, and the status is 1.";
+Nothing is printed where all went well, but for lines `warning: `: for each type
+unit that was passed over though it differs from the one kept, and for an input
+that has an object with several sections of macros. At the first input that is
+refused a line `error: ` says why, and OUT isn't written: status 1. On a
+terminal, and with --verbose, a line `note: ` says where. Where a warning can't
+be printed OUT is written, and the status is 1.";
 
 const FIND_EXAMPLES: &'static str = "Example:
   thorin find hello.dwp cu 0x084a58cc96339e44
@@ -86,6 +87,11 @@ const DECOMPRESS: Word = Word::Flag(
 
 const OVERLAP: Word = Word::Flag("allow-overlap", "Take inputs whose sections overlap");
 
+const LAST_MACROS: Word = Word::Flag(
+    "last-macros",
+    "Keep only the last .debug_macro.dwo of each object",
+);
+
 const WARNINGS: Word = Word::Choice(
     "warnings",
     "WHICH",
@@ -108,6 +114,7 @@ const COMMANDS: [Line; 4] = [
             FORCE,
             DECOMPRESS,
             OVERLAP,
+            LAST_MACROS,
             WARNINGS,
             Word::Verbose,
             Word::Inputs,

@@ -33,6 +33,8 @@ pub struct PackArguments<'m, 'a> {
     pub warnings: Option<&'a str>,
     /// Whether sections of an input may overlap.
     pub allows_overlap: bool,
+    /// Whether of an object's sections of macros only the last counts.
+    pub keeps_last_macros: bool,
 }
 
 /// What does the commands. Each answers the program's status.
@@ -237,6 +239,7 @@ fn arguments_of<'m, 'a>(matches: &'m ArgMatches<'a>) -> PackArguments<'m, 'a> {
     PackArguments {
         skips_missing: has_flag(matches, "skip-missing"),
         decompresses: has_flag(matches, "decompress"),
+        keeps_last_macros: has_flag(matches, "last-macros"),
         ..arguments_of_peer(matches)
     }
 }
@@ -254,5 +257,6 @@ fn arguments_of_peer<'m, 'a>(matches: &'m ArgMatches<'a>) -> PackArguments<'m, '
         verbose: has_flag(matches, "verbose"),
         warnings: value_of(matches, "warnings"),
         allows_overlap: has_flag(matches, "allow-overlap"),
+        keeps_last_macros: false,
     }
 }

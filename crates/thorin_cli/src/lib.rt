@@ -229,6 +229,7 @@ fn packing_of<'m, 'a>(arguments: PackArguments<'m, 'a>, manner: Manner) -> Packi
         notes: manner.notes || arguments.verbose,
         warnings: warnings_of(arguments.warnings, manner.warnings),
         allows_overlap: arguments.allows_overlap,
+        keeps_last_macros: arguments.keeps_last_macros || manner.keeps_last_macros,
         lets_empty: manner.lets_empty,
     }
 }

@@ -22,6 +22,8 @@ pub(crate) struct Manner {
     pub(crate) notes: bool,
     /// Which warnings of type units that differ are printed.
     pub(crate) warnings: Warnings,
+    /// Whether of an object's sections of macros only the last counts.
+    pub(crate) keeps_last_macros: bool,
     /// Whether an executable without anything split gives an empty package.
     pub(crate) lets_empty: bool,
 }
@@ -41,6 +43,7 @@ impl Manner {
             } else {
                 Warnings::Each
             },
+            keeps_last_macros: is_peer,
             lets_empty: is_peer,
         }
     }

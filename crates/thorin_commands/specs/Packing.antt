@@ -16,6 +16,7 @@ use Rattle.thorin.specs.declared.packing.Input.TheVariants as inputs
 use Rattle.thorin.specs.Run.{Ran}
 use Rattle.thorin_queries.specs.declared.output.Failure.{Failure}
 use Rattle.thorin_commands.specs.Files.{IsOfWriting}
+use Rattle.thorin_commands.specs.Plain.{Offer, taken_from, last_from}
 use Rattle.thorin_commands.specs.declared.packing.Packing.{Packing}
 use Rattle.thorin_commands.specs.declared.output.Refusal.{Refusal}
 use Rattle.thorin_commands.specs.declared.output.Refusal.TheVariants as refusals
@@ -62,6 +63,12 @@ given_or_beside None executables = name_beside executables
 
 abbrev pub out_of : Packing → Option (List ℕ)
 out_of packing = given_or_beside packing.output (paths_in packing.executables)
+
+-- what is taken for the file at a path: decompressed, and with the last macros alone, where that is
+-- asked for
+abbrev pub inputs_from : Packing → Offer → Offer
+inputs_from packing offer =
+    last_from packing.keeps_last_macros (taken_from packing.decompresses offer)
 
 -- ---- what is made of that
 

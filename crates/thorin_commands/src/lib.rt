@@ -3,6 +3,7 @@
 #![tactic(auto)]
 
 mod files;
+mod macros;
 mod notes;
 mod output;
 mod overlap;

@@ -11,14 +11,13 @@ ghost use Rattle.thorin.specs.Run.{Took};
 ghost use Rattle.thorin_commands.specs.Files.{IsOfWriting, Put, Begins};
 ghost use Rattle.thorin_commands.specs.Packing.{asked, object_asked, executable_asked, asks};
 ghost use Rattle.thorin_commands.specs.Packing.{out_of, AreAllAccepted, IsPackedOf, Packs, Comes};
-ghost use Rattle.thorin_commands.specs.Packing.{IsPackageFor, Fails, paths_in};
-ghost use Rattle.thorin_commands.specs.Plain.{taken_from};
+ghost use Rattle.thorin_commands.specs.Packing.{IsPackageFor, Fails, paths_in, inputs_from};
 
 use crate::files::FileSystem;
 use crate::output::{Refusal, write_package};
 use crate::plain::{InputFiles, Inputs};
 use crate::telling::{Telling, refused, tell, tell_fault, tell_unfinished, warn_unsplit};
-use crate::warnings::{Warnings, warn};
+use crate::warnings::{Warned, Warnings, warn};
 use bumpalo::Bump;
 use dwp_bytes::RelocationEntry;
 use dwp_elf::WritableObject;
@@ -56,6 +55,8 @@ pub struct Packing<'m, 'a> {
     pub warnings: Warnings,
     /// Whether an input may have sections that overlap.
     pub allows_overlap: bool,
+    /// Whether of an object's sections of macros only the last counts.
+    pub keeps_last_macros: bool,
     /// Whether the package is empty where nothing of the executables is split, and that is no error.
     pub lets_empty: bool,
 }
@@ -128,12 +129,12 @@ pub fn pack<F: FileSystem, O: Write, E: Write>(
     out: &mut O,
     err: &mut E,
 ) -> Result<u8, Failure>
-    ensures packed { result ≡ Ok 0 → Packs (taken_from packing.now.decompresses (F.offer files.old)) packing.now
+    ensures packed { result ≡ Ok 0 → Packs (inputs_from packing.now (F.offer files.old)) packing.now
         (Put F.begun O.contents files.old files.new out.old out.new) }
     ensures status { IfOk result (λ status. status ≤ 1) }
     ensures refused { result ≡ Ok 1 → (files.new ≡ files.old) × (out.new ≡ out.old) }
     ensures failed { IfErr result (λ failure. Fails failure
-        ((files.new ≡ files.old) × (out.new ≡ out.old)) (Packs (taken_from packing.now.decompresses (F.offer files.old)) packing.now
+        ((files.new ≡ files.old) × (out.new ≡ out.old)) (Packs (inputs_from packing.now (F.offer files.old)) packing.now
         (Begins F.begun O.contents files.old files.new out.old out.new))) }
 {
     match pack_all(alloc, files, packing, out, err) {
@@ -154,9 +155,9 @@ fn pack_all<F: FileSystem, O: Write, E: Write>(
     err: &mut E,
 ) -> Result<(), Refusal>
     ensures { Comes result ((files.new ≡ files.old) × (out.new ≡ out.old))
-        (Packs (taken_from packing.now.decompresses (F.offer files.old)) packing.now
+        (Packs (inputs_from packing.now (F.offer files.old)) packing.now
         (Begins F.begun O.contents files.old files.new out.old out.new))
-        (Packs (taken_from packing.now.decompresses (F.offer files.old)) packing.now
+        (Packs (inputs_from packing.now (F.offer files.old)) packing.now
         (Put F.begun O.contents files.old files.new out.old out.new)) }
 {
     match packing.output_name(alloc) {
@@ -177,21 +178,22 @@ fn pack_as<F: FileSystem, O: Write, E: Write>(
 ) -> Result<(), Refusal>
     requires { out_of packing.now ≡ Some output.now }
     ensures { Comes result ((files.new ≡ files.old) × (out.new ≡ out.old))
-        (Packs (taken_from packing.now.decompresses (F.offer files.old)) packing.now
+        (Packs (inputs_from packing.now (F.offer files.old)) packing.now
         (Begins F.begun O.contents files.old files.new out.old out.new))
-        (Packs (taken_from packing.now.decompresses (F.offer files.old)) packing.now
+        (Packs (inputs_from packing.now (F.offer files.old)) packing.now
         (Put F.begun O.contents files.old files.new out.old out.new)) }
 {
     if packing.overwrites(files, output) {
         return Err(Refusal::Command(Failure::Overwrites));
     }
     match packed(alloc, files, packing, err) {
-        Ok((object, differing)) => {
-            let differing = Differing {
-                signatures: differing.as_slice(),
+        Ok((object, differing, lines)) => {
+            let warned = Warned {
+                lines: lines.as_str(),
+                differing: differing.as_slice(),
                 warnings: packing.warnings,
             };
-            match write_and_warn(alloc, files, &object, differing, output, out, err) {
+            match write_and_warn(alloc, files, &object, warned, output, out, err) {
                 Ok(()) => Ok(()),
                 Err(failure) => Err(Refusal::Command(failure)),
             }
@@ -200,20 +202,13 @@ fn pack_as<F: FileSystem, O: Write, E: Write>(
     }
 }
 
-/// The type units that differ from the ones kept, and which warnings of them are printed.
-#[derive(Clone, Copy)]
-struct Differing<'d> {
-    signatures: &'d [DebugTypeSignature],
-    warnings: Warnings,
-}
-
-/// Writes the package, and then warns of type units that differ.
+/// Writes the package, and then prints the warnings.
 #[tactic(auto, using(crate::proofs::Puts::early, crate::proofs::Puts::late))]
 fn write_and_warn<F: FileSystem, O: Write, E: Write>(
     alloc: Global,
     files: &mut F,
     object: &WritableObject,
-    differing: Differing<'_>,
+    warned: Warned<'_>,
     output: &str,
     out: &mut O,
     err: &mut E,
@@ -226,7 +221,7 @@ fn write_and_warn<F: FileSystem, O: Write, E: Write>(
 {
     match buffer(alloc, err) {
         Ok(mut lines) => {
-            match write_then_warn(alloc, files, object, differing, output, out, &mut lines) {
+            match write_then_warn(alloc, files, object, warned, output, out, &mut lines) {
                 Ok(()) => Ok(()),
                 Err(failure) => Err(failure),
             }
@@ -241,7 +236,7 @@ fn write_then_warn<F: FileSystem, O: Write, W: Write>(
     alloc: Global,
     files: &mut F,
     object: &WritableObject,
-    differing: Differing<'_>,
+    warned: Warned<'_>,
     output: &str,
     out: &mut O,
     lines: &mut W,
@@ -253,7 +248,7 @@ fn write_then_warn<F: FileSystem, O: Write, W: Write>(
     ensures cause { IfErr result IsOfWriting }
 {
     match write_package(files, object, output, out) {
-        Ok(()) => match warn(alloc, differing.warnings, differing.signatures, lines) {
+        Ok(()) => match warn(alloc, warned, lines) {
             Ok(()) => Ok(()),
             Err(failure) => Err(failure),
         },
@@ -261,30 +256,31 @@ fn write_then_warn<F: FileSystem, O: Write, W: Write>(
     }
 }
 
-/// The object to be written for what is asked for, and the signatures of type units that were
-/// passed over and differ from the ones kept.
+/// The object to be written for what is asked for, the signatures of type units that were passed
+/// over and differ from the ones kept, and the warnings of sections of macros.
 #[tactic(auto, using(crate::proofs::Puts::for_packing))]
 fn packed<F: FileSystem, E: Write>(
     alloc: Global,
     files: &F,
     packing: &Packing<'_, '_>,
     err: &mut E,
-) -> Result<(WritableObject, Vec<DebugTypeSignature>), Refusal>
+) -> Result<(WritableObject, Vec<DebugTypeSignature>, String), Refusal>
     ensures { IfOk result (λ made. IsPackageFor
-        (taken_from packing.now.decompresses (F.offer files.now)) packing.now made.0) }
+        (inputs_from packing.now (F.offer files.now)) packing.now made.0) }
 {
     let objects = paths_in(packing.inputs);
     let executables = paths_in(packing.executables);
     let inputs = inputs_of(alloc, objects, executables, packing.missing)?;
-    let files = InputFiles::new(alloc, files, packing.decompresses, packing.allows_overlap);
+    let files = InputFiles::new(alloc, files, packing);
     let telling = Telling {
         verbose: packing.verbose,
         notes: packing.notes,
     };
     match packed_inputs(alloc, &files, inputs.as_slice(), telling, err) {
-        Ok(made) => Ok(made),
+        Ok((object, differing)) => Ok((object, differing, files.warnings())),
         Err(Refusal::Package(Error::NoOutputObjectCreated)) if packing.lets_empty => {
-            packed_unsplit(alloc, &files, packing, err)
+            let (object, differing) = packed_unsplit(alloc, &files, packing, err)?;
+            Ok((object, differing, String::new(alloc)))
         }
         Err(refusal) => Err(refusal),
     }

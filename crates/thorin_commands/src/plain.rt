@@ -1,13 +1,16 @@
-//! The inputs of `pack`, decompressed where that is asked for.
+//! The inputs of `pack`, decompressed and with the last macros alone where that is asked for.
 
 ghost use Rattle.std.specs.Prelude.{◌≡◌, OnOk, IfErr};
 ghost use Rattle.std.specs.Path.{path_bytes};
 ghost use Rattle.thorin_faults.specs.Sessions.{IsNoWantOfMemory};
-ghost use Rattle.thorin_commands.specs.Plain.{IsPlainOf, IsReadOver, taken_from};
+ghost use Rattle.thorin_commands.specs.Plain.{IsPlainOf, IsReadOver, taken_from, last_from};
 
 use crate::files::FileSystem;
+use crate::macros::{MacroWarnings, keep_last_macros};
 use crate::notes::{Unread, place_of, reason};
 use crate::overlap::has_overlap;
+use crate::packing::Packing;
+use crate::warnings::Warnings;
 use dwp_decompress::{DecompressError, decompressed};
 use std::alloc::{AllocError, Global};
 use std::cell::Cell;
@@ -48,6 +51,9 @@ pub(crate) struct InputFiles<'f, F> {
     alloc: Global,
     files: &'f F,
     decompresses: bool,
+    /// Whether of an object's sections of macros only the last counts, and what is warned else.
+    keeps_last_macros: bool,
+    macros: MacroWarnings,
     /// Whether the next read is that of an input's own path.
     begins: Cell<bool>,
     /// The input's own path, and the one that was read last of those that it names.
@@ -63,25 +69,24 @@ pub(crate) struct InputFiles<'f, F> {
 }
 
 impl<'f, F: FileSystem> InputFiles<'f, F> {
-    /// These files, decompressed where that is asked for.
-    pub(crate) fn new(
-        alloc: Global,
-        files: &'f F,
-        decompresses: bool,
-        allows_overlap: bool,
-    ) -> InputFiles<'f, F>
+    /// These files, as they are read for what is to be packed.
+    pub(crate) fn new(alloc: Global, files: &'f F, packing: &Packing<'_, '_>) -> InputFiles<'f, F>
         ensures files { result.files.now ≡ files.now }
-        ensures decompresses { result.decompresses ≡ decompresses }
+        ensures decompresses { result.decompresses ≡ packing.now.decompresses }
+        ensures macros { result.keeps_last_macros ≡ packing.now.keeps_last_macros }
     {
+        let warns = !packing.keeps_last_macros && !matches!(packing.warnings, Warnings::Never);
         InputFiles {
             alloc,
             files,
-            decompresses,
+            decompresses: packing.decompresses,
+            keeps_last_macros: packing.keeps_last_macros,
+            macros: MacroWarnings::new(alloc, warns),
             begins: Cell::new(false),
             own: Cell::new(None),
             named: Cell::new(None),
             unread: Cell::new(None),
-            allows_overlap,
+            allows_overlap: packing.allows_overlap,
             is_executable: Cell::new(false),
             overlap: Cell::new(false),
         }
@@ -137,15 +142,14 @@ impl<'f, F: FileSystem> InputFiles<'f, F> {
     }
 }
 
-impl<F: FileSystem> InputReader for InputFiles<'_, F> {
-    ghost offer = { λ inputs. taken_from inputs.decompresses (F.offer inputs.files.now) };
-
+impl<F: FileSystem> InputFiles<'_, F> {
+    /// Reads a file, decompressed where that is asked for.
     #[tactic(auto, using(crate::proofs::Taken::taken_plain, crate::proofs::Taken::taken_as_it_is, crate::proofs::Taken::taken_failed))]
-    fn read_into<'b>(
-        &'b self,
-        path: Path<'_>,
-        room: &'b mut Vec<u8>,
-    ) -> Result<&'b [u8], InputError> {
+    fn read_plain(&self, path: Path<'_>, room: &mut Vec<u8>) -> Result<(), InputError>
+        ensures offered { IsReadOver (taken_from self.now.decompresses
+            (F.offer self.now.files.now) (path_bytes path.entry)) room.new.items result }
+        ensures memory { IfErr result IsNoWantOfMemory }
+    {
         let is_own = self.begins.replace(false);
         self.keep_path(is_own, path.path_text());
         match read_file(self.files, is_own, path, room) {
@@ -161,9 +165,55 @@ impl<F: FileSystem> InputReader for InputFiles<'_, F> {
             return Err(InputError::Memory);
         }
         if !self.decompresses {
-            return Ok(room.as_slice());
+            return Ok(());
         }
         match decompress(self.alloc, room) {
+            Ok(()) => Ok(()),
+            Err(AllocError) => Err(InputError::Memory),
+        }
+    }
+
+    /// Looks for several sections of macros in the file at a path, where that is to be warned of.
+    fn look_for_macros(&self, path: &str, file: &[u8]) -> Result<(), AllocError> {
+        let own = self.own.replace(None);
+        let looked = match &own {
+            Some(own) if own.as_str() != path => {
+                self.macros.look_at(file, own.as_str(), Some(path))
+            }
+            _ => self.macros.look_at(file, path, None),
+        };
+        self.own.set(own);
+        looked
+    }
+
+    /// The warnings of sections of macros.
+    pub(crate) fn warnings(&self) -> String {
+        self.macros.take()
+    }
+}
+
+impl<F: FileSystem> InputReader for InputFiles<'_, F> {
+    ghost offer = { λ inputs. last_from inputs.keeps_last_macros
+        (taken_from inputs.decompresses (F.offer inputs.files.now)) };
+
+    #[tactic(auto, using(crate::proofs::Taken::with_last, crate::proofs::Taken::with_all, crate::proofs::Taken::with_none))]
+    fn read_into<'b>(
+        &'b self,
+        path: Path<'_>,
+        room: &'b mut Vec<u8>,
+    ) -> Result<&'b [u8], InputError> {
+        match self.read_plain(path, room) {
+            Ok(()) => {}
+            Err(InputError::Io(cause)) => return Err(InputError::Io(cause)),
+            Err(InputError::Memory) => return Err(InputError::Memory),
+        }
+        if !self.keeps_last_macros {
+            return match self.look_for_macros(path.path_text(), room) {
+                Ok(()) => Ok(room.as_slice()),
+                Err(AllocError) => Err(InputError::Memory),
+            };
+        }
+        match keep_last_macros(self.alloc, room) {
             Ok(()) => Ok(room.as_slice()),
             Err(AllocError) => Err(InputError::Memory),
         }
@@ -173,6 +223,7 @@ impl<F: FileSystem> InputReader for InputFiles<'_, F> {
 impl<F: FileSystem> Inputs for InputFiles<'_, F> {
     fn begin(&self, input: Input<'_>) {
         self.begins.set(true);
+        self.macros.begin();
         self.overlap.set(false);
         self.is_executable
             .set(matches!(input, Input::Executable(_, _)));

@@ -1,4 +1,4 @@
-//! Warnings of type units that differ from the ones kept.
+//! Warnings, printed once the package is written.
 
 ghost use Rattle.std.specs.Prelude.{◌≡◌, IfErr};
 ghost use Rattle.thorin_commands.specs.Files.{IsOfWriting};
@@ -39,18 +39,38 @@ impl Warnings {
     }
 }
 
-/// Warns of type units that differ, and hands the warnings over.
+/// What is warned of.
+#[derive(Clone, Copy)]
+pub(crate) struct Warned<'d> {
+    /// Lines that are printed as they are.
+    pub(crate) lines: &'d str,
+    /// The type units that differ from the ones kept.
+    pub(crate) differing: &'d [DebugTypeSignature],
+    /// Which warnings of these are printed.
+    pub(crate) warnings: Warnings,
+}
+
+/// Prints the warnings, and hands them over.
 pub(crate) fn warn<W: Write>(
     alloc: Global,
-    warnings: Warnings,
-    differing: &[DebugTypeSignature],
+    warned: Warned<'_>,
     lines: &mut W,
 ) -> Result<(), Failure>
     ensures { IfErr result IsOfWriting }
 {
-    match print_warnings(alloc, warnings, differing, lines) {
+    match print_all(alloc, warned, lines) {
         Ok(()) => flush(lines),
         Err(failure) => Err(failure),
+    }
+}
+
+/// Prints the lines, and then those of type units.
+fn print_all<W: Write>(alloc: Global, warned: Warned<'_>, lines: &mut W) -> Result<(), Failure>
+    ensures { IfErr result IsOfWriting }
+{
+    match lines.write_all(warned.lines.as_bytes()) {
+        Ok(()) => print_warnings(alloc, warned.warnings, warned.differing, lines),
+        Err(_) => Err(Failure::Line),
     }
 }
 
