@@ -5,7 +5,7 @@
 
 A pipe that a command line names is read, whether as an object or as an executable. An object that an executable names is
 read only where it is a regular file: a pipe, a directory or a file of /proc there is refused at once, or passed over by
---skip-missing.
+--skip-missing and --partial, and listed by --missing.
 """
 import os
 import subprocess
@@ -53,6 +53,12 @@ def rows(folder):
         note = "note: x.dwo, named by app: not a regular file\n"
         yield f"{made.__name__}: the same, with a note", [*pack, "-v", "-e", "app"], {}, (1, unread + note, False)
         yield f"{made.__name__}: the same, passed over", [*pack, "--skip-missing", "-e", "app"], {}, (1, lacking, False)
+        warning = note.replace("note: ", "warning: unit 0x00000005: ")
+        yield f"{made.__name__}: the same, left out", [*pack, "--partial", "-e", "app"], {}, (0, warning, True)
+        yield f"{made.__name__}: the same, listed", ["pack", "--missing", "-e", "app"], {}, (1, "", False)
+        unknown = "warning: unit 0x00000005: not found\n"
+        yield f"{made.__name__}: named by a pipe", [*pack, "--partial", "-e", "fed"], {"fed": bytes_of("app")}, (0, unknown, True)
+        yield f"{made.__name__}: named by a pipe, listed", ["pack", "--missing", "-e", "fed"], {"fed": bytes_of("app")}, (1, "", False)
         (os.rmdir if made is os.mkdir else os.remove)(os.path.join(folder, "x.dwo"))
     os.symlink("/proc/kmsg", os.path.join(folder, "x.dwo"))
     yield "a file of /proc that an executable names", [*pack, "--skip-missing", "-e", "app"], {}, None

@@ -30,7 +30,8 @@ const FIND_EXAMPLES: &'static str = "Example:
 
 It prints the unit's encoding, the place and size of what it has in each section
 (hexadecimal), the number of its strings, and how many slots of the index were
-looked at.";
+looked at. With --string it prints one of its strings, counted from 0, with
+--section the bytes of what it has in a section, as they are.";
 
 const LIST_EXAMPLES: &'static str = "Example:
   thorin list hello.dwp
@@ -38,7 +39,8 @@ const LIST_EXAMPLES: &'static str = "Example:
 Each line has the kind, the identifier and the size of a unit. With --sizes its
 size in each section follows. A line `total` for each section then has its size
 in the file, after `units` how much of it belongs to units, and after `shared`
-how much larger it would be if each unit had a copy of its own.";
+how much larger it would be if each unit had a copy of its own. With --names the
+names of its source and of its object follow, each behind a tab; - for none.";
 
 const CHECK_EXAMPLES: &'static str = "Example:
   thorin check app.dwp -e app
@@ -49,14 +51,21 @@ Status 1 where there are faults.";
 /// A word that a command line may have.
 #[derive(Clone, Copy)]
 enum Word {
-    /// `-o OUT`, which must be there.
-    Output,
+    /// `-o OUT`, which must be there, unless the option of this name is.
+    Output(&'static str),
     /// `-e EXEC`, as often as one likes, with its help.
     Executables(&'static str),
     /// `-v`.
     Verbose,
     /// An option without a value: its name and its help.
     Flag(&'static str, &'static str),
+    /// An option with any value: its name, how help shows the value, its help.
+    Value(&'static str, &'static str, &'static str),
+    /// The same, beside which another can't stand: its name, how help shows the value, its help, the
+    /// others.
+    Alone(&'static str, &'static str, &'static str, &'static [&'static str]),
+    /// An option with a value, as often as one likes: its name, how help shows the value, its help.
+    Values(&'static str, &'static str, &'static str),
     /// An option with one of some values: its name, how help shows the value, its help, the values.
     Choice(&'static str, &'static str, &'static str, &'static [&'static str]),
     /// `INPUT`, as often as one likes.
@@ -85,6 +94,15 @@ const DECOMPRESS: Word = Word::Flag(
     "Read inputs and executables that are compressed by zlib",
 );
 
+const JSON: Word = Word::Flag("json", "Print a JSON object a line");
+
+const SECTION: Word = Word::Alone(
+    "section",
+    "SECTION",
+    "Write the unit's bytes of a section instead, as they are",
+    &["string", "json"],
+);
+
 const OVERLAP: Word = Word::Flag("allow-overlap", "Take inputs whose sections overlap");
 
 const LAST_MACROS: Word = Word::Flag(
@@ -105,11 +123,24 @@ const COMMANDS: [Line; 4] = [
         about: "Pack objects into a package",
         below: PACK_EXAMPLES,
         words: &[
-            Word::Output,
+            Word::Output("missing"),
             PACKED,
             Word::Flag(
                 "skip-missing",
                 "Skip missing objects; their units must come from another input",
+            ),
+            Word::Flag(
+                "partial",
+                "Pack what is there; warn of each unit of EXEC that isn't",
+            ),
+            Word::Flag(
+                "missing",
+                "List the missing objects of EXECs instead of packing",
+            ),
+            Word::Values(
+                "prefix-map",
+                "FROM=TO",
+                "Look for objects of EXECs below TO where FROM is named",
             ),
             FORCE,
             DECOMPRESS,
@@ -132,6 +163,9 @@ const COMMANDS: [Line; 4] = [
                 "cu for a compilation unit, tu for a type unit",
             ),
             Word::Place("id", "ID", "The unit's identifier, in hexadecimal"),
+            Word::Value("string", "N", "Print the string of a number instead"),
+            SECTION,
+            JSON,
         ],
     },
     Line {
@@ -143,6 +177,8 @@ const COMMANDS: [Line; 4] = [
                 "sizes",
                 "Add each unit's size in each kind of section, and totals",
             ),
+            Word::Flag("names", "Add the names of each unit's source and object"),
+            JSON,
             FILE,
         ],
     },
@@ -154,6 +190,7 @@ const COMMANDS: [Line; 4] = [
             FILE,
             Word::Executables("Executables whose units have to be in the package"),
             DECOMPRESS,
+            JSON,
         ],
     },
 ];
@@ -254,22 +291,28 @@ fn with_words<'a>(
 ) -> Result<Command<'a>, AllocError> {
     let mut command = command?;
     for word in words {
-        command = command.arg(arg_of(alloc, *word))?;
+        command = command.arg(arg_of(alloc, *word)?)?;
     }
     Ok(command)
 }
 
 /// A word in clap's terms.
-fn arg_of<'a>(alloc: Global, word: Word) -> Arg<'a> {
-    match word {
-        Word::Output => output(alloc).required(true),
+fn arg_of<'a>(alloc: Global, word: Word) -> Result<Arg<'a>, AllocError> {
+    let arg = match word {
+        Word::Output(other) => return output(alloc).required_unless_present(other),
         Word::Executables(help) => executables(alloc, help),
         Word::Verbose => flag(alloc, "verbose", "Report each input").short('v'),
         Word::Flag(name, help) => flag(alloc, name, help),
+        Word::Value(name, value, help) => value_of(alloc, name, value, help),
+        Word::Alone(name, value, help, others) => {
+            return value_of(alloc, name, value, help).conflicts_with_all(others);
+        }
+        Word::Values(name, value, help) => values(alloc, name, value, help),
         Word::Choice(name, value, help, values) => choice(alloc, name, value, help, values),
         Word::Inputs => inputs(alloc),
         Word::Place(name, value, help) => place(alloc, name, value, help),
-    }
+    };
+    Ok(arg)
 }
 
 fn output<'a>(alloc: Global) -> Arg<'a> {
@@ -302,6 +345,24 @@ fn option<'a>(alloc: Global, name: &'a str, short: char, value: &'a str, help: &
         .long(name)
         .value_name(value)
         .help(help)
+}
+
+/// An option with any value.
+fn value_of<'a>(alloc: Global, name: &'a str, value: &'a str, help: &'a str) -> Arg<'a> {
+    Arg::new(alloc, name)
+        .long(name)
+        .value_name(value)
+        .help(help)
+        .action(ArgAction::Set)
+}
+
+/// An option with a value, as often as one likes.
+fn values<'a>(alloc: Global, name: &'a str, value: &'a str, help: &'a str) -> Arg<'a> {
+    Arg::new(alloc, name)
+        .long(name)
+        .value_name(value)
+        .help(help)
+        .action(ArgAction::Append)
 }
 
 /// An option with one of some values.

@@ -6,4 +6,4 @@ mod peers;
 mod reading;
 
 pub use peers::is_peer;
-pub use reading::{Commands, PackArguments, run};
+pub use reading::{CheckArguments, Commands, FindArguments, ListArguments, PackArguments, run};

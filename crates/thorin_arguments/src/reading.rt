@@ -10,6 +10,10 @@ use thorin_words::printed;
 
 const NO_OUTPUT: &'static str = "--output <OUT> is required with more than one --exec <EXEC>";
 
+const NO_PREFIX: &'static str = "the value of --prefix-map <FROM=TO> has no `=`";
+
+const NO_EXECUTABLE: &'static str = "--missing needs --exec <EXEC>";
+
 /// What a command line names to be packed.
 #[derive(Clone, Copy)]
 pub struct PackArguments<'m, 'a> {
@@ -33,6 +37,53 @@ pub struct PackArguments<'m, 'a> {
     pub warnings: Option<&'a str>,
     /// Whether sections of an input may overlap.
     pub allows_overlap: bool,
+    /// Words `FROM=TO`, by which prefixes of paths of objects are replaced.
+    pub prefix_maps: Option<&'m [&'a str]>,
+    /// Whether units of an executable that aren't there are left out.
+    pub partial: bool,
+    /// Whether missing objects are listed, and nothing is packed.
+    pub lists_missing: bool,
+}
+
+/// What `check` is asked for.
+#[derive(Clone, Copy)]
+pub struct CheckArguments<'m, 'a> {
+    /// The package.
+    pub file: &'a str,
+    /// The executables whose units have to be in it.
+    pub executables: &'m [&'a str],
+    /// Whether their compressed sections are decompressed.
+    pub decompresses: bool,
+    /// Whether each line is a JSON object.
+    pub json: bool,
+}
+
+/// What `find` is asked for.
+#[derive(Clone, Copy)]
+pub struct FindArguments<'a> {
+    /// The package.
+    pub file: &'a str,
+    /// The unit's kind.
+    pub kind: &'a str,
+    /// The unit's identifier.
+    pub id: &'a str,
+    /// The number of a string, where one is wanted.
+    pub string: Option<&'a str>,
+    /// A kind of section, where its bytes are wanted.
+    pub section: Option<&'a str>,
+    /// Whether a JSON object is printed.
+    pub json: bool,
+}
+
+/// What a list is to have.
+#[derive(Clone, Copy)]
+pub struct ListArguments {
+    /// Whether sizes are added, and totals.
+    pub sizes: bool,
+    /// Whether names are added.
+    pub names: bool,
+    /// Whether each line is a JSON object.
+    pub json: bool,
     /// Whether of an object's sections of macros only the last counts.
     pub keeps_last_macros: bool,
 }
@@ -43,13 +94,13 @@ pub trait Commands {
     fn pack(&mut self, arguments: PackArguments<'_, '_>) -> u8;
 
     /// Looks up the unit of a package that has this kind and identifier.
-    fn find(&mut self, file: &str, kind: &str, id: &str) -> u8;
+    fn find(&mut self, arguments: FindArguments<'_>) -> u8;
 
     /// Lists the units of a package.
-    fn list(&mut self, file: &str, has_sizes: bool) -> u8;
+    fn list(&mut self, file: &str, arguments: ListArguments) -> u8;
 
-    /// Goes over a package, for these executables, whose compressed sections may be decompressed.
-    fn check(&mut self, file: &str, executables: &[&str], decompresses: bool) -> u8;
+    /// Goes over a package.
+    fn check(&mut self, arguments: CheckArguments<'_, '_>) -> u8;
 
     /// Prints a text that was asked for, as help.
     fn show<D: fmt::Display>(&mut self, text: &D) -> u8;
@@ -125,10 +176,29 @@ fn read<'a>(
 ) -> Result<ArgMatches<'a>, Error> {
     let mut command = command_line(alloc, peer, version)?;
     let matches = command.try_get_matches_from_mut(words)?;
+    if let Some(fault) = fault_of_pack(&matches) {
+        return Err(command.error(ErrorKind::ValueValidation, fault)?);
+    }
     if peer.is_some() && lacks_output(&matches) {
         return Err(command.error(ErrorKind::MissingRequiredArgument, NO_OUTPUT)?);
     }
     Ok(matches)
+}
+
+/// What is wrong with the words of the command `pack` beside what clap tests, if anything is.
+fn fault_of_pack(matches: &ArgMatches<'_>) -> Option<&'static str> {
+    let Some(("pack", matches)) = matches.subcommand() else {
+        return None;
+    };
+    for word in values_of(matches, "prefix-map").unwrap_or(&[]) {
+        if !word.contains('=') {
+            return Some(NO_PREFIX);
+        }
+    }
+    if has_flag(matches, "missing") && values_of(matches, "exec").is_none() {
+        return Some(NO_EXECUTABLE);
+    }
+    None
 }
 
 /// Whether a peer's command line names no package, and no single executable either that would name
@@ -195,23 +265,34 @@ fn dispatch_to<C: Commands>(name: &str, matches: &ArgMatches<'_>, commands: &mut
 
 /// Lists the package that the words name.
 fn list<C: Commands>(matches: &ArgMatches<'_>, commands: &mut C) -> u8 {
-    commands.list(word_of(matches, "file"), has_flag(matches, "sizes"))
+    let arguments = ListArguments {
+        sizes: has_flag(matches, "sizes"),
+        names: has_flag(matches, "names"),
+        json: has_flag(matches, "json"),
+    };
+    commands.list(word_of(matches, "file"), arguments)
 }
 
 /// Checks the package that the words name, for the executables that they name.
 fn check<C: Commands>(matches: &ArgMatches<'_>, commands: &mut C) -> u8 {
-    let executables = values_of(matches, "exec").unwrap_or(&[]);
-    let decompresses = has_flag(matches, "decompress");
-    commands.check(word_of(matches, "file"), executables, decompresses)
+    commands.check(CheckArguments {
+        file: word_of(matches, "file"),
+        executables: values_of(matches, "exec").unwrap_or(&[]),
+        decompresses: has_flag(matches, "decompress"),
+        json: has_flag(matches, "json"),
+    })
 }
 
 /// Looks up the unit that the words name.
 fn find<C: Commands>(matches: &ArgMatches<'_>, commands: &mut C) -> u8 {
-    commands.find(
-        word_of(matches, "file"),
-        word_of(matches, "kind"),
-        word_of(matches, "id"),
-    )
+    commands.find(FindArguments {
+        file: word_of(matches, "file"),
+        kind: word_of(matches, "kind"),
+        id: word_of(matches, "id"),
+        string: value_of(matches, "string"),
+        section: value_of(matches, "section"),
+        json: has_flag(matches, "json"),
+    })
 }
 
 /// A word that a command line must have, by its name.
@@ -239,6 +320,9 @@ fn arguments_of<'m, 'a>(matches: &'m ArgMatches<'a>) -> PackArguments<'m, 'a> {
     PackArguments {
         skips_missing: has_flag(matches, "skip-missing"),
         decompresses: has_flag(matches, "decompress"),
+        prefix_maps: values_of(matches, "prefix-map"),
+        partial: has_flag(matches, "partial"),
+        lists_missing: has_flag(matches, "missing"),
         keeps_last_macros: has_flag(matches, "last-macros"),
         ..arguments_of_peer(matches)
     }
@@ -257,6 +341,9 @@ fn arguments_of_peer<'m, 'a>(matches: &'m ArgMatches<'a>) -> PackArguments<'m, '
         verbose: has_flag(matches, "verbose"),
         warnings: value_of(matches, "warnings"),
         allows_overlap: has_flag(matches, "allow-overlap"),
+        prefix_maps: None,
+        partial: false,
+        lists_missing: false,
         keeps_last_macros: false,
     }
 }

@@ -18,6 +18,7 @@ ghost use Rattle.thorin_builder.specs.StateView.{begun_of};
 ghost use Rattle.thorin_builder.specs.Taking.{TakesFile, TakesExecutable, TakesNamed};
 ghost use Rattle.thorin_builder.specs.Taking.{TakesSkeleton, TakesReferredFile, with_target};
 ghost use Rattle.thorin_builder.specs.Taking.{is_there};
+ghost use Rattle.thorin_builder.specs.Missing.{without_targets};
 ghost use Rattle.thorin_executable.specs.Skeletons.{skeletons_of};
 ghost use Rattle.thorin_executable.specs.View.{named};
 
@@ -431,6 +432,15 @@ impl<'output, 'session: 'output, Sess: Session<RelocationEntry>> DwarfPackage<
             Some(package) => self.own.is_some() && package.has_sections(),
             None => false,
         }
+    }
+
+    /// Forgets the units that executables refer to: `finish` then makes a package of what there is,
+    /// also where some of them aren't contained.
+    pub fn forget_targets(&mut self)
+        ensures state { self.new.state ≡ without_targets self.old.state }
+        ensures session { self.new.session ≡ self.old.session }
+    {
+        self.targets = IndexSet::new(self.alloc);
     }
 
     /// The units that executables refer to and that aren't contained, in order of insertion. It

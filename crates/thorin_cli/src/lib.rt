@@ -7,15 +7,18 @@ mod responses;
 
 pub use crate::manner::Facts;
 use crate::manner::Manner;
-use crate::notes::{Given, note_packing, note_reading, note_unreadable};
+use crate::notes::{Given, note_no_index, note_packing, note_reading, note_unreadable};
 use crate::responses::HostResponses;
 use std::convert::AsStr;
 use std::fmt;
 use std::io::{self, Write};
-use thorin_arguments::{Commands, PackArguments, is_peer};
+use thorin_arguments::{
+    CheckArguments, Commands, FindArguments, ListArguments, PackArguments, is_peer,
+};
 pub use thorin_commands::Failure;
 use thorin_commands::{
-    HostFiles, Packing, Warnings, check, find, list, pack, report, show, verify,
+    FindForm, HostFiles, ListForm, Packing, Warnings, check, check_as_json, find, lacks_index,
+    list, list_missing, pack, report, show, verify,
 };
 use thorin_faults::MissingReferencedObjectBehaviour;
 use thorin_words::{ResponseError, expanded, printed};
@@ -140,6 +143,15 @@ impl<O: Write, E: Write> Program<'_, '_, '_, O, E> {
         }
     }
 
+    /// Lists the objects that are missing.
+    fn list_as(&mut self, packing: &Packing<'_, '_>) -> u8 {
+        let files = HostFiles::new(self.rt);
+        match list_missing(self.rt.alloc(), &files, packing, self.out, self.err) {
+            Ok(status) => status,
+            Err(failure) => report(self.err, &failure),
+        }
+    }
+
     /// Checks the package that would be made.
     fn verify_as(&mut self, packing: &Packing<'_, '_>) -> u8 {
         let answer = verify(self.rt, packing, self.out);
@@ -161,28 +173,62 @@ impl<O: Write, E: Write> Commands for Program<'_, '_, '_, O, E> {
         let packing = packing_of(arguments, self.manner);
         if arguments.verifies_only {
             self.verify_as(&packing)
+        } else if arguments.lists_missing {
+            self.list_as(&packing)
         } else {
             self.pack_as(&packing)
         }
     }
 
-    fn find(&mut self, file: &str, kind: &str, id: &str) -> u8 {
-        let answer = find(self.rt, file, kind, id, self.out);
+    fn find(&mut self, arguments: FindArguments<'_>) -> u8 {
+        let FindArguments {
+            file,
+            kind,
+            id,
+            string,
+            section,
+            json,
+        } = arguments;
+        let form = FindForm {
+            string,
+            section,
+            json,
+        };
+        let answer = find(self.rt, file, kind, id, form, self.out);
         let given = Given {
             kind,
             id,
+            wanted: string.or(section).unwrap_or(""),
             ..Given::file(file)
         };
         self.status(answer, given)
     }
 
-    fn list(&mut self, file: &str, has_sizes: bool) -> u8 {
-        let answer = list(self.rt, file, has_sizes, self.out);
+    fn list(&mut self, file: &str, arguments: ListArguments) -> u8 {
+        let form = ListForm {
+            sizes: arguments.sizes,
+            names: arguments.names,
+            json: arguments.json,
+        };
+        let answer = list(self.rt, file, form, self.out);
+        if answer.is_ok() && self.manner.notes && lacks_index(self.rt, file) {
+            note_no_index(self.rt, file, self.err);
+        }
         self.status(answer, Given::file(file))
     }
 
-    fn check(&mut self, file: &str, executables: &[&str], decompresses: bool) -> u8 {
-        let answer = check(self.rt, file, executables, decompresses, self.out);
+    fn check(&mut self, arguments: CheckArguments<'_, '_>) -> u8 {
+        let CheckArguments {
+            file,
+            executables,
+            decompresses,
+            json,
+        } = arguments;
+        let answer = if json {
+            check_as_json(self.rt, file, executables, decompresses, self.out)
+        } else {
+            check(self.rt, file, executables, decompresses, self.out)
+        };
         let given = Given {
             executables,
             ..Given::file(file)
@@ -213,7 +259,7 @@ impl<O: Write, E: Write> Commands for Program<'_, '_, '_, O, E> {
 
 /// What is to be packed, in the packer's terms.
 fn packing_of<'m, 'a>(arguments: PackArguments<'m, 'a>, manner: Manner) -> Packing<'m, 'a> {
-    let missing = if arguments.skips_missing {
+    let missing = if arguments.skips_missing || arguments.partial {
         MissingReferencedObjectBehaviour::Skip
     } else {
         MissingReferencedObjectBehaviour::Error
@@ -225,6 +271,8 @@ fn packing_of<'m, 'a>(arguments: PackArguments<'m, 'a>, manner: Manner) -> Packi
         missing,
         force: arguments.force,
         decompresses: arguments.decompresses,
+        prefix_maps: arguments.prefix_maps,
+        partial: arguments.partial,
         verbose: arguments.verbose,
         notes: manner.notes || arguments.verbose,
         warnings: warnings_of(arguments.warnings, manner.warnings),

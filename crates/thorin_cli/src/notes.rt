@@ -15,6 +15,8 @@ pub(crate) struct Given<'m, 'a> {
     /// The kind and the identifier of a unit; empty where none was asked for.
     pub(crate) kind: &'a str,
     pub(crate) id: &'a str,
+    /// The number of a string or the name of a section; empty where neither was asked for.
+    pub(crate) wanted: &'a str,
 }
 
 impl<'m, 'a> Given<'m, 'a> {
@@ -25,6 +27,7 @@ impl<'m, 'a> Given<'m, 'a> {
             executables: &[],
             kind: "",
             id: "",
+            wanted: "",
         }
     }
 }
@@ -43,11 +46,17 @@ pub(crate) fn note_reading<E: Write>(
                 note_unreadable(rt, name, err);
             }
         }
-        Failure::Malformed | Failure::NoIndex | Failure::NoUnit(_) => {
+        Failure::Malformed
+        | Failure::NoIndex
+        | Failure::NoUnit(_)
+        | Failure::NoString(_)
+        | Failure::NoRange(_) => {
             note(rt, given.file, "", err);
         }
         Failure::BadKind => note(rt, given.kind, "neither cu nor tu", err),
         Failure::BadIdentifier => note(rt, given.id, "not 1 to 16 hexadecimal digits", err),
+        Failure::BadNumber => note(rt, given.wanted, "not a decimal number", err),
+        Failure::BadSection => note(rt, given.wanted, "no kind of section", err),
         _ => {}
     }
 }
@@ -70,6 +79,11 @@ pub(crate) fn note_packing<E: Write>(
         Failure::Overwrites => note(rt, output.as_str(), "", err),
         _ => {}
     }
+}
+
+/// Prints the note on a file that is listed and has no index.
+pub(crate) fn note_no_index<E: Write>(rt: &HostRuntime, name: &str, err: &mut E) {
+    note(rt, name, "no index: not a package", err);
 }
 
 /// Prints the note on a file that can't be read.

@@ -1,4 +1,7 @@
 mod Inputs
+mod Left
+mod Prefixing
 mod Puts
 mod Readable
+mod Standing
 mod Taken

@@ -19,7 +19,8 @@ use Rattle.thorin_queries.specs.declared.output.Failure.{Failure}
 use Rattle.thorin_commands.specs.Files.{HasBeginning, Begun, Adds, IsOfWriting, PutIn, BeginsIn}
 use Rattle.thorin_commands.specs.Files.{Put, Begins}
 use Rattle.thorin_commands.specs.Packing.{asked, asks, out_of, IsPackedOf, IsPackageFor, Packs}
-use Rattle.thorin_commands.specs.Packing.{paths_in}
+use Rattle.thorin_commands.specs.Packing.{paths_in, reads, through}
+use Rattle.thorin_commands.specs.Plain.{taken_from, last_from}
 use Rattle.thorin_commands.specs.Packing.{Comes}
 use Rattle.thorin_commands.specs.Packing.{Fails}
 use Rattle.thorin_commands.specs.declared.output.Refusal.{Refusal}
@@ -96,19 +97,64 @@ module _ {F O : Type 0} (begins : F → Option (List Begun)) (contents : O → O
 
 -- ---- what came of packing
 
-pub for_packing : (offer : List ℕ → Result (List ℕ) IoError → Type 0) (packing : Packing)
-    (list : List Input) (object : File)
-    → map asked list ≡ asks packing → IsPackedOf offer list object
-    → IsPackageFor offer packing object
-for_packing offer packing list object are packed =
-    record { list = list; are = inl are; packed = packed }
+module _ {X : Type 0} (offers : X → List ℕ → Result (List ℕ) IoError → Type 0) (x y : X)
+    (packing : Packing) (last b : Bool) (words objects executables : List (Bor (List ℕ))) where
+  -- what reads as a command asks, part by part
+  alike : (P : (List ℕ → Result (List ℕ) IoError → Type 0) → Type 0) → x ≡ y
+      → last ≡ packing.keeps_last_macros → b ≡ packing.decompresses
+      → words ≡ paths_in packing.prefix_maps
+      → objects ≡ paths_in packing.inputs → executables ≡ paths_in packing.executables
+      → P (last_from last (taken_from b (through words objects executables (offers x))))
+      → P (reads packing (offers y))
+  alike P f l d w o e h =
+      let first = subst (λ z. P (last_from last (taken_from b
+      (through words objects executables (offers z))))) f h in
+      let kept = subst (λ z. P (last_from z (taken_from b
+      (through words objects executables (offers y))))) l first in
+      let second = subst (λ z. P (last_from packing.keeps_last_macros (taken_from z
+      (through words objects executables (offers y))))) d kept in
+      let third = subst (λ z. P (last_from packing.keeps_last_macros
+      (taken_from packing.decompresses (through z objects executables (offers y))))) w
+      second in
+      let fourth = subst (λ z. P (last_from packing.keeps_last_macros
+      (taken_from packing.decompresses (through (paths_in packing.prefix_maps) z executables
+      (offers y))))) o third in
+      subst (λ z. P (last_from packing.keeps_last_macros (taken_from packing.decompresses
+      (through (paths_in packing.prefix_maps) (paths_in packing.inputs) z (offers y))))) e
+      fourth
+
+  pub for_packing : (list : List Input) (object : File) → x ≡ y
+      → last ≡ packing.keeps_last_macros → b ≡ packing.decompresses
+      → words ≡ paths_in packing.prefix_maps
+      → objects ≡ paths_in packing.inputs → executables ≡ paths_in packing.executables
+      → map asked list ≡ asks packing
+      → IsPackedOf packing.partial (last_from last (taken_from b
+      (through words objects executables (offers x)))) list object
+      → IsPackageFor (reads packing (offers y)) packing object
+  for_packing list object f l d w o e are packed =
+      record {
+        list = list;
+        are = inl are;
+        packed = alike (λ offer. IsPackedOf packing.partial offer list object) f l d w o e packed;
+      }
+
+  -- a package is one of what is taken, however that is written
+  pub packed_alike : (object : File) → x ≡ y
+      → last ≡ packing.keeps_last_macros → b ≡ packing.decompresses
+      → words ≡ paths_in packing.prefix_maps
+      → objects ≡ paths_in packing.inputs → executables ≡ paths_in packing.executables
+      → IsPackageFor (last_from last (taken_from b (through words objects executables (offers x))))
+      packing object
+      → IsPackageFor (reads packing (offers y)) packing object
+  packed_alike object f l d w o e h =
+      alike (λ offer. IsPackageFor offer packing object) f l d w o e h
 
 -- the same with the first executable as an object behind them
 pub for_unsplit : (offer : List ℕ → Result (List ℕ) IoError → Type 0) (packing : Packing)
     (more : List Input) (path : Bor (List ℕ)) (object : File) → packing.lets_empty ≡ true
     → map asked more ≡ asks packing ++ Some (path.now, None) ∷ []
     → take 1 (paths_in packing.executables) ≡ path ∷ []
-    → IsPackedOf offer more object → IsPackageFor offer packing object
+    → IsPackedOf packing.partial offer more object → IsPackageFor offer packing object
 for_unsplit offer packing more path object lets are first packed =
     record {
       list = more;

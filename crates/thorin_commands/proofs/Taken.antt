@@ -1,11 +1,17 @@
 -- What is taken for a file that was read.
-use Rattle.std.proofs.Common.{◌≡◌, ℕ, List, Bool, true, false, refl, sym, inl, inr}
+use Rattle.std.proofs.Common.{◌≡◌, ℕ, List, [], ◌∷◌, Bool, true, false, refl, sym, ◌⊎◌, inl, inr}
+use Rattle.std.proofs.Common.{subst}
 use Rattle.std.specs.Prelude.{Result, Ok, Err, Option, Some, None}
 use Rattle.std.specs.declared.io.Error.{Error as IoError}
+use Rattle.std.specs.Borrow.{Bor}
 use Rattle.dwp_elf_read.specs.Elf.{Elf, elf_of}
 use Rattle.dwp_elf_read.specs.declared.fault.ReadError.{ReadError}
 use Rattle.dwp_macros.specs.Last.{last_macros_of}
-use Rattle.thorin_commands.specs.Plain.{Offer, IsPlainOf, taken_from, last_from}
+use Rattle.thorin_faults.specs.declared.fault.InputError.{InputError}
+use Rattle.thorin_faults.specs.declared.fault.InputError.TheVariants as input
+use Rattle.thorin_commands.specs.Prefixes.{mapped}
+use Rattle.thorin_commands.specs.Packing.{IsAmong, through}
+use Rattle.thorin_commands.specs.Plain.{Offer, IsPlainOf, IsReadOver, taken_from, last_from}
 use Rattle.thorin_commands.specs.Plain.{IsLast, IsLastOf}
 
 module _ (offer : Offer) (path : List ℕ) where
@@ -63,3 +69,38 @@ stays_so file (Some last) = inr refl
 pub stays : (file : List ℕ) → IsLastOf file file
 unfolding IsLastOf
 stays file = stays_so file (last_macros_of file)
+
+-- where a path is read
+module _ (objects executables : List (Bor (List ℕ))) (offer : Offer) (path : List ℕ)
+    (room : List ℕ) (result : Result (Unit {0}) InputError) where
+  over : (Offers Offers' : Result (List ℕ) IoError → Type 0)
+      → ((answer : Result (List ℕ) IoError) → Offers answer → Offers' answer)
+      → (result : Result (Unit {0}) InputError) → IsReadOver Offers room result
+      → IsReadOver Offers' room result
+  over Offers Offers' f (Ok x) h = f (Ok room) h
+  over Offers Offers' f (Err (input.Io cause)) h = f (Err cause) h
+  over Offers Offers' f (Err input.Memory) h = tt
+
+  -- where there are no words FROM=TO, as it is
+  pub through_none : (words : List (Bor (List ℕ))) → words ≡ []
+      → IsReadOver (offer path) room result
+      → IsReadOver (through words objects executables offer path) room result
+  through_none words e h = rw e h
+
+  -- one that the command line names
+  pub through_given : (words : List (Bor (List ℕ)))
+      → IsAmong objects path ⊎ IsAmong executables path → IsReadOver (offer path) room result
+      → IsReadOver (through words objects executables offer path) room result
+  through_given [] given h = h
+  through_given (word ∷ words) given h =
+      over (offer path) (through (word ∷ words) objects executables offer path)
+      (λ answer o. inr (given, o)) result h
+
+  -- and one whose prefix is replaced
+  pub through_mapped : (words : List (Bor (List ℕ))) (other : List ℕ) → other ≡ mapped words path
+      → (words ≡ [] → ⊥) → IsReadOver (offer other) room result
+      → IsReadOver (through words objects executables offer path) room result
+  through_mapped [] other e some h = absurd (some refl)
+  through_mapped (word ∷ words) other e some h =
+      over (offer other) (through (word ∷ words) objects executables offer path)
+      (λ answer o. inl (subst (λ p. offer p answer) e o)) result h

@@ -1,4 +1,5 @@
 pub mod Files
 pub mod Packing
 pub mod Plain
+pub mod Prefixes
 pub mod Warnings

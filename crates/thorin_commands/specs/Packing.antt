@@ -1,7 +1,7 @@
 -- What the program packs, and what comes of it.
 use Rattle.std.specs.Prelude.{◌≡◌, ℕ, List, [], ◌∷◌, ◌++◌, map, codes, Option, Some, None, Result}
 use Rattle.std.specs.Prelude.{Ok}
-use Rattle.std.specs.Prelude.{Err, ◌⊎◌, true, take}
+use Rattle.std.specs.Prelude.{Err, ◌⊎◌, Bool, true, false, take, length, ◌<◌, HoldsAt}
 use Rattle.std.specs.Borrow.{Bor}
 use Rattle.std.specs.Path.{path_bytes}
 use Rattle.std.specs.declared.io.Error.{Error as IoError}
@@ -10,11 +10,13 @@ use Rattle.thorin_faults.specs.declared.fault.MissingReferencedObjectBehaviour.{
 use Rattle.thorin_join.specs.Builder.{State, start, IsFinishedState}
 use Rattle.thorin_join.specs.Join.{JoinAll, IsPackageOf}
 use Rattle.thorin_join.specs.Represents.{units_in}
+use Rattle.thorin_builder.specs.Missing.{without_targets}
 use Rattle.thorin_builder.specs.Taking.{Outcome}
 use Rattle.thorin.specs.declared.packing.Input.{Input}
 use Rattle.thorin.specs.declared.packing.Input.TheVariants as inputs
 use Rattle.thorin.specs.Run.{Ran}
 use Rattle.thorin_queries.specs.declared.output.Failure.{Failure}
+use Rattle.thorin_commands.specs.Prefixes.{mapped}
 use Rattle.thorin_commands.specs.Files.{IsOfWriting}
 use Rattle.thorin_commands.specs.Plain.{Offer, taken_from, last_from}
 use Rattle.thorin_commands.specs.declared.packing.Packing.{Packing}
@@ -64,13 +66,40 @@ given_or_beside None executables = name_beside executables
 abbrev pub out_of : Packing → Option (List ℕ)
 out_of packing = given_or_beside packing.output (paths_in packing.executables)
 
--- what is taken for the file at a path: decompressed, and with the last macros alone, where that is
--- asked for
-abbrev pub inputs_from : Packing → Offer → Offer
-inputs_from packing offer =
-    last_from packing.keeps_last_macros (taken_from packing.decompresses offer)
+-- ---- where it is read
+
+-- a path stands at a place among others
+abbrev pub StandsAt : List (Bor (List ℕ)) → List ℕ → ℕ → Type 0
+StandsAt paths path place =
+    (place < length paths) × HoldsAt (λ given. given.now ≡ path) paths place
+
+-- one of these paths
+abbrev pub IsAmong : List (Bor (List ℕ)) → List ℕ → Type 0
+IsAmong paths path = (place : ℕ) × StandsAt paths path place
+
+-- a path is read with its prefix replaced, by words FROM=TO; one that the command line names itself
+-- is also read as it is, and any where there are no such words
+abbrev pub through : (words objects executables : List (Bor (List ℕ))) → Offer → Offer
+through [] objects executables offer = offer
+through (word ∷ words) objects executables offer = λ path answer.
+    offer (mapped (word ∷ words) path) answer
+    ⊎ ((IsAmong objects path ⊎ IsAmong executables path) × offer path answer)
+
+-- what is taken for the file at a path that a command asks for, or that an executable names:
+-- decompressed, and with the last macros alone, where that is asked for
+abbrev pub reads : Packing → Offer → Offer
+reads packing offer =
+    last_from packing.keeps_last_macros (taken_from packing.decompresses
+    (through (paths_in packing.prefix_maps) (paths_in packing.inputs)
+    (paths_in packing.executables) offer))
 
 -- ---- what is made of that
+
+-- what is finished after the inputs: where missing units are left out, the package without a list
+-- of units that executables refer to
+abbrev pub left : Bool → State → State
+left true state = without_targets state
+left false state = state
 
 -- each input was taken, in order, and none was refused; and the bytes that were read of them
 abbrev pub AreAllAccepted : (List ℕ → Result (List ℕ) IoError → Type 0) → List Input
@@ -80,13 +109,13 @@ AreAllAccepted offer list old new accepted =
 
 -- all inputs were taken; the state after that has the units of the bytes that were read, joined;
 -- the object is finished from it, and its file is a package of these units
-pub record IsPackedOf (offer : List ℕ → Result (List ℕ) IoError
+pub record IsPackedOf (partial : Bool) (offer : List ℕ → Result (List ℕ) IoError
     → Type 0) (list : List Input) (object : File) : Type 0 where
   pub state : State
   pub accepted : List (List ℕ)
   pub ran : AreAllAccepted offer list start state accepted
   pub joined : JoinAll accepted [] (units_in state)
-  pub finished : IsFinishedState state object
+  pub finished : IsFinishedState (left partial state) object
   pub package_of : IsPackageOf (units_in state) (file_text object)
 
 -- just the inputs that were asked for; where an empty package may come of it, behind them the first
@@ -101,7 +130,7 @@ pub record IsPackageFor (offer : List ℕ → Result (List ℕ) IoError
     → Type 0) (packing : Packing) (object : File) : Type 0 where
   pub list : List Input
   pub are : AreAsked packing list
-  pub packed : IsPackedOf offer list object
+  pub packed : IsPackedOf packing.partial offer list object
 
 -- the file of such a package was put under the name of OUT
 pub record Packs (offer : List ℕ → Result (List ℕ) IoError

@@ -4,16 +4,21 @@
 
 mod files;
 mod macros;
+mod missing;
 mod notes;
 mod output;
 mod overlap;
 mod packing;
 mod plain;
+mod prefixes;
 mod telling;
 mod warnings;
 
 pub use files::{FileSystem, HostFiles};
+pub use missing::list_missing;
 pub use notes::reason;
 pub use packing::{Packing, pack, verify};
-pub use thorin_queries::{Failure, check, find, list, report, show};
+pub use thorin_queries::{
+    Failure, FindForm, ListForm, check, check_as_json, find, lacks_index, list, report, show,
+};
 pub use warnings::Warnings;

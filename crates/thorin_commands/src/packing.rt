@@ -11,9 +11,10 @@ ghost use Rattle.thorin.specs.Run.{Took};
 ghost use Rattle.thorin_commands.specs.Files.{IsOfWriting, Put, Begins};
 ghost use Rattle.thorin_commands.specs.Packing.{asked, object_asked, executable_asked, asks};
 ghost use Rattle.thorin_commands.specs.Packing.{out_of, AreAllAccepted, IsPackedOf, Packs, Comes};
-ghost use Rattle.thorin_commands.specs.Packing.{IsPackageFor, Fails, paths_in, inputs_from};
+ghost use Rattle.thorin_commands.specs.Packing.{IsPackageFor, Fails, paths_in, reads};
 
 use crate::files::FileSystem;
+use crate::missing::leave_out;
 use crate::output::{Refusal, write_package};
 use crate::plain::{InputFiles, Inputs};
 use crate::telling::{Telling, refused, tell, tell_fault, tell_unfinished, warn_unsplit};
@@ -47,6 +48,10 @@ pub struct Packing<'m, 'a> {
     pub force: bool,
     /// Whether compressed sections of inputs are decompressed first.
     pub decompresses: bool,
+    /// Words `FROM=TO`: the prefix FROM of a path that an executable names is replaced by TO.
+    pub prefix_maps: Option<&'m [&'a str]>,
+    /// Whether a unit of an executable that isn't there is told and left out.
+    pub partial: bool,
     /// Whether a line tells of each input that was taken.
     pub verbose: bool,
     /// Whether a second line says what a refusal is about.
@@ -129,12 +134,12 @@ pub fn pack<F: FileSystem, O: Write, E: Write>(
     out: &mut O,
     err: &mut E,
 ) -> Result<u8, Failure>
-    ensures packed { result ≡ Ok 0 → Packs (inputs_from packing.now (F.offer files.old)) packing.now
+    ensures packed { result ≡ Ok 0 → Packs (reads packing.now (F.offer files.old)) packing.now
         (Put F.begun O.contents files.old files.new out.old out.new) }
     ensures status { IfOk result (λ status. status ≤ 1) }
     ensures refused { result ≡ Ok 1 → (files.new ≡ files.old) × (out.new ≡ out.old) }
     ensures failed { IfErr result (λ failure. Fails failure
-        ((files.new ≡ files.old) × (out.new ≡ out.old)) (Packs (inputs_from packing.now (F.offer files.old)) packing.now
+        ((files.new ≡ files.old) × (out.new ≡ out.old)) (Packs (reads packing.now (F.offer files.old)) packing.now
         (Begins F.begun O.contents files.old files.new out.old out.new))) }
 {
     match pack_all(alloc, files, packing, out, err) {
@@ -155,9 +160,9 @@ fn pack_all<F: FileSystem, O: Write, E: Write>(
     err: &mut E,
 ) -> Result<(), Refusal>
     ensures { Comes result ((files.new ≡ files.old) × (out.new ≡ out.old))
-        (Packs (inputs_from packing.now (F.offer files.old)) packing.now
+        (Packs (reads packing.now (F.offer files.old)) packing.now
         (Begins F.begun O.contents files.old files.new out.old out.new))
-        (Packs (inputs_from packing.now (F.offer files.old)) packing.now
+        (Packs (reads packing.now (F.offer files.old)) packing.now
         (Put F.begun O.contents files.old files.new out.old out.new)) }
 {
     match packing.output_name(alloc) {
@@ -178,9 +183,9 @@ fn pack_as<F: FileSystem, O: Write, E: Write>(
 ) -> Result<(), Refusal>
     requires { out_of packing.now ≡ Some output.now }
     ensures { Comes result ((files.new ≡ files.old) × (out.new ≡ out.old))
-        (Packs (inputs_from packing.now (F.offer files.old)) packing.now
+        (Packs (reads packing.now (F.offer files.old)) packing.now
         (Begins F.begun O.contents files.old files.new out.old out.new))
-        (Packs (inputs_from packing.now (F.offer files.old)) packing.now
+        (Packs (reads packing.now (F.offer files.old)) packing.now
         (Put F.begun O.contents files.old files.new out.old out.new)) }
 {
     if packing.overwrites(files, output) {
@@ -258,7 +263,7 @@ fn write_then_warn<F: FileSystem, O: Write, W: Write>(
 
 /// The object to be written for what is asked for, the signatures of type units that were passed
 /// over and differ from the ones kept, and the warnings of sections of macros.
-#[tactic(auto, using(crate::proofs::Puts::for_packing))]
+#[tactic(auto, using(crate::proofs::Puts::for_packing, crate::proofs::Puts::packed_alike))]
 fn packed<F: FileSystem, E: Write>(
     alloc: Global,
     files: &F,
@@ -266,7 +271,7 @@ fn packed<F: FileSystem, E: Write>(
     err: &mut E,
 ) -> Result<(WritableObject, Vec<DebugTypeSignature>, String), Refusal>
     ensures { IfOk result (λ made. IsPackageFor
-        (inputs_from packing.now (F.offer files.now)) packing.now made.0) }
+        (reads packing.now (F.offer files.now)) packing.now made.0) }
 {
     let objects = paths_in(packing.inputs);
     let executables = paths_in(packing.executables);
@@ -275,6 +280,7 @@ fn packed<F: FileSystem, E: Write>(
     let telling = Telling {
         verbose: packing.verbose,
         notes: packing.notes,
+        partial: packing.partial,
     };
     match packed_inputs(alloc, &files, inputs.as_slice(), telling, err) {
         Ok((object, differing)) => Ok((object, differing, files.warnings())),
@@ -310,12 +316,13 @@ fn packed_unsplit<I: Inputs, E: Write>(
     let telling = Telling {
         verbose: false,
         notes: false,
+        partial: packing.partial,
     };
     packed_inputs(alloc, files, inputs.as_slice(), telling, err)
 }
 
 /// The paths of a list, none where there is no list.
-fn paths_in<'m, 'a>(list: Option<&'m [&'a str]>) -> &'m [&'a str]
+pub(crate) fn paths_in<'m, 'a>(list: Option<&'m [&'a str]>) -> &'m [&'a str]
     ensures { result.now ≡ paths_in list.entry }
 {
     match list {
@@ -368,7 +375,8 @@ fn packed_inputs<I: Inputs, E: Write>(
     telling: Telling,
     err: &mut E,
 ) -> Result<(WritableObject, Vec<DebugTypeSignature>), Refusal>
-    ensures { IfOk result (λ made. IsPackedOf (I.offer files.now) inputs.now made.0) }
+    ensures { IfOk result (λ made.
+        IsPackedOf telling.entry.partial (I.offer files.now) inputs.now made.0) }
 {
     let bump = Bump::new(alloc);
     let session = BytesSession::new(&bump);
@@ -384,11 +392,13 @@ fn packed_over<'s, Sess: Session<RelocationEntry>, I: Inputs, E: Write>(
     telling: Telling,
     err: &mut E,
 ) -> Result<(WritableObject, Vec<DebugTypeSignature>), Refusal>
-    ensures { IfOk result (λ made. IsPackedOf (I.offer files.now) inputs.now made.0) }
+    ensures { IfOk result (λ made.
+        IsPackedOf telling.entry.partial (I.offer files.now) inputs.now made.0) }
 {
     runs_go_on(files);
     let mut builder = DwarfPackage::new(alloc, session);
     take_all(alloc, files, &mut builder, inputs, telling, err)?;
+    leave_out(alloc, files, &mut builder, inputs, telling, err)?;
     let made = completed_or_told(alloc, files, builder, telling, err)?;
     Ok(made)
 }

@@ -1,15 +1,19 @@
 //! The inputs of `pack`, decompressed and with the last macros alone where that is asked for.
 
-ghost use Rattle.std.specs.Prelude.{◌≡◌, OnOk, IfErr};
+ghost use Rattle.std.specs.Prelude.{◌≡◌, ◌⊎◌, IsTrue, IfOk, IfSome, OnOk, IfErr};
+ghost use Rattle.std.specs.Prelude.{string_bytes};
 ghost use Rattle.std.specs.Path.{path_bytes};
 ghost use Rattle.thorin_faults.specs.Sessions.{IsNoWantOfMemory};
+ghost use Rattle.thorin_commands.specs.Packing.{IsAmong, StandsAt, paths_in, through};
 ghost use Rattle.thorin_commands.specs.Plain.{IsPlainOf, IsReadOver, taken_from, last_from};
+ghost use Rattle.thorin_commands.specs.Prefixes.{mapped as mapped_path};
 
 use crate::files::FileSystem;
 use crate::macros::{MacroWarnings, keep_last_macros};
 use crate::notes::{Unread, place_of, reason};
 use crate::overlap::has_overlap;
-use crate::packing::Packing;
+use crate::packing::{Packing, paths_in};
+use crate::prefixes::mapped;
 use crate::warnings::Warnings;
 use dwp_decompress::{DecompressError, decompressed};
 use std::alloc::{AllocError, Global};
@@ -26,6 +30,9 @@ pub(crate) trait Inputs: InputReader {
     /// the input names, and these must be regular files: a read of another may wait for ever.
     fn begin(&self, input: Input<'_>);
 
+    /// Begins an input a second time, for what is told of it: what is no regular file isn't read.
+    fn begin_again(&self, input: Input<'_>);
+
     /// Whether compressed sections are decompressed.
     fn decompresses(&self) -> bool;
 
@@ -37,6 +44,12 @@ pub(crate) trait Inputs: InputReader {
 
     /// The path that the input names and that was read last; none where none was.
     fn last_named(&self) -> Option<String>;
+
+    /// The path at which an object is read that an executable names: its prefix is replaced.
+    fn mapped(&self, named: &str) -> Result<String, AllocError>;
+
+    /// Why an object can't be read at a path, none where it can: it must be a regular file.
+    fn unreadable(&self, path: &str) -> Result<Option<String>, AllocError>;
 
     /// The first of the reads that failed.
     fn first_unread(&self) -> Option<Unread>;
@@ -51,11 +64,19 @@ pub(crate) struct InputFiles<'f, F> {
     alloc: Global,
     files: &'f F,
     decompresses: bool,
+    /// Words `FROM=TO`, by which prefixes of paths that executables name are replaced.
+    prefix_maps: &'f [&'f str],
+    /// The paths that the command line names, and the place at which the next one is looked for.
+    objects: &'f [&'f str],
+    executables: &'f [&'f str],
+    next: Cell<usize>,
     /// Whether of an object's sections of macros only the last counts, and what is warned else.
     keeps_last_macros: bool,
     macros: MacroWarnings,
     /// Whether the next read is that of an input's own path.
     begins: Cell<bool>,
+    /// Whether it is the second of that path.
+    again: Cell<bool>,
     /// The input's own path, and the one that was read last of those that it names.
     own: Cell<Option<String>>,
     named: Cell<Option<String>>,
@@ -69,10 +90,13 @@ pub(crate) struct InputFiles<'f, F> {
 }
 
 impl<'f, F: FileSystem> InputFiles<'f, F> {
-    /// These files, as they are read for what is to be packed.
-    pub(crate) fn new(alloc: Global, files: &'f F, packing: &Packing<'_, '_>) -> InputFiles<'f, F>
+    /// These files, as a command reads them.
+    pub(crate) fn new(alloc: Global, files: &'f F, packing: &Packing<'f, 'f>) -> InputFiles<'f, F>
         ensures files { result.files.now ≡ files.now }
         ensures decompresses { result.decompresses ≡ packing.now.decompresses }
+        ensures prefix_maps { result.prefix_maps.now ≡ paths_in packing.now.prefix_maps }
+        ensures objects { result.objects.now ≡ paths_in packing.now.inputs }
+        ensures executables { result.executables.now ≡ paths_in packing.now.executables }
         ensures macros { result.keeps_last_macros ≡ packing.now.keeps_last_macros }
     {
         let warns = !packing.keeps_last_macros && !matches!(packing.warnings, Warnings::Never);
@@ -80,9 +104,14 @@ impl<'f, F: FileSystem> InputFiles<'f, F> {
             alloc,
             files,
             decompresses: packing.decompresses,
+            prefix_maps: paths_in(packing.prefix_maps),
+            objects: paths_in(packing.inputs),
+            executables: paths_in(packing.executables),
+            next: Cell::new(0),
             keeps_last_macros: packing.keeps_last_macros,
             macros: MacroWarnings::new(alloc, warns),
             begins: Cell::new(false),
+            again: Cell::new(false),
             own: Cell::new(None),
             named: Cell::new(None),
             unread: Cell::new(None),
@@ -90,6 +119,69 @@ impl<'f, F: FileSystem> InputFiles<'f, F> {
             is_executable: Cell::new(false),
             overlap: Cell::new(false),
         }
+    }
+
+    /// Whether the command line names a path; the next one is looked for behind it.
+    fn is_given(&self, path: &str) -> bool
+        ensures { IsTrue result → IsAmong self.now.objects.now path.now
+            ⊎ IsAmong self.now.executables.now path.now }
+    {
+        let next = self.next.get();
+        match place_among(self.objects, next, path) {
+            Some(place) => {
+                self.next.set(place.saturating_add(1));
+                true
+            }
+            None => match place_among(self.executables, 0, path) {
+                Some(_place) => true,
+                None => false,
+            },
+        }
+    }
+
+    /// Reads the file of a path that the input has, or that it names.
+    #[tactic(auto, using(crate::proofs::Taken::through_none, crate::proofs::Taken::through_given, crate::proofs::Taken::through_mapped))]
+    fn read(&self, is_own: bool, path: Path<'_>, room: &mut Vec<u8>) -> Result<(), InputError>
+        ensures offered { IsReadOver (through self.now.prefix_maps.now self.now.objects.now
+            self.now.executables.now (F.offer self.now.files.now) (path_bytes path.entry))
+            room.new.items result }
+        ensures memory { IfErr result IsNoWantOfMemory }
+    {
+        if self.prefix_maps.is_empty() {
+            return self.read_at(is_own, path, room);
+        }
+        if is_own && self.is_given(path.path_text()) {
+            return self.read_at(true, path, room);
+        }
+        match self.mapped(path.path_text()) {
+            Ok(mapped) => self.read_at(false, Path::new(mapped.as_str()), room),
+            Err(AllocError) => Err(InputError::Memory),
+        }
+    }
+
+    /// Reads the file at a path, and keeps for notes what becomes of that.
+    fn read_at(&self, is_own: bool, path: Path<'_>, room: &mut Vec<u8>) -> Result<(), InputError>
+        ensures offered { IsReadOver (F.offer self.now.files.now (path_bytes path.entry))
+            room.new.items result }
+        ensures memory { IfErr result IsNoWantOfMemory }
+    {
+        self.keep_path(is_own, path.path_text());
+        match read_file(self.files, is_own && !self.again.get(), path, room) {
+            Ok(()) => Ok(()),
+            Err(InputError::Io(cause)) => {
+                self.keep_unread(is_own, path.path_text(), &cause);
+                Err(InputError::Io(cause))
+            }
+            Err(InputError::Memory) => Err(InputError::Memory),
+        }
+    }
+
+    /// A path that an executable names, with its prefix replaced.
+    fn mapped(&self, path: &str) -> Result<String, AllocError>
+        ensures { IfOk result (λ mapped.
+            string_bytes mapped ≡ mapped_path self.now.prefix_maps.now path.now) }
+    {
+        mapped(self.alloc, self.prefix_maps, path)
     }
 
     /// Whether a file that was read is refused since its sections overlap, which is kept. An
@@ -146,18 +238,15 @@ impl<F: FileSystem> InputFiles<'_, F> {
     /// Reads a file, decompressed where that is asked for.
     #[tactic(auto, using(crate::proofs::Taken::taken_plain, crate::proofs::Taken::taken_as_it_is, crate::proofs::Taken::taken_failed))]
     fn read_plain(&self, path: Path<'_>, room: &mut Vec<u8>) -> Result<(), InputError>
-        ensures offered { IsReadOver (taken_from self.now.decompresses
-            (F.offer self.now.files.now) (path_bytes path.entry)) room.new.items result }
+        ensures offered { IsReadOver (taken_from self.now.decompresses (through
+            self.now.prefix_maps.now self.now.objects.now self.now.executables.now
+            (F.offer self.now.files.now)) (path_bytes path.entry)) room.new.items result }
         ensures memory { IfErr result IsNoWantOfMemory }
     {
         let is_own = self.begins.replace(false);
-        self.keep_path(is_own, path.path_text());
-        match read_file(self.files, is_own, path, room) {
+        match self.read(is_own, path, room) {
             Ok(()) => {}
-            Err(InputError::Io(cause)) => {
-                self.keep_unread(is_own, path.path_text(), &cause);
-                return Err(InputError::Io(cause));
-            }
+            Err(InputError::Io(cause)) => return Err(InputError::Io(cause)),
             Err(InputError::Memory) => return Err(InputError::Memory),
         }
         // No behaviour passes over want of memory: for such a file none is spent.
@@ -193,8 +282,9 @@ impl<F: FileSystem> InputFiles<'_, F> {
 }
 
 impl<F: FileSystem> InputReader for InputFiles<'_, F> {
-    ghost offer = { λ inputs. last_from inputs.keeps_last_macros
-        (taken_from inputs.decompresses (F.offer inputs.files.now)) };
+    ghost offer = { λ inputs. last_from inputs.keeps_last_macros (taken_from inputs.decompresses
+        (through inputs.prefix_maps.now inputs.objects.now inputs.executables.now
+        (F.offer inputs.files.now))) };
 
     #[tactic(auto, using(crate::proofs::Taken::with_last, crate::proofs::Taken::with_all, crate::proofs::Taken::with_none))]
     fn read_into<'b>(
@@ -223,10 +313,16 @@ impl<F: FileSystem> InputReader for InputFiles<'_, F> {
 impl<F: FileSystem> Inputs for InputFiles<'_, F> {
     fn begin(&self, input: Input<'_>) {
         self.begins.set(true);
+        self.again.set(false);
         self.macros.begin();
         self.overlap.set(false);
         self.is_executable
             .set(matches!(input, Input::Executable(_, _)));
+    }
+
+    fn begin_again(&self, input: Input<'_>) {
+        self.begin(input);
+        self.again.set(true);
     }
 
     fn decompresses(&self) -> bool {
@@ -241,6 +337,19 @@ impl<F: FileSystem> Inputs for InputFiles<'_, F> {
         self.named.replace(None)
     }
 
+    fn mapped(&self, named: &str) -> Result<String, AllocError> {
+        InputFiles::mapped(self, named)
+    }
+
+    fn unreadable(&self, path: &str) -> Result<Option<String>, AllocError> {
+        let mut room = Vec::new(self.alloc);
+        match self.files.read_regular_over(Path::new(path), &mut room) {
+            Ok(()) => Ok(None),
+            Err(InputError::Io(cause)) => Ok(Some(reason(self.alloc, &cause)?)),
+            Err(InputError::Memory) => Err(AllocError),
+        }
+    }
+
     fn first_unread(&self) -> Option<Unread> {
         self.unread.replace(None)
     }
@@ -250,17 +359,46 @@ impl<F: FileSystem> Inputs for InputFiles<'_, F> {
     }
 }
 
-/// Reads the file at a path: any where it is an input's own path, else a regular one alone.
+/// The place of a path among others, where it is there: it is looked for at a place, at the one
+/// before, and then at all.
+fn place_among(paths: &[&str], next: usize, path: &str) -> Option<usize>
+    ensures { IfSome result (StandsAt paths.now path.now) }
+{
+    if is_at(paths, next, path) {
+        return Some(next);
+    }
+    if is_at(paths, next.saturating_sub(1), path) {
+        return Some(next.saturating_sub(1));
+    }
+    for place in 0..paths.len() {
+        if is_at(paths, place, path) {
+            return Some(place);
+        }
+    }
+    None
+}
+
+/// Whether a path stands at a place among others.
+fn is_at(paths: &[&str], place: usize, path: &str) -> bool
+    ensures { IsTrue result → StandsAt paths.now path.now place }
+{
+    match paths.get(place) {
+        Some(given) => *given == path,
+        None => false,
+    }
+}
+
+/// Reads the file at a path: any where that may be, as an input's own path, else a regular one.
 fn read_file<F: FileSystem>(
     files: &F,
-    is_own: bool,
+    is_any: bool,
     path: Path<'_>,
     room: &mut Vec<u8>,
 ) -> Result<(), InputError>
     ensures offered { IsReadOver (F.offer files.now (path_bytes path.entry)) room.new.items result }
     ensures memory { IfErr result IsNoWantOfMemory }
 {
-    if is_own {
+    if is_any {
         files.read_over(path, room)
     } else {
         files.read_regular_over(path, room)

@@ -21,6 +21,8 @@ pub(crate) struct Telling {
     pub(crate) verbose: bool,
     /// Whether a second line says what a refusal is about.
     pub(crate) notes: bool,
+    /// Whether a unit of an executable that isn't there is told and left out.
+    pub(crate) partial: bool,
 }
 
 /// Tells of an input that was taken how many units of it were added.
@@ -48,7 +50,7 @@ pub(crate) fn warn_unsplit<I: Inputs, E: Write>(
     let (path, is_split) = match input {
         Input::Bytes(_) => return Ok(()),
         Input::Object(path) => (path, inputs.unit_count(path.path_text())? != Some(0)),
-        Input::Executable(path, _) => (path, names_units(alloc, inputs, path)),
+        Input::Executable(path, _) => (path, names_units(alloc, inputs, input, path)),
     };
     if is_split {
         return Ok(());
@@ -61,8 +63,9 @@ pub(crate) fn warn_unsplit<I: Inputs, E: Write>(
 }
 
 /// Whether an executable names a split unit, also where it can't be read a second time.
-fn names_units<I: Inputs>(alloc: Global, inputs: &I, path: Path<'_>) -> bool {
+fn names_units<I: Inputs>(alloc: Global, inputs: &I, input: Input<'_>, path: Path<'_>) -> bool {
     let mut room = Vec::new(alloc);
+    inputs.begin_again(input);
     match inputs.read_into(path, &mut room) {
         Ok(bytes) => has_units(alloc, bytes),
         Err(_) => true,

@@ -41,6 +41,10 @@ module _ (offer : List ℕ → Result (List ℕ) IoError → Type 0) where
   of_printing executables (failures.NoUnit id) h = absurd h
   of_printing executables failures.BadKind h = absurd h
   of_printing executables failures.BadIdentifier h = absurd h
+  of_printing executables failures.BadNumber h = absurd h
+  of_printing executables failures.BadSection h = absurd h
+  of_printing executables (failures.NoString i) h = absurd h
+  of_printing executables (failures.NoRange kind) h = absurd h
   of_printing executables failures.BadCommand h = absurd h
   of_printing executables failures.Response h = absurd h
 
@@ -56,6 +60,10 @@ module _ (offer : List ℕ → Result (List ℕ) IoError → Type 0) where
   of_reading path (failures.NoUnit id) h = absurd h
   of_reading path failures.BadKind h = absurd h
   of_reading path failures.BadIdentifier h = absurd h
+  of_reading path failures.BadNumber h = absurd h
+  of_reading path failures.BadSection h = absurd h
+  of_reading path (failures.NoString i) h = absurd h
+  of_reading path (failures.NoRange kind) h = absurd h
   of_reading path failures.BadCommand h = absurd h
   of_reading path failures.Response h = absurd h
 
@@ -71,6 +79,10 @@ module _ (offer : List ℕ → Result (List ℕ) IoError → Type 0) where
   not_read path (failures.NoUnit id) h = absurd h
   not_read path failures.BadKind h = absurd h
   not_read path failures.BadIdentifier h = absurd h
+  not_read path failures.BadNumber h = absurd h
+  not_read path failures.BadSection h = absurd h
+  not_read path (failures.NoString i) h = absurd h
+  not_read path (failures.NoRange kind) h = absurd h
   not_read path failures.BadCommand h = absurd h
   not_read path failures.Response h = absurd h
 
@@ -91,6 +103,10 @@ module _ (offer : List ℕ → Result (List ℕ) IoError → Type 0) where
   first_of e es (failures.NoUnit id) h = absurd h
   first_of e es failures.BadKind h = absurd h
   first_of e es failures.BadIdentifier h = absurd h
+  first_of e es failures.BadNumber h = absurd h
+  first_of e es failures.BadSection h = absurd h
+  first_of e es (failures.NoString i) h = absurd h
+  first_of e es (failures.NoRange kind) h = absurd h
   first_of e es failures.BadCommand h = absurd h
   first_of e es failures.Response h = absurd h
 
@@ -106,6 +122,10 @@ module _ (offer : List ℕ → Result (List ℕ) IoError → Type 0) where
   other_of e es (failures.NoUnit id) h = absurd h
   other_of e es failures.BadKind h = absurd h
   other_of e es failures.BadIdentifier h = absurd h
+  other_of e es failures.BadNumber h = absurd h
+  other_of e es failures.BadSection h = absurd h
+  other_of e es (failures.NoString i) h = absurd h
+  other_of e es (failures.NoRange kind) h = absurd h
   other_of e es failures.BadCommand h = absurd h
   other_of e es failures.Response h = absurd h
 

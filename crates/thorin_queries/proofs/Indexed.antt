@@ -116,7 +116,7 @@ steps : (r1 r2 r3 r4 r5 r6 r7 r8 r9 r10 r11 r12 r13 : Result (List ℕ) ElfError
       tu_index = tu_index;
     })) ≡ Ok contents
     → (r3 ≡ Ok contents.abbrev_bytes) × (r12 ≡ Ok contents.cu_index)
-    × (r13 ≡ Ok contents.tu_index)
+    × (r13 ≡ Ok contents.tu_index) × (r11 ≡ Ok contents.strings)
 steps (Err d) r2 r3 r4 r5 r6 r7 r8 r9 r10 r11 r12 r13 contents e = absurd cc
 steps (Ok x1) (Err d) r3 r4 r5 r6 r7 r8 r9 r10 r11 r12 r13 contents e = absurd cc
 steps (Ok x1) (Ok x2) (Err d) r4 r5 r6 r7 r8 r9 r10 r11 r12 r13 contents e = absurd cc
@@ -144,6 +144,7 @@ steps (Ok x1) (Ok x2) (Ok x3) (Ok x4) (Ok x5) (Ok x6) (Ok x7) (Ok x8) (Ok x9) (O
       ap (λ (t : Sections). Ok t.abbrev_bytes) made,
       ap (λ (t : Sections). Ok t.cu_index) made,
       ap (λ (t : Sections). Ok t.tu_index) made,
+      ap (λ (t : Sections). Ok t.strings) made,
     )
 
 index_contents : (sections : List SectionMeaning) (contents : Sections)
@@ -151,6 +152,7 @@ index_contents : (sections : List SectionMeaning) (contents : Sections)
     → (content_among sections Abbrev ≡ Ok contents.abbrev_bytes)
     × (content_among sections CuIndex ≡ Ok contents.cu_index)
     × (content_among sections TuIndex ≡ Ok contents.tu_index)
+    × (content_among sections Str ≡ Ok contents.strings)
 unfolding contents_of
 index_contents sections contents e =
     steps (content_among sections Info) (content_among sections Types) (content_among sections
@@ -198,6 +200,7 @@ indexes_by file pack (Ok contents) is e =
     record {
       order = made.2;
       abbreviations = read.0 ∙ ap (λ (t : Sections). Ok t.abbrev_bytes) made.3;
+      strings = read.3 ∙ ap (λ (t : Sections). Ok t.strings) made.3;
       compilations =
           record { bytes = contents.cu_index; content = read.1; is = made.0 };
       types = record { bytes = contents.tu_index; content = read.2; is = made.1 };
@@ -208,3 +211,31 @@ pub has_indexes : (file : Elf) (bytes : List ℕ) (pack : Package) → elf_of by
 unfolding package_of
 has_indexes file bytes pack e p =
     indexes_by file pack (contents_of file.sections) refl (rw e at p)
+
+-- the strings that were read for a package are its own
+pub has_strings : (file : Elf) (bytes strings : List ℕ) (order : Endianness)
+    → elf_of bytes ≡ Ok file → order ≡ file.order
+    → ((bs : List ℕ) → content_among file.sections Str ≡ Ok bs → strings ≡ bs) → (pack : Package)
+    → package_of bytes ≡ Ok pack → (order ≡ pack.order) × (strings ≡ pack.contents.strings)
+has_strings file bytes strings order e same told pack p =
+    let has = has_indexes file bytes pack e p in
+    (same ∙ sym has.order, told pack.contents.strings has.strings)
+
+-- bytes that are no file are no package
+pub no_strings : (bytes strings : List ℕ) (order : Endianness) (cause : ElfError)
+    → elf_of bytes ≡ Err cause → (pack : Package) → package_of bytes ≡ Ok pack
+    → (order ≡ pack.order) × (strings ≡ pack.contents.strings)
+unfolding package_of
+no_strings bytes strings order cause e pack p = absurd (let q = rw e at p in cc)
+
+-- what the file has no index of, a package of its bytes has none of
+pub lacks_indexes : (file : Elf) (bytes : List ℕ) (b : Bool) → elf_of bytes ≡ Ok file
+    → ((pack : Package) → HasIndexes file pack → b ≡ has_no_index pack) → (pack : Package)
+    → package_of bytes ≡ Ok pack → b ≡ has_no_index pack
+lacks_indexes file bytes b e told pack p = told pack (has_indexes file bytes pack e p)
+
+-- bytes that are no file are no package
+pub no_package : (bytes : List ℕ) (cause : ElfError) → elf_of bytes ≡ Err cause → (pack : Package)
+    → package_of bytes ≡ Ok pack → false ≡ has_no_index pack
+unfolding package_of
+no_package bytes cause e pack p = absurd (let q = rw e at p in cc)

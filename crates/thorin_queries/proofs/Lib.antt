@@ -1,13 +1,16 @@
 mod Asked
 mod Checked
 mod Cuts
+mod Decimals
 mod Faulted
 mod FirstSection
 mod Hex
 mod Indexed
 mod Lines
 mod Listed
+mod Naming
 mod Printed
 mod Skeletons
+mod Spelling
 mod Told
 mod Walk

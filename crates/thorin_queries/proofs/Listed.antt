@@ -11,7 +11,10 @@ use Rattle.dwp_index.specs.Package.{Package, package_of}
 use Rattle.dwp_index.specs.declared.fault.PackageError.{PackageError}
 use Rattle.dwp_index.specs.declared.units.UnitEntry.{UnitEntry}
 use Rattle.thorin_queries.specs.Answers.{Comes, FailsToRead, OrNoMemory}
-use Rattle.thorin_queries.specs.Listing.{AreByRow, Lines, lines_of, after_lines, IsListed}
+use Rattle.thorin_queries.specs.Listing.{AreByRow, ListView, Lines, lines_of, after_lines}
+use Rattle.thorin_queries.specs.Listing.{IsListed, view_of, view_by, HasStrings}
+use Rattle.thorin_queries.specs.declared.listing.ListForm.{ListForm}
+use Rattle.thorin_queries.specs.declared.names.Strings.{Strings}
 use Rattle.thorin_queries.specs.Listing.{ListsPackage, ListsBytes, Lists}
 use Rattle.thorin_queries.specs.declared.output.Failure.{Failure}
 use Rattle.thorin_queries.specs.declared.output.Failure.TheVariants as failures
@@ -27,11 +30,11 @@ after_all : (lines : Lines) (b : Bool) → lines.is_all ≡ b → b ≡ true →
     → after_lines lines totals ≡ record { printed = lines.printed ++ totals; answer = Ok 0 }
 after_all lines b e goes totals = rw (e ∙ goes) refl
 
-module _ (has_sizes : Bool) (lines : Lines) (is_all : Bool) (old text : List ℕ) where
+module _ (form : ListForm) (lines : Lines) (is_all : Bool) (old text : List ℕ) where
   -- up to a unit that can't be looked up
   pub listed_part : old ≡ [] → text ≡ old ++ lines.printed → is_all ≡ lines.is_all
       → is_all ≡ false
-      → IsListed has_sizes lines (record { printed = text; answer = Err failures.Malformed })
+      → IsListed form lines (record { printed = text; answer = Err failures.Malformed })
   listed_part none added all ends =
       let same : text ≡ lines.printed = added ∙ ap (λ l. l ++ lines.printed) none in
       record {
@@ -43,7 +46,7 @@ module _ (has_sizes : Bool) (lines : Lines) (is_all : Bool) (old text : List ℕ
 
   -- without totals
   pub listed_plain : old ≡ [] → text ≡ old ++ lines.printed → is_all ≡ lines.is_all
-      → is_all ≡ true → IsListed has_sizes lines (record { printed = text; answer = Ok 0 })
+      → is_all ≡ true → IsListed form lines (record { printed = text; answer = Ok 0 })
   listed_plain none added all goes =
       let same : text ≡ lines.printed ++ [] =
       added ∙ ap (λ l. l ++ lines.printed) none ∙ sym (append-nil lines.printed) in
@@ -56,9 +59,9 @@ module _ (has_sizes : Bool) (lines : Lines) (is_all : Bool) (old text : List ℕ
 
   -- with totals
   pub listed_sized : (new : List ℕ) → old ≡ [] → text ≡ old ++ lines.printed
-      → is_all ≡ lines.is_all → is_all ≡ true → has_sizes ≡ true
+      → is_all ≡ lines.is_all → is_all ≡ true → form.sizes ≡ true
       → ((totals : List ℕ) × (new ≡ text ++ totals))
-      → IsListed has_sizes lines (record { printed = new; answer = Ok 0 })
+      → IsListed form lines (record { printed = new; answer = Ok 0 })
   listed_sized new none added all goes asked more =
       let same : new ≡ lines.printed ++ more.0 =
       more.1 ∙ ap (λ l. l ++ more.0) (added ∙ ap (λ l. l ++ lines.printed) none) in
@@ -79,58 +82,68 @@ pub same_entries : (pack : Package) (entries lent : List UnitEntry) → lent ≡
     → AreByRow pack entries → AreByRow pack lent
 same_entries pack entries lent same h = subst (AreByRow pack) (sym same) h
 
-pub entries_listed : (has_sizes : Bool) (pack : Package) (old new : Option (List ℕ))
+pub entries_listed : (form : ListForm) (pack : Package) (old new : Option (List ℕ))
     (result : Result ℕ Failure) (entries : List UnitEntry) (given : Result ℕ Failure)
-    (text lent : List ℕ) → AreByRow pack entries
-    → IsListed has_sizes (lines_of has_sizes pack entries)
-    (record { printed = text; answer = given })
+    (text lent : List ℕ) (view : ListView) → view ≡ view_of form pack → AreByRow pack entries
+    → IsListed form (lines_of view pack entries) (record { printed = text; answer = given })
     → lent ≡ text → Comes result (record { printed = lent; answer = given }) old new
-    → OrNoMemory (ListsPackage has_sizes pack old new result) old new result
+    → OrNoMemory (ListsPackage form pack old new result) old new result
 unfolding OrNoMemory
-entries_listed has_sizes pack old new result entries given text lent by_row listed same comes =
+entries_listed form pack old new result entries given text lent view seen by_row listed same
+    comes =
     inl (record {
       entries = entries;
       by_row = by_row;
       meant = record { printed = text; answer = given };
-      listed = listed;
+      listed = subst (λ v. IsListed form (lines_of v pack entries)
+          (record { printed = text; answer = given })) seen listed;
       comes = subst (λ l. Comes result (record { printed = l; answer = given }) old new) same comes;
     })
 
-pub bytes_listed : (has_sizes : Bool) (pack : Package) (p : Result Package PackageError)
-    (old new : Option (List ℕ)) (result : Result ℕ Failure) → p ≡ Ok pack
-    → OrNoMemory (ListsPackage has_sizes pack old new result) old new result
-    → OrNoMemory (ListsBytes has_sizes p old new result) old new result
-bytes_listed has_sizes pack p old new result e h =
-    subst (λ q. OrNoMemory (ListsBytes has_sizes q old new result) old new result) (sym e) h
+-- the strings at hand are those of the package
+pub strings_seen : (form : ListForm) (pack : Package) (strings : Strings) (bytes : List ℕ)
+    → ((p : Package) → package_of bytes ≡ Ok p → HasStrings strings p) → package_of bytes ≡ Ok pack
+    → view_by form strings ≡ view_of form pack
+strings_seen form pack strings bytes told is =
+    let has = told pack is in
+    let order : strings.order ≡ pack.order = has.0 in
+    let same : strings.bytes.now ≡ pack.contents.strings = has.1 in cc
 
-pub bytes_malformed : (has_sizes : Bool) (cause : PackageError) (p : Result Package PackageError)
+pub bytes_listed : (form : ListForm) (pack : Package) (p : Result Package PackageError)
+    (old new : Option (List ℕ)) (result : Result ℕ Failure) → p ≡ Ok pack
+    → OrNoMemory (ListsPackage form pack old new result) old new result
+    → OrNoMemory (ListsBytes form p old new result) old new result
+bytes_listed form pack p old new result e h =
+    subst (λ q. OrNoMemory (ListsBytes form q old new result) old new result) (sym e) h
+
+pub bytes_malformed : (form : ListForm) (cause : PackageError) (p : Result Package PackageError)
     (a : Option (List ℕ)) → p ≡ Err cause
-    → OrNoMemory (ListsBytes has_sizes p a a (Err failures.Malformed)) a a (Err failures.Malformed)
+    → OrNoMemory (ListsBytes form p a a (Err failures.Malformed)) a a (Err failures.Malformed)
 unfolding OrNoMemory
-bytes_malformed has_sizes cause p a e = inl (rw e (refl, Appends-nil a))
+bytes_malformed form cause p a e = inl (rw e (refl, Appends-nil a))
 
 module _ (offer : List ℕ → Result (List ℕ) IoError → Type 0) (path : List ℕ)
-    (has_sizes : Bool) where
+    (form : ListForm) where
   listed_or : (old new : Option (List ℕ)) (result : Result ℕ Failure) (bytes : List ℕ)
       → offer path (Ok bytes)
-      → ListsBytes has_sizes (package_of bytes) old new result
+      → ListsBytes form (package_of bytes) old new result
       ⊎ ((result ≡ Err failures.Memory) × Keeps old new)
-      → Lists offer path has_sizes old new result
+      → Lists offer path form old new result
   unfolding Lists
   listed_or old new result bytes read (inl h) = inl (bytes, read, h)
   listed_or old new result bytes read (inr h) = inr (rw h.0 (tt, h.1))
 
   pub was_listed : (old new : Option (List ℕ)) (result : Result ℕ Failure)
       (bytes lent : List ℕ) → offer path (Ok bytes) → lent ≡ bytes
-      → OrNoMemory (ListsBytes has_sizes (package_of lent) old new result) old new result
-      → Lists offer path has_sizes old new result
+      → OrNoMemory (ListsBytes form (package_of lent) old new result) old new result
+      → Lists offer path form old new result
   unfolding OrNoMemory
   was_listed old new result bytes lent read same h =
       listed_or old new result bytes read
-      (subst (λ bs. ListsBytes has_sizes (package_of bs) old new result
+      (subst (λ bs. ListsBytes form (package_of bs) old new result
       ⊎ ((result ≡ Err failures.Memory) × Keeps old new)) same h)
 
   pub not_listed : (a : Option (List ℕ)) (failure : Failure) → FailsToRead offer path failure
-      → Lists offer path has_sizes a a (Err failure)
+      → Lists offer path form a a (Err failure)
   unfolding Lists
   not_listed a failure h = inr (h, Keeps-refl a)

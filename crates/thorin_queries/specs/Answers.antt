@@ -9,6 +9,8 @@ use Rattle.thorin_queries.specs.declared.output.Failure.TheVariants as failures
 abbrev pub exit_status : Failure → ℕ
 exit_status failures.BadKind = 2
 exit_status failures.BadIdentifier = 2
+exit_status failures.BadNumber = 2
+exit_status failures.BadSection = 2
 exit_status failures.BadCommand = 2
 exit_status _ = 1
 

@@ -1,9 +1,9 @@
 -- What `find` prints.
-use Rattle.std.specs.Prelude.{◌≡◌, ◌≢◌, ◌⊎◌, ℕ, List, [], ◌++◌, codes, length, Option, Some, None}
-use Rattle.std.specs.Prelude.{Result, Ok, Err}
+use Rattle.std.specs.Prelude.{◌≡◌, ◌≢◌, ◌⊎◌, ◌<◌, ◌^◌, ◌==◌, ℕ, Bool, true, false, List, [], ◌++◌}
+use Rattle.std.specs.Prelude.{codes, length, Option, Some, None, Result, Ok, Err, if◌then◌else◌}
 use Rattle.std.specs.Fmt.{decimal}
 use Rattle.std.specs.List.{flat_map}
-use Rattle.std.specs.Str.Parse.{digits_value}
+use Rattle.std.specs.Str.Parse.{digits_value, IsNumeral}
 use Rattle.std.specs.declared.io.Error.{Error as IoError}
 use Rattle.std.specs.Io.KnownBytes.{Keeps}
 use Rattle.dwp_base.specs.declared.section.SectionKind.{SectionKind}
@@ -13,8 +13,10 @@ use Rattle.dwp_bytes.specs.StringOffsets.{entry_count}
 use Rattle.dwp_bytes.specs.declared.encoding.Encoding.{Encoding}
 use Rattle.dwp_bytes.specs.declared.encoding.Format.{Format}
 use Rattle.dwp_bytes.specs.declared.encoding.Format.TheVariants.{Dwarf32, Dwarf64}
+use Rattle.dwp_bytes.specs.declared.fault.ReadError.{ReadError}
 use Rattle.dwp_index.specs.Index.{range_in}
 use Rattle.dwp_index.specs.Package.{Package, FoundUnit, package_of, found_counted, row_bytes}
+use Rattle.dwp_index.specs.Strings.{string_in}
 use Rattle.dwp_index.specs.declared.fault.PackageError.{PackageError}
 use Rattle.dwp_table.specs.Columns.{contribution_kinds}
 use Rattle.dwp_table.specs.Objects.{identifier_of}
@@ -23,6 +25,10 @@ use Rattle.dwp_table.specs.declared.object.DwarfObject.TheVariants.{Compilation,
 use Rattle.thorin_words.specs.Identifiers.{IsIdentifier}
 use Rattle.thorin_queries.specs.Answers.{Answer, refused, Reads}
 use Rattle.thorin_queries.specs.Lines.{hex, hex16, line_end, short_kind, short_name}
+use Rattle.thorin_queries.specs.Spelled.{spelled, spelled_or}
+use Rattle.thorin_queries.specs.declared.wanted.Wanted.{Wanted}
+use Rattle.thorin_queries.specs.declared.wanted.Wanted.TheVariants.{Printed, Bytes}
+use Rattle.thorin_queries.specs.declared.wanted.Printing.TheVariants.{AllOf, StringOf}
 use Rattle.thorin_queries.specs.declared.output.Failure.{Failure}
 use Rattle.thorin_queries.specs.declared.output.Failure.TheVariants as failures
 
@@ -54,6 +60,29 @@ Asks kind id (Err failures.BadKind) = (kind ≢ codes "cu") × (kind ≢ codes "
 Asks kind id (Err failures.BadIdentifier) =
     ((kind ≡ codes "cu") ⊎ (kind ≡ codes "tu")) × WritesNone id
 Asks kind id (Err _) = ⊥
+
+-- ---- what is asked of it
+
+-- a text writes the number of a string: decimal digits of a number of 64 bits
+abbrev pub IsNumber : List ℕ → Type 0
+IsNumber text = IsNumeral 10 text × (digits_value 10 text < 2 ^ 64)
+
+abbrev pub AsksString : List ℕ → Result Wanted Failure → Type 0
+AsksString text (Ok (Printed (StringOf n))) = IsNumber text × (n ≡ digits_value 10 text)
+AsksString text (Err failures.BadNumber) = ¬ (IsNumber text)
+AsksString text _ = ⊥
+
+-- a text is the short name of a kind of section
+abbrev pub AsksSection : List ℕ → Result Wanted Failure → Type 0
+AsksSection text (Ok (Bytes kind)) = text ≡ short_name kind
+AsksSection text (Err failures.BadSection) = (kind : SectionKind) → text ≢ short_name kind
+AsksSection text _ = ⊥
+
+-- what is asked for: a string, a section's bytes, or all that is told of a unit
+abbrev pub AsksFor : (string section : Option (List ℕ)) → Result Wanted Failure → Type 0
+AsksFor (Some text) section wanted = AsksString text wanted
+AsksFor None (Some text) wanted = AsksSection text wanted
+AsksFor None None wanted = wanted ≡ Ok (Printed AllOf)
 
 -- ---- what is printed of it
 
@@ -96,33 +125,108 @@ unfoldable pub unit_text : DwarfObject → FoundUnit → (slots : ℕ) → List 
 unit_text object unit slots = encoding_line object unit.encoding ++ range_lines unit
     ++ count_lines (string_count unit) slots
 
+-- the same as a JSON object (RFC 8259): each range by the short name of its section
+abbrev pub json_range : SectionKind → Option Contribution → List ℕ
+json_range kind None = []
+json_range kind (Some range) = codes ",\"" ++ (short_name kind ++ (codes "\":{\"offset\":"
+    ++ (decimal range.offset.0 ++ (codes ",\"size\":" ++ (decimal range.size ++ codes "}")))))
+
+unfoldable pub json_ranges : FoundUnit → List ℕ
+json_ranges unit =
+    flat_map (λ kind. json_range kind (range_in unit.row kind)) contribution_kinds
+
+unfoldable pub json_encoding : DwarfObject → Encoding → List ℕ
+json_encoding object encoding =
+    codes "{\"kind\":\"" ++ (short_kind object
+    ++ (codes "\",\"id\":\"0x" ++ (hex16 (identifier_of object)
+    ++ (codes "\",\"version\":" ++ (decimal encoding.version
+    ++ (codes ",\"format\":" ++ (decimal (width encoding.format)
+    ++ (codes ",\"address\":" ++ decimal encoding.address_size))))))))
+
+unfoldable pub json_counts : (strings slots : ℕ) → List ℕ
+json_counts strings slots = codes ",\"strings\":" ++ (decimal strings
+    ++ (codes ",\"slots\":" ++ (decimal slots ++ (codes "}" ++ line_end))))
+
+unfoldable pub json_text : DwarfObject → FoundUnit → (slots : ℕ) → List ℕ
+json_text object unit slots = json_encoding object unit.encoding ++ json_ranges unit
+    ++ json_counts (string_count unit) slots
+
+abbrev pub all_text : (as_json : Bool) → DwarfObject → FoundUnit → (slots : ℕ) → List ℕ
+all_text false = unit_text
+all_text true = json_text
+
+-- the line of a string
+abbrev pub string_line : (as_json : Bool) → List ℕ → List ℕ
+string_line false string = spelled false string ++ line_end
+string_line true string =
+    codes "{\"string\":" ++ (spelled_or true (Some string) ++ (codes "}" ++ line_end))
+
 -- ---- what comes of it
 
-abbrev pub found_answer : DwarfObject → Result (Option FoundUnit × ℕ) PackageError → Answer
-found_answer object (Err cause) = refused failures.Malformed
-found_answer object (Ok (None, slots)) = refused (failures.NoUnit (identifier_of object))
-found_answer object (Ok (Some unit, slots)) =
-    record { printed = unit_text object unit slots; answer = Ok 0 }
+-- a string that can be read; past the last there is none
+abbrev pub string_answer : (as_json : Bool) → ℕ → Result (Option (List ℕ)) ReadError → Answer
+string_answer as_json i (Ok (Some string)) =
+    record { printed = string_line as_json string; answer = Ok 0 }
+string_answer as_json i (Ok None) = refused (failures.NoString i)
+string_answer as_json i (Err cause) = refused failures.Malformed
 
-abbrev pub answer_in : DwarfObject → Result Package PackageError → Answer
-answer_in object (Err cause) = refused failures.Malformed
-answer_in object (Ok pack) = found_answer object (found_counted pack object)
+-- the bytes of a section as they are, where there are any
+abbrev pub bytes_answer : SectionKind → List ℕ → Answer
+bytes_answer kind bytes = if length bytes == 0 then refused (failures.NoRange kind)
+    else record { printed = bytes; answer = Ok 0 }
+
+-- what is wanted of a unit
+abbrev pub wanted_answer : (as_json : Bool) → Wanted → DwarfObject → FoundUnit → (slots : ℕ)
+    → Answer
+wanted_answer as_json (Printed AllOf) object unit slots =
+    record { printed = all_text as_json object unit slots; answer = Ok 0 }
+wanted_answer as_json (Printed (StringOf i)) object unit slots =
+    string_answer as_json i (string_in unit.order unit.encoding unit.contents.strings
+    (row_bytes unit.contents unit.row StrOffsets) i)
+wanted_answer as_json (Bytes kind) object unit slots =
+    bytes_answer kind (row_bytes unit.contents unit.row kind)
+
+abbrev pub found_answer : (as_json : Bool) → Wanted → DwarfObject
+    → Result (Option FoundUnit × ℕ) PackageError → Answer
+found_answer as_json wanted object (Err cause) = refused failures.Malformed
+found_answer as_json wanted object (Ok (None, slots)) =
+    refused (failures.NoUnit (identifier_of object))
+found_answer as_json wanted object (Ok (Some unit, slots)) =
+    wanted_answer as_json wanted object unit slots
+
+abbrev pub answer_in : (as_json : Bool) → Wanted → DwarfObject → Result Package PackageError
+    → Answer
+answer_in as_json wanted object (Err cause) = refused failures.Malformed
+answer_in as_json wanted object (Ok pack) =
+    found_answer as_json wanted object (found_counted pack object)
 
 -- what `find` comes to for a unit, over the bytes of a file
-unfoldable pub find_answer : DwarfObject → List ℕ → Answer
-find_answer object bytes = answer_in object (package_of bytes)
+unfoldable pub find_answer : (as_json : Bool) → Wanted → DwarfObject → List ℕ → Answer
+find_answer as_json wanted object bytes = answer_in as_json wanted object (package_of bytes)
+
+abbrev pub FindsWanted : (List ℕ → Result (List ℕ) IoError → Type 0) → (path : List ℕ)
+    → (as_json : Bool) → (old new : Option (List ℕ)) → DwarfObject → Result Wanted Failure
+    → Result ℕ Failure → Type 0
+FindsWanted offer path as_json old new object (Ok wanted) result =
+    Reads offer path (find_answer as_json wanted object) old new result
+FindsWanted offer path as_json old new object (Err failure) result =
+    (result ≡ Err failure) × Keeps old new
 
 abbrev pub FindsAsked : (List ℕ → Result (List ℕ) IoError → Type 0) → (path : List ℕ)
-    → (old new : Option (List ℕ)) → Result DwarfObject Failure → Result ℕ Failure → Type 0
-FindsAsked offer path old new (Ok object) result =
-    Reads offer path (find_answer object) old new result
-FindsAsked offer path old new (Err failure) result = (result ≡ Err failure) × Keeps old new
+    → (as_json : Bool) → (old new : Option (List ℕ)) → Result DwarfObject Failure
+    → Result Wanted Failure → Result ℕ Failure → Type 0
+FindsAsked offer path as_json old new (Ok object) wanted result =
+    FindsWanted offer path as_json old new object wanted result
+FindsAsked offer path as_json old new (Err failure) wanted result =
+    (result ≡ Err failure) × Keeps old new
 
--- `find`: the words ask for a unit, and the file at the path is read for it; or they ask for none,
--- and nothing is printed
+-- `find`: the words ask for a unit, and for something of it, and the file at the path is read for
+-- it; or they ask for none, the unit's words tested first, and nothing is printed
 pub record Finds (offer : List ℕ → Result (List ℕ) IoError
-    → Type 0) (path kind id : List ℕ) (old new : Option (List ℕ)) (result : Result ℕ Failure)
-    : Type 0 where
+    → Type 0) (path kind id : List ℕ) (string section : Option (List ℕ)) (as_json : Bool)
+    (old new : Option (List ℕ)) (result : Result ℕ Failure) : Type 0 where
   pub asked : Result DwarfObject Failure
   pub asks : Asks kind id asked
-  pub finds : FindsAsked offer path old new asked result
+  pub wanted : Result Wanted Failure
+  pub wants : AsksFor string section wanted
+  pub finds : FindsAsked offer path as_json old new asked wanted result

@@ -3,8 +3,11 @@ pub mod Checking
 pub mod Faults
 pub mod Finding
 pub mod Indexes
+pub mod Json
 pub mod Lines
 pub mod Listing
+pub mod Names
 pub mod Overlaps
 pub mod Shown
+pub mod Spelled
 pub mod Telling

@@ -8,6 +8,7 @@ use Rattle.std.specs.List.Sorted.{IsPermutation, IsSortedByKey, IsStableByKey}
 use Rattle.std.specs.Ordering.{nat_cmp}
 use Rattle.std.specs.declared.io.Error.{Error as IoError}
 use Rattle.std.specs.Io.KnownBytes.{Keeps}
+use Rattle.dwp_base.specs.declared.endian.Endianness.{Endianness}
 use Rattle.dwp_base.specs.declared.section.SectionKind.{SectionKind}
 use Rattle.dwp_base.specs.declared.section.Contribution.{Contribution}
 use Rattle.dwp_index.specs.Entries.{entries_from}
@@ -20,6 +21,10 @@ use Rattle.dwp_table.specs.Objects.{identifier_of}
 use Rattle.dwp_table.specs.declared.object.DwarfObject.{DwarfObject}
 use Rattle.dwp_table.specs.declared.object.DwarfObject.TheVariants.{Compilation, TypeUnit}
 use Rattle.thorin_queries.specs.Answers.{Answer, refused, Comes, RefusesFile}
+use Rattle.thorin_queries.specs.Names.{source_name, object_name}
+use Rattle.thorin_queries.specs.Spelled.{spelled_or}
+use Rattle.thorin_queries.specs.declared.listing.ListForm.{ListForm}
+use Rattle.thorin_queries.specs.declared.names.Strings.{Strings}
 use Rattle.thorin_queries.specs.Lines.{hex16, line_end, short_kind, short_name}
 use Rattle.thorin_queries.specs.declared.output.Failure.{Failure}
 use Rattle.thorin_queries.specs.declared.output.Failure.TheVariants as failures
@@ -43,61 +48,111 @@ pub record AreByRow (pack : Package) (entries : List UnitEntry) : Type 0 where
 
 -- ---- the line of a unit
 
+-- what lines are made from: what they are to have, and a package's byte order and strings
+pub record ListView : Type 0 where
+  pub form : ListForm
+  pub order : Endianness
+  pub strings : List ℕ
+
+-- the strings that a package has
+abbrev pub view_of : ListForm → Package → ListView
+view_of form pack =
+    record { form = form; order = pack.order; strings = pack.contents.strings }
+
+-- those at hand
+abbrev pub view_by : ListForm → Strings → ListView
+view_by form strings =
+    record { form = form; order = strings.order; strings = strings.bytes.now }
+
+abbrev pub HasStrings : Strings → Package → Type 0
+HasStrings strings pack =
+    (strings.order ≡ pack.order) × (strings.bytes.now ≡ pack.contents.strings)
+
 -- the size of a range, behind the short name of its section
-abbrev pub range_size : SectionKind → Option Contribution → List ℕ
-range_size kind None = []
-range_size kind (Some range) = codes " " ++ (short_name kind ++ (codes " " ++ decimal range.size))
+abbrev pub range_size : (as_json : Bool) → SectionKind → Option Contribution → List ℕ
+range_size as_json kind None = []
+range_size false kind (Some range) =
+    codes " " ++ (short_name kind ++ (codes " " ++ decimal range.size))
+range_size true kind (Some range) =
+    codes ",\"" ++ (short_name kind ++ (codes "\":" ++ decimal range.size))
 
-unfoldable pub range_sizes : FoundUnit → List ℕ
-range_sizes unit = flat_map (λ kind. range_size kind (range_in unit.row kind)) contribution_kinds
+unfoldable pub range_sizes : (as_json : Bool) → FoundUnit → List ℕ
+range_sizes as_json unit =
+    flat_map (λ kind. range_size as_json kind (range_in unit.row kind)) contribution_kinds
 
--- a unit's kind, its identifier and the size of its bytes; also the sizes of its ranges, where
--- these
--- are asked for
+-- a unit's kind, its identifier and the size of its bytes
 unfoldable pub unit_front : DwarfObject → FoundUnit → List ℕ
 unit_front object unit =
     short_kind object ++ (codes " 0x" ++ (hex16 (identifier_of object)
     ++ (codes " " ++ decimal (length unit.bytes))))
 
-unfoldable pub unit_line : (has_sizes : Bool) → DwarfObject → FoundUnit → List ℕ
-unit_line has_sizes object unit =
-    unit_front object unit ++ (if has_sizes then range_sizes unit else []) ++ line_end
+-- the same as the beginning of a JSON object (RFC 8259)
+unfoldable pub json_front : DwarfObject → FoundUnit → List ℕ
+json_front object unit =
+    codes "{\"kind\":\"" ++ (short_kind object ++ (codes "\",\"id\":\"0x"
+    ++ (hex16 (identifier_of object) ++ (codes "\",\"size\":" ++ decimal (length unit.bytes)))))
+
+abbrev pub front_of : (as_json : Bool) → DwarfObject → FoundUnit → List ℕ
+front_of false object unit = unit_front object unit
+front_of true object unit = json_front object unit
+
+-- the names of a unit's source and of its object; plain ones stand behind tabs, which no name has
+-- as it is spelled
+abbrev pub named_by : (as_json : Bool) → (source object : Option (List ℕ)) → List ℕ
+named_by false source object =
+    codes "\t" ++ (spelled_or false source ++ (codes "\t" ++ spelled_or false object))
+named_by true source object = codes ",\"name\":" ++ (spelled_or true source
+    ++ (codes ",\"dwo_name\":" ++ spelled_or true object))
+
+unfoldable pub unit_names : ListView → DwarfObject → FoundUnit → List ℕ
+unit_names view object unit =
+    named_by view.form.json (source_name view.order view.strings object unit)
+    (object_name view.order view.strings object unit)
+
+abbrev pub end_of : (as_json : Bool) → List ℕ
+end_of false = line_end
+end_of true = codes "}" ++ line_end
+
+-- the line of a unit; the sizes of its ranges and its names stand in it where these are asked for
+unfoldable pub unit_line : ListView → DwarfObject → FoundUnit → List ℕ
+unit_line view object unit = front_of view.form.json object unit
+    ++ (if view.form.sizes then range_sizes view.form.json unit else [])
+    ++ (if view.form.names then unit_names view object unit else []) ++ end_of view.form.json
 
 -- the line for a slot: that of the unit which is found under its identifier, if that is the one of
 -- the slot's row; no line, if another or none is found
-abbrev pub slot_line : (has_sizes : Bool) → UnitEntry → Option FoundUnit → List ℕ
-slot_line has_sizes entry None = []
-slot_line has_sizes entry (Some unit) =
-    if unit.number == entry.row then unit_line has_sizes entry.object unit else []
+abbrev pub slot_line : (view : ListView) → UnitEntry → Option FoundUnit → List ℕ
+slot_line view entry None = []
+slot_line view entry (Some unit) =
+    if unit.number == entry.row then unit_line view entry.object unit else []
 
 -- ---- all lines
 
 -- the lines of these slots, up to the first whose unit can't be looked up; and whether there is
--- none
--- such
+-- none such
 pub record Lines : Type 0 where
   pub printed : List ℕ
   pub is_all : Bool
 
-abbrev pub behind_line : (has_sizes : Bool) → UnitEntry → Result (Option FoundUnit) PackageError
+abbrev pub behind_line : (view : ListView) → UnitEntry → Result (Option FoundUnit) PackageError
     → Lines → Lines
-behind_line has_sizes entry (Err cause) lines = record { printed = []; is_all = false }
-behind_line has_sizes entry (Ok unit) lines = record {
-  printed = slot_line has_sizes entry unit ++ lines.printed;
+behind_line view entry (Err cause) lines = record { printed = []; is_all = false }
+behind_line view entry (Ok unit) lines = record {
+  printed = slot_line view entry unit ++ lines.printed;
   is_all = lines.is_all;
 }
 
-abbrev pub lines_of : (has_sizes : Bool) → Package → List UnitEntry → Lines
-lines_of has_sizes pack [] = record { printed = []; is_all = true }
-lines_of has_sizes pack (entry ∷ entries) =
-    behind_line has_sizes entry (found pack entry.object) (lines_of has_sizes pack entries)
+abbrev pub lines_of : (view : ListView) → Package → List UnitEntry → Lines
+lines_of view pack [] = record { printed = []; is_all = true }
+lines_of view pack (entry ∷ entries) =
+    behind_line view entry (found pack entry.object) (lines_of view pack entries)
 
 -- where a unit was looked up, its line is added, and else nothing
-abbrev pub AddsLine : (has_sizes : Bool) → UnitEntry → Result (Option FoundUnit) PackageError
+abbrev pub AddsLine : (view : ListView) → UnitEntry → Result (Option FoundUnit) PackageError
     → (old new : List ℕ) → Bool → Type 0
-AddsLine has_sizes entry (Err cause) old new is_found = (is_found ≡ false) × (new ≡ old)
-AddsLine has_sizes entry (Ok unit) old new is_found =
-    (is_found ≡ true) × (new ≡ old ++ slot_line has_sizes entry unit)
+AddsLine view entry (Err cause) old new is_found = (is_found ≡ false) × (new ≡ old)
+AddsLine view entry (Ok unit) old new is_found =
+    (is_found ≡ true) × (new ≡ old ++ slot_line view entry unit)
 
 -- ---- what comes of it
 
@@ -108,31 +163,31 @@ after_lines lines totals = if lines.is_all
     else record { printed = lines.printed; answer = Err failures.Malformed }
 
 -- that is meant, with some totals; there are none where sizes aren't asked for
-pub record IsListed (has_sizes : Bool) (lines : Lines) (meant : Answer) : Type 0 where
+pub record IsListed (form : ListForm) (lines : Lines) (meant : Answer) : Type 0 where
   pub totals : List ℕ
-  pub no_totals : has_sizes ≡ false → totals ≡ []
+  pub no_totals : form.sizes ≡ false → totals ≡ []
   pub is : after_lines lines totals ≡ meant
 
 -- `list`, where the bytes of a file are a package
-pub record ListsPackage (has_sizes : Bool) (pack : Package) (old new : Option (List ℕ))
+pub record ListsPackage (form : ListForm) (pack : Package) (old new : Option (List ℕ))
     (result : Result ℕ Failure) : Type 0 where
   pub entries : List UnitEntry
   pub by_row : AreByRow pack entries
   pub meant : Answer
-  pub listed : IsListed has_sizes (lines_of has_sizes pack entries) meant
+  pub listed : IsListed form (lines_of (view_of form pack) pack entries) meant
   pub comes : Comes result meant old new
 
 -- the same for what the bytes are: where they are no package, that is answered
-abbrev pub ListsBytes : (has_sizes : Bool) → Result Package PackageError
+abbrev pub ListsBytes : (form : ListForm) → Result Package PackageError
     → (old new : Option (List ℕ)) → Result ℕ Failure → Type 0
-ListsBytes has_sizes (Err cause) old new result = Comes result (refused failures.Malformed) old new
-ListsBytes has_sizes (Ok pack) old new result = ListsPackage has_sizes pack old new result
+ListsBytes form (Err cause) old new result = Comes result (refused failures.Malformed) old new
+ListsBytes form (Ok pack) old new result = ListsPackage form pack old new result
 
 -- `list`: the file at the path was read and listed; or it can't be read, or there is no memory to
 -- do so, and nothing was printed
 unfoldable pub Lists : (List ℕ → Result (List ℕ) IoError → Type 0) → (path : List ℕ)
-    → (has_sizes : Bool) → (old new : Option (List ℕ)) → Result ℕ Failure → Type 0
-Lists offer path has_sizes old new result =
+    → (form : ListForm) → (old new : Option (List ℕ)) → Result ℕ Failure → Type 0
+Lists offer path form old new result =
     ((bytes : List ℕ) × offer path (Ok bytes)
-    × ListsBytes has_sizes (package_of bytes) old new result)
+    × ListsBytes form (package_of bytes) old new result)
     ⊎ (RefusesFile offer path result × Keeps old new)

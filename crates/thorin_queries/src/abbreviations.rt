@@ -1,6 +1,10 @@
 //! The identifiers that units' own bytes give. What was read is remembered: the abbreviations from
 //! unit to unit, and what units that share their bytes have.
 
+ghost use Rattle.std.specs.Prelude.{◌≡◌};
+ghost use Rattle.dwp_index.specs.Index.{range_in};
+ghost use Rattle.dwp_index.specs.Package.{place_of};
+
 use dwp_dwarf::{AbbreviationCache, ReadError, SliceReader, UnitHeader, UnitHeaders, UnitSection};
 use dwp_elf::{Contribution, Endianness, SectionKind};
 use dwp_index::PackagedUnit;
@@ -151,7 +155,9 @@ fn header_of<'a>(
 }
 
 /// Where a unit's own bytes stand: a type unit's in types where it has a range there.
-fn place_of(unit: &PackagedUnit<'_>, object: DwarfObject) -> UnitSection {
+pub(crate) fn place_of(unit: &PackagedUnit<'_>, object: DwarfObject) -> UnitSection
+    ensures { result ≡ place_of object (range_in unit.now.row SectionKind.Types) }
+{
     match object {
         DwarfObject::Compilation(_) => UnitSection::Info,
         DwarfObject::TypeUnit(_) => match unit.range(SectionKind::Types) {

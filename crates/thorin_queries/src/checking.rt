@@ -18,6 +18,7 @@ use crate::executables::{Named, check_executables};
 use crate::faults::with_rest;
 use crate::files::{FileReader, HostReader, read_named};
 use crate::input::has_no_index;
+use crate::json_lines::JsonLines;
 use crate::listing::entries_by_row;
 use crate::output::{Failure, flush, print};
 use crate::tables::{check_tables, lacks_abbreviations};
@@ -54,6 +55,21 @@ pub fn check<O: Write>(
         decompresses,
         out,
     )
+}
+
+/// The same, with a JSON object for each line.
+///
+/// # Errors
+/// Those of `check`.
+pub fn check_as_json<O: Write>(
+    rt: &HostRuntime,
+    file: &str,
+    executables: &[&str],
+    decompresses: bool,
+    out: &mut O,
+) -> Result<u8, Failure> {
+    let mut lines = JsonLines::new(rt.alloc(), out);
+    check(rt, file, executables, decompresses, &mut lines)
 }
 
 /// The same of files that a reader reads: that of the package, and the executables.

@@ -1,40 +1,49 @@
 //! `thorin find`.
 
-ghost use Rattle.std.specs.Prelude.{◌≡◌, ◌++◌, [], IfOk, OnOk, string_bytes};
-ghost use Rattle.thorin_queries.specs.Answers.{anything, Reads, Comes};
-ghost use Rattle.thorin_queries.specs.Finding.{Asks, Finds, width, encoding_line, range_line};
-ghost use Rattle.thorin_queries.specs.Finding.{range_lines, string_count, count_lines, unit_text};
-ghost use Rattle.thorin_queries.specs.Finding.{find_answer, found_answer};
+ghost use Rattle.std.specs.Prelude.{◌≡◌, ◌++◌, [], IfOk, OnOk, MatchResult, string_bytes};
+ghost use Rattle.std.specs.Option.{option_copied};
+ghost use Rattle.thorin_queries.specs.Answers.{anything, Reads, Comes, refused};
+ghost use Rattle.thorin_queries.specs.Faults.{string_of};
+ghost use Rattle.thorin_queries.specs.Finding.{Finds, FindsAsked, FindsWanted, all_text};
+ghost use Rattle.thorin_queries.specs.Finding.{string_count, string_line, string_answer};
+ghost use Rattle.thorin_queries.specs.Finding.{find_answer, found_answer, wanted_answer};
 ghost use Rattle.dwp_index.specs.Package.{found_counted};
 ghost use Rattle.thorin_queries.specs.Lines.{short_kind, short_name};
+ghost use Rattle.thorin_queries.specs.declared.wanted.Wanted.TheVariants.{Printed, Bytes};
 
+use crate::describing::{put_json, put_unit};
 use crate::files::{FileReader, HostReader, read_named};
-use crate::identifier::identifier;
-use crate::output::{Failure, answer};
-use dwp_base::{Contribution, SectionKind};
-use dwp_bytes::{Encoding, Format};
+use crate::output::{Failure, answer, answer_bytes};
+use crate::spelled::{put_spelled, put_spelled_or};
+use crate::wanted::{FindForm, Printing, Wanted, object, wanted_of};
+use dwp_base::SectionKind;
 use dwp_index::{PackageFile, PackagedUnit};
-use dwp_table::{Bucketable, CONTRIBUTION_KINDS, DebugTypeSignature, DwarfObject, DwoId};
+use dwp_table::{Bucketable, DwarfObject};
 use std::alloc::{AllocError, Global};
 use std::io::Write;
 
-/// Looks a unit up in a package's file and prints what belongs to it. Its kind is `cu` or `tu`, its
-/// identifier 1 to 16 hexadecimal digits, with or without `0x` in front. Answers the status 0.
+/// Looks a unit up in a package's file and prints what belongs to it, or what is wanted of that. Its
+/// kind is `cu` or `tu`, its identifier 1 to 16 hexadecimal digits, with or without `0x` in front.
+/// Answers the status 0.
 ///
 /// # Errors
-/// `BadKind`, then `BadIdentifier`; `Input` where the file can't be read, `Malformed` where it is
-/// no package, `NoUnit` where it has no such unit; `Line` or `Memory`.
+/// `BadKind`, then `BadIdentifier`, `BadNumber` or `BadSection`; `Input` where the file can't be
+/// read, `Malformed` where it is no package, or a string can't be read, `NoUnit` where it has no
+/// such unit, `NoString` or `NoRange` where the unit doesn't have what is wanted; `Line` or
+/// `Memory`.
 pub fn find<O: Write>(
     rt: &HostRuntime,
     file: &str,
     kind: &str,
     id: &str,
+    form: FindForm<'_>,
     out: &mut O,
 ) -> Result<u8, Failure>
-    ensures { Finds anything file.now kind.now id.now (O.contents out.old) (O.contents out.new)
-        result }
+    ensures { Finds anything file.now kind.now id.now (option_copied form.entry.string)
+        (option_copied form.entry.section) form.entry.json (O.contents out.old)
+        (O.contents out.new) result }
 {
-    find_by(rt.alloc(), &HostReader::new(rt), file, kind, id, out)
+    find_by(rt.alloc(), &HostReader::new(rt), file, kind, id, form, out)
 }
 
 /// The same of a file that a reader reads.
@@ -47,50 +56,188 @@ pub fn find_by<F: FileReader, O: Write>(
     file: &str,
     kind: &str,
     id: &str,
+    form: FindForm<'_>,
     out: &mut O,
 ) -> Result<u8, Failure>
-    ensures { Finds (F.offer files.now) file.now kind.now id.now (O.contents out.old)
+    ensures { Finds (F.offer files.now) file.now kind.now id.now (option_copied form.entry.string)
+        (option_copied form.entry.section) form.entry.json (O.contents out.old)
         (O.contents out.new) result }
 {
-    match object(kind, id) {
-        Ok(object) => find_at(alloc, files, file, object, out),
+    let object = object(kind, id);
+    let wanted = wanted_of(form.string, form.section);
+    find_asked(alloc, files, file, object, wanted, form.json, out)
+}
+
+/// The same of what the words ask for.
+fn find_asked<F: FileReader, O: Write>(
+    alloc: Global,
+    files: &F,
+    file: &str,
+    object: Result<DwarfObject, Failure>,
+    wanted: Result<Wanted, Failure>,
+    as_json: bool,
+    out: &mut O,
+) -> Result<u8, Failure>
+    ensures { FindsAsked (F.offer files.now) file.now as_json (O.contents out.old)
+        (O.contents out.new) object wanted result }
+{
+    match object {
+        Ok(object) => find_wanted(alloc, files, file, object, wanted, as_json, out),
         Err(failure) => Err(failure),
     }
 }
 
-/// Looks a unit up in a package's file and prints it.
+/// The same of a unit.
+fn find_wanted<F: FileReader, O: Write>(
+    alloc: Global,
+    files: &F,
+    file: &str,
+    object: DwarfObject,
+    wanted: Result<Wanted, Failure>,
+    as_json: bool,
+    out: &mut O,
+) -> Result<u8, Failure>
+    ensures { FindsWanted (F.offer files.now) file.now as_json (O.contents out.old)
+        (O.contents out.new) object wanted result }
+{
+    match wanted {
+        Ok(wanted) => find_at(alloc, files, file, object, wanted, as_json, out),
+        Err(failure) => Err(failure),
+    }
+}
+
+/// Looks a unit up in a package's file and prints what is wanted of it.
 #[tactic(auto, using(crate::proofs::Printed::unread))]
 fn find_at<F: FileReader, O: Write>(
     alloc: Global,
     files: &F,
     file: &str,
     object: DwarfObject,
+    wanted: Wanted,
+    as_json: bool,
     out: &mut O,
 ) -> Result<u8, Failure>
-    ensures { Reads (F.offer files.now) file.now (find_answer object) (O.contents out.old)
-        (O.contents out.new) result }
+    ensures { Reads (F.offer files.now) file.now (find_answer as_json wanted object)
+        (O.contents out.old) (O.contents out.new) result }
 {
     match read_named(files, file) {
-        Ok(bytes) => find_in(alloc, bytes.as_slice(), object, out),
+        Ok(bytes) => find_in(alloc, bytes.as_slice(), object, wanted, as_json, out),
         Err(failure) => Err(failure),
     }
 }
 
-/// Looks a unit up in a package's bytes and prints it.
-#[tactic(auto, using(crate::proofs::Printed::nothing))]
+/// Looks a unit up in a package's bytes and prints what is wanted of it.
 fn find_in<O: Write>(
     alloc: Global,
     bytes: &[u8],
     object: DwarfObject,
+    wanted: Wanted,
+    as_json: bool,
     out: &mut O,
 ) -> Result<u8, Failure>
-    ensures { Comes result (find_answer object bytes.now) (O.contents out.old)
+    ensures { Comes result (find_answer as_json wanted object bytes.now) (O.contents out.old)
         (O.contents out.new) }
 {
+    match wanted {
+        Wanted::Printed(printing) => print_text(alloc, bytes, object, printing, as_json, out),
+        Wanted::Bytes(kind) => print_section(bytes, object, kind, as_json, out),
+    }
+}
+
+/// Prints a text of a unit of a package's bytes.
+#[tactic(auto, using(crate::proofs::Printed::nothing))]
+fn print_text<O: Write>(
+    alloc: Global,
+    bytes: &[u8],
+    object: DwarfObject,
+    printing: Printing,
+    as_json: bool,
+    out: &mut O,
+) -> Result<u8, Failure>
+    ensures { Comes result (find_answer as_json (Printed printing) object bytes.now)
+        (O.contents out.old) (O.contents out.new) }
+{
     let mut text = String::new(alloc);
-    match put_of_bytes(bytes, object, &mut text) {
+    match put_of_bytes(bytes, object, printing, as_json, &mut text) {
         Ok(given) => answer(text.as_str(), given, out),
         Err(_) => Err(Failure::Memory),
+    }
+}
+
+/// Prints the bytes of a unit's range of a section, as they are.
+fn print_section<O: Write>(
+    bytes: &[u8],
+    object: DwarfObject,
+    kind: SectionKind,
+    as_json: bool,
+    out: &mut O,
+) -> Result<u8, Failure>
+    ensures { Comes result (find_answer as_json (Bytes kind) object bytes.now)
+        (O.contents out.old) (O.contents out.new) }
+{
+    match section_of_bytes(bytes, object, kind, as_json) {
+        Ok(section) => answer_bytes(section, Ok(0), out),
+        Err(failure) => answer_bytes(&[], Err(failure), out),
+    }
+}
+
+/// The bytes of a unit's range of a section, in a package's bytes.
+#[tactic(auto, unfolding(crate::specs::Finding::find_answer))]
+fn section_of_bytes(
+    bytes: &[u8],
+    object: DwarfObject,
+    kind: SectionKind,
+    as_json: bool,
+) -> Result<&[u8], Failure>
+    ensures { MatchResult result (λ section. find_answer as_json (Bytes kind) object bytes.now
+        ≡ record { printed = section.now; answer = Ok 0 })
+        (λ failure. find_answer as_json (Bytes kind) object bytes.now ≡ refused failure) }
+{
+    match PackageFile::parse(bytes) {
+        Ok(package) => section_of_package(&package, object, kind, as_json),
+        Err(_) => Err(Failure::Malformed),
+    }
+}
+
+/// The same of a package.
+fn section_of_package<'a>(
+    pack: &PackageFile<'a>,
+    object: DwarfObject,
+    kind: SectionKind,
+    as_json: bool,
+) -> Result<&'a [u8], Failure>
+    ensures { MatchResult result (λ section. found_answer as_json (Bytes kind) object
+        (found_counted pack.now object) ≡ record { printed = section.now; answer = Ok 0 })
+        (λ failure. found_answer as_json (Bytes kind) object (found_counted pack.now object)
+        ≡ refused failure) }
+{
+    match pack.find_counted(object) {
+        Ok((found, slots)) => section_of_found(object, found, kind, as_json, slots),
+        Err(_) => Err(Failure::Malformed),
+    }
+}
+
+/// The same of what a look-up found.
+fn section_of_found<'a>(
+    object: DwarfObject,
+    found: Option<PackagedUnit<'a>>,
+    kind: SectionKind,
+    as_json: bool,
+    slots: u32,
+) -> Result<&'a [u8], Failure>
+    ensures { MatchResult result (λ section. found_answer as_json (Bytes kind) object
+        (Ok (found.entry, slots)) ≡ record { printed = section.now; answer = Ok 0 })
+        (λ failure. found_answer as_json (Bytes kind) object (Ok (found.entry, slots))
+        ≡ refused failure) }
+{
+    let Some(unit) = found else {
+        return Err(Failure::NoUnit(object.index()));
+    };
+    let section = unit.section(kind);
+    if section.is_empty() {
+        Err(Failure::NoRange(kind))
+    } else {
+        Ok(section)
     }
 }
 
@@ -99,14 +246,16 @@ fn find_in<O: Write>(
 fn put_of_bytes(
     bytes: &[u8],
     object: DwarfObject,
+    printing: Printing,
+    as_json: bool,
     text: &mut String,
 ) -> Result<Result<u8, Failure>, AllocError>
     requires { string_bytes text.old ≡ [] }
-    ensures { IfOk result (λ given. find_answer object bytes.now
+    ensures { IfOk result (λ given. find_answer as_json (Printed printing) object bytes.now
         ≡ record { printed = string_bytes text.new; answer = given }) }
 {
     match PackageFile::parse(bytes) {
-        Ok(package) => put_of_package(&package, object, text),
+        Ok(package) => put_of_package(&package, object, printing, as_json, text),
         Err(_) => Ok(Err(Failure::Malformed)),
     }
 }
@@ -115,14 +264,17 @@ fn put_of_bytes(
 fn put_of_package(
     pack: &PackageFile<'_>,
     object: DwarfObject,
+    printing: Printing,
+    as_json: bool,
     text: &mut String,
 ) -> Result<Result<u8, Failure>, AllocError>
     requires { string_bytes text.old ≡ [] }
-    ensures { IfOk result (λ given. found_answer object (found_counted pack.now object)
+    ensures { IfOk result (λ given. found_answer as_json (Printed printing) object
+        (found_counted pack.now object)
         ≡ record { printed = string_bytes text.new; answer = given }) }
 {
     match pack.find_counted(object) {
-        Ok((found, slots)) => put_found(object, found, slots, text),
+        Ok((found, slots)) => put_found(object, found, slots, printing, as_json, text),
         Err(_) => Ok(Err(Failure::Malformed)),
     }
 }
@@ -132,117 +284,93 @@ fn put_found(
     object: DwarfObject,
     found: Option<PackagedUnit<'_>>,
     slots: u32,
+    printing: Printing,
+    as_json: bool,
     text: &mut String,
 ) -> Result<Result<u8, Failure>, AllocError>
     requires { string_bytes text.old ≡ [] }
-    ensures { IfOk result (λ given. found_answer object (Ok (found.entry, slots))
-        ≡ record { printed = string_bytes text.new; answer = given }) }
+    ensures { IfOk result (λ given. found_answer as_json (Printed printing) object
+        (Ok (found.entry, slots)) ≡ record { printed = string_bytes text.new; answer = given }) }
 {
     match found {
-        Some(unit) => {
-            put_unit(object, &unit, slots, text)?;
-            Ok(Ok(0))
-        }
+        Some(unit) => put_printing(object, &unit, slots, printing, as_json, text),
         None => Ok(Err(Failure::NoUnit(object.index()))),
     }
 }
 
-/// The unit that is asked for: first its kind is tested, then its identifier.
-fn object(kind: &str, id: &str) -> Result<DwarfObject, Failure>
-    ensures { Asks kind.now id.now result }
-{
-    match kind {
-        "cu" => Ok(DwarfObject::Compilation(DwoId(identifier(id)?))),
-        "tu" => Ok(DwarfObject::TypeUnit(DebugTypeSignature(identifier(id)?))),
-        _ => Err(Failure::BadKind),
-    }
-}
-
-/// Adds what is printed of a unit.
-#[tactic(auto, unfolding(crate::specs::Finding::unit_text))]
-fn put_unit(
+/// The same of a unit.
+fn put_printing(
     object: DwarfObject,
     unit: &PackagedUnit<'_>,
     slots: u32,
+    printing: Printing,
+    as_json: bool,
     text: &mut String,
-) -> Result<(), AllocError>
-    ensures { OnOk result (string_bytes text.new
-        ≡ string_bytes text.old ++ unit_text object unit.now slots) }
+) -> Result<Result<u8, Failure>, AllocError>
+    requires { string_bytes text.old ≡ [] }
+    ensures { IfOk result (λ given. wanted_answer as_json (Printed printing) object unit.now slots
+        ≡ record { printed = string_bytes text.new; answer = given }) }
 {
-    put_encoding(object, unit.encoding(), text)?;
-    put_ranges(unit, text)?;
-    put_counts(string_count(unit), slots, text)
+    match printing {
+        Printing::AllOf => {
+            put_all(object, unit, slots, as_json, text)?;
+            Ok(Ok(0))
+        }
+        Printing::StringOf(i) => put_string(unit, i, as_json, text),
+    }
 }
 
-/// Adds the line of a unit's encoding.
-#[tactic(auto, using(crate::proofs::Hex::hex16_written), unfolding(crate::specs::Finding::encoding_line))]
-fn put_encoding(
+/// Makes the text of a unit's string. Answers what is to be answered.
+fn put_string(
+    unit: &PackagedUnit<'_>,
+    i: u64,
+    as_json: bool,
+    text: &mut String,
+) -> Result<Result<u8, Failure>, AllocError>
+    requires { string_bytes text.old ≡ [] }
+    ensures { IfOk result (λ given. string_answer as_json i (string_of unit.now i)
+        ≡ record { printed = string_bytes text.new; answer = given }) }
+{
+    match unit.string(i) {
+        Ok(Some(string)) => {
+            put_string_line(string, as_json, text)?;
+            Ok(Ok(0))
+        }
+        Ok(None) => Ok(Err(Failure::NoString(i))),
+        Err(_) => Ok(Err(Failure::Malformed)),
+    }
+}
+
+/// Adds the line of a string.
+fn put_string_line(string: &[u8], as_json: bool, text: &mut String) -> Result<(), AllocError>
+    ensures { OnOk result (string_bytes text.new
+        ≡ string_bytes text.old ++ string_line as_json string.now) }
+{
+    if !as_json {
+        put_spelled(string, false, text)?;
+        return text.push_str("\n");
+    }
+    text.push_str("{\"string\":")?;
+    put_spelled_or(Some(string), true, text)?;
+    text.push_str("}\n")
+}
+
+/// Adds all that is told of a unit.
+fn put_all(
     object: DwarfObject,
-    encoding: Encoding,
+    unit: &PackagedUnit<'_>,
+    slots: u32,
+    as_json: bool,
     text: &mut String,
 ) -> Result<(), AllocError>
     ensures { OnOk result (string_bytes text.new
-        ≡ string_bytes text.old ++ encoding_line object encoding) }
+        ≡ string_bytes text.old ++ all_text as_json object unit.now slots) }
 {
-    let kind = short_kind(object);
-    let id = object.index();
-    let version = encoding.version;
-    let width = width(encoding.format);
-    let address = encoding.address_size;
-    writeln!(
-        text,
-        "{kind} 0x{id:016x} version {version} format {width} address {address}"
-    )
-}
-
-/// How many bits an offset has.
-fn width(format: Format) -> u8
-    ensures { result ≡ width format }
-{
-    match format {
-        Format::Dwarf32 => 32,
-        Format::Dwarf64 => 64,
+    if as_json {
+        put_json(object, unit, slots, text)
+    } else {
+        put_unit(object, unit, slots, text)
     }
-}
-
-/// Adds a line for each range that a unit has of a section.
-#[tactic(auto, unfolding(crate::specs::Finding::range_lines))]
-fn put_ranges(unit: &PackagedUnit<'_>, text: &mut String) -> Result<(), AllocError>
-    ensures { OnOk result (string_bytes text.new
-        ≡ string_bytes text.old ++ range_lines unit.now) }
-{
-    for kind in &CONTRIBUTION_KINDS {
-        put_range(*kind, unit.range(*kind), text)?;
-    }
-    Ok(())
-}
-
-/// Adds the line of a range, where there is one.
-fn put_range(
-    kind: SectionKind,
-    range: Option<Contribution>,
-    text: &mut String,
-) -> Result<(), AllocError>
-    ensures { OnOk result (string_bytes text.new
-        ≡ string_bytes text.old ++ range_line kind range) }
-{
-    let Some(range) = range else {
-        return Ok(());
-    };
-    let name = short_name(kind);
-    let offset = range.offset.0;
-    let size = range.size;
-    writeln!(text, "{name} 0x{offset:x} 0x{size:x}")
-}
-
-/// Adds the lines of the numbers of a unit's strings, and of slots.
-#[tactic(auto, unfolding(crate::specs::Finding::count_lines))]
-fn put_counts(strings: u64, slots: u32, text: &mut String) -> Result<(), AllocError>
-    ensures { OnOk result (string_bytes text.new
-        ≡ string_bytes text.old ++ count_lines strings slots) }
-{
-    writeln!(text, "strings {strings}")?;
-    writeln!(text, "slots {slots}")
 }
 
 /// `cu` or `tu`.

@@ -7,13 +7,15 @@ ghost use Rattle.dwp_base.specs.Reading.{Answers};
 ghost use Rattle.dwp_elf_read.specs.View.{elf, section};
 ghost use Rattle.dwp_index.specs.Contents.{content_among, is_of_kind, has_older_name, used_bytes};
 ghost use Rattle.dwp_index.specs.Index.{Index};
-ghost use Rattle.dwp_index.specs.Package.{Package};
+ghost use Rattle.dwp_index.specs.Package.{Package, package_of};
 ghost use Rattle.thorin_queries.specs.Checking.{has_no_index};
 ghost use Rattle.thorin_queries.specs.Indexes.{IsIndexIn, HasIndexes};
+ghost use Rattle.thorin_queries.specs.Listing.{HasStrings};
 
+use crate::names::Strings;
 use crate::output::Failure;
 use dwp_decompress::{DecompressError, decompressed};
-use dwp_elf::{ElfFile, Section, SectionKind};
+use dwp_elf::{ElfFile, Endianness, Section, SectionKind};
 use dwp_elf_read::ReadError;
 use dwp_index::UnitIndex;
 use std::alloc::Global;
@@ -73,6 +75,24 @@ pub(crate) fn has_no_index(file: &ElfFile<'_>) -> bool
     !has_index(file, SectionKind::TuIndex)
 }
 
+/// Whether a file holds a package without an index, as far as it can be read.
+pub fn lacks_index(rt: &HostRuntime, path: &str) -> bool {
+    match thorin_files::read(rt, path) {
+        Ok(bytes) => lacks_index_in(bytes.as_slice()),
+        Err(_) => false,
+    }
+}
+
+/// Whether a package's bytes have no index of either kind.
+fn lacks_index_in(bytes: &[u8]) -> bool
+    ensures { (pack : Package) → package_of bytes.now ≡ Ok pack → result ≡ has_no_index pack }
+{
+    match ElfFile::parse(bytes) {
+        Ok(file) => has_no_index(&file),
+        Err(_) => false,
+    }
+}
+
 /// How many rows the index of a kind has.
 pub(crate) fn row_count(file: &ElfFile<'_>, kind: SectionKind) -> u32 {
     let bytes = contents_of(file, kind);
@@ -82,6 +102,22 @@ pub(crate) fn row_count(file: &ElfFile<'_>, kind: SectionKind) -> u32 {
     match UnitIndex::parse(bytes, file.endianness()) {
         Ok(index) => index.unit_count(),
         Err(_) => 0,
+    }
+}
+
+/// The strings of a package's bytes.
+pub(crate) fn strings_in(bytes: &[u8]) -> Strings<'_>
+    ensures { (pack : Package) → package_of bytes.now ≡ Ok pack → HasStrings result pack }
+{
+    match ElfFile::parse(bytes) {
+        Ok(file) => Strings {
+            order: file.endianness(),
+            bytes: contents_of(&file, SectionKind::Str),
+        },
+        Err(_) => Strings {
+            order: Endianness::Little,
+            bytes: &[],
+        },
     }
 }
 

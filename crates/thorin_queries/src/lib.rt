@@ -4,26 +4,33 @@
 
 mod abbreviations;
 mod checking;
+mod describing;
 mod executables;
 mod faults;
 mod files;
 mod finding;
 mod identifier;
 mod input;
+mod json_lines;
 mod listing;
+mod names;
 mod output;
 mod overlaps;
 mod rows;
 mod shown;
 mod sizes;
+mod spelled;
 mod strings;
 mod tables;
 mod telling;
 mod units;
+mod wanted;
 
-pub use checking::{check, check_by};
+pub use checking::{check, check_as_json, check_by};
 pub use files::FileReader;
 pub use finding::{find, find_by};
-pub use listing::{list, list_by};
+pub use input::lacks_index;
+pub use listing::{ListForm, list, list_by};
 pub use output::{Failure, buffer, flush, report, show};
 pub use telling::{tell_refused, tell_taken, unit_count, warn_differing};
+pub use wanted::FindForm;

@@ -1,26 +1,43 @@
 //! `thorin list`.
 
 ghost use Rattle.std.specs.Prelude.{◌≡◌, ◌++◌, [], IfOk, OnOk, string_bytes};
+ghost use Rattle.std.specs.Option.{option_copied};
 ghost use Rattle.dwp_index.specs.Entries.{entries_from};
 ghost use Rattle.dwp_index.specs.Package.{package_of, found};
 ghost use Rattle.thorin_queries.specs.Answers.{anything, OrNoMemory};
 ghost use Rattle.thorin_queries.specs.Listing.{place_by, AreByRow, range_size, range_sizes};
-ghost use Rattle.thorin_queries.specs.Listing.{unit_front, unit_line, slot_line, AddsLine};
+ghost use Rattle.thorin_queries.specs.Listing.{unit_front, json_front, front_of, named_by};
+ghost use Rattle.thorin_queries.specs.Listing.{unit_names, end_of, view_of, view_by};
+ghost use Rattle.thorin_queries.specs.Listing.{unit_line, slot_line, AddsLine};
 ghost use Rattle.thorin_queries.specs.Listing.{lines_of, IsListed, ListsPackage, ListsBytes};
 ghost use Rattle.thorin_queries.specs.Listing.{Lists};
 
 use crate::files::{FileReader, HostReader, read_named};
 use crate::finding::{short_kind, short_name};
+use crate::input::strings_in;
+use crate::names::Strings;
 use crate::output::{Failure, answer};
 use crate::sizes::Sizes;
+use crate::spelled::put_spelled_or;
 use dwp_elf::{Contribution, SectionKind};
 use dwp_index::{PackageFile, PackagedUnit, UnitEntry};
 use dwp_table::{Bucketable, CONTRIBUTION_KINDS, DwarfObject};
 use std::alloc::{AllocError, Global};
 use std::io::Write;
 
-/// Prints a line for each unit of a package: compilation units by row, then type units by row.
-/// Where sizes are asked for, each line goes on with the unit's, and totals follow. Answers the
+/// What the lines of a list are to have.
+#[derive(Clone, Copy)]
+pub struct ListForm {
+    /// The size of each of a unit's ranges; totals then follow the lines.
+    pub sizes: bool,
+    /// The names of a unit's source and of its object.
+    pub names: bool,
+    /// Each line is a JSON object.
+    pub json: bool,
+}
+
+/// Prints a line for each unit of a package: compilation units by row, then type units by row. A
+/// line goes on with sizes and names where these are asked for; totals follow then. Answers the
 /// status 0. The text is printed once it is whole; where a unit can't be looked up, that is up to
 /// the line before it.
 ///
@@ -30,12 +47,12 @@ use std::io::Write;
 pub fn list<O: Write>(
     rt: &HostRuntime,
     file: &str,
-    has_sizes: bool,
+    form: ListForm,
     out: &mut O,
 ) -> Result<u8, Failure>
-    ensures { Lists anything file.now has_sizes (O.contents out.old) (O.contents out.new) result }
+    ensures { Lists anything file.now form (O.contents out.old) (O.contents out.new) result }
 {
-    list_by(rt.alloc(), &HostReader::new(rt), file, has_sizes, out)
+    list_by(rt.alloc(), &HostReader::new(rt), file, form, out)
 }
 
 /// The same of a file that a reader reads.
@@ -47,14 +64,14 @@ pub fn list_by<F: FileReader, O: Write>(
     alloc: Global,
     files: &F,
     file: &str,
-    has_sizes: bool,
+    form: ListForm,
     out: &mut O,
 ) -> Result<u8, Failure>
-    ensures { Lists (F.offer files.now) file.now has_sizes (O.contents out.old)
+    ensures { Lists (F.offer files.now) file.now form (O.contents out.old)
         (O.contents out.new) result }
 {
     match read_named(files, file) {
-        Ok(bytes) => list_bytes(alloc, bytes.as_slice(), has_sizes, out),
+        Ok(bytes) => list_bytes(alloc, bytes.as_slice(), form, out),
         Err(failure) => Err(failure),
     }
 }
@@ -64,52 +81,56 @@ pub fn list_by<F: FileReader, O: Write>(
 fn list_bytes<O: Write>(
     alloc: Global,
     bytes: &[u8],
-    has_sizes: bool,
+    form: ListForm,
     out: &mut O,
 ) -> Result<u8, Failure>
-    ensures { OrNoMemory (ListsBytes has_sizes (package_of bytes.now) (O.contents out.old)
+    ensures { OrNoMemory (ListsBytes form (package_of bytes.now) (O.contents out.old)
         (O.contents out.new) result) (O.contents out.old) (O.contents out.new) result }
 {
     match PackageFile::parse(bytes) {
-        Ok(package) => list_package(alloc, &package, bytes, has_sizes, out),
+        Ok(package) => list_package(alloc, &package, bytes, strings_in(bytes), form, out),
         Err(_) => Err(Failure::Malformed),
     }
 }
 
 /// Lists a package.
 #[tactic(auto, using(crate::proofs::Listed::same_entries, crate::proofs::Listed::no_memory))]
-fn list_package<O: Write>(
+fn list_package<'a, O: Write>(
     alloc: Global,
-    pack: &PackageFile<'_>,
+    pack: &PackageFile<'a>,
     bytes: &[u8],
-    has_sizes: bool,
+    strings: Strings<'a>,
+    form: ListForm,
     out: &mut O,
 ) -> Result<u8, Failure>
-    ensures { OrNoMemory (ListsPackage has_sizes pack.now (O.contents out.old)
+    requires { view_by form strings ≡ view_of form pack.now }
+    ensures { OrNoMemory (ListsPackage form pack.now (O.contents out.old)
         (O.contents out.new) result) (O.contents out.old) (O.contents out.new) result }
 {
     match entries_by_row(alloc, pack) {
-        Ok(entries) => list_entries(alloc, pack, entries.as_slice(), bytes, has_sizes, out),
+        Ok(entries) => list_entries(alloc, pack, entries.as_slice(), bytes, strings, form, out),
         Err(_) => Err(Failure::Memory),
     }
 }
 
 /// Lists the units of a package.
 #[tactic(auto, using(crate::proofs::Listed::no_memory))]
-fn list_entries<O: Write>(
+fn list_entries<'a, O: Write>(
     alloc: Global,
-    pack: &PackageFile<'_>,
+    pack: &PackageFile<'a>,
     entries: &[UnitEntry],
     bytes: &[u8],
-    has_sizes: bool,
+    strings: Strings<'a>,
+    form: ListForm,
     out: &mut O,
 ) -> Result<u8, Failure>
-    requires { AreByRow pack.now entries.now }
-    ensures { OrNoMemory (ListsPackage has_sizes pack.now (O.contents out.old)
+    requires view { view_by form strings ≡ view_of form pack.now }
+    requires by_row { AreByRow pack.now entries.now }
+    ensures { OrNoMemory (ListsPackage form pack.now (O.contents out.old)
         (O.contents out.new) result) (O.contents out.old) (O.contents out.new) result }
 {
     let mut text = String::new(alloc);
-    match put_listing(alloc, pack, entries, bytes, has_sizes, &mut text) {
+    match put_listing(alloc, pack, entries, bytes, strings, form, &mut text) {
         Ok(given) => answer(text.as_str(), given, out),
         Err(_) => Err(Failure::Memory),
     }
@@ -118,46 +139,48 @@ fn list_entries<O: Write>(
 /// Makes the text of a list, and of totals where sizes are asked for. Answers what is to be
 /// answered.
 #[tactic(auto, using(crate::proofs::Listed::listed_part, crate::proofs::Listed::listed_plain, crate::proofs::Listed::listed_sized))]
-fn put_listing(
+fn put_listing<'a>(
     alloc: Global,
-    pack: &PackageFile<'_>,
+    pack: &PackageFile<'a>,
     entries: &[UnitEntry],
     bytes: &[u8],
-    has_sizes: bool,
+    strings: Strings<'a>,
+    form: ListForm,
     text: &mut String,
 ) -> Result<Result<u8, Failure>, AllocError>
     requires { string_bytes text.old ≡ [] }
-    ensures { IfOk result (λ given. IsListed has_sizes
-        (lines_of has_sizes pack.now entries.now)
+    ensures { IfOk result (λ given. IsListed form
+        (lines_of (view_by form strings.entry) pack.now entries.now)
         (record { printed = string_bytes text.new; answer = given })) }
 {
     let mut sizes = Sizes::new(alloc);
-    let is_all = put_lines(pack, entries, has_sizes, &mut sizes, text)?;
+    let is_all = put_lines(pack, entries, strings, form, &mut sizes, text)?;
     if !is_all {
         return Ok(Err(Failure::Malformed));
     }
-    if !has_sizes {
+    if !form.sizes {
         return Ok(Ok(0));
     }
-    sizes.put(bytes, text)?;
+    sizes.put(bytes, form.json, text)?;
     Ok(Ok(0))
 }
 
 /// Adds the lines of units, up to one that can't be looked up: then it answers false.
-fn put_lines(
-    pack: &PackageFile<'_>,
+fn put_lines<'a>(
+    pack: &PackageFile<'a>,
     entries: &[UnitEntry],
-    has_sizes: bool,
+    strings: Strings<'a>,
+    form: ListForm,
     sizes: &mut Sizes,
     text: &mut String,
 ) -> Result<bool, AllocError>
     ensures lines { OnOk result (string_bytes text.new ≡ string_bytes text.old
-        ++ (lines_of has_sizes pack.now entries.now).printed) }
+        ++ (lines_of (view_by form strings.entry) pack.now entries.now).printed) }
     ensures all { IfOk result (λ is_all.
-        is_all ≡ (lines_of has_sizes pack.now entries.now).is_all) }
+        is_all ≡ (lines_of (view_by form strings.entry) pack.now entries.now).is_all) }
 {
     for entry in entries {
-        let is_found = put_slot(pack, *entry, has_sizes, sizes, text)?;
+        let is_found = put_slot(pack, *entry, strings, form, sizes, text)?;
         if !is_found {
             return Ok(false);
         }
@@ -167,19 +190,20 @@ fn put_lines(
 
 /// Adds the line of a slot's unit, where its identifier leads to its row. Answers whether it could
 /// be looked up.
-fn put_slot(
-    pack: &PackageFile<'_>,
+fn put_slot<'a>(
+    pack: &PackageFile<'a>,
     entry: UnitEntry,
-    has_sizes: bool,
+    strings: Strings<'a>,
+    form: ListForm,
     sizes: &mut Sizes,
     text: &mut String,
 ) -> Result<bool, AllocError>
-    ensures { IfOk result (AddsLine has_sizes entry (found pack.now entry.object)
+    ensures { IfOk result (AddsLine (view_by form strings.entry) entry (found pack.now entry.object)
         (string_bytes text.old) (string_bytes text.new)) }
 {
     match pack.find(entry.object) {
         Ok(found) => {
-            put_line(entry, found, has_sizes, sizes, text)?;
+            put_line(entry, found, strings, form, sizes, text)?;
             Ok(true)
         }
         Err(_) => Ok(false),
@@ -187,20 +211,21 @@ fn put_slot(
 }
 
 /// Adds the line of a unit that is found for a slot, where it is that of the slot's row.
-fn put_line(
+fn put_line<'a>(
     entry: UnitEntry,
-    found: Option<PackagedUnit<'_>>,
-    has_sizes: bool,
+    found: Option<PackagedUnit<'a>>,
+    strings: Strings<'a>,
+    form: ListForm,
     sizes: &mut Sizes,
     text: &mut String,
 ) -> Result<(), AllocError>
     ensures { OnOk result (string_bytes text.new
-        ≡ string_bytes text.old ++ slot_line has_sizes entry found.entry) }
+        ≡ string_bytes text.old ++ slot_line (view_by form strings.entry) entry found.entry) }
 {
     match found {
         Some(unit) => {
             if unit.row() == entry.row {
-                put_unit(entry.object, &unit, has_sizes, sizes, text)
+                put_unit(entry.object, &unit, strings, form, sizes, text)
             } else {
                 Ok(())
             }
@@ -244,28 +269,49 @@ pub(crate) fn is_type(object: DwarfObject) -> bool {
     matches!(object, DwarfObject::TypeUnit(_))
 }
 
-/// Adds the line of a unit, with its sizes where these are asked for.
+/// Adds the line of a unit, with its sizes and names where these are asked for.
 #[tactic(auto, unfolding(crate::specs::Listing::unit_line))]
-fn put_unit(
+fn put_unit<'a>(
     object: DwarfObject,
-    unit: &PackagedUnit<'_>,
-    has_sizes: bool,
+    unit: &PackagedUnit<'a>,
+    strings: Strings<'a>,
+    form: ListForm,
     sizes: &mut Sizes,
     text: &mut String,
 ) -> Result<(), AllocError>
     ensures { OnOk result (string_bytes text.new
-        ≡ string_bytes text.old ++ unit_line has_sizes object unit.now) }
+        ≡ string_bytes text.old ++ unit_line (view_by form strings.entry) object unit.now) }
 {
-    put_front(object, unit, text)?;
-    if has_sizes {
-        put_sizes(unit, sizes, text)?;
+    put_front(object, unit, form.json, text)?;
+    if form.sizes {
+        put_sizes(unit, form.json, sizes, text)?;
     }
-    writeln!(text)
+    if form.names {
+        put_names(object, unit, strings, form, text)?;
+    }
+    put_end(form.json, text)
+}
+
+/// Adds what a line begins with.
+fn put_front(
+    object: DwarfObject,
+    unit: &PackagedUnit<'_>,
+    as_json: bool,
+    text: &mut String,
+) -> Result<(), AllocError>
+    ensures { OnOk result (string_bytes text.new
+        ≡ string_bytes text.old ++ front_of as_json object unit.now) }
+{
+    if as_json {
+        put_json_front(object, unit, text)
+    } else {
+        put_plain_front(object, unit, text)
+    }
 }
 
 /// Adds a unit's kind, its identifier and its size.
 #[tactic(auto, using(crate::proofs::Hex::hex16_written), unfolding(crate::specs::Listing::unit_front))]
-fn put_front(
+fn put_plain_front(
     object: DwarfObject,
     unit: &PackagedUnit<'_>,
     text: &mut String,
@@ -279,18 +325,78 @@ fn put_front(
     write!(text, "{kind} 0x{id:016x} {size}")
 }
 
+/// Adds the same as the beginning of a JSON object.
+#[tactic(auto, using(crate::proofs::Hex::hex16_written), unfolding(crate::specs::Listing::json_front))]
+fn put_json_front(
+    object: DwarfObject,
+    unit: &PackagedUnit<'_>,
+    text: &mut String,
+) -> Result<(), AllocError>
+    ensures { OnOk result (string_bytes text.new
+        ≡ string_bytes text.old ++ json_front object unit.now) }
+{
+    let kind = short_kind(object);
+    let id = object.index();
+    let size = unit.bytes().len();
+    write!(
+        text,
+        "{{\"kind\":\"{kind}\",\"id\":\"0x{id:016x}\",\"size\":{size}"
+    )
+}
+
+/// Adds the names of a unit's source and of its object.
+#[tactic(auto, unfolding(crate::specs::Listing::unit_names))]
+fn put_names<'a>(
+    object: DwarfObject,
+    unit: &PackagedUnit<'a>,
+    strings: Strings<'a>,
+    form: ListForm,
+    text: &mut String,
+) -> Result<(), AllocError>
+    ensures { OnOk result (string_bytes text.new
+        ≡ string_bytes text.old ++ unit_names (view_by form strings.entry) object unit.now) }
+{
+    let source = strings.source_name(object, unit);
+    let name = strings.object_name(object, unit);
+    put_named(source, name, form.json, text)
+}
+
+/// Adds these names.
+fn put_named(
+    source: Option<&[u8]>,
+    object: Option<&[u8]>,
+    as_json: bool,
+    text: &mut String,
+) -> Result<(), AllocError>
+    ensures { OnOk result (string_bytes text.new ≡ string_bytes text.old
+        ++ named_by as_json (option_copied source.entry) (option_copied object.entry)) }
+{
+    text.push_str(if as_json { ",\"name\":" } else { "\t" })?;
+    put_spelled_or(source, as_json, text)?;
+    text.push_str(if as_json { ",\"dwo_name\":" } else { "\t" })?;
+    put_spelled_or(object, as_json, text)
+}
+
+/// Adds the end of a line.
+fn put_end(as_json: bool, text: &mut String) -> Result<(), AllocError>
+    ensures { OnOk result (string_bytes text.new ≡ string_bytes text.old ++ end_of as_json) }
+{
+    text.push_str(if as_json { "}\n" } else { "\n" })
+}
+
 /// Adds the sizes on the line of a unit, and gathers its ranges.
 #[tactic(auto, unfolding(crate::specs::Listing::range_sizes))]
 fn put_sizes(
     unit: &PackagedUnit<'_>,
+    as_json: bool,
     sizes: &mut Sizes,
     text: &mut String,
 ) -> Result<(), AllocError>
     ensures { OnOk result (string_bytes text.new
-        ≡ string_bytes text.old ++ range_sizes unit.now) }
+        ≡ string_bytes text.old ++ range_sizes as_json unit.now) }
 {
     for kind in &CONTRIBUTION_KINDS {
-        put_size(*kind, unit.range(*kind), sizes, text)?;
+        put_size(*kind, unit.range(*kind), as_json, sizes, text)?;
     }
     Ok(())
 }
@@ -299,11 +405,12 @@ fn put_sizes(
 fn put_size(
     kind: SectionKind,
     range: Option<Contribution>,
+    as_json: bool,
     sizes: &mut Sizes,
     text: &mut String,
 ) -> Result<(), AllocError>
     ensures { OnOk result (string_bytes text.new
-        ≡ string_bytes text.old ++ range_size kind range) }
+        ≡ string_bytes text.old ++ range_size as_json kind range) }
 {
     let Some(range) = range else {
         return Ok(());
@@ -311,5 +418,9 @@ fn put_size(
     sizes.add(kind, range)?;
     let name = short_name(kind);
     let size = range.size;
-    write!(text, " {name} {size}")
+    if as_json {
+        write!(text, ",\"{name}\":{size}")
+    } else {
+        write!(text, " {name} {size}")
+    }
 }

@@ -5,6 +5,8 @@ ghost use Rattle.std.specs.Io.KnownBytes.{Appends, Keeps};
 ghost use Rattle.thorin_queries.specs.Answers.{HasBeginning, Comes, exit_status};
 ghost use Rattle.thorin_queries.specs.Telling.{IsOfPrinting, Prints};
 
+use crate::finding::short_name;
+use dwp_base::SectionKind;
 use std::alloc::{AllocError, AllocFailed, Global};
 use std::fmt;
 use std::io::{self, BufWriter, Write};
@@ -28,6 +30,14 @@ pub enum Failure {
     BadKind,
     /// The identifier isn't 1 to 16 hexadecimal digits.
     BadIdentifier,
+    /// The number of a string isn't a decimal number.
+    BadNumber,
+    /// No kind of section has this name.
+    BadSection,
+    /// The unit has fewer strings.
+    NoString(u64),
+    /// The unit has no range of a section of this kind.
+    NoRange(SectionKind),
     /// There is no such command, or a word isn't UTF-8.
     BadCommand,
     /// A response file can't be read, or there are too many.
@@ -44,12 +54,16 @@ impl Failure {
         ensures { result ≡ exit_status self.now }
     {
         match self {
-            Failure::BadKind | Failure::BadIdentifier | Failure::BadCommand => 2,
+            Failure::BadKind
+            | Failure::BadIdentifier
+            | Failure::BadNumber
+            | Failure::BadSection
+            | Failure::BadCommand => 2,
             _ => 1,
         }
     }
 
-    /// What is said of it, an identifier aside.
+    /// What is said of it, an identifier, a number and a kind aside.
     fn text(&self) -> &'static str {
         match self {
             Failure::Output => "Failed to write output file",
@@ -62,6 +76,10 @@ impl Failure {
             Failure::NoUnit(_) => "Unit is not in the package",
             Failure::BadKind => "Bad unit kind",
             Failure::BadIdentifier => "Bad identifier",
+            Failure::BadNumber => "Bad number",
+            Failure::BadSection => "Bad section kind",
+            Failure::NoString(_) => "Unit has no such string",
+            Failure::NoRange(_) => "Unit has no such range",
             Failure::BadCommand => "Bad command line",
             Failure::Memory => "Out of memory",
         }
@@ -72,6 +90,11 @@ impl fmt::Display for Failure {
     fn fmt<W: fmt::Write>(&self, f: &mut fmt::Formatter<W>) -> fmt::Result {
         match self {
             Failure::NoUnit(id) => write!(f, "Unit 0x{id:08x} is not in the package"),
+            Failure::NoString(i) => write!(f, "Unit has no string {i}"),
+            Failure::NoRange(kind) => {
+                let name = short_name(*kind);
+                write!(f, "Unit has no range of {name}")
+            }
             _ => f.write_str(self.text()),
         }
     }
@@ -98,7 +121,6 @@ pub(crate) fn written(outcome: io::Result<()>) -> Result<(), Failure> {
 }
 
 /// Prints a text. Answers then what is given.
-#[tactic(auto, using(crate::proofs::Printed::came, crate::proofs::Printed::stopped))]
 pub(crate) fn answer<O: Write>(
     text: &str,
     given: Result<u8, Failure>,
@@ -107,7 +129,20 @@ pub(crate) fn answer<O: Write>(
     ensures { Comes result (record { printed = text.now; answer = given })
         (O.contents out.old) (O.contents out.new) }
 {
-    match put(text.as_bytes(), out) {
+    answer_bytes(text.as_bytes(), given, out)
+}
+
+/// The same of bytes.
+#[tactic(auto, using(crate::proofs::Printed::came, crate::proofs::Printed::stopped))]
+pub(crate) fn answer_bytes<O: Write>(
+    bytes: &[u8],
+    given: Result<u8, Failure>,
+    out: &mut O,
+) -> Result<u8, Failure>
+    ensures { Comes result (record { printed = bytes.now; answer = given })
+        (O.contents out.old) (O.contents out.new) }
+{
+    match put(bytes, out) {
         Ok(()) => given,
         Err(_) => Err(Failure::Line),
     }

@@ -48,30 +48,44 @@ impl Sizes {
     /// Adds a line `total` for each section of a package: its bytes in the file; for a section
     /// that units have ranges of, also the bytes of its distinct ranges, and how many more all
     /// ranges have together. Then the file's bytes.
-    pub(crate) fn put(&mut self, bytes: &[u8], text: &mut String) -> Result<(), AllocError>
+    pub(crate) fn put(
+        &mut self,
+        bytes: &[u8],
+        as_json: bool,
+        text: &mut String,
+    ) -> Result<(), AllocError>
         ensures { OnOk result ((totals : List ℕ)
             × (string_bytes text.new ≡ string_bytes text.old ++ totals)) }
     {
         let mut totals = String::new(*self.ranges.allocator());
-        self.put_totals(bytes, &mut totals)?;
+        self.put_totals(bytes, as_json, &mut totals)?;
         text.push_str(totals.as_str())
     }
 
     /// Adds these lines; none where the bytes are no ELF file.
-    fn put_totals(&mut self, bytes: &[u8], text: &mut String) -> Result<(), AllocError> {
+    fn put_totals(
+        &mut self,
+        bytes: &[u8],
+        as_json: bool,
+        text: &mut String,
+    ) -> Result<(), AllocError> {
         if let Ok(file) = ElfFile::parse(bytes) {
             self.ranges.sort_unstable();
-            self.put_columns(&file, text)?;
-            put_wholes(&file, text)?;
+            self.put_columns(&file, as_json, text)?;
+            put_wholes(&file, as_json, text)?;
         }
-        let size = bytes.len();
-        writeln!(text, "total file {size}")
+        put_total("file", bytes.len(), as_json, text)
     }
 
     /// The totals of the sections that units have ranges of.
-    fn put_columns(&self, file: &ElfFile<'_>, text: &mut String) -> Result<(), AllocError> {
+    fn put_columns(
+        &self,
+        file: &ElfFile<'_>,
+        as_json: bool,
+        text: &mut String,
+    ) -> Result<(), AllocError> {
         for kind in &CONTRIBUTION_KINDS {
-            self.put_column(*kind, contents_of(file, *kind).len(), text)?;
+            self.put_column(*kind, contents_of(file, *kind).len(), as_json, text)?;
         }
         Ok(())
     }
@@ -81,6 +95,7 @@ impl Sizes {
         &self,
         kind: SectionKind,
         content: usize,
+        as_json: bool,
         text: &mut String,
     ) -> Result<(), AllocError> {
         if content == 0 {
@@ -89,7 +104,14 @@ impl Sizes {
         let name = short_name(kind);
         let (all, once) = self.of(kind)?;
         let shared = all.saturating_sub(once);
-        writeln!(text, "total {name} {content} units {once} shared {shared}")
+        if as_json {
+            writeln!(
+                text,
+                "{{\"total\":\"{name}\",\"size\":{content},\"units\":{once},\"shared\":{shared}}}"
+            )
+        } else {
+            writeln!(text, "total {name} {content} units {once} shared {shared}")
+        }
     }
 
     /// The bytes of all ranges of a section together, and those of its distinct ranges.
@@ -108,19 +130,38 @@ impl Sizes {
 }
 
 /// The totals of the sections that no unit has a range of.
-fn put_wholes(file: &ElfFile<'_>, text: &mut String) -> Result<(), AllocError> {
+fn put_wholes(file: &ElfFile<'_>, as_json: bool, text: &mut String) -> Result<(), AllocError> {
     for kind in &[SectionKind::Str, SectionKind::CuIndex, SectionKind::TuIndex] {
-        put_whole(short_name(*kind), contents_of(file, *kind).len(), text)?;
+        put_whole(
+            short_name(*kind),
+            contents_of(file, *kind).len(),
+            as_json,
+            text,
+        )?;
     }
     Ok(())
 }
 
 /// The total of a section that no unit has a range of, where it isn't empty.
-fn put_whole(name: &str, content: usize, text: &mut String) -> Result<(), AllocError> {
+fn put_whole(
+    name: &str,
+    content: usize,
+    as_json: bool,
+    text: &mut String,
+) -> Result<(), AllocError> {
     if content == 0 {
         return Ok(());
     }
-    writeln!(text, "total {name} {content}")
+    put_total(name, content, as_json, text)
+}
+
+/// The line of a total.
+fn put_total(name: &str, size: usize, as_json: bool, text: &mut String) -> Result<(), AllocError> {
+    if as_json {
+        writeln!(text, "{{\"total\":\"{name}\",\"size\":{size}}}")
+    } else {
+        writeln!(text, "total {name} {size}")
+    }
 }
 
 /// The bytes of ranges together, as far as 64 bits go.

@@ -1,9 +1,10 @@
 use Rattle.std.proofs.Common.{drop}
 use Rattle.std.specs.Prelude.{string_bytes}
+use Rattle.thorin_queries.specs.Listing.{view_by}
 use Rattle.thorin_queries.proofs.Walk.{LinesSoFar}
 use Rattle.thorin_queries.proofs.listing.put_lines.Given as goal
 
 -- the lines of the slots so far
 abbrev pub invariant-loop-entry : goal.invariant-loop-entry
-invariant-loop-entry l = LinesSoFar l.has_sizes l.pack l.entries
+invariant-loop-entry l = LinesSoFar (view_by l.form l.strings) l.pack l.entries
     (drop l.entry-index l.entries) (string_bytes l.initial.text) (string_bytes l.text)

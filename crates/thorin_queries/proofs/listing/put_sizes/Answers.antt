@@ -8,7 +8,7 @@ use Rattle.thorin_queries.proofs.listing.put_sizes.Goals as goal
 
 pub loop-kind-preserved : goal.loop-kind-preserved
 loop-kind-preserved c =
-    flat_map_next (λ kind. range_size kind (range_in c.args.unit.now.row kind))
+    flat_map_next (λ kind. range_size c.args.as_json kind (range_in c.args.unit.now.row kind))
     contribution_kinds c.loop-kind.kind-index Info (string_bytes c.args.text.now)
     (string_bytes c.loop-kind.text) (string_bytes c.put_size.new.text) c.loop-kind-test.true
     c.loop-kind.invariant (rw c.range.ensures at c.in_ok-put_size.ensures)

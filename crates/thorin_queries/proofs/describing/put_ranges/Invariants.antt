@@ -4,7 +4,7 @@ use Rattle.std.specs.List.{flat_map}
 use Rattle.dwp_index.specs.Index.{range_in}
 use Rattle.dwp_table.specs.Columns.{contribution_kinds}
 use Rattle.thorin_queries.specs.Finding.{range_line}
-use Rattle.thorin_queries.proofs.finding.put_ranges.Given as goal
+use Rattle.thorin_queries.proofs.describing.put_ranges.Given as goal
 
 -- the lines of the kinds so far
 abbrev pub invariant-loop-kind : goal.invariant-loop-kind

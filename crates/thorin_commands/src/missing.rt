@@ -1,0 +1,286 @@
+//! Objects that executables name and that aren't there: what `pack --partial` leaves out, and what
+//! `pack --missing` lists.
+
+ghost use Rattle.std.specs.Prelude.{◌≡◌, ◌≤◌, OnOk, IfOk};
+ghost use Rattle.thorin_commands.specs.Packing.{left};
+
+use crate::files::FileSystem;
+use crate::notes::place_of;
+use crate::output::{Refusal, flush};
+use crate::packing::{Packing, paths_in};
+use crate::plain::{InputFiles, Inputs};
+use crate::telling::{Telling, refused, tell_fault};
+use bumpalo::Bump;
+use dwp_bytes::RelocationEntry;
+use dwp_table::{Bucketable, DwarfObject};
+use std::alloc::{AllocError, Global};
+use std::collections::HashSet;
+use std::io::Write;
+use std::path::{AsPath, Path};
+use thorin::{BytesSession, DwarfPackage, Input, MissingTargets, Skeleton, SkeletonUnits};
+use thorin_faults::{Error, InputError, MissingReferencedObjectBehaviour, Session};
+use thorin_queries::{Failure, buffer};
+use thorin_words::printed;
+
+/// Where that is asked for, leaves out units that executables refer to and that aren't there: each
+/// is told.
+pub(crate) fn leave_out<'o, 's: 'o, Sess: Session<RelocationEntry>, I: Inputs, E: Write>(
+    alloc: Global,
+    files: &I,
+    builder: &mut DwarfPackage<'o, 's, Sess>,
+    inputs: &[Input<'_>],
+    telling: Telling,
+    err: &mut E,
+) -> Result<(), Refusal>
+    ensures { OnOk result (builder.new.state ≡ left telling.entry.partial builder.old.state) }
+{
+    if telling.partial {
+        tell_missing(alloc, files, builder, inputs, err)?;
+        builder.forget_targets();
+    }
+    Ok(())
+}
+
+/// Warns of each unit that an executable names and the package lacks.
+fn tell_missing<'o, 's: 'o, Sess: Session<RelocationEntry>, I: Inputs, E: Write>(
+    alloc: Global,
+    files: &I,
+    builder: &DwarfPackage<'o, 's, Sess>,
+    inputs: &[Input<'_>],
+    err: &mut E,
+) -> Result<(), Failure> {
+    let mut left = Left::new(alloc, builder.missing_targets());
+    for input in inputs {
+        if let Input::Executable(path, _) = *input {
+            tell_those_of(alloc, files, *input, path, &mut left, err)?;
+        }
+    }
+    let Left { first, others, .. } = left;
+    if let Some(target) = first {
+        warn(target, "not found", err)?;
+    }
+    for target in others {
+        warn(target, "not found", err)?;
+    }
+    Ok(())
+}
+
+/// Warns of a unit that the package lacks.
+fn warn<E: Write>(target: DwarfObject, why: &str, err: &mut E) -> Result<(), Failure> {
+    let unit = target.index();
+    match writeln!(err, "warning: unit 0x{unit:08x}: {why}") {
+        Ok(()) => Ok(()),
+        Err(_) => Err(Failure::Line),
+    }
+}
+
+/// The units that are left to be told, in the order in which executables name them; the path that
+/// was looked for last, and what is the matter with it.
+#[derive(Drop)]
+struct Left<'b> {
+    first: Option<DwarfObject>,
+    others: MissingTargets<'b>,
+    named: String,
+    why: String,
+}
+
+impl<'b> Left<'b> {
+    fn new(alloc: Global, mut units: MissingTargets<'b>) -> Left<'b> {
+        Left {
+            first: units.next(),
+            others: units,
+            named: String::new(alloc),
+            why: String::new(alloc),
+        }
+    }
+
+    /// Passes over the first.
+    fn pass(&mut self) {
+        self.first = self.others.next();
+    }
+
+    /// Which object was looked for, and why it isn't there; what was looked for last is kept.
+    fn reason<I: Inputs>(
+        &mut self,
+        alloc: Global,
+        files: &I,
+        executable: &str,
+        named: &str,
+    ) -> Result<&str, AllocError> {
+        let is_same = self.named.as_str() == named;
+        if !is_same {
+            self.why = reason_of(alloc, files, executable, named)?;
+            self.named = String::from_str(alloc, named)?;
+        }
+        Ok(self.why.as_str())
+    }
+}
+
+/// Which object was looked for, and why it isn't there.
+fn reason_of<I: Inputs>(
+    alloc: Global,
+    files: &I,
+    executable: &str,
+    named: &str,
+) -> Result<String, AllocError> {
+    let path = files.mapped(named)?;
+    let place = place_of(alloc, executable, Some(path.as_str()))?;
+    match files.unreadable(path.as_str())? {
+        Some(reason) => format!(in alloc; "{place}: {reason}"),
+        None => format!(in alloc; "{place}: lacks the unit"),
+    }
+}
+
+/// Warns of those of an executable, which is read a second time.
+fn tell_those_of<I: Inputs, E: Write>(
+    alloc: Global,
+    files: &I,
+    input: Input<'_>,
+    path: Path<'_>,
+    left: &mut Left<'_>,
+    err: &mut E,
+) -> Result<(), Failure> {
+    if left.first.is_none() {
+        return Ok(());
+    }
+    let mut room = Vec::new(alloc);
+    files.begin_again(input);
+    let Ok(bytes) = files.read_into(path, &mut room) else {
+        return Ok(());
+    };
+    let bump = Bump::new(alloc);
+    let session = BytesSession::new(&bump);
+    let Ok(mut units) = SkeletonUnits::read(alloc, &session, bytes) else {
+        return Ok(());
+    };
+    tell_each(alloc, files, path.path_text(), &mut units, left, err)
+}
+
+/// Warns of those of the units that are left of those that an executable names.
+fn tell_each<I: Inputs, E: Write>(
+    alloc: Global,
+    files: &I,
+    executable: &str,
+    units: &mut SkeletonUnits<'_>,
+    left: &mut Left<'_>,
+    err: &mut E,
+) -> Result<(), Failure> {
+    while let Ok(Some(skeleton)) = units.next() {
+        if left.first == Some(skeleton.target) {
+            let why = left.reason(alloc, files, executable, skeleton.path.as_str())?;
+            warn(skeleton.target, why, err)?;
+            left.pass();
+        }
+    }
+    Ok(())
+}
+
+/// Prints the path of each object that executables name and that can't be read, one a line, each
+/// once. Packs nothing. Answers the status: 1 where there is one, and where an executable is
+/// refused, which is printed.
+///
+/// # Errors
+/// `BadCommand` where no executable is named; `Line` or `Memory`.
+pub fn list_missing<F: FileSystem, O: Write, E: Write>(
+    alloc: Global,
+    files: &F,
+    packing: &Packing<'_, '_>,
+    out: &mut O,
+    err: &mut E,
+) -> Result<u8, Failure>
+    ensures { IfOk result (λ status. status ≤ 1) }
+{
+    let executables = paths_in(packing.executables);
+    if executables.is_empty() {
+        return Err(Failure::BadCommand);
+    }
+    let files = InputFiles::new(alloc, files, packing);
+    let mut lines = buffer(alloc, out)?;
+    let listed = list_all(alloc, &files, executables, &mut lines);
+    flush(&mut lines)?;
+    match listed {
+        Ok(false) => Ok(0),
+        Ok(true) => Ok(1),
+        Err(Refusal::Package(fault)) => Ok(tell_fault(alloc, err, &fault)),
+        Err(Refusal::Told) => Ok(1),
+        Err(Refusal::Command(failure)) => Err(failure),
+    }
+}
+
+/// Prints those of all executables, and answers whether there is one.
+fn list_all<I: Inputs, W: Write>(
+    alloc: Global,
+    files: &I,
+    executables: &[&str],
+    lines: &mut W,
+) -> Result<bool, Refusal> {
+    let mut seen = HashSet::new(alloc);
+    let mut is_one_missing = false;
+    for executable in executables {
+        if list_of(alloc, files, *executable, &mut seen, lines)? {
+            is_one_missing = true;
+        }
+    }
+    Ok(is_one_missing)
+}
+
+/// Prints those of an executable that weren't seen before, and answers whether there is one.
+fn list_of<I: Inputs, W: Write>(
+    alloc: Global,
+    files: &I,
+    executable: &str,
+    seen: &mut HashSet<String>,
+    lines: &mut W,
+) -> Result<bool, Refusal> {
+    let path = Path::new(executable);
+    let mut room = Vec::new(alloc);
+    files.begin(Input::Executable(path, MissingReferencedObjectBehaviour::Skip));
+    let bytes = match files.read_into(path, &mut room) {
+        Ok(bytes) => bytes,
+        Err(InputError::Io(cause)) => return Err(Refusal::Package(Error::ReadInput(cause))),
+        Err(InputError::Memory) => return Err(Refusal::Package(Error::Memory)),
+    };
+    let bump = Bump::new(alloc);
+    let session = BytesSession::new(&bump);
+    let mut units = SkeletonUnits::read(alloc, &session, bytes)?;
+    list_each(alloc, files, &mut units, seen, lines)
+}
+
+/// Prints those of the units that are left of those that an executable names.
+fn list_each<I: Inputs, W: Write>(
+    alloc: Global,
+    files: &I,
+    units: &mut SkeletonUnits<'_>,
+    seen: &mut HashSet<String>,
+    lines: &mut W,
+) -> Result<bool, Refusal> {
+    let mut is_one_missing = false;
+    while let Some(skeleton) = units.next()? {
+        let path = files.mapped(skeleton.path.as_str())?;
+        if !seen.contains(&path) {
+            if let Some(_reason) = files.unreadable(path.as_str())? {
+                is_one_missing = true;
+                put_path(alloc, path.as_str(), lines)?;
+            }
+            keep(seen, path)?;
+        }
+    }
+    Ok(is_one_missing)
+}
+
+/// Keeps a path that was looked for.
+fn keep(seen: &mut HashSet<String>, path: String) -> Result<(), AllocError> {
+    match seen.insert(path) {
+        Ok(_) => Ok(()),
+        Err(e) => Err(AllocError::from(e)),
+    }
+}
+
+/// Prints a path.
+fn put_path<W: Write>(alloc: Global, path: &str, lines: &mut W) -> Result<(), Failure> {
+    let path = printed(alloc, path)?;
+    match writeln!(lines, "{path}") {
+        Ok(()) => Ok(()),
+        Err(_) => Err(Failure::Line),
+    }
+}

@@ -1,0 +1,195 @@
+//! What `thorin find` tells of a unit, plain and in JSON.
+
+ghost use Rattle.std.specs.Prelude.{◌≡◌, ◌++◌, OnOk, string_bytes};
+ghost use Rattle.thorin_queries.specs.Finding.{width, encoding_line, range_line, range_lines};
+ghost use Rattle.thorin_queries.specs.Finding.{count_lines, unit_text, json_encoding, json_range};
+ghost use Rattle.thorin_queries.specs.Finding.{json_ranges, json_counts, json_text};
+ghost use Rattle.thorin_queries.specs.Json.{json_unit, json_numbers};
+
+use crate::finding::{short_kind, short_name, string_count};
+use dwp_base::{Contribution, SectionKind};
+use dwp_bytes::{Encoding, Format};
+use dwp_index::PackagedUnit;
+use dwp_table::{Bucketable, CONTRIBUTION_KINDS, DwarfObject};
+use std::alloc::AllocError;
+
+/// Adds what is printed of a unit.
+#[tactic(auto, unfolding(crate::specs::Finding::unit_text))]
+pub(crate) fn put_unit(
+    object: DwarfObject,
+    unit: &PackagedUnit<'_>,
+    slots: u32,
+    text: &mut String,
+) -> Result<(), AllocError>
+    ensures { OnOk result (string_bytes text.new
+        ≡ string_bytes text.old ++ unit_text object unit.now slots) }
+{
+    put_encoding(object, unit.encoding(), text)?;
+    put_ranges(unit, text)?;
+    put_counts(string_count(unit), slots, text)
+}
+
+/// Adds the line of a unit's encoding.
+#[tactic(auto, using(crate::proofs::Hex::hex16_written), unfolding(crate::specs::Finding::encoding_line))]
+fn put_encoding(
+    object: DwarfObject,
+    encoding: Encoding,
+    text: &mut String,
+) -> Result<(), AllocError>
+    ensures { OnOk result (string_bytes text.new
+        ≡ string_bytes text.old ++ encoding_line object encoding) }
+{
+    let kind = short_kind(object);
+    let id = object.index();
+    let version = encoding.version;
+    let width = width(encoding.format);
+    let address = encoding.address_size;
+    writeln!(
+        text,
+        "{kind} 0x{id:016x} version {version} format {width} address {address}"
+    )
+}
+
+/// How many bits an offset has.
+fn width(format: Format) -> u8
+    ensures { result ≡ width format }
+{
+    match format {
+        Format::Dwarf32 => 32,
+        Format::Dwarf64 => 64,
+    }
+}
+
+/// Adds a line for each range that a unit has of a section.
+#[tactic(auto, unfolding(crate::specs::Finding::range_lines))]
+fn put_ranges(unit: &PackagedUnit<'_>, text: &mut String) -> Result<(), AllocError>
+    ensures { OnOk result (string_bytes text.new
+        ≡ string_bytes text.old ++ range_lines unit.now) }
+{
+    for kind in &CONTRIBUTION_KINDS {
+        put_range(*kind, unit.range(*kind), text)?;
+    }
+    Ok(())
+}
+
+/// Adds the line of a range, where there is one.
+fn put_range(
+    kind: SectionKind,
+    range: Option<Contribution>,
+    text: &mut String,
+) -> Result<(), AllocError>
+    ensures { OnOk result (string_bytes text.new
+        ≡ string_bytes text.old ++ range_line kind range) }
+{
+    let Some(range) = range else {
+        return Ok(());
+    };
+    let name = short_name(kind);
+    let offset = range.offset.0;
+    let size = range.size;
+    writeln!(text, "{name} 0x{offset:x} 0x{size:x}")
+}
+
+/// Adds the lines of the numbers of a unit's strings, and of slots.
+#[tactic(auto, unfolding(crate::specs::Finding::count_lines))]
+fn put_counts(strings: u64, slots: u32, text: &mut String) -> Result<(), AllocError>
+    ensures { OnOk result (string_bytes text.new
+        ≡ string_bytes text.old ++ count_lines strings slots) }
+{
+    writeln!(text, "strings {strings}")?;
+    writeln!(text, "slots {slots}")
+}
+
+/// Adds what is printed of a unit as a JSON object.
+#[tactic(auto, unfolding(crate::specs::Finding::json_text))]
+pub(crate) fn put_json(
+    object: DwarfObject,
+    unit: &PackagedUnit<'_>,
+    slots: u32,
+    text: &mut String,
+) -> Result<(), AllocError>
+    ensures { OnOk result (string_bytes text.new
+        ≡ string_bytes text.old ++ json_text object unit.now slots) }
+{
+    put_json_encoding(object, unit.encoding(), text)?;
+    put_json_ranges(unit, text)?;
+    put_json_counts(string_count(unit), slots, text)
+}
+
+/// Adds the beginning of the object, up to the unit's encoding.
+fn put_json_encoding(
+    object: DwarfObject,
+    encoding: Encoding,
+    text: &mut String,
+) -> Result<(), AllocError>
+    ensures { OnOk result (string_bytes text.new
+        ≡ string_bytes text.old ++ json_encoding object encoding) }
+{
+    put_json_unit(object, text)?;
+    put_json_numbers(encoding, text)
+}
+
+/// Adds the numbers of a unit's encoding.
+#[tactic(auto, unfolding(crate::specs::Json::json_numbers))]
+fn put_json_numbers(encoding: Encoding, text: &mut String) -> Result<(), AllocError>
+    ensures { OnOk result (string_bytes text.new
+        ≡ string_bytes text.old ++ json_numbers encoding) }
+{
+    let version = encoding.version;
+    let width = width(encoding.format);
+    let address = encoding.address_size;
+    write!(
+        text,
+        "\",\"version\":{version},\"format\":{width},\"address\":{address}"
+    )
+}
+
+/// Adds the beginning of the object, up to the unit's identifier.
+#[tactic(auto, using(crate::proofs::Hex::hex16_written), unfolding(crate::specs::Json::json_unit))]
+fn put_json_unit(object: DwarfObject, text: &mut String) -> Result<(), AllocError>
+    ensures { OnOk result (string_bytes text.new
+        ≡ string_bytes text.old ++ json_unit object) }
+{
+    let kind = short_kind(object);
+    let id = object.index();
+    write!(text, "{{\"kind\":\"{kind}\",\"id\":\"0x{id:016x}")
+}
+
+/// Adds each range that a unit has of a section.
+#[tactic(auto, unfolding(crate::specs::Finding::json_ranges))]
+fn put_json_ranges(unit: &PackagedUnit<'_>, text: &mut String) -> Result<(), AllocError>
+    ensures { OnOk result (string_bytes text.new
+        ≡ string_bytes text.old ++ json_ranges unit.now) }
+{
+    for kind in &CONTRIBUTION_KINDS {
+        put_json_range(*kind, unit.range(*kind), text)?;
+    }
+    Ok(())
+}
+
+/// Adds a range, where there is one.
+fn put_json_range(
+    kind: SectionKind,
+    range: Option<Contribution>,
+    text: &mut String,
+) -> Result<(), AllocError>
+    ensures { OnOk result (string_bytes text.new
+        ≡ string_bytes text.old ++ json_range kind range) }
+{
+    let Some(range) = range else {
+        return Ok(());
+    };
+    let name = short_name(kind);
+    let offset = range.offset.0;
+    let size = range.size;
+    write!(text, ",\"{name}\":{{\"offset\":{offset},\"size\":{size}}}")
+}
+
+/// Adds the numbers of a unit's strings and of slots, and the end of the object.
+#[tactic(auto, unfolding(crate::specs::Finding::json_counts))]
+fn put_json_counts(strings: u64, slots: u32, text: &mut String) -> Result<(), AllocError>
+    ensures { OnOk result (string_bytes text.new
+        ≡ string_bytes text.old ++ json_counts strings slots) }
+{
+    writeln!(text, ",\"strings\":{strings},\"slots\":{slots}}}")
+}

@@ -1,0 +1,109 @@
+//! What `thorin find` is asked for.
+
+ghost use Rattle.std.specs.Prelude.{◌≡◌, MatchOption};
+ghost use Rattle.std.specs.Option.{option_copied};
+ghost use Rattle.std.specs.Str.Parse.{digits_value};
+ghost use Rattle.thorin_queries.specs.Finding.{Asks, AsksFor, AsksString, AsksSection, IsNumber};
+ghost use Rattle.thorin_queries.specs.declared.output.Failure.TheVariants as failures;
+
+use crate::identifier::identifier;
+use crate::output::Failure;
+use dwp_base::SectionKind;
+use dwp_table::{DebugTypeSignature, DwarfObject, DwoId};
+
+/// What is wanted of a unit, and how it is printed.
+#[derive(Clone, Copy)]
+pub struct FindForm<'a> {
+    /// The number of a string, where one is wanted.
+    pub string: Option<&'a str>,
+    /// The short name of a kind of section, where its bytes are wanted.
+    pub section: Option<&'a str>,
+    /// Whether a JSON object is printed.
+    pub json: bool,
+}
+
+/// What is wanted of a unit.
+#[derive(Clone, Copy)]
+pub(crate) enum Wanted {
+    /// A text.
+    Printed(Printing),
+    /// The bytes of its range of a section.
+    Bytes(SectionKind),
+}
+
+/// What text is wanted of a unit.
+#[derive(Clone, Copy)]
+pub(crate) enum Printing {
+    /// All that is told of it.
+    AllOf,
+    /// The string of a number.
+    StringOf(u64),
+}
+
+/// The unit that is asked for: first its kind is tested, then its identifier.
+pub(crate) fn object(kind: &str, id: &str) -> Result<DwarfObject, Failure>
+    ensures { Asks kind.now id.now result }
+{
+    match kind {
+        "cu" => Ok(DwarfObject::Compilation(DwoId(identifier(id)?))),
+        "tu" => Ok(DwarfObject::TypeUnit(DebugTypeSignature(identifier(id)?))),
+        _ => Err(Failure::BadKind),
+    }
+}
+
+/// What is wanted of it.
+pub(crate) fn wanted_of(string: Option<&str>, section: Option<&str>) -> Result<Wanted, Failure>
+    ensures { AsksFor (option_copied string.entry) (option_copied section.entry) result }
+{
+    if let Some(text) = string {
+        return string_wanted(text);
+    }
+    match section {
+        Some(text) => section_wanted(text),
+        None => Ok(Wanted::Printed(Printing::AllOf)),
+    }
+}
+
+/// A string of a number.
+fn string_wanted(text: &str) -> Result<Wanted, Failure>
+    ensures { AsksString text.now result }
+{
+    match number(text) {
+        Some(n) => Ok(Wanted::Printed(Printing::StringOf(n))),
+        None => Err(Failure::BadNumber),
+    }
+}
+
+/// The number that decimal digits write.
+fn number(text: &str) -> Option<u64>
+    ensures { MatchOption result (¬ (IsNumber text.now)) (λ n. IsNumber text.now
+        × (n ≡ digits_value 10 text.now)) }
+{
+    if text.is_empty() || text.as_bytes()[0] == b'+' {
+        return None;
+    }
+    u64::from_str_radix(text, 10).ok()
+}
+
+/// The bytes of a section.
+#[tactic(auto, using(crate::proofs::Asked::no_short_name))]
+fn section_wanted(text: &str) -> Result<Wanted, Failure>
+    ensures { AsksSection text.now result }
+{
+    match text {
+        "info" => Ok(Wanted::Bytes(SectionKind::Info)),
+        "types" => Ok(Wanted::Bytes(SectionKind::Types)),
+        "abbrev" => Ok(Wanted::Bytes(SectionKind::Abbrev)),
+        "line" => Ok(Wanted::Bytes(SectionKind::Line)),
+        "loc" => Ok(Wanted::Bytes(SectionKind::Loc)),
+        "loclists" => Ok(Wanted::Bytes(SectionKind::Loclists)),
+        "rnglists" => Ok(Wanted::Bytes(SectionKind::Rnglists)),
+        "str_offsets" => Ok(Wanted::Bytes(SectionKind::StrOffsets)),
+        "macinfo" => Ok(Wanted::Bytes(SectionKind::Macinfo)),
+        "macro" => Ok(Wanted::Bytes(SectionKind::Macro)),
+        "str" => Ok(Wanted::Bytes(SectionKind::Str)),
+        "cu_index" => Ok(Wanted::Bytes(SectionKind::CuIndex)),
+        "tu_index" => Ok(Wanted::Bytes(SectionKind::TuIndex)),
+        _ => Err(Failure::BadSection),
+    }
+}
