@@ -43,6 +43,8 @@ pub struct PackArguments<'m, 'a> {
     pub partial: bool,
     /// Whether missing objects are listed, and nothing is packed.
     pub lists_missing: bool,
+    /// Whether of an object's sections of macros only the last counts.
+    pub keeps_last_macros: bool,
 }
 
 /// What `check` is asked for.
@@ -84,8 +86,6 @@ pub struct ListArguments {
     pub names: bool,
     /// Whether each line is a JSON object.
     pub json: bool,
-    /// Whether of an object's sections of macros only the last counts.
-    pub keeps_last_macros: bool,
 }
 
 /// What does the commands. Each answers the program's status.
