@@ -12,6 +12,7 @@ pub fn call(row: Row<'_>, said: &mut Said) {
         "index" | "column" | "look_up" | "range" => of_index(row, said),
         "package" | "packaged" | "units" | "first_byte" => of_package(row, said),
         "texts_of_index" => texts_of_index(said),
+        "archive" => crate::archived::archived(row, said),
         "inflate" => crate::inflated::inflated(row, said),
         _ => said.word("no such call"),
     }

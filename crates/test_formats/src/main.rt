@@ -2,6 +2,7 @@
 //! `dwp_index`, with its arguments, and is printed with what it answers. For the gate alone.
 #![tactic(auto)]
 
+mod archived;
 mod dwarf;
 mod elf;
 mod elf_read;
@@ -14,7 +15,7 @@ use std::{fs, io};
 use test_rows::{Calls, Row, Said, answers};
 
 /// The files of rows, one for each crate.
-const FILES: [&str; 8] = [
+const FILES: [&str; 9] = [
     "base.rows",
     "bytes.rows",
     "elf.rows",
@@ -23,6 +24,7 @@ const FILES: [&str; 8] = [
     "table.rows",
     "index.rows",
     "inflate.rows",
+    "archive.rows",
 ];
 
 /// The calls of the crates of formats.

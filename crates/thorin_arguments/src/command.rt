@@ -94,6 +94,11 @@ const DECOMPRESS: Word = Word::Flag(
     "Read inputs and executables that are compressed by zlib",
 );
 
+const ARCHIVES: Word = Word::Flag(
+    "archives",
+    "Pack the split objects that inputs have as archives",
+);
+
 const JSON: Word = Word::Flag("json", "Print a JSON object a line");
 
 const SECTION: Word = Word::Alone(
@@ -144,6 +149,7 @@ const COMMANDS: [Line; 4] = [
             ),
             FORCE,
             DECOMPRESS,
+            ARCHIVES,
             OVERLAP,
             LAST_MACROS,
             WARNINGS,

@@ -29,6 +29,8 @@ pub struct PackArguments<'m, 'a> {
     pub force: bool,
     /// Whether compressed sections are decompressed.
     pub decompresses: bool,
+    /// Whether an input may be an archive.
+    pub opens_archives: bool,
     /// Whether the package is checked, and none is made.
     pub verifies_only: bool,
     /// Whether a line tells of each input.
@@ -337,6 +339,7 @@ fn arguments_of_peer<'m, 'a>(matches: &'m ArgMatches<'a>) -> PackArguments<'m, '
         skips_missing: false,
         force: has_flag(matches, "force"),
         decompresses: true,
+        opens_archives: has_flag(matches, "archives"),
         verifies_only: has_flag(matches, "verify-only"),
         verbose: has_flag(matches, "verbose"),
         warnings: value_of(matches, "warnings"),

@@ -273,6 +273,7 @@ fn packing_of<'m, 'a>(arguments: PackArguments<'m, 'a>, manner: Manner) -> Packi
         decompresses: arguments.decompresses,
         prefix_maps: arguments.prefix_maps,
         partial: arguments.partial,
+        opens_archives: arguments.opens_archives || manner.opens_archives,
         verbose: arguments.verbose,
         notes: manner.notes || arguments.verbose,
         warnings: warnings_of(arguments.warnings, manner.warnings),

@@ -26,6 +26,8 @@ pub(crate) struct Manner {
     pub(crate) keeps_last_macros: bool,
     /// Whether an executable without anything split gives an empty package.
     pub(crate) lets_empty: bool,
+    /// Whether an input may be an archive, without being told.
+    pub(crate) opens_archives: bool,
 }
 
 impl Manner {
@@ -45,6 +47,7 @@ impl Manner {
             },
             keeps_last_macros: is_peer,
             lets_empty: is_peer,
+            opens_archives: is_peer,
         }
     }
 }

@@ -1,5 +1,6 @@
 mod Inputs
 mod Left
+mod Opened
 mod Prefixing
 mod Puts
 mod Readable

@@ -18,7 +18,8 @@ use Rattle.thorin.specs.declared.packing.Input.{Input}
 use Rattle.thorin_queries.specs.declared.output.Failure.{Failure}
 use Rattle.thorin_commands.specs.Files.{HasBeginning, Begun, Adds, IsOfWriting, PutIn, BeginsIn}
 use Rattle.thorin_commands.specs.Files.{Put, Begins}
-use Rattle.thorin_commands.specs.Packing.{asked, asks, out_of, IsPackedOf, IsPackageFor, Packs}
+use Rattle.thorin_commands.specs.Packing.{asked, asks, out_of, IsPackedFrom, IsPackageFor}
+use Rattle.thorin_commands.specs.Packing.{Packs}
 use Rattle.thorin_commands.specs.Packing.{paths_in, reads, through}
 use Rattle.thorin_commands.specs.Plain.{taken_from, last_from}
 use Rattle.thorin_commands.specs.Packing.{Comes}
@@ -123,19 +124,24 @@ module _ {X : Type 0} (offers : X → List ℕ → Result (List ℕ) IoError →
       (through (paths_in packing.prefix_maps) (paths_in packing.inputs) z (offers y))))) e
       fourth
 
-  pub for_packing : (list : List Input) (object : File) → x ≡ y
+  pub for_packing : (opens : Bool) (list : List Input) (object : File) → x ≡ y
       → last ≡ packing.keeps_last_macros → b ≡ packing.decompresses
       → words ≡ paths_in packing.prefix_maps
       → objects ≡ paths_in packing.inputs → executables ≡ paths_in packing.executables
-      → map asked list ≡ asks packing
-      → IsPackedOf packing.partial (last_from last (taken_from b
+      → opens ≡ packing.opens_archives → map asked list ≡ asks packing
+      → IsPackedFrom packing.partial opens b (last_from last (taken_from b
       (through words objects executables (offers x)))) list object
       → IsPackageFor (reads packing (offers y)) packing object
-  for_packing list object f l d w o e are packed =
+  for_packing opens list object f l d w o e opened are packed =
       record {
         list = list;
         are = inl are;
-        packed = alike (λ offer. IsPackedOf packing.partial offer list object) f l d w o e packed;
+        packed = alike (λ offer. IsPackedFrom packing.partial packing.opens_archives
+            packing.decompresses offer list object) f l d w o e
+            (subst (λ z. IsPackedFrom packing.partial packing.opens_archives z (last_from last
+            (taken_from b (through words objects executables (offers x)))) list object) d
+            (subst (λ z. IsPackedFrom packing.partial z b (last_from last (taken_from b
+            (through words objects executables (offers x)))) list object) opened packed));
       }
 
   -- a package is one of what is taken, however that is written
@@ -151,15 +157,18 @@ module _ {X : Type 0} (offers : X → List ℕ → Result (List ℕ) IoError →
 
 -- the same with the first executable as an object behind them
 pub for_unsplit : (offer : List ℕ → Result (List ℕ) IoError → Type 0) (packing : Packing)
-    (more : List Input) (path : Bor (List ℕ)) (object : File) → packing.lets_empty ≡ true
+    (opens decompresses : Bool) (more : List Input) (path : Bor (List ℕ)) (object : File)
+    → packing.lets_empty ≡ true
+    → opens ≡ packing.opens_archives → decompresses ≡ packing.decompresses
     → map asked more ≡ asks packing ++ Some (path.now, None) ∷ []
     → take 1 (paths_in packing.executables) ≡ path ∷ []
-    → IsPackedOf packing.partial offer more object → IsPackageFor offer packing object
-for_unsplit offer packing more path object lets are first packed =
+    → IsPackedFrom packing.partial opens decompresses offer more object
+    → IsPackageFor offer packing object
+for_unsplit offer packing opens decompresses more path object lets o d are first packed =
     record {
       list = more;
       are = inr (lets, rw first are);
-      packed = packed;
+      packed = rw (o, d) at packed;
     }
 
 -- nothing was written yet, or the package was begun

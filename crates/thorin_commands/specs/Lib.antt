@@ -1,4 +1,6 @@
+pub mod Archives
 pub mod Files
+pub mod Opened
 pub mod Packing
 pub mod Plain
 pub mod Prefixes

@@ -16,6 +16,7 @@ use Rattle.thorin.specs.declared.packing.Input.{Input}
 use Rattle.thorin.specs.declared.packing.Input.TheVariants as inputs
 use Rattle.thorin.specs.Run.{Ran}
 use Rattle.thorin_queries.specs.declared.output.Failure.{Failure}
+use Rattle.thorin_commands.specs.Archives.{StandFor}
 use Rattle.thorin_commands.specs.Prefixes.{mapped}
 use Rattle.thorin_commands.specs.Files.{IsOfWriting}
 use Rattle.thorin_commands.specs.Plain.{Offer, taken_from, last_from}
@@ -118,6 +119,13 @@ pub record IsPackedOf (partial : Bool) (offer : List ℕ → Result (List ℕ) I
   pub finished : IsFinishedState (left partial state) object
   pub package_of : IsPackageOf (units_in state) (file_text object)
 
+-- the same of what inputs stand for
+pub record IsPackedFrom (partial opens decompresses : Bool) (offer : Offer) (list : List Input)
+    (object : File) : Type 0 where
+  pub taken : List Input
+  pub stand : StandFor opens decompresses offer list taken
+  pub packed : IsPackedOf partial offer taken object
+
 -- just the inputs that were asked for; where an empty package may come of it, behind them the first
 -- executable as an object
 abbrev pub AreAsked : Packing → List Input → Type 0
@@ -130,7 +138,8 @@ pub record IsPackageFor (offer : List ℕ → Result (List ℕ) IoError
     → Type 0) (packing : Packing) (object : File) : Type 0 where
   pub list : List Input
   pub are : AreAsked packing list
-  pub packed : IsPackedOf packing.partial offer list object
+  pub packed : IsPackedFrom packing.partial packing.opens_archives packing.decompresses offer list
+      object
 
 -- the file of such a package was put under the name of OUT
 pub record Packs (offer : List ℕ → Result (List ℕ) IoError

@@ -2,6 +2,7 @@
 //! only read.
 #![tactic(auto)]
 
+mod archives;
 mod files;
 mod macros;
 mod missing;

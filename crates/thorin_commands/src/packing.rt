@@ -10,14 +10,16 @@ ghost use Rattle.thorin_join.specs.Represents.{units_in};
 ghost use Rattle.thorin.specs.Run.{Took};
 ghost use Rattle.thorin_commands.specs.Files.{IsOfWriting, Put, Begins};
 ghost use Rattle.thorin_commands.specs.Packing.{asked, object_asked, executable_asked, asks};
-ghost use Rattle.thorin_commands.specs.Packing.{out_of, AreAllAccepted, IsPackedOf, Packs, Comes};
-ghost use Rattle.thorin_commands.specs.Packing.{IsPackageFor, Fails, paths_in, reads};
+ghost use Rattle.thorin_commands.specs.Packing.{out_of, Packs, Comes};
+ghost use Rattle.thorin_commands.specs.Packing.{IsPackageFor, IsPackedFrom, Fails, paths_in, reads};
+ghost use Rattle.thorin_commands.specs.Opened.{TookAll, TookInputs};
 
+use crate::archives::take_opened;
 use crate::files::FileSystem;
 use crate::missing::leave_out;
 use crate::output::{Refusal, write_package};
 use crate::plain::{InputFiles, Inputs};
-use crate::telling::{Telling, refused, tell, tell_fault, tell_unfinished, warn_unsplit};
+use crate::telling::{Telling, refused, tell_fault, tell_unfinished, told};
 use crate::warnings::{Warned, Warnings, warn};
 use bumpalo::Bump;
 use dwp_bytes::RelocationEntry;
@@ -52,6 +54,8 @@ pub struct Packing<'m, 'a> {
     pub prefix_maps: Option<&'m [&'a str]>,
     /// Whether a unit of an executable that isn't there is told and left out.
     pub partial: bool,
+    /// Whether an input may be an archive, whose members are taken.
+    pub opens_archives: bool,
     /// Whether a line tells of each input that was taken.
     pub verbose: bool,
     /// Whether a second line says what a refusal is about.
@@ -301,7 +305,9 @@ fn packed_unsplit<I: Inputs, E: Write>(
     packing: &Packing<'_, '_>,
     err: &mut E,
 ) -> Result<(WritableObject, Vec<DebugTypeSignature>), Refusal>
-    requires { packing.now.lets_empty ≡ true }
+    requires allowed { packing.now.lets_empty ≡ true }
+    requires opens { I.opens files.now ≡ packing.now.opens_archives }
+    requires plain { I.plain files.now ≡ packing.now.decompresses }
     ensures { IfOk result (λ made. IsPackageFor (I.offer files.now) packing.now made.0) }
 {
     let objects = paths_in(packing.inputs);
@@ -375,8 +381,8 @@ fn packed_inputs<I: Inputs, E: Write>(
     telling: Telling,
     err: &mut E,
 ) -> Result<(WritableObject, Vec<DebugTypeSignature>), Refusal>
-    ensures { IfOk result (λ made.
-        IsPackedOf telling.entry.partial (I.offer files.now) inputs.now made.0) }
+    ensures { IfOk result (λ made. IsPackedFrom telling.entry.partial (I.opens files.now)
+        (I.plain files.now) (I.offer files.now) inputs.now made.0) }
 {
     let bump = Bump::new(alloc);
     let session = BytesSession::new(&bump);
@@ -392,8 +398,8 @@ fn packed_over<'s, Sess: Session<RelocationEntry>, I: Inputs, E: Write>(
     telling: Telling,
     err: &mut E,
 ) -> Result<(WritableObject, Vec<DebugTypeSignature>), Refusal>
-    ensures { IfOk result (λ made.
-        IsPackedOf telling.entry.partial (I.offer files.now) inputs.now made.0) }
+    ensures { IfOk result (λ made. IsPackedFrom telling.entry.partial (I.opens files.now)
+        (I.plain files.now) (I.offer files.now) inputs.now made.0) }
 {
     runs_go_on(files);
     let mut builder = DwarfPackage::new(alloc, session);
@@ -482,19 +488,39 @@ fn take_all<'o, 's: 'o, Sess: Session<RelocationEntry>, I: Inputs, E: Write>(
     telling: Telling,
     err: &mut E,
 ) -> Result<(), Refusal>
-    ensures { OnOk result ((accepted : List (List ℕ)) × AreAllAccepted (I.offer files.now)
-        inputs.now builder.old.state builder.new.state accepted) }
+    ensures { OnOk result (TookInputs (I.opens files.now) (I.plain files.now)
+        (I.offer files.now) inputs.now builder.old.state builder.new.state) }
 {
     let mut room = Vec::new(alloc);
-    runs_go_on(files);
     for input in inputs {
         take(alloc, files, builder, &mut room, *input, telling, err)?;
     }
     Ok(())
 }
 
-/// Takes an input, and tells what came of it where that is asked for.
+/// Takes an input, or where it is an archive that is to be opened the members of it.
 fn take<'o, 's: 'o, Sess: Session<RelocationEntry>, I: Inputs, E: Write>(
+    alloc: Global,
+    files: &I,
+    builder: &mut DwarfPackage<'o, 's, Sess>,
+    room: &mut Vec<u8>,
+    input: Input<'_>,
+    telling: Telling,
+    err: &mut E,
+) -> Result<(), Refusal>
+    ensures { OnOk result (TookAll (I.opens files.now) (I.plain files.now)
+        (I.offer files.now) input.entry builder.old.state builder.new.state) }
+{
+    match input {
+        Input::Object(path) if files.opens_archives() => {
+            take_opened(alloc, files, builder, room, path, telling, err)
+        }
+        _ => take_alone(alloc, files, builder, room, input, telling, err),
+    }
+}
+
+/// Takes an input that is no archive, and tells what came of it where that is asked for.
+fn take_alone<'o, 's: 'o, Sess: Session<RelocationEntry>, I: Inputs, E: Write>(
     alloc: Global,
     files: &I,
     builder: &mut DwarfPackage<'o, 's, Sess>,
@@ -514,11 +540,6 @@ fn take<'o, 's: 'o, Sess: Session<RelocationEntry>, I: Inputs, E: Write>(
         let room = room.as_slice();
         return Err(refused(alloc, files, input, room, fault, telling, err));
     }
-    if telling.verbose {
-        tell(files, input, added, err)?;
-    }
-    if telling.notes && added == 0 {
-        warn_unsplit(alloc, files, input, err)?;
-    }
+    told(alloc, files, input, added, telling, err)?;
     Ok(())
 }

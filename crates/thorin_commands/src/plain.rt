@@ -1,9 +1,10 @@
 //! The inputs of `pack`, decompressed and with the last macros alone where that is asked for.
 
-ghost use Rattle.std.specs.Prelude.{◌≡◌, ◌⊎◌, IsTrue, IfOk, IfSome, OnOk, IfErr};
+ghost use Rattle.std.specs.Prelude.{◌≡◌, ◌⊎◌, Bool, IsTrue, IfOk, IfSome, OnOk, IfErr};
 ghost use Rattle.std.specs.Prelude.{string_bytes};
 ghost use Rattle.std.specs.Path.{path_bytes};
 ghost use Rattle.thorin_faults.specs.Sessions.{IsNoWantOfMemory};
+ghost use Rattle.thorin_commands.specs.Archives.{IsTakenFor, or_content};
 ghost use Rattle.thorin_commands.specs.Packing.{IsAmong, StandsAt, paths_in, through};
 ghost use Rattle.thorin_commands.specs.Plain.{IsPlainOf, IsReadOver, taken_from, last_from};
 ghost use Rattle.thorin_commands.specs.Prefixes.{mapped as mapped_path};
@@ -32,6 +33,24 @@ pub(crate) trait Inputs: InputReader {
 
     /// Begins an input a second time, for what is told of it: what is no regular file isn't read.
     fn begin_again(&self, input: Input<'_>);
+
+    // Whether archives are opened, and whether what is read is decompressed.
+    ghost opens: { Self → Bool };
+
+    ghost plain: { Self → Bool };
+
+    /// Whether archives are opened.
+    fn opens_archives(&self) -> bool
+        ensures { result ≡ opens self.now };
+
+    /// The plain bytes that are taken for the content of an archive's member; none where it is
+    /// taken as it is.
+    ///
+    /// # Errors
+    /// `Memory`, also where the sections of the content overlap.
+    fn plain_member(&self, content: &[u8]) -> Result<Option<Vec<u8>>, AllocError>
+        ensures { IfOk result (λ taken. IsTakenFor (plain self.now) content.now
+            (or_content content.now taken)) };
 
     /// Whether compressed sections are decompressed.
     fn decompresses(&self) -> bool;
@@ -73,6 +92,8 @@ pub(crate) struct InputFiles<'f, F> {
     /// Whether of an object's sections of macros only the last counts, and what is warned else.
     keeps_last_macros: bool,
     macros: MacroWarnings,
+    /// Whether archives are opened.
+    opens_archives: bool,
     /// Whether the next read is that of an input's own path.
     begins: Cell<bool>,
     /// Whether it is the second of that path.
@@ -98,6 +119,7 @@ impl<'f, F: FileSystem> InputFiles<'f, F> {
         ensures objects { result.objects.now ≡ paths_in packing.now.inputs }
         ensures executables { result.executables.now ≡ paths_in packing.now.executables }
         ensures macros { result.keeps_last_macros ≡ packing.now.keeps_last_macros }
+        ensures opens { result.opens_archives ≡ packing.now.opens_archives }
     {
         let warns = !packing.keeps_last_macros && !matches!(packing.warnings, Warnings::Never);
         InputFiles {
@@ -110,6 +132,7 @@ impl<'f, F: FileSystem> InputFiles<'f, F> {
             next: Cell::new(0),
             keeps_last_macros: packing.keeps_last_macros,
             macros: MacroWarnings::new(alloc, warns),
+            opens_archives: packing.opens_archives,
             begins: Cell::new(false),
             again: Cell::new(false),
             own: Cell::new(None),
@@ -311,6 +334,26 @@ impl<F: FileSystem> InputReader for InputFiles<'_, F> {
 }
 
 impl<F: FileSystem> Inputs for InputFiles<'_, F> {
+    ghost opens = { λ inputs. inputs.opens_archives };
+
+    ghost plain = { λ inputs. inputs.decompresses };
+
+    fn opens_archives(&self) -> bool {
+        self.opens_archives
+    }
+
+    #[tactic(auto, unfolding(crate::specs::Archives::IsTakenFor, crate::specs::Plain::IsPlainOf))]
+    fn plain_member(&self, content: &[u8]) -> Result<Option<Vec<u8>>, AllocError> {
+        if self.overlaps(false, content) {
+            return Err(AllocError);
+        }
+        if self.decompresses {
+            plain_of(self.alloc, content)
+        } else {
+            Ok(None)
+        }
+    }
+
     fn begin(&self, input: Input<'_>) {
         self.begins.set(true);
         self.again.set(false);
@@ -402,6 +445,18 @@ fn read_file<F: FileSystem>(
         files.read_over(path, room)
     } else {
         files.read_regular_over(path, room)
+    }
+}
+
+/// A file with plain sections in place of its compressed ones; none where it stays as it is.
+#[tactic(auto, unfolding(crate::specs::Plain::IsPlainOf))]
+fn plain_of(alloc: Global, file: &[u8]) -> Result<Option<Vec<u8>>, AllocError>
+    ensures { IfOk result (λ taken. IsPlainOf file.now (or_content file.now taken)) }
+{
+    match decompressed(alloc, file) {
+        Ok(plain) => Ok(plain),
+        Err(DecompressError::Memory) => Err(AllocError),
+        Err(_) => Ok(None),
     }
 }
 

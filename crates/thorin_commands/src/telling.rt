@@ -25,8 +25,26 @@ pub(crate) struct Telling {
     pub(crate) partial: bool,
 }
 
+/// Tells what came of an input that was taken, where that is asked for.
+pub(crate) fn told<I: Inputs, E: Write>(
+    alloc: Global,
+    inputs: &I,
+    input: Input<'_>,
+    added: usize,
+    telling: Telling,
+    err: &mut E,
+) -> Result<(), Failure> {
+    if telling.verbose {
+        tell(inputs, input, added, err)?;
+    }
+    if telling.notes && added == 0 {
+        warn_unsplit(alloc, inputs, input, err)?;
+    }
+    Ok(())
+}
+
 /// Tells of an input that was taken how many units of it were added.
-pub(crate) fn tell<I: Inputs, E: Write>(
+fn tell<I: Inputs, E: Write>(
     inputs: &I,
     input: Input<'_>,
     added: usize,
@@ -41,7 +59,7 @@ pub(crate) fn tell<I: Inputs, E: Write>(
 }
 
 /// Warns of an input that was taken and has nothing that is split.
-pub(crate) fn warn_unsplit<I: Inputs, E: Write>(
+fn warn_unsplit<I: Inputs, E: Write>(
     alloc: Global,
     inputs: &I,
     input: Input<'_>,
@@ -55,6 +73,11 @@ pub(crate) fn warn_unsplit<I: Inputs, E: Write>(
     if is_split {
         return Ok(());
     }
+    warn_of(alloc, path, err)
+}
+
+/// Warns of a file that has nothing that is split.
+pub(crate) fn warn_of<E: Write>(alloc: Global, path: Path<'_>, err: &mut E) -> Result<(), Failure> {
     let name = printed(alloc, path.path_text())?;
     match writeln!(err, "warning: {name}: no split units") {
         Ok(()) => Ok(()),

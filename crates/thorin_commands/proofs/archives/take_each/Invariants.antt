@@ -1,0 +1,10 @@
+use Rattle.std.proofs.Common.{map, take}
+use Rattle.dwp_archive.specs.View.{member}
+use Rattle.thorin_commands.specs.Archives.{split_contents}
+use Rattle.thorin_commands.specs.Opened.{TookEach}
+use Rattle.thorin_commands.proofs.archives.take_each.Given as goal
+
+-- the members so far were taken
+abbrev pub invariant-loop-member : goal.invariant-loop-member
+invariant-loop-member g l = TookEach (g.I.Inputs.plain l.files) (g.I.InputReader.offer l.files)
+    (split_contents (map member (take l.member-index l.members))) l.fn.builder.state l.builder.state

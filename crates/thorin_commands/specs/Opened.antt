@@ -1,0 +1,50 @@
+-- What came of inputs that archives stand for.
+use Rattle.std.specs.Prelude.{◌≡◌, ℕ, List, Bool, Result, Ok}
+use Rattle.std.specs.Borrow.{Bor}
+use Rattle.dwp_elf.specs.FileText.{Object as File}
+use Rattle.dwp_archive.specs.Entries.{Member}
+use Rattle.dwp_archive.specs.Members.{members_of}
+use Rattle.thorin_join.specs.Builder.{State}
+use Rattle.thorin.specs.declared.packing.Input.{Input}
+use Rattle.thorin.specs.declared.packing.Input.TheVariants as inputs
+use Rattle.thorin.specs.Run.{Took}
+use Rattle.thorin_commands.specs.Archives.{AreTakenFor, StandsFor, StandFor, split_contents}
+use Rattle.thorin_commands.specs.Packing.{AreAllAccepted}
+use Rattle.thorin_commands.specs.Plain.{Offer}
+
+-- what an input stands for was taken, and none of it refused
+pub record TookAll (opens decompresses : Bool) (offer : Offer) (input : Input) (old new : State)
+    : Type 0 where
+  pub list : List Input
+  pub stands : StandsFor opens decompresses offer input list
+  pub accepted : List (List ℕ)
+  pub ran : AreAllAccepted offer list old new accepted
+
+-- the same of inputs, in order
+pub record TookInputs (opens decompresses : Bool) (offer : Offer) (all : List Input)
+    (old new : State) : Type 0 where
+  pub list : List Input
+  pub stand : StandFor opens decompresses offer all list
+  pub accepted : List (List ℕ)
+  pub ran : AreAllAccepted offer list old new accepted
+
+-- what is taken for contents was taken, in order
+pub record TookEach (decompresses : Bool) (offer : Offer) (contents : List (List ℕ))
+    (old new : State) : Type 0 where
+  pub list : List Input
+  pub taken : AreTakenFor decompresses contents list
+  pub accepted : List (List ℕ)
+  pub ran : AreAllAccepted offer list old new accepted
+
+-- the members of an archive's file that have split units were taken
+pub record TookMembers (decompresses : Bool) (offer : Offer) (file : List ℕ) (old new : State)
+    : Type 0 where
+  pub members : List Member
+  pub are : members_of file ≡ Ok members
+  pub each : TookEach decompresses offer (split_contents members) old new
+
+-- bytes were taken
+pub record TookBytes (offer : Offer) (taken : List ℕ) (old new : State) : Type 0 where
+  pub bytes : Bor (List ℕ)
+  pub is : bytes.now ≡ taken
+  pub took : Took offer (inputs.Bytes bytes) old (Ok tt) new
