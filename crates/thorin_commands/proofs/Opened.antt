@@ -1,6 +1,6 @@
 -- Inputs that stand for others, taken one after the other.
-use Rattle.std.proofs.Common.{◌≡◌, ◌∙◌, ℕ, Bool, true, false, List, [], ◌∷◌, ◌++◌, ◌<◌, ◌+◌, refl}
-use Rattle.std.proofs.Common.{cond, sym, ap, subst, Result, Ok, map, length, take, get_or, inl, inr}
+use Rattle.std.proofs.Common.{◌≡◌, ◌∙◌, ℕ, Bool, true, false, List, [], ◌∷◌, ◌++◌, refl}
+use Rattle.std.proofs.Common.{cond, sym, ap, subst, Result, Ok, map, inl, inr}
 use Rattle.std.specs.Borrow.{Bor}
 use Rattle.std.specs.Path.{path_bytes}
 use Rattle.std.specs.Prelude.{filter, OnOk, Err}
@@ -14,7 +14,7 @@ use Rattle.thorin_join.specs.Builder.{State}
 use Rattle.thorin_builder.specs.Taking.{Outcome}
 use Rattle.thorin.specs.declared.packing.Input.{Input}
 use Rattle.thorin.specs.declared.packing.Input.TheVariants as inputs
-use Rattle.thorin.specs.Run.{Took, TakesInput}
+use Rattle.thorin.specs.Run.{Took}
 use Rattle.thorin_commands.specs.Archives.{is_split, split_contents, IsTakenFor, AreTakenFor}
 use Rattle.thorin_commands.specs.Archives.{StandsFor, StandFor}
 use Rattle.thorin_commands.specs.Opened.{TookAll, TookInputs, TookEach, TookMembers, TookBytes}

@@ -1,7 +1,6 @@
 -- What came of inputs that archives stand for.
-use Rattle.std.specs.Prelude.{◌≡◌, ℕ, List, Bool, Result, Ok}
+use Rattle.std.specs.Prelude.{◌≡◌, ℕ, List, Bool, Ok}
 use Rattle.std.specs.Borrow.{Bor}
-use Rattle.dwp_elf.specs.FileText.{Object as File}
 use Rattle.dwp_archive.specs.Entries.{Member}
 use Rattle.dwp_archive.specs.Members.{members_of}
 use Rattle.thorin_join.specs.Builder.{State}

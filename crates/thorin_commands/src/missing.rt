@@ -32,7 +32,7 @@ pub(crate) fn leave_out<'o, 's: 'o, Sess: Session<RelocationEntry>, I: Inputs, E
     telling: Telling,
     err: &mut E,
 ) -> Result<(), Refusal>
-    ensures { OnOk result (builder.new.state ≡ left telling.entry.partial builder.old.state) }
+    ensures { OnOk result (builder.new.state ≡ left telling.partial builder.old.state) }
 {
     if telling.partial {
         tell_missing(alloc, files, builder, inputs, err)?;

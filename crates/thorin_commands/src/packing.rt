@@ -381,7 +381,7 @@ fn packed_inputs<I: Inputs, E: Write>(
     telling: Telling,
     err: &mut E,
 ) -> Result<(WritableObject, Vec<DebugTypeSignature>), Refusal>
-    ensures { IfOk result (λ made. IsPackedFrom telling.entry.partial (I.opens files.now)
+    ensures { IfOk result (λ made. IsPackedFrom telling.partial (I.opens files.now)
         (I.plain files.now) (I.offer files.now) inputs.now made.0) }
 {
     let bump = Bump::new(alloc);
@@ -398,7 +398,7 @@ fn packed_over<'s, Sess: Session<RelocationEntry>, I: Inputs, E: Write>(
     telling: Telling,
     err: &mut E,
 ) -> Result<(WritableObject, Vec<DebugTypeSignature>), Refusal>
-    ensures { IfOk result (λ made. IsPackedFrom telling.entry.partial (I.opens files.now)
+    ensures { IfOk result (λ made. IsPackedFrom telling.partial (I.opens files.now)
         (I.plain files.now) (I.offer files.now) inputs.now made.0) }
 {
     runs_go_on(files);

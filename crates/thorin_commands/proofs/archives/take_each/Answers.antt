@@ -1,4 +1,4 @@
-use Rattle.std.proofs.Common.{◌++◌, ◌∷◌, ◌∙◌, [], List, ap, sym, subst, map, take, get_or}
+use Rattle.std.proofs.Common.{◌∷◌, ◌∙◌, [], List, ap, sym, subst, map, take, get_or}
 use Rattle.std.proofs.lemmas.List.{map-append, take_all}
 use Rattle.dwp_archive.specs.Entries.{Member}
 use Rattle.dwp_archive.specs.View.{member}

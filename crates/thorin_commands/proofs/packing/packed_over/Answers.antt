@@ -1,4 +1,5 @@
-use Rattle.std.proofs.Common.{◌≡◌, ◌∙◌, ℕ, List, Ok, ap, map, subst}
+use Rattle.std.proofs.Common.{◌≡◌, ◌∙◌, Ok, ap, map, subst}
+use Rattle.dwp_elf.specs.FileText.{Object as File, file_text}
 use Rattle.thorin_join.specs.Builder.{start, IsFinishedState}
 use Rattle.thorin_join.specs.Join.{IsPackageOf}
 use Rattle.thorin_join.specs.Represents.{units_in}
@@ -20,6 +21,7 @@ returns g c =
     c.in_ok-leave_out.ensures in
     let units : units_in c.leave_out.new.builder.state ≡ units_in state =
     ap units_in now ∙ units_left c.args.telling.partial state in
+    let object : File = c.in_ok-made.made.0 in
     record {
       taken = took.list;
       stand = took.stand;
@@ -29,7 +31,8 @@ returns g c =
         ran = took.ran;
         joined = c.runs_go_on.ensures.joined took.list start state (map outcome took.list)
             took.accepted took.ran;
-        finished = subst (λ s. IsFinishedState s _) now c.in_ok-made.ensures.finished;
-        package_of = subst (λ units. IsPackageOf units _) units c.in_ok-made.ensures.packaged;
+        finished = subst (λ s. IsFinishedState s object) now c.in_ok-made.ensures.finished;
+        package_of = subst (λ us. IsPackageOf us (file_text object)) units
+            c.in_ok-made.ensures.packaged;
       };
     }

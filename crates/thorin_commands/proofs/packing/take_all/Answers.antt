@@ -1,4 +1,4 @@
-use Rattle.std.proofs.Common.{◌++◌, ◌∷◌, [], List, sym, subst, take, get_or}
+use Rattle.std.proofs.Common.{[], List, sym, subst, take, get_or}
 use Rattle.std.proofs.lemmas.List.{take_all}
 use Rattle.thorin.specs.declared.packing.Input.{Input}
 use Rattle.thorin.specs.declared.packing.Input.TheVariants.{Object}
