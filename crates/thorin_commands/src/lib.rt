@@ -12,6 +12,7 @@ mod overlap;
 mod packing;
 mod plain;
 mod prefixes;
+mod taking;
 mod telling;
 mod warnings;
 

@@ -7,19 +7,17 @@ ghost use Rattle.thorin_join.specs.Builder.{IsFinishedState};
 ghost use Rattle.thorin_join.specs.Join.{IsPackageOf, IsPackageOnceWritten};
 ghost use Rattle.thorin_join.specs.Meaning.{Members};
 ghost use Rattle.thorin_join.specs.Represents.{units_in};
-ghost use Rattle.thorin.specs.Run.{Took};
 ghost use Rattle.thorin_commands.specs.Files.{IsOfWriting, Put, Begins};
 ghost use Rattle.thorin_commands.specs.Packing.{asked, object_asked, executable_asked, asks};
 ghost use Rattle.thorin_commands.specs.Packing.{out_of, Packs, Comes};
 ghost use Rattle.thorin_commands.specs.Packing.{IsPackageFor, IsPackedFrom, Fails, paths_in, reads};
-ghost use Rattle.thorin_commands.specs.Opened.{TookAll, TookInputs};
 
-use crate::archives::take_opened;
 use crate::files::FileSystem;
 use crate::missing::leave_out;
 use crate::output::{Refusal, write_package};
 use crate::plain::{InputFiles, Inputs};
-use crate::telling::{Telling, refused, tell_fault, tell_unfinished, told};
+use crate::taking::take_all;
+use crate::telling::{Telling, tell_fault, tell_unfinished};
 use crate::warnings::{Warned, Warnings, warn};
 use bumpalo::Bump;
 use dwp_bytes::RelocationEntry;
@@ -30,7 +28,7 @@ use std::alloc::{AllocError, Global};
 use std::io::Write;
 use std::path::Path;
 use thorin::laws::runs_go_on;
-use thorin::{BytesSession, DwarfPackage, Input, take_input};
+use thorin::{BytesSession, DwarfPackage, Input};
 use thorin_faults::{Error, MissingReferencedObjectBehaviour, Session};
 use thorin_queries::{Failure, buffer, check};
 
@@ -477,69 +475,4 @@ fn can_be_written(object: &WritableObject) -> Result<(), Error>
         Ok(_) => Ok(()),
         Err(e) => Err(Error::from(e)),
     }
-}
-
-/// Takes the inputs in order, up to the first that is refused.
-fn take_all<'o, 's: 'o, Sess: Session<RelocationEntry>, I: Inputs, E: Write>(
-    alloc: Global,
-    files: &I,
-    builder: &mut DwarfPackage<'o, 's, Sess>,
-    inputs: &[Input<'_>],
-    telling: Telling,
-    err: &mut E,
-) -> Result<(), Refusal>
-    ensures { OnOk result (TookInputs (I.opens files.now) (I.plain files.now)
-        (I.offer files.now) inputs.now builder.old.state builder.new.state) }
-{
-    let mut room = Vec::new(alloc);
-    for input in inputs {
-        take(alloc, files, builder, &mut room, *input, telling, err)?;
-    }
-    Ok(())
-}
-
-/// Takes an input, or where it is an archive that is to be opened the members of it.
-fn take<'o, 's: 'o, Sess: Session<RelocationEntry>, I: Inputs, E: Write>(
-    alloc: Global,
-    files: &I,
-    builder: &mut DwarfPackage<'o, 's, Sess>,
-    room: &mut Vec<u8>,
-    input: Input<'_>,
-    telling: Telling,
-    err: &mut E,
-) -> Result<(), Refusal>
-    ensures { OnOk result (TookAll (I.opens files.now) (I.plain files.now)
-        (I.offer files.now) input.entry builder.old.state builder.new.state) }
-{
-    match input {
-        Input::Object(path) if files.opens_archives() => {
-            take_opened(alloc, files, builder, room, path, telling, err)
-        }
-        _ => take_alone(alloc, files, builder, room, input, telling, err),
-    }
-}
-
-/// Takes an input that is no archive, and tells what came of it where that is asked for.
-fn take_alone<'o, 's: 'o, Sess: Session<RelocationEntry>, I: Inputs, E: Write>(
-    alloc: Global,
-    files: &I,
-    builder: &mut DwarfPackage<'o, 's, Sess>,
-    room: &mut Vec<u8>,
-    input: Input<'_>,
-    telling: Telling,
-    err: &mut E,
-) -> Result<(), Refusal>
-    ensures { OnOk result
-        (Took (I.offer files.now) input.entry builder.old.state (Ok tt) builder.new.state) }
-{
-    let before = builder.contained_units().len();
-    files.begin(input);
-    let outcome = take_input(builder, files, room, input);
-    let added = builder.contained_units().len().saturating_sub(before);
-    if let Err(fault) = outcome {
-        let room = room.as_slice();
-        return Err(refused(alloc, files, input, room, fault, telling, err));
-    }
-    told(alloc, files, input, added, telling, err)?;
-    Ok(())
 }

@@ -1,5 +1,5 @@
 use Rattle.thorin_commands.proofs.Opened.{answers_alone}
-use Rattle.thorin_commands.proofs.packing.take.Goals as goal
+use Rattle.thorin_commands.proofs.taking.take.Goals as goal
 
 pub returns-in_default : goal.returns-in_default
 returns-in_default g c =

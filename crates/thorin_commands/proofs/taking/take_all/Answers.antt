@@ -5,7 +5,7 @@ use Rattle.thorin.specs.declared.packing.Input.TheVariants.{Object}
 use Rattle.thorin_commands.specs.Opened.{TookInputs}
 use Rattle.thorin_commands.proofs.Inputs.{taken-next}
 use Rattle.thorin_commands.proofs.Opened.{took_none, took_more}
-use Rattle.thorin_commands.proofs.packing.take_all.Goals as goal
+use Rattle.thorin_commands.proofs.taking.take_all.Goals as goal
 
 pub loop-input-init : goal.loop-input-init
 loop-input-init g c = took_none (g.I.Inputs.opens c.args.files.now)

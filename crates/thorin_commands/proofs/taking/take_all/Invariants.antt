@@ -1,6 +1,6 @@
 use Rattle.std.proofs.Common.{take}
 use Rattle.thorin_commands.specs.Opened.{TookInputs}
-use Rattle.thorin_commands.proofs.packing.take_all.Given as goal
+use Rattle.thorin_commands.proofs.taking.take_all.Given as goal
 
 -- the inputs so far were taken
 abbrev pub invariant-loop-input : goal.invariant-loop-input
