@@ -7,10 +7,11 @@ ghost use Rattle.dwp_archive.specs.View as view;
 ghost use Rattle.thorin_commands.specs.Archives.{is_split, split_contents};
 ghost use Rattle.thorin_commands.specs.Opened.{TookAll, TookEach, TookMembers, TookBytes};
 
-use crate::notes::note_refused;
+use crate::notes::place_of_member;
+use crate::origins::{Source, place_of_unit};
 use crate::output::Refusal;
-use crate::plain::Inputs;
-use crate::telling::{Telling, refused, tell_fault, told, warn_of};
+use crate::reading::Inputs;
+use crate::telling::{Before, Refused, Telling, note_place, refusal, tell_fault, told, warn_of};
 use dwp_archive::{ArchiveError, Member, members};
 use dwp_bytes::RelocationEntry;
 use dwp_elf::ElfFile;
@@ -60,7 +61,15 @@ pub(crate) fn take_opened<'o, 's: 'o, Sess: Session<RelocationEntry>, I: Inputs,
     files.begin(input);
     match files.read_into(path, room) {
         Ok(bytes) => take_read(alloc, files, builder, path, bytes, telling, err),
-        Err(e) => Err(refused(alloc, files, input, &[], fault_of(e), telling, err)),
+        Err(e) => {
+            let refused = Refused {
+                input,
+                room: &[],
+                before: None,
+                fault: fault_of(e),
+            };
+            Err(refusal(alloc, files, refused, telling, err))
+        }
     }
 }
 
@@ -116,10 +125,26 @@ fn take_object<'o, 's: 'o, Sess: Session<RelocationEntry>, I: Inputs, E: Write>(
     let before = builder.contained_units().len();
     match take_bytes(alloc, files, builder, bytes) {
         Ok(()) => {}
-        Err(fault) => return Err(refused(alloc, files, input, bytes, fault, telling, err)),
+        Err(fault) => {
+            let refused = Refused {
+                input,
+                room: bytes,
+                before: place_of_unit(builder, &fault),
+                fault,
+            };
+            return Err(refusal(alloc, files, refused, telling, err));
+        }
     }
-    let added = builder.contained_units().len().saturating_sub(before);
-    told(alloc, files, input, added, telling, err)?;
+    let after = builder.contained_units().len();
+    files.keep_taken(Source::Object(path.path_text()), after);
+    told(
+        alloc,
+        files,
+        input,
+        after.saturating_sub(before),
+        telling,
+        err,
+    )?;
     Ok(())
 }
 
@@ -233,8 +258,15 @@ fn take_split<'o, 's: 'o, Sess: Session<RelocationEntry>, I: Inputs, E: Write>(
         return Ok(false);
     }
     match take_content(place.alloc, files, builder, content) {
-        Ok(()) => Ok(true),
-        Err(fault) => Err(member_refused(files, member.name(), place, fault, err)),
+        Ok(()) => {
+            let source = Source::Member(place.path.path_text(), member.name());
+            files.keep_taken(source, builder.contained_units().len());
+            Ok(true)
+        }
+        Err(fault) => {
+            let before = place_of_unit(builder, &fault);
+            Err(member_refused(files, member.name(), place, before, fault, err))
+        }
     }
 }
 
@@ -275,6 +307,7 @@ fn member_refused<I: Inputs, E: Write>(
     files: &I,
     name: &[u8],
     place: Place<'_>,
+    before: Option<usize>,
     fault: Error,
     err: &mut E,
 ) -> Refusal {
@@ -288,24 +321,18 @@ fn member_refused<I: Inputs, E: Write>(
         let _ = tell_fault(place.alloc, err, &fault);
     }
     if place.telling.notes {
-        if let Ok(text) = place.of_member(name) {
+        if let Ok(text) = place_of_member(place.alloc, place.path.path_text(), name) {
             let text = text.as_str();
             if overlap {
                 let _ = writeln!(err, "note: {text}: --allow-overlap packs it");
             } else {
-                note_refused(text, &fault, files.decompresses(), err);
+                let before = Before {
+                    place: before,
+                    executable: None,
+                };
+                note_place(place.alloc, files, &fault, text, before, err);
             }
         }
     }
     Refusal::Told
-}
-
-impl Place<'_> {
-    /// A member of the archive, as it is printed.
-    fn of_member(&self, name: &[u8]) -> Result<String, AllocError> {
-        let archive = printed(self.alloc, self.path.path_text())?;
-        let name = String::from_utf8_lossy(self.alloc, name)?;
-        let name = printed(self.alloc, name.as_str())?;
-        format!(in self.alloc; "{archive}({name})")
-    }
 }

@@ -3,15 +3,18 @@
 #![tactic(auto)]
 
 mod archives;
+mod encodings;
 mod files;
 mod macros;
 mod missing;
 mod notes;
+mod origins;
 mod output;
 mod overlap;
 mod packing;
 mod plain;
 mod prefixes;
+mod reading;
 mod taking;
 mod telling;
 mod warnings;

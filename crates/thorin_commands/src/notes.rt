@@ -33,6 +33,18 @@ pub(crate) fn place_of(
     }
 }
 
+/// A member of an archive, as it is printed.
+pub(crate) fn place_of_member(
+    alloc: Global,
+    archive: &str,
+    name: &[u8],
+) -> Result<String, AllocError> {
+    let archive = printed(alloc, archive)?;
+    let name = String::from_utf8_lossy(alloc, name)?;
+    let name = printed(alloc, name.as_str())?;
+    format!(in alloc; "{archive}({name})")
+}
+
 /// Why a file can't be read or written, in the system's words without its number for them.
 ///
 /// # Errors
@@ -63,6 +75,18 @@ pub(crate) fn note_refused<E: Write>(place: &str, fault: &Error, decompresses: b
     let cause = Cause(fault);
     let advice = advice_on(fault, decompresses);
     let _ = writeln!(err, "note: {place}{cause}{advice}");
+}
+
+/// Prints the note on an input that has a unit which the package has already, and on what brought
+/// that: another input, or none where the unit stands twice in this one.
+pub(crate) fn note_duplicate<E: Write>(unit: u64, place: &str, before: Option<&str>, err: &mut E) {
+    let _ = match before {
+        Some(before) => writeln!(
+            err,
+            "note: unit 0x{unit:08x}: {place}, and before it {before}"
+        ),
+        None => writeln!(err, "note: unit 0x{unit:08x}: twice in {place}"),
+    };
 }
 
 /// What can be done about a fault, if anything.

@@ -15,7 +15,8 @@ ghost use Rattle.thorin_commands.specs.Packing.{IsPackageFor, IsPackedFrom, Fail
 use crate::files::FileSystem;
 use crate::missing::leave_out;
 use crate::output::{Refusal, write_package};
-use crate::plain::{InputFiles, Inputs};
+use crate::plain::InputFiles;
+use crate::reading::Inputs;
 use crate::taking::take_all;
 use crate::telling::{Telling, tell_fault, tell_unfinished};
 use crate::warnings::{Warned, Warnings, warn};

@@ -1,20 +1,23 @@
 //! The inputs of `pack`, decompressed and with the last macros alone where that is asked for.
 
-ghost use Rattle.std.specs.Prelude.{◌≡◌, ◌⊎◌, Bool, IsTrue, IfOk, IfSome, OnOk, IfErr};
+ghost use Rattle.std.specs.Prelude.{◌≡◌, ◌⊎◌, IsTrue, IfOk, IfSome, OnOk, IfErr};
 ghost use Rattle.std.specs.Prelude.{string_bytes};
 ghost use Rattle.std.specs.Path.{path_bytes};
 ghost use Rattle.thorin_faults.specs.Sessions.{IsNoWantOfMemory};
-ghost use Rattle.thorin_commands.specs.Archives.{IsTakenFor, or_content};
+ghost use Rattle.thorin_commands.specs.Archives.{or_content};
 ghost use Rattle.thorin_commands.specs.Packing.{IsAmong, StandsAt, paths_in, through};
 ghost use Rattle.thorin_commands.specs.Plain.{IsPlainOf, IsReadOver, taken_from, last_from};
 ghost use Rattle.thorin_commands.specs.Prefixes.{mapped as mapped_path};
 
+use crate::encodings::Encodings;
 use crate::files::FileSystem;
 use crate::macros::{MacroWarnings, keep_last_macros};
 use crate::notes::{Unread, place_of, reason};
+use crate::origins::{Origin, Origins, Source};
 use crate::overlap::has_overlap;
 use crate::packing::{Packing, paths_in};
 use crate::prefixes::mapped;
+use crate::reading::Inputs;
 use crate::warnings::Warnings;
 use dwp_decompress::{DecompressError, decompressed};
 use std::alloc::{AllocError, Global};
@@ -24,58 +27,6 @@ use std::path::{AsPath, Path};
 use thorin::{Input, InputReader};
 use thorin_faults::InputError;
 use thorin_queries::Failure;
-
-/// What reads inputs, and tells of them.
-pub(crate) trait Inputs: InputReader {
-    /// Begins an input: the next read is that of its own path. Those behind it are of objects that
-    /// the input names, and these must be regular files: a read of another may wait for ever.
-    fn begin(&self, input: Input<'_>);
-
-    /// Begins an input a second time, for what is told of it: what is no regular file isn't read.
-    fn begin_again(&self, input: Input<'_>);
-
-    // Whether archives are opened, and whether what is read is decompressed.
-    ghost opens: { Self → Bool };
-
-    ghost plain: { Self → Bool };
-
-    /// Whether archives are opened.
-    fn opens_archives(&self) -> bool
-        ensures { result ≡ opens self.now };
-
-    /// The plain bytes that are taken for the content of an archive's member; none where it is
-    /// taken as it is.
-    ///
-    /// # Errors
-    /// `Memory`, also where the sections of the content overlap.
-    fn plain_member(&self, content: &[u8]) -> Result<Option<Vec<u8>>, AllocError>
-        ensures { IfOk result (λ taken. IsTakenFor (plain self.now) content.now
-            (or_content content.now taken)) };
-
-    /// Whether compressed sections are decompressed.
-    fn decompresses(&self) -> bool;
-
-    /// How many units an object has that was accepted.
-    ///
-    /// # Errors
-    /// As those of `FileSystem::unit_count`.
-    fn unit_count(&self, name: &str) -> Result<Option<usize>, Failure>;
-
-    /// The path that the input names and that was read last; none where none was.
-    fn last_named(&self) -> Option<String>;
-
-    /// The path at which an object is read that an executable names: its prefix is replaced.
-    fn mapped(&self, named: &str) -> Result<String, AllocError>;
-
-    /// Why an object can't be read at a path, none where it can: it must be a regular file.
-    fn unreadable(&self, path: &str) -> Result<Option<String>, AllocError>;
-
-    /// The first of the reads that failed.
-    fn first_unread(&self) -> Option<Unread>;
-
-    /// Whether a file of the input was refused since its sections overlap.
-    fn found_overlap(&self) -> bool;
-}
 
 /// Files as inputs.
 #[derive(Drop)]
@@ -102,6 +53,9 @@ pub(crate) struct InputFiles<'f, F> {
     own: Cell<Option<String>>,
     named: Cell<Option<String>>,
     unread: Cell<Option<Unread>>,
+    /// What was taken so far, and the encodings of what was read, where notes are printed.
+    origins: Origins,
+    encodings: Encodings,
     /// Whether a file may have sections that overlap.
     allows_overlap: bool,
     /// Whether the input is an executable.
@@ -138,6 +92,8 @@ impl<'f, F: FileSystem> InputFiles<'f, F> {
             own: Cell::new(None),
             named: Cell::new(None),
             unread: Cell::new(None),
+            origins: Origins::new(alloc, packing.notes),
+            encodings: Encodings::new(alloc, packing.notes),
             allows_overlap: packing.allows_overlap,
             is_executable: Cell::new(false),
             overlap: Cell::new(false),
@@ -285,6 +241,27 @@ impl<F: FileSystem> InputFiles<'_, F> {
         }
     }
 
+    /// Looks at the encoding of the file at a path, for notes.
+    fn look_at_encoding(&self, path: &str, file: &[u8]) {
+        let own = self.own.replace(None);
+        match &own {
+            Some(own) if own.as_str() != path => {
+                self.encodings.look_at(file, own.as_str(), Some(path));
+            }
+            _ => self.encodings.look_at(file, path, None),
+        }
+        self.own.set(own);
+    }
+
+    /// The same of a member of the input, which is told of by the input's path.
+    fn look_at_member(&self, content: &[u8]) {
+        let own = self.own.replace(None);
+        if let Some(own) = &own {
+            self.encodings.look_at(content, own.as_str(), None);
+        }
+        self.own.set(own);
+    }
+
     /// Looks for several sections of macros in the file at a path, where that is to be warned of.
     fn look_for_macros(&self, path: &str, file: &[u8]) -> Result<(), AllocError> {
         let own = self.own.replace(None);
@@ -320,6 +297,7 @@ impl<F: FileSystem> InputReader for InputFiles<'_, F> {
             Err(InputError::Io(cause)) => return Err(InputError::Io(cause)),
             Err(InputError::Memory) => return Err(InputError::Memory),
         }
+        self.look_at_encoding(path.path_text(), room);
         if !self.keeps_last_macros {
             return match self.look_for_macros(path.path_text(), room) {
                 Ok(()) => Ok(room.as_slice()),
@@ -347,6 +325,7 @@ impl<F: FileSystem> Inputs for InputFiles<'_, F> {
         if self.overlaps(false, content) {
             return Err(AllocError);
         }
+        self.look_at_member(content);
         if self.decompresses {
             plain_of(self.alloc, content)
         } else {
@@ -399,6 +378,18 @@ impl<F: FileSystem> Inputs for InputFiles<'_, F> {
 
     fn found_overlap(&self) -> bool {
         self.overlap.get()
+    }
+
+    fn keep_taken(&self, source: Source<'_>, count: usize) {
+        self.origins.keep(source, count);
+    }
+
+    fn origin_of(&self, place: usize) -> Option<Origin> {
+        self.origins.of(place)
+    }
+
+    fn encoding_notes(&self) -> Result<Option<String>, AllocError> {
+        self.encodings.notes()
     }
 }
 

@@ -5,12 +5,14 @@ ghost use Rattle.thorin.specs.Run.{Took};
 ghost use Rattle.thorin_commands.specs.Opened.{TookAll, TookInputs};
 
 use crate::archives::take_opened;
+use crate::origins::{Source, place_of_unit};
 use crate::output::Refusal;
-use crate::plain::Inputs;
-use crate::telling::{Telling, refused, told};
+use crate::reading::Inputs;
+use crate::telling::{Refused, Telling, refusal, told};
 use dwp_bytes::RelocationEntry;
 use std::alloc::Global;
 use std::io::Write;
+use std::path::AsPath;
 use thorin::{DwarfPackage, Input, take_input};
 use thorin_faults::Session;
 
@@ -72,9 +74,24 @@ fn take_alone<'o, 's: 'o, Sess: Session<RelocationEntry>, I: Inputs, E: Write>(
     let outcome = take_input(builder, files, room, input);
     let added = builder.contained_units().len().saturating_sub(before);
     if let Err(fault) = outcome {
-        let room = room.as_slice();
-        return Err(refused(alloc, files, input, room, fault, telling, err));
+        let refused = Refused {
+            input,
+            room: room.as_slice(),
+            before: place_of_unit(builder, &fault),
+            fault,
+        };
+        return Err(refusal(alloc, files, refused, telling, err));
     }
+    keep_taken(files, input, builder.contained_units().len());
     told(alloc, files, input, added, telling, err)?;
     Ok(())
+}
+
+/// Keeps for notes an input that was taken.
+fn keep_taken<I: Inputs>(files: &I, input: Input<'_>, count: usize) {
+    match input {
+        Input::Object(path) => files.keep_taken(Source::Object(path.path_text()), count),
+        Input::Executable(path, _) => files.keep_taken(Source::Executable(path.path_text()), count),
+        Input::Bytes(_) => {}
+    }
 }

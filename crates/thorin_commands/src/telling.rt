@@ -2,15 +2,17 @@
 
 ghost use Rattle.std.specs.Prelude.{◌≡◌};
 
-use crate::notes::{note_refused, note_unread, place_of};
+use crate::notes::{note_duplicate, note_refused, note_unread, place_of};
+use crate::origins::Origin;
 use crate::output::Refusal;
-use crate::plain::Inputs;
+use crate::reading::Inputs;
 use bumpalo::Bump;
+use dwp_table::{DwarfObject, DwoId};
 use std::alloc::{AllocError, Global};
 use std::io::Write;
 use std::path::{AsPath, Path};
 use thorin::{BytesSession, DwarfPackage, Input, SkeletonUnits};
-use thorin_faults::Error;
+use thorin_faults::{Error, MissingReferencedObjectBehaviour};
 use thorin_queries::{Failure, tell_taken};
 use thorin_words::printed;
 
@@ -105,26 +107,35 @@ fn has_units(alloc: Global, bytes: &[u8]) -> bool {
     }
 }
 
+/// An input that was refused.
+#[derive(Drop)]
+pub(crate) struct Refused<'a> {
+    pub(crate) input: Input<'a>,
+    /// What was read last.
+    pub(crate) room: &'a [u8],
+    /// Where among the package's units the one stands that the input has too, if that is the fault.
+    pub(crate) before: Option<usize>,
+    pub(crate) fault: Error,
+}
+
 /// What becomes of a refused input: it is told here where more is to be said than the error, else
-/// left to be told. `room` holds what was read last.
-pub(crate) fn refused<I: Inputs, E: Write>(
+/// left to be told.
+pub(crate) fn refusal<I: Inputs, E: Write>(
     alloc: Global,
     inputs: &I,
-    input: Input<'_>,
-    room: &[u8],
-    fault: Error,
+    refused: Refused<'_>,
     telling: Telling,
     err: &mut E,
 ) -> Refusal {
     if inputs.found_overlap() {
-        tell_overlap(alloc, inputs, input, telling, err);
+        tell_overlap(alloc, inputs, refused.input, telling, err);
         return Refusal::Told;
     }
     if telling.notes {
-        tell_refused(alloc, inputs, input, room, &fault, err);
+        tell_refused(alloc, inputs, &refused, err);
         return Refusal::Told;
     }
-    Refusal::Package(fault)
+    Refusal::Package(refused.fault)
 }
 
 /// Prints that the sections of a file overlap, and where that is asked for of which.
@@ -147,18 +158,137 @@ fn tell_overlap<I: Inputs, E: Write>(
 fn tell_refused<I: Inputs, E: Write>(
     alloc: Global,
     inputs: &I,
-    input: Input<'_>,
-    room: &[u8],
-    fault: &Error,
+    refused: &Refused<'_>,
     err: &mut E,
 ) {
+    let fault = &refused.fault;
     let _ = tell_fault(alloc, err, fault);
     if let Error::ReadInput(_) = fault {
         if let Some(unread) = inputs.first_unread() {
             note_unread(&unread, err);
         }
-    } else if let Ok(Some(place)) = place_of_refused(alloc, inputs, input, room, fault) {
-        note_refused(place.as_str(), fault, inputs.decompresses(), err);
+        return;
+    }
+    let place = place_of_refused(alloc, inputs, refused.input, refused.room, fault);
+    if let Ok(Some(place)) = place {
+        let before = Before {
+            place: refused.before,
+            executable: executable_of(refused.input),
+        };
+        note_place(alloc, inputs, fault, place.as_str(), before, err);
+    }
+}
+
+/// Prints the note on what was refused, an input or a member of one.
+pub(crate) fn note_place<I: Inputs, E: Write>(
+    alloc: Global,
+    inputs: &I,
+    fault: &Error,
+    place: &str,
+    before: Before<'_>,
+    err: &mut E,
+) {
+    match fault {
+        Error::DuplicateUnit(unit) => note_twice(alloc, inputs, *unit, place, before, err),
+        Error::MixedInputEncodings => note_encodings(inputs, Some(place), err),
+        _ => note_refused(place, fault, inputs.decompresses(), err),
+    }
+}
+
+/// The path of an executable.
+fn executable_of(input: Input<'_>) -> Option<Path<'_>> {
+    match input {
+        Input::Executable(path, _) => Some(path),
+        _ => None,
+    }
+}
+
+/// What is known of a unit that a package has.
+#[derive(Clone, Copy)]
+pub(crate) struct Before<'a> {
+    /// Its place among the package's units; none where the package hasn't it.
+    pub(crate) place: Option<usize>,
+    /// The executable that is an input now.
+    pub(crate) executable: Option<Path<'a>>,
+}
+
+/// Prints the note on a unit that an input has, and that the package has already or the input twice.
+fn note_twice<I: Inputs, E: Write>(
+    alloc: Global,
+    inputs: &I,
+    unit: u64,
+    place: &str,
+    before: Before<'_>,
+    err: &mut E,
+) {
+    let Some(first) = before.place else {
+        note_duplicate(unit, place, None, err);
+        return;
+    };
+    let first = match inputs.origin_of(first) {
+        Some(Origin::Place(first)) => Ok(Some(first)),
+        Some(Origin::Executable(path)) => named_with(alloc, inputs, path.as_str(), unit),
+        None => match before.executable {
+            Some(path) => named_with(alloc, inputs, path.path_text(), unit),
+            None => Ok(None),
+        },
+    };
+    if let Ok(Some(first)) = first {
+        note_duplicate(unit, place, Some(first.as_str()), err);
+    } else {
+        let _ = writeln!(err, "note: {place}");
+    }
+}
+
+/// The object of an executable that was taken for a compilation unit: the first that it names for
+/// it. The executable is read a second time for that.
+fn named_with<I: Inputs>(
+    alloc: Global,
+    inputs: &I,
+    executable: &str,
+    unit: u64,
+) -> Result<Option<String>, AllocError> {
+    let path = Path::new(executable);
+    let mut room = Vec::new(alloc);
+    inputs.begin_again(Input::Executable(path, MissingReferencedObjectBehaviour::Skip));
+    let named = match inputs.read_into(path, &mut room) {
+        Ok(bytes) => path_for(alloc, bytes, unit),
+        Err(_) => None,
+    };
+    let place = match &named {
+        Some(named) => {
+            let mapped = inputs.mapped(named.as_str())?;
+            place_of(alloc, executable, Some(mapped.as_str()))
+        }
+        None => place_of(alloc, executable, None),
+    };
+    Ok(Some(place?))
+}
+
+/// The path that an executable's bytes name first for a compilation unit.
+fn path_for(alloc: Global, executable: &[u8], unit: u64) -> Option<String> {
+    let bump = Bump::new(alloc);
+    let session = BytesSession::new(&bump);
+    let mut units = SkeletonUnits::read(alloc, &session, executable).ok()?;
+    while let Ok(Some(skeleton)) = units.next() {
+        if skeleton.target == DwarfObject::Compilation(DwoId(unit)) {
+            return Some(skeleton.path);
+        }
+    }
+    None
+}
+
+/// Prints a note for each encoding of the inputs, with the first input of each; of a place alone
+/// where there are not several.
+fn note_encodings<I: Inputs, E: Write>(inputs: &I, place: Option<&str>, err: &mut E) {
+    match (inputs.encoding_notes(), place) {
+        (Ok(Some(lines)), _) => {
+            let _ = err.write_all(lines.as_bytes());
+        }
+        (_, Some(place)) => {
+            let _ = writeln!(err, "note: {place}");
+        }
+        _ => {}
     }
 }
 
@@ -209,7 +339,7 @@ fn is_of_object(alloc: Global, fault: &Error, object: &[u8]) -> bool {
 }
 
 /// Prints why the package can't be finished, and where that is asked for which object couldn't be
-/// read.
+/// read, or which encodings the inputs have.
 pub(crate) fn tell_unfinished<I: Inputs, E: Write>(
     alloc: Global,
     inputs: &I,
@@ -218,12 +348,17 @@ pub(crate) fn tell_unfinished<I: Inputs, E: Write>(
     err: &mut E,
 ) {
     let _ = tell_fault(alloc, err, fault);
-    if let Error::MissingReferencedUnit(_) = fault {
-        if telling.notes {
+    if !telling.notes {
+        return;
+    }
+    match fault {
+        Error::MissingReferencedUnit(_) => {
             if let Some(unread) = inputs.first_unread() {
                 note_unread(&unread, err);
             }
         }
+        Error::MixedInputEncodings => note_encodings(inputs, None, err),
+        _ => {}
     }
 }
 

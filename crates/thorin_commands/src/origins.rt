@@ -1,0 +1,100 @@
+//! Which input brought a unit of the package.
+
+use crate::notes::{place_of, place_of_member};
+use dwp_bytes::RelocationEntry;
+use dwp_table::{DwarfObject, DwoId};
+use std::alloc::{AllocError, Global};
+use std::cell::Cell;
+use thorin::DwarfPackage;
+use thorin_faults::{Error, Session};
+
+/// What was taken.
+#[derive(Clone, Copy)]
+pub(crate) enum Source<'a> {
+    /// The object at a path.
+    Object(&'a str),
+    /// The objects that the executable at a path names.
+    Executable(&'a str),
+    /// A member of the archive at a path, by its name.
+    Member(&'a str, &'a [u8]),
+}
+
+/// An input, or a member of one, that brought units.
+#[derive(Drop)]
+pub(crate) enum Origin {
+    /// An object or a member, as it is printed.
+    Place(String),
+    /// The objects that the executable at a path names.
+    Executable(String),
+}
+
+/// What was taken, in order, each with the number of units that the package had then: kept for
+/// notes.
+#[derive(Drop)]
+pub(crate) struct Origins {
+    alloc: Global,
+    /// None where that isn't kept, or there was no memory for it.
+    taken: Cell<Option<Vec<(usize, Origin)>>>,
+}
+
+impl Origins {
+    /// Nothing yet.
+    pub(crate) fn new(alloc: Global, keeps: bool) -> Origins {
+        let taken = if keeps { Some(Vec::new(alloc)) } else { None };
+        Origins {
+            alloc,
+            taken: Cell::new(taken),
+        }
+    }
+
+    /// Keeps what was taken, and how many units the package has now. Where there is no memory for
+    /// it, nothing is kept any more.
+    pub(crate) fn keep(&self, source: Source<'_>, count: usize) {
+        if let Some(taken) = self.taken.replace(None) {
+            self.taken
+                .set(with_source(self.alloc, taken, source, count).ok());
+        }
+    }
+
+    /// What brought the unit at a place among the package's; none where that isn't known. Asked for
+    /// once.
+    pub(crate) fn of(&self, place: usize) -> Option<Origin> {
+        let taken = self.taken.replace(None)?;
+        for (count, origin) in taken {
+            if place < count {
+                return Some(origin);
+            }
+        }
+        None
+    }
+}
+
+/// What was taken, and what is taken now.
+fn with_source(
+    alloc: Global,
+    mut taken: Vec<(usize, Origin)>,
+    source: Source<'_>,
+    count: usize,
+) -> Result<Vec<(usize, Origin)>, AllocError> {
+    let origin = match source {
+        Source::Object(path) => Origin::Place(place_of(alloc, path, None)?),
+        Source::Executable(path) => Origin::Executable(String::from_str(alloc, path)?),
+        Source::Member(archive, name) => Origin::Place(place_of_member(alloc, archive, name)?),
+    };
+    taken.push((count, origin))?;
+    Ok(taken)
+}
+
+/// Where among the package's units the one stands that an input has too, of which a fault tells.
+pub(crate) fn place_of_unit<'o, 's: 'o, Sess: Session<RelocationEntry>>(
+    builder: &DwarfPackage<'o, 's, Sess>,
+    fault: &Error,
+) -> Option<usize> {
+    match fault {
+        Error::DuplicateUnit(id) => {
+            let unit = DwarfObject::Compilation(DwoId(*id));
+            builder.contained_units().get_index_of(&unit)
+        }
+        _ => None,
+    }
+}
