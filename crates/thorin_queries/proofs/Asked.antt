@@ -1,5 +1,5 @@
 -- What words ask for.
-use Rattle.std.proofs.Common.{◌≡◌, ◌≢◌, ◌∙◌, ℕ, List, ◌++◌, inl, inr, refl, sym, ap}
+use Rattle.std.proofs.Common.{◌≢◌, ◌∙◌, ℕ, List, ◌++◌, inl, inr, refl, sym, ap}
 use Rattle.std.specs.Prelude.{codes, None}
 use Rattle.std.specs.Str.Pattern.{FindsTextPrefix, StripsPrefix}
 use Rattle.dwp_base.specs.declared.section.SectionKind.{SectionKind}

@@ -4,6 +4,7 @@ use Rattle.std.proofs.Common.{subst}
 use Rattle.std.proofs.Common.{inl, inr, arith, min, ◌+◌, ◌-◌, ◌^◌}
 use Rattle.std.specs.List.{range_with_len}
 use Rattle.std.proofs.lemmas.List.FromFn.{map-range_with_len_more}
+use Rattle.thorin_queries.specs.Ends.{fault_of}
 use Rattle.thorin_queries.specs.Finding.{string_count}
 use Rattle.thorin_queries.specs.Faults.{string_of}
 use Rattle.std.specs.Prelude.{Option, Some, None, Result, Ok, Err}
@@ -158,12 +159,22 @@ module _ (pack : Package) (entry : UnitEntry) (a : Option (List ℕ)) (held : Li
 
 -- ---- strings
 
-pub string_read : (object : DwarfObject) (i : ℕ) (read : Result (Option (List ℕ)) ReadError)
-    (string : Option (List ℕ)) (a : Option (List ℕ)) (held : List ℕ) → read ≡ Ok string
+pub string_fine : (object : DwarfObject) (i : ℕ) (read : Result (Option (List ℕ)) ReadError)
+    (a : Option (List ℕ)) (held : List ℕ) → None ≡ fault_of read
     → Told (TellsString object i read) a held a held 0
-string_read object i read string a held e =
-    subst (λ r. Told (TellsString object i r) a held a held 0) (sym e)
-    (none_told (TellsString object i (Ok string)) refl a held)
+string_fine object i (Ok string) a held e =
+    none_told (TellsString object i (Ok string)) refl a held
+string_fine object i (Err cause) a held e = absurd cc
+
+pub string_faulty : (object : DwarfObject) (i : ℕ) (read : Result (Option (List ℕ)) ReadError)
+    (fault : ReadError) (a : Option (List ℕ)) (held : List ℕ) (b : Option (List ℕ))
+    (left : List ℕ) (result : Result ℕ Failure) → Some fault ≡ fault_of read
+    → Tells (TellsString object i (Err fault)) a held b left result
+    → Tells (TellsString object i read) a held b left result
+string_faulty object i (Ok string) fault a held b left result e h = absurd cc
+string_faulty object i (Err cause) fault a held b left result e h =
+    let same : fault ≡ cause = cc in
+    subst (λ c. Tells (TellsString object i (Err c)) a held b left result) same h
 
 module _ (object : DwarfObject) (looked : Result (Option FoundUnit) PackageError)
     (a : Option (List ℕ)) (held : List ℕ) where

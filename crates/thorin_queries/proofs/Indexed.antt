@@ -214,11 +214,18 @@ has_indexes file bytes pack e p =
 
 -- the strings that were read for a package are its own
 pub has_strings : (file : Elf) (bytes strings : List ℕ) (order : Endianness)
-    → elf_of bytes ≡ Ok file → order ≡ file.order
-    → ((bs : List ℕ) → content_among file.sections Str ≡ Ok bs → strings ≡ bs) → (pack : Package)
+    → elf_of bytes ≡ Ok file
+    → ((pack : Package) → HasIndexes file pack
+    → (order ≡ pack.order) × (strings ≡ pack.contents.strings)) → (pack : Package)
     → package_of bytes ≡ Ok pack → (order ≡ pack.order) × (strings ≡ pack.contents.strings)
-has_strings file bytes strings order e same told pack p =
-    let has = has_indexes file bytes pack e p in
+has_strings file bytes strings order e told pack p =
+    told pack (has_indexes file bytes pack e p)
+
+-- the strings of a file are those of its package
+pub file_strings : (file : Elf) (strings : List ℕ) (order : Endianness) → order ≡ file.order
+    → ((bs : List ℕ) → content_among file.sections Str ≡ Ok bs → strings ≡ bs) → (pack : Package)
+    → HasIndexes file pack → (order ≡ pack.order) × (strings ≡ pack.contents.strings)
+file_strings file strings order same told pack has =
     (same ∙ sym has.order, told pack.contents.strings has.strings)
 
 -- bytes that are no file are no package

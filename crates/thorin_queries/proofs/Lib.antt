@@ -10,6 +10,7 @@ mod Lines
 mod Listed
 mod Naming
 mod Printed
+mod Reached
 mod Skeletons
 mod Spelling
 mod Told

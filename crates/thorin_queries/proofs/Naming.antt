@@ -1,5 +1,5 @@
 -- What is read at most.
-use Rattle.std.proofs.Common.{◌≡◌, ◌∙◌, ◌⊎◌, inl, inr, ⊎_elim, ℕ, ◌<◌, ◌≤◌, length, refl, sym, ap}
+use Rattle.std.proofs.Common.{◌≡◌, ◌∙◌, ◌⊎◌, inl, inr, ⊎_elim, ℕ, ◌<◌, ◌≤◌, length, sym, ap}
 use Rattle.std.proofs.Common.{arith}
 use Rattle.std.specs.Prelude.{Err}
 use Rattle.std.proofs.lemmas.Bool.{le-ltb, cases_order}

@@ -1,5 +1,6 @@
 pub mod Answers
 pub mod Checking
+pub mod Ends
 pub mod Faults
 pub mod Finding
 pub mod Indexes

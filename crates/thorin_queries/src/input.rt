@@ -110,14 +110,21 @@ pub(crate) fn strings_in(bytes: &[u8]) -> Strings<'_>
     ensures { (pack : Package) → package_of bytes.now ≡ Ok pack → HasStrings result pack }
 {
     match ElfFile::parse(bytes) {
-        Ok(file) => Strings {
-            order: file.endianness(),
-            bytes: contents_of(&file, SectionKind::Str),
-        },
+        Ok(file) => strings_of(&file),
         Err(_) => Strings {
             order: Endianness::Little,
             bytes: &[],
         },
+    }
+}
+
+/// The strings of a file.
+pub(crate) fn strings_of<'a>(file: &ElfFile<'a>) -> Strings<'a>
+    ensures { (pack : Package) → HasIndexes (elf file.now) pack → HasStrings result pack }
+{
+    Strings {
+        order: file.endianness(),
+        bytes: contents_of(file, SectionKind::Str),
     }
 }
 

@@ -5,6 +5,7 @@
 mod abbreviations;
 mod checking;
 mod describing;
+mod ends;
 mod executables;
 mod faults;
 mod files;

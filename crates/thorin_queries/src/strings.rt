@@ -3,10 +3,12 @@
 ghost use Rattle.std.specs.Prelude.{◌≡◌, ℕ, List, Err, IfOk, string_bytes};
 ghost use Rattle.dwp_index.specs.Package.{found};
 ghost use Rattle.thorin_queries.specs.Checking.{TellsSomeStrings};
+ghost use Rattle.thorin_queries.specs.Ends.{HasEnds};
 ghost use Rattle.thorin_queries.specs.Faults.{TellsStringsOf, TellsStrings, TellsString};
 ghost use Rattle.thorin_queries.specs.Faults.{string_of, string_text};
 ghost use Rattle.thorin_queries.specs.Telling.{Tells, ForEach};
 
+use crate::ends::Ends;
 use crate::faults::tell;
 use crate::finding::string_count;
 use crate::output::Failure;
@@ -51,10 +53,12 @@ fn string_range(unit: &PackagedUnit<'_>) -> Option<StringRange> {
 #[tactic(auto, using(crate::proofs::Faulted::some_strings, crate::proofs::Told::none_grown))]
 pub(crate) fn check_strings<O: Write>(
     pack: &PackageFile<'_>,
+    ends: Ends,
     strings: &mut Vec<(StringRange, DwarfObject)>,
     waiting: &mut String,
     out: &mut O,
 ) -> Result<u64, Failure>
+    requires { HasEnds ends pack.now.order pack.now.contents.strings }
     ensures { Tells (TellsSomeStrings pack.now) (O.contents out.old) (string_bytes waiting.old)
         (O.contents out.new) (string_bytes waiting.new) result }
 {
@@ -63,23 +67,25 @@ pub(crate) fn check_strings<O: Write>(
         Err(_) => return Err(Failure::Memory),
     }
     strings.dedup_by_key(|(range, _)| *range);
-    check_distinct(pack, strings.as_slice(), waiting, out)
+    check_distinct(pack, ends, strings.as_slice(), waiting, out)
 }
 
 /// Checks the strings of these units. Answers the number of faults.
 fn check_distinct<O: Write>(
     pack: &PackageFile<'_>,
+    ends: Ends,
     strings: &[(StringRange, DwarfObject)],
     waiting: &mut String,
     out: &mut O,
 ) -> Result<u64, Failure>
+    requires { HasEnds ends pack.now.order pack.now.contents.strings }
     ensures { Tells (ForEach (λ s. TellsStringsOf s.1 (found pack.now s.1)) strings.now)
         (O.contents out.old) (string_bytes waiting.old) (O.contents out.new)
         (string_bytes waiting.new) result }
 {
     let mut faults = 0u64;
     for i in 0..strings.len() {
-        match check_strings_of(pack, strings[i].1, waiting, out) {
+        match check_strings_of(pack, ends, strings[i].1, waiting, out) {
             Ok(found) => faults = faults.saturating_add(found),
             Err(failure) => return Err(failure),
         }
@@ -91,33 +97,37 @@ fn check_distinct<O: Write>(
 #[tactic(auto, using(crate::proofs::Faulted::strings_none, crate::proofs::Faulted::strings_unread, crate::proofs::Faulted::strings_some))]
 fn check_strings_of<O: Write>(
     pack: &PackageFile<'_>,
+    ends: Ends,
     object: DwarfObject,
     waiting: &mut String,
     out: &mut O,
 ) -> Result<u64, Failure>
+    requires { HasEnds ends pack.now.order pack.now.contents.strings }
     ensures { Tells (TellsStringsOf object (found pack.now object)) (O.contents out.old)
         (string_bytes waiting.old) (O.contents out.new) (string_bytes waiting.new) result }
 {
     match pack.find(object) {
-        Ok(Some(unit)) => check_each_string(object, &unit, waiting, out),
+        Ok(Some(unit)) => check_each_string(ends, object, &unit, waiting, out),
         Ok(None) => Ok(0),
         Err(_) => Ok(0),
     }
 }
 
-/// Reads each string of a unit. Answers the number of faults.
+/// Checks each string of a unit. Answers the number of faults.
 fn check_each_string<O: Write>(
+    ends: Ends,
     object: DwarfObject,
     unit: &PackagedUnit<'_>,
     waiting: &mut String,
     out: &mut O,
 ) -> Result<u64, Failure>
+    requires { HasEnds ends unit.now.order unit.now.contents.strings }
     ensures { Tells (TellsStrings object unit.now) (O.contents out.old)
         (string_bytes waiting.old) (O.contents out.new) (string_bytes waiting.new) result }
 {
     let mut faults = 0u64;
     for i in 0..string_count(unit) {
-        match check_string(object, unit, i, waiting, out) {
+        match check_string(ends, object, unit, i, waiting, out) {
             Ok(found) => faults = faults.saturating_add(found),
             Err(failure) => return Err(failure),
         }
@@ -125,21 +135,23 @@ fn check_each_string<O: Write>(
     Ok(faults)
 }
 
-/// Reads a string of a unit. Answers the number of faults.
-#[tactic(auto, using(crate::proofs::Faulted::string_read))]
+/// Checks a string of a unit: it can be read. Answers the number of faults.
+#[tactic(auto, using(crate::proofs::Faulted::string_fine, crate::proofs::Faulted::string_faulty))]
 fn check_string<O: Write>(
+    ends: Ends,
     object: DwarfObject,
     unit: &PackagedUnit<'_>,
     i: u64,
     waiting: &mut String,
     out: &mut O,
 ) -> Result<u64, Failure>
+    requires { HasEnds ends unit.now.order unit.now.contents.strings }
     ensures { Tells (TellsString object i (string_of unit.now i)) (O.contents out.old)
         (string_bytes waiting.old) (O.contents out.new) (string_bytes waiting.new) result }
 {
-    match unit.string(i) {
-        Ok(_) => Ok(0),
-        Err(fault) => tell_string(object, i, fault, waiting, out),
+    match ends.fault_of(unit, i) {
+        None => Ok(0),
+        Some(fault) => tell_string(object, i, fault, waiting, out),
     }
 }
 

@@ -7,16 +7,19 @@ ghost use Rattle.dwp_index.specs.declared.fault.PackageError.TheVariants as faul
 ghost use Rattle.thorin_queries.specs.Checking.{TellsUnits};
 ghost use Rattle.thorin_queries.specs.Faults.{TellsUnit, TellsFound, TellsOwn, IsUnread};
 ghost use Rattle.thorin_queries.specs.Faults.{IsSomeFault, fault_line, TellsInRow, IsOwnText};
+ghost use Rattle.thorin_queries.specs.Listing.{HasStrings};
 ghost use Rattle.thorin_queries.specs.Overlaps.{IsClash, overlap_text};
 ghost use Rattle.thorin_queries.specs.Telling.{Tells, ForEach, IsLine};
 
 use crate::abbreviations::{Own, Remembered};
+use crate::ends::Ends;
 use crate::faults::{tell, with_rest};
 use crate::finding::short_kind;
+use crate::names::Strings;
 use crate::output::Failure;
 use crate::overlaps::{Clash, Overlaps, Shares, overlap};
 use crate::strings::{StringRange, add_range, check_strings};
-use dwp_elf::{Endianness, SectionKind};
+use dwp_elf::SectionKind;
 use dwp_index::{PackageError, PackageFile, PackagedUnit, UnitEntry};
 use dwp_table::{Bucketable, DwarfObject};
 use std::alloc::{AllocError, Global};
@@ -28,16 +31,17 @@ use std::io::Write;
 pub(crate) fn check_units<O: Write>(
     alloc: Global,
     pack: &PackageFile<'_>,
-    order: Endianness,
+    strings: Strings<'_>,
     entries: &[UnitEntry],
     waiting: &mut String,
     out: &mut O,
 ) -> Result<u64, Failure>
+    requires { HasStrings strings pack.now }
     ensures { Tells (TellsUnits pack.now entries.now) (O.contents out.old)
         (string_bytes waiting.old) (O.contents out.new) (string_bytes waiting.new) result }
 {
     match Overlaps::find(alloc, pack, entries) {
-        Ok(overlaps) => check_all(alloc, pack, order, entries, &overlaps, waiting, out),
+        Ok(overlaps) => check_all(alloc, pack, strings, entries, &overlaps, waiting, out),
         Err(_) => Err(Failure::Memory),
     }
 }
@@ -46,27 +50,31 @@ pub(crate) fn check_units<O: Write>(
 fn check_all<O: Write>(
     alloc: Global,
     pack: &PackageFile<'_>,
-    order: Endianness,
+    strings: Strings<'_>,
     entries: &[UnitEntry],
     overlaps: &Overlaps,
     waiting: &mut String,
     out: &mut O,
 ) -> Result<u64, Failure>
+    requires { HasStrings strings pack.now }
     ensures { Tells (TellsUnits pack.now entries.now) (O.contents out.old)
         (string_bytes waiting.old) (O.contents out.new) (string_bytes waiting.new) result }
 {
-    let mut strings = Vec::new(alloc);
-    let mut abbreviations = Remembered::new(alloc, order);
+    let mut ranges = Vec::new(alloc);
+    let mut abbreviations = Remembered::new(alloc, strings.order);
     match check_each(
         pack,
         &mut abbreviations,
         entries,
         overlaps,
-        &mut strings,
+        &mut ranges,
         waiting,
         out,
     ) {
-        Ok(of_units) => with_rest(of_units, check_strings(pack, &mut strings, waiting, out)),
+        Ok(of_units) => with_rest(
+            of_units,
+            check_strings(pack, Ends::of(strings), &mut ranges, waiting, out),
+        ),
         Err(failure) => Err(failure),
     }
 }

@@ -1,0 +1,221 @@
+-- Which strings end, as the last zero byte of all tells.
+use Rattle.std.proofs.Common.{◌≡◌, ◌∙◌, ℕ, ◌+◌, ◌-◌, ◌<◌, ◌≤◌, eqb, true, false, List, length}
+use Rattle.std.proofs.Common.{drop, get_or, Option, Some, None, Result, Ok, Err, Decides, ⊎_elim}
+use Rattle.std.proofs.Common.{ap, sym, subst, refl, arith}
+use Rattle.std.specs.List.{list_any, HoldsAt}
+use Rattle.std.proofs.lemmas.List.{get_or_default, get_or-drop, length-drop}
+use Rattle.std.proofs.lemmas.Bool.{le-ltb, lt-ltb, cases_lt, false_from_ne_true, eq-eqb, eqb-true}
+use Rattle.std.proofs.lemmas.Bool.Decides.{Decides-by_or, Decides-eqb}
+use Rattle.memchr.specs.Find.{IsLastByte, Passes, Nowhere, is_byte}
+use Rattle.dwp_base.specs.Reading.{◌>>=◌}
+use Rattle.dwp_base.specs.declared.endian.Endianness.{Endianness}
+use Rattle.dwp_base.specs.declared.section.SectionKind.TheVariants.{Types}
+use Rattle.dwp_bytes.specs.StringOffsets.{string_at}
+use Rattle.dwp_bytes.specs.declared.encoding.Encoding.{Encoding}
+use Rattle.dwp_bytes.specs.declared.fault.ReadError.{ReadError}
+use Rattle.dwp_bytes.specs.declared.fault.ReadError.TheVariants.{OffsetOutOfRange, NoTerminator}
+use Rattle.dwp_index.specs.Index.{Index, Ranges, row_in, range_in}
+use Rattle.dwp_index.specs.Package.{Package, FoundUnit, as_fault, first_outside, all_inside}
+use Rattle.dwp_index.specs.Package.{place_of, kind_of, row_bytes, encoding_in, unit_in}
+use Rattle.dwp_index.specs.Package.{unit_at_row, unit_found, found_by, index_for, found_counted}
+use Rattle.dwp_index.specs.Package.{found}
+use Rattle.dwp_index.specs.Strings.{entry_in, string_in}
+use Rattle.dwp_index.specs.declared.fault.PackageError.{PackageError}
+use Rattle.dwp_index.specs.declared.fault.PackageError.TheVariants as faults
+use Rattle.dwp_table.specs.Objects.{identifier_of}
+use Rattle.dwp_table.specs.Probing.{found_row, look_count}
+use Rattle.dwp_table.specs.declared.object.DwarfObject.{DwarfObject}
+use Rattle.thorin_queries.specs.Ends.{IsReach, HasEnds, fault_of}
+use Rattle.thorin_queries.specs.declared.ends.Ends.{Ends}
+
+-- whether a zero is there
+any_zero : (xs : List ℕ) → Decides (list_any (λ b. eqb b 0) xs) ((k : ℕ) × (k < length xs)
+    × HoldsAt (λ b. b ≡ 0) xs k)
+any_zero = Decides-by_or (λ b. eqb b 0) (λ b. b ≡ 0) (list_any (λ b. eqb b 0)) (λ b.
+    Decides-eqb b 0) refl (λ _ _. refl)
+
+module _ (strings : List ℕ) where
+  behind : (from offset : ℕ) → Nowhere (Passes (is_byte 0) strings) from (length strings)
+      → from ≤ offset → list_any (λ b. eqb b 0) (drop offset strings) ≡ false
+  behind from offset none past = false_from_ne_true _ (λ there.
+      let at = (any_zero (drop offset strings)).0 there in
+      none (offset + at.0) (omega arith) (omega (arith, at.1, length-drop offset strings))
+      (eq-eqb _ 0 (sym (get_or-drop offset strings at.0 0) ∙ at.2 0)))
+
+  before : (last offset : ℕ) → last < length strings → Passes (is_byte 0) strings last
+      → offset ≤ last → list_any (λ b. eqb b 0) (drop offset strings) ≡ true
+  before last offset within zero le =
+      let below : last - offset < length (drop offset strings) =
+      omega (arith, length-drop offset strings) in
+      let same : offset + (last - offset) ≡ last = omega arith in
+      (any_zero (drop offset strings)).1 (
+        last - offset,
+        below,
+        λ d. get_or_default (drop offset strings) (last - offset) d 0 below
+            ∙ get_or-drop offset strings (last - offset) 0
+            ∙ ap (λ n. get_or strings n 0) same
+            ∙ eqb-true _ 0 zero,
+      )
+
+  pub reached : (last : ℕ) → IsLastByte (is_byte 0) strings (Some last)
+      → IsReach strings (last + 1)
+  reached last h offset = ⊎_elim
+      (λ inside. before last offset h.0.high h.1 (omega arith)
+      ∙ sym (lt-ltb offset (last + 1) inside))
+      (λ past. behind (last + 1) offset h.0.after past ∙ sym (le-ltb offset (last + 1) past))
+      (cases_lt offset (last + 1))
+
+  pub unreached : IsLastByte (is_byte 0) strings None → IsReach strings 0
+  unreached h offset = behind 0 offset h (omega arith) ∙ sym (le-ltb offset 0 (omega arith))
+
+-- ---- the string at an offset
+
+module _ (ends : Ends) (order : Endianness) (strings : List ℕ) (offset : ℕ)
+    (h : HasEnds ends order strings) where
+  pub ended_at : offset < ends.reach → None ≡ fault_of (string_at strings offset)
+  unfolding string_at
+  ended_at lt =
+      let inside = le-ltb (length strings) offset (omega (arith, h.inside)) in
+      let there = h.reach offset ∙ lt-ltb offset ends.reach lt in
+      rw (inside, there) refl
+
+  pub outside_at : ends.size < offset
+      → Some OffsetOutOfRange ≡ fault_of (string_at strings offset)
+  unfolding string_at
+  outside_at lt =
+      let past = lt-ltb (length strings) offset (omega (arith, h.size)) in
+      rw past refl
+
+  pub unended_at : ends.reach ≤ offset → offset ≤ ends.size
+      → Some NoTerminator ≡ fault_of (string_at strings offset)
+  unfolding string_at
+  unended_at le within =
+      let inside = le-ltb (length strings) offset (omega (arith, h.size)) in
+      let nowhere = h.reach offset ∙ le-ltb offset ends.reach le in
+      rw (inside, nowhere) refl
+
+-- what is known holds in its own byte order
+pub own_order : (ends : Ends) (order : Endianness) (strings : List ℕ) → HasEnds ends order strings
+    → HasEnds ends ends.order strings
+own_order ends order strings h = record {
+  order_is = refl;
+  size = h.size;
+  inside = h.inside;
+  reach = h.reach;
+}
+
+-- ---- strings of a package
+
+pub of_package : (ends : Ends) (order : Endianness) (strings : List ℕ) (pack : Package)
+    → HasEnds ends order strings → order ≡ pack.order → strings ≡ pack.contents.strings
+    → HasEnds ends pack.order pack.contents.strings
+of_package ends order strings pack h e f = record {
+  order_is = h.order_is ∙ e;
+  size = h.size ∙ ap length f;
+  inside = subst (λ s. ends.reach ≤ length s) f h.inside;
+  reach = subst (λ s. IsReach s ends.reach) f h.reach;
+}
+
+of_unit : (ends : Ends) (pack : Package) (unit : FoundUnit)
+    → HasEnds ends pack.order pack.contents.strings → unit.order ≡ pack.order
+    → unit.contents ≡ pack.contents → HasEnds ends unit.order unit.contents.strings
+of_unit ends pack unit h e f = record {
+  order_is = h.order_is ∙ sym e;
+  size = h.size ∙ ap (λ c. length c.strings) (sym f);
+  inside = subst (λ c. ends.reach ≤ length c.strings) (sym f) h.inside;
+  reach = subst (λ c. IsReach c.strings ends.reach) (sym f) h.reach;
+}
+
+-- ---- a unit that is found has the byte order and the sections of its package
+
+bind_ok : {A B E : Type 0} (r : Result A E) (f : A → Result B E) (y : B) → (r >>= f) ≡ Ok y
+    → (x : A) × (r ≡ Ok x) × (f x ≡ Ok y)
+bind_ok (Ok x) f y e = (x, refl, e)
+bind_ok (Err d) f y e = absurd cc
+
+ok_same : {X E : Type 0} (x y : X) (r : Result X E) → r ≡ Ok x → r ≡ Ok y → x ≡ y
+ok_same x y r e f = cc
+
+abbrev IsOfPackage : Package → FoundUnit → Type 0
+IsOfPackage pack unit = (unit.order ≡ pack.order) × (unit.contents ≡ pack.contents)
+
+module _ (pack : Package) (object : DwarfObject) (unit : FoundUnit) where
+  of_row : (number : ℕ) (row : Ranges) → unit_in pack object number row ≡ Ok unit
+      → IsOfPackage pack unit
+  unfolding unit_in
+  of_row number row e =
+      let place = place_of object (range_in row Types) in
+      let bytes = row_bytes pack.contents row (kind_of place) in
+      let inside = bind_ok (all_inside (first_outside pack.contents row)) _ unit e in
+      let read = bind_ok (as_fault faults.Unit (encoding_in pack.order place bytes)) _ unit
+      inside.2 in
+      let made = ok_same {E = PackageError} _ unit _ refl read.2 in
+      (sym (ap (λ (u : FoundUnit). u.order) made), sym (ap (λ (u : FoundUnit). u.contents) made))
+
+  at_row : (index : Index) (number count : ℕ) (x : Option FoundUnit × ℕ)
+      → unit_at_row pack object index number count ≡ Ok x → x.0 ≡ Some unit → IsOfPackage pack unit
+  unfolding unit_at_row
+  at_row index number count x e is =
+      let row = bind_ok (as_fault faults.Index (row_in index number)) _ x e in
+      let read = bind_ok (unit_in pack object number row.0) _ x row.2 in
+      let made = ok_same {E = PackageError} _ x _ refl read.2 in
+      let same : read.0 ≡ unit = cc in
+      of_row number row.0 (read.1 ∙ ap Ok same)
+
+  by_number : (index : Index) (number : Option ℕ) (count : ℕ) (x : Option FoundUnit × ℕ)
+      → unit_found pack object index number count ≡ Ok x → x.0 ≡ Some unit
+      → IsOfPackage pack unit
+  by_number index None count x e is =
+      let made = ok_same {E = PackageError} _ x _ refl e in
+      absurd (let no : None ≡ Some unit = ap (λ (y : Option FoundUnit × ℕ). y.0) made ∙ is in cc)
+  by_number index (Some number) count x e is = at_row index number count x e is
+
+  by_index : (index : Option Index) (x : Option FoundUnit × ℕ) → found_by pack object index ≡ Ok x
+      → x.0 ≡ Some unit → IsOfPackage pack unit
+  by_index None x e is =
+      let made = ok_same {E = PackageError} _ x _ refl e in
+      absurd (let no : None ≡ Some unit = ap (λ (y : Option FoundUnit × ℕ). y.0) made ∙ is in cc)
+  by_index (Some index) x e is = by_number index
+      (found_row index.signatures index.rows (identifier_of object))
+      (look_count index.signatures index.rows (identifier_of object)) x e is
+
+  counted : (x : Option FoundUnit × ℕ) → found_counted pack object ≡ Ok x → x.0 ≡ Some unit
+      → IsOfPackage pack unit
+  unfolding found_counted
+  counted x e is = by_index (index_for pack object) x e is
+
+  found_in : found pack object ≡ Ok (Some unit) → IsOfPackage pack unit
+  unfolding found
+  found_in e =
+      let counts = bind_ok (found_counted pack object) _ (Some unit) e in
+      counted counts.0 counts.1 (ok_same {E = PackageError} _ (Some unit) _ refl counts.2)
+
+  pub of_found : (ends : Ends) → HasEnds ends pack.order pack.contents.strings
+      → found pack object ≡ Ok (Some unit) → HasEnds ends unit.order unit.contents.strings
+  of_found ends h e = let is = found_in e in of_unit ends pack unit h is.0 is.1
+
+-- ---- a string of a unit
+
+fault_of-bound : (r : Result (List ℕ) ReadError)
+    → fault_of (r >>= λ string. Ok (Some string)) ≡ fault_of r
+fault_of-bound (Ok string) = refl
+fault_of-bound (Err e) = refl
+
+module _ (order other : Endianness) (encoding code : Encoding) (strings range bytes : List ℕ)
+    (i : ℕ) (same : other ≡ order) (written : code ≡ encoding) (whole : bytes ≡ range) where
+  entry_is : (found : Option ℕ) → found ≡ entry_in other code bytes i
+      → entry_in order encoding range i ≡ found
+  entry_is found e = cc
+
+  pub none_there : None ≡ entry_in other code bytes i
+      → None ≡ fault_of (string_in order encoding strings range i)
+  unfolding string_in
+  none_there e = let there = entry_is None e in rw there refl
+
+  pub one_there : (offset : ℕ) → Some offset ≡ entry_in other code bytes i
+      → fault_of (string_at strings offset)
+      ≡ fault_of (string_in order encoding strings range i)
+  unfolding string_in
+  one_there offset e =
+      let there = entry_is (Some offset) e in
+      rw there (sym (fault_of-bound (string_at strings offset)))
