@@ -3,11 +3,12 @@ use Rattle.std.proofs.Common.{◌≡◌, ◌≢◌, ℕ, ◌+◌, ◌-◌, ◌%�
 use Rattle.std.proofs.Common.{cond, eqb, length, get_or, map, replicate, refl, sym, ap, subst, ◌∙◌}
 use Rattle.std.proofs.Common.{arith, w8, w64, ⊎_elim}
 use Rattle.std.specs.Int.{bit_at, trailing_zeros}
+use Rattle.std.specs.Int.Count.{trailing_of_zero}
 use Rattle.std.specs.Simd.Lanes.{zip2, mask_l, top}
 use Rattle.std.proofs.lemmas.Simd.{length-zip2, get_or-zip2, get_or-replicate}
 use Rattle.std.proofs.lemmas.Simd.{bit_mask_l, tops_compared, mask_l-mod}
 use Rattle.std.proofs.lemmas.Nat.Bits.{bit_at-trailing_zeros}
-use Rattle.std.proofs.lemmas.Bool.{eqb-false, cases_lt}
+use Rattle.std.proofs.lemmas.Bool.{eqb-false, eqb-true, cases_lt}
 
 -- a bit below the lowest that is set is clear
 below : (m k : ℕ) → m < 2 ^ 64 → k < trailing_zeros w64 m → bit_at m k ≡ 0
@@ -27,16 +28,50 @@ lanes_some l k long within less =
     let none : List ℕ = replicate 64 0 in
     let zeros : List Bool = zip2 eqb l none in
     let long_zeros : length zeros ≡ 64 = length-zip2 eqb l none long ∙ long in
-    let mask = ap (λ bs. mask_l bs % 2 ^ 64) (tops_compared w8 eqb l none)
+    let mask = ap (λ bs. mask_l bs % 2 ^ 64) {y = zeros} (tops_compared w8 eqb l none)
     ∙ mask_l-mod zeros 64 (omega arith) in
     let small : mask_l zeros < 2 ^ 64 = omega (arith, mask_l-mod zeros 64 (omega arith)) in
     let less' : k < trailing_zeros w64 (mask_l zeros) =
     subst (λ m. k < trailing_zeros w64 m) mask less in
     let zero_k : eqb (get_or l k 0) 0 ≡ false =
-    ap (eqb (get_or l k 0)) (sym (get_or-replicate 64 k 0 0 within))
+    ap (eqb (get_or l k 0)) {y = get_or none k 0} (sym (get_or-replicate 64 k 0 0 within))
     ∙ sym (get_or-zip2 eqb l none k 0 0 false (omega arith) (omega arith))
     ∙ clear _ (sym (bit_mask_l zeros k) ∙ below (mask_l zeros) k small less') in
     eqb-false (get_or l k 0) 0 zero_k
+
+set : (b : Bool) → cond {A = ℕ} b 1 0 ≡ 1 → b ≡ true
+set true e = refl
+set false e = absurd (omega arith)
+
+-- the lowest bit that is set is
+lowest : (m : ℕ) → m < 2 ^ 64 → trailing_zeros w64 m < 64 → bit_at m (trailing_zeros w64 m) ≡ 1
+lowest m fits within = ⊎_elim (λ some. (bit_at-trailing_zeros w64 m some fits).1)
+    (λ none. let e : m ≡ 0 = omega arith in
+    let past : trailing_zeros w64 m ≡ 64 = ap (trailing_zeros w64) e ∙ trailing_of_zero 64 in
+    absurd (omega arith))
+    (cases_lt 0 m)
+
+-- the byte of a vector at the lowest bit that is set
+pub lanes_zero : (l : List ℕ) (k : ℕ) → length l ≡ 64 → k < 64 → k ≡ trailing_zeros w64
+    (mask_l (map (top 7) (zip2 (λ a b. cond (eqb a b) 255 0) l (replicate 64 0))) % 2 ^ 64)
+    → get_or l k 0 ≡ 0
+lanes_zero l k long within is =
+    let none : List ℕ = replicate 64 0 in
+    let zeros : List Bool = zip2 eqb l none in
+    let long_zeros : length zeros ≡ 64 = length-zip2 eqb l none long ∙ long in
+    let mask = ap (λ bs. mask_l bs % 2 ^ 64) {y = zeros} (tops_compared w8 eqb l none)
+    ∙ mask_l-mod zeros 64 (omega arith) in
+    let small : mask_l zeros < 2 ^ 64 = omega (arith, mask_l-mod zeros 64 (omega arith)) in
+    let is' : k ≡ trailing_zeros w64 (mask_l zeros) =
+    subst (λ m. k ≡ trailing_zeros w64 m) mask is in
+    let one : bit_at (mask_l zeros) k ≡ 1 =
+    subst (λ n. bit_at (mask_l zeros) n ≡ 1) (sym is')
+    (lowest (mask_l zeros) small (subst (λ n. n < 64) is' within)) in
+    let zero_k : eqb (get_or l k 0) 0 ≡ true =
+    ap (eqb (get_or l k 0)) {y = get_or none k 0} (sym (get_or-replicate 64 k 0 0 within))
+    ∙ sym (get_or-zip2 eqb l none k 0 0 false (omega arith) (omega arith))
+    ∙ set _ (sym (bit_mask_l zeros k) ∙ one) in
+    eqb-true (get_or l k 0) 0 zero_k
 
 -- the bytes before a place and the next ones
 pub some_more : (bytes : List ℕ) (at n to : ℕ) → ((k : ℕ) → k < at → get_or bytes k 0 ≢ 0)

@@ -1,14 +1,17 @@
 -- Rewriting one entry after another.
 use Rattle.std.proofs.Common.{◌≡◌, ℕ, zero, suc, ◌+◌, ◌*◌, ◌<◌, ◌≤◌, false, eqb, ltb, List, [], ◌∷◌}
 use Rattle.std.proofs.Common.{◌++◌, length, take, Ok, Err, ap, ap₂, sym, subst, refl, ◌∙◌, ⊎_elim}
-use Rattle.std.proofs.Common.{arith, append_assoc, add-one}
+use Rattle.std.proofs.Common.{arith, append_assoc, add-one, replicate, length-append, drop, ◌-◌}
 use Rattle.dwp_base.specs.declared.endian.Endianness.{Endianness}
+use Rattle.dwp_base.specs.declared.endian.Endianness.TheVariants.{Little}
 use Rattle.dwp_base.specs.Numbers.{number_bytes}
 use Rattle.dwp_bytes.specs.Encoding.{offset_size}
 use Rattle.dwp_bytes.specs.declared.encoding.Format.{Format}
+use Rattle.dwp_bytes.specs.declared.encoding.Format.TheVariants.{Dwarf32}
 use Rattle.dwp_bytes.specs.declared.encoding.Encoding.{Encoding}
 use Rattle.thorin_faults.specs.Fault.{Fault}
-use Rattle.std.proofs.lemmas.List.{take-take, append-nil, length-take}
+use Rattle.std.proofs.lemmas.List.{take-take, append-nil, length-take, take_all, take_at}
+use Rattle.std.proofs.lemmas.List.{length-replicate}
 use Rattle.std.proofs.lemmas.List.Concat.{flat_map-append}
 use Rattle.std.proofs.lemmas.Bool.{cases_eq, ne_eqb, le-ltb}
 use Rattle.dwp_bytes.specs.StringOffsets.{header_size, entry_count}
@@ -85,6 +88,66 @@ bytes_more order format first out out' before offset so_far more =
     ∙ ap (λ l. first ++ l) (ap (λ l. entry_bytes order format before ++ l)
     (sym (append-nil (number_bytes order (offset_size format) offset)))
     ∙ sym (flat_map-append (number_bytes order (offset_size format)) before (offset ∷ [])))
+
+-- what `resize` leaves
+pub room_made : (items new : List ℕ) (n m k : ℕ) → m ≡ length items → k ≡ length items
+    → new ≡ take (m + n) items ++ replicate ((m + n) - k) 0
+    → (length new ≡ m + n) × (take m new ≡ items)
+room_made items new n m k e f is =
+    let d : (m + n) - k ≡ n = omega arith in
+    let whole : new ≡ items ++ replicate n 0 =
+    is ∙ rw (d, take_all (m + n) items (omega arith)) refl in (
+      omega (
+        arith,
+        ap length whole,
+        length-append items (replicate n 0),
+        length-replicate {A = ℕ} n 0,
+      ),
+      ap (take m) whole ∙ take_at items (replicate n 0) m (sym e),
+    )
+
+-- a list of bytes that others of its length took the place of
+pub same_room : (items new : List ℕ) (len : ℕ) → length new ≡ length items → len ≡ length items
+    → take len (new ++ drop (length new) items) ≡ new
+same_room items new len long is = take_at new (drop (length new) items) len (long ∙ sym is)
+
+-- an offset of four bytes that was written in its place
+pub word_written : (format : Format) (out out' new : List ℕ) (at to offset : ℕ) → format ≡ Dwarf32
+    → out' ≡ new → to ≡ at + 4 → take (at + 4) new ≡ take at out ++ number_bytes Little 4 offset
+    → take to out' ≡ take at out ++ number_bytes Little (offset_size format) offset
+word_written format out out' new at to offset form same is written =
+    ap₂ take is same ∙ written
+    ∙ ap (λ f. take at out ++ number_bytes Little (offset_size f) offset) (sym form)
+
+-- all of them
+pub words_done : (out initial header tail : List ℕ) (first index count : ℕ) → index ≡ count
+    → length out ≡ first + count * 4 → take first initial ≡ header
+    → take (first + index * 4) out ≡ take first initial ++ tail → out ≡ header ++ tail
+words_done out initial header tail first index count done long is_header so_far =
+    sym (take_all (first + index * 4) out (omega arith)) ∙ so_far
+    ∙ ap (λ l. l ++ tail) is_header
+
+-- a range whose entries were all rewritten
+pub remapped_done : (order : Endianness) (encoding : Encoding) (section bytes : List ℕ)
+    (size count width : ℕ) (old now : List (List ℕ)) (header offsets out : List ℕ)
+    → count ≡ entry_count encoding size → width ≡ offset_size encoding.format → (size ≡ 0 → ⊥)
+    → header_size encoding ≤ size → header_of order encoding (count * width) ≡ Ok header
+    → remapped_entries order encoding section bytes count old ≡ Ok (offsets, now)
+    → out ≡ header ++ entry_bytes order encoding.format offsets
+    → remapped order encoding section bytes size old ≡ Ok (out, now)
+unfolding remapped
+remapped_done order encoding section bytes size count width old now header offsets out is_count
+    is_width some fits has_header entries is_out =
+    let some_bytes : eqb size 0 ≡ false = ne_eqb size 0 some in
+    let whole : ltb size (header_size encoding) ≡ false = le-ltb size (header_size encoding) fits in
+    let headed : header_of order encoding (entry_count encoding size * offset_size encoding.format)
+    ≡ Ok header = ap₂ (λ n m. header_of order encoding (n * m)) (sym is_count)
+    (sym is_width) ∙ has_header in
+    let done : remapped_entries order encoding section bytes (entry_count encoding size) old ≡ Ok
+    (offsets, now) =
+    subst (λ n. remapped_entries order encoding section bytes n old ≡ Ok (offsets, now)) is_count
+    entries in
+    rw (some_bytes, whole, headed, done) (ap (λ l. Ok (l, now)) (sym is_out))
 
 -- what keeps the strings before it keeps those before them
 pub kept_more : (old now new : List (List ℕ)) → take (length old) now ≡ old → take (length now) new

@@ -1,6 +1,6 @@
 //! Where strings end, looked for 64 bytes at a time: few are longer than some such steps.
 
-ghost use Rattle.std.specs.Prelude.{◌≢◌, ℕ, ◌+◌, ◌<◌, ◌≤◌, length, slice_index, IfSome};
+ghost use Rattle.std.specs.Prelude.{◌≡◌, ◌≢◌, ℕ, ◌+◌, ◌<◌, ◌≤◌, length, slice_index, IfSome};
 ghost use Rattle.thorin_strings.specs.Ends.{IsFirstZero};
 
 use memchr::memchr;
@@ -16,7 +16,8 @@ const ROUNDS: usize = 4;
 #[inline(always)]
 fn before_zero(bytes: &[u8], at: usize) -> usize
     requires { at + 64 ≤ length bytes.now }
-    ensures { (k : ℕ) → k < result → k < 64 → slice_index bytes.now (at + k) ≢ 0 }
+    ensures some { (k : ℕ) → k < result → k < 64 → slice_index bytes.now (at + k) ≢ 0 }
+    ensures zero { result < 64 → slice_index bytes.now (at + result) ≡ 0 }
 {
     let next = u8x64::from_slice(&bytes[at..]);
     let zeros = next.simd_eq(u8x64::splat(0)).to_bitmask();
@@ -40,6 +41,24 @@ fn some_before(bytes: &[u8]) -> usize
         }
     }
     ROUNDS * LANES
+}
+
+/// Where the string at the front of some bytes ends, where it is short and not near their end.
+#[inline(always)]
+pub(crate) fn short_end(bytes: &[u8]) -> Option<usize>
+    ensures { IfSome result (IsFirstZero bytes.now) }
+{
+    for round in 0..ROUNDS {
+        let at = round * LANES;
+        if bytes.len() - at < LANES {
+            return None;
+        }
+        let some = before_zero(bytes, at);
+        if some < LANES {
+            return Some(at + some);
+        }
+    }
+    None
 }
 
 /// Where the string at the front of some bytes ends, of which so many aren't zero; none where it

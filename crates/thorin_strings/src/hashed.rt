@@ -1,11 +1,13 @@
 //! Strings that are found by their hashes.
 
 ghost use Rattle.std.specs.Prelude.{◌≡◌, ◌↔◌, ◌+◌, ◌<◌, ◌^◌, ℕ, List, [], length, take};
-ghost use Rattle.std.specs.Prelude.{OnOk, OnErr, IfOk, IsSome, IfSome, IsNone, Contains};
+ghost use Rattle.std.specs.Prelude.{OnOk, OnErr, IfOk, IsSome, IfSome, IsNone, Contains, None};
 ghost use Rattle.thorin_strings.specs.Strings.{data_of, offset_of, with_string, IsZeroFree};
 ghost use Rattle.thorin_strings.specs.Strings.{IsTable, IsWithinDigits};
 ghost use Rattle.thorin_strings.specs.Marks.{mark_of};
-ghost use Rattle.thorin_strings.specs.Hashed.{IsPlaced};
+ghost use Rattle.thorin_strings.specs.Strings.{strings_in};
+ghost use Rattle.thorin_strings.specs.Hashed.{IsHashed, IsPlaced};
+ghost use Rattle.thorin_strings.specs.Places.{hash as hash_of, place_of};
 
 use crate::places::{Places, hash};
 use crate::search::stands_at;
@@ -45,6 +47,44 @@ impl From<AllocError> for Unplaced {
     fn from(_e: AllocError) -> Unplaced {
         Unplaced::Memory
     }
+}
+
+/// Puts a new string behind all others, and gives its place. (Not inlined: few strings are new, and
+/// the loop over the others is faster without it.)
+#[inline(never)]
+fn add(
+    bytes: &mut Vec<u8>,
+    begins: &mut Vec<u64>,
+    hashes: &mut Vec<u64>,
+    places: &mut Places,
+    string: &[u8],
+    hash: u64,
+) -> Result<usize, Unplaced>
+    requires table { IsHashed bytes.old.items begins.old.items hashes.old.items
+        places.old.slots.items places.old.mask }
+    requires zero_free { IsZeroFree string.now }
+    requires hashed { hash ≡ hash_of string.now }
+    requires none { place_of places.old.slots.items places.old.mask hash ≡ None }
+    ensures table { IsHashed bytes.new.items begins.new.items hashes.new.items
+        places.new.slots.items places.new.mask }
+    ensures placed { IfOk result (IsPlaced (strings_in bytes.old.items)
+        (strings_in bytes.new.items) string.now) }
+    ensures kept { take (length (strings_in bytes.old.items)) (strings_in bytes.new.items)
+        ≡ strings_in bytes.old.items }
+    ensures err { OnErr result (strings_in bytes.new.items ≡ strings_in bytes.old.items) }
+{
+    let place = bytes.len();
+    bytes.reserve(string.len() + 1)?;
+    begins.reserve(1)?;
+    hashes.reserve(1)?;
+    if !places.enter(hash, place, hashes, begins) {
+        return Err(Unplaced::Clash);
+    }
+    begins.push(place as u64).unwrap();
+    hashes.push(hash).unwrap();
+    bytes.extend_from_slice(string).unwrap();
+    bytes.push(0).unwrap();
+    Ok(place)
 }
 
 impl Model for HashedStrings {
@@ -136,18 +176,14 @@ impl HashedStrings {
             }
             return Err(Unplaced::Clash);
         }
-        let place = self.bytes.len();
-        self.bytes.reserve(string.len() + 1)?;
-        self.begins.reserve(1)?;
-        self.hashes.reserve(1)?;
-        if !self.places.enter(hash, place, &self.hashes, &self.begins) {
-            return Err(Unplaced::Clash);
-        }
-        self.begins.push(place as u64).unwrap();
-        self.hashes.push(hash).unwrap();
-        self.bytes.extend_from_slice(string).unwrap();
-        self.bytes.push(0).unwrap();
-        Ok(place)
+        add(
+            &mut self.bytes,
+            &mut self.begins,
+            &mut self.hashes,
+            &mut self.places,
+            string,
+            hash,
+        )
     }
 
     /// The same strings, found by their order; none are left here then. None for want of memory,

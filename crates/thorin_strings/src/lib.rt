@@ -5,6 +5,7 @@ mod batch;
 mod ends;
 mod guess;
 mod hashed;
+mod known;
 pub mod laws;
 mod merge;
 mod offsets;
@@ -15,6 +16,7 @@ mod repeats;
 mod search;
 mod sorted;
 mod table;
+mod words;
 
 pub use repeats::Repeats;
 pub use table::{PackageStringOffset, PackageStringTable, TableMark};

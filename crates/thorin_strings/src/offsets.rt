@@ -14,7 +14,6 @@ ghost use Rattle.thorin_strings.specs.StringOffsets.{remapped_entry, remapped};
 ghost use Rattle.thorin_strings.specs.Strings.{IsZeroFree};
 ghost use Rattle.thorin_strings.specs.Known.{offset_read, AreKnown};
 
-use crate::ends::end_of;
 use crate::repeats::Repeats;
 use crate::table::PackageStringTable;
 use dwp_base::Endianness;
@@ -66,7 +65,7 @@ pub(crate) fn push_offset(
 
 /// The header of a contribution whose entries have so many bytes; before DWARF 5 nothing.
 #[tactic(auto, unfolding(crate::specs::StringOffsets::header_of))]
-fn header(
+pub(crate) fn header(
     alloc: Global,
     endian: Endianness,
     encoding: Encoding,
@@ -96,7 +95,12 @@ fn header(
 /// The offset that stands at a place.
 #[inline(always)]
 #[tactic(auto, unfolding(crate::specs::StringOffsets::offset_at))]
-fn offset_at(bytes: &[u8], endian: Endianness, format: Format, at: u64) -> Result<u64, ReadError>
+pub(crate) fn offset_at(
+    bytes: &[u8],
+    endian: Endianness,
+    format: Format,
+    at: u64,
+) -> Result<u64, ReadError>
     ensures { Answers (λ offset. offset) result (offset_at endian format bytes.now at) }
 {
     let at = at as usize;
@@ -138,41 +142,6 @@ pub(crate) fn string_read(debug_str: &[u8], offset: u64) -> Result<&[u8], Error>
         Ok(string) => Ok(string),
         Err(e) => Err(Error::StrAtOffset(e, offset as usize)),
     }
-}
-
-/// The offset that the entry of a number has, where it can be read.
-#[inline(always)]
-fn known_entry(
-    debug_str_offsets: &[u8],
-    endian: Endianness,
-    encoding: Encoding,
-    index: u64,
-) -> Option<u64>
-    requires { header_size encoding + index * offset_size encoding.format < 2 ^ 64 }
-    ensures { IfSome result (λ offset.
-        entry_at endian encoding debug_str_offsets.now index ≡ Ok offset) }
-{
-    let header = encoding.string_offsets_header_size() as u64;
-    let at = header + index * encoding.format.offset_size() as u64;
-    match offset_at(debug_str_offsets, endian, encoding.format, at) {
-        Ok(offset) => Some(offset),
-        Err(_) => None,
-    }
-}
-
-/// The string at an offset, where it can be read.
-#[inline(always)]
-fn known_string(debug_str: &[u8], offset: u64) -> Option<&[u8]>
-    ensures meaning { IfSome result (λ string. string_read debug_str.now offset ≡ Ok string.now) }
-    ensures zero_free { IfSome result (λ string. IsZeroFree string.now) }
-{
-    let at = offset as usize;
-    if debug_str.len() < at {
-        return None;
-    }
-    let rest = &debug_str[at..];
-    let end = end_of(rest)?;
-    Some(&rest[..end])
 }
 
 /// The same encoding, of which the compiler knows the format.
@@ -339,13 +308,13 @@ impl PackageStringTable {
         ensures kept { take (length self.old) self.new ≡ self.old }
         ensures known { AreKnown debug_str.now self.new repeats.new }
     {
+        let is_whole = section_size <= debug_str_offsets.len() as u64;
         match (endian, encoding.format) {
-            (Endianness::Little, Format::Dwarf32) => self.remapped(
+            (Endianness::Little, Format::Dwarf32) if is_whole => self.remapped_words(
                 repeats,
                 debug_str,
                 debug_str_offsets,
                 section_size,
-                Endianness::Little,
                 dwarf32(encoding),
             ),
             _ => self.remapped(
@@ -360,7 +329,6 @@ impl PackageStringTable {
     }
 
     /// The same for one form.
-    #[inline(always)]
     #[tactic(auto, unfolding(crate::specs::StringOffsets::remapped))]
     fn remapped(
         &mut self,
@@ -390,7 +358,7 @@ impl PackageStringTable {
         out.reserve(debug_str_offsets.len())?;
         for index in 0..count {
             // (nearly every entry is told here, without room for an error)
-            let known = self.entry_by_hash(
+            let known = self.known_offset(
                 repeats,
                 debug_str,
                 debug_str_offsets,
@@ -414,47 +382,10 @@ impl PackageStringTable {
         Ok(out)
     }
 
-    /// The offset of the string that an entry names, where that is remembered or its hash tells it.
-    /// None else, where it can't be read and for want of memory; the table is then as it was.
-    #[inline(always)]
-    #[tactic(auto, using(crate::proofs::KnownLemmas::entry_read, crate::proofs::KnownLemmas::read_used, crate::proofs::KnownLemmas::offset_within))]
-    fn entry_by_hash(
-        &mut self,
-        repeats: &mut Repeats,
-        debug_str: &[u8],
-        debug_str_offsets: &[u8],
-        endian: Endianness,
-        encoding: Encoding,
-        index: u64,
-    ) -> Option<u64>
-        requires small { header_size encoding + index * offset_size encoding.format < 2 ^ 64 }
-        requires known { AreKnown debug_str.now self.old repeats.old }
-        ensures meaning { IfSome result (λ offset.
-            remapped_entry endian encoding debug_str.now debug_str_offsets.now index self.old
-            ≡ Ok (offset, self.new)) }
-        ensures fits { IfSome result (λ offset. offset ≤ offset_limit encoding.format) }
-        ensures kept { take (length self.old) self.new ≡ self.old }
-        ensures none { IsNone result → self.new ≡ self.old }
-        ensures known { AreKnown debug_str.now self.new repeats.new }
-    {
-        let limit = offset_limit(encoding.format);
-        let named = known_entry(debug_str_offsets, endian, encoding, index)?;
-        if let Some(known) = repeats.find(named) {
-            return if known <= limit { Some(known) } else { None };
-        }
-        let string = known_string(debug_str, named)?;
-        if limit < self.data().len() as u64 {
-            return None;
-        }
-        let offset = self.place_by_hash(string)?;
-        let _remembered = repeats.enter(string, named, offset);
-        Some(offset)
-    }
-
     /// The offset of the string that an entry names, which is added where it is new.
     #[inline(never)]
     #[tactic(auto, using(crate::proofs::KnownLemmas::entry_read, crate::proofs::KnownLemmas::entry_large, crate::proofs::KnownLemmas::entry_unread))]
-    fn remapped_entry(
+    pub(crate) fn remapped_entry(
         &mut self,
         repeats: &mut Repeats,
         debug_str: &[u8],

@@ -134,6 +134,12 @@ impl Repeats {
         repeats
     }
 
+    /// Whether short strings are remembered too.
+    #[inline(always)]
+    pub(crate) fn has_cells(&self) -> bool {
+        !self.cells.is_empty()
+    }
+
     /// The offset in the table of the string at an offset, where that is remembered.
     pub(crate) fn find(&self, offset: u64) -> Option<u64>
         ensures { (section : List ℕ) (strings : List (List ℕ)) → AreKnown section strings self.now

@@ -1,4 +1,4 @@
-use Rattle.std.proofs.Common.{Some, drop, subst}
+use Rattle.std.proofs.Common.{Some, subst}
 use Rattle.std.proofs.lemmas.List.{take_rest}
 use Rattle.memchr.specs.Find.{IsFirstByte, is_byte}
 use Rattle.thorin_strings.proofs.EndLemmas.{found_behind}

@@ -1,5 +1,4 @@
-use Rattle.std.proofs.Common.{◌≤◌, sym, ap, subst, length, arith}
-use Rattle.thorin_strings.specs.StringOffsets.{offset_limit}
+use Rattle.std.proofs.Common.{ap, length, arith}
 use Rattle.thorin_strings.proofs.KnownLemmas.{entry_read, read_used, known_read, are_known_later}
 use Rattle.thorin_strings.proofs.KnownLemmas.{offset_within}
 use Rattle.thorin_strings.proofs.table.PackageStringTable.entry_by_hash.Goals as goal

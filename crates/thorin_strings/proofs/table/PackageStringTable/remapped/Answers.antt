@@ -1,8 +1,7 @@
-use Rattle.std.proofs.Common.{◌≡◌, [], ◌∷◌, ◌++◌, Ok, sym, ap₂, subst, take, length, ◌∙◌, arith}
+use Rattle.std.proofs.Common.{◌≡◌, [], ◌∷◌, ◌++◌, Ok, sym, ap₂, take, length, ◌∙◌, arith}
 use Rattle.std.proofs.lemmas.List.{append-nil, take_all}
 use Rattle.std.proofs.lemmas.Result.{err_from_is_err_and}
 use Rattle.thorin_strings.specs.StringOffsets.{remapped_entry}
-use Rattle.thorin_strings.specs.Known.{AreKnown}
 use Rattle.thorin_strings.proofs.RemapLemmas.{entries_none, entries_more, bytes_more, kept_more}
 use Rattle.thorin_strings.proofs.RemapLemmas.{remapped_refuses}
 use Rattle.thorin_strings.proofs.table.PackageStringTable.remapped.Goals as goal
@@ -40,7 +39,7 @@ loop-index-preserved c =
     ] in
     let kept : take (length c.loop-index.self) c.match-known.self ≡ c.loop-index.self =
     elim c.match-known.branch [
-      | in-Some w ↦ rw w.self-is c.entry_by_hash-known.ensures.kept
+      | in-Some w ↦ rw w.self-is c.known_offset-known.ensures.kept
       | in-None+in_ok-offset-in-None w ↦ rw w.self-is (rw w.in-None.ensures.none at
           w.remapped_entry.ensures.kept)
     ] in
@@ -54,7 +53,7 @@ loop-index-preserved c =
             c.loop-index.invariant.so_far.2 c.in_ok-push_offset.ensures,
       );
       known = elim c.match-known.branch [
-        | in-Some w ↦ rw (w.self-is, w.repeats-is) c.entry_by_hash-known.ensures.known
+        | in-Some w ↦ rw (w.self-is, w.repeats-is) c.known_offset-known.ensures.known
         | in-None+in_ok-offset-in-None w ↦ rw (w.self-is, w.repeats-is)
             w.remapped_entry.ensures.known
       ];

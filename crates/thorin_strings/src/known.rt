@@ -1,0 +1,182 @@
+//! Entries of string offsets whose strings are told without room for an error (DWARF 5, 7.26).
+
+ghost use Rattle.std.specs.Prelude.{◌≡◌, ◌≤◌, ◌<◌, ◌+◌, ◌*◌, ◌^◌, length, take, Ok};
+ghost use Rattle.std.specs.Prelude.{IsNone, IfSome};
+ghost use Rattle.dwp_bytes.specs.Encoding.{offset_size};
+ghost use Rattle.dwp_bytes.specs.StringOffsets.{header_size};
+ghost use Rattle.thorin_strings.specs.StringOffsets.{offset_limit, entry_at, string_read};
+ghost use Rattle.thorin_strings.specs.StringOffsets.{remapped_entry};
+ghost use Rattle.thorin_strings.specs.Strings.{IsZeroFree};
+ghost use Rattle.thorin_strings.specs.Known.{AreKnown};
+
+use crate::ends::{end_of, short_end};
+use crate::offsets::{offset_at, offset_limit};
+use crate::repeats::Repeats;
+use crate::table::PackageStringTable;
+use dwp_base::Endianness;
+use dwp_bytes::Encoding;
+
+/// The offset that the entry of a number has, where it can be read.
+#[inline(always)]
+fn known_entry(
+    debug_str_offsets: &[u8],
+    endian: Endianness,
+    encoding: Encoding,
+    index: u64,
+) -> Option<u64>
+    requires { header_size encoding + index * offset_size encoding.format < 2 ^ 64 }
+    ensures { IfSome result (λ offset.
+        entry_at endian encoding debug_str_offsets.now index ≡ Ok offset) }
+{
+    let header = encoding.string_offsets_header_size() as u64;
+    let at = header + index * encoding.format.offset_size() as u64;
+    match offset_at(debug_str_offsets, endian, encoding.format, at) {
+        Ok(offset) => Some(offset),
+        Err(_) => None,
+    }
+}
+
+/// The string at an offset, where it can be read.
+#[inline(always)]
+fn known_string(debug_str: &[u8], offset: u64) -> Option<&[u8]>
+    ensures meaning { IfSome result (λ string. string_read debug_str.now offset ≡ Ok string.now) }
+    ensures zero_free { IfSome result (λ string. IsZeroFree string.now) }
+{
+    let at = offset as usize;
+    if debug_str.len() < at {
+        return None;
+    }
+    let rest = &debug_str[at..];
+    let end = end_of(rest)?;
+    Some(&rest[..end])
+}
+
+/// The same of a short string.
+#[inline(always)]
+fn short_string(debug_str: &[u8], offset: u64) -> Option<&[u8]>
+    ensures meaning { IfSome result (λ string. string_read debug_str.now offset ≡ Ok string.now) }
+    ensures zero_free { IfSome result (λ string. IsZeroFree string.now) }
+{
+    let at = offset as usize;
+    if debug_str.len() < at {
+        return None;
+    }
+    let rest = &debug_str[at..];
+    let length = short_end(rest)?;
+    Some(&rest[..length])
+}
+
+impl PackageStringTable {
+    /// The offset of the string that an entry names, where that is remembered or its hash tells it.
+    /// None else, where it can't be read and for want of memory; the table is then as it was.
+    ///
+    /// Of a string that is short and wasn't remembered no more is asked than its hash.
+    #[inline(always)]
+    pub(crate) fn known_offset(
+        &mut self,
+        repeats: &mut Repeats,
+        debug_str: &[u8],
+        debug_str_offsets: &[u8],
+        endian: Endianness,
+        encoding: Encoding,
+        index: u64,
+    ) -> Option<u64>
+        requires small { header_size encoding + index * offset_size encoding.format < 2 ^ 64 }
+        requires known { AreKnown debug_str.now self.old repeats.old }
+        ensures meaning { IfSome result (λ offset.
+            remapped_entry endian encoding debug_str.now debug_str_offsets.now index self.old
+            ≡ Ok (offset, self.new)) }
+        ensures fits { IfSome result (λ offset. offset ≤ offset_limit encoding.format) }
+        ensures kept { take (length self.old) self.new ≡ self.old }
+        ensures none { IsNone result → self.new ≡ self.old }
+        ensures known { AreKnown debug_str.now self.new repeats.new }
+    {
+        let short = self.short_entry(
+            repeats,
+            debug_str,
+            debug_str_offsets,
+            endian,
+            encoding,
+            index,
+        );
+        match short {
+            Some(offset) => Some(offset),
+            None => self.entry_by_hash(
+                repeats,
+                debug_str,
+                debug_str_offsets,
+                endian,
+                encoding,
+                index,
+            ),
+        }
+    }
+
+    /// The same of a short string, where such strings aren't remembered.
+    #[inline(always)]
+    #[tactic(auto, using(crate::proofs::KnownLemmas::entry_read, crate::proofs::KnownLemmas::read_used, crate::proofs::KnownLemmas::offset_within))]
+    fn short_entry(
+        &mut self,
+        repeats: &Repeats,
+        debug_str: &[u8],
+        debug_str_offsets: &[u8],
+        endian: Endianness,
+        encoding: Encoding,
+        index: u64,
+    ) -> Option<u64>
+        requires small { header_size encoding + index * offset_size encoding.format < 2 ^ 64 }
+        ensures meaning { IfSome result (λ offset.
+            remapped_entry endian encoding debug_str.now debug_str_offsets.now index self.old
+            ≡ Ok (offset, self.new)) }
+        ensures fits { IfSome result (λ offset. offset ≤ offset_limit encoding.format) }
+        ensures kept { take (length self.old) self.new ≡ self.old }
+        ensures none { IsNone result → self.new ≡ self.old }
+    {
+        if repeats.has_cells() {
+            return None;
+        }
+        let named = known_entry(debug_str_offsets, endian, encoding, index)?;
+        let string = short_string(debug_str, named)?;
+        if offset_limit(encoding.format) < self.data().len() as u64 {
+            return None;
+        }
+        let offset = self.place_by_hash(string)?;
+        Some(offset)
+    }
+
+    /// As `known_offset`, of a string of any length.
+    #[inline(never)]
+    #[tactic(auto, using(crate::proofs::KnownLemmas::entry_read, crate::proofs::KnownLemmas::read_used, crate::proofs::KnownLemmas::offset_within))]
+    fn entry_by_hash(
+        &mut self,
+        repeats: &mut Repeats,
+        debug_str: &[u8],
+        debug_str_offsets: &[u8],
+        endian: Endianness,
+        encoding: Encoding,
+        index: u64,
+    ) -> Option<u64>
+        requires small { header_size encoding + index * offset_size encoding.format < 2 ^ 64 }
+        requires known { AreKnown debug_str.now self.old repeats.old }
+        ensures meaning { IfSome result (λ offset.
+            remapped_entry endian encoding debug_str.now debug_str_offsets.now index self.old
+            ≡ Ok (offset, self.new)) }
+        ensures fits { IfSome result (λ offset. offset ≤ offset_limit encoding.format) }
+        ensures kept { take (length self.old) self.new ≡ self.old }
+        ensures none { IsNone result → self.new ≡ self.old }
+        ensures known { AreKnown debug_str.now self.new repeats.new }
+    {
+        let limit = offset_limit(encoding.format);
+        let named = known_entry(debug_str_offsets, endian, encoding, index)?;
+        if let Some(known) = repeats.find(named) {
+            return if known <= limit { Some(known) } else { None };
+        }
+        let string = known_string(debug_str, named)?;
+        if limit < self.data().len() as u64 {
+            return None;
+        }
+        let offset = self.place_by_hash(string)?;
+        let _remembered = repeats.enter(string, named, offset);
+        Some(offset)
+    }
+}

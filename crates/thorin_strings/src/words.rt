@@ -1,0 +1,85 @@
+//! String offsets of four bytes, the lowest first, each rewritten in its place: most are such.
+
+ghost use Rattle.std.specs.Prelude.{◌≡◌, ◌≤◌, ◌<◌, ◌+◌, ◌^◌, ◌++◌, length, take};
+ghost use Rattle.dwp_base.specs.declared.endian.Endianness.TheVariants.{Little};
+ghost use Rattle.dwp_base.specs.Numbers.{number_bytes};
+ghost use Rattle.dwp_bytes.specs.declared.encoding.Format.TheVariants.{Dwarf32};
+ghost use Rattle.thorin_faults.specs.Answers.{Gives};
+ghost use Rattle.thorin_strings.specs.StringOffsets.{remapped};
+ghost use Rattle.thorin_strings.specs.Known.{AreKnown};
+
+use crate::offsets::header;
+use crate::repeats::Repeats;
+use crate::table::PackageStringTable;
+use dwp_base::Endianness;
+use dwp_bytes::Encoding;
+use thorin_faults::Error;
+
+/// Writes an offset of four bytes, the lowest first.
+#[inline(always)]
+fn write_word(out: &mut [u8], at: usize, offset: u64)
+    requires within { at + 4 ≤ length out.old }
+    requires fits { offset < 2 ^ 32 }
+    ensures long { length out.new ≡ length out.old }
+    ensures written { take (at + 4) out.new ≡ take at out.old ++ number_bytes Little 4 offset }
+{
+    out[at..at + 4].copy_from_slice(&(offset as u32).to_le_bytes());
+}
+
+impl PackageStringTable {
+    /// `remapped` of a range that is whole, with offsets of four bytes, the lowest first.
+    #[inline(always)]
+    #[tactic(auto, unfolding(crate::specs::StringOffsets::remapped))]
+    pub(crate) fn remapped_words(
+        &mut self,
+        repeats: &mut Repeats,
+        debug_str: &[u8],
+        debug_str_offsets: &[u8],
+        section_size: u64,
+        encoding: Encoding,
+    ) -> Result<Vec<u8>, Error>
+        requires form { encoding.format ≡ Dwarf32 }
+        requires whole { section_size ≤ length debug_str_offsets.now }
+        requires known { AreKnown debug_str.now self.old repeats.old }
+        ensures meaning { Gives (λ bytes. (bytes.items, self.new)) result
+            (remapped Little encoding debug_str.now debug_str_offsets.now section_size self.old) }
+        ensures kept { take (length self.old) self.new ≡ self.old }
+        ensures known { AreKnown debug_str.now self.new repeats.new }
+    {
+        let alloc = self.allocator();
+        if section_size == 0 {
+            return Ok(Vec::new(alloc));
+        }
+        if section_size < encoding.string_offsets_header_size() as u64 {
+            return Err(Error::BadStringOffsets(0));
+        }
+        let count = encoding.string_offsets_count(section_size);
+        let mut out = header(alloc, Endianness::Little, encoding, count * 4)?;
+        let first = out.len();
+        out.resize(first + count as usize * 4, 0)?;
+        for index in 0..count {
+            // (nearly every entry is told here, without room for an error)
+            let known = self.known_offset(
+                repeats,
+                debug_str,
+                debug_str_offsets,
+                Endianness::Little,
+                encoding,
+                index,
+            );
+            let offset = match known {
+                Some(offset) => offset,
+                None => self.remapped_entry(
+                    repeats,
+                    debug_str,
+                    debug_str_offsets,
+                    Endianness::Little,
+                    encoding,
+                    index,
+                )?,
+            };
+            write_word(&mut out, first + index as usize * 4, offset);
+        }
+        Ok(out)
+    }
+}
