@@ -1,12 +1,11 @@
 -- The string at the front of some bytes, up to the first zero.
-use Rattle.std.proofs.Common.{◌≡◌, ◌≢◌, ℕ, ◌+◌, ◌-◌, ◌<◌, ◌≤◌, true, false, ltb, eqb, List}
-use Rattle.std.proofs.Common.{length, take, drop, get_or, Some, Ok, Decides, ap, sym, refl, ◌∙◌}
-use Rattle.std.proofs.Common.{⊎_elim, arith}
+use Rattle.std.proofs.Common.{◌≡◌, ℕ, ◌<◌, ◌≤◌, true, false, ltb, eqb, List}
+use Rattle.std.proofs.Common.{length, take, drop, Some, Ok, Decides, ap, sym, refl, ◌∙◌}
+use Rattle.std.proofs.Common.{arith}
 use Rattle.std.specs.List.{before_first, list_any, HoldsAt}
-use Rattle.std.proofs.lemmas.List.{get_or_default, get_or-take, get_or-drop, length-take}
-use Rattle.std.proofs.lemmas.List.{length-drop}
+use Rattle.std.proofs.lemmas.List.{get_or_default, get_or-take, length-take}
 use Rattle.std.proofs.lemmas.List.Sums.{position_or_len_is}
-use Rattle.std.proofs.lemmas.Bool.{le-ltb, eq-eqb, eqb-true, ne_eqb, cases_lt}
+use Rattle.std.proofs.lemmas.Bool.{le-ltb, eq-eqb, eqb-true, ne_eqb}
 use Rattle.std.proofs.lemmas.Bool.Decides.{Decides-by_or, Decides-eqb}
 use Rattle.memchr.specs.Find.{IsFirstByte, is_byte}
 use Rattle.dwp_bytes.specs.StringOffsets.{string_at}
@@ -19,19 +18,12 @@ any_zero : (xs : List ℕ) → Decides (list_any (λ b. eqb b 0) xs) ((k : ℕ) 
 any_zero = Decides-by_or (λ b. eqb b 0) (λ b. b ≡ 0) (list_any (λ b. eqb b 0)) (λ b.
     Decides-eqb b 0) refl (λ _ _. refl)
 
--- a search behind bytes that aren't zero
-pub found_behind : (xs : List ℕ) (from i : ℕ) → from ≤ length xs → ((k : ℕ) → k < from
-    → get_or xs k 0 ≢ 0) → IsFirstByte (is_byte 0) (drop from xs) (Some i)
-    → IsFirstZero xs (from + i)
-found_behind xs from i inside earlier h = record {
-  within = omega (arith, h.0.high, length-drop from xs);
-  ended = sym (get_or-drop from xs i 0) ∙ eqb-true _ 0 h.1;
-  before = λ k less. ⊎_elim (earlier k)
-      (λ behind zero.
-      let e : from + (k - from) ≡ k = omega arith in
-      h.0.before (k - from) (omega arith) (omega arith) (eq-eqb _ 0 (get_or-drop from xs (k - from)
-      0 ∙ ap (λ n. get_or xs n 0) e ∙ zero)))
-      (cases_lt k from);
+-- what a search finds
+pub found_first : (xs : List ℕ) (i : ℕ) → IsFirstByte (is_byte 0) xs (Some i) → IsFirstZero xs i
+found_first xs i h = record {
+  within = h.0.high;
+  ended = eqb-true _ 0 h.1;
+  before = λ k less zero. h.0.before k (omega arith) less (eq-eqb _ 0 zero);
 }
 
 -- the string at a place of a section

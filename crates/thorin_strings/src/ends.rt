@@ -24,25 +24,6 @@ fn before_zero(bytes: &[u8], at: usize) -> usize
     zeros.trailing_zeros() as usize
 }
 
-/// How many bytes stand before the first zero, or some of them.
-#[inline(always)]
-fn some_before(bytes: &[u8]) -> usize
-    ensures within { result ≤ length bytes.now }
-    ensures some { (k : ℕ) → k < result → slice_index bytes.now k ≢ 0 }
-{
-    for round in 0..ROUNDS {
-        let at = round * LANES;
-        if bytes.len() - at < LANES {
-            return at;
-        }
-        let some = before_zero(bytes, at);
-        if some < LANES {
-            return at + some;
-        }
-    }
-    ROUNDS * LANES
-}
-
 /// Where the string at the front of some bytes ends, where it is short and not near their end.
 #[inline(always)]
 pub(crate) fn short_end(bytes: &[u8]) -> Option<usize>
@@ -61,28 +42,13 @@ pub(crate) fn short_end(bytes: &[u8]) -> Option<usize>
     None
 }
 
-/// Where the string at the front of some bytes ends, of which so many aren't zero; none where it
-/// has no end.
-#[inline(never)]
-fn end_behind(bytes: &[u8], from: usize) -> Option<usize>
-    requires within { from ≤ length bytes.now }
-    requires some { (k : ℕ) → k < from → slice_index bytes.now k ≢ 0 }
-    ensures { IfSome result (IsFirstZero bytes.now) }
-{
-    match memchr(0, &bytes[from..]) {
-        Some(end) => Some(from + end),
-        None => None,
-    }
-}
-
 /// Where the string at the front of some bytes ends; none where it has no end.
-#[inline(always)]
+#[inline(never)]
 pub(crate) fn end_of(bytes: &[u8]) -> Option<usize>
     ensures { IfSome result (IsFirstZero bytes.now) }
 {
-    let some = some_before(bytes);
-    if some < bytes.len() && bytes[some] == 0 {
-        return Some(some);
+    match memchr(0, bytes) {
+        Some(end) => Some(end),
+        None => None,
     }
-    end_behind(bytes, some)
 }

@@ -67,10 +67,9 @@ fn short_string(debug_str: &[u8], offset: u64) -> Option<&[u8]>
 }
 
 impl PackageStringTable {
-    /// The offset of the string that an entry names, where that is remembered or its hash tells it.
-    /// None else, where it can't be read and for want of memory; the table is then as it was.
+    /// As `entry_by_hash`, where short strings aren't remembered.
     ///
-    /// Of a string that is short and wasn't remembered no more is asked than its hash.
+    /// A string whose end is near isn't looked for among those that are remembered.
     #[inline(always)]
     pub(crate) fn known_offset(
         &mut self,
@@ -91,17 +90,10 @@ impl PackageStringTable {
         ensures none { IsNone result → self.new ≡ self.old }
         ensures known { AreKnown debug_str.now self.new repeats.new }
     {
-        let short = self.short_entry(
-            repeats,
-            debug_str,
-            debug_str_offsets,
-            endian,
-            encoding,
-            index,
-        );
+        let short = self.short_entry(debug_str, debug_str_offsets, endian, encoding, index);
         match short {
             Some(offset) => Some(offset),
-            None => self.entry_by_hash(
+            None => self.long_entry(
                 repeats,
                 debug_str,
                 debug_str_offsets,
@@ -112,12 +104,11 @@ impl PackageStringTable {
         }
     }
 
-    /// The same of a short string, where such strings aren't remembered.
+    /// The same of a string whose end is near, by its hash alone.
     #[inline(always)]
     #[tactic(auto, using(crate::proofs::KnownLemmas::entry_read, crate::proofs::KnownLemmas::read_used, crate::proofs::KnownLemmas::offset_within))]
     fn short_entry(
         &mut self,
-        repeats: &Repeats,
         debug_str: &[u8],
         debug_str_offsets: &[u8],
         endian: Endianness,
@@ -132,9 +123,6 @@ impl PackageStringTable {
         ensures kept { take (length self.old) self.new ≡ self.old }
         ensures none { IsNone result → self.new ≡ self.old }
     {
-        if repeats.has_cells() {
-            return None;
-        }
         let named = known_entry(debug_str_offsets, endian, encoding, index)?;
         let string = short_string(debug_str, named)?;
         if offset_limit(encoding.format) < self.data().len() as u64 {
@@ -144,10 +132,42 @@ impl PackageStringTable {
         Some(offset)
     }
 
-    /// As `known_offset`, of a string of any length.
+    /// `entry_by_hash` out of the loop over short strings.
     #[inline(never)]
+    fn long_entry(
+        &mut self,
+        repeats: &mut Repeats,
+        debug_str: &[u8],
+        debug_str_offsets: &[u8],
+        endian: Endianness,
+        encoding: Encoding,
+        index: u64,
+    ) -> Option<u64>
+        requires small { header_size encoding + index * offset_size encoding.format < 2 ^ 64 }
+        requires known { AreKnown debug_str.now self.old repeats.old }
+        ensures meaning { IfSome result (λ offset.
+            remapped_entry endian encoding debug_str.now debug_str_offsets.now index self.old
+            ≡ Ok (offset, self.new)) }
+        ensures fits { IfSome result (λ offset. offset ≤ offset_limit encoding.format) }
+        ensures kept { take (length self.old) self.new ≡ self.old }
+        ensures none { IsNone result → self.new ≡ self.old }
+        ensures known { AreKnown debug_str.now self.new repeats.new }
+    {
+        self.entry_by_hash(
+            repeats,
+            debug_str,
+            debug_str_offsets,
+            endian,
+            encoding,
+            index,
+        )
+    }
+
+    /// The offset of the string that an entry names, where that is remembered or its hash tells it.
+    /// None else, where it can't be read and for want of memory; the table is then as it was.
+    #[inline(always)]
     #[tactic(auto, using(crate::proofs::KnownLemmas::entry_read, crate::proofs::KnownLemmas::read_used, crate::proofs::KnownLemmas::offset_within))]
-    fn entry_by_hash(
+    pub(crate) fn entry_by_hash(
         &mut self,
         repeats: &mut Repeats,
         debug_str: &[u8],

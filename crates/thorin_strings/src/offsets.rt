@@ -309,12 +309,21 @@ impl PackageStringTable {
         ensures known { AreKnown debug_str.now self.new repeats.new }
     {
         let is_whole = section_size <= debug_str_offsets.len() as u64;
+        let is_plain = is_whole && !repeats.has_cells();
         match (endian, encoding.format) {
-            (Endianness::Little, Format::Dwarf32) if is_whole => self.remapped_words(
+            (Endianness::Little, Format::Dwarf32) if is_plain => self.remapped_words(
                 repeats,
                 debug_str,
                 debug_str_offsets,
                 section_size,
+                dwarf32(encoding),
+            ),
+            (Endianness::Little, Format::Dwarf32) => self.remapped(
+                repeats,
+                debug_str,
+                debug_str_offsets,
+                section_size,
+                Endianness::Little,
                 dwarf32(encoding),
             ),
             _ => self.remapped(
@@ -329,6 +338,7 @@ impl PackageStringTable {
     }
 
     /// The same for one form.
+    #[inline(always)]
     #[tactic(auto, unfolding(crate::specs::StringOffsets::remapped))]
     fn remapped(
         &mut self,
@@ -358,7 +368,7 @@ impl PackageStringTable {
         out.reserve(debug_str_offsets.len())?;
         for index in 0..count {
             // (nearly every entry is told here, without room for an error)
-            let known = self.known_offset(
+            let known = self.entry_by_hash(
                 repeats,
                 debug_str,
                 debug_str_offsets,
