@@ -49,7 +49,12 @@ module _ (object : DwarfObject) (a : Option (List ℕ)) (held : List ℕ) (b : O
   pub nameless : Tells (IsLine (fault_line object (codes "it has no identifier of its own"))) a
       held b left result
       → Tells (TellsOwn object) a held b left result
-  nameless h = own_fault (codes "it has no identifier of its own") (inl refl) h
+  nameless h = own_fault (codes "it has no identifier of its own") (inl (inl refl)) h
+
+  pub lacking : Tells (IsLine (fault_line object (codes "its row has no abbreviations"))) a
+      held b left result
+      → Tells (TellsOwn object) a held b left result
+  lacking h = own_fault (codes "its row has no abbreviations") (inl (inr refl)) h
 
   pub told_string : (i : ℕ) (fault : ReadError) (text cause told : List ℕ) → text ≡ told
       → told ≡ string_text i cause → Tells (IsLine (fault_line object text)) a held b left result

@@ -43,10 +43,11 @@ IsUnread object (Range kind) lines = IsLine (fault_line object
     (codes "its range of " ++ (name_of kind ++ codes " is outside the section"))) lines
 IsUnread object _ lines = IsSomeFault object lines
 
--- what may be wrong with the identifier that a unit's own bytes give: there is none, or it is
--- another, or can't be read
+-- what may be wrong with the identifier that a unit's own bytes give: there is none, or no
+-- abbreviations to read it by, or it is another, or can't be read
 abbrev pub IsOwnText : List ℕ → Type 0
-IsOwnText text = (text ≡ codes "it has no identifier of its own")
+IsOwnText text = ((text ≡ codes "it has no identifier of its own")
+    ⊎ (text ≡ codes "its row has no abbreviations"))
     ⊎ ((rest : List ℕ) × (text ≡ codes "its own identifier " ++ rest))
 
 pub record IsOwnFault (object : DwarfObject) (lines : List (List ℕ)) : Type 0 where

@@ -17,7 +17,7 @@ ghost use Rattle.thorin_queries.specs.Telling.{Grows, InTurn, TellsOr};
 use crate::executables::{Named, check_executables};
 use crate::faults::with_rest;
 use crate::files::{FileReader, HostReader, read_named};
-use crate::input::{has_no_index, strings_of};
+use crate::input::has_no_index;
 use crate::json_lines::JsonLines;
 use crate::listing::entries_by_row;
 use crate::output::{Failure, flush, print};
@@ -218,7 +218,7 @@ fn check_all<F: FileReader, O: Write>(
         named.entry.executables.now) (O.contents out.old) (string_bytes waiting.old)
         (O.contents out.new) (string_bytes waiting.new) result }
 {
-    match check_units(rt.alloc(), pack, strings_of(file), entries, waiting, out) {
+    match check_units(rt.alloc(), pack, file, entries, waiting, out) {
         Ok(of_units) => with_rest(
             of_units,
             check_rest(rt, files, pack, file, entries, named, waiting, out),

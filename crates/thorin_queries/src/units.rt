@@ -3,11 +3,12 @@
 ghost use Rattle.std.specs.Prelude.{◌≡◌, ◌++◌, codes, IfOk, IfSome, string_bytes};
 ghost use Rattle.std.specs.Fmt.{decimal};
 ghost use Rattle.dwp_base.specs.Sections.{name_of};
+ghost use Rattle.dwp_elf_read.specs.View.{elf};
 ghost use Rattle.dwp_index.specs.declared.fault.PackageError.TheVariants as faults;
 ghost use Rattle.thorin_queries.specs.Checking.{TellsUnits};
 ghost use Rattle.thorin_queries.specs.Faults.{TellsUnit, TellsFound, TellsOwn, IsUnread};
 ghost use Rattle.thorin_queries.specs.Faults.{IsSomeFault, fault_line, TellsInRow, IsOwnText};
-ghost use Rattle.thorin_queries.specs.Listing.{HasStrings};
+ghost use Rattle.thorin_queries.specs.Indexes.{HasIndexes};
 ghost use Rattle.thorin_queries.specs.Overlaps.{IsClash, overlap_text};
 ghost use Rattle.thorin_queries.specs.Telling.{Tells, ForEach, IsLine};
 
@@ -15,11 +16,11 @@ use crate::abbreviations::{Own, Remembered};
 use crate::ends::Ends;
 use crate::faults::{tell, with_rest};
 use crate::finding::short_kind;
-use crate::names::Strings;
+use crate::input::strings_of;
 use crate::output::Failure;
 use crate::overlaps::{Clash, Overlaps, Shares, overlap};
 use crate::strings::{StringRange, add_range, check_strings};
-use dwp_elf::SectionKind;
+use dwp_elf::{ElfFile, SectionKind};
 use dwp_index::{PackageError, PackageFile, PackagedUnit, UnitEntry};
 use dwp_table::{Bucketable, DwarfObject};
 use std::alloc::{AllocError, Global};
@@ -31,17 +32,17 @@ use std::io::Write;
 pub(crate) fn check_units<O: Write>(
     alloc: Global,
     pack: &PackageFile<'_>,
-    strings: Strings<'_>,
+    file: &ElfFile<'_>,
     entries: &[UnitEntry],
     waiting: &mut String,
     out: &mut O,
 ) -> Result<u64, Failure>
-    requires { HasStrings strings pack.now }
+    requires { HasIndexes (elf file.now) pack.now }
     ensures { Tells (TellsUnits pack.now entries.now) (O.contents out.old)
         (string_bytes waiting.old) (O.contents out.new) (string_bytes waiting.new) result }
 {
     match Overlaps::find(alloc, pack, entries) {
-        Ok(overlaps) => check_all(alloc, pack, strings, entries, &overlaps, waiting, out),
+        Ok(overlaps) => check_all(alloc, pack, file, entries, &overlaps, waiting, out),
         Err(_) => Err(Failure::Memory),
     }
 }
@@ -50,18 +51,18 @@ pub(crate) fn check_units<O: Write>(
 fn check_all<O: Write>(
     alloc: Global,
     pack: &PackageFile<'_>,
-    strings: Strings<'_>,
+    file: &ElfFile<'_>,
     entries: &[UnitEntry],
     overlaps: &Overlaps,
     waiting: &mut String,
     out: &mut O,
 ) -> Result<u64, Failure>
-    requires { HasStrings strings pack.now }
+    requires { HasIndexes (elf file.now) pack.now }
     ensures { Tells (TellsUnits pack.now entries.now) (O.contents out.old)
         (string_bytes waiting.old) (O.contents out.new) (string_bytes waiting.new) result }
 {
     let mut ranges = Vec::new(alloc);
-    let mut abbreviations = Remembered::new(alloc, strings.order);
+    let mut abbreviations = Remembered::of(alloc, file);
     match check_each(
         pack,
         &mut abbreviations,
@@ -73,7 +74,7 @@ fn check_all<O: Write>(
     ) {
         Ok(of_units) => with_rest(
             of_units,
-            check_strings(pack, Ends::of(strings), &mut ranges, waiting, out),
+            check_strings(pack, Ends::of(strings_of(file)), &mut ranges, waiting, out),
         ),
         Err(failure) => Err(failure),
     }
@@ -223,7 +224,7 @@ fn clash_of(pack: &PackageFile<'_>, unit: &PackagedUnit<'_>, clash: Option<Clash
 
 /// Checks the identifier that a unit's own bytes give, and gathers the range of its string offsets
 /// where it is its own. Answers the number of faults.
-#[tactic(auto, using(crate::proofs::Faulted::own_none, crate::proofs::Faulted::nameless, crate::proofs::Told::none_grown))]
+#[tactic(auto, using(crate::proofs::Faulted::own_none, crate::proofs::Faulted::nameless, crate::proofs::Faulted::lacking, crate::proofs::Told::none_grown))]
 fn check_own<'a, O: Write>(
     abbreviations: &mut Remembered<'a>,
     object: DwarfObject,
@@ -248,6 +249,7 @@ fn check_own<'a, O: Write>(
             }
         }
         Ok(Own::Nameless) => tell(object, "it has no identifier of its own", waiting, out),
+        Ok(Own::Lacking) => tell(object, "its row has no abbreviations", waiting, out),
         Ok(Own::Unread(cause)) => tell_own_unread(object, cause.as_str(), waiting, out),
         Err(_) => Err(Failure::Memory),
     }

@@ -6,9 +6,6 @@ use Rattle.thorin_queries.proofs.Checked.{of_printing}
 use Rattle.thorin_queries.proofs.Told.{in_turn_or}
 use Rattle.thorin_queries.proofs.checking.check_all.Goals as goal
 
-pub check_units-requires : goal.check_units-requires
-check_units-requires g c = c.strings_of.ensures c.args.pack.now c.requires
-
 pub returns-in-Ok : goal.returns-in-Ok
 returns-in-Ok g c =
     in_turn_or (TellsUnits c.args.pack.now c.args.entries.now)

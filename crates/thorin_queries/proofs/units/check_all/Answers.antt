@@ -5,6 +5,10 @@ use Rattle.thorin_queries.specs.Telling.{IsOfPrinting, ForEach}
 use Rattle.thorin_queries.proofs.Told.{in_turn_or}
 use Rattle.thorin_queries.proofs.units.check_all.Goals as goal
 
+pub check_strings-requires : goal.check_strings-requires
+check_strings-requires g c =
+    c.of.ensures c.args.pack.now (c.strings_of.ensures c.args.pack.now c.requires)
+
 pub returns-in-Ok : goal.returns-in-Ok
 returns-in-Ok g c =
     in_turn_or (ForEach (TellsUnit c.args.pack.now) c.args.entries.now)
