@@ -6,7 +6,7 @@ use std::alloc::Global;
 use std::collections::BTreeMap;
 use std::path::Path;
 use test_rows::{Row, Said, change, number, split};
-use thorin_executable::{Skeleton, SkeletonList, SkeletonUnits, skeletons};
+use thorin_executable::{NamelessUnits, Skeleton, SkeletonList, SkeletonUnits, skeletons};
 use thorin_faults::{ArenaSession, Error, InputError, MemorySession, Session};
 
 /// Makes the call of a row.
@@ -15,6 +15,7 @@ pub fn call(row: Row<'_>, said: &mut Said) {
         "skeletons_of" => in_session(row, row.bytes(1), said),
         "skeletons_in" => of_sections(row, said),
         "one_by_one" => one_by_one(row, said),
+        "passing_over_nameless" => of_sections(row, said),
         _ => said.word("no such call"),
     }
 }
@@ -153,8 +154,20 @@ fn put_asked<Sess: Session<RelocationEntry>>(
 ) {
     match row.word(0) {
         "one_by_one" => put_units(SkeletonUnits::read(row.alloc, session, bytes), said),
+        "passing_over_nameless" => put_those_named(row.alloc, session, bytes, said),
         _ => put_skeletons(row.alloc, session, bytes, said),
     }
+}
+
+/// Four of those that name an object, one after the other.
+fn put_those_named<Sess: Session<RelocationEntry>>(
+    alloc: Global,
+    session: &Sess,
+    bytes: &[u8],
+    said: &mut Said,
+) {
+    let nameless = NamelessUnits::PassedOver;
+    put_units(SkeletonUnits::read_by(alloc, session, bytes, nameless), said);
 }
 
 fn put_skeletons<Sess: Session<RelocationEntry>>(

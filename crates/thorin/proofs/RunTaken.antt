@@ -17,6 +17,7 @@ use Rattle.thorin_again.specs.PlainInputs.{AreTaken}
 use Rattle.thorin_builder.specs.Taking.{Outcome, Takes, accepted_of, TakesRead, with_target}
 use Rattle.thorin_builder.specs.Taking.{TakesReferred, TakesSkeleton, Step, GoesOn, TakesSkeletons}
 use Rattle.thorin_builder.specs.Taking.{TakesExecutableRead}
+use Rattle.thorin_executable.specs.Skeletons.{Listed, skeletons_of, named_skeletons_of}
 use Rattle.thorin.specs.Groups.{taken_each}
 use Rattle.thorin.specs.Run.{TakesInput, Ran}
 use Rattle.thorin.proofs.Running.{Offer}
@@ -137,13 +138,16 @@ skeletons-taken offer missing (n ∷ ns) fault old new outcome accepted takes =
     (λ rest. skeletons-taken offer missing ns fault takes.0.middle new outcome takes.0.later
     rest) takes.2 takes.3
 
-executable-taken : (offer : Offer) (missing : MissingReferencedObjectBehaviour)
-    (read : Result (List ℕ) InputError) (old new : State) (outcome : Outcome)
-    (accepted : List (List ℕ))
-    → TakesExecutableRead offer missing read old outcome new accepted → AreTaken accepted old new
-executable-taken offer missing (Ok bytes) old new outcome accepted takes = skeletons-taken offer
+executable-taken : (names : List ℕ → Listed) (offer : Offer)
+    (missing : MissingReferencedObjectBehaviour) (read : Result (List ℕ) InputError)
+    (old new : State) (outcome : Outcome) (accepted : List (List ℕ))
+    → TakesExecutableRead names offer missing read old outcome new accepted
+    → AreTaken accepted old new
+executable-taken names offer missing (Ok bytes) old new outcome accepted takes =
+    skeletons-taken offer
     missing takes.named takes.fault old new outcome accepted takes.taken
-executable-taken offer missing (Err e) old new outcome accepted takes = none-taken accepted old new
+executable-taken names offer missing (Err e) old new outcome accepted takes =
+    none-taken accepted old new
     takes.1 takes.2
 
 input-taken : (offer : Offer) (input : Input) (old new : State) (outcome : Outcome)
@@ -155,7 +159,10 @@ input-taken offer (inputs.Object path) old new outcome accepted takes =
 input-taken offer (inputs.Bytes bytes) old new outcome accepted takes = takes-taken bytes.now old
     new outcome accepted takes.0 takes.1
 input-taken offer (inputs.Executable path missing) old new outcome accepted takes =
-    subst (λ a. AreTaken a old new) (sym takes.1) (executable-taken offer
+    subst (λ a. AreTaken a old new) (sym takes.1) (executable-taken skeletons_of offer
+    missing takes.0.read old new outcome takes.0.accepted takes.0.taken)
+input-taken offer (inputs.ExecutableSkippingNameless path missing) old new outcome accepted takes =
+    subst (λ a. AreTaken a old new) (sym takes.1) (executable-taken named_skeletons_of offer
     missing takes.0.read old new outcome takes.0.accepted takes.0.taken)
 
 pub run-taken : (offer : Offer) (list : List Input) (old new : State) (outcomes : List Outcome)

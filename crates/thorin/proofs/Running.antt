@@ -23,6 +23,8 @@ use Rattle.thorin_join.specs.Represents.{units_in}
 use Rattle.thorin_builder.specs.Taking.{Outcome, Takes, accepted_of, TakesRead, with_target}
 use Rattle.thorin_builder.specs.Taking.{TakesReferred, TakesSkeleton, Step, GoesOn, TakesSkeletons}
 use Rattle.thorin_builder.specs.Taking.{TakesExecutable, TakesFile, TakesExecutableRead}
+use Rattle.thorin_builder.specs.Taking.{TakesExecutableSkippingNameless}
+use Rattle.thorin_executable.specs.Skeletons.{Listed, skeletons_of, named_skeletons_of}
 use Rattle.thorin.specs.Run.{TakesInput, Took, Ran}
 
 abbrev pub Offer : Type 1
@@ -137,14 +139,16 @@ skeletons-joined offer missing (n ∷ ns) fault old new outcome accepted takes =
     (λ rest. skeletons-joined offer missing ns fault takes.0.middle new outcome takes.0.later
     rest) takes.2 takes.3
 
-executable-joined : (offer : Offer) (missing : MissingReferencedObjectBehaviour)
-    (read : Result (List ℕ) InputError) (old new : State) (outcome : Outcome)
-    (accepted : List (List ℕ))
-    → TakesExecutableRead offer missing read old outcome new accepted
+executable-joined : (names : List ℕ → Listed) (offer : Offer)
+    (missing : MissingReferencedObjectBehaviour) (read : Result (List ℕ) InputError)
+    (old new : State) (outcome : Outcome) (accepted : List (List ℕ))
+    → TakesExecutableRead names offer missing read old outcome new accepted
     → JoinAll accepted (units_in old) (units_in new)
-executable-joined offer missing (Ok bytes) old new outcome accepted takes = skeletons-joined offer
+executable-joined names offer missing (Ok bytes) old new outcome accepted takes =
+    skeletons-joined offer
     missing takes.named takes.fault old new outcome accepted takes.taken
-executable-joined offer missing (Err e) old new outcome accepted takes = none-joined accepted old
+executable-joined names offer missing (Err e) old new outcome accepted takes =
+    none-joined accepted old
     new takes.1 takes.2
 
 input-joined : (offer : Offer) (input : Input) (old new : State) (outcome : Outcome)
@@ -156,8 +160,11 @@ input-joined offer (inputs.Object path) old new outcome accepted takes =
 input-joined offer (inputs.Bytes bytes) old new outcome accepted takes = takes-joined bytes.now old
     new outcome accepted takes.0 takes.1
 input-joined offer (inputs.Executable path missing) old new outcome accepted takes =
-    subst (λ a. JoinAll a (units_in old) (units_in new)) (sym takes.1) (executable-joined offer
-    missing takes.0.read old new outcome takes.0.accepted takes.0.taken)
+    subst (λ a. JoinAll a (units_in old) (units_in new)) (sym takes.1) (executable-joined
+    skeletons_of offer missing takes.0.read old new outcome takes.0.accepted takes.0.taken)
+input-joined offer (inputs.ExecutableSkippingNameless path missing) old new outcome accepted takes =
+    subst (λ a. JoinAll a (units_in old) (units_in new)) (sym takes.1) (executable-joined
+    named_skeletons_of offer missing takes.0.read old new outcome takes.0.accepted takes.0.taken)
 
 pub run-joined : (offer : Offer) (list : List Input) (old new : State) (outcomes : List Outcome)
     (accepted : List (List ℕ)) → Ran offer list old outcomes new accepted
@@ -190,6 +197,18 @@ pub took-executable : (offer : Offer) (input : Input) (path : Path)
     → TakesExecutable offer (path_bytes path) missing old outcome new
     → Took offer input old outcome new
 took-executable offer input path missing old new outcome h takes =
+    subst (λ i. Took offer i old outcome new) (sym h) (record {
+      accepted = takes.accepted;
+      takes =
+          (takes, refl);
+    })
+
+pub took-skipping : (offer : Offer) (input : Input) (path : Path)
+    (missing : MissingReferencedObjectBehaviour) (old new : State) (outcome : Outcome)
+    → input ≡ inputs.ExecutableSkippingNameless path missing
+    → TakesExecutableSkippingNameless offer (path_bytes path) missing old outcome new
+    → Took offer input old outcome new
+took-skipping offer input path missing old new outcome h takes =
     subst (λ i. Took offer i old outcome new) (sym h) (record {
       accepted = takes.accepted;
       takes =

@@ -15,7 +15,7 @@ use Rattle.thorin.specs.declared.packing.Input.{Input}
 use Rattle.thorin.specs.declared.packing.Input.TheVariants as inputs
 use Rattle.thorin_join.specs.Builder.{State, finish_test, IsFinishedState}
 use Rattle.thorin_builder.specs.Taking.{Outcome, Takes, accepted_of, TakesFile, TakesExecutable}
-use Rattle.thorin_builder.specs.Taking.{Step}
+use Rattle.thorin_builder.specs.Taking.{TakesExecutableSkippingNameless, Step}
 
 -- what came of an input of a list, and the bytes that were accepted
 abbrev pub TakesInput : (List ℕ → Result (List ℕ) IoError → Type 0) → Input → State → Outcome
@@ -26,6 +26,9 @@ TakesInput offer (inputs.Bytes bytes) old outcome new accepted =
     Takes bytes.now old outcome new × (accepted ≡ accepted_of outcome bytes.now)
 TakesInput offer (inputs.Executable path missing) old outcome new accepted =
     (t : TakesExecutable offer (path_bytes path) missing old outcome new) × (accepted ≡ t.accepted)
+TakesInput offer (inputs.ExecutableSkippingNameless path missing) old outcome new accepted =
+    (t : TakesExecutableSkippingNameless offer (path_bytes path) missing old outcome new)
+    × (accepted ≡ t.accepted)
 
 -- the same, with the bytes that were accepted
 pub record Took (offer : List ℕ → Result (List ℕ) IoError

@@ -23,6 +23,8 @@ pub enum Input<'a> {
     Bytes(&'a [u8]),
     /// The objects that the executable at a path refers to.
     Executable(Path<'a>, MissingReferencedObjectBehaviour),
+    /// The same, where units of the executable that name no object are passed over.
+    ExecutableSkippingNameless(Path<'a>, MissingReferencedObjectBehaviour),
 }
 
 /// What packing gave: an outcome for each input, in order, and the package's bytes.
@@ -69,7 +71,8 @@ pub fn pack<'s, Sess: Session<RelocationEntry>>(
 /// afterwards.
 ///
 /// # Errors
-/// Those of `DwarfPackage::add_input_by`, `add_object_bytes` or `add_executable_by`, by the input.
+/// Those of `DwarfPackage::add_input_by`, `add_object_bytes`, `add_executable_by` or
+/// `add_executable_skipping_nameless_by`, by the input.
 pub fn take_input<'o, 's: 'o, Sess: Session<RelocationEntry>, R: InputReader>(
     builder: &mut DwarfPackage<'o, 's, Sess>,
     reader: &R,
@@ -84,6 +87,9 @@ pub fn take_input<'o, 's: 'o, Sess: Session<RelocationEntry>, R: InputReader>(
         Input::Object(path) => builder.add_input_by(reader, room, path),
         Input::Bytes(bytes) => builder.add_object_bytes(bytes),
         Input::Executable(path, missing) => builder.add_executable_by(reader, room, path, missing),
+        Input::ExecutableSkippingNameless(path, missing) => {
+            builder.add_executable_skipping_nameless_by(reader, room, path, missing)
+        }
     }
 }
 

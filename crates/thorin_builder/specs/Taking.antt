@@ -10,7 +10,7 @@ use Rattle.thorin_faults.specs.declared.fault.InputError.TheVariants as input_er
 use Rattle.thorin_faults.specs.Fault.{Fault, fault_of, Memory}
 use Rattle.thorin_faults.specs.declared.fault.MissingReferencedObjectBehaviour.{MissingReferencedObjectBehaviour}
 use Rattle.thorin_faults.specs.declared.fault.MissingReferencedObjectBehaviour.TheVariants as behaviour
-use Rattle.thorin_executable.specs.Skeletons.{Listed, skeletons_of}
+use Rattle.thorin_executable.specs.Skeletons.{Listed, skeletons_of, named_skeletons_of}
 use Rattle.dwp_table.specs.declared.object.DwarfObject.{DwarfObject}
 use Rattle.dwp_table.specs.declared.object.DwarfObject.TheVariants.{Compilation, TypeUnit}
 use Rattle.thorin_faults.specs.Answers.{Gives}
@@ -152,20 +152,31 @@ pub record TakesNamed (offer : List ℕ → Result (List ℕ) IoError
   pub front : take (length named) meaning.0 ≡ named
   pub taken : TakesSkeletons offer missing named fault old outcome new accepted
 
--- what a read of an executable gave was taken
-abbrev pub TakesExecutableRead : (List ℕ → Result (List ℕ) IoError → Type 0)
-    → MissingReferencedObjectBehaviour → Result (List ℕ) InputError → State → Outcome → State
-    → List (List ℕ) → Type 0
-TakesExecutableRead offer missing (Ok bytes) old outcome new accepted =
-    TakesNamed offer missing (skeletons_of bytes) old outcome new accepted
-TakesExecutableRead offer missing (Err e) old outcome new accepted =
+-- what a read of an executable gave was taken; `names` says which units its bytes name
+abbrev pub TakesExecutableRead : (names : List ℕ → Listed)
+    → (List ℕ → Result (List ℕ) IoError → Type 0) → MissingReferencedObjectBehaviour
+    → Result (List ℕ) InputError → State → Outcome → State → List (List ℕ) → Type 0
+TakesExecutableRead names offer missing (Ok bytes) old outcome new accepted =
+    TakesNamed offer missing (names bytes) old outcome new accepted
+TakesExecutableRead names offer missing (Err e) old outcome new accepted =
     (outcome ≡ Err (input_fault e)) × (new ≡ old) × (accepted ≡ [])
 
 -- the same for the executable at a path, of which that may be read
-pub record TakesExecutable (offer : List ℕ → Result (List ℕ) IoError
+pub record TakesExecutableBy (names : List ℕ → Listed) (offer : List ℕ → Result (List ℕ) IoError
     → Type 0) (path : List ℕ) (missing : MissingReferencedObjectBehaviour) (old : State)
     (outcome : Outcome) (new : State) : Type 0 where
   pub read : Result (List ℕ) InputError
   pub within : MayRead (offer path) read
   pub accepted : List (List ℕ)
-  pub taken : TakesExecutableRead offer missing read old outcome new accepted
+  pub taken : TakesExecutableRead names offer missing read old outcome new accepted
+
+-- where a unit that names no object is a fault
+abbrev pub TakesExecutable : (offer : List ℕ → Result (List ℕ) IoError → Type 0) → List ℕ
+    → MissingReferencedObjectBehaviour → State → Outcome → State → Type 0
+TakesExecutable = TakesExecutableBy skeletons_of
+
+-- where such a unit is passed over
+abbrev pub TakesExecutableSkippingNameless : (offer : List ℕ → Result (List ℕ) IoError
+    → Type 0) → List ℕ
+    → MissingReferencedObjectBehaviour → State → Outcome → State → Type 0
+TakesExecutableSkippingNameless = TakesExecutableBy named_skeletons_of

@@ -3,6 +3,7 @@
 #![tactic(auto)]
 
 mod adding;
+mod executables;
 mod in_progress;
 mod missing;
 mod package;
@@ -14,5 +15,5 @@ pub use in_progress::InProgressDwarfPackage;
 pub use missing::MissingTargets;
 pub use package::DwarfPackage;
 pub use reader::InputReader;
-pub use thorin_executable::{Skeleton, SkeletonList, SkeletonUnits, skeletons};
+pub use thorin_executable::{NamelessUnits, Skeleton, SkeletonList, SkeletonUnits, skeletons};
 pub use thorin_identity::dwo_identifier_of_unit;

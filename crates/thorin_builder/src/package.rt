@@ -15,12 +15,8 @@ ghost use Rattle.thorin_again.specs.OwnAccepted.{IsAcceptedByNewOnceWritten};
 ghost use Rattle.thorin_again.specs.OwnAccepted.{IsAcceptedOnceWritten};
 ghost use Rattle.thorin_again.specs.OwnUnits.{HasOneEncoding};
 ghost use Rattle.thorin_builder.specs.StateView.{begun_of};
-ghost use Rattle.thorin_builder.specs.Taking.{TakesFile, TakesExecutable, TakesNamed};
-ghost use Rattle.thorin_builder.specs.Taking.{TakesSkeleton, TakesReferredFile, with_target};
-ghost use Rattle.thorin_builder.specs.Taking.{is_there};
+ghost use Rattle.thorin_builder.specs.Taking.{TakesFile, with_target};
 ghost use Rattle.thorin_builder.specs.Missing.{without_targets};
-ghost use Rattle.thorin_executable.specs.Skeletons.{skeletons_of};
-ghost use Rattle.thorin_executable.specs.View.{named};
 
 use crate::adding::add_input;
 use crate::in_progress::InProgressDwarfPackage;
@@ -39,8 +35,7 @@ use thorin_again::{
     one_encoding_is_kept, own_packages_are_accepted, own_packages_are_accepted_by_a_new_one,
     plain_packages_are_kept,
 };
-use thorin_executable::{Skeleton, SkeletonUnits};
-use thorin_faults::{Error, InputError, MissingReferencedObjectBehaviour, Session};
+use thorin_faults::{Error, InputError, Session};
 use thorin_input::common;
 use thorin_join::{finished_packages_are_read, inputs_are_joined};
 
@@ -184,124 +179,21 @@ impl<'output, 'session: 'output, Sess: Session<RelocationEntry>> DwarfPackage<
         Ok(())
     }
 
-    /// Adds the objects that the executable at a path names, in the order of its units: an object
-    /// for each compilation unit that isn't contained yet, and for each type unit. Before the
-    /// object is read, the compilation unit joins the targets, which `finish` wants to be
-    /// contained. With `Skip` an object that can't be read is passed over.
-    ///
-    /// # Errors
-    /// `ReadInput` where the executable, or with `Error` an object, can't be read; what `skeletons`
-    /// answers, at its place in the list; what `add_object_bytes` answers of an object; `Memory`.
-    /// An `Err` keeps the objects that were accepted before, and all targets so far, that of the
-    /// refused object included.
-    pub fn add_executable(
-        &mut self,
-        path: Path<'_>,
-        missing: MissingReferencedObjectBehaviour,
-    ) -> Result<(), Error>
-        ensures taken { TakesExecutable (Sess.offer self.old.session) (path_bytes path.entry)
-            missing self.old.state result self.new.state }
-        ensures session { self.new.session ≡ self.old.session }
+    /// The session, which keeps what is read.
+    pub(crate) fn session(&self) -> &'session Sess
+        ensures { result.now ≡ self.now.session }
     {
-        let session = self.session;
-        let mut room = Vec::new(self.alloc);
-        self.add_executable_by(session, &mut room, path, missing)
+        self.session
     }
 
-    /// Adds the objects that an executable names, as `add_executable` does, but a reader reads the
-    /// files: each object into `room`, which is free again afterwards, and the executable into room
-    /// of its own. Beside the executable no more than one object and one path are held. The
-    /// executable's relocations are placed in the session.
-    ///
-    /// # Errors
-    /// Those of `add_executable`.
-    pub fn add_executable_by<R: InputReader>(
-        &mut self,
-        reader: &R,
-        room: &mut Vec<u8>,
-        path: Path<'_>,
-        missing: MissingReferencedObjectBehaviour,
-    ) -> Result<(), Error>
-        ensures taken { TakesExecutable (R.offer reader.now) (path_bytes path.entry) missing
-            self.old.state result self.new.state }
-        ensures session { self.new.session ≡ self.old.session }
-    {
-        let mut executable = Vec::new(self.alloc);
-        match reader.read_into(path, &mut executable) {
-            Ok(bytes) => self.add_named(reader, room, bytes, missing),
-            Err(InputError::Io(cause)) => Err(Error::ReadInput(cause)),
-            Err(InputError::Memory) => Err(Error::Memory),
-        }
-    }
-
-    /// Adds the objects of the units that an executable's bytes refer to.
-    fn add_named<R: InputReader>(
-        &mut self,
-        reader: &R,
-        room: &mut Vec<u8>,
-        bytes: &[u8],
-        missing: MissingReferencedObjectBehaviour,
-    ) -> Result<(), Error>
-        ensures taken { (accepted : List (List ℕ)) × TakesNamed (R.offer reader.now) missing
-            (skeletons_of bytes.now) self.old.state result self.new.state accepted }
-        ensures session { self.new.session ≡ self.old.session }
-    {
-        let session = self.session;
-        let mut units = SkeletonUnits::read(self.alloc, session, bytes)?;
-        self.add_each(reader, room, &mut units, missing)
-    }
-
-    /// Adds the objects of the units that are left of those that an executable refers to, up to the
-    /// first refusal or error.
-    fn add_each<R: InputReader>(
-        &mut self,
-        reader: &R,
-        room: &mut Vec<u8>,
-        units: &mut SkeletonUnits<'_>,
-        missing: MissingReferencedObjectBehaviour,
-    ) -> Result<(), Error>
-        ensures taken { (accepted : List (List ℕ)) × TakesNamed (R.offer reader.now) missing
-            units.old self.old.state result self.new.state accepted }
-        ensures session { self.new.session ≡ self.old.session }
-    {
-        while let Some(skeleton) = units.next()? {
-            self.add_skeleton(reader, room, &skeleton, missing)?;
-        }
-        Ok(())
-    }
-
-    /// Adds the object of a unit that an executable refers to.
-    fn add_skeleton<R: InputReader>(
-        &mut self,
-        reader: &R,
-        room: &mut Vec<u8>,
-        skeleton: &Skeleton,
-        missing: MissingReferencedObjectBehaviour,
-    ) -> Result<(), Error>
-        ensures taken { (accepted : List (List ℕ)) × TakesSkeleton (R.offer reader.now) missing
-            (named skeleton.now) self.old.state result self.new.state accepted }
-        ensures session { self.new.session ≡ self.old.session }
-    {
-        if self.is_there(skeleton.target) {
-            return Ok(());
-        }
-        self.add_target(skeleton.target)?;
-        self.add_referred(reader, room, Path::new(skeleton.path.as_str()), missing)
-    }
-
-    /// Whether a unit is a compilation unit that the package has.
-    fn is_there(&self, target: DwarfObject) -> bool
-        ensures { result ≡ is_there target self.now.state }
-    {
-        match target {
-            DwarfObject::Compilation(_) => self.contained_units().contains(&target),
-            DwarfObject::TypeUnit(_) => false,
-        }
+    /// What allocates for the package.
+    pub(crate) fn allocator(&self) -> Global {
+        self.alloc
     }
 
     /// Adds a compilation unit to the targets. It refuses for memory alone, and then changes
     /// nothing.
-    fn add_target(&mut self, target: DwarfObject) -> Result<(), Error>
+    pub(crate) fn add_target(&mut self, target: DwarfObject) -> Result<(), Error>
         ensures target { OnOk result (self.new.state ≡ with_target target self.old.state) }
         ensures refused { IfErr result (λ e. (e ≡ Error.Memory)
             × (self.new.state ≡ self.old.state)) }
@@ -313,29 +205,6 @@ impl<'output, 'session: 'output, Sess: Session<RelocationEntry>> DwarfPackage<
                 Ok(())
             }
             DwarfObject::TypeUnit(_) => Ok(()),
-        }
-    }
-
-    /// Adds the object at a path that an executable refers to; one that can't be read may be passed
-    /// over.
-    fn add_referred<R: InputReader>(
-        &mut self,
-        reader: &R,
-        room: &mut Vec<u8>,
-        path: Path<'_>,
-        missing: MissingReferencedObjectBehaviour,
-    ) -> Result<(), Error>
-        ensures taken { TakesReferredFile (R.offer reader.now (path_bytes path.entry)) missing
-            self.old.state result self.new.state }
-        ensures session { self.new.session ≡ self.old.session }
-    {
-        match reader.read_into(path, room) {
-            Ok(bytes) => self.add_object_bytes(bytes),
-            Err(InputError::Io(e)) => match missing {
-                MissingReferencedObjectBehaviour::Skip => Ok(()),
-                MissingReferencedObjectBehaviour::Error => Err(Error::ReadInput(e)),
-            },
-            Err(InputError::Memory) => Err(Error::Memory),
         }
     }
 

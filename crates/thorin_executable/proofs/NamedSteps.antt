@@ -8,15 +8,19 @@ use Rattle.thorin_faults.specs.Fault.{Fault}
 use Rattle.thorin_executable.specs.Sections.{DebugData}
 use Rattle.thorin_executable.specs.Skeletons.{Named, Listed, with_first, skeleton_read}
 use Rattle.thorin_executable.specs.Skeletons.{skeletons_from}
+use Rattle.thorin_executable.specs.declared.listing.NamelessUnits.{NamelessUnits}
 
 -- what comes first, and what the units behind it stand for
-pub first-then : (debug : DebugData) (read : Result UnitMeaning ReadError)
+pub first-then : (nameless : NamelessUnits) (debug : DebugData)
+    (read : Result UnitMeaning ReadError)
     (left rest : List (Result UnitMeaning ReadError)) (found : Result (Option Named)
     Fault) (all : Listed)
-    → skeletons_from debug left ≡ all → left ≡ read ∷ rest → skeleton_read debug read ≡ found
-    → all ≡ with_first found (skeletons_from debug rest)
-first-then debug read left rest found all so_far is e = sym so_far ∙ ap (skeletons_from debug) is ∙
-    ap (λ (r : Result (Option Named) Fault). with_first r (skeletons_from debug rest)) e
+    → skeletons_from nameless debug left ≡ all → left ≡ read ∷ rest
+    → skeleton_read nameless debug read ≡ found
+    → all ≡ with_first found (skeletons_from nameless debug rest)
+first-then nameless debug read left rest found all so_far is e =
+    sym so_far ∙ ap (skeletons_from nameless debug) is ∙ ap (λ (r : Result (Option Named) Fault).
+    with_first r (skeletons_from nameless debug rest)) e
 
 -- those before, and a list behind them
 abbrev pub put : List Named → Listed → Listed

@@ -14,42 +14,51 @@ use Rattle.thorin_identity.specs.Identity.{identity}
 use Rattle.thorin_executable.specs.Sections.{DebugData, debug_data_of}
 use Rattle.thorin_executable.specs.Roots.{SplitAttributes, root_attributes, object_name}
 use Rattle.thorin_executable.specs.Paths.{object_path}
+use Rattle.thorin_executable.specs.declared.listing.NamelessUnits.{NamelessUnits}
+use Rattle.thorin_executable.specs.declared.listing.NamelessUnits.TheVariants.{Refused, PassedOver}
 
 -- a split unit, and the path of its object
 abbrev pub Named : Type 0
 Named = DwarfObject × List ℕ
 
--- a unit whose root entry names no object: a type unit has none of its own
-abbrev pub unnamed : DwarfObject → Result (Option Named) Fault
-unnamed (Compilation id) = Err (MissingDwoName id.0)
-unnamed (TypeUnit signature) = Ok None
+-- a unit that names no object: its root entry has neither a DW_AT_dwo_name nor a
+-- DW_AT_GNU_dwo_name. A type unit has no object of its own; a compilation unit is a fault, unless
+-- such units are passed over
+abbrev pub unnamed : NamelessUnits → DwarfObject → Result (Option Named) Fault
+unnamed Refused (Compilation id) = Err (MissingDwoName id.0)
+unnamed PassedOver (Compilation id) = Ok None
+unnamed nameless (TypeUnit signature) = Ok None
 
 -- the object of a unit, by the attribute that names it
-abbrev pub named_by : DebugData → Unit → DwarfObject → SplitAttributes → Option DebugAttribute
-    → Result (Option Named) Fault
-named_by debug unit target root None = unnamed target
-named_by debug unit target root (Some attribute) =
+abbrev pub named_by : NamelessUnits → DebugData → Unit → DwarfObject → SplitAttributes
+    → Option DebugAttribute → Result (Option Named) Fault
+named_by nameless debug unit target root None = unnamed nameless target
+named_by nameless debug unit target root (Some attribute) =
     object_path debug.strings unit.encoding.format root attribute >>= λ path.
     Ok (Some (target, path))
 
 -- the object of a unit of this identity
-unfoldable pub named_in : DebugData → Unit → DwarfObject → Result (Option Named) Fault
-named_in debug unit target = do
+unfoldable pub named_in : NamelessUnits → DebugData → Unit → DwarfObject
+    → Result (Option Named) Fault
+named_in nameless debug unit target = do
   root ← root_attributes debug.debug_abbrev unit
-  named_by debug unit target root (object_name root)
+  named_by nameless debug unit target root (object_name root)
 
 -- the same where the unit has an identity; a unit without one is no part of a split unit
-abbrev pub named_if : DebugData → Unit → Option DwarfObject → Result (Option Named) Fault
-named_if debug unit None = Ok None
-named_if debug unit (Some target) = named_in debug unit target
+abbrev pub named_if : NamelessUnits → DebugData → Unit → Option DwarfObject
+    → Result (Option Named) Fault
+named_if nameless debug unit None = Ok None
+named_if nameless debug unit (Some target) = named_in nameless debug unit target
 
 -- the split unit that a unit of an executable stands for, if it does
-unfoldable pub skeleton_of : DebugData → Unit → Result (Option Named) Fault
-skeleton_of debug unit = identity debug.debug_abbrev unit >>= named_if debug unit
+unfoldable pub skeleton_of : NamelessUnits → DebugData → Unit → Result (Option Named) Fault
+skeleton_of nameless debug unit =
+    identity debug.debug_abbrev unit >>= named_if nameless debug unit
 
 -- the same of the unit that was read next
-unfoldable pub skeleton_read : DebugData → Result Unit ReadError → Result (Option Named) Fault
-skeleton_read debug read = as_fault ParseUnitHeader read >>= skeleton_of debug
+unfoldable pub skeleton_read : NamelessUnits → DebugData → Result Unit ReadError
+    → Result (Option Named) Fault
+skeleton_read nameless debug read = as_fault ParseUnitHeader read >>= skeleton_of nameless debug
 
 -- a list up to the first fault, and that fault
 abbrev pub Listed : Type 0
@@ -62,16 +71,24 @@ with_first (Ok (Some first)) others = (first ∷ others.0, others.1)
 with_first (Err fault) others = ([], Some fault)
 
 -- what some units stand for
-abbrev pub skeletons_from : DebugData → List (Result Unit ReadError) → Listed
-skeletons_from debug [] = ([], None)
-skeletons_from debug (read ∷ rest) =
-    with_first (skeleton_read debug read) (skeletons_from debug rest)
+abbrev pub skeletons_from : NamelessUnits → DebugData → List (Result Unit ReadError) → Listed
+skeletons_from nameless debug [] = ([], None)
+skeletons_from nameless debug (read ∷ rest) =
+    with_first (skeleton_read nameless debug read) (skeletons_from nameless debug rest)
 
 -- what the units of an executable stand for
-abbrev pub skeletons_in : Result DebugData Fault → Listed
-skeletons_in (Ok debug) = skeletons_from debug (units Info debug.debug_info)
-skeletons_in (Err fault) = ([], Some fault)
+abbrev pub skeletons_in : NamelessUnits → Result DebugData Fault → Listed
+skeletons_in nameless (Ok debug) = skeletons_from nameless debug (units Info debug.debug_info)
+skeletons_in nameless (Err fault) = ([], Some fault)
 
--- what a file's units stand for
-unfoldable pub skeletons_of : List ℕ → Listed
-skeletons_of bytes = skeletons_in (debug_data_of bytes)
+-- what a file's units stand for, where units that name no object are refused or passed over
+unfoldable pub skeletons_by : NamelessUnits → List ℕ → Listed
+skeletons_by nameless bytes = skeletons_in nameless (debug_data_of bytes)
+
+-- the same, where one that names no object is a fault
+abbrev pub skeletons_of : List ℕ → Listed
+skeletons_of = skeletons_by Refused
+
+-- the same, where one that names no object stands for nothing
+abbrev pub named_skeletons_of : List ℕ → Listed
+named_skeletons_of = skeletons_by PassedOver

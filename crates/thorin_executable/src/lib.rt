@@ -8,4 +8,4 @@ mod paths;
 mod reader;
 mod roots;
 
-pub use listing::{Skeleton, SkeletonList, SkeletonUnits, skeletons};
+pub use listing::{NamelessUnits, Skeleton, SkeletonList, SkeletonUnits, skeletons};

@@ -38,8 +38,29 @@ pub struct SkeletonList {
     pub fault: Option<Error>,
 }
 
-/// The split unit of this identity, and the path of its object; none for a type unit that names no
-/// object.
+/// What becomes of a compilation unit of an executable that has an identity and names no object:
+/// its root entry has neither a DW_AT_dwo_name (DWARF 5, 3.1.2) nor a DW_AT_GNU_dwo_name (the GNU
+/// page DebugFission). clang leaves such a unit where the unit's object would hold nothing.
+#[derive(Clone, Copy, Debug, PartialEq, Eq, Hash)]
+pub enum NamelessUnits {
+    /// It is refused with `MissingDwoName`.
+    Refused,
+    /// It is passed over: it stands for no split unit.
+    PassedOver,
+}
+
+/// What a unit of this identity that names no object stands for: none, or an error.
+fn unnamed(nameless: NamelessUnits, target: DwarfObject) -> Result<Option<Skeleton>, Error>
+    ensures { Gives (option_map named) result (spec.unnamed nameless target) }
+{
+    match (nameless, target) {
+        (NamelessUnits::Refused, DwarfObject::Compilation(id)) => Err(Error::MissingDwoName(id.0)),
+        (NamelessUnits::PassedOver, DwarfObject::Compilation(_)) => Ok(None),
+        (_, DwarfObject::TypeUnit(_)) => Ok(None),
+    }
+}
+
+/// The split unit of this identity, and the path of its object.
 #[tactic(auto, unfolding(crate::specs::Skeletons::named_in))]
 fn named_unit<R: Reader>(
     alloc: Global,
@@ -47,21 +68,21 @@ fn named_unit<R: Reader>(
     abbreviations: &mut AbbreviationCache<R>,
     header: &UnitHeader<R>,
     target: DwarfObject,
+    nameless: NamelessUnits,
 ) -> Result<Option<Skeleton>, Error>
     requires { abbreviations.old ≡ debug.now.debug_abbrev }
     ensures meaning { Gives (option_map named) result
-        (spec.named_in (data_of R.input debug.now) (unit_of R.input header.now) target) }
+        (spec.named_in nameless (data_of R.input debug.now) (unit_of R.input header.now) target) }
     ensures kept { abbreviations.new ≡ abbreviations.old }
 {
     let root = SplitAttributes::of_unit(abbreviations, header)?;
     let format = header.encoding().format;
-    match (root.object_name(), target) {
-        (Some(name), _) => {
+    match root.object_name() {
+        Some(name) => {
             let path = object_path(alloc, &debug.strings, format, &root, &name)?;
             Ok(Some(Skeleton { target, path }))
         }
-        (None, DwarfObject::Compilation(id)) => Err(Error::MissingDwoName(id.0)),
-        (None, DwarfObject::TypeUnit(_)) => Ok(None),
+        None => unnamed(nameless, target),
     }
 }
 
@@ -72,14 +93,15 @@ fn skeleton_of<R: Reader>(
     debug: &DebugData<R>,
     abbreviations: &mut AbbreviationCache<R>,
     header: &UnitHeader<R>,
+    nameless: NamelessUnits,
 ) -> Result<Option<Skeleton>, Error>
     requires { abbreviations.old ≡ debug.now.debug_abbrev }
     ensures meaning { Gives (option_map named) result
-        (spec.skeleton_of (data_of R.input debug.now) (unit_of R.input header.now)) }
+        (spec.skeleton_of nameless (data_of R.input debug.now) (unit_of R.input header.now)) }
     ensures kept { abbreviations.new ≡ abbreviations.old }
 {
     match dwo_identifier_remembering(abbreviations, header)? {
-        Some(target) => named_unit(alloc, debug, abbreviations, header, target),
+        Some(target) => named_unit(alloc, debug, abbreviations, header, target, nameless),
         None => Ok(None),
     }
 }
@@ -91,14 +113,15 @@ fn skeleton_read<R: Reader>(
     debug: &DebugData<R>,
     abbreviations: &mut AbbreviationCache<R>,
     read: Result<UnitHeader<R>, ReadError>,
+    nameless: NamelessUnits,
 ) -> Result<Option<Skeleton>, Error>
     requires { abbreviations.old ≡ debug.now.debug_abbrev }
     ensures meaning { Gives (option_map named) result
-        (spec.skeleton_read (data_of R.input debug.now) (unit_seen R.input read)) }
+        (spec.skeleton_read nameless (data_of R.input debug.now) (unit_seen R.input read)) }
     ensures kept { abbreviations.new ≡ abbreviations.old }
 {
     let header = read.map_err(Error::ParseUnitHeader)?;
-    skeleton_of(alloc, debug, abbreviations, &header)
+    skeleton_of(alloc, debug, abbreviations, &header, nameless)
 }
 
 /// The first split unit that one of the units left stands for.
@@ -107,15 +130,17 @@ fn next_named<R: Reader>(
     debug: &DebugData<R>,
     abbreviations: &mut AbbreviationCache<R>,
     headers: &mut UnitHeaders<R>,
+    nameless: NamelessUnits,
 ) -> Result<Option<Skeleton>, Error>
     requires { abbreviations.old ≡ debug.now.debug_abbrev }
     ensures next { IsNext
-        (spec.skeletons_from (data_of R.input debug.now) (units_left R.input headers.old)) result
-        (spec.skeletons_from (data_of R.input debug.now) (units_left R.input headers.new)) }
+        (spec.skeletons_from nameless (data_of R.input debug.now) (units_left R.input headers.old))
+        result
+        (spec.skeletons_from nameless (data_of R.input debug.now) (units_left R.input headers.new)) }
     ensures kept { abbreviations.new ≡ abbreviations.old }
 {
     while let Some(read) = headers.next() {
-        if let Some(skeleton) = skeleton_read(alloc, debug, abbreviations, read)? {
+        if let Some(skeleton) = skeleton_read(alloc, debug, abbreviations, read, nameless)? {
             return Ok(Some(skeleton));
         }
     }
@@ -129,6 +154,7 @@ struct UnitsLeft<R: Reader> {
     debug: DebugData<R>,
     abbreviations: AbbreviationCache<R>,
     headers: UnitHeaders<R>,
+    nameless: NamelessUnits,
     // A fault was met: nothing comes after it.
     ended: bool,
 }
@@ -143,21 +169,22 @@ impl<R: Reader> Model for UnitsLeft<R> {
     ghost Value = { Listed };
 
     ghost view = { λ u. if u.ended then ([], None)
-        else skeletons_from (data_of R.input u.debug) (units_left R.input u.headers) };
+        else skeletons_from u.nameless (data_of R.input u.debug) (units_left R.input u.headers) };
 
     ghost invariant = { λ u. u.abbreviations ≡ u.debug.debug_abbrev };
 }
 
 impl<R: Reader> UnitsLeft<R> {
     /// All units.
-    fn new(alloc: Global, debug: DebugData<R>) -> UnitsLeft<R>
-        ensures { result ≡ spec.skeletons_in (Ok (data_of R.input debug)) }
+    fn new(alloc: Global, debug: DebugData<R>, nameless: NamelessUnits) -> UnitsLeft<R>
+        ensures { result ≡ spec.skeletons_in nameless (Ok (data_of R.input debug)) }
     {
         UnitsLeft {
             alloc,
             debug,
             abbreviations: AbbreviationCache::new(alloc, debug.debug_abbrev),
             headers: UnitHeaders::new(debug.debug_info, UnitSection::Info),
+            nameless,
             ended: false,
         }
     }
@@ -175,6 +202,7 @@ impl<R: Reader> UnitsLeft<R> {
             &self.debug,
             &mut self.abbreviations,
             &mut self.headers,
+            self.nameless,
         );
         self.ended = found.is_err();
         found
@@ -205,7 +233,6 @@ impl<'a> SkeletonUnits<'a> {
     /// `ParseObjectFile`; of a section that is used `DecompressData`, `ObjectRead`,
     /// `NamelessSection`, `RelocationWithInvalidSymbol`, `MultipleRelocations` and
     /// `UnsupportedRelocation`; `Memory`.
-    #[tactic(auto, unfolding(crate::specs::Skeletons::skeletons_of))]
     pub fn read<Sess: Session<RelocationEntry>>(
         alloc: Global,
         session: &'a Sess,
@@ -213,9 +240,25 @@ impl<'a> SkeletonUnits<'a> {
     ) -> Result<SkeletonUnits<'a>, Error>
         ensures { IsOpened result (spec.skeletons_of bytes.now) }
     {
+        Self::read_by(alloc, session, bytes, NamelessUnits::Refused)
+    }
+
+    /// The same, where a unit that names no object is refused or passed over, as is asked for.
+    ///
+    /// # Errors
+    /// Those of `read`.
+    #[tactic(auto, unfolding(crate::specs::Skeletons::skeletons_by))]
+    pub fn read_by<Sess: Session<RelocationEntry>>(
+        alloc: Global,
+        session: &'a Sess,
+        bytes: &'a [u8],
+        nameless: NamelessUnits,
+    ) -> Result<SkeletonUnits<'a>, Error>
+        ensures { IsOpened result (spec.skeletons_by nameless bytes.now) }
+    {
         let debug = DebugData::read(alloc, session, bytes)?;
         Ok(SkeletonUnits {
-            left: UnitsLeft::new(alloc, debug),
+            left: UnitsLeft::new(alloc, debug, nameless),
         })
     }
 

@@ -13,7 +13,7 @@ use Rattle.dwp_elf_read.specs.declared.fault.ReadError.{ReadError as ElfError}
 use Rattle.dwp_index.specs.Package.{Package, package_of}
 use Rattle.dwp_index.specs.declared.fault.PackageError.{PackageError}
 use Rattle.dwp_index.specs.declared.units.UnitEntry.{UnitEntry}
-use Rattle.thorin_executable.specs.Skeletons.{skeletons_of}
+use Rattle.thorin_executable.specs.Skeletons.{skeletons_by}
 use Rattle.thorin_queries.specs.Answers.{FailsToRead}
 use Rattle.thorin_queries.specs.Checking.{counts_line, status_of, has_no_index, TellsTaken}
 use Rattle.thorin_queries.specs.Checking.{TellsExecutable, TellsPackage, IsOfReading}
@@ -22,6 +22,7 @@ use Rattle.thorin_queries.specs.Checking.{ChecksIndexed, ChecksPackage, ChecksBy
 use Rattle.thorin_queries.specs.Faults.{TellsListed}
 use Rattle.thorin_queries.specs.Listing.{AreByRow}
 use Rattle.thorin_queries.specs.Telling.{IsOfPrinting, Grows, Told, TellsOr, Tells}
+use Rattle.thorin_queries.specs.declared.executables.Reading.{Reading}
 use Rattle.thorin_queries.specs.declared.output.Failure.{Failure}
 use Rattle.thorin_queries.specs.declared.output.Failure.TheVariants as failures
 use Rattle.thorin_queries.proofs.Told.{told_as, tells_as, grown, none_grown}
@@ -139,20 +140,20 @@ module _ (offer : List ℕ → Result (List ℕ) IoError → Type 0) where
 
   -- ---- an executable
 
-  module _ (decompresses : Bool) (pack : Package) (executable : List ℕ) (a : Option (List ℕ))
+  module _ (reading : Reading) (pack : Package) (executable : List ℕ) (a : Option (List ℕ))
       (held : List ℕ) (b : Option (List ℕ)) (left : List ℕ) where
     pub executable_read : (result : Result ℕ Failure) (bytes lent : List ℕ)
         → offer executable (Ok bytes) → lent ≡ bytes
-        → Tells (TellsTaken decompresses pack executable lent) a held b left result
+        → Tells (TellsTaken reading pack executable lent) a held b left result
         → TellsOr (IsOfReading offer executable)
-        (TellsExecutable offer decompresses pack executable) a held b left result
+        (TellsExecutable offer reading pack executable) a held b left result
     executable_read (Ok count) bytes lent read same t =
-        told_as (TellsTaken decompresses pack executable lent)
-        (TellsExecutable offer decompresses pack executable) a held b left count
+        told_as (TellsTaken reading pack executable lent)
+        (TellsExecutable offer reading pack executable) a held b left count
         (λ lines k. record {
           bytes = bytes;
           read = read;
-          tells = subst (λ bs. TellsTaken decompresses pack executable bs lines) same k;
+          tells = subst (λ bs. TellsTaken reading pack executable bs lines) same k;
         }) t
     executable_read (Err failure) bytes lent read same t =
         (of_reading executable failure t.0, t.1)
@@ -163,32 +164,35 @@ is_itself : (decompresses : Bool) (bytes : List ℕ) → IsTaken decompresses by
 is_itself false bytes = refl
 is_itself true bytes = tt
 
-module _ (decompresses : Bool) (pack : Package) (executable bytes : List ℕ)
+module _ (reading : Reading) (pack : Package) (executable bytes : List ℕ)
     (a : Option (List ℕ)) (held : List ℕ) (b : Option (List ℕ)) (left : List ℕ)
     (result : Result ℕ Failure) where
-  pub taken_as_it_is : Tells (TellsListed pack executable (skeletons_of bytes)) a held b left result
-      → Tells (TellsTaken decompresses pack executable bytes) a held b left result
-  taken_as_it_is h = tells_as (TellsListed pack executable (skeletons_of bytes))
-      (TellsTaken decompresses pack executable bytes) a held b left result
+  pub taken_as_it_is : Tells (TellsListed pack executable (skeletons_by reading.nameless bytes)) a
+      held b left result
+      → Tells (TellsTaken reading pack executable bytes) a held b left result
+  taken_as_it_is h = tells_as (TellsListed pack executable (skeletons_by reading.nameless bytes))
+      (TellsTaken reading pack executable bytes) a held b left result
       (λ lines k.
-      record { taken = bytes; is_taken = is_itself decompresses bytes; listed = k }) h
+      record { taken = bytes; is_taken = is_itself reading.decompresses bytes; listed = k }) h
 
-  pub taken_plain : (plain : List ℕ) → decompresses ≡ true
-      → Tells (TellsListed pack executable (skeletons_of plain)) a held b left result
-      → Tells (TellsTaken decompresses pack executable bytes) a held b left result
-  taken_plain plain e h = tells_as (TellsListed pack executable (skeletons_of plain))
-      (TellsTaken decompresses pack executable bytes) a held b left result
+  pub taken_plain : (plain : List ℕ) → reading.decompresses ≡ true
+      → Tells (TellsListed pack executable (skeletons_by reading.nameless plain)) a
+          held b left result
+      → Tells (TellsTaken reading pack executable bytes) a held b left result
+  taken_plain plain e h =
+      tells_as (TellsListed pack executable (skeletons_by reading.nameless plain))
+      (TellsTaken reading pack executable bytes) a held b left result
       (λ lines k. record { taken = plain; is_taken = rw e tt; listed = k }) h
 
 -- ---- a package
 
-module _ (offer : List ℕ → Result (List ℕ) IoError → Type 0) (decompresses : Bool)
+module _ (offer : List ℕ → Result (List ℕ) IoError → Type 0) (reading : Reading)
     (executables : List (Bor (List ℕ))) (pack : Package) (entries : List UnitEntry) where
   pub checked : (a b c : Option (List ℕ)) (held left : List ℕ) (faults : ℕ)
       (result : Result ℕ Failure) → AreByRow pack entries → held ≡ []
-      → Told (TellsPackage offer decompresses pack entries executables) a held b left faults
+      → Told (TellsPackage offer reading pack entries executables) a held b left faults
       → Finishes (length entries) faults b left c result
-      → ChecksIndexed offer decompresses executables pack a c result
+      → ChecksIndexed offer reading executables pack a c result
   checked a b c held left faults (Ok status) by_row none t f = record {
     entries = entries;
     by_row = by_row;
@@ -205,68 +209,68 @@ module _ (offer : List ℕ → Result (List ℕ) IoError → Type 0) (decompress
   checked a b c held left faults (Err failure) by_row none t f =
       (of_printing offer executables failure f.0, grown a b c (t.handed, t.added) f.1)
 
-pub gave_up : (offer : List ℕ → Result (List ℕ) IoError → Type 0) (decompresses : Bool)
+pub gave_up : (offer : List ℕ → Result (List ℕ) IoError → Type 0) (reading : Reading)
     (executables : List (Bor (List ℕ))) (pack : Package) (a b c : Option (List ℕ))
     (failure : Failure) (result : Result ℕ Failure) → result ≡ Err failure
     → IsOfChecking offer executables failure × Grows a b → Grows b c
-    → ChecksIndexed offer decompresses executables pack a c result
-gave_up offer decompresses executables pack a b c failure result e h g =
-    subst (ChecksIndexed offer decompresses executables pack a c) (sym e)
+    → ChecksIndexed offer reading executables pack a c result
+gave_up offer reading executables pack a b c failure result e h g =
+    subst (ChecksIndexed offer reading executables pack a c) (sym e)
     (h.0, grown a b c h.1 g)
 
-module _ (offer : List ℕ → Result (List ℕ) IoError → Type 0) (decompresses : Bool)
+module _ (offer : List ℕ → Result (List ℕ) IoError → Type 0) (reading : Reading)
     (executables : List (Bor (List ℕ))) where
   pub no_memory_left : (pack : Package) (a : Option (List ℕ))
-      → ChecksIndexed offer decompresses executables pack a a (Err failures.Memory)
+      → ChecksIndexed offer reading executables pack a a (Err failures.Memory)
   no_memory_left pack a = (tt, none_grown a)
 
   pub no_index : (pack : Package) (a : Option (List ℕ)) (b : Bool) → b ≡ has_no_index pack
       → b ≡ true
-      → ChecksPackage offer decompresses executables pack a a (Err failures.NoIndex)
+      → ChecksPackage offer reading executables pack a a (Err failures.NoIndex)
       (has_no_index pack)
   no_index pack a b e f =
-      subst (ChecksPackage offer decompresses executables pack a a (Err failures.NoIndex))
+      subst (ChecksPackage offer reading executables pack a a (Err failures.NoIndex))
       (sym f ∙ e) (refl, Keeps-refl a)
 
   pub has_index : (pack : Package) (a c : Option (List ℕ)) (result : Result ℕ Failure) (b : Bool)
       → b ≡ has_no_index pack → b ≡ false
-      → ChecksIndexed offer decompresses executables pack a c result
-      → ChecksPackage offer decompresses executables pack a c result (has_no_index pack)
+      → ChecksIndexed offer reading executables pack a c result
+      → ChecksPackage offer reading executables pack a c result (has_no_index pack)
   has_index pack a c result b e f h =
-      subst (ChecksPackage offer decompresses executables pack a c result) (sym f ∙ e) h
+      subst (ChecksPackage offer reading executables pack a c result) (sym f ∙ e) h
 
   pub no_elf : (cause : ElfError) (bytes : List ℕ) (a : Option (List ℕ))
       → elf_of bytes ≡ Err cause
-      → ChecksBytes offer decompresses executables (package_of bytes) a a (Err failures.Malformed)
+      → ChecksBytes offer reading executables (package_of bytes) a a (Err failures.Malformed)
   unfolding package_of
   no_elf cause bytes a e = rw e (refl, Keeps-refl a)
 
   pub malformed : (cause : PackageError) (p : Result Package PackageError) (a : Option (List ℕ))
-      → p ≡ Err cause → ChecksBytes offer decompresses executables p a a (Err failures.Malformed)
+      → p ≡ Err cause → ChecksBytes offer reading executables p a a (Err failures.Malformed)
   malformed cause p a e = rw e (refl, Keeps-refl a)
 
   pub a_package : (pack : Package) (p : Result Package PackageError) (a c : Option (List ℕ))
       (result : Result ℕ Failure) → p ≡ Ok pack
-      → ChecksPackage offer decompresses executables pack a c result (has_no_index pack)
-      → ChecksBytes offer decompresses executables p a c result
+      → ChecksPackage offer reading executables pack a c result (has_no_index pack)
+      → ChecksBytes offer reading executables p a c result
   a_package pack p a c result e h =
-      subst (λ q. ChecksBytes offer decompresses executables q a c result) (sym e) h
+      subst (λ q. ChecksBytes offer reading executables q a c result) (sym e) h
 
   pub was_checked : (path : List ℕ) (a c : Option (List ℕ)) (result : Result ℕ Failure)
       (bytes lent : List ℕ) → offer path (Ok bytes) → lent ≡ bytes
-      → ChecksBytes offer decompresses executables (package_of lent) a c result
-      → Checks offer path decompresses executables a c result
+      → ChecksBytes offer reading executables (package_of lent) a c result
+      → Checks offer path reading executables a c result
   unfolding Checks
   was_checked path a c result bytes lent read same h =
       inl (
         bytes,
         read,
-        subst (λ bs. ChecksBytes offer decompresses executables (package_of bs) a c
+        subst (λ bs. ChecksBytes offer reading executables (package_of bs) a c
             result) same h,
       )
 
   pub not_checked : (path : List ℕ) (a : Option (List ℕ)) (failure : Failure)
       → FailsToRead offer path failure
-      → Checks offer path decompresses executables a a (Err failure)
+      → Checks offer path reading executables a a (Err failure)
   unfolding Checks
   not_checked path a failure h = inr (h, Keeps-refl a)

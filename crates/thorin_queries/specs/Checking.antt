@@ -12,13 +12,14 @@ use Rattle.dwp_index.specs.Package.{Package, package_of, found}
 use Rattle.dwp_index.specs.declared.fault.PackageError.{PackageError}
 use Rattle.dwp_index.specs.declared.units.UnitEntry.{UnitEntry}
 use Rattle.dwp_table.specs.declared.object.DwarfObject.{DwarfObject}
-use Rattle.thorin_executable.specs.Skeletons.{skeletons_of}
+use Rattle.thorin_executable.specs.Skeletons.{skeletons_by}
 use Rattle.thorin_queries.specs.Answers.{RefusesFile}
 use Rattle.thorin_queries.specs.Faults.{TellsUnit, TellsStringsOf, AreRows, TellsListed}
 use Rattle.thorin_queries.specs.Lines.{line_end}
 use Rattle.thorin_queries.specs.Listing.{AreByRow}
 use Rattle.thorin_queries.specs.Telling.{Grows, InTurn, ForEach, Is}
 use Rattle.thorin_queries.specs.Telling.{IsOfPrinting, fault_count}
+use Rattle.thorin_queries.specs.declared.executables.Reading.{Reading}
 use Rattle.thorin_queries.specs.declared.output.Failure.{Failure}
 use Rattle.thorin_queries.specs.declared.output.Failure.TheVariants as failures
 
@@ -80,33 +81,33 @@ IsTaken false bytes taken = taken ≡ bytes
 IsTaken true bytes taken = Unit {0}
 
 -- what is told of an executable with these bytes
-pub record TellsTaken (decompresses : Bool) (pack : Package) (executable bytes : List ℕ)
+pub record TellsTaken (reading : Reading) (pack : Package) (executable bytes : List ℕ)
     (lines : List (List ℕ)) : Type 0 where
   pub taken : List ℕ
-  pub is_taken : IsTaken decompresses bytes taken
-  pub listed : TellsListed pack executable (skeletons_of taken) lines
+  pub is_taken : IsTaken reading.decompresses bytes taken
+  pub listed : TellsListed pack executable (skeletons_by reading.nameless taken) lines
 
 -- what is told of the executable at a path
 pub record TellsExecutable (offer : List ℕ → Result (List ℕ) IoError
-    → Type 0) (decompresses : Bool) (pack : Package) (executable : List ℕ)
+    → Type 0) (reading : Reading) (pack : Package) (executable : List ℕ)
     (lines : List (List ℕ)) : Type 0 where
   pub bytes : List ℕ
   pub read : offer executable (Ok bytes)
-  pub tells : TellsTaken decompresses pack executable bytes lines
+  pub tells : TellsTaken reading pack executable bytes lines
 
-abbrev pub TellsExecutables : (List ℕ → Result (List ℕ) IoError → Type 0) → (decompresses : Bool)
+abbrev pub TellsExecutables : (List ℕ → Result (List ℕ) IoError → Type 0) → (reading : Reading)
     → Package → List (Bor (List ℕ)) → List (List ℕ) → Type 0
-TellsExecutables offer decompresses pack executables =
-    ForEach (λ executable. TellsExecutable offer decompresses pack executable.now) executables
+TellsExecutables offer reading pack executables =
+    ForEach (λ executable. TellsExecutable offer reading pack executable.now) executables
 
 -- all that is told of a package: of its units, its abbreviations, its rows, and the units that
 -- executables name
-abbrev pub TellsPackage : (List ℕ → Result (List ℕ) IoError → Type 0) → (decompresses : Bool)
+abbrev pub TellsPackage : (List ℕ → Result (List ℕ) IoError → Type 0) → (reading : Reading)
     → Package → List UnitEntry → List (Bor (List ℕ)) → List (List ℕ) → Type 0
-TellsPackage offer decompresses pack entries executables =
+TellsPackage offer reading pack entries executables =
     InTurn (TellsUnits pack entries)
     (InTurn (TellsTables (lacks_abbreviations pack entries))
-    (TellsExecutables offer decompresses pack executables))
+    (TellsExecutables offer reading pack executables))
 
 -- ---- what comes of it
 
@@ -147,47 +148,47 @@ Finishes units faults old held new result =
 
 -- a package was checked: all lines were printed, and behind them that of the counts
 pub record Checked (offer : List ℕ → Result (List ℕ) IoError
-    → Type 0) (decompresses : Bool) (executables : List (Bor (List ℕ))) (pack : Package)
+    → Type 0) (reading : Reading) (executables : List (Bor (List ℕ))) (pack : Package)
     (old new : Option (List ℕ)) (status : ℕ) : Type 0 where
   pub entries : List UnitEntry
   pub by_row : AreByRow pack entries
   pub lines : List (List ℕ)
-  pub told : TellsPackage offer decompresses pack entries executables lines
+  pub told : TellsPackage offer reading pack entries executables lines
   pub printed : Appends old new
       (concat lines ++ counts_line (length entries) (fault_count lines))
   pub status_is : status ≡ status_of (fault_count lines)
 
 -- the same, or it stopped, and something was printed or nothing
-abbrev pub ChecksIndexed : (List ℕ → Result (List ℕ) IoError → Type 0) → (decompresses : Bool)
+abbrev pub ChecksIndexed : (List ℕ → Result (List ℕ) IoError → Type 0) → (reading : Reading)
     → List (Bor (List ℕ)) → Package → (old new : Option (List ℕ)) → Result ℕ Failure → Type 0
-ChecksIndexed offer decompresses executables pack old new (Ok status) =
-    Checked offer decompresses executables pack old new status
-ChecksIndexed offer decompresses executables pack old new (Err failure) =
+ChecksIndexed offer reading executables pack old new (Ok status) =
+    Checked offer reading executables pack old new status
+ChecksIndexed offer reading executables pack old new (Err failure) =
     IsOfChecking offer executables failure × Grows old new
 
 -- a package without index is refused
-abbrev pub ChecksPackage : (List ℕ → Result (List ℕ) IoError → Type 0) → (decompresses : Bool)
+abbrev pub ChecksPackage : (List ℕ → Result (List ℕ) IoError → Type 0) → (reading : Reading)
     → List (Bor (List ℕ)) → Package → (old new : Option (List ℕ)) → Result ℕ Failure
     → (is_refused : Bool) → Type 0
-ChecksPackage offer decompresses executables pack old new result true =
+ChecksPackage offer reading executables pack old new result true =
     (result ≡ Err failures.NoIndex) × Keeps old new
-ChecksPackage offer decompresses executables pack old new result false =
-    ChecksIndexed offer decompresses executables pack old new result
+ChecksPackage offer reading executables pack old new result false =
+    ChecksIndexed offer reading executables pack old new result
 
 -- the same for what bytes are: where they are no package, they are refused
-abbrev pub ChecksBytes : (List ℕ → Result (List ℕ) IoError → Type 0) → (decompresses : Bool)
+abbrev pub ChecksBytes : (List ℕ → Result (List ℕ) IoError → Type 0) → (reading : Reading)
     → List (Bor (List ℕ)) → Result Package PackageError → (old new : Option (List ℕ))
     → Result ℕ Failure → Type 0
-ChecksBytes offer decompresses executables (Err cause) old new result =
+ChecksBytes offer reading executables (Err cause) old new result =
     (result ≡ Err failures.Malformed) × Keeps old new
-ChecksBytes offer decompresses executables (Ok pack) old new result =
-    ChecksPackage offer decompresses executables pack old new result (has_no_index pack)
+ChecksBytes offer reading executables (Ok pack) old new result =
+    ChecksPackage offer reading executables pack old new result (has_no_index pack)
 
 -- `check`: the file at the path was read and checked; or it can't be read, and nothing was printed
 unfoldable pub Checks : (List ℕ → Result (List ℕ) IoError → Type 0) → (path : List ℕ)
-    → (decompresses : Bool) → List (Bor (List ℕ)) → (old new : Option (List ℕ))
+    → (reading : Reading) → List (Bor (List ℕ)) → (old new : Option (List ℕ))
     → Result ℕ Failure → Type 0
-Checks offer path decompresses executables old new result =
+Checks offer path reading executables old new result =
     ((bytes : List ℕ) × offer path (Ok bytes)
-    × ChecksBytes offer decompresses executables (package_of bytes) old new result)
+    × ChecksBytes offer reading executables (package_of bytes) old new result)
     ⊎ (RefusesFile offer path result × Keeps old new)

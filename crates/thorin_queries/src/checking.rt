@@ -14,7 +14,7 @@ ghost use Rattle.thorin_queries.specs.Indexes.{HasIndexes};
 ghost use Rattle.thorin_queries.specs.Listing.{AreByRow};
 ghost use Rattle.thorin_queries.specs.Telling.{Grows, InTurn, TellsOr};
 
-use crate::executables::{Named, check_executables};
+use crate::executables::{Named, Reading, check_executables};
 use crate::faults::with_rest;
 use crate::files::{FileReader, HostReader, read_named};
 use crate::input::has_no_index;
@@ -41,20 +41,13 @@ pub fn check<O: Write>(
     rt: &HostRuntime,
     file: &str,
     executables: &[&str],
-    decompresses: bool,
+    reading: Reading,
     out: &mut O,
 ) -> Result<u8, Failure>
-    ensures { Checks anything file.now decompresses executables.now (O.contents out.old)
+    ensures { Checks anything file.now reading executables.now (O.contents out.old)
         (O.contents out.new) result }
 {
-    check_by(
-        rt,
-        &HostReader::new(rt),
-        file,
-        executables,
-        decompresses,
-        out,
-    )
+    check_by(rt, &HostReader::new(rt), file, executables, reading, out)
 }
 
 /// The same, with a JSON object for each line.
@@ -65,11 +58,11 @@ pub fn check_as_json<O: Write>(
     rt: &HostRuntime,
     file: &str,
     executables: &[&str],
-    decompresses: bool,
+    reading: Reading,
     out: &mut O,
 ) -> Result<u8, Failure> {
     let mut lines = JsonLines::new(rt.alloc(), out);
-    check(rt, file, executables, decompresses, &mut lines)
+    check(rt, file, executables, reading, &mut lines)
 }
 
 /// The same of files that a reader reads: that of the package, and the executables.
@@ -82,10 +75,10 @@ pub fn check_by<F: FileReader, O: Write>(
     files: &F,
     file: &str,
     executables: &[&str],
-    decompresses: bool,
+    reading: Reading,
     out: &mut O,
 ) -> Result<u8, Failure>
-    ensures { Checks (F.offer files.now) file.now decompresses executables.now
+    ensures { Checks (F.offer files.now) file.now reading executables.now
         (O.contents out.old) (O.contents out.new) result }
 {
     match read_named(files, file) {
@@ -95,7 +88,7 @@ pub fn check_by<F: FileReader, O: Write>(
             bytes.as_slice(),
             Named {
                 executables,
-                decompresses,
+                reading,
             },
             out,
         ),
@@ -111,7 +104,7 @@ fn check_bytes<F: FileReader, O: Write>(
     named: Named<'_, '_>,
     out: &mut O,
 ) -> Result<u8, Failure>
-    ensures { ChecksBytes (F.offer files.now) named.entry.decompresses named.entry.executables.now
+    ensures { ChecksBytes (F.offer files.now) named.entry.reading named.entry.executables.now
         (package_of bytes.now) (O.contents out.old) (O.contents out.new) result }
 {
     match ElfFile::parse(bytes) {
@@ -131,7 +124,7 @@ fn check_file<F: FileReader, O: Write>(
     out: &mut O,
 ) -> Result<u8, Failure>
     requires { elf_of bytes.now ≡ Ok (elf file.now) }
-    ensures { ChecksBytes (F.offer files.now) named.entry.decompresses named.entry.executables.now
+    ensures { ChecksBytes (F.offer files.now) named.entry.reading named.entry.executables.now
         (package_of bytes.now) (O.contents out.old) (O.contents out.new) result }
 {
     match PackageFile::parse(bytes) {
@@ -150,7 +143,7 @@ fn check_package<F: FileReader, O: Write>(
     out: &mut O,
 ) -> Result<u8, Failure>
     requires { HasIndexes (elf file.now) pack.now }
-    ensures { ChecksPackage (F.offer files.now) named.entry.decompresses named.entry.executables.now pack.now
+    ensures { ChecksPackage (F.offer files.now) named.entry.reading named.entry.executables.now pack.now
         (O.contents out.old) (O.contents out.new) result (has_no_index pack.now) }
 {
     if has_no_index(file) {
@@ -170,7 +163,7 @@ fn check_indexed<F: FileReader, O: Write>(
     out: &mut O,
 ) -> Result<u8, Failure>
     requires { HasIndexes (elf file.now) pack.now }
-    ensures { ChecksIndexed (F.offer files.now) named.entry.decompresses named.entry.executables.now pack.now
+    ensures { ChecksIndexed (F.offer files.now) named.entry.reading named.entry.executables.now pack.now
         (O.contents out.old) (O.contents out.new) result }
 {
     match entries_by_row(rt.alloc(), pack) {
@@ -191,7 +184,7 @@ fn check_entries<F: FileReader, O: Write>(
 ) -> Result<u8, Failure>
     requires by_row { AreByRow pack.now entries.now }
     requires indexes { HasIndexes (elf file.now) pack.now }
-    ensures { ChecksIndexed (F.offer files.now) named.entry.decompresses named.entry.executables.now pack.now
+    ensures { ChecksIndexed (F.offer files.now) named.entry.reading named.entry.executables.now pack.now
         (O.contents out.old) (O.contents out.new) result }
 {
     let mut waiting = String::new(rt.alloc());
@@ -214,7 +207,7 @@ fn check_all<F: FileReader, O: Write>(
 ) -> Result<u64, Failure>
     requires { HasIndexes (elf file.now) pack.now }
     ensures { TellsOr (IsOfChecking (F.offer files.now) named.entry.executables.now)
-        (TellsPackage (F.offer files.now) named.entry.decompresses pack.now entries.now
+        (TellsPackage (F.offer files.now) named.entry.reading pack.now entries.now
         named.entry.executables.now) (O.contents out.old) (string_bytes waiting.old)
         (O.contents out.new) (string_bytes waiting.new) result }
 {
@@ -241,7 +234,7 @@ fn check_rest<F: FileReader, O: Write>(
     requires { HasIndexes (elf file.now) pack.now }
     ensures { TellsOr (IsOfChecking (F.offer files.now) named.entry.executables.now)
         (InTurn (TellsTables (lacks_abbreviations pack.now entries.now)) (TellsExecutables (F.offer files.now)
-        named.entry.decompresses pack.now named.entry.executables.now)) (O.contents out.old) (string_bytes waiting.old)
+        named.entry.reading pack.now named.entry.executables.now)) (O.contents out.old) (string_bytes waiting.old)
         (O.contents out.new) (string_bytes waiting.new) result }
 {
     let lacks = lacks_abbreviations(file, entries);

@@ -2,7 +2,7 @@
 
 ghost use Rattle.std.specs.Prelude.{◌≡◌, ◌≢◌, ◌++◌, IfOk, OnOk, string_bytes};
 ghost use Rattle.dwp_index.specs.Package.{found};
-ghost use Rattle.thorin_executable.specs.Skeletons.{skeletons_of};
+ghost use Rattle.thorin_executable.specs.Skeletons.{skeletons_by};
 ghost use Rattle.thorin_faults.specs.declared.fault.Error.TheVariants.{Memory};
 ghost use Rattle.thorin_queries.specs.Checking.{IsOfChecking, IsOfReading, TellsExecutables};
 ghost use Rattle.thorin_queries.specs.Checking.{TellsExecutable, TellsTaken};
@@ -22,17 +22,26 @@ use dwp_index::PackageFile;
 use dwp_table::DwarfObject;
 use std::alloc::{AllocError, Global};
 use std::io::Write;
-use thorin_executable::SkeletonUnits;
+use thorin_executable::{NamelessUnits, SkeletonUnits};
 use thorin_faults::{ArenaSession, Error, Session};
 use thorin_words::printed;
+
+/// How the executables are read whose units are to be in a package.
+#[derive(Clone, Copy)]
+pub struct Reading {
+    /// Whether their compressed sections are decompressed.
+    pub decompresses: bool,
+    /// What becomes of their units that name no object.
+    pub nameless: NamelessUnits,
+}
 
 /// The executables whose units are to be in a package.
 #[derive(Clone, Copy)]
 pub(crate) struct Named<'m, 'a> {
     /// Their paths.
     pub executables: &'m [&'a str],
-    /// Whether their compressed sections are decompressed.
-    pub decompresses: bool,
+    /// How they are read.
+    pub reading: Reading,
 }
 
 /// Each split unit that executables name is in the package. Answers the number of faults.
@@ -45,22 +54,14 @@ pub(crate) fn check_executables<F: FileReader, O: Write>(
     out: &mut O,
 ) -> Result<u64, Failure>
     ensures { TellsOr (IsOfChecking (F.offer files.now) named.entry.executables.now)
-        (TellsExecutables (F.offer files.now) named.entry.decompresses pack.now named.entry.executables.now)
+        (TellsExecutables (F.offer files.now) named.entry.reading pack.now named.entry.executables.now)
         (O.contents out.old) (string_bytes waiting.old) (O.contents out.new)
         (string_bytes waiting.new) result }
 {
     let mut faults = 0u64;
     for i in 0..named.executables.len() {
         let executable = named.executables[i];
-        match check_executable(
-            rt,
-            files,
-            pack,
-            executable,
-            named.decompresses,
-            waiting,
-            out,
-        ) {
+        match check_executable(rt, files, pack, executable, named.reading, waiting, out) {
             Ok(found) => faults = faults.saturating_add(found),
             Err(failure) => return Err(failure),
         }
@@ -75,12 +76,12 @@ fn check_executable<F: FileReader, O: Write>(
     files: &F,
     pack: &PackageFile<'_>,
     executable: &str,
-    decompresses: bool,
+    reading: Reading,
     waiting: &mut String,
     out: &mut O,
 ) -> Result<u64, Failure>
     ensures { TellsOr (IsOfReading (F.offer files.now) executable.now)
-        (TellsExecutable (F.offer files.now) decompresses pack.now executable.now)
+        (TellsExecutable (F.offer files.now) reading pack.now executable.now)
         (O.contents out.old) (string_bytes waiting.old) (O.contents out.new)
         (string_bytes waiting.new) result }
 {
@@ -90,7 +91,7 @@ fn check_executable<F: FileReader, O: Write>(
             pack,
             executable,
             bytes.as_slice(),
-            decompresses,
+            reading,
             waiting,
             out,
         ),
@@ -105,17 +106,28 @@ fn check_read<O: Write>(
     pack: &PackageFile<'_>,
     executable: &str,
     bytes: &[u8],
-    decompresses: bool,
+    reading: Reading,
     waiting: &mut String,
     out: &mut O,
 ) -> Result<u64, Failure>
-    ensures { Tells (TellsTaken decompresses pack.now executable.now bytes.now)
+    ensures { Tells (TellsTaken reading pack.now executable.now bytes.now)
         (O.contents out.old) (string_bytes waiting.old) (O.contents out.new)
         (string_bytes waiting.new) result }
 {
-    match plain_of(rt.alloc(), bytes, decompresses) {
-        Ok(None) => check_taken(rt, pack, executable, bytes, waiting, out),
-        Ok(Some(plain)) => check_taken(rt, pack, executable, plain.as_slice(), waiting, out),
+    let nameless = reading.nameless;
+    match plain_of(rt.alloc(), bytes, reading.decompresses) {
+        Ok(None) => check_taken(rt, pack, executable, bytes, nameless, waiting, out),
+        Ok(Some(plain)) => {
+            check_taken(
+                rt,
+                pack,
+                executable,
+                plain.as_slice(),
+                nameless,
+                waiting,
+                out,
+            )
+        }
         Err(_) => Err(Failure::Memory),
     }
 }
@@ -126,16 +138,26 @@ fn check_taken<O: Write>(
     pack: &PackageFile<'_>,
     executable: &str,
     bytes: &[u8],
+    nameless: NamelessUnits,
     waiting: &mut String,
     out: &mut O,
 ) -> Result<u64, Failure>
-    ensures { Tells (TellsListed pack.now executable.now (skeletons_of bytes.now))
+    ensures { Tells (TellsListed pack.now executable.now (skeletons_by nameless bytes.now))
         (O.contents out.old) (string_bytes waiting.old) (O.contents out.new)
         (string_bytes waiting.new) result }
 {
     let bump = Bump::new(rt.alloc());
     let session = ArenaSession::new(rt, &bump);
-    check_named(rt.alloc(), &session, pack, executable, bytes, waiting, out)
+    check_named(
+        rt.alloc(),
+        &session,
+        pack,
+        executable,
+        bytes,
+        nameless,
+        waiting,
+        out,
+    )
 }
 
 /// The same, with a session that holds what is made of them.
@@ -146,14 +168,15 @@ fn check_named<'s, Sess: Session<RelocationEntry>, O: Write>(
     pack: &PackageFile<'_>,
     executable: &str,
     bytes: &'s [u8],
+    nameless: NamelessUnits,
     waiting: &mut String,
     out: &mut O,
 ) -> Result<u64, Failure>
-    ensures { Tells (TellsListed pack.now executable.now (skeletons_of bytes.now))
+    ensures { Tells (TellsListed pack.now executable.now (skeletons_by nameless bytes.now))
         (O.contents out.old) (string_bytes waiting.old) (O.contents out.new)
         (string_bytes waiting.new) result }
 {
-    match SkeletonUnits::read(alloc, session, bytes) {
+    match SkeletonUnits::read_by(alloc, session, bytes, nameless) {
         Ok(mut units) => check_skeletons(pack, executable, &mut units, waiting, out),
         Err(fault) => tell_fault(executable, &fault, waiting, out),
     }

@@ -28,6 +28,7 @@ mod units;
 mod wanted;
 
 pub use checking::{check, check_as_json, check_by};
+pub use executables::Reading;
 pub use files::FileReader;
 pub use finding::{find, find_by};
 pub use input::lacks_index;

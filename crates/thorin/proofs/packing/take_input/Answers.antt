@@ -1,5 +1,5 @@
 use Rattle.std.proofs.Common.{rules}
-use Rattle.thorin.proofs.Running.{took-object, took-bytes, took-executable}
+use Rattle.thorin.proofs.Running.{took-object, took-bytes, took-executable, took-skipping}
 use Rattle.thorin.proofs.packing.take_input.Goals as goal
 
 pub returns-in-Object-clause-taken : goal.returns-in-Object-clause-taken
@@ -26,3 +26,13 @@ returns-in-Executable-clause-taken g c =
     c.in-Executable.missing c.args.builder.now.state c.add_executable_by.new.self.state
     c.add_executable_by.result (search (rules, c.in-Executable.is))
     c.add_executable_by.ensures.taken
+
+pub returns-in-ExecutableSkippingNameless-clause-taken :
+    goal.returns-in-ExecutableSkippingNameless-clause-taken
+returns-in-ExecutableSkippingNameless-clause-taken g c =
+    took-skipping (g.R.InputReader.offer c.args.reader.now) c.args.input
+    c.in-ExecutableSkippingNameless.path c.in-ExecutableSkippingNameless.missing
+    c.args.builder.now.state c.add_executable_skipping_nameless_by.new.self.state
+    c.add_executable_skipping_nameless_by.result
+    (search (rules, c.in-ExecutableSkippingNameless.is))
+    c.add_executable_skipping_nameless_by.ensures.taken

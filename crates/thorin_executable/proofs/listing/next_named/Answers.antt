@@ -14,16 +14,16 @@ as_named found = Ok (option_map named found)
 pub returns-in_err-skeleton-clause-next : goal.returns-in_err-skeleton-clause-next
 returns-in_err-skeleton-clause-next g c =
     let p = err_from_is_err_and c.from_residual.result c.from_residual.ensures.1 in
-    rw (p.1, p.2) (λ aside. first-then _ _ _ _ _ _ c.loop-read.invariant.0 c.in-Some.ensures.steps
+    rw (p.1, p.2) (λ aside. first-then _ _ _ _ _ _ _ c.loop-read.invariant.0 c.in-Some.ensures.steps
     (c.in_err-skeleton.ensures.meaning aside))
 
 pub returns-in-Some-2-clause-next : goal.returns-in-Some-2-clause-next
-returns-in-Some-2-clause-next g c = first-then _ _ _ _ _ _ c.loop-read.invariant.0
+returns-in-Some-2-clause-next g c = first-then _ _ _ _ _ _ _ c.loop-read.invariant.0
     c.in-Some.ensures.steps (c.in_ok-skeleton.ensures.meaning ∙ ap as_named c.in-Some-2.is)
 
 pub loop-read-preserved : goal.loop-read-preserved
 loop-read-preserved g c = (
-  sym (first-then _ _ _ _ _ _ c.loop-read.invariant.0 c.in-Some.ensures.steps
+  sym (first-then _ _ _ _ _ _ _ c.loop-read.invariant.0 c.in-Some.ensures.steps
       (c.in_ok-skeleton.ensures.meaning ∙ ap as_named c.in_default-2.is)),
   c.skeleton_read.ensures.kept ∙ c.loop-read.invariant.1,
 )

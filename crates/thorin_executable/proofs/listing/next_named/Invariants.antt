@@ -7,8 +7,10 @@ use Rattle.thorin_executable.proofs.listing.next_named.Given as goal
 -- the units so far stand for none
 abbrev pub invariant-loop-read : goal.invariant-loop-read
 invariant-loop-read g l =
-    (skeletons_from (data_of g.R.Reader.input l.debug) (units_left g.R.Reader.input l.headers)
-    ≡ skeletons_from (data_of g.R.Reader.input l.debug) (units_left g.R.Reader.input l.fn.headers))
+    (skeletons_from l.nameless (data_of g.R.Reader.input l.debug)
+    (units_left g.R.Reader.input l.headers)
+    ≡ skeletons_from l.nameless (data_of g.R.Reader.input l.debug)
+    (units_left g.R.Reader.input l.fn.headers))
     × (l.abbreviations ≡ l.debug.debug_abbrev)
 
 abbrev pub decreases-loop-read : goal.decreases-loop-read

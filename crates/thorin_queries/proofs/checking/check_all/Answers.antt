@@ -11,7 +11,7 @@ returns-in-Ok g c =
     in_turn_or (TellsUnits c.args.pack.now c.args.entries.now)
     (InTurn (TellsTables (lacks_abbreviations c.args.pack.now c.args.entries.now))
     (TellsExecutables (g.F.FileReader.offer c.args.files.now)
-    c.args.named.decompresses c.args.pack.now c.args.named.executables.now))
+    c.args.named.reading c.args.pack.now c.args.named.executables.now))
     (IsOfChecking (g.F.FileReader.offer c.args.files.now) c.args.named.executables.now)
     (g.O.Write.contents c.args.out.now) (g.O.Write.contents c.check_units.new.out)
     (g.O.Write.contents c.check_rest.new.out) (string_bytes c.args.waiting.now)

@@ -4,7 +4,7 @@ use Rattle.thorin_queries.proofs.checking.check_entries.Goals as goal
 
 pub returns-in-Ok : goal.returns-in-Ok
 returns-in-Ok g c =
-    checked (g.F.FileReader.offer c.args.files.now) c.args.named.decompresses
+    checked (g.F.FileReader.offer c.args.files.now) c.args.named.reading
     c.args.named.executables.now c.args.pack.now c.args.entries.now
     (g.O.Write.contents c.args.out.now) (g.O.Write.contents c.check_all.new.out)
     (g.O.Write.contents c.finish.new.out) (string_bytes c.new-waiting.result)
@@ -13,7 +13,7 @@ returns-in-Ok g c =
 
 pub returns : goal.returns
 returns g c =
-    gave_up (g.F.FileReader.offer c.args.files.now) c.args.named.decompresses
+    gave_up (g.F.FileReader.offer c.args.files.now) c.args.named.reading
     c.args.named.executables.now c.args.pack.now (g.O.Write.contents c.args.out.now)
     (g.O.Write.contents c.check_all.new.out) (g.O.Write.contents c.give_up.new.out)
     c.in-Err.failure c.give_up.result c.give_up.ensures.same c.in-Err.ensures

@@ -10,7 +10,7 @@ pub returns-in-Ok : goal.returns-in-Ok
 returns-in-Ok g c =
     let lacks = c.lacks_abbreviations-lacks in
     let named = TellsExecutables (g.F.FileReader.offer c.args.files.now)
-    c.args.named.decompresses c.args.pack.now c.args.named.executables.now in
+    c.args.named.reading c.args.pack.now c.args.named.executables.now in
     let stops = IsOfChecking (g.F.FileReader.offer c.args.files.now)
     c.args.named.executables.now in
     subst (λ b. TellsOr stops (InTurn (TellsTables b) named)

@@ -11,7 +11,7 @@ loop-i-init g c = none_told _ refl _ _
 pub loop-i-preserved : goal.loop-i-preserved
 loop-i-preserved g c =
     told_next (λ (e : Bor (List ℕ)). TellsExecutable (g.F.FileReader.offer c.args.files.now)
-    c.args.named.decompresses c.args.pack.now e.now) c.args.named.executables.now c.loop-i.i _ _
+    c.args.named.reading c.args.pack.now e.now) c.args.named.executables.now c.loop-i.i _ _
     c.loop-i-test.true c.saturating_add-faults.ensures c.loop-i.invariant c.in-Ok.ensures
 
 pub returns-in-Err : goal.returns-in-Err
@@ -24,5 +24,5 @@ returns-in-Err g c = (
 pub returns : goal.returns
 returns g c =
     told_all (λ (e : Bor (List ℕ)). TellsExecutable (g.F.FileReader.offer c.args.files.now)
-    c.args.named.decompresses c.args.pack.now e.now) c.args.named.executables.now c.loop-i.i
+    c.args.named.reading c.args.pack.now e.now) c.args.named.executables.now c.loop-i.i
     (omega arith) c.loop-i.invariant

@@ -9,7 +9,7 @@ use Rattle.thorin_queries.proofs.executables.check_executables.Given as goal
 abbrev pub invariant-loop-i : goal.invariant-loop-i
 invariant-loop-i g l = Told
     (ForEach (λ (e : Bor (List ℕ)). TellsExecutable (g.F.FileReader.offer l.files)
-    l.named.decompresses l.pack e.now)
+    l.named.reading l.pack e.now)
     (take l.i l.named.executables.now))
     (g.O.Write.contents l.initial.out) (string_bytes l.initial.waiting)
     (g.O.Write.contents l.out) (string_bytes l.waiting) l.faults
