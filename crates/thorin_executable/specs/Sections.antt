@@ -1,6 +1,6 @@
 -- The sections of an executable that say which split objects it was made with (DWARF 5, 7.3.2 and
 -- Appendix B; ELF gABI, "Sections").
-use Rattle.std.specs.Prelude.{ℕ, List, [], codes, map, Bool, false, ◌&&◌, ◌||◌, ◌==◌, not}
+use Rattle.std.specs.Prelude.{ℕ, List, [], codes, map, Bool, ◌&&◌, ◌||◌, ◌==◌, not}
 use Rattle.std.specs.Prelude.{if◌then◌else◌, Option, Some, None, Result, Ok, Err, find}
 use Rattle.std.specs.Option.{ok_or, option_or}
 use Rattle.dwp_base.specs.declared.endian.Endianness.{Endianness}
