@@ -23,6 +23,7 @@ pub fn name_of(answer: &Result<(), Error>) -> &'static str {
             _ => "another cause",
         },
         Err(Error::ParseFileKind(_)) => "ParseFileKind",
+        Err(Error::MissingDwoName(_)) => "MissingDwoName",
         Err(_) => "another fault",
     }
 }
@@ -49,6 +50,14 @@ pub fn add_named<'o, 's: 'o, S: Session<RelocationEntry>>(
     missing: MissingReferencedObjectBehaviour,
 ) -> &'static str {
     name_of(&builder.add_executable(Path::new("/e"), missing))
+}
+
+/// Adds the executable at `/e`, but for units that name no object.
+pub fn add_those_named<'o, 's: 'o, S: Session<RelocationEntry>>(
+    builder: &mut DwarfPackage<'o, 's, S>,
+    missing: MissingReferencedObjectBehaviour,
+) -> &'static str {
+    name_of(&builder.add_executable_skipping_nameless(Path::new("/e"), missing))
 }
 
 /// How many units the package has.

@@ -106,6 +106,11 @@ const NAMELESS_TYPE: [u8; 25] = [
     0x15, 0, 0, 0, 5, 0, 2, 8, 0, 0, 0, 0, 0x11, 0, 0, 0, 0, 0, 0, 0, 0, 0, 0, 0, 2,
 ];
 
+/// The skeleton unit 0 of version 5, with the abbreviation 2: it names no object.
+const NAMELESS: [u8; 21] = [
+    0x11, 0, 0, 0, 5, 0, 4, 8, 0, 0, 0, 0, 0, 0, 0, 0, 0, 0, 0, 0, 2,
+];
+
 /// A relocation at offset 6, of type 10 and of symbol 0, with the addend 0.
 const RELOCATION: [u8; 24] = [
     6, 0, 0, 0, 0, 0, 0, 0, 10, 0, 0, 0, 0, 0, 0, 0, 0, 0, 0, 0, 0, 0, 0, 0,
@@ -131,6 +136,8 @@ pub enum Naming {
     Relocated,
     /// A type unit that has no name stands before the unit 5.
     WithType,
+    /// A skeleton unit that has no name stands before the unit 5.
+    WithNameless,
     /// The units 1 to 3, of the objects `/b/a.dwo` to `/b/c.dwo`.
     Three,
 }
@@ -142,6 +149,7 @@ pub fn executable(alloc: Global, naming: Naming) -> Result<Vec<u8>, AllocError> 
         Naming::Whole(id) => with_units(alloc, &NAMING, &naming_unit(id, 0x61, 0), &[]),
         Naming::Relocated => relocated(alloc),
         Naming::WithType => with_joined(alloc, &[&NAMELESS_TYPE, &naming_unit(5, 0x61, 0)]),
+        Naming::WithNameless => with_joined(alloc, &[&NAMELESS, &naming_unit(5, 0x61, 0)]),
         Naming::Three => with_three(alloc),
     }
 }

@@ -19,6 +19,10 @@ const SKIP: Step = Step::Named(MissingReferencedObjectBehaviour::Skip);
 
 const STOP: Step = Step::Named(MissingReferencedObjectBehaviour::Error);
 
+const NAMELESS_SKIP: Step = Step::SkippingNameless(MissingReferencedObjectBehaviour::Skip);
+
+const NAMELESS_STOP: Step = Step::SkippingNameless(MissingReferencedObjectBehaviour::Error);
+
 /// Asserts what the executable of the units 1 to 3 gives: which call is refused, by what number;
 /// the inputs; and what is told.
 fn hold_of_three(rt: &impl Abort, alloc: Global, rows: &[(Refusal, &[Step], &str)]) {
@@ -211,7 +215,7 @@ const OBJECT: Step = Step::Object("/b/a.dwo");
 const NO_OBJECT: Step = Step::Object("/b/b.dwo");
 
 /// Executables with their objects and without them, and objects at paths.
-const EXECUTABLES: [(Naming, Objects, &'static [Step], &'static str); 11] = [
+const EXECUTABLES: [(Naming, Objects, &'static [Step], &'static str); 15] = [
     (
         Naming::Unit(5),
         Objects::Five,
@@ -277,6 +281,30 @@ const EXECUTABLES: [(Naming, Objects, &'static [Step], &'static str); 11] = [
         Objects::Five,
         &[OBJECT, STOP],
         "Ok Ok 2, has 5, lacks: 544 bytes, theirs",
+    ),
+    (
+        Naming::WithNameless,
+        Objects::Five,
+        &[STOP],
+        "MissingDwoName 1, has, lacks: No output object was created from inputs",
+    ),
+    (
+        Naming::WithNameless,
+        Objects::Five,
+        &[NAMELESS_STOP],
+        "Ok 2, has 5, lacks: 544 bytes, theirs",
+    ),
+    (
+        Naming::WithNameless,
+        Objects::None,
+        &[NAMELESS_SKIP],
+        "Ok 2, has, lacks 5: Unit 0x00000005 referenced by executable was not found",
+    ),
+    (
+        Naming::Unit(5),
+        Objects::None,
+        &[NAMELESS_STOP],
+        "NotFound 2, has, lacks 5: Unit 0x00000005 referenced by executable was not found",
     ),
 ];
 

@@ -1,7 +1,8 @@
 //! What inputs give by a session that refuses a call: by a builder, and by packing them at once.
 
 use crate::building::{
-    add_named, add_path, finished, missing_units, name_of, packed_by, units, whole, written,
+    add_named, add_path, add_those_named, finished, missing_units, name_of, packed_by, units,
+    whole, written,
 };
 use crate::counting::{CountingSession, Refusal};
 use crate::objects::{Files, Kind, Naming, executable, put_file, put_object, sure};
@@ -20,6 +21,8 @@ pub enum Step {
     Object(&'static str),
     /// The executable at `/e`.
     Named(MissingReferencedObjectBehaviour),
+    /// The same, where units that name no object are passed over.
+    SkippingNameless(MissingReferencedObjectBehaviour),
 }
 
 /// Which objects there are.
@@ -145,6 +148,7 @@ fn answer_each<'o, 's: 'o>(
             match steps[i] {
                 Step::Object(path) => add_path(builder, path),
                 Step::Named(missing) => add_named(builder, missing),
+                Step::SkippingNameless(missing) => add_those_named(builder, missing),
             },
         );
         put(text, " ");
@@ -163,6 +167,9 @@ fn is_packed_so<'s>(
         let _ = inputs.push(match steps[i] {
             Step::Object(path) => Input::Object(Path::new(path)),
             Step::Named(missing) => Input::Executable(Path::new("/e"), missing),
+            Step::SkippingNameless(missing) => {
+                Input::ExecutableSkippingNameless(Path::new("/e"), missing)
+            }
         });
     }
     match packed_by(alloc, session, &inputs) {
