@@ -99,6 +99,8 @@ const ARCHIVES: Word = Word::Flag(
     "Pack the split objects that inputs have as archives",
 );
 
+const SKIP_NAMELESS: Word = Word::Flag("skip-nameless", "Skip units of EXECs that name no object");
+
 const JSON: Word = Word::Flag("json", "Print a JSON object a line");
 
 const SECTION: Word = Word::Alone(
@@ -134,6 +136,7 @@ const COMMANDS: [Line; 4] = [
                 "skip-missing",
                 "Skip missing objects; their units must come from another input",
             ),
+            SKIP_NAMELESS,
             Word::Flag(
                 "partial",
                 "Pack what is there; warn of each unit of EXEC that isn't",
@@ -195,6 +198,7 @@ const COMMANDS: [Line; 4] = [
         words: &[
             FILE,
             Word::Executables("Executables whose units have to be in the package"),
+            SKIP_NAMELESS,
             DECOMPRESS,
             JSON,
         ],

@@ -25,6 +25,8 @@ pub struct PackArguments<'m, 'a> {
     pub executables: Option<&'m [&'a str]>,
     /// Whether objects of an executable that can't be read are passed over.
     pub skips_missing: bool,
+    /// Whether units of an executable that name no object are passed over.
+    pub skips_nameless: bool,
     /// Whether the package may take the place of an input.
     pub force: bool,
     /// Whether compressed sections are decompressed.
@@ -56,6 +58,8 @@ pub struct CheckArguments<'m, 'a> {
     pub file: &'a str,
     /// The executables whose units have to be in it.
     pub executables: &'m [&'a str],
+    /// Whether their units that name no object are passed over.
+    pub skips_nameless: bool,
     /// Whether their compressed sections are decompressed.
     pub decompresses: bool,
     /// Whether each line is a JSON object.
@@ -280,6 +284,7 @@ fn check<C: Commands>(matches: &ArgMatches<'_>, commands: &mut C) -> u8 {
     commands.check(CheckArguments {
         file: word_of(matches, "file"),
         executables: values_of(matches, "exec").unwrap_or(&[]),
+        skips_nameless: has_flag(matches, "skip-nameless"),
         decompresses: has_flag(matches, "decompress"),
         json: has_flag(matches, "json"),
     })
@@ -321,6 +326,7 @@ fn has_flag(matches: &ArgMatches<'_>, name: &str) -> bool {
 fn arguments_of<'m, 'a>(matches: &'m ArgMatches<'a>) -> PackArguments<'m, 'a> {
     PackArguments {
         skips_missing: has_flag(matches, "skip-missing"),
+        skips_nameless: has_flag(matches, "skip-nameless"),
         decompresses: has_flag(matches, "decompress"),
         prefix_maps: values_of(matches, "prefix-map"),
         partial: has_flag(matches, "partial"),
@@ -337,6 +343,7 @@ fn arguments_of_peer<'m, 'a>(matches: &'m ArgMatches<'a>) -> PackArguments<'m, '
         inputs: values_of(matches, "input"),
         executables: values_of(matches, "exec"),
         skips_missing: false,
+        skips_nameless: false,
         force: has_flag(matches, "force"),
         decompresses: true,
         opens_archives: has_flag(matches, "archives"),

@@ -9,8 +9,8 @@ abbrev pub warnings : (is_peer on_terminal : Bool) → Warnings
 warnings is_peer on_terminal =
     if is_peer then Never else if on_terminal then Once else Each
 
--- the peers say where, don't compare type units, keep an object's last macros, open archives, and
--- pack nothing without a word
+-- the peers say where, don't compare type units, keep an object's last macros, open archives, pass
+-- over units that name no object, and pack nothing without a word
 unfoldable pub manner : (is_peer on_terminal : Bool) → Manner
 manner is_peer on_terminal = record {
   notes = is_peer || on_terminal;
@@ -18,4 +18,5 @@ manner is_peer on_terminal = record {
   keeps_last_macros = is_peer;
   lets_empty = is_peer;
   opens_archives = is_peer;
+  skips_nameless = is_peer;
 }

@@ -17,8 +17,8 @@ use thorin_arguments::{
 };
 pub use thorin_commands::Failure;
 use thorin_commands::{
-    FindForm, HostFiles, ListForm, Packing, Warnings, check, check_as_json, find, lacks_index,
-    list, list_missing, pack, report, show, verify,
+    FindForm, HostFiles, ListForm, NamelessUnits, Packing, Reading, Warnings, check, check_as_json,
+    find, lacks_index, list, list_missing, pack, report, show, verify,
 };
 use thorin_faults::MissingReferencedObjectBehaviour;
 use thorin_words::{ResponseError, expanded, printed};
@@ -221,13 +221,18 @@ impl<O: Write, E: Write> Commands for Program<'_, '_, '_, O, E> {
         let CheckArguments {
             file,
             executables,
+            skips_nameless,
             decompresses,
             json,
         } = arguments;
+        let reading = Reading {
+            decompresses,
+            nameless: nameless_units(skips_nameless),
+        };
         let answer = if json {
-            check_as_json(self.rt, file, executables, decompresses, self.out)
+            check_as_json(self.rt, file, executables, reading, self.out)
         } else {
-            check(self.rt, file, executables, decompresses, self.out)
+            check(self.rt, file, executables, reading, self.out)
         };
         let given = Given {
             executables,
@@ -269,6 +274,7 @@ fn packing_of<'m, 'a>(arguments: PackArguments<'m, 'a>, manner: Manner) -> Packi
         inputs: arguments.inputs,
         executables: arguments.executables,
         missing,
+        nameless: nameless_units(arguments.skips_nameless || manner.skips_nameless),
         force: arguments.force,
         decompresses: arguments.decompresses,
         prefix_maps: arguments.prefix_maps,
@@ -280,6 +286,15 @@ fn packing_of<'m, 'a>(arguments: PackArguments<'m, 'a>, manner: Manner) -> Packi
         allows_overlap: arguments.allows_overlap,
         keeps_last_macros: arguments.keeps_last_macros || manner.keeps_last_macros,
         lets_empty: manner.lets_empty,
+    }
+}
+
+/// What becomes of units that name no object.
+fn nameless_units(are_skipped: bool) -> NamelessUnits {
+    if are_skipped {
+        NamelessUnits::PassedOver
+    } else {
+        NamelessUnits::Refused
     }
 }
 

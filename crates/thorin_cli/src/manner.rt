@@ -28,6 +28,8 @@ pub(crate) struct Manner {
     pub(crate) lets_empty: bool,
     /// Whether an input may be an archive, without being told.
     pub(crate) opens_archives: bool,
+    /// Whether units of an executable that name no object are passed over, without being told.
+    pub(crate) skips_nameless: bool,
 }
 
 impl Manner {
@@ -48,6 +50,7 @@ impl Manner {
             keeps_last_macros: is_peer,
             lets_empty: is_peer,
             opens_archives: is_peer,
+            skips_nameless: is_peer,
         }
     }
 }

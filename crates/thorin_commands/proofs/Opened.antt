@@ -53,6 +53,7 @@ alone : (opens decompresses : Bool) (offer : Offer) (input : Input)
 alone true decompresses offer (inputs.Object path) = inl refl
 alone true decompresses offer (inputs.Bytes bytes) = refl
 alone true decompresses offer (inputs.Executable path missing) = refl
+alone true decompresses offer (inputs.ExecutableSkippingNameless path missing) = refl
 alone false decompresses offer input = refl
 
 took_alone : (opens decompresses : Bool) (offer : Offer) (input : Input) (old new : State)
@@ -151,11 +152,14 @@ taken_append decompresses [] ys [] more h k = k
 taken_append decompresses [] ys (inputs.Bytes b ∷ list) more h k = absurd h
 taken_append decompresses [] ys (inputs.Object p ∷ list) more h k = absurd h
 taken_append decompresses [] ys (inputs.Executable p m ∷ list) more h k = absurd h
+taken_append decompresses [] ys (inputs.ExecutableSkippingNameless p m ∷ list) more h k = absurd h
 taken_append decompresses (x ∷ xs) ys [] more h k = absurd h
 taken_append decompresses (x ∷ xs) ys (inputs.Bytes b ∷ list) more h k =
     (h.0, taken_append decompresses xs ys list more h.1 k)
 taken_append decompresses (x ∷ xs) ys (inputs.Object p ∷ list) more h k = absurd h
 taken_append decompresses (x ∷ xs) ys (inputs.Executable p m ∷ list) more h k = absurd h
+taken_append decompresses (x ∷ xs) ys (inputs.ExecutableSkippingNameless p m ∷ list) more h k =
+    absurd h
 
 module _ (decompresses : Bool) (offer : Offer) where
   pub each_none : (state : State) → TookEach decompresses offer [] state state

@@ -7,6 +7,8 @@ use Rattle.std.specs.Path.{path_bytes}
 use Rattle.std.specs.declared.io.Error.{Error as IoError}
 use Rattle.dwp_elf.specs.FileText.{Object as File, file_text}
 use Rattle.thorin_faults.specs.declared.fault.MissingReferencedObjectBehaviour.{MissingReferencedObjectBehaviour}
+use Rattle.thorin_executable.specs.declared.listing.NamelessUnits.{NamelessUnits}
+use Rattle.thorin_executable.specs.declared.listing.NamelessUnits.TheVariants.{Refused, PassedOver}
 use Rattle.thorin_join.specs.Builder.{State, start, IsFinishedState}
 use Rattle.thorin_join.specs.Join.{JoinAll, IsPackageOf}
 use Rattle.thorin_join.specs.Represents.{units_in}
@@ -30,19 +32,25 @@ anything path answer = Unit {0}
 
 -- ---- what a command asks for
 
--- the path of an input, and for an executable what is done where an object of it is missing
-abbrev pub asked : Input → Option (List ℕ × Option MissingReferencedObjectBehaviour)
+-- what is done with an executable: where an object of it is missing, and where a unit of it names
+-- no object
+abbrev pub Handling : Type 0
+Handling = MissingReferencedObjectBehaviour × NamelessUnits
+
+-- the path of an input, and for an executable what is done with it
+abbrev pub asked : Input → Option (List ℕ × Option Handling)
 asked (inputs.Object path) = Some (path_bytes path, None)
 asked (inputs.Bytes bytes) = None
-asked (inputs.Executable path missing) = Some (path_bytes path, Some missing)
+asked (inputs.Executable path missing) = Some (path_bytes path, Some (missing, Refused))
+asked (inputs.ExecutableSkippingNameless path missing) =
+    Some (path_bytes path, Some (missing, PassedOver))
 
 -- what is asked for of the path of an object, and of that of an executable
-abbrev pub object_asked : Bor (List ℕ) → Option (List ℕ × Option MissingReferencedObjectBehaviour)
+abbrev pub object_asked : Bor (List ℕ) → Option (List ℕ × Option Handling)
 object_asked path = Some (path.now, None)
 
-abbrev pub executable_asked : MissingReferencedObjectBehaviour → Bor (List ℕ)
-    → Option (List ℕ × Option MissingReferencedObjectBehaviour)
-executable_asked missing path = Some (path.now, Some missing)
+abbrev pub executable_asked : Handling → Bor (List ℕ) → Option (List ℕ × Option Handling)
+executable_asked handling path = Some (path.now, Some handling)
 
 -- the paths of a list, none where there is no list
 abbrev pub paths_in : Option (Bor (List (Bor (List ℕ)))) → List (Bor (List ℕ))
@@ -50,9 +58,9 @@ paths_in None = []
 paths_in (Some list) = list.now
 
 -- the objects in order, and behind them the executables
-abbrev pub asks : Packing → List (Option (List ℕ × Option MissingReferencedObjectBehaviour))
+abbrev pub asks : Packing → List (Option (List ℕ × Option Handling))
 asks packing = map object_asked (paths_in packing.inputs)
-    ++ map (executable_asked packing.missing) (paths_in packing.executables)
+    ++ map (executable_asked (packing.missing, packing.nameless)) (paths_in packing.executables)
 
 -- OUT: the name that was given, else that of the one executable with `.dwp` behind it
 abbrev pub name_beside : List (Bor (List ℕ)) → Option (List ℕ)

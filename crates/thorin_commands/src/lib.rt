@@ -3,6 +3,7 @@
 #![tactic(auto)]
 
 mod archives;
+mod asked;
 mod encodings;
 mod files;
 mod macros;
@@ -23,7 +24,9 @@ pub use files::{FileSystem, HostFiles};
 pub use missing::list_missing;
 pub use notes::reason;
 pub use packing::{Packing, pack, verify};
+pub use thorin::NamelessUnits;
 pub use thorin_queries::{
-    Failure, FindForm, ListForm, check, check_as_json, find, lacks_index, list, report, show,
+    Failure, FindForm, ListForm, Reading, check, check_as_json, find, lacks_index, list, report,
+    show,
 };
 pub use warnings::Warnings;

@@ -4,6 +4,7 @@
 ghost use Rattle.std.specs.Prelude.{◌≡◌, ◌≤◌, OnOk, IfOk};
 ghost use Rattle.thorin_commands.specs.Packing.{left};
 
+use crate::asked::{executable_of, nameless_in};
 use crate::files::FileSystem;
 use crate::notes::place_of;
 use crate::output::{Refusal, flush};
@@ -18,7 +19,9 @@ use std::alloc::{AllocError, Global};
 use std::collections::HashSet;
 use std::io::Write;
 use std::path::{AsPath, Path};
-use thorin::{BytesSession, DwarfPackage, Input, MissingTargets, Skeleton, SkeletonUnits};
+use thorin::{
+    BytesSession, DwarfPackage, Input, MissingTargets, NamelessUnits, Skeleton, SkeletonUnits,
+};
 use thorin_faults::{Error, InputError, MissingReferencedObjectBehaviour, Session};
 use thorin_queries::{Failure, buffer};
 use thorin_words::printed;
@@ -52,9 +55,7 @@ fn tell_missing<'o, 's: 'o, Sess: Session<RelocationEntry>, I: Inputs, E: Write>
 ) -> Result<(), Failure> {
     let mut left = Left::new(alloc, builder.missing_targets());
     for input in inputs {
-        if let Input::Executable(path, _) = *input {
-            tell_those_of(alloc, files, *input, path, &mut left, err)?;
-        }
+        tell_those_of(alloc, files, *input, &mut left, err)?;
     }
     let Left { first, others, .. } = left;
     if let Some(target) = first {
@@ -132,15 +133,17 @@ fn reason_of<I: Inputs>(
     }
 }
 
-/// Warns of those of an executable, which is read a second time.
+/// Warns of those of an input that is an executable, which is read a second time.
 fn tell_those_of<I: Inputs, E: Write>(
     alloc: Global,
     files: &I,
     input: Input<'_>,
-    path: Path<'_>,
     left: &mut Left<'_>,
     err: &mut E,
 ) -> Result<(), Failure> {
+    let Some(path) = executable_of(input) else {
+        return Ok(());
+    };
     if left.first.is_none() {
         return Ok(());
     }
@@ -151,7 +154,8 @@ fn tell_those_of<I: Inputs, E: Write>(
     };
     let bump = Bump::new(alloc);
     let session = BytesSession::new(&bump);
-    let Ok(mut units) = SkeletonUnits::read(alloc, &session, bytes) else {
+    let nameless = nameless_in(input);
+    let Ok(mut units) = SkeletonUnits::read_by(alloc, &session, bytes, nameless) else {
         return Ok(());
     };
     tell_each(alloc, files, path.path_text(), &mut units, left, err)
@@ -197,7 +201,7 @@ pub fn list_missing<F: FileSystem, O: Write, E: Write>(
     }
     let files = InputFiles::new(alloc, files, packing);
     let mut lines = buffer(alloc, out)?;
-    let listed = list_all(alloc, &files, executables, &mut lines);
+    let listed = list_all(alloc, &files, executables, packing.nameless, &mut lines);
     flush(&mut lines)?;
     match listed {
         Ok(false) => Ok(0),
@@ -213,12 +217,13 @@ fn list_all<I: Inputs, W: Write>(
     alloc: Global,
     files: &I,
     executables: &[&str],
+    nameless: NamelessUnits,
     lines: &mut W,
 ) -> Result<bool, Refusal> {
     let mut seen = HashSet::new(alloc);
     let mut is_one_missing = false;
     for executable in executables {
-        if list_of(alloc, files, *executable, &mut seen, lines)? {
+        if list_of(alloc, files, *executable, nameless, &mut seen, lines)? {
             is_one_missing = true;
         }
     }
@@ -230,6 +235,7 @@ fn list_of<I: Inputs, W: Write>(
     alloc: Global,
     files: &I,
     executable: &str,
+    nameless: NamelessUnits,
     seen: &mut HashSet<String>,
     lines: &mut W,
 ) -> Result<bool, Refusal> {
@@ -243,7 +249,7 @@ fn list_of<I: Inputs, W: Write>(
     };
     let bump = Bump::new(alloc);
     let session = BytesSession::new(&bump);
-    let mut units = SkeletonUnits::read(alloc, &session, bytes)?;
+    let mut units = SkeletonUnits::read_by(alloc, &session, bytes, nameless)?;
     list_each(alloc, files, &mut units, seen, lines)
 }
 

@@ -1,17 +1,16 @@
 //! `thorin pack`.
 
-ghost use Rattle.std.specs.Prelude.{◌≡◌, ◌≤◌, ◌++◌, List, ℕ, Ok, Some, map, OnOk, OnErr, IfOk, IfErr};
-ghost use Rattle.std.specs.Prelude.{◌∷◌, [], None, string_bytes, true};
+ghost use Rattle.std.specs.Prelude.{◌≡◌, ◌≤◌, Ok, Some, OnOk, OnErr, IfOk, IfErr, string_bytes, true};
 ghost use Rattle.dwp_elf.specs.FileText.{file_text};
 ghost use Rattle.thorin_join.specs.Builder.{IsFinishedState};
 ghost use Rattle.thorin_join.specs.Join.{IsPackageOf, IsPackageOnceWritten};
 ghost use Rattle.thorin_join.specs.Meaning.{Members};
 ghost use Rattle.thorin_join.specs.Represents.{units_in};
 ghost use Rattle.thorin_commands.specs.Files.{IsOfWriting, Put, Begins};
-ghost use Rattle.thorin_commands.specs.Packing.{asked, object_asked, executable_asked, asks};
 ghost use Rattle.thorin_commands.specs.Packing.{out_of, Packs, Comes};
 ghost use Rattle.thorin_commands.specs.Packing.{IsPackageFor, IsPackedFrom, Fails, paths_in, reads};
 
+use crate::asked::{inputs_of, inputs_with};
 use crate::files::FileSystem;
 use crate::missing::leave_out;
 use crate::output::{Refusal, write_package};
@@ -25,13 +24,12 @@ use dwp_bytes::RelocationEntry;
 use dwp_elf::WritableObject;
 use dwp_elf::laws::written_contents_are_read_back;
 use dwp_table::DebugTypeSignature;
-use std::alloc::{AllocError, Global};
+use std::alloc::Global;
 use std::io::Write;
-use std::path::Path;
 use thorin::laws::runs_go_on;
-use thorin::{BytesSession, DwarfPackage, Input};
+use thorin::{BytesSession, DwarfPackage, Input, NamelessUnits};
 use thorin_faults::{Error, MissingReferencedObjectBehaviour, Session};
-use thorin_queries::{Failure, buffer, check};
+use thorin_queries::{Failure, Reading, buffer, check};
 
 /// What is to be packed, and where to.
 #[derive(Drop)]
@@ -45,6 +43,8 @@ pub struct Packing<'m, 'a> {
     pub executables: Option<&'m [&'a str]>,
     /// What is done where an object that an executable names isn't there.
     pub missing: MissingReferencedObjectBehaviour,
+    /// What becomes of a unit of an executable that names no object.
+    pub nameless: NamelessUnits,
     /// Whether the package may take the place of an input.
     pub force: bool,
     /// Whether compressed sections of inputs are decompressed first.
@@ -118,7 +118,11 @@ pub fn verify<O: Write>(
 ) -> Result<u8, Failure> {
     let output = packing.output_name(rt.alloc())?;
     let executables = paths_in(packing.executables);
-    check(rt, output.as_str(), executables, packing.decompresses, out)
+    let reading = Reading {
+        decompresses: packing.decompresses,
+        nameless: packing.nameless,
+    };
+    check(rt, output.as_str(), executables, reading, out)
 }
 
 /// Packs the inputs in order, then what each executable refers to, and writes the package: to the
@@ -278,7 +282,13 @@ fn packed<F: FileSystem, E: Write>(
 {
     let objects = paths_in(packing.inputs);
     let executables = paths_in(packing.executables);
-    let inputs = inputs_of(alloc, objects, executables, packing.missing)?;
+    let inputs = inputs_of(
+        alloc,
+        objects,
+        executables,
+        packing.missing,
+        packing.nameless,
+    )?;
     let files = InputFiles::new(alloc, files, packing);
     let telling = Telling {
         verbose: packing.verbose,
@@ -317,7 +327,14 @@ fn packed_unsplit<I: Inputs, E: Write>(
     if files.unit_count(executable)? != Some(0) {
         return Err(Refusal::Package(Error::NoOutputObjectCreated));
     }
-    let inputs = inputs_with(alloc, objects, executables, packing.missing, *executable)?;
+    let inputs = inputs_with(
+        alloc,
+        objects,
+        executables,
+        packing.missing,
+        packing.nameless,
+        *executable,
+    )?;
     let telling = Telling {
         verbose: false,
         notes: false,
@@ -334,42 +351,6 @@ pub(crate) fn paths_in<'m, 'a>(list: Option<&'m [&'a str]>) -> &'m [&'a str]
         Some(paths) => paths,
         None => &[],
     }
-}
-
-/// The objects, and then the executables.
-fn inputs_of<'a>(
-    alloc: Global,
-    objects: &[&'a str],
-    executables: &[&'a str],
-    missing: MissingReferencedObjectBehaviour,
-) -> Result<Vec<Input<'a>>, AllocError>
-    ensures { IfOk result (λ inputs. map asked inputs.items ≡ map object_asked objects.now
-        ++ map (executable_asked missing) executables.now) }
-{
-    let mut inputs = Vec::new(alloc);
-    for object in objects {
-        inputs.push(Input::Object(Path::new(*object)))?;
-    }
-    for executable in executables {
-        inputs.push(Input::Executable(Path::new(*executable), missing))?;
-    }
-    Ok(inputs)
-}
-
-/// The same, and behind them one more object.
-fn inputs_with<'a>(
-    alloc: Global,
-    objects: &[&'a str],
-    executables: &[&'a str],
-    missing: MissingReferencedObjectBehaviour,
-    last: &'a str,
-) -> Result<Vec<Input<'a>>, AllocError>
-    ensures { IfOk result (λ inputs. map asked inputs.items ≡ (map object_asked objects.now
-        ++ map (executable_asked missing) executables.now) ++ Some (last.entry.now, None) ∷ []) }
-{
-    let mut inputs = inputs_of(alloc, objects, executables, missing)?;
-    inputs.push(Input::Object(Path::new(last)))?;
-    Ok(inputs)
 }
 
 /// The object to be written for these inputs, and those signatures.

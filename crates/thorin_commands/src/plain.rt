@@ -9,6 +9,7 @@ ghost use Rattle.thorin_commands.specs.Packing.{IsAmong, StandsAt, paths_in, thr
 ghost use Rattle.thorin_commands.specs.Plain.{IsPlainOf, IsReadOver, taken_from, last_from};
 ghost use Rattle.thorin_commands.specs.Prefixes.{mapped as mapped_path};
 
+use crate::asked::executable_of;
 use crate::encodings::Encodings;
 use crate::files::FileSystem;
 use crate::macros::{MacroWarnings, keep_last_macros};
@@ -338,8 +339,7 @@ impl<F: FileSystem> Inputs for InputFiles<'_, F> {
         self.again.set(false);
         self.macros.begin();
         self.overlap.set(false);
-        self.is_executable
-            .set(matches!(input, Input::Executable(_, _)));
+        self.is_executable.set(executable_of(input).is_some());
     }
 
     fn begin_again(&self, input: Input<'_>) {

@@ -91,7 +91,9 @@ fn take_alone<'o, 's: 'o, Sess: Session<RelocationEntry>, I: Inputs, E: Write>(
 fn keep_taken<I: Inputs>(files: &I, input: Input<'_>, count: usize) {
     match input {
         Input::Object(path) => files.keep_taken(Source::Object(path.path_text()), count),
-        Input::Executable(path, _) => files.keep_taken(Source::Executable(path.path_text()), count),
+        Input::Executable(path, _) | Input::ExecutableSkippingNameless(path, _) => {
+            files.keep_taken(Source::Executable(path.path_text()), count);
+        }
         Input::Bytes(_) => {}
     }
 }

@@ -2,6 +2,7 @@
 
 ghost use Rattle.std.specs.Prelude.{◌≡◌};
 
+use crate::asked::{executable_of, nameless_in};
 use crate::notes::{note_duplicate, note_refused, note_unread, place_of};
 use crate::origins::Origin;
 use crate::output::Refusal;
@@ -11,7 +12,7 @@ use dwp_table::{DwarfObject, DwoId};
 use std::alloc::{AllocError, Global};
 use std::io::Write;
 use std::path::{AsPath, Path};
-use thorin::{BytesSession, DwarfPackage, Input, SkeletonUnits};
+use thorin::{BytesSession, DwarfPackage, Input, NamelessUnits, SkeletonUnits};
 use thorin_faults::{Error, MissingReferencedObjectBehaviour};
 use thorin_queries::{Failure, tell_taken};
 use thorin_words::printed;
@@ -55,7 +56,7 @@ fn tell<I: Inputs, E: Write>(
     let (path, all) = match input {
         Input::Bytes(_) => return Ok(()),
         Input::Object(path) => (path, inputs.unit_count(path.path_text())?),
-        Input::Executable(path, _) => (path, None),
+        Input::Executable(path, _) | Input::ExecutableSkippingNameless(path, _) => (path, None),
     };
     tell_taken(err, path.path_text(), added, all)
 }
@@ -70,7 +71,9 @@ fn warn_unsplit<I: Inputs, E: Write>(
     let (path, is_split) = match input {
         Input::Bytes(_) => return Ok(()),
         Input::Object(path) => (path, inputs.unit_count(path.path_text())? != Some(0)),
-        Input::Executable(path, _) => (path, names_units(alloc, inputs, input, path)),
+        Input::Executable(path, _) | Input::ExecutableSkippingNameless(path, _) => {
+            (path, names_units(alloc, inputs, input, path))
+        }
     };
     if is_split {
         return Ok(());
@@ -92,16 +95,16 @@ fn names_units<I: Inputs>(alloc: Global, inputs: &I, input: Input<'_>, path: Pat
     let mut room = Vec::new(alloc);
     inputs.begin_again(input);
     match inputs.read_into(path, &mut room) {
-        Ok(bytes) => has_units(alloc, bytes),
+        Ok(bytes) => has_units(alloc, bytes, nameless_in(input)),
         Err(_) => true,
     }
 }
 
 /// Whether the bytes of an executable name a split unit, or can't be read.
-fn has_units(alloc: Global, bytes: &[u8]) -> bool {
+fn has_units(alloc: Global, bytes: &[u8], nameless: NamelessUnits) -> bool {
     let bump = Bump::new(alloc);
     let session = BytesSession::new(&bump);
-    match SkeletonUnits::read(alloc, &session, bytes) {
+    match SkeletonUnits::read_by(alloc, &session, bytes, nameless) {
         Ok(mut units) => !matches!(units.next(), Ok(None)),
         Err(_) => true,
     }
@@ -195,14 +198,6 @@ pub(crate) fn note_place<I: Inputs, E: Write>(
     }
 }
 
-/// The path of an executable.
-fn executable_of(input: Input<'_>) -> Option<Path<'_>> {
-    match input {
-        Input::Executable(path, _) => Some(path),
-        _ => None,
-    }
-}
-
 /// What is known of a unit that a package has.
 #[derive(Clone, Copy)]
 pub(crate) struct Before<'a> {
@@ -269,7 +264,8 @@ fn named_with<I: Inputs>(
 fn path_for(alloc: Global, executable: &[u8], unit: u64) -> Option<String> {
     let bump = Bump::new(alloc);
     let session = BytesSession::new(&bump);
-    let mut units = SkeletonUnits::read(alloc, &session, executable).ok()?;
+    let nameless = NamelessUnits::PassedOver;
+    let mut units = SkeletonUnits::read_by(alloc, &session, executable, nameless).ok()?;
     while let Ok(Some(skeleton)) = units.next() {
         if skeleton.target == DwarfObject::Compilation(DwoId(unit)) {
             return Some(skeleton.path);
@@ -314,7 +310,9 @@ fn place_in(
     named: Option<String>,
 ) -> Result<Option<String>, AllocError> {
     let path = match input {
-        Input::Object(path) | Input::Executable(path, _) => path,
+        Input::Object(path)
+        | Input::Executable(path, _)
+        | Input::ExecutableSkippingNameless(path, _) => path,
         Input::Bytes(_) => return Ok(None),
     };
     let place = match &named {

@@ -1,6 +1,6 @@
 use Rattle.std.proofs.Common.{◌≡◌, ◌++◌, map, take}
 use Rattle.thorin_commands.specs.Packing.{asked, object_asked, executable_asked}
-use Rattle.thorin_commands.proofs.packing.inputs_of.Given as goal
+use Rattle.thorin_commands.proofs.asked.inputs_of.Given as goal
 
 -- the paths so far
 abbrev pub invariant-loop-object : goal.invariant-loop-object
@@ -9,4 +9,4 @@ invariant-loop-object l = map asked l.inputs.items ≡ map object_asked
 
 abbrev pub invariant-loop-executable : goal.invariant-loop-executable
 invariant-loop-executable l = map asked l.inputs.items ≡ map object_asked l.objects ++ map
-    (executable_asked l.missing) (take l.executable-index l.executables)
+    (executable_asked (l.missing, l.nameless)) (take l.executable-index l.executables)
