@@ -3,7 +3,7 @@ use Rattle.std.specs.Path.{path_bytes}
 use Rattle.thorin_faults.specs.declared.fault.Error.TheVariants as error
 use Rattle.thorin_executable.specs.View.{named}
 use Rattle.thorin_builder.specs.Taking.{TakesReferredFile, with_target, is_there}
-use Rattle.thorin_builder.proofs.executables.DwarfPackage.add_skeleton.Goals as goal
+use Rattle.thorin_builder.proofs.package.DwarfPackage.add_skeleton.Goals as goal
 
 pub returns-then-is_there-clause-taken : goal.returns-then-is_there-clause-taken
 returns-then-is_there-clause-taken g c =

@@ -1,6 +1,6 @@
 use Rattle.std.proofs.Common.{refl, rules, Ok, Err, []}
 use Rattle.thorin_faults.specs.declared.fault.InputError.TheVariants.{Io, Memory}
-use Rattle.thorin_builder.proofs.executables.DwarfPackage.add_executable_as.Goals as goal
+use Rattle.thorin_builder.proofs.package.DwarfPackage.add_executable_as.Goals as goal
 
 pub returns-in-Ok-clause-taken : goal.returns-in-Ok-clause-taken
 returns-in-Ok-clause-taken g c = record {

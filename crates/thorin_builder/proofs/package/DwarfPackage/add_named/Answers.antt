@@ -1,6 +1,6 @@
 use Rattle.std.proofs.lemmas.Result.{err_from_is_err_and}
 use Rattle.thorin_builder.proofs.Running.{none-taken, list-fault}
-use Rattle.thorin_builder.proofs.executables.DwarfPackage.add_named.Goals as goal
+use Rattle.thorin_builder.proofs.package.DwarfPackage.add_named.Goals as goal
 
 pub returns-in_err-units-clause-taken : goal.returns-in_err-units-clause-taken
 returns-in_err-units-clause-taken g c =

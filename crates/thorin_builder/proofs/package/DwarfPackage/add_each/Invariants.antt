@@ -1,6 +1,6 @@
 use Rattle.std.proofs.Common.{◌≡◌, length}
 use Rattle.thorin_builder.proofs.Running.{TakenUpTo}
-use Rattle.thorin_builder.proofs.executables.DwarfPackage.add_each.Given as goal
+use Rattle.thorin_builder.proofs.package.DwarfPackage.add_each.Given as goal
 
 -- the units so far were taken
 abbrev pub invariant-loop-skeleton : goal.invariant-loop-skeleton

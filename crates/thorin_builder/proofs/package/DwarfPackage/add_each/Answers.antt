@@ -2,7 +2,7 @@ use Rattle.std.proofs.Common.{◌∙◌, Ok, subst}
 use Rattle.std.proofs.lemmas.Result.{err_from_is_err_and}
 use Rattle.thorin_executable.specs.View.{IsNext}
 use Rattle.thorin_builder.proofs.Running.{next-taken, next-refused, list-ended, list-fault}
-use Rattle.thorin_builder.proofs.executables.DwarfPackage.add_each.Goals as goal
+use Rattle.thorin_builder.proofs.package.DwarfPackage.add_each.Goals as goal
 
 pub returns-in_err-skeleton-clause-taken : goal.returns-in_err-skeleton-clause-taken
 returns-in_err-skeleton-clause-taken g c =

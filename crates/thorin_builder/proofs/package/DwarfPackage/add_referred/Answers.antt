@@ -3,7 +3,7 @@ use Rattle.thorin_faults.specs.declared.fault.InputError.TheVariants.{Io, Memory
 use Rattle.thorin_builder.specs.Taking.{accepted_of}
 use Rattle.thorin_builder.proofs.Running.{passed-over, not-passed-over}
 use Rattle.thorin_faults.specs.declared.fault.Error.TheVariants as error
-use Rattle.thorin_builder.proofs.executables.DwarfPackage.add_referred.Goals as goal
+use Rattle.thorin_builder.proofs.package.DwarfPackage.add_referred.Goals as goal
 
 pub returns-in-Ok-clause-taken : goal.returns-in-Ok-clause-taken
 returns-in-Ok-clause-taken g c = record {

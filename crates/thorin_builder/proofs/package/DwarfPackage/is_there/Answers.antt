@@ -5,7 +5,7 @@ use Rattle.thorin_join.specs.Builder.{names_in}
 use Rattle.thorin_input.specs.Names.{same_name}
 use Rattle.thorin_builder.proofs.Names.{among-is}
 use Rattle.thorin_builder.proofs.Running.{there-is, names-begun}
-use Rattle.thorin_builder.proofs.executables.DwarfPackage.is_there.Goals as goal
+use Rattle.thorin_builder.proofs.package.DwarfPackage.is_there.Goals as goal
 
 pub returns-in-Compilation : goal.returns-in-Compilation
 returns-in-Compilation g c =
