@@ -48,7 +48,8 @@ def run(words, where, limited=limits):
 
 def units(path):
     """The names of the entries of each unit, by its DWO id or type signature, as llvm-dwarfdump reads them."""
-    words = ["llvm-dwarfdump", "--debug-info", "--debug-types", path]
+    # (LLVM 14 doesn't read zstd)
+    words = ["llvm-dwarfdump-19" if shutil.which("llvm-dwarfdump-19") else "llvm-dwarfdump", "--debug-info", "--debug-types", path]
     done = subprocess.run(words, capture_output=True, text=True, errors="replace", timeout=120)
     found, name, texts, is_split = {}, None, [], True
 
@@ -155,6 +156,8 @@ def judged_linked(packer, program, wanted):
     for option in ([], program.option) if packer.takes_options else ([],):
         kept = packer.kept(program, option)
         said[" ".join(option)] = judged(packer, program.where, program.inputs, wanted, executable, option, kept)
+    if "unexpected argument" in said.get(" ".join(program.option), ""):
+        program.option = []
     return with_option(program, said[""], said.get(" ".join(program.option)))
 
 
@@ -244,7 +247,7 @@ def debugged(programs, packers, debuggers):
     for program in programs:
         by_objects = answers(program, None, debuggers)
         with without_objects(program.where):
-            alone = answers(program, None, debuggers)
+            alone, known = answers(program, None, debuggers), {}
             asked = [it for it in debuggers if not alone[it.title].startswith("yes")]
             needless = {it.title: "needs none" for it in debuggers if it not in asked}
             cells = [together(by_objects)]
@@ -253,7 +256,10 @@ def debugged(programs, packers, debuggers):
                 for option in ([], program.option):
                     package = packer.kept(program, option)
                     if package.exists():
-                        said[" ".join(option)] = together(answers(program, package, asked) | needless)
+                        # (packers may write the same package)
+                        data = package.read_bytes()
+                        known[data] = known.get(data) or answers(program, package, asked)
+                        said[" ".join(option)] = together(known[data] | needless)
                 cells.append(with_option(program, said.get(""), said.get(" ".join(program.option))) or "no package")
         yield program.title, cells
 
@@ -381,12 +387,11 @@ def compare(folder, packers, debuggers, rounds, note):
         wanted = wanted_of(it.where / name for name in it.units_in)
         rows.append((it.title + ("" if wanted else ": nothing is split"), [judged_linked(p, it, wanted) for p in packers]))
         asked += [it] if wanted else []
-    table("Other ways of compiling", packers, rows, "A program of two units in C. Each packer is given the executable, "
-          "or the archives in the last rows: there a Rust program of three crates follows. Where `thorin` has an option for "
-          "the program, the cell says what came of it with the option, and without.")
+    table("Other ways of compiling", packers, rows, "A program of two units in C, in the last row one of three crates in "
+          "Rust. Each packer is given the executable, or the archives that a row names.")
     if debuggers:
         table("In a debugger", packers, debugged(asked, packers, debuggers), "The debugger stops in a function, mostly of the "
-              "program's second unit, and shows a parameter or a local; with -g1, which has neither, the line. The package lies "
+              "program's second unit, and shows a parameter or a local; with `-g1`, which has neither, the line. The package lies "
               "beside the executable; objects and archives are gone. The first column has what it shows by the objects alone, "
               "where they were made. **Macros too**: where macros were compiled in, it knows one of the source. **Needs none**: "
               "it shows that without objects and package.", ["no package, but the objects"])
