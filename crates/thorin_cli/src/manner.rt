@@ -13,6 +13,8 @@ pub struct Facts<'a> {
     pub commit: &'a str,
     /// Whether standard error is a terminal.
     pub on_terminal: bool,
+    /// After how many milliseconds a terminal is told how far packing is.
+    pub patience: u64,
 }
 
 /// What a program tells that wasn't asked for.
@@ -28,6 +30,8 @@ pub(crate) struct Manner {
     pub(crate) lets_empty: bool,
     /// Whether an input may be an archive, without being told.
     pub(crate) opens_archives: bool,
+    /// Whether a line tells how far packing is, while it lasts.
+    pub(crate) tells_progress: bool,
 }
 
 impl Manner {
@@ -48,6 +52,7 @@ impl Manner {
             keeps_last_macros: is_peer,
             lets_empty: is_peer,
             opens_archives: is_peer,
+            tells_progress: on_terminal,
         }
     }
 }
