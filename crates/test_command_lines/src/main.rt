@@ -1,9 +1,11 @@
 //! Runs the lines of the file `script` as command lines of `thorin`, and prints what each printed
 //! and its status: first what went to standard output, then, each line behind a mark `!`, what
 //! went to standard error. A line `size FILE` prints how many bytes a file has, if it is there; one
-//! that begins with `full` has a standard output that takes nothing, one that begins with `mute` such
-//! a standard error, one that begins with `built` a program that knows its commit, one that begins
-//! with `tty` a terminal for standard error. For the gate alone.
+//! that begins with `full` has a standard output that takes nothing, one that begins with `closed`
+//! a pipe that nobody reads, one that begins with `mute` a standard error that takes nothing, one
+//! that begins with `built` a program that knows its commit, one that begins with `tty` a terminal
+//! for standard error, and with `slow` a terminal to which all seems to take long. For the gate
+//! alone.
 #![tactic(auto)]
 
 use std::alloc::AllocError;
@@ -34,13 +36,19 @@ fn answer(rt: &HostRuntime, line: &str, text: &mut Vec<u8>) -> io::Result<()> {
         tell_size(rt, file, text)
     } else if let Some(line) = line.strip_prefix("full ") {
         let place = Place {
-            full_out: true,
+            out: Takes::Full,
+            ..PLAIN
+        };
+        run_line(rt, line, place, text)
+    } else if let Some(line) = line.strip_prefix("closed ") {
+        let place = Place {
+            out: Takes::Closed,
             ..PLAIN
         };
         run_line(rt, line, place, text)
     } else if let Some(line) = line.strip_prefix("mute ") {
         let place = Place {
-            full_err: true,
+            err: Takes::Full,
             ..PLAIN
         };
         run_line(rt, line, place, text)
@@ -56,6 +64,13 @@ fn answer(rt: &HostRuntime, line: &str, text: &mut Vec<u8>) -> io::Result<()> {
             ..PLAIN.facts
         };
         run_line(rt, line, Place { facts, ..PLAIN }, text)
+    } else if let Some(line) = line.strip_prefix("slow ") {
+        let facts = Facts {
+            on_terminal: true,
+            patience: 0,
+            ..PLAIN.facts
+        };
+        run_line(rt, line, Place { facts, ..PLAIN }, text)
     } else {
         run_line(rt, line, PLAIN, text)
     }
@@ -65,9 +80,20 @@ fn answer(rt: &HostRuntime, line: &str, text: &mut Vec<u8>) -> io::Result<()> {
 #[derive(Clone, Copy)]
 struct Place {
     facts: Facts<'static>,
-    /// Whether standard output, or standard error, takes nothing.
-    full_out: bool,
-    full_err: bool,
+    /// What standard output takes, and standard error.
+    out: Takes,
+    err: Takes,
+}
+
+/// What a stream takes.
+#[derive(Clone, Copy)]
+enum Takes {
+    /// All.
+    All,
+    /// Nothing: it is a file on a device that is full.
+    Full,
+    /// Nothing: it is a pipe that nobody reads.
+    Closed,
 }
 
 /// Where nothing is known, and both streams take all.
@@ -75,25 +101,29 @@ const PLAIN: Place = Place {
     facts: Facts {
         commit: "",
         on_terminal: false,
+        patience: 1_000_000,
     },
-    full_out: false,
-    full_err: false,
+    out: Takes::All,
+    err: Takes::All,
 };
 
-/// A stream with what it took; one that is full takes nothing.
+/// A stream with what it took.
 #[derive(Drop)]
 struct Stream {
     taken: Vec<u8>,
-    is_full: bool,
+    takes: Takes,
 }
 
 impl Write for Stream {
     fn write(&mut self, bytes: &[u8]) -> io::Result<usize> {
-        if self.is_full {
-            return Err(io::Error::from(io::ErrorKind::StorageFull));
+        match self.takes {
+            Takes::All => {
+                self.taken.extend_from_slice(bytes)?;
+                Ok(bytes.len())
+            }
+            Takes::Full => Err(io::Error::from(io::ErrorKind::StorageFull)),
+            Takes::Closed => Err(io::Error::from(io::ErrorKind::BrokenPipe)),
         }
-        self.taken.extend_from_slice(bytes)?;
-        Ok(bytes.len())
     }
 
     fn flush(&mut self) -> io::Result<()> {
@@ -121,11 +151,11 @@ fn run_line(rt: &HostRuntime, line: &str, place: Place, text: &mut Vec<u8>) -> i
 fn run_words(rt: &HostRuntime, words: &[&str], place: Place, text: &mut Vec<u8>) -> io::Result<()> {
     let mut out = Stream {
         taken: Vec::new(rt.alloc()),
-        is_full: place.full_out,
+        takes: place.out,
     };
     let mut err = Stream {
         taken: Vec::new(rt.alloc()),
-        is_full: place.full_err,
+        takes: place.err,
     };
     let status = thorin_cli::run(rt, words, place.facts, &mut out, &mut err);
     tell_run(text, out.taken.as_slice(), err.taken.as_slice(), status)

@@ -59,6 +59,8 @@ enum Word {
     Verbose,
     /// An option without a value: its name and its help.
     Flag(&'static str, &'static str),
+    /// The same, beside which others can't stand: its name, its help, the others.
+    FlagAlone(&'static str, &'static str, &'static [&'static str]),
     /// An option with any value: its name, how help shows the value, its help.
     Value(&'static str, &'static str, &'static str),
     /// The same, beside which another can't stand: its name, how help shows the value, its help, the
@@ -68,6 +70,9 @@ enum Word {
     Values(&'static str, &'static str, &'static str),
     /// An option with one of some values: its name, how help shows the value, its help, the values.
     Choice(&'static str, &'static str, &'static str, &'static [&'static str]),
+    /// An option that may have one of some values, behind `=`, and that help leaves out: its name,
+    /// how the value is shown, what it does, the values.
+    MayChoose(&'static str, &'static str, &'static str, &'static [&'static str]),
     /// `INPUT`, as often as one likes.
     Inputs,
     /// One that must be there at its place: its name, how help shows it, its help.
@@ -108,6 +113,12 @@ const SECTION: Word = Word::Alone(
     "SECTION",
     "Write the unit's bytes of a section instead, as they are",
     &["string", "json"],
+);
+
+const COLUMNS: Word = Word::FlagAlone(
+    "columns",
+    "Print sizes in columns, and each total in per cent of the file",
+    &["names", "json"],
 );
 
 const OVERLAP: Word = Word::Flag("allow-overlap", "Take inputs whose sections overlap");
@@ -187,6 +198,7 @@ const COMMANDS: [Line; 4] = [
                 "Add each unit's size in each kind of section, and totals",
             ),
             Word::Flag("names", "Add the names of each unit's source and object"),
+            COLUMNS,
             JSON,
             FILE,
         ],
@@ -215,6 +227,15 @@ const PEER: [Word; 7] = [
     Word::Verbose,
     Word::Inputs,
 ];
+
+/// What LLVM's alone takes: past 2^32 bytes it would write a package that can't be read, or leave
+/// inputs out, where this program refuses.
+const LLVM: [Word; 1] = [Word::MayChoose(
+    "continue-on-cu-index-overflow",
+    "HOW",
+    "No effect: a package that is too large is refused",
+    &["continue", "soft-stop"],
+)];
 
 /// What `--version` prints behind the program's name: the version, and the commit where one is named.
 pub(crate) fn version_of(alloc: Global, commit: &str) -> Result<String, AllocError> {
@@ -248,7 +269,14 @@ pub(crate) fn peer<'a>(
     version: &'a str,
 ) -> Result<Command<'a>, AllocError> {
     match output(alloc).required_unless_present("exec") {
-        Ok(output) => with_words(alloc, peer_with(alloc, name, version, output), &PEER),
+        Ok(output) => {
+            let command = with_words(alloc, peer_with(alloc, name, version, output), &PEER);
+            if name.starts_with("llvm-") {
+                with_words(alloc, command, &LLVM)
+            } else {
+                command
+            }
+        }
         Err(e) => Err(e),
     }
 }
@@ -313,12 +341,23 @@ fn arg_of<'a>(alloc: Global, word: Word) -> Result<Arg<'a>, AllocError> {
         Word::Executables(help) => executables(alloc, help),
         Word::Verbose => flag(alloc, "verbose", "Report each input").short('v'),
         Word::Flag(name, help) => flag(alloc, name, help),
+        Word::FlagAlone(name, help, others) => {
+            return flag(alloc, name, help).conflicts_with_all(others);
+        }
         Word::Value(name, value, help) => value_of(alloc, name, value, help),
         Word::Alone(name, value, help, others) => {
             return value_of(alloc, name, value, help).conflicts_with_all(others);
         }
         Word::Values(name, value, help) => values(alloc, name, value, help),
         Word::Choice(name, value, help, values) => choice(alloc, name, value, help, values),
+        Word::MayChoose(name, value, help, values) => {
+            let first = values.first().unwrap_or(&"");
+            choice(alloc, name, value, help, values)
+                .num_args(0..=1)
+                .require_equals(true)
+                .default_missing_value(*first)
+                .hide(true)
+        }
         Word::Inputs => inputs(alloc),
         Word::Place(name, value, help) => place(alloc, name, value, help),
     };

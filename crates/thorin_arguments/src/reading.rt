@@ -90,6 +90,8 @@ pub struct ListArguments {
     pub sizes: bool,
     /// Whether names are added.
     pub names: bool,
+    /// Whether sizes stand in columns.
+    pub columns: bool,
     /// Whether each line is a JSON object.
     pub json: bool,
 }
@@ -274,6 +276,7 @@ fn list<C: Commands>(matches: &ArgMatches<'_>, commands: &mut C) -> u8 {
     let arguments = ListArguments {
         sizes: has_flag(matches, "sizes"),
         names: has_flag(matches, "names"),
+        columns: has_flag(matches, "columns"),
         json: has_flag(matches, "json"),
     };
     commands.list(word_of(matches, "file"), arguments)

@@ -17,6 +17,7 @@ fn main(rt: HostRuntime) -> ExitCode {
     let facts = Facts {
         commit: COMMIT,
         on_terminal: err.is_terminal(),
+        patience: 1000,
     };
     let status = match words_of(&rt) {
         Ok(words) => thorin_cli::run(&rt, words.as_slice(), facts, &mut out, &mut err),

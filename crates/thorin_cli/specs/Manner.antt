@@ -4,7 +4,7 @@ use Rattle.thorin_commands.specs.declared.warnings.Warnings.{Warnings}
 use Rattle.thorin_commands.specs.declared.warnings.Warnings.TheVariants.{Each, Once, Never}
 use Rattle.thorin_cli.specs.declared.manner.Manner.{Manner}
 
--- whoever reads a terminal wants to know where, and not each of a thousand lines
+-- whoever reads a terminal wants to know where, and how far, and not each of a thousand lines
 abbrev pub warnings : (is_peer on_terminal : Bool) → Warnings
 warnings is_peer on_terminal =
     if is_peer then Never else if on_terminal then Once else Each
@@ -19,4 +19,5 @@ manner is_peer on_terminal = record {
   lets_empty = is_peer;
   opens_archives = is_peer;
   skips_nameless = is_peer;
+  tells_progress = on_terminal;
 }

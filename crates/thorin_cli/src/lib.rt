@@ -1,13 +1,19 @@
 //! The program `thorin`, as a function over its words and two writers.
 #![tactic(auto)]
 
+mod columns;
 mod manner;
 mod notes;
+mod pipes;
+mod progress;
 mod responses;
 
+use crate::columns::list_in_columns;
 pub use crate::manner::Facts;
 use crate::manner::Manner;
 use crate::notes::{Given, note_no_index, note_packing, note_reading, note_unreadable};
+use crate::pipes::Watched;
+use crate::progress::{Console, CountedFiles, Lines};
 use crate::responses::HostResponses;
 use std::convert::AsStr;
 use std::fmt;
@@ -48,7 +54,8 @@ pub fn run<S: AsStr, O: Write, E: Write>(
             let mut program = Program {
                 rt,
                 manner,
-                out,
+                patience: facts.patience,
+                out: Watched::new(out),
                 err,
             };
             thorin_arguments::run(rt.alloc(), words.as_slice(), facts.commit, &mut program)
@@ -109,7 +116,8 @@ pub fn refuse_words<E: Write>(err: &mut E, cause: &io::Error) -> u8 {
 struct Program<'r, 'o, 'e, O, E> {
     rt: &'r HostRuntime,
     manner: Manner,
-    out: &'o mut O,
+    patience: u64,
+    out: Watched<'o, O>,
     err: &'e mut E,
 }
 
@@ -119,7 +127,7 @@ impl<O: Write, E: Write> Program<'_, '_, '_, O, E> {
         match answer {
             Ok(status) => status,
             Err(failure) => {
-                let status = report(self.err, &failure);
+                let status = self.report(&failure);
                 if self.manner.notes {
                     note_reading(self.rt, &failure, given, self.err);
                 }
@@ -128,13 +136,21 @@ impl<O: Write, E: Write> Program<'_, '_, '_, O, E> {
         }
     }
 
+    /// Prints why a command failed, and answers the status. That nobody reads standard output any
+    /// more isn't told: whoever closed the pipe has what they wanted.
+    fn report(&mut self, failure: &Failure) -> u8 {
+        match failure {
+            Failure::Line if self.out.is_closed() => 1,
+            _ => report(self.err, failure),
+        }
+    }
+
     /// Packs.
     fn pack_as(&mut self, packing: &Packing<'_, '_>) -> u8 {
-        let mut files = HostFiles::new(self.rt);
-        match pack(self.rt.alloc(), &mut files, packing, self.out, self.err) {
+        match self.pack_told(packing) {
             Ok(status) => status,
             Err(failure) => {
-                let status = report(self.err, &failure);
+                let status = self.report(&failure);
                 if packing.notes {
                     note_packing(self.rt, &failure, packing, self.err);
                 }
@@ -143,18 +159,39 @@ impl<O: Write, E: Write> Program<'_, '_, '_, O, E> {
         }
     }
 
+    /// Packs, and tells meanwhile how far that is.
+    fn pack_told(&mut self, packing: &Packing<'_, '_>) -> Result<u8, Failure> {
+        let patience = if self.manner.tells_progress && !packing.verbose {
+            Some(self.patience)
+        } else {
+            None
+        };
+        let console = Console::new(self.rt, self.err, patience, file_count(packing));
+        let mut files = CountedFiles::new(self.rt, &console);
+        let mut err = Lines(&console);
+        let answer = pack(
+            self.rt.alloc(),
+            &mut files,
+            packing,
+            &mut self.out,
+            &mut err,
+        );
+        console.clear();
+        answer
+    }
+
     /// Lists the objects that are missing.
     fn list_as(&mut self, packing: &Packing<'_, '_>) -> u8 {
         let files = HostFiles::new(self.rt);
-        match list_missing(self.rt.alloc(), &files, packing, self.out, self.err) {
+        match list_missing(self.rt.alloc(), &files, packing, &mut self.out, self.err) {
             Ok(status) => status,
-            Err(failure) => report(self.err, &failure),
+            Err(failure) => self.report(&failure),
         }
     }
 
     /// Checks the package that would be made.
     fn verify_as(&mut self, packing: &Packing<'_, '_>) -> u8 {
-        let answer = verify(self.rt, packing, self.out);
+        let answer = verify(self.rt, packing, &mut self.out);
         match packing.output_name(self.rt.alloc()) {
             Ok(output) => {
                 let given = Given {
@@ -194,7 +231,7 @@ impl<O: Write, E: Write> Commands for Program<'_, '_, '_, O, E> {
             section,
             json,
         };
-        let answer = find(self.rt, file, kind, id, form, self.out);
+        let answer = find(self.rt, file, kind, id, form, &mut self.out);
         let given = Given {
             kind,
             id,
@@ -210,7 +247,11 @@ impl<O: Write, E: Write> Commands for Program<'_, '_, '_, O, E> {
             names: arguments.names,
             json: arguments.json,
         };
-        let answer = list(self.rt, file, form, self.out);
+        let answer = if arguments.columns {
+            list_in_columns(self.rt, file, &mut self.out)
+        } else {
+            list(self.rt, file, form, &mut self.out)
+        };
         if answer.is_ok() && self.manner.notes && lacks_index(self.rt, file) {
             note_no_index(self.rt, file, self.err);
         }
@@ -230,9 +271,9 @@ impl<O: Write, E: Write> Commands for Program<'_, '_, '_, O, E> {
             nameless: nameless_units(skips_nameless),
         };
         let answer = if json {
-            check_as_json(self.rt, file, executables, reading, self.out)
+            check_as_json(self.rt, file, executables, reading, &mut self.out)
         } else {
-            check(self.rt, file, executables, reading, self.out)
+            check(self.rt, file, executables, reading, &mut self.out)
         };
         let given = Given {
             executables,
@@ -242,10 +283,10 @@ impl<O: Write, E: Write> Commands for Program<'_, '_, '_, O, E> {
     }
 
     fn show<D: fmt::Display>(&mut self, text: &D) -> u8 {
-        if show(self.out, text) {
+        if show(&mut self.out, text) {
             0
         } else {
-            report(self.err, &Failure::Line)
+            self.report(&Failure::Line)
         }
     }
 
@@ -303,5 +344,13 @@ fn warnings_of(word: Option<&str>, default: Warnings) -> Warnings {
     match word {
         Some(word) => Warnings::of(word).unwrap_or(default),
         None => default,
+    }
+}
+
+/// How many files are to be read, where no executable names more.
+fn file_count(packing: &Packing<'_, '_>) -> Option<u64> {
+    match (packing.inputs, packing.executables) {
+        (Some(inputs), None) => Some(inputs.len() as u64),
+        _ => None,
     }
 }

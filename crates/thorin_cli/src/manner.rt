@@ -13,6 +13,8 @@ pub struct Facts<'a> {
     pub commit: &'a str,
     /// Whether standard error is a terminal.
     pub on_terminal: bool,
+    /// After how many milliseconds a terminal is told how far packing is.
+    pub patience: u64,
 }
 
 /// What a program tells that wasn't asked for.
@@ -30,6 +32,8 @@ pub(crate) struct Manner {
     pub(crate) opens_archives: bool,
     /// Whether units of an executable that name no object are passed over, without being told.
     pub(crate) skips_nameless: bool,
+    /// Whether a line tells how far packing is, while it lasts.
+    pub(crate) tells_progress: bool,
 }
 
 impl Manner {
@@ -51,6 +55,7 @@ impl Manner {
             lets_empty: is_peer,
             opens_archives: is_peer,
             skips_nameless: is_peer,
+            tells_progress: on_terminal,
         }
     }
 }

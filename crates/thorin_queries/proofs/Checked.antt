@@ -177,7 +177,7 @@ module _ (reading : Reading) (pack : Package) (executable bytes : List ℕ)
 
   pub taken_plain : (plain : List ℕ) → reading.decompresses ≡ true
       → Tells (TellsListed pack executable (skeletons_by reading.nameless plain)) a
-          held b left result
+      held b left result
       → Tells (TellsTaken reading pack executable bytes) a held b left result
   taken_plain plain e h =
       tells_as (TellsListed pack executable (skeletons_by reading.nameless plain))

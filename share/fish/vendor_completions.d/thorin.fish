@@ -29,6 +29,7 @@ complete -c thorin -n '__fish_seen_subcommand_from find; and not __fish_seen_sub
 complete -c thorin -n '__fish_seen_subcommand_from find; and not __fish_seen_subcommand_from help' -a 'cu tu'
 complete -c thorin -n '__fish_seen_subcommand_from list; and not __fish_seen_subcommand_from help' -l sizes -d 'Add each unit\'s size in each kind of section, and totals'
 complete -c thorin -n '__fish_seen_subcommand_from list; and not __fish_seen_subcommand_from help' -l names -d 'Add the names of each unit\'s source and object'
+complete -c thorin -n '__fish_seen_subcommand_from list; and not __fish_seen_subcommand_from help' -l columns -d 'Print sizes in columns, and each total in per cent of the file'
 complete -c thorin -n '__fish_seen_subcommand_from list; and not __fish_seen_subcommand_from help' -l json -d 'Print a JSON object a line'
 complete -c thorin -n '__fish_seen_subcommand_from list; and not __fish_seen_subcommand_from help' -s h -l help -d 'Print help'
 complete -c thorin -n '__fish_seen_subcommand_from check; and not __fish_seen_subcommand_from help' -s e -l exec -r -F -d 'Executables whose units have to be in the package'
