@@ -247,10 +247,10 @@ def debugged(programs, packers, debuggers):
     for program in programs:
         by_objects = answers(program, None, debuggers)
         with without_objects(program.where):
-            alone, known = answers(program, None, debuggers), {}
-            asked = [it for it in debuggers if not alone[it.title].startswith("yes")]
-            needless = {it.title: "needs none" for it in debuggers if it not in asked}
-            cells = [together(by_objects)]
+            # (a variable can't be shown without any)
+            alone = {} if program.question.variable else answers(program, None, debuggers)
+            needless = {title: "needs none" for title, said in alone.items() if said == "yes"}
+            asked, known, cells = [it for it in debuggers if it.title not in needless], {}, [together(by_objects)]
             for packer in packers:
                 said = {}
                 for option in ([], program.option):
