@@ -167,7 +167,10 @@ fn put_those_named<Sess: Session<RelocationEntry>>(
     said: &mut Said,
 ) {
     let nameless = NamelessUnits::PassedOver;
-    put_units(SkeletonUnits::read_by(alloc, session, bytes, nameless), said);
+    put_units(
+        SkeletonUnits::read_by(alloc, session, bytes, nameless),
+        said,
+    );
 }
 
 fn put_skeletons<Sess: Session<RelocationEntry>>(
