@@ -1,11 +1,63 @@
 //! The texts of errors.
 
-ghost use Rattle.thorin_faults.specs.Text.{fault_text};
+ghost use Rattle.std.specs.Prelude.{◌++◌, Some};
+ghost use Rattle.std.specs.Fmt.{DisplaysOnOk};
+ghost use Rattle.thorin_faults.specs.Text.{fault_text, hex8};
 
 use super::Error;
 use std::fmt;
 
+/// Writes a text and a number, in at least eight hexadecimal digits, behind it.
 #[tactic(auto, using(crate::proofs::Hex::hex8_written))]
+fn write_number<W: fmt::Write>(f: &mut fmt::Formatter<W>, before: &str, number: u64) -> fmt::Result
+    ensures { DisplaysOnOk W.write_str_gives f.old result
+        (Some (before.now ++ hex8 number)) f.new }
+{
+    write!(f, "{before}{number:08x}")
+}
+
+/// Writes such a number between two texts.
+#[tactic(auto, using(crate::proofs::Hex::hex8_written))]
+fn write_unit<W: fmt::Write>(
+    f: &mut fmt::Formatter<W>,
+    before: &str,
+    unit: u64,
+    after: &str,
+) -> fmt::Result
+    ensures { DisplaysOnOk W.write_str_gives f.old result
+        (Some (before.now ++ (hex8 unit ++ after.now))) f.new }
+{
+    write!(f, "{before}{unit:08x}{after}")
+}
+
+/// Writes a section's name between two texts.
+fn write_section<W: fmt::Write>(
+    f: &mut fmt::Formatter<W>,
+    before: &str,
+    section: &str,
+    after: &str,
+) -> fmt::Result
+    ensures { DisplaysOnOk W.write_str_gives f.old result
+        (Some (before.now ++ (section.now ++ after.now))) f.new }
+{
+    write!(f, "{before}{section}{after}")
+}
+
+/// Writes a section's name between two texts, and a place in it behind them.
+#[tactic(auto, using(crate::proofs::Hex::hex8_written))]
+fn write_place<W: fmt::Write>(
+    f: &mut fmt::Formatter<W>,
+    before: &str,
+    section: &str,
+    between: &str,
+    place: usize,
+) -> fmt::Result
+    ensures { DisplaysOnOk W.write_str_gives f.old result
+        (Some (before.now ++ (section.now ++ (between.now ++ hex8 place)))) f.new }
+{
+    write!(f, "{before}{section}{between}{place:08x}")
+}
+
 impl fmt::Display for Error {
     ghost use Rattle.thorin_faults.specs.Fault.{fault_of};
 
@@ -18,28 +70,35 @@ impl fmt::Display for Error {
             Error::ParseObjectFile(_) => f.write_str("Failed to parse input object file"),
             Error::InvalidInputKind => f.write_str("Input is not an archive or elf object"),
             Error::DecompressData(_) => f.write_str("Failed to decompress compressed section"),
-            Error::NamelessSection(_, place) => write!(
+            Error::NamelessSection(_, place) => {
+                write_number(f, "Section without name at offset 0x", *place as u64)
+            }
+            Error::RelocationWithInvalidSymbol(section, place) => write_place(
                 f,
-                "Section without name at offset 0x{place:08x}"
+                "Relocation with invalid symbol for section `",
+                section,
+                "` at offset 0x",
+                *place,
             ),
-            Error::RelocationWithInvalidSymbol(section, place) => write!(
+            Error::MultipleRelocations(section, place) => write_place(
                 f,
-                "Relocation with invalid symbol for section `{section}` at offset 0x{place:08x}"
+                "Multiple relocations for section `",
+                section,
+                "` at offset 0x",
+                *place,
             ),
-            Error::MultipleRelocations(section, place) => write!(
+            Error::UnsupportedRelocation(section, place) => write_place(
                 f,
-                "Multiple relocations for section `{section}` at offset 0x{place:08x}"
-            ),
-            Error::UnsupportedRelocation(section, place) => write!(
-                f,
-                "Unsupported relocation for section {section} at offset 0x{place:08x}"
+                "Unsupported relocation for section ",
+                section,
+                " at offset 0x",
+                *place,
             ),
             _ => self.write_unit_text(f),
         }
     }
 }
 
-#[tactic(auto, using(crate::proofs::Hex::hex8_written))]
 impl Error {
     ghost use Rattle.std.specs.Fmt.{DisplaysOnOk};
     ghost use Rattle.thorin_faults.specs.Fault.{fault_of};
@@ -51,10 +110,9 @@ impl Error {
             (unit_text (fault_of self.now)) f.new }
     {
         match self {
-            Error::MissingDwoName(unit) => write!(
-                f,
-                "Missing path attribute to DWARF object (0x{unit:08x})"
-            ),
+            Error::MissingDwoName(unit) => {
+                write_unit(f, "Missing path attribute to DWARF object (0x", *unit, ")")
+            }
             Error::NoCompilationUnits => f.write_str("Input object has no compilation units"),
             Error::NoDie => f.write_str(
                 "No top-level debugging information entry in compilation/type unit",
@@ -65,21 +123,23 @@ impl Error {
             Error::ParseUnitAbbreviations(_) => f.write_str("Failed to parse unit abbreviations"),
             Error::ParseUnitHeader(_) => f.write_str("Failed to parse unit header"),
             Error::ParseUnit(_) => f.write_str("Failed to parse unit"),
-            Error::EmptyUnit(unit) => write!(
-                f,
-                "Unit 0x{unit:08x} in input DWARF object with no data"
-            ),
+            Error::EmptyUnit(unit) => {
+                write_unit(f, "Unit 0x", *unit, " in input DWARF object with no data")
+            }
             Error::NotSplitUnit => f.write_str(
                 "Regular compilation unit in object (missing dwo identifier)",
             ),
-            Error::DuplicateUnit(unit) => write!(
-                f,
-                "Duplicate split compilation unit (0x{unit:08x})"
-            ),
-            Error::MissingReferencedUnit(unit) => write!(
-                f,
-                "Unit 0x{unit:08x} referenced by executable was not found"
-            ),
+            Error::DuplicateUnit(unit) => {
+                write_unit(f, "Duplicate split compilation unit (0x", *unit, ")")
+            }
+            Error::MissingReferencedUnit(unit) => {
+                write_unit(
+                    f,
+                    "Unit 0x",
+                    *unit,
+                    " referenced by executable was not found",
+                )
+            }
             _ => self.write_index_text(f),
         }
     }
@@ -99,43 +159,49 @@ impl Error {
                 f,
                 "Read offset at index {index} of `.debug_str_offsets.dwo` section"
             ),
-            Error::StrAtOffset(_, offset) => write!(
+            Error::StrAtOffset(_, offset) => write_unit(
                 f,
-                "Read string at offset 0x{offset:08x} of `.debug_str.dwo` section"
+                "Read string at offset 0x",
+                *offset as u64,
+                " of `.debug_str.dwo` section",
             ),
-            Error::ParseIndex(_, section) => write!(f, "Failed to parse `{section}` index section"),
-            Error::UnitNotInIndex(unit) => write!(
-                f,
-                "Unit 0x{unit:08x} from input package is not in its index"
-            ),
+            Error::ParseIndex(_, section) => {
+                write_section(f, "Failed to parse `", section, "` index section")
+            }
+            Error::UnitNotInIndex(unit) => {
+                write_unit(
+                    f,
+                    "Unit 0x",
+                    *unit,
+                    " from input package is not in its index",
+                )
+            }
             Error::RowNotInIndex(_, row) => write!(
                 f,
                 "Row {row} found in index's hash table not present in index"
             ),
             Error::SectionNotInRow => f.write_str("Section not found in unit's row in index"),
-            Error::BadStringOffsets(place) => write!(
-                f,
-                "Bad string offsets at offset 0x{place:08x}"
-            ),
-            Error::OverlappingStringOffsets(place) => write!(
-                f,
-                "Overlapping string offsets at offset 0x{place:08x}"
-            ),
+            Error::BadStringOffsets(place) => {
+                write_number(f, "Bad string offsets at offset 0x", *place)
+            }
+            Error::OverlappingStringOffsets(place) => {
+                write_number(f, "Overlapping string offsets at offset 0x", *place)
+            }
             _ => self.write_section_text(f),
         }
     }
 
     /// The texts of errors of sections and of what a package is made of, and of causes; the other
     /// kinds have theirs above.
+    #[tactic(auto, using(crate::proofs::Hex::hex8_written))]
     fn write_section_text<W: fmt::Write>(&self, f: &mut fmt::Formatter<W>) -> fmt::Result
         ensures { DisplaysOnOk W.write_str_gives f.old result
             (section_text (fault_of self.now)) f.new }
     {
         match self {
-            Error::MissingRequiredSection(section) => write!(
-                f,
-                "Input object missing required section `{section}`"
-            ),
+            Error::MissingRequiredSection(section) => {
+                write_section(f, "Input object missing required section `", section, "`")
+            }
             Error::MultipleDebugInfoSection => f.write_str("Multiple `.debug_info.dwo` sections"),
             Error::MultipleDebugTypesSection => f.write_str(
                 "Multiple `.debug_types.dwo` sections in a package",
@@ -153,10 +219,9 @@ impl Error {
                 f,
                 "Bad contribution of unit 0x{unit:08x} to section {section}"
             ),
-            Error::SectionOutsideFormat(section) => write!(
-                f,
-                "Section {section} is not part of the package format"
-            ),
+            Error::SectionOutsideFormat(section) => {
+                write_section(f, "Section ", section, " is not part of the package format")
+            }
             Error::RepeatedSection(section) => write!(f, "Repeated section {section}"),
             _ => Ok(()),
         }
