@@ -5,6 +5,9 @@ pub mod UnitsForward
 pub mod UnitLists
 pub mod PastEnd
 pub mod Grammar
+pub mod Goes
 pub mod Values
 pub mod Remembered
+pub mod NewVersions
+pub mod Places
 pub mod Numbers

@@ -49,6 +49,10 @@ pub same_declared : (said : Result (Option Declaration) ReadError) (d e : Declar
     → said ≡ Ok (Some d) → said ≡ Ok (Some e) → d ≡ e
 same_declared said d e one other = cc
 
+-- what stands at an offset is one input
+pub one_table : (r : Result Input ReadError) (i j : Input) → r ≡ Ok i → r ≡ Ok j → i ≡ j
+one_table r i j p q = cc
+
 -- lists with one more, of a code that had none
 pub one_more_list : (code : ℕ) (table : Input) (old new : BTreeMap ℕ (Vec AttributeSpecification
     Global)) (list : Vec AttributeSpecification Global) → HasLists table old → ListsBytes code table
@@ -111,6 +115,48 @@ module _ {R : Type 0} (input : R → Input) where
   none_put_away section tables empty offset =
       subst (λ (es : List (ℕ × ReadTable R)). IfSome (lookup (is_at (nat_cmp offset)) es)
       (RemembersTable input section offset)) (sym empty) tt
+
+  -- a table of which one declaration more is remembered
+  pub one_known : (section : Input) (offset code : ℕ) (table : Input) (a : Abbreviation R)
+      (old new : ReadTable R) → from_at offset section ≡ Ok table
+      → declaration code table ≡ Ok (Some (declaration_of input a))
+      → new.rest ≡ old.rest → new.lists ≡ old.lists → get nat_cmp new.known code ≡ Some a
+      → ((q : ℕ) → q ≢ code → get nat_cmp new.known q ≡ get nat_cmp old.known q)
+      → RemembersTable input section offset old → RemembersTable input section offset new
+  one_known section offset code table a old new is declared rest lists here others r =
+      let same : r.table ≡ table = one_table (from_at offset section) r.table table r.is is in
+      record {
+        table = r.table;
+        is = r.is;
+        same = λ q. by_bool (remembered input new.known (input new.rest) q ≡ declaration q r.table)
+            (eqb code q)
+            (λ e. subst (λ (c : ℕ). remembered input new.known (input new.rest) c ≡ declaration c
+            r.table) (eqb-true _ _ e)
+            (ap (λ (o : Option (Abbreviation R)). known_or input o
+            (declaration code (input new.rest))) here
+            ∙ sym declared ∙ ap (declaration code) (sym same)))
+            (λ apart.
+            let stays : get nat_cmp new.known q ≡ get nat_cmp old.known q =
+            others q (λ e. let never : true ≡ false = sym (eq-eqb code q (sym e)) ∙ apart in
+            absurd cc) in
+            ap (λ (x : R). remembered input new.known (input x) q) rest
+            ∙ memory_alike new.known old.known (input old.rest) q stays ∙ r.same q);
+        lists = subst (λ (ls : BTreeMap ℕ (Vec AttributeSpecification Global)). HasLists r.table ls)
+            (sym lists) r.lists;
+      }
+
+  -- a table of which the same is remembered
+  pub same_known : (section : Input) (offset : ℕ) (old new : ReadTable R) → new.rest ≡ old.rest
+      → new.lists ≡ old.lists → ((q : ℕ) → get nat_cmp new.known q ≡ get nat_cmp old.known q)
+      → RemembersTable input section offset old → RemembersTable input section offset new
+  same_known section offset old new rest lists same r = record {
+    table = r.table;
+    is = r.is;
+    same = λ q. ap (λ (x : R). remembered input new.known (input x) q) rest
+        ∙ memory_alike new.known old.known (input old.rest) q (same q) ∙ r.same q;
+    lists = subst (λ (ls : BTreeMap ℕ (Vec AttributeSpecification Global)). HasLists r.table ls)
+        (sym lists) r.lists;
+  }
 
   module _ (lebs : LebsTakeBytes) where
     -- a code that is remembered already

@@ -1,5 +1,6 @@
 pub mod Abbreviations
 pub mod Attributes
+pub mod Chains
 pub mod Declarations
 pub mod Entries
 pub mod Forms
@@ -11,3 +12,4 @@ pub mod Sections
 pub mod Strings
 pub mod Units
 pub mod Values
+pub mod Versions

@@ -20,6 +20,7 @@ use crate::abbrev::{
 };
 use crate::number::{list_with_bytes, number_listed, number_read};
 use crate::offset::from_offset;
+use crate::seen::SeenTables;
 use dwp_bytes::laws::lebs_take_bytes;
 use dwp_bytes::{Encoding, ReadError, Reader};
 use std::alloc::Global;
@@ -34,6 +35,7 @@ use std::mem;
 pub struct AbbreviationCache<R: Reader> {
     section: R,
     tables: ReadTables<R>,
+    seen: SeenTables<R>,
 }
 
 /// An entry's tag, and the number of an attribute of it.
@@ -89,6 +91,7 @@ const SPECIFICATION_SIZE: usize = 2;
 
 impl<R: Reader> Model for AbbreviationCache<R> {
     ghost use Rattle.dwp_dwarf.specs.Remembered.{RemembersTable, RemembersTables};
+    ghost use Rattle.dwp_dwarf.specs.Chains.{RemembersPlaces};
 
     // Contracts see the section.
     ghost Value = { R };
@@ -97,7 +100,8 @@ impl<R: Reader> Model for AbbreviationCache<R> {
 
     ghost invariant = { λ c.
         RemembersTable R.input (R.input c.section) c.tables.offset c.tables.at_hand
-        × RemembersTables R.input (R.input c.section) c.tables.others.tables };
+        × RemembersTables R.input (R.input c.section) c.tables.others.tables
+        × RemembersPlaces R.input (R.input c.section) c.seen.chains };
 }
 
 impl<R: Reader> AbbreviationCache<R> {
@@ -117,6 +121,7 @@ impl<R: Reader> AbbreviationCache<R> {
                     size: 0,
                 },
             },
+            seen: SeenTables::new(alloc),
         }
     }
 
@@ -135,6 +140,10 @@ impl<R: Reader> AbbreviationCache<R> {
     /// no more bytes in the section than that; where tables overlap, all but the one at hand are
     /// forgotten when it would have more.
     ///
+    /// Tables that overlap go on alike from each declaration that they share. So once more was read
+    /// than two times the section, each declaration is read once for all of them; what is remembered
+    /// of it grows with the logarithm of how many there are.
+    ///
     /// # Errors
     /// `OffsetOutOfRange` past the section's end, and those of `Abbreviations::get`. Want of memory
     /// is never met.
@@ -148,17 +157,14 @@ impl<R: Reader> AbbreviationCache<R> {
         if !self.tables.is_at_hand(offset) {
             let start = from_offset(self.section, offset)?;
             if self.tables.turn_to(self.section.len(), offset, start) {
-                return Abbreviations { table: start }.get(code);
+                return self.seen.get_first(self.section, offset, start, code);
             }
         }
         if let Some(abbreviation) = self.tables.at_hand.known.get(&code) {
             return Ok(Some(*abbreviation));
         }
-        read_on(
-            &mut self.tables.at_hand.known,
-            &mut self.tables.at_hand.rest,
-            code,
-        )
+        self.seen
+            .get_further(self.section, offset, &mut self.tables.at_hand, code)
     }
 
     /// The tag of the entry of a code in the table at that offset, whose values stand there, and the
@@ -266,6 +272,40 @@ impl<R: Reader> ReadTable<R> {
         declarations.saturating_add(attributes).saturating_add(1)
     }
 
+    /// Remembers the declaration of a code, where there is memory for it.
+    fn remember(&mut self, code: u64, abbreviation: Abbreviation<R>)
+        ensures { (section : Input) (offset : ℕ) (table : Input) → from_at offset section ≡ Ok table
+            → declaration code table ≡ Ok (Some (declaration_of R.input abbreviation))
+            → RemembersTable R.input section offset self.old
+            → RemembersTable R.input section offset self.new }
+    {
+        if put_known(&mut self.known, code, abbreviation) {
+            return;
+        }
+    }
+
+    /// Remembers what is said of a code, where that is a declaration, and says it.
+    pub(crate) fn remember_said(
+        &mut self,
+        code: u64,
+        said: Result<Option<Abbreviation<R>>, ReadError>,
+    ) -> Result<Option<Abbreviation<R>>, ReadError>
+        ensures said { result ≡ said }
+        ensures table { (section : Input) (offset : ℕ) (table : Input)
+            → from_at offset section ≡ Ok table → Answers (found_of R.input) said
+            (declaration code table) → RemembersTable R.input section offset self.old
+            → RemembersTable R.input section offset self.new }
+    {
+        match said {
+            Ok(Some(abbreviation)) => {
+                self.remember(code, abbreviation);
+                Ok(Some(abbreviation))
+            }
+            Ok(None) => Ok(None),
+            Err(fault) => Err(fault),
+        }
+    }
+
     /// Lists those attributes of the declaration of a code whose values have bytes, where there is
     /// memory for it.
     fn list(&mut self, alloc: Global, code: u64, abbreviation: Abbreviation<R>)
@@ -349,7 +389,9 @@ impl<R: Reader> TablesPutAway<R> {
 
 /// The next declaration with its code, and what comes behind it; None at the end of the table.
 #[tactic(auto, unfolding(crate::specs::Grammar::next_at))]
-fn next_declaration<R: Reader>(mut at: R) -> Result<Option<(u64, Abbreviation<R>, R)>, ReadError>
+pub(crate) fn next_declaration<R: Reader>(
+    mut at: R,
+) -> Result<Option<(u64, Abbreviation<R>, R)>, ReadError>
     ensures { Answers (next_of R.input) result (next_at (R.input at)) }
 {
     let code = read_code(&mut at)?;
@@ -382,9 +424,24 @@ fn remember<R: Reader>(
     known.insert(code, abbreviation).is_ok()
 }
 
+/// Puts a declaration under its code. False where there is no memory for it.
+fn put_known<R: Reader>(
+    known: &mut BTreeMap<u64, Abbreviation<R>>,
+    code: u64,
+    abbreviation: Abbreviation<R>,
+) -> bool
+    ensures added { result ≡ true → get nat_cmp known.new code ≡ Some abbreviation }
+    ensures others { (other : ℕ) → other ≢ code
+        → get nat_cmp known.new other ≡ get nat_cmp known.old other }
+    ensures refused { result ≡ false → (other : ℕ)
+        → get nat_cmp known.new other ≡ get nat_cmp known.old other }
+{
+    known.insert(code, abbreviation).is_ok()
+}
+
 /// Reads on in a table up to a code that isn't remembered, and remembers what is read. Without
 /// memory it reads on and remembers nothing.
-fn read_on<R: Reader>(
+pub(crate) fn read_on<R: Reader>(
     known: &mut BTreeMap<u64, Abbreviation<R>>,
     rest: &mut R,
     code: u64,

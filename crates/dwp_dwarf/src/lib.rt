@@ -4,14 +4,17 @@
 
 mod abbrev;
 mod cache;
+mod chains;
 mod entry;
 mod form;
 pub mod laws;
 mod number;
 mod offset;
+mod seen;
 mod strings;
 mod unit;
 mod value;
+mod versions;
 
 pub use abbrev::{Abbreviation, Abbreviations};
 pub use cache::{AbbreviationCache, EntryNumber};

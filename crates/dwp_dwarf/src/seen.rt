@@ -1,0 +1,131 @@
+//! How much was read of tables of abbreviations (DWARF 5, 7.5.3).
+
+ghost use Rattle.std.specs.Prelude.{◌≡◌, Ok, None, []};
+ghost use Rattle.std.specs.Ordering.{nat_cmp};
+ghost use Rattle.std.specs.BTreeMap.{get};
+ghost use Rattle.dwp_base.specs.Reading.{Answers};
+ghost use Rattle.dwp_bytes.specs.Input.{Input};
+ghost use Rattle.dwp_dwarf.specs.Abbreviations.{declaration};
+ghost use Rattle.dwp_dwarf.specs.Chains.{RemembersPlaces};
+ghost use Rattle.dwp_dwarf.specs.Declarations.{found_of};
+ghost use Rattle.dwp_dwarf.specs.Offsets.{from_at};
+ghost use Rattle.dwp_dwarf.specs.Remembered.{RemembersTable};
+
+use crate::abbrev::Abbreviation;
+use crate::cache::{ReadTable, next_declaration, read_on};
+use crate::chains::Chains;
+use dwp_bytes::laws::lebs_take_bytes;
+use dwp_bytes::{ReadError, Reader};
+use std::alloc::Global;
+
+/// How much was read of tables, and what they say where they overlap.
+#[derive(Drop)]
+pub(crate) struct SeenTables<R: Reader> {
+    // How many bytes were read.
+    read: usize,
+    // By places of the section, once tables are known to overlap.
+    pub(crate) chains: Chains<R>,
+}
+
+/// How often tables that don't overlap are read, at most.
+const READ_AT_MOST: usize = 2;
+
+impl<R: Reader> SeenTables<R> {
+    /// Nothing was read, and no memory is taken.
+    pub(crate) fn new(alloc: Global) -> SeenTables<R>
+        ensures { result.chains.places.entries ≡ [] }
+    {
+        SeenTables {
+            read: 0,
+            chains: Chains::new(alloc),
+        }
+    }
+
+    /// Whether so much was read that tables overlap, or some of them were forgotten.
+    fn is_past(&self, section: R) -> bool {
+        self.read > section.len().saturating_mul(READ_AT_MOST)
+    }
+
+    /// Counts what was read where so many bytes were left; at a fault as much as can be.
+    fn count(&mut self, before: usize, is_fault: bool, after: usize)
+        ensures { self.new.chains ≡ self.old.chains }
+    {
+        let read = if is_fault {
+            before
+        } else {
+            before.saturating_sub(after)
+        };
+        self.read = self.read.saturating_add(read);
+    }
+
+    /// What the table at an offset of the section says of a code, which starts there and wasn't used
+    /// before.
+    pub(crate) fn get_first(
+        &mut self,
+        section: R,
+        offset: u64,
+        start: R,
+        code: u64,
+    ) -> Result<Option<Abbreviation<R>>, ReadError>
+        ensures declared { RemembersPlaces R.input (R.input section) self.old.chains
+            → from_at offset (R.input section) ≡ Ok (R.input start)
+            → Answers (found_of R.input) result (declaration code (R.input start)) }
+        ensures kept { RemembersPlaces R.input (R.input section) self.old.chains
+            → RemembersPlaces R.input (R.input section) self.new.chains }
+    {
+        if self.is_past(section) {
+            if let Some(said) = self.chains.get(section, offset, code) {
+                return said;
+            }
+        }
+        let mut rest = start;
+        let found = read_to(&mut rest, code);
+        self.count(start.len(), found.is_err(), rest.len());
+        found
+    }
+
+    /// What the table at an offset of the section, which is at hand, says of a code that isn't
+    /// remembered.
+    pub(crate) fn get_further(
+        &mut self,
+        section: R,
+        offset: u64,
+        at_hand: &mut ReadTable<R>,
+        code: u64,
+    ) -> Result<Option<Abbreviation<R>>, ReadError>
+        requires { get nat_cmp at_hand.old.known code ≡ None }
+        ensures declared { (table : Input) → from_at offset (R.input section) ≡ Ok table
+            → RemembersPlaces R.input (R.input section) self.old.chains
+            → RemembersTable R.input (R.input section) offset at_hand.old
+            → Answers (found_of R.input) result (declaration code table) }
+        ensures at_hand { RemembersPlaces R.input (R.input section) self.old.chains
+            → RemembersTable R.input (R.input section) offset at_hand.old
+            → RemembersTable R.input (R.input section) offset at_hand.new }
+        ensures kept { RemembersPlaces R.input (R.input section) self.old.chains
+            → RemembersPlaces R.input (R.input section) self.new.chains }
+    {
+        if self.is_past(section) {
+            if let Some(said) = self.chains.get(section, offset, code) {
+                return at_hand.remember_said(code, said);
+            }
+        }
+        let before = at_hand.rest.len();
+        let found = read_on(&mut at_hand.known, &mut at_hand.rest, code);
+        self.count(before, found.is_err(), at_hand.rest.len());
+        found
+    }
+}
+
+/// Reads up to a code, and remembers nothing.
+fn read_to<R: Reader>(rest: &mut R, code: u64) -> Result<Option<Abbreviation<R>>, ReadError>
+    ensures { Answers (found_of R.input) result (declaration code (R.input rest.old)) }
+{
+    lebs_take_bytes();
+    while let Some((found, abbreviation, behind)) = next_declaration(*rest)? {
+        *rest = behind;
+        if code == found {
+            return Ok(Some(abbreviation));
+        }
+    }
+    Ok(None)
+}

@@ -1,0 +1,166 @@
+//! A map from numbers to numbers whose versions share what they have alike.
+
+ghost use Rattle.std.specs.Prelude.{◌≡◌, ◌≢◌, ◌≤◌, ◌<◌, ℕ, length, Some, IfSome};
+ghost use Rattle.dwp_dwarf.specs.Versions.{node_of, side_of, older, value_below, value_in, Grows};
+
+use std::alloc::Global;
+
+/// A key with its value, and where the others are.
+#[derive(Clone, Copy, Debug)]
+pub(crate) struct Node {
+    pub(crate) key: u64,
+    pub(crate) value: u64,
+    // The version that has the others whose next bit is 0.
+    pub(crate) even: u32,
+    // The version that has the others whose next bit is 1.
+    pub(crate) odd: u32,
+}
+
+/// A map from numbers to numbers, in versions that are all kept. The version 0 has nothing.
+#[derive(Drop)]
+pub(crate) struct Versions {
+    // Each version but 0 is the number of a node, counted from 1.
+    pub(crate) nodes: Vec<Node>,
+}
+
+/// The nodes on a way, at most: one for each bit of a key, and one below them.
+const LEVELS: u32 = 65;
+
+impl Versions {
+    /// The version 0 alone. No memory is taken.
+    pub(crate) fn new(alloc: Global) -> Versions {
+        Versions {
+            nodes: Vec::new(alloc),
+        }
+    }
+
+    /// The value of a key in a version.
+    pub(crate) fn get(&self, version: u32, key: u64) -> Option<u64>
+        ensures { result ≡ value_in self.now.nodes.items version key }
+    {
+        value_below(&self.nodes, LEVELS, version, key, key)
+    }
+
+    /// A version that has this value for the key, and else what that version has. It takes as many
+    /// nodes as the key's way in that version, at most 65. None where there is no memory.
+    pub(crate) fn insert(&mut self, version: u32, key: u64, value: u64) -> Option<u32>
+        ensures grows { Grows self.old.nodes.items self.new.nodes.items }
+        ensures fits { IfSome result (λ added. added ≤ length self.new.nodes.items) }
+        ensures value { IfSome result (λ added. value_in self.new.nodes.items added key
+            ≡ Some value) }
+        ensures others { IfSome result (λ added. (other : ℕ) → other ≢ key → value_in
+            self.new.nodes.items added other ≡ value_in self.old.nodes.items version other) }
+    {
+        insert_below(&mut self.nodes, LEVELS, version, key, key, value)
+    }
+}
+
+impl Node {
+    fn side(&self, bits: u64) -> u32
+        ensures { result ≡ side_of self.now bits }
+    {
+        if bits % 2 == 0 { self.even } else { self.odd }
+    }
+}
+
+fn older(version: u32, other: u32) -> u32
+    ensures { result ≡ older version other }
+{
+    if other < version { other } else { 0 }
+}
+
+/// The node of a version.
+fn node_of(nodes: &[Node], version: u32) -> Option<Node>
+    ensures { result ≡ node_of nodes.now version }
+{
+    if version == 0 {
+        return None;
+    }
+    nodes.get(version as usize - 1).copied()
+}
+
+/// The value of a key in a version, of so many nodes on the way at most.
+fn value_below(nodes: &[Node], levels: u32, version: u32, bits: u64, key: u64) -> Option<u64>
+    ensures { result ≡ value_below levels nodes.now version bits key }
+{
+    if levels == 0 {
+        return None;
+    }
+    let Some(node) = node_of(nodes, version) else {
+        return None;
+    };
+    if node.key == key {
+        return Some(node.value);
+    }
+    value_below(
+        nodes,
+        levels - 1,
+        older(version, node.side(bits)),
+        bits / 2,
+        key,
+    )
+}
+
+/// Adds a node, and says its version.
+fn add(nodes: &mut Vec<Node>, node: Node) -> Option<u32>
+    ensures grows { Grows nodes.old.items nodes.new.items }
+    ensures fits { IfSome result (λ added. added ≤ length nodes.new.items) }
+    ensures above { IfSome result (λ added. length nodes.old.items < added) }
+    ensures node { IfSome result (λ added. node_of nodes.new.items added ≡ Some node) }
+{
+    nodes.push(node).ok()?;
+    u32::try_from(nodes.len()).ok()
+}
+
+/// A version that has the value for the key, and else what that version has, of so many nodes on
+/// the way at most.
+fn insert_below(
+    nodes: &mut Vec<Node>,
+    levels: u32,
+    version: u32,
+    bits: u64,
+    key: u64,
+    value: u64,
+) -> Option<u32>
+    ensures grows { Grows nodes.old.items nodes.new.items }
+    ensures fits { IfSome result (λ added. added ≤ length nodes.new.items) }
+    ensures value { IfSome result (λ added. value_below levels nodes.new.items added bits key
+        ≡ Some value) }
+    ensures others { IfSome result (λ added. (other path : ℕ) → other ≢ key → value_below levels
+        nodes.new.items added path other ≡ value_below levels nodes.old.items version path other) }
+{
+    if levels == 0 {
+        return None;
+    }
+    let Some(node) = node_of(nodes, version) else {
+        return add(
+            nodes,
+            Node {
+                key,
+                value,
+                even: 0,
+                odd: 0,
+            },
+        );
+    };
+    let even = older(version, node.even);
+    let odd = older(version, node.odd);
+    if node.key == key {
+        return add(
+            nodes,
+            Node {
+                key,
+                value,
+                even,
+                odd,
+            },
+        );
+    }
+    if bits % 2 == 0 {
+        let even = insert_below(nodes, levels - 1, even, bits / 2, key, value)?;
+        add(nodes, Node { even, odd, ..node })
+    } else {
+        let odd = insert_below(nodes, levels - 1, odd, bits / 2, key, value)?;
+        add(nodes, Node { even, odd, ..node })
+    }
+}
