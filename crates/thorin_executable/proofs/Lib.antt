@@ -3,3 +3,4 @@ mod Attributes
 mod Loads
 mod Finds
 mod NamedSteps
+mod Places

@@ -1,5 +1,6 @@
 pub mod Sections
 pub mod Roots
 pub mod Paths
+pub mod Places
 pub mod Skeletons
 pub mod View

@@ -64,6 +64,11 @@ skeleton_read nameless debug read = as_fault ParseUnitHeader read >>= skeleton_o
 abbrev pub Listed : Type 0
 Listed = List Named × Option Fault
 
+-- the units of an executable that are left to read, and the path of the one that came last
+pub record NamedLeft : Type 0 where
+  pub listed : Listed
+  pub path : List ℕ
+
 -- what comes first, and the others
 abbrev pub with_first : Result (Option Named) Fault → Listed → Listed
 with_first (Ok None) others = others

@@ -1,5 +1,5 @@
 -- What the values of this crate stand for, and what a list says where memory ran out.
-use Rattle.std.specs.Prelude.{◌≡◌, List, [], ◌∷◌, length, map, take, Option, Some, None, Result, Ok}
+use Rattle.std.specs.Prelude.{◌≡◌, ℕ, IsTrue, List, [], ◌∷◌, length, map, take, Option, Some, None, Result, Ok}
 use Rattle.std.specs.Prelude.{Err, option_map, string_bytes}
 use Rattle.dwp_bytes.specs.Input.{Input}
 use Rattle.dwp_dwarf.specs.Attributes.{attribute_of}
@@ -9,11 +9,12 @@ use Rattle.thorin_faults.specs.Answers.{MemoryAside}
 use Rattle.thorin_faults.specs.Fault.{fault_of}
 use Rattle.thorin_executable.specs.declared.loading.DebugData.{DebugData as Data}
 use Rattle.thorin_executable.specs.declared.roots.SplitAttributes.{SplitAttributes as Attributes}
+use Rattle.thorin_executable.specs.declared.lending.NamedUnit.{NamedUnit}
 use Rattle.thorin_executable.specs.declared.listing.Skeleton.{Skeleton}
 use Rattle.thorin_executable.specs.declared.listing.SkeletonList.{SkeletonList}
 use Rattle.thorin_executable.specs.Sections.{DebugData}
 use Rattle.thorin_executable.specs.Roots.{SplitAttributes}
-use Rattle.thorin_executable.specs.Skeletons.{Named, Listed}
+use Rattle.thorin_executable.specs.Skeletons.{Named, Listed, NamedLeft}
 
 -- the sections of an executable, as readers show them
 abbrev pub data_of : {R : Type 0} → (R → Input) → Data R → DebugData
@@ -36,6 +37,10 @@ attributes_of input a = record {
 abbrev pub named : Skeleton → Named
 named s = (s.target, string_bytes s.path)
 
+-- the same of a unit whose path is told beside it
+abbrev pub named_at : List ℕ → NamedUnit → Named
+named_at path unit = (unit.target, path)
+
 -- a list of them, and the fault that ended it
 abbrev pub listed : SkeletonList → Listed
 listed l = (map named l.units.items, option_map fault_of l.fault)
@@ -54,12 +59,29 @@ abbrev pub IsOpened : Result Listed Error → Listed → Type 0
 IsOpened (Ok left) meaning = meaning ≡ left
 IsOpened (Err e) meaning = MemoryAside e (meaning ≡ ([], Some (fault_of e)))
 
+-- the same where the path of the unit that came last is kept beside the list
+abbrev pub IsOpenedNamed : Result NamedLeft Error → Listed → Type 0
+IsOpenedNamed (Ok left) meaning = meaning ≡ left.listed
+IsOpenedNamed (Err e) meaning = MemoryAside e (meaning ≡ ([], Some (fault_of e)))
+
 -- what is answered next of a list, and what is left of it: its first unit; or its end; or the fault
 -- that ends it
 abbrev pub IsNext : Listed → Result (Option Skeleton) Error → Listed → Type 0
 IsNext meaning (Ok (Some first)) left = meaning ≡ (named first ∷ left.0, left.1)
 IsNext meaning (Ok None) left = (meaning ≡ ([], None)) × (left ≡ ([], None))
 IsNext meaning (Err e) left = MemoryAside e (meaning ≡ ([], Some (fault_of e)))
+
+-- the same of a unit whose path is told beside it
+abbrev pub IsNextNamed : Listed → Result (Option NamedUnit) Error → List ℕ → Listed → Type 0
+IsNextNamed meaning (Ok (Some first)) path left = meaning ≡ (named_at path first ∷ left.0, left.1)
+IsNextNamed meaning (Ok None) path left = (meaning ≡ ([], None)) × (left ≡ ([], None))
+IsNextNamed meaning (Err e) path left = MemoryAside e (meaning ≡ ([], Some (fault_of e)))
+
+-- what becomes of the path that came last: it stays where a unit repeats it, and where none comes
+abbrev pub IsPathAfter : Result (Option NamedUnit) Error → (old new : List ℕ) → Type 0
+IsPathAfter (Ok (Some unit)) old new = IsTrue unit.is_repeated → new ≡ old
+IsPathAfter (Ok None) old new = new ≡ old
+IsPathAfter (Err e) old new = Unit {0}
 
 -- what all that was left became: units, and the fault that ended them
 abbrev pub IsPushed : Listed → Result (Unit {0}) Error → List Skeleton → Type 0

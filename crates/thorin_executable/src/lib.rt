@@ -2,10 +2,13 @@
 //! DebugFission).
 #![tactic(auto)]
 
+mod last;
+mod lending;
 mod listing;
 mod loading;
 mod paths;
 mod reader;
 mod roots;
 
+pub use lending::{NamedUnit, NamedUnits};
 pub use listing::{NamelessUnits, Skeleton, SkeletonList, SkeletonUnits, skeletons};

@@ -1,14 +1,18 @@
 //! The split units of an executable, up to the first error.
 
-ghost use Rattle.std.specs.Prelude.{◌≡◌, [], None, Ok, map, option_map, OnErr};
+ghost use Rattle.std.specs.Prelude.{◌≡◌, [], None, Ok, map, option_map, OnErr, string_bytes};
+ghost use Rattle.dwp_dwarf.specs.Sections.{strings_of};
 ghost use Rattle.dwp_dwarf.specs.Units.{unit_of, unit_seen, units_left};
 ghost use Rattle.thorin_faults.specs.Answers.{Gives};
 ghost use Rattle.thorin_executable.specs.Skeletons as spec;
-ghost use Rattle.thorin_executable.specs.View.{data_of, named, listed, IsFront, UnlessMemory};
-ghost use Rattle.thorin_executable.specs.View.{IsOpened, IsNext, IsPushed};
+ghost use Rattle.thorin_executable.specs.Places.{IsKept};
+ghost use Rattle.thorin_executable.specs.View.{data_of, listed, IsFront, UnlessMemory};
+ghost use Rattle.thorin_executable.specs.View.{named_at, IsOpened, IsNext, IsNextNamed};
+ghost use Rattle.thorin_executable.specs.View.{IsPathAfter, IsPushed};
 
+use crate::last::LastPath;
+use crate::lending::NamedUnit;
 use crate::loading::DebugData;
-use crate::paths::object_path;
 use crate::reader::SectionReader;
 use crate::roots::SplitAttributes;
 use dwp_dwarf::{
@@ -49,59 +53,71 @@ pub enum NamelessUnits {
     PassedOver,
 }
 
-/// What a unit of this identity that names no object stands for: none, or an error.
-fn unnamed(nameless: NamelessUnits, target: DwarfObject) -> Result<Option<Skeleton>, Error>
-    ensures { Gives (option_map named) result (spec.unnamed nameless target) }
+/// A unit of this identity that names no object stands for none, or is an error.
+fn unnamed(nameless: NamelessUnits, target: DwarfObject) -> Result<(), Error>
+    ensures { Gives (λ _. None) result (spec.unnamed nameless target) }
 {
     match (nameless, target) {
         (NamelessUnits::Refused, DwarfObject::Compilation(id)) => Err(Error::MissingDwoName(id.0)),
-        (NamelessUnits::PassedOver, DwarfObject::Compilation(_)) => Ok(None),
-        (_, DwarfObject::TypeUnit(_)) => Ok(None),
+        (NamelessUnits::PassedOver, DwarfObject::Compilation(_)) => Ok(()),
+        (_, DwarfObject::TypeUnit(_)) => Ok(()),
     }
 }
 
 /// The split unit of this identity, and the path of its object.
 #[tactic(auto, unfolding(crate::specs::Skeletons::named_in))]
 fn named_unit<R: Reader>(
-    alloc: Global,
+    last: &mut LastPath,
     debug: &DebugData<R>,
     abbreviations: &mut AbbreviationCache<R>,
     header: &UnitHeader<R>,
     target: DwarfObject,
     nameless: NamelessUnits,
-) -> Result<Option<Skeleton>, Error>
-    requires { abbreviations.old ≡ debug.now.debug_abbrev }
-    ensures meaning { Gives (option_map named) result
+) -> Result<Option<NamedUnit>, Error>
+    requires section { abbreviations.old ≡ debug.now.debug_abbrev }
+    requires known { IsKept (strings_of R.input debug.now.strings) last.old }
+    ensures meaning { Gives (option_map (named_at (string_bytes last.new.text))) result
         (spec.named_in nameless (data_of R.input debug.now) (unit_of R.input header.now) target) }
     ensures kept { abbreviations.new ≡ abbreviations.old }
+    ensures path { IsPathAfter result (string_bytes last.old.text) (string_bytes last.new.text) }
+    ensures last { IsKept (strings_of R.input debug.now.strings) last.new }
 {
     let root = SplitAttributes::of_unit(abbreviations, header)?;
     let format = header.encoding().format;
     match root.object_name() {
         Some(name) => {
-            let path = object_path(alloc, &debug.strings, format, &root, &name)?;
-            Ok(Some(Skeleton { target, path }))
+            let is_repeated = last.set(&debug.strings, format, &root, &name)?;
+            Ok(Some(NamedUnit {
+                target,
+                is_repeated,
+            }))
         }
-        None => unnamed(nameless, target),
+        None => {
+            unnamed(nameless, target)?;
+            Ok(None)
+        }
     }
 }
 
 /// The split unit that a unit stands for, if it does.
 #[tactic(auto, unfolding(crate::specs::Skeletons::skeleton_of))]
 fn skeleton_of<R: Reader>(
-    alloc: Global,
+    last: &mut LastPath,
     debug: &DebugData<R>,
     abbreviations: &mut AbbreviationCache<R>,
     header: &UnitHeader<R>,
     nameless: NamelessUnits,
-) -> Result<Option<Skeleton>, Error>
-    requires { abbreviations.old ≡ debug.now.debug_abbrev }
-    ensures meaning { Gives (option_map named) result
+) -> Result<Option<NamedUnit>, Error>
+    requires section { abbreviations.old ≡ debug.now.debug_abbrev }
+    requires known { IsKept (strings_of R.input debug.now.strings) last.old }
+    ensures meaning { Gives (option_map (named_at (string_bytes last.new.text))) result
         (spec.skeleton_of nameless (data_of R.input debug.now) (unit_of R.input header.now)) }
     ensures kept { abbreviations.new ≡ abbreviations.old }
+    ensures path { IsPathAfter result (string_bytes last.old.text) (string_bytes last.new.text) }
+    ensures last { IsKept (strings_of R.input debug.now.strings) last.new }
 {
     match dwo_identifier_remembering(abbreviations, header)? {
-        Some(target) => named_unit(alloc, debug, abbreviations, header, target, nameless),
+        Some(target) => named_unit(last, debug, abbreviations, header, target, nameless),
         None => Ok(None),
     }
 }
@@ -109,48 +125,54 @@ fn skeleton_of<R: Reader>(
 /// The same of the unit that was read next.
 #[tactic(auto, unfolding(crate::specs::Skeletons::skeleton_read))]
 fn skeleton_read<R: Reader>(
-    alloc: Global,
+    last: &mut LastPath,
     debug: &DebugData<R>,
     abbreviations: &mut AbbreviationCache<R>,
     read: Result<UnitHeader<R>, ReadError>,
     nameless: NamelessUnits,
-) -> Result<Option<Skeleton>, Error>
-    requires { abbreviations.old ≡ debug.now.debug_abbrev }
-    ensures meaning { Gives (option_map named) result
+) -> Result<Option<NamedUnit>, Error>
+    requires section { abbreviations.old ≡ debug.now.debug_abbrev }
+    requires known { IsKept (strings_of R.input debug.now.strings) last.old }
+    ensures meaning { Gives (option_map (named_at (string_bytes last.new.text))) result
         (spec.skeleton_read nameless (data_of R.input debug.now) (unit_seen R.input read)) }
     ensures kept { abbreviations.new ≡ abbreviations.old }
+    ensures path { IsPathAfter result (string_bytes last.old.text) (string_bytes last.new.text) }
+    ensures last { IsKept (strings_of R.input debug.now.strings) last.new }
 {
     let header = read.map_err(Error::ParseUnitHeader)?;
-    skeleton_of(alloc, debug, abbreviations, &header, nameless)
+    skeleton_of(last, debug, abbreviations, &header, nameless)
 }
 
 /// The first split unit that one of the units left stands for.
 fn next_named<R: Reader>(
-    alloc: Global,
+    last: &mut LastPath,
     debug: &DebugData<R>,
     abbreviations: &mut AbbreviationCache<R>,
     headers: &mut UnitHeaders<R>,
     nameless: NamelessUnits,
-) -> Result<Option<Skeleton>, Error>
-    requires { abbreviations.old ≡ debug.now.debug_abbrev }
-    ensures next { IsNext
+) -> Result<Option<NamedUnit>, Error>
+    requires section { abbreviations.old ≡ debug.now.debug_abbrev }
+    requires known { IsKept (strings_of R.input debug.now.strings) last.old }
+    ensures next { IsNextNamed
         (spec.skeletons_from nameless (data_of R.input debug.now) (units_left R.input headers.old))
-        result
+        result (string_bytes last.new.text)
         (spec.skeletons_from nameless (data_of R.input debug.now) (units_left R.input headers.new)) }
     ensures kept { abbreviations.new ≡ abbreviations.old }
+    ensures path { IsPathAfter result (string_bytes last.old.text) (string_bytes last.new.text) }
+    ensures last { IsKept (strings_of R.input debug.now.strings) last.new }
 {
     while let Some(read) = headers.next() {
-        if let Some(skeleton) = skeleton_read(alloc, debug, abbreviations, read, nameless)? {
+        if let Some(skeleton) = skeleton_read(last, debug, abbreviations, read, nameless)? {
             return Ok(Some(skeleton));
         }
     }
     Ok(None)
 }
 
-/// The units of an executable that are left to read.
+/// The units of an executable that are left to read, and the path of the one that came last.
 #[derive(Drop)]
-struct UnitsLeft<R: Reader> {
-    alloc: Global,
+pub(crate) struct UnitsLeft<R: Reader> {
+    last: LastPath,
     debug: DebugData<R>,
     abbreviations: AbbreviationCache<R>,
     headers: UnitHeaders<R>,
@@ -160,27 +182,33 @@ struct UnitsLeft<R: Reader> {
 }
 
 impl<R: Reader> Model for UnitsLeft<R> {
-    ghost use Rattle.std.specs.Prelude.{◌≡◌, [], None, if◌then◌else◌};
+    ghost use Rattle.std.specs.Prelude.{◌≡◌, [], None, if◌then◌else◌, string_bytes};
+    ghost use Rattle.dwp_dwarf.specs.Sections.{strings_of};
     ghost use Rattle.dwp_dwarf.specs.Units.{units_left};
-    ghost use Rattle.thorin_executable.specs.Skeletons.{Listed, skeletons_from};
+    ghost use Rattle.thorin_executable.specs.Places.{IsKept};
+    ghost use Rattle.thorin_executable.specs.Skeletons.{NamedLeft, skeletons_from};
     ghost use Rattle.thorin_executable.specs.View.{data_of};
 
-    // Contracts see the split units that they stand for, and the fault behind them.
-    ghost Value = { Listed };
+    // Contracts see the split units that they stand for, with the fault behind them, and the path.
+    ghost Value = { NamedLeft };
 
-    ghost view = { λ u. if u.ended then ([], None)
-        else skeletons_from u.nameless (data_of R.input u.debug) (units_left R.input u.headers) };
+    ghost view = { λ u. record {
+      listed = if u.ended then ([], None)
+          else skeletons_from u.nameless (data_of R.input u.debug) (units_left R.input u.headers);
+      path = string_bytes u.last.text;
+    } };
 
-    ghost invariant = { λ u. u.abbreviations ≡ u.debug.debug_abbrev };
+    ghost invariant = { λ u. (u.abbreviations ≡ u.debug.debug_abbrev)
+        × IsKept (strings_of R.input u.debug.strings) u.last };
 }
 
 impl<R: Reader> UnitsLeft<R> {
     /// All units.
-    fn new(alloc: Global, debug: DebugData<R>, nameless: NamelessUnits) -> UnitsLeft<R>
-        ensures { result ≡ spec.skeletons_in nameless (Ok (data_of R.input debug)) }
+    pub fn new(alloc: Global, debug: DebugData<R>, nameless: NamelessUnits) -> UnitsLeft<R>
+        ensures { result.listed ≡ spec.skeletons_in nameless (Ok (data_of R.input debug)) }
     {
         UnitsLeft {
-            alloc,
+            last: LastPath::new(alloc),
             debug,
             abbreviations: AbbreviationCache::new(alloc, debug.debug_abbrev),
             headers: UnitHeaders::new(debug.debug_info, UnitSection::Info),
@@ -190,15 +218,16 @@ impl<R: Reader> UnitsLeft<R> {
     }
 
     /// The next split unit that one of them stands for.
-    fn next(&mut self) -> Result<Option<Skeleton>, Error>
-        ensures next { IsNext self.old result self.new }
-        ensures ended { OnErr result (self.new ≡ ([], None)) }
+    pub fn next(&mut self) -> Result<Option<NamedUnit>, Error>
+        ensures next { IsNextNamed self.old.listed result self.new.path self.new.listed }
+        ensures path { IsPathAfter result self.old.path self.new.path }
+        ensures ended { OnErr result (self.new.listed ≡ ([], None)) }
     {
         if self.ended {
             return Ok(None);
         }
         let found = next_named(
-            self.alloc,
+            &mut self.last,
             &self.debug,
             &mut self.abbreviations,
             &mut self.headers,
@@ -206,6 +235,21 @@ impl<R: Reader> UnitsLeft<R> {
         );
         self.ended = found.is_err();
         found
+    }
+
+    /// The path of the unit that came last.
+    pub fn path(&self) -> &str
+        ensures { result.now ≡ self.now.path }
+    {
+        self.last.text.as_str()
+    }
+
+    /// The same, handed out.
+    fn take_path(&mut self) -> String
+        ensures path { string_bytes result ≡ self.old.path }
+        ensures listed { self.new.listed ≡ self.old.listed }
+    {
+        self.last.take()
     }
 }
 
@@ -222,7 +266,7 @@ impl<'a> Model for SkeletonUnits<'a> {
     // Contracts see those that are left, and the fault behind them.
     ghost Value = { Listed };
 
-    ghost view = { λ s. s.left };
+    ghost view = { λ s. s.left.listed };
 }
 
 impl<'a> SkeletonUnits<'a> {
@@ -271,7 +315,13 @@ impl<'a> SkeletonUnits<'a> {
         ensures next { IsNext self.old result self.new }
         ensures ended { OnErr result (self.new ≡ ([], None)) }
     {
-        self.left.next()
+        let Some(unit) = self.left.next()? else {
+            return Ok(None);
+        };
+        Ok(Some(Skeleton {
+            target: unit.target,
+            path: self.left.take_path(),
+        }))
     }
 }
 

@@ -1,10 +1,13 @@
 use Rattle.std.proofs.Common.{◌≡◌, length}
+use Rattle.std.specs.Prelude.{string_bytes}
+use Rattle.dwp_dwarf.specs.Sections.{strings_of}
 use Rattle.dwp_dwarf.specs.Units.{units_left}
+use Rattle.thorin_executable.specs.Places.{IsKept}
 use Rattle.thorin_executable.specs.Skeletons.{skeletons_from}
 use Rattle.thorin_executable.specs.View.{data_of}
 use Rattle.thorin_executable.proofs.listing.next_named.Given as goal
 
--- the units so far stand for none
+-- the units so far stand for none, and the path that came last stays
 abbrev pub invariant-loop-read : goal.invariant-loop-read
 invariant-loop-read g l =
     (skeletons_from l.nameless (data_of g.R.Reader.input l.debug)
@@ -12,6 +15,8 @@ invariant-loop-read g l =
     ≡ skeletons_from l.nameless (data_of g.R.Reader.input l.debug)
     (units_left g.R.Reader.input l.fn.headers))
     × (l.abbreviations ≡ l.debug.debug_abbrev)
+    × (string_bytes l.last.text ≡ string_bytes l.fn.last.text)
+    × IsKept (strings_of g.R.Reader.input l.debug.strings) l.last
 
 abbrev pub decreases-loop-read : goal.decreases-loop-read
 decreases-loop-read g l = length (units_left g.R.Reader.input l.headers)
