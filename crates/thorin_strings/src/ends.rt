@@ -21,6 +21,9 @@ fn before_zero(bytes: &[u8], at: usize) -> usize
 {
     let next = u8x64::from_slice(&bytes[at..]);
     let zeros = next.simd_eq(u8x64::splat(0)).to_bitmask();
+    if zeros == 0 {
+        return LANES;
+    }
     zeros.trailing_zeros() as usize
 }
 
