@@ -11,7 +11,7 @@ ghost use Rattle.thorin_strings.specs.Strings.{strings_in};
 ghost use Rattle.thorin_strings.specs.Hashed.{IsHashed, IsPlaced};
 ghost use Rattle.thorin_strings.specs.Places.{hash as hash_of, place_of};
 
-use crate::ends::short_end;
+use crate::ends::{GUESSED_ROUNDS, short_end};
 use crate::places::{Places, hash};
 use crate::search::{begins_alike, stands_at};
 use crate::sorted::{SortedStrings, positions_of};
@@ -214,7 +214,7 @@ impl HashedStrings {
             }
             return None;
         }
-        let first = short_end(bytes)?;
+        let first = short_end(bytes, GUESSED_ROUNDS)?;
         if first != end {
             return None;
         }

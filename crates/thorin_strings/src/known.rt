@@ -9,15 +9,16 @@ ghost use Rattle.thorin_strings.specs.StringOffsets.{remapped_entry};
 ghost use Rattle.thorin_strings.specs.Strings.{IsZeroFree};
 ghost use Rattle.thorin_strings.specs.Known.{offset_read, AreKnown};
 
-use crate::ends::{end_of, short_end};
+use crate::ends::{ROUNDS, end_of, short_end};
 use crate::offsets::{offset_at, offset_limit};
 use crate::repeats::Repeats;
 use crate::table::PackageStringTable;
 use dwp_base::Endianness;
 use dwp_bytes::Encoding;
 
-/// How many bytes a string has at most, with the zero at its end, whose end is guessed.
-const SHORT: u64 = 256;
+/// How many bytes a string has at most, with the zero at its end, whose end is guessed: longer ones
+/// are looked for among those that are remembered.
+const SHORT: u64 = 512;
 
 /// The offset that the entry of a number has, where it can be read.
 #[inline(always)]
@@ -65,7 +66,7 @@ fn short_string(debug_str: &[u8], offset: u64) -> Option<&[u8]>
         return None;
     }
     let rest = &debug_str[at..];
-    let length = short_end(rest)?;
+    let length = short_end(rest, ROUNDS)?;
     Some(&rest[..length])
 }
 
