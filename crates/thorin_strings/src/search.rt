@@ -86,6 +86,10 @@ pub(crate) fn begins_alike(bytes: &[u8], at: usize, other: &[u8], end: usize) ->
     ensures { IsTrue result
         → BeginsAt bytes.now at × (string_from bytes.now at ≡ string_from other.now 0) }
 {
+    // (most that differ are told by this byte)
+    if bytes.len() <= at || bytes.len() - at <= end || bytes[at + end] != 0 {
+        return false;
+    }
     begins_at(bytes, at) && is_alike(bytes, at, other, end)
 }
 
