@@ -16,7 +16,7 @@ use Rattle.thorin_strings.specs.Strings.{IsZeroFree}
 abbrev pub front_string : List ℕ → List ℕ
 front_string xs = before_first (λ b. eqb b 0) xs
 
-front_string-cons : (x : ℕ) (xs : List ℕ) → front_string (x ∷ xs) ≡ cond (not (eqb x 0))
+pub front_string-cons : (x : ℕ) (xs : List ℕ) → front_string (x ∷ xs) ≡ cond (not (eqb x 0))
     (x ∷ front_string xs) []
 front_string-cons x xs = take_while-cons (λ b. not (eqb b 0)) x xs
 

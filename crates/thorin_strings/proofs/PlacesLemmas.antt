@@ -9,7 +9,7 @@ use Rattle.thorin_strings.specs.declared.places.Slot.{Slot}
 use Rattle.thorin_strings.specs.Places.{free, home, tag, place_from, place_of, AreEntered}
 
 -- two numbers are the same or not
-same_or : (A : Type 0) (a b : ℕ) → (a ≡ b → A) → (a ≢ b → A) → A
+pub same_or : (A : Type 0) (a b : ℕ) → (a ≡ b → A) → (a ≢ b → A) → A
 same_or A a b same other = ⊎_elim same (λ apart. other (λ e. ⊎_elim (λ l. absurd (omega arith))
     (λ l. absurd (omega arith)) apart)) (cases_order a b)
 

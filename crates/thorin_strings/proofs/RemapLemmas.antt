@@ -2,21 +2,24 @@
 use Rattle.std.proofs.Common.{◌≡◌, ℕ, zero, suc, ◌+◌, ◌*◌, ◌<◌, ◌≤◌, false, eqb, ltb, List, [], ◌∷◌}
 use Rattle.std.proofs.Common.{◌++◌, length, take, Ok, Err, ap, ap₂, sym, subst, refl, ◌∙◌, ⊎_elim}
 use Rattle.std.proofs.Common.{arith, append_assoc, add-one, replicate, length-append, drop, ◌-◌}
+use Rattle.std.proofs.Common.{◌/◌, ◌^◌}
 use Rattle.dwp_base.specs.declared.endian.Endianness.{Endianness}
 use Rattle.dwp_base.specs.declared.endian.Endianness.TheVariants.{Little}
-use Rattle.dwp_base.specs.Numbers.{number_bytes}
+use Rattle.dwp_base.specs.Numbers.{number, number_bytes}
 use Rattle.dwp_bytes.specs.Encoding.{offset_size}
 use Rattle.dwp_bytes.specs.declared.encoding.Format.{Format}
 use Rattle.dwp_bytes.specs.declared.encoding.Format.TheVariants.{Dwarf32}
 use Rattle.dwp_bytes.specs.declared.encoding.Encoding.{Encoding}
-use Rattle.thorin_faults.specs.Fault.{Fault}
+use Rattle.thorin_faults.specs.Fault.{Fault, OffsetAtIndex}
+use Rattle.thorin_faults.specs.Answers.{as_fault}
 use Rattle.std.proofs.lemmas.List.{take-take, append-nil, length-take, take_all, take_at}
 use Rattle.std.proofs.lemmas.List.{length-replicate}
 use Rattle.std.proofs.lemmas.List.Concat.{flat_map-append}
 use Rattle.std.proofs.lemmas.Bool.{cases_eq, ne_eqb, le-ltb}
 use Rattle.dwp_bytes.specs.StringOffsets.{header_size, entry_count}
 use Rattle.thorin_strings.specs.StringOffsets.{header_of, remapped_entry, remapped_entries}
-use Rattle.thorin_strings.specs.StringOffsets.{entry_bytes, remapped}
+use Rattle.thorin_strings.specs.StringOffsets.{entry_bytes, remapped, entry_at, offset_at}
+use Rattle.thorin_strings.specs.StringOffsets.{offset_limit}
 
 -- one more entry
 pub entries_more : (order : Endianness) (encoding : Encoding) (section bytes : List ℕ) (i : ℕ)
@@ -156,3 +159,33 @@ kept_more old now new first second =
     let short : length old ≤ length now =
     omega (arith, ap length first, length-take (length old) now) in
     sym (take-take (length old) (length now) new short) ∙ ap (take (length old)) second ∙ first
+
+-- an entry of four bytes of a range that is whole
+pub word_within : (encoding : Encoding) (size count index long : ℕ) → encoding.format ≡ Dwarf32
+    → count ≡ entry_count encoding size → header_size encoding ≤ size → size ≤ long → index < count
+    → header_size encoding + index * 4 + 4 ≤ long
+word_within encoding size count index long form is_count headed whole less =
+    let is : count ≡ (size - header_size encoding) / 4 = is_count ∙ ap (λ f.
+    (size - header_size encoding) / offset_size f) form in
+    omega (arith, is)
+
+-- the offset that it has
+pub word_read : (encoding : Encoding) (bytes rest : List ℕ) (index at word : ℕ) → encoding.format ≡
+    Dwarf32 → at ≡ header_size encoding + index * 4 → header_size encoding + index * 4 + 4 ≤ length
+    bytes → rest ≡ drop at bytes → word ≡ number Little 4 rest → entry_at Little encoding bytes
+    index ≡ Ok word
+unfolding offset_at
+word_read encoding bytes rest index at word form is_at within is_rest is =
+    let place : header_size encoding + index * offset_size encoding.format ≡ at =
+    ap (λ f. header_size encoding + index * offset_size f) form ∙ sym is_at in
+    let inside : ltb (length bytes) (at + 4) ≡ false = le-ltb (length bytes) (at + 4)
+    (omega (arith, is_at)) in
+    let there : offset_at Little Dwarf32 bytes at ≡ Ok word = rw inside
+    (ap Ok (ap (number Little 4) (sym is_rest) ∙ sym is)) in
+    ap₂ (λ f n. as_fault (λ e. OffsetAtIndex e index) (offset_at Little f bytes n)) form place
+    ∙ ap (as_fault (λ e. OffsetAtIndex e index)) there
+
+-- a number of four bytes fits
+pub fits_word : (encoding : Encoding) (offset : ℕ) → encoding.format ≡ Dwarf32
+    → offset ≤ 2 ^ 32 - 1 → offset ≤ offset_limit encoding.format
+fits_word encoding offset form fits = subst (λ f. offset ≤ offset_limit f) (sym form) fits

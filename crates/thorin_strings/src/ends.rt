@@ -10,7 +10,10 @@ use std::simd::prelude::*;
 const LANES: usize = 64;
 
 /// How often at most before `memchr` goes on, which takes larger steps.
-const ROUNDS: usize = 4;
+pub(crate) const ROUNDS: usize = 4;
+
+/// The same of a string whose end is guessed.
+pub(crate) const GUESSED_ROUNDS: usize = 8;
 
 /// How many of the next 64 bytes stand before the first zero.
 #[inline(always)]
@@ -21,15 +24,19 @@ fn before_zero(bytes: &[u8], at: usize) -> usize
 {
     let next = u8x64::from_slice(&bytes[at..]);
     let zeros = next.simd_eq(u8x64::splat(0)).to_bitmask();
+    if zeros == 0 {
+        return LANES;
+    }
     zeros.trailing_zeros() as usize
 }
 
-/// Where the string at the front of some bytes ends, where it is short and not near their end.
+/// Where the string at the front of some bytes ends, where so many steps find it, and it isn't near
+/// their end.
 #[inline(always)]
-pub(crate) fn short_end(bytes: &[u8]) -> Option<usize>
+pub(crate) fn short_end(bytes: &[u8], rounds: usize) -> Option<usize>
     ensures { IfSome result (IsFirstZero bytes.now) }
 {
-    for round in 0..ROUNDS {
+    for round in 0..rounds {
         let at = round * LANES;
         if bytes.len() - at < LANES {
             return None;

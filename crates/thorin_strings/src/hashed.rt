@@ -2,6 +2,8 @@
 
 ghost use Rattle.std.specs.Prelude.{◌≡◌, ◌↔◌, ◌+◌, ◌<◌, ◌^◌, ℕ, List, [], length, take};
 ghost use Rattle.std.specs.Prelude.{OnOk, OnErr, IfOk, IsSome, IfSome, IsNone, Contains, None};
+ghost use Rattle.std.specs.Prelude.{slice_index};
+ghost use Rattle.dwp_bytes.specs.StringOffsets.{string_from};
 ghost use Rattle.thorin_strings.specs.Strings.{data_of, offset_of, with_string, IsZeroFree};
 ghost use Rattle.thorin_strings.specs.Strings.{IsTable, IsWithinDigits};
 ghost use Rattle.thorin_strings.specs.Marks.{mark_of};
@@ -9,8 +11,9 @@ ghost use Rattle.thorin_strings.specs.Strings.{strings_in};
 ghost use Rattle.thorin_strings.specs.Hashed.{IsHashed, IsPlaced};
 ghost use Rattle.thorin_strings.specs.Places.{hash as hash_of, place_of};
 
+use crate::ends::{GUESSED_ROUNDS, short_end};
 use crate::places::{Places, hash};
-use crate::search::stands_at;
+use crate::search::{begins_alike, stands_at};
 use crate::sorted::{SortedStrings, positions_of};
 use crate::table::{PackageStringOffset, TableMark};
 use memchr::memchr;
@@ -184,6 +187,49 @@ impl HashedStrings {
             string,
             hash,
         )
+    }
+
+    /// The offset of the string that some bytes begin with, of which one is zero, which is guessed
+    /// to be its end. A new string goes last. None where it is new and its end isn't the guessed
+    /// one or isn't near, where its hash doesn't tell its place, and for want of memory; nothing
+    /// changed then.
+    #[inline(always)]
+    pub fn place_guessed(&mut self, bytes: &[u8], end: usize) -> Option<usize>
+        requires within { end < length bytes.now }
+        requires ended { slice_index bytes.now end ≡ 0 }
+        ensures placed { IfSome result (IsPlaced self.old self.new (string_from bytes.now 0)) }
+        ensures kept { take (length self.old) self.new ≡ self.old }
+        ensures none { IsNone result → self.new ≡ self.old }
+    {
+        if begins_alike(&self.bytes, self.next, bytes, end) {
+            let place = self.next;
+            self.next = place.saturating_add(end + 1);
+            return Some(place);
+        }
+        let hash = hash(&bytes[..end]);
+        if let Some(place) = self.places.find(hash) {
+            if begins_alike(&self.bytes, place, bytes, end) {
+                self.next = place.saturating_add(end + 1);
+                return Some(place);
+            }
+            return None;
+        }
+        let first = short_end(bytes, GUESSED_ROUNDS)?;
+        if first != end {
+            return None;
+        }
+        let added = add(
+            &mut self.bytes,
+            &mut self.begins,
+            &mut self.hashes,
+            &mut self.places,
+            &bytes[..end],
+            hash,
+        );
+        let Ok(place) = added else {
+            return None;
+        };
+        Some(place)
     }
 
     /// The same strings, found by their order; none are left here then. None for want of memory,

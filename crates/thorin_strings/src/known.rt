@@ -7,14 +7,18 @@ ghost use Rattle.dwp_bytes.specs.StringOffsets.{header_size};
 ghost use Rattle.thorin_strings.specs.StringOffsets.{offset_limit, entry_at, string_read};
 ghost use Rattle.thorin_strings.specs.StringOffsets.{remapped_entry};
 ghost use Rattle.thorin_strings.specs.Strings.{IsZeroFree};
-ghost use Rattle.thorin_strings.specs.Known.{AreKnown};
+ghost use Rattle.thorin_strings.specs.Known.{offset_read, AreKnown};
 
-use crate::ends::{end_of, short_end};
+use crate::ends::{ROUNDS, end_of, short_end};
 use crate::offsets::{offset_at, offset_limit};
 use crate::repeats::Repeats;
 use crate::table::PackageStringTable;
 use dwp_base::Endianness;
 use dwp_bytes::Encoding;
+
+/// How many bytes a string has at most, with the zero at its end, whose end is guessed: longer ones
+/// are looked for among those that are remembered.
+const SHORT: u64 = 512;
 
 /// The offset that the entry of a number has, where it can be read.
 #[inline(always)]
@@ -62,111 +66,141 @@ fn short_string(debug_str: &[u8], offset: u64) -> Option<&[u8]>
         return None;
     }
     let rest = &debug_str[at..];
-    let length = short_end(rest)?;
+    let length = short_end(rest, ROUNDS)?;
     Some(&rest[..length])
 }
 
 impl PackageStringTable {
-    /// As `entry_by_hash`, where short strings aren't remembered.
-    ///
-    /// A string whose end is near isn't looked for among those that are remembered.
+    /// As `offset_by_hash`, where short strings aren't remembered. `after` is where the next string
+    /// begins, if the offsets are in order, as those that compilers make are.
     #[inline(always)]
     pub(crate) fn known_offset(
         &mut self,
         repeats: &mut Repeats,
         debug_str: &[u8],
-        debug_str_offsets: &[u8],
-        endian: Endianness,
-        encoding: Encoding,
-        index: u64,
+        named: u64,
+        after: u64,
+        limit: u64,
     ) -> Option<u64>
-        requires small { header_size encoding + index * offset_size encoding.format < 2 ^ 64 }
         requires known { AreKnown debug_str.now self.old repeats.old }
         ensures meaning { IfSome result (λ offset.
-            remapped_entry endian encoding debug_str.now debug_str_offsets.now index self.old
-            ≡ Ok (offset, self.new)) }
-        ensures fits { IfSome result (λ offset. offset ≤ offset_limit encoding.format) }
+            offset_read debug_str.now named self.old ≡ Ok (offset, self.new)) }
+        ensures fits { IfSome result (λ offset. offset ≤ limit) }
         ensures kept { take (length self.old) self.new ≡ self.old }
         ensures none { IsNone result → self.new ≡ self.old }
         ensures known { AreKnown debug_str.now self.new repeats.new }
     {
-        let short = self.short_entry(debug_str, debug_str_offsets, endian, encoding, index);
-        match short {
+        match self.guessed_offset(debug_str, named, after, limit) {
             Some(offset) => Some(offset),
-            None => self.long_entry(
-                repeats,
-                debug_str,
-                debug_str_offsets,
-                endian,
-                encoding,
-                index,
-            ),
+            None => self.other_offset(repeats, debug_str, named, limit),
         }
+    }
+
+    /// The same of a string that is short and ends before the next one.
+    #[inline(always)]
+    fn guessed_offset(
+        &mut self,
+        debug_str: &[u8],
+        named: u64,
+        after: u64,
+        limit: u64,
+    ) -> Option<u64>
+        ensures meaning { IfSome result (λ offset.
+            offset_read debug_str.now named self.old ≡ Ok (offset, self.new)) }
+        ensures fits { IfSome result (λ offset. offset ≤ limit) }
+        ensures kept { take (length self.old) self.new ≡ self.old }
+        ensures none { IsNone result → self.new ≡ self.old }
+    {
+        if after <= named || after - named > SHORT || after > debug_str.len() as u64 {
+            return None;
+        }
+        let rest = &debug_str[named as usize..];
+        let end = (after - named) as usize - 1;
+        if rest[end] != 0 {
+            return None;
+        }
+        if limit < self.data().len() as u64 {
+            return None;
+        }
+        let offset = self.place_guessed(rest, end)?;
+        Some(offset)
     }
 
     /// The same of a string whose end is near, by its hash alone.
     #[inline(always)]
-    #[tactic(auto, using(crate::proofs::KnownLemmas::entry_read, crate::proofs::KnownLemmas::read_used, crate::proofs::KnownLemmas::offset_within))]
-    fn short_entry(
-        &mut self,
-        debug_str: &[u8],
-        debug_str_offsets: &[u8],
-        endian: Endianness,
-        encoding: Encoding,
-        index: u64,
-    ) -> Option<u64>
-        requires small { header_size encoding + index * offset_size encoding.format < 2 ^ 64 }
+    fn short_offset(&mut self, debug_str: &[u8], named: u64, limit: u64) -> Option<u64>
         ensures meaning { IfSome result (λ offset.
-            remapped_entry endian encoding debug_str.now debug_str_offsets.now index self.old
-            ≡ Ok (offset, self.new)) }
-        ensures fits { IfSome result (λ offset. offset ≤ offset_limit encoding.format) }
+            offset_read debug_str.now named self.old ≡ Ok (offset, self.new)) }
+        ensures fits { IfSome result (λ offset. offset ≤ limit) }
         ensures kept { take (length self.old) self.new ≡ self.old }
         ensures none { IsNone result → self.new ≡ self.old }
     {
-        let named = known_entry(debug_str_offsets, endian, encoding, index)?;
         let string = short_string(debug_str, named)?;
-        if offset_limit(encoding.format) < self.data().len() as u64 {
+        if limit < self.data().len() as u64 {
             return None;
         }
         let offset = self.place_by_hash(string)?;
         Some(offset)
     }
 
-    /// `entry_by_hash` out of the loop over short strings.
+    /// The same of any other string. A short one isn't looked for among those that are remembered.
     #[inline(never)]
-    fn long_entry(
+    fn other_offset(
         &mut self,
         repeats: &mut Repeats,
         debug_str: &[u8],
-        debug_str_offsets: &[u8],
-        endian: Endianness,
-        encoding: Encoding,
-        index: u64,
+        named: u64,
+        limit: u64,
     ) -> Option<u64>
-        requires small { header_size encoding + index * offset_size encoding.format < 2 ^ 64 }
         requires known { AreKnown debug_str.now self.old repeats.old }
         ensures meaning { IfSome result (λ offset.
-            remapped_entry endian encoding debug_str.now debug_str_offsets.now index self.old
-            ≡ Ok (offset, self.new)) }
-        ensures fits { IfSome result (λ offset. offset ≤ offset_limit encoding.format) }
+            offset_read debug_str.now named self.old ≡ Ok (offset, self.new)) }
+        ensures fits { IfSome result (λ offset. offset ≤ limit) }
         ensures kept { take (length self.old) self.new ≡ self.old }
         ensures none { IsNone result → self.new ≡ self.old }
         ensures known { AreKnown debug_str.now self.new repeats.new }
     {
-        self.entry_by_hash(
-            repeats,
-            debug_str,
-            debug_str_offsets,
-            endian,
-            encoding,
-            index,
-        )
+        match self.short_offset(debug_str, named, limit) {
+            Some(offset) => Some(offset),
+            None => self.offset_by_hash(repeats, debug_str, named, limit),
+        }
+    }
+
+    /// The offset of the string at an offset of its section, where that is remembered or its hash
+    /// tells it, and no table's offset is past the limit. None else, where it can't be read and for
+    /// want of memory; the table is then as it was.
+    #[inline(always)]
+    fn offset_by_hash(
+        &mut self,
+        repeats: &mut Repeats,
+        debug_str: &[u8],
+        named: u64,
+        limit: u64,
+    ) -> Option<u64>
+        requires known { AreKnown debug_str.now self.old repeats.old }
+        ensures meaning { IfSome result (λ offset.
+            offset_read debug_str.now named self.old ≡ Ok (offset, self.new)) }
+        ensures fits { IfSome result (λ offset. offset ≤ limit) }
+        ensures kept { take (length self.old) self.new ≡ self.old }
+        ensures none { IsNone result → self.new ≡ self.old }
+        ensures known { AreKnown debug_str.now self.new repeats.new }
+    {
+        if let Some(known) = repeats.find(named) {
+            return if known <= limit { Some(known) } else { None };
+        }
+        let string = known_string(debug_str, named)?;
+        if limit < self.data().len() as u64 {
+            return None;
+        }
+        let offset = self.place_by_hash(string)?;
+        let _remembered = repeats.enter(string, named, offset);
+        Some(offset)
     }
 
     /// The offset of the string that an entry names, where that is remembered or its hash tells it.
     /// None else, where it can't be read and for want of memory; the table is then as it was.
     #[inline(always)]
-    #[tactic(auto, using(crate::proofs::KnownLemmas::entry_read, crate::proofs::KnownLemmas::read_used, crate::proofs::KnownLemmas::offset_within))]
+    #[tactic(auto, using(crate::proofs::KnownLemmas::entry_read))]
     pub(crate) fn entry_by_hash(
         &mut self,
         repeats: &mut Repeats,
@@ -188,15 +222,7 @@ impl PackageStringTable {
     {
         let limit = offset_limit(encoding.format);
         let named = known_entry(debug_str_offsets, endian, encoding, index)?;
-        if let Some(known) = repeats.find(named) {
-            return if known <= limit { Some(known) } else { None };
-        }
-        let string = known_string(debug_str, named)?;
-        if limit < self.data().len() as u64 {
-            return None;
-        }
-        let offset = self.place_by_hash(string)?;
-        let _remembered = repeats.enter(string, named, offset);
+        let offset = self.offset_by_hash(repeats, debug_str, named, limit)?;
         Some(offset)
     }
 }

@@ -78,11 +78,11 @@ fn place_of(slots: &[Slot], mask: usize, hash: u64) -> Option<usize>
     None
 }
 
-/// Puts a slot into the first free one of a hash that it has the lower half of, where one is free.
+/// Puts a slot into the first free one of a hash that it has the lower half of, where one is free
+/// and the hash has no place.
 fn put(slots: &mut [Slot], mask: usize, hash: u64, slot: Slot) -> bool
     requires some { slot.behind ≢ 0 }
     requires tag { slot.tag ≡ tag hash }
-    requires none { place_of slots.old mask hash ≡ None }
     ensures put { IsTrue result → (n : ℕ) → n + 1 ≡ slot.behind
         → place_of slots.new mask hash ≡ Some n }
     ensures kept { (h n : ℕ) → place_of slots.old mask h ≡ Some n
@@ -90,13 +90,18 @@ fn put(slots: &mut [Slot], mask: usize, hash: u64, slot: Slot) -> bool
     ensures long { length slots.new ≡ length slots.old }
 {
     let home = home(mask, hash);
+    let tag = slot.tag;
     for number in home..home + PROBES {
         if number >= slots.len() {
             return false;
         }
-        if slots[number].behind == 0 {
+        let other = slots[number];
+        if other.behind == 0 {
             slots[number] = slot;
             return true;
+        }
+        if other.tag == tag {
+            return false;
         }
     }
     false
@@ -151,9 +156,6 @@ impl Places {
         for index in 0..hashes.len() {
             let hash = hashes[index];
             let behind = behind(begins[index])?;
-            if place_of(&slots, mask, hash).is_some() {
-                return None;
-            }
             let slot = Slot {
                 tag: tag(hash),
                 behind,
@@ -184,19 +186,15 @@ impl Places {
         let Some(more) = self.grown(hashes, begins) else {
             return false;
         };
-        if more.find(hash).is_some() {
-            return false;
-        }
         *self = more;
         self.used = self.used.saturating_add(1);
         put(&mut self.slots, self.mask, hash, slot)
     }
 
-    /// Enters the place of a hash that has none; false where it can't. At most half of the slots
-    /// are used, and where none is free for a hash there are twice as many, if an eighth is used.
-    /// `hashes` and `begins` are those that were entered before, and their places.
+    /// Enters the place of a hash; false where it has one, and where that can't be. At most half of
+    /// the slots are used, and where none is free for a hash there are twice as many, if an eighth
+    /// is used. `hashes` and `begins` are those that were entered before, and their places.
     pub fn enter(&mut self, hash: u64, place: usize, hashes: &[u64], begins: &[u64]) -> bool
-        requires none { place_of self.old.slots.items self.old.mask hash ≡ None }
         requires long { length begins.now ≡ length hashes.now }
         ensures entered { IsTrue result
             → place_of self.new.slots.items self.new.mask hash ≡ Some place }

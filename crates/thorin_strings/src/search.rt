@@ -1,6 +1,7 @@
 //! Looking a string up among positions in the order of their strings.
 
-ghost use Rattle.std.specs.Prelude.{◌≡◌, ◌≤◌, ◌↔◌, length, Contains, IfOk, IfErr, IsTrue};
+ghost use Rattle.std.specs.Prelude.{◌≡◌, ◌≤◌, ◌<◌, ◌↔◌, length, slice_index, Contains};
+ghost use Rattle.std.specs.Prelude.{IfOk, IfErr, IsTrue};
 ghost use Rattle.std.specs.Ordering.{nat_cmp};
 ghost use Rattle.std.specs.Cmp.Lexicographic.{slice_cmp};
 ghost use Rattle.dwp_bytes.specs.StringOffsets.{string_from};
@@ -57,6 +58,39 @@ pub(crate) fn stands_at(bytes: &[u8], at: usize, string: &[u8]) -> bool
     ensures { IsTrue result ↔ (BeginsAt bytes.now at × (string_from bytes.now at ≡ string.now)) }
 {
     begins_at(bytes, at) && is_at(bytes, at, string)
+}
+
+/// Whether the string at a place is the one that some bytes begin with, of which one is zero: they
+/// are the same as far as that byte, so wherever they end. No where they differ behind an earlier
+/// end, which may be the same string.
+#[inline(always)]
+fn is_alike(bytes: &[u8], at: usize, other: &[u8], end: usize) -> bool
+    requires at { at ≤ length bytes.now }
+    requires within { end < length other.now }
+    requires ended { slice_index other.now end ≡ 0 }
+    ensures { IsTrue result → string_from bytes.now at ≡ string_from other.now 0 }
+{
+    let rest = &bytes[at..];
+    if rest.len() <= end {
+        return false;
+    }
+    rest[end] == 0 && is_equal(&rest[..end], &other[..end])
+}
+
+/// Whether a string begins at a place of a section of ended strings and is the one that some bytes
+/// begin with, of which one is zero.
+#[inline(always)]
+pub(crate) fn begins_alike(bytes: &[u8], at: usize, other: &[u8], end: usize) -> bool
+    requires within { end < length other.now }
+    requires ended { slice_index other.now end ≡ 0 }
+    ensures { IsTrue result
+        → BeginsAt bytes.now at × (string_from bytes.now at ≡ string_from other.now 0) }
+{
+    // (most that differ are told by this byte)
+    if bytes.len() <= at || bytes.len() - at <= end || bytes[at + end] != 0 {
+        return false;
+    }
+    begins_at(bytes, at) && is_alike(bytes, at, other, end)
 }
 
 /// What a search found: where the string begins, or the rank at which it would stand, and how many

@@ -2,9 +2,9 @@
 
 ghost use Rattle.std.specs.Prelude.{◌≡◌, ◌↔◌, ◌+◌, ◌*◌, ◌<◌, ◌^◌, ◌++◌, ℕ, List, [], length, take};
 ghost use Rattle.std.specs.Prelude.{Ok, OnOk, IfOk, IfErr};
-ghost use Rattle.std.specs.Prelude.{IsSome, IfSome, IsNone, IsTrue, Contains};
+ghost use Rattle.std.specs.Prelude.{IsSome, IfSome, IsNone, IsTrue, Contains, slice_index};
 ghost use Rattle.dwp_bytes.specs.Encoding.{offset_size};
-ghost use Rattle.dwp_bytes.specs.StringOffsets.{header_size};
+ghost use Rattle.dwp_bytes.specs.StringOffsets.{header_size, string_from};
 ghost use Rattle.thorin_strings.specs.StringOffsets.{remapped_entries, entry_bytes};
 ghost use Rattle.thorin_strings.specs.Strings.{data_of, offset_of, with_string, IsZeroFree};
 ghost use Rattle.thorin_strings.specs.Strings.{IsTable, IsWithinDigits};
@@ -169,6 +169,27 @@ impl PackageStringTable {
             Strings::Hashed(strings) => match strings.place(string) {
                 Ok(offset) => Some(offset as u64),
                 Err(_) => None,
+            },
+            Strings::Sorted(_) => None,
+        }
+    }
+
+    /// The same of the string that some bytes begin with, of which one is zero, which is guessed to
+    /// be its end.
+    #[inline(always)]
+    pub(crate) fn place_guessed(&mut self, bytes: &[u8], end: usize) -> Option<u64>
+        requires within { end < length bytes.now }
+        requires ended { slice_index bytes.now end ≡ 0 }
+        ensures offset { IfSome result (λ o. o ≡ offset_of self.old (string_from bytes.now 0)) }
+        ensures placed { IfSome result
+            (λ _. self.new ≡ with_string self.old (string_from bytes.now 0)) }
+        ensures kept { take (length self.old) self.new ≡ self.old }
+        ensures none { IsNone result → self.new ≡ self.old }
+    {
+        match &mut self.strings {
+            Strings::Hashed(strings) => match strings.place_guessed(bytes, end) {
+                Some(offset) => Some(offset as u64),
+                None => None,
             },
             Strings::Sorted(_) => None,
         }

@@ -1,11 +1,12 @@
 //! String offsets of four bytes, the lowest first, each rewritten in its place: most are such.
 
-ghost use Rattle.std.specs.Prelude.{◌≡◌, ◌≤◌, ◌<◌, ◌+◌, ◌^◌, ◌++◌, length, take};
+ghost use Rattle.std.specs.Prelude.{◌≡◌, ◌≤◌, ◌<◌, ◌+◌, ◌^◌, ◌++◌, ◌*◌, Ok, length, take};
 ghost use Rattle.dwp_base.specs.declared.endian.Endianness.TheVariants.{Little};
 ghost use Rattle.dwp_base.specs.Numbers.{number_bytes};
 ghost use Rattle.dwp_bytes.specs.declared.encoding.Format.TheVariants.{Dwarf32};
 ghost use Rattle.thorin_faults.specs.Answers.{Gives};
-ghost use Rattle.thorin_strings.specs.StringOffsets.{remapped};
+ghost use Rattle.dwp_bytes.specs.StringOffsets.{header_size};
+ghost use Rattle.thorin_strings.specs.StringOffsets.{entry_at, remapped};
 ghost use Rattle.thorin_strings.specs.Known.{AreKnown};
 
 use crate::offsets::header;
@@ -14,6 +15,17 @@ use crate::table::PackageStringTable;
 use dwp_base::Endianness;
 use dwp_bytes::Encoding;
 use thorin_faults::Error;
+
+/// The offset that the entry of a number has.
+#[inline(always)]
+fn word_at(debug_str_offsets: &[u8], encoding: Encoding, index: u64) -> u64
+    requires form { encoding.format ≡ Dwarf32 }
+    requires within { header_size encoding + index * 4 + 4 ≤ length debug_str_offsets.now }
+    ensures { entry_at Little encoding debug_str_offsets.now index ≡ Ok result }
+{
+    let at = encoding.string_offsets_header_size() + index as usize * 4;
+    Endianness::Little.read_u32(&debug_str_offsets[at..]) as u64
+}
 
 /// Writes an offset of four bytes, the lowest first.
 #[inline(always)]
@@ -59,14 +71,13 @@ impl PackageStringTable {
         out.resize(first + count as usize * 4, 0)?;
         for index in 0..count {
             // (nearly every entry is told here, without room for an error)
-            let known = self.known_offset(
-                repeats,
-                debug_str,
-                debug_str_offsets,
-                Endianness::Little,
-                encoding,
-                index,
-            );
+            let named = word_at(debug_str_offsets, encoding, index);
+            let after = if index + 1 < count {
+                word_at(debug_str_offsets, encoding, index + 1)
+            } else {
+                debug_str.len() as u64
+            };
+            let known = self.known_offset(repeats, debug_str, named, after, u32::MAX as u64);
             let offset = match known {
                 Some(offset) => offset,
                 None => self.remapped_entry(

@@ -6,8 +6,8 @@ use Rattle.thorin_strings.proofs.HashedLemmas.{hashed_push, unplaced, entered_sa
 use Rattle.thorin_strings.proofs.HashedLemmas.{length-begins, length-hashes}
 use Rattle.thorin_strings.proofs.hashed.add.Goals as goal
 
-pub enter-requires-clause-long : goal.enter-requires-clause-long
-enter-requires-clause-long c =
+pub enter-requires : goal.enter-requires
+enter-requires c =
     omega (
       arith,
       length-begins _ _ _ _ _ c.requires.table,

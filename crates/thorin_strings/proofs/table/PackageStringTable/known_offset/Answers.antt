@@ -3,4 +3,4 @@ use Rattle.thorin_strings.proofs.table.PackageStringTable.known_offset.Goals as 
 
 pub returns-in-Some-clause-known : goal.returns-in-Some-clause-known
 returns-in-Some-clause-known c = are_known_later c.args.debug_str.now c.args.self.now
-    c.short_entry-short.new.self _ c.short_entry-short.ensures.kept c.requires.known
+    c.guessed_offset.new.self _ c.guessed_offset.ensures.kept c.requires.known

@@ -8,6 +8,8 @@ use Rattle.thorin_strings.specs.StringOffsets.{remapped_entry, remapped_entries}
 use Rattle.thorin_strings.proofs.RemapLemmas.{entries_none, entries_more, bytes_more, kept_more}
 use Rattle.thorin_strings.proofs.RemapLemmas.{remapped_refuses, remapped_done, word_written}
 use Rattle.thorin_strings.proofs.RemapLemmas.{room_made, same_room, words_done}
+use Rattle.thorin_strings.proofs.RemapLemmas.{fits_word, word_within}
+use Rattle.thorin_strings.proofs.KnownLemmas.{entry_read}
 use Rattle.thorin_strings.proofs.table.PackageStringTable.remapped_words.Goals as goal
 use Rattle.thorin_strings.proofs.table.PackageStringTable.remapped_words.Goals.{in-Some}
 use Rattle.thorin_strings.proofs.table.PackageStringTable.remapped_words.Goals.{in-None+in_ok-offset-in-None}
@@ -42,13 +44,25 @@ returns-in_err-offset-in-None-clause-meaning c =
     (omega arith) c.in_ok-out.ensures c.loop-index.invariant.so_far.1
     (rw c.in-None.ensures.none at (c.in_err-offset-in-None.ensures.meaning other)) (omega arith))
 
+pub word_at-named-requires-clause-within : goal.word_at-named-requires-clause-within
+word_at-named-requires-clause-within c = word_within c.args.encoding c.args.section_size
+    c.string_offsets_count-count.result c.loop-index.index _ c.requires.form
+    c.string_offsets_count-count.ensures (omega arith) c.requires.whole (omega arith)
+
+pub word_at-after-requires-clause-within : goal.word_at-after-requires-clause-within
+word_at-after-requires-clause-within c = word_within c.args.encoding c.args.section_size
+    c.string_offsets_count-count.result (c.loop-index.index + 1) _ c.requires.form
+    c.string_offsets_count-count.ensures (omega arith) c.requires.whole (omega arith)
+
 pub loop-index-preserved : goal.loop-index-preserved
 loop-index-preserved c =
     let entry : remapped_entry Little c.args.encoding c.args.debug_str.now
     c.args.debug_str_offsets.now c.loop-index.index c.loop-index.self ≡ Ok
     (c.match-known.offset, c.match-known.self) = elim c.match-known.branch [
-      | in-Some w ↦ w.in-Some.ensures.meaning ∙ ap₂ (λ n l. Ok (n, l)) (sym w.offset-is)
-          (sym w.self-is)
+      | in-Some w ↦ entry_read Little c.args.encoding c.args.debug_str.now
+          c.args.debug_str_offsets.now c.loop-index.index _ _ _ _ c.word_at-named.ensures
+          w.in-Some.ensures.meaning (fits_word c.args.encoding _ c.requires.form
+          w.in-Some.ensures.fits) ∙ ap₂ (λ n l. Ok (n, l)) (sym w.offset-is) (sym w.self-is)
       | in-None+in_ok-offset-in-None w ↦ (rw w.in-None.ensures.none at
           w.in_ok-offset-in-None.ensures.meaning) ∙ ap₂ (λ n l. Ok (n, l)) (sym w.offset-is)
           (sym w.self-is)
