@@ -1,5 +1,6 @@
 -- The units that an executable refers to, one after the other.
 use Rattle.std.proofs.Common.{◌≡◌, ◌≢◌, ◌∙◌, ℕ, List, [], ◌∷◌, ◌++◌, refl, sym, ap, subst, arith}
+use Rattle.std.proofs.Common.{false}
 use Rattle.std.proofs.Common.{Option, Some, None, Result, Ok, Err, length, take}
 use Rattle.std.proofs.lemmas.List.{append_assoc, append-nil, take_all}
 use Rattle.std.specs.declared.io.Error.{Error as IoError}
@@ -9,6 +10,7 @@ use Rattle.dwp_table.specs.declared.object.DwarfObject.TheVariants.{Compilation}
 use Rattle.thorin_faults.specs.Fault.{Fault, fault_of, Memory}
 use Rattle.thorin_faults.specs.declared.fault.Error.{Error}
 use Rattle.thorin_faults.specs.declared.fault.Error.TheVariants as error
+use Rattle.thorin_faults.specs.declared.fault.InputError.TheVariants as input_error
 use Rattle.thorin_faults.specs.declared.fault.MissingReferencedObjectBehaviour.{MissingReferencedObjectBehaviour}
 use Rattle.thorin_faults.specs.declared.fault.MissingReferencedObjectBehaviour.TheVariants as behaviour
 use Rattle.thorin_faults.specs.Answers.{MemoryAside}
@@ -21,7 +23,8 @@ use Rattle.thorin_join.specs.State.{InProgress}
 use Rattle.thorin_join.specs.Represents.{units_in, units_begun}
 use Rattle.thorin_builder.proofs.UnitNames.{keys-units}
 use Rattle.thorin_builder.specs.Taking.{Outcome, with_target, PassesOver, TakesSkeleton, is_there}
-use Rattle.thorin_builder.specs.Taking.{EndsWith, Step, TakesSkeletons, TakesNamed}
+use Rattle.thorin_builder.specs.Taking.{EndsWith, Step, TakesSkeletons, TakesNamed, TakesAbsent}
+use Rattle.thorin_builder.specs.Taking.{CanBePassedOver}
 
 abbrev pub Offer : Type 1
 Offer = List ℕ → Result (List ℕ) IoError → Type 0
@@ -182,6 +185,22 @@ pub not-passed-over : (missing : MissingReferencedObjectBehaviour) (cause : IoEr
     (outcome : Outcome) → missing ≡ behaviour.Error → outcome ≡ Err (error.ReadInput cause)
     → PassesOver missing cause outcome
 not-passed-over missing cause outcome h k = subst (λ m. PassesOver m cause outcome) (sym h) k
+
+-- an object that couldn't be read at a path, and is passed over, is passed over again
+pub unread-again : (offer : Offer) (missing : MissingReferencedObjectBehaviour)
+    (named : DwarfObject × List ℕ) (old new : State) → is_there named.0 old ≡ false
+    → new ≡ with_target named.0 old → CanBePassedOver (offer named.1) missing
+    → TakesAbsent offer missing named old (Ok tt) new []
+unread-again offer missing named old new absent target can = record {
+  absent = absent;
+  file = record {
+    read = Err (input_error.Io can.cause);
+    within = can.fails;
+    accepted = [];
+    taken = (passed-over missing can.cause (Ok tt) can.skips refl, target, refl);
+  };
+  accepted_is = refl;
+}
 
 -- a compilation unit's name among the targets, and whether it is there
 pub target-is : (target : DwarfObject) (id : DwoId) (state : State) → target ≡ Compilation id

@@ -1,6 +1,6 @@
 -- What comes of an input: its bytes taken, those at a path, those that an executable names.
 use Rattle.std.specs.Prelude.{◌≡◌, ◌≢◌, ℕ, Bool, true, false, List, [], ◌∷◌, ◌++◌, take, length}
-use Rattle.std.specs.Prelude.{Option, Some, None, Result, Ok, Err, OnOk, OnErr, ◌⊎◌}
+use Rattle.std.specs.Prelude.{Option, Some, None, Result, Ok, Err, OnOk, OnErr, ◌⊎◌, IsTrue}
 use Rattle.std.specs.List.{list_any}
 use Rattle.std.specs.declared.io.Error.{Error as IoError}
 use Rattle.thorin_faults.specs.declared.fault.Error.{Error}
@@ -85,6 +85,18 @@ TakesReferred missing (Err (input_error.Io cause)) old outcome new accepted =
     PassesOver missing cause outcome × (new ≡ old) × (accepted ≡ [])
 TakesReferred missing (Err input_error.Memory) old outcome new accepted =
     (outcome ≡ Err error.Memory) × (new ≡ old) × (accepted ≡ [])
+
+-- a read of such an object may fail, and then it is passed over
+pub record CanBePassedOver (offered : Result (List ℕ) IoError → Type 0)
+    (missing : MissingReferencedObjectBehaviour) : Type 0 where
+  pub cause : IoError
+  pub fails : offered (Err cause)
+  pub skips : missing ≡ behaviour.Skip
+
+-- that is known, or nothing is
+abbrev pub IsUnread : (Result (List ℕ) IoError → Type 0) → MissingReferencedObjectBehaviour → Bool
+    → Type 0
+IsUnread offered missing is_unread = IsTrue is_unread → CanBePassedOver offered missing
 
 -- the same for the object at a path, of which that may be read
 pub record TakesReferredFile (offered : Result (List ℕ) IoError → Type 0) (missing :

@@ -1,20 +1,26 @@
 //! The objects that executables name (DWARF 5, 3.1.2; the GNU page DebugFission).
 
-ghost use Rattle.std.specs.Prelude.{◌≡◌, ℕ, List};
+ghost use Rattle.std.specs.Prelude.{◌≡◌, ℕ, List, IsTrue};
 ghost use Rattle.std.specs.Path.{path_bytes};
 ghost use Rattle.thorin_builder.specs.Taking.{TakesExecutable, TakesExecutableSkippingNameless};
 ghost use Rattle.thorin_builder.specs.Taking.{TakesExecutableBy, TakesNamed, TakesSkeleton};
-ghost use Rattle.thorin_builder.specs.Taking.{TakesReferredFile, is_there};
+ghost use Rattle.thorin_builder.specs.Taking.{TakesReferredFile, IsUnread, is_there};
 ghost use Rattle.thorin_executable.specs.Skeletons.{skeletons_by};
-ghost use Rattle.thorin_executable.specs.View.{named};
 
 use crate::package::DwarfPackage;
 use crate::reader::InputReader;
 use dwp_bytes::RelocationEntry;
 use dwp_table::DwarfObject;
 use std::path::Path;
-use thorin_executable::{NamelessUnits, Skeleton, SkeletonUnits};
+use thorin_executable::{NamedUnit, NamedUnits, NamelessUnits};
 use thorin_faults::{Error, InputError, MissingReferencedObjectBehaviour, Session};
+
+/// Whether what was known of the path of the unit before is known of a unit's path.
+fn is_still(was_known: bool, unit: NamedUnit) -> bool
+    ensures { IsTrue result → IsTrue was_known × IsTrue unit.is_repeated }
+{
+    was_known && unit.is_repeated
+}
 
 impl<'output, 'session: 'output, Sess: Session<RelocationEntry>> DwarfPackage<
     'output,
@@ -142,7 +148,7 @@ impl<'output, 'session: 'output, Sess: Session<RelocationEntry>> DwarfPackage<
     {
         let session = self.session();
         let alloc = self.allocator();
-        let mut units = SkeletonUnits::read_by(alloc, session, bytes, nameless)?;
+        let mut units = NamedUnits::read_by(alloc, session, bytes, nameless)?;
         self.add_each(reader, room, &mut units, missing)
     }
 
@@ -152,36 +158,49 @@ impl<'output, 'session: 'output, Sess: Session<RelocationEntry>> DwarfPackage<
         &mut self,
         reader: &R,
         room: &mut Vec<u8>,
-        units: &mut SkeletonUnits<'_>,
+        units: &mut NamedUnits<'_>,
         missing: MissingReferencedObjectBehaviour,
     ) -> Result<(), Error>
         ensures taken { (accepted : List (List ℕ)) × TakesNamed (R.offer reader.now) missing
-            units.old self.old.state result self.new.state accepted }
+            units.old.listed self.old.state result self.new.state accepted }
         ensures session { self.new.session ≡ self.old.session }
     {
-        while let Some(skeleton) = units.next()? {
-            self.add_skeleton(reader, room, &skeleton, missing)?;
+        // Whether the object of the unit before can't be read, and is passed over.
+        let mut is_unread = false;
+        while let Some(unit) = units.next()? {
+            is_unread = is_still(is_unread, unit);
+            let path = units.path();
+            self.add_skeleton(reader, room, unit.target, path, missing, &mut is_unread)?;
         }
         Ok(())
     }
 
-    /// Adds the object of a unit that an executable refers to.
+    /// Adds the object of a unit that an executable refers to. One that couldn't be read at this
+    /// path for the unit before isn't read again where it is passed over.
     fn add_skeleton<R: InputReader>(
         &mut self,
         reader: &R,
         room: &mut Vec<u8>,
-        skeleton: &Skeleton,
+        target: DwarfObject,
+        path: &str,
         missing: MissingReferencedObjectBehaviour,
+        is_unread: &mut bool,
     ) -> Result<(), Error>
+        requires { IsUnread (R.offer reader.now path.now) missing is_unread.old }
         ensures taken { (accepted : List (List ℕ)) × TakesSkeleton (R.offer reader.now) missing
-            (named skeleton.now) self.old.state result self.new.state accepted }
+            (target, path.now) self.old.state result self.new.state accepted }
+        ensures unread { IsUnread (R.offer reader.now path.now) missing is_unread.new }
         ensures session { self.new.session ≡ self.old.session }
     {
-        if self.is_there(skeleton.target) {
+        if self.is_there(target) {
             return Ok(());
         }
-        self.add_target(skeleton.target)?;
-        self.add_referred(reader, room, Path::new(skeleton.path.as_str()), missing)
+        self.add_target(target)?;
+        if *is_unread {
+            reader.pass_over();
+            return Ok(());
+        }
+        self.add_referred(reader, room, Path::new(path), missing, is_unread)
     }
 
     /// Whether a unit is a compilation unit that the package has.
@@ -202,15 +221,22 @@ impl<'output, 'session: 'output, Sess: Session<RelocationEntry>> DwarfPackage<
         room: &mut Vec<u8>,
         path: Path<'_>,
         missing: MissingReferencedObjectBehaviour,
+        is_unread: &mut bool,
     ) -> Result<(), Error>
+        requires { IsUnread (R.offer reader.now (path_bytes path)) missing is_unread.old }
         ensures taken { TakesReferredFile (R.offer reader.now (path_bytes path.entry)) missing
             self.old.state result self.new.state }
+        ensures unread { IsUnread (R.offer reader.now (path_bytes path.entry)) missing
+            is_unread.new }
         ensures session { self.new.session ≡ self.old.session }
     {
         match reader.read_into(path, room) {
             Ok(bytes) => self.add_object_bytes(bytes),
             Err(InputError::Io(e)) => match missing {
-                MissingReferencedObjectBehaviour::Skip => Ok(()),
+                MissingReferencedObjectBehaviour::Skip => {
+                    *is_unread = true;
+                    Ok(())
+                }
                 MissingReferencedObjectBehaviour::Error => Err(Error::ReadInput(e)),
             },
             Err(InputError::Memory) => Err(Error::Memory),

@@ -26,6 +26,10 @@ pub trait InputReader {
     ) -> Result<&'b [u8], InputError>
         ensures offered { IsOffered (offer self.now (path_bytes path.entry)) result }
         ensures memory { IfErr result IsNoWantOfMemory };
+
+    /// Is called in place of a read at the path that was read last: that read failed, and objects
+    /// that can't be read are passed over.
+    fn pass_over(&self) {}
 }
 
 impl<S: Session<RelocationEntry>> InputReader for S {

@@ -17,6 +17,16 @@ pub(crate) struct Unread {
     pub(crate) more: u64,
 }
 
+impl Unread {
+    /// The same, and one more object that couldn't be read.
+    pub(crate) fn and_one_more(self) -> Unread {
+        Unread {
+            more: self.more.saturating_add(1),
+            ..self
+        }
+    }
+}
+
 /// An input, or an object that it names, as it is printed.
 pub(crate) fn place_of(
     alloc: Global,

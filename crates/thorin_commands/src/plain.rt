@@ -189,13 +189,17 @@ impl<'f, F: FileSystem> InputFiles<'f, F> {
     /// Keeps the first read that fails, and counts those behind it.
     fn keep_unread(&self, is_own: bool, path: &str, cause: &io::Error) {
         let unread = match self.unread.replace(None) {
-            Some(first) if !is_own => Some(Unread {
-                more: first.more.saturating_add(1),
-                ..first
-            }),
+            Some(first) if !is_own => Some(first.and_one_more()),
             _ => self.unread_of(is_own, path, cause).ok(),
         };
         self.unread.set(unread);
+    }
+
+    /// Counts one more read that fails as the one before did.
+    fn count_unread(&self) {
+        if let Some(first) = self.unread.replace(None) {
+            self.unread.set(Some(first.and_one_more()));
+        }
     }
 
     /// A read that fails.
@@ -309,6 +313,10 @@ impl<F: FileSystem> InputReader for InputFiles<'_, F> {
             Ok(()) => Ok(room.as_slice()),
             Err(AllocError) => Err(InputError::Memory),
         }
+    }
+
+    fn pass_over(&self) {
+        self.count_unread();
     }
 }
 

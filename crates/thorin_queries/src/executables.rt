@@ -22,7 +22,7 @@ use dwp_index::PackageFile;
 use dwp_table::DwarfObject;
 use std::alloc::{AllocError, Global};
 use std::io::Write;
-use thorin_executable::{NamelessUnits, SkeletonUnits};
+use thorin_executable::{NamedUnits, NamelessUnits};
 use thorin_faults::{ArenaSession, Error, Session};
 use thorin_words::printed;
 
@@ -176,7 +176,7 @@ fn check_named<'s, Sess: Session<RelocationEntry>, O: Write>(
         (O.contents out.old) (string_bytes waiting.old) (O.contents out.new)
         (string_bytes waiting.new) result }
 {
-    match SkeletonUnits::read_by(alloc, session, bytes, nameless) {
+    match NamedUnits::read_by(alloc, session, bytes, nameless) {
         Ok(mut units) => check_skeletons(pack, executable, &mut units, waiting, out),
         Err(fault) => tell_fault(executable, &fault, waiting, out),
     }
@@ -186,19 +186,18 @@ fn check_named<'s, Sess: Session<RelocationEntry>, O: Write>(
 fn check_skeletons<O: Write>(
     pack: &PackageFile<'_>,
     executable: &str,
-    units: &mut SkeletonUnits<'_>,
+    units: &mut NamedUnits<'_>,
     waiting: &mut String,
     out: &mut O,
 ) -> Result<u64, Failure>
-    ensures { Tells (TellsListed pack.now executable.now units.old) (O.contents out.old)
+    ensures { Tells (TellsListed pack.now executable.now units.old.listed) (O.contents out.old)
         (string_bytes waiting.old) (O.contents out.new) (string_bytes waiting.new) result }
 {
     let mut faults = 0u64;
     loop {
         match units.next() {
-            Ok(Some(skeleton)) => {
-                let path = skeleton.path.as_str();
-                match check_skeleton(pack, executable, skeleton.target, path, waiting, out) {
+            Ok(Some(unit)) => {
+                match check_skeleton(pack, executable, unit.target, units.path(), waiting, out) {
                     Ok(found) => faults = faults.saturating_add(found),
                     Err(failure) => return Err(failure),
                 }

@@ -1,35 +1,44 @@
-use Rattle.std.proofs.Common.{◌∙◌, Ok, subst}
+use Rattle.std.proofs.Common.{◌∙◌, Ok, subst, sym}
 use Rattle.std.proofs.lemmas.Result.{err_from_is_err_and}
-use Rattle.thorin_executable.specs.View.{IsNext}
+use Rattle.thorin_executable.specs.View.{IsNextNamed, IsPathAfter}
+use Rattle.thorin_builder.specs.Taking.{CanBePassedOver}
 use Rattle.thorin_builder.proofs.Running.{next-taken, next-refused, list-ended, list-fault}
 use Rattle.thorin_builder.proofs.package.DwarfPackage.add_each.Goals as goal
 
-pub returns-in_err-skeleton-clause-taken : goal.returns-in_err-skeleton-clause-taken
-returns-in_err-skeleton-clause-taken g c =
+pub returns-in_err-unit-clause-taken : goal.returns-in_err-unit-clause-taken
+returns-in_err-unit-clause-taken g c =
     let p = err_from_is_err_and c.from_residual.result c.from_residual.ensures.1 in
-    rw (p.1, p.2) (list-fault _ _ _ _ _ _ _ c.loop-skeleton.invariant.0
-    c.in_err-skeleton.ensures.next)
+    rw (p.1, p.2) (list-fault _ _ _ _ _ _ _ c.loop-unit.invariant.0 c.in_err-unit.ensures.next)
+
+pub add_skeleton-requires : goal.add_skeleton-requires
+add_skeleton-requires g c =
+    let after = subst (λ found. IsPathAfter (Ok found) c.loop-unit.units.path
+    c.next.new.self.path) c.in-Some.is c.in_ok-unit.ensures.path in
+    λ t. subst (λ p. CanBePassedOver (g.R.InputReader.offer c.args.reader.now p) c.args.missing)
+    (sym (c.path-path.ensures ∙ after (c.is_still-is_unread.ensures t).1))
+    (c.loop-unit.invariant.2 (c.is_still-is_unread.ensures t).0)
 
 pub returns-in_err-add_skeleton-clause-taken : goal.returns-in_err-add_skeleton-clause-taken
 returns-in_err-add_skeleton-clause-taken g c =
-    let first = subst (λ found. IsNext c.loop-skeleton.units (Ok found) c.next.new.self)
-    c.in-Some.is c.in_ok-skeleton.ensures.next in
+    let first = subst (λ found. IsNextNamed c.loop-unit.units.listed (Ok found)
+    c.next.new.self.path c.next.new.self.listed) c.in-Some.is c.in_ok-unit.ensures.next in
     let p = err_from_is_err_and c.from_residual-in_err-add_skeleton.result
     c.from_residual-in_err-add_skeleton.ensures.1 in
-    rw (p.1, p.2) (next-refused _ _ _ _ _ _ _ _ _ _ _ c.loop-skeleton.invariant.0 first
-    c.in_err-add_skeleton.ensures.taken.1)
+    rw (p.1, p.2) (next-refused _ _ _ _ _ _ _ _ _ _ _ c.loop-unit.invariant.0 first
+    (rw c.path-path.ensures at c.in_err-add_skeleton.ensures.taken.1))
 
-pub loop-skeleton-preserved : goal.loop-skeleton-preserved
-loop-skeleton-preserved g c =
-    let first = subst (λ found. IsNext c.loop-skeleton.units (Ok found) c.next.new.self)
-    c.in-Some.is c.in_ok-skeleton.ensures.next in (
-      next-taken _ _ _ _ _ _ _ _ _ _ c.loop-skeleton.invariant.0 first
-          c.in_ok-add_skeleton.ensures.taken.1,
-      c.add_skeleton.ensures.session ∙ c.loop-skeleton.invariant.1,
+pub loop-unit-preserved : goal.loop-unit-preserved
+loop-unit-preserved g c =
+    let first = subst (λ found. IsNextNamed c.loop-unit.units.listed (Ok found)
+    c.next.new.self.path c.next.new.self.listed) c.in-Some.is c.in_ok-unit.ensures.next in (
+      next-taken _ _ _ _ _ _ _ _ _ _ c.loop-unit.invariant.0 first
+          (rw c.path-path.ensures at c.in_ok-add_skeleton.ensures.taken.1),
+      c.add_skeleton.ensures.session ∙ c.loop-unit.invariant.1,
+      rw c.path-path.ensures at c.add_skeleton.ensures.unread,
     )
 
 pub returns-clause-taken : goal.returns-clause-taken
 returns-clause-taken g c =
-    let end = subst (λ found. IsNext c.loop-skeleton.units (Ok found) c.next.new.self)
-    c.in_default.is c.in_ok-skeleton.ensures.next in
-    list-ended _ _ _ _ _ _ c.loop-skeleton.invariant.0 end.0
+    let end = subst (λ found. IsNextNamed c.loop-unit.units.listed (Ok found)
+    c.next.new.self.path c.next.new.self.listed) c.in_default.is c.in_ok-unit.ensures.next in
+    list-ended _ _ _ _ _ _ c.loop-unit.invariant.0 end.0

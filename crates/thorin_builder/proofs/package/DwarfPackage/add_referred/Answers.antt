@@ -34,6 +34,13 @@ returns-in-Skip-clause-taken g c = record {
   );
 }
 
+pub returns-in-Skip-clause-unread : goal.returns-in-Skip-clause-unread
+returns-in-Skip-clause-unread g c = λ t. record {
+  cause = c.in-Err-Io.e;
+  fails = search (rules, c.in-Err-Io.ensures.offered, c.in-Err-Io.e-is, c.in-Err-Io.field-0-is);
+  skips = search (rules, c.in-Skip);
+}
+
 pub returns-in-Error-clause-taken : goal.returns-in-Error-clause-taken
 returns-in-Error-clause-taken g c = record {
   read = Err (Io c.in-Err-Io.e);
