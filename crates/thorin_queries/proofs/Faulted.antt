@@ -7,10 +7,12 @@ use Rattle.std.proofs.lemmas.List.FromFn.{map-range_with_len_more}
 use Rattle.thorin_queries.specs.Ends.{fault_of}
 use Rattle.thorin_queries.specs.Finding.{string_count}
 use Rattle.thorin_queries.specs.Faults.{string_of}
-use Rattle.std.specs.Prelude.{Option, Some, None, Result, Ok, Err}
+use Rattle.std.specs.Prelude.{Bool, true, false, ◌&&◌, Option, Some, None, is_none, Result, Ok, Err}
 use Rattle.std.specs.Fmt.{decimal}
 use Rattle.dwp_base.specs.declared.section.SectionKind.{SectionKind}
+use Rattle.dwp_base.specs.declared.section.SectionKind.TheVariants.{Abbrev}
 use Rattle.dwp_bytes.specs.declared.fault.ReadError.{ReadError}
+use Rattle.dwp_index.specs.Index.{range_in}
 use Rattle.dwp_index.specs.Package.{Package, FoundUnit, found}
 use Rattle.dwp_index.specs.declared.fault.PackageError.{PackageError}
 use Rattle.dwp_index.specs.declared.units.UnitEntry.{UnitEntry}
@@ -18,7 +20,8 @@ use Rattle.dwp_table.specs.declared.object.DwarfObject.{DwarfObject}
 use Rattle.thorin_queries.specs.Faults.{fault_line, IsSomeFault, TellsOwn, TellsFound, string_text}
 use Rattle.thorin_queries.specs.Faults.{TellsString, row_line, AreRows, broken_line, IsBroken}
 use Rattle.thorin_queries.specs.Faults.{TellsUnit, IsUnread, TellsStrings, TellsStringsOf}
-use Rattle.thorin_queries.specs.Faults.{TellsNumbered, TellsInRow, IsOwnText}
+use Rattle.thorin_queries.specs.Faults.{TellsNumbered, TellsItself, TellsInRow, IsOwnText, is_bare}
+use Rattle.thorin_queries.specs.Faults.{has_abbreviations}
 use Rattle.thorin_queries.specs.Overlaps.{IsClash, overlap_text}
 use Rattle.thorin_queries.specs.Checking.{TellsSomeStrings}
 use Rattle.thorin_queries.specs.Telling.{Told, Tells, IsLine, IsSum}
@@ -49,12 +52,7 @@ module _ (object : DwarfObject) (a : Option (List ℕ)) (held : List ℕ) (b : O
   pub nameless : Tells (IsLine (fault_line object (codes "it has no identifier of its own"))) a
       held b left result
       → Tells (TellsOwn object) a held b left result
-  nameless h = own_fault (codes "it has no identifier of its own") (inl (inl refl)) h
-
-  pub lacking : Tells (IsLine (fault_line object (codes "its row has no abbreviations"))) a
-      held b left result
-      → Tells (TellsOwn object) a held b left result
-  lacking h = own_fault (codes "its row has no abbreviations") (inl (inr refl)) h
+  nameless h = own_fault (codes "it has no identifier of its own") (inl refl) h
 
   pub told_string : (i : ℕ) (fault : ReadError) (text cause told : List ℕ) → text ≡ told
       → told ≡ string_text i cause → Tells (IsLine (fault_line object text)) a held b left result
@@ -71,26 +69,42 @@ module _ (pack : Package) (object : DwarfObject) (unit : FoundUnit) (a : Option 
     (held : List ℕ) (b : Option (List ℕ)) (left : List ℕ) (result : Result ℕ Failure) where
   pub overlapped : (kind : SectionKind) (other : DwarfObject) → IsClash pack unit kind other
       → Tells (IsLine (fault_line object (overlap_text kind other))) a held b left result
-      → Tells (TellsInRow pack object unit) a held b left result
+      → Tells (TellsItself pack object unit) a held b left result
   overlapped kind other clash h =
-      tells_as (IsLine (fault_line object (overlap_text kind other))) (TellsInRow pack object unit)
+      tells_as (IsLine (fault_line object (overlap_text kind other))) (TellsItself pack object unit)
       a held b left result
       (λ lines l. inl (record { kind = kind; other = other; clash = clash; line = l })) h
 
   pub of_its_own : Tells (TellsOwn object) a held b left result
-      → Tells (TellsInRow pack object unit) a held b left result
+      → Tells (TellsItself pack object unit) a held b left result
   of_its_own h =
-      tells_as (TellsOwn object) (TellsInRow pack object unit) a held b left result
+      tells_as (TellsOwn object) (TellsItself pack object unit) a held b left result
       (λ lines o. inr o) h
 
 module _ (pack : Package) (entry : UnitEntry) (unit : FoundUnit) (a : Option (List ℕ))
     (held : List ℕ) (b : Option (List ℕ)) (left : List ℕ) (result : Result ℕ Failure) where
-  pub in_row : unit.number ≡ entry.row
-      → Tells (TellsInRow pack entry.object unit) a held b left result
+  in_row : (bare : Bool) → bare ≡ is_bare pack unit → unit.number ≡ entry.row
+      → Tells (TellsInRow pack entry.object unit bare) a held b left result
       → Tells (TellsFound pack entry unit) a held b left result
-  in_row e h =
-      tells_as (TellsInRow pack entry.object unit) (TellsFound pack entry unit) a held b left
-      result (λ lines o. inr (e, o)) h
+  in_row bare is e h =
+      tells_as (TellsInRow pack entry.object unit bare) (TellsFound pack entry unit) a held b left
+      result (λ lines o. inr (e, subst (λ x. TellsInRow pack entry.object unit x lines) is o)) h
+
+  pub in_bare_row : (has bare : Bool) → has ≡ has_abbreviations pack
+      → bare ≡ (has && is_none (range_in unit.row Abbrev)) → bare ≡ true
+      → unit.number ≡ entry.row
+      → Tells (IsLine (fault_line entry.object (codes "its row has no abbreviations"))) a held b
+      left result
+      → Tells (TellsFound pack entry unit) a held b left result
+  in_bare_row has bare some is e row h =
+      let so : true ≡ is_bare pack unit = cc in in_row true so row h
+
+  pub in_whole_row : (has bare : Bool) → has ≡ has_abbreviations pack
+      → bare ≡ (has && is_none (range_in unit.row Abbrev)) → bare ≡ false
+      → unit.number ≡ entry.row → Tells (TellsItself pack entry.object unit) a held b left result
+      → Tells (TellsFound pack entry unit) a held b left result
+  in_whole_row has bare some is e row h =
+      let so : false ≡ is_bare pack unit = cc in in_row false so row h
 
   pub other_row : unit.number ≢ entry.row
       → Tells (IsLine (fault_line entry.object (codes "found in row " ++ decimal unit.number))) a

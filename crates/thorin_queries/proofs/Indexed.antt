@@ -117,6 +117,7 @@ steps : (r1 r2 r3 r4 r5 r6 r7 r8 r9 r10 r11 r12 r13 : Result (List ℕ) ElfError
     })) ≡ Ok contents
     → (r3 ≡ Ok contents.abbrev_bytes) × (r12 ≡ Ok contents.cu_index)
     × (r13 ≡ Ok contents.tu_index) × (r11 ≡ Ok contents.strings)
+    × (r8 ≡ Ok contents.str_offsets)
 steps (Err d) r2 r3 r4 r5 r6 r7 r8 r9 r10 r11 r12 r13 contents e = absurd cc
 steps (Ok x1) (Err d) r3 r4 r5 r6 r7 r8 r9 r10 r11 r12 r13 contents e = absurd cc
 steps (Ok x1) (Ok x2) (Err d) r4 r5 r6 r7 r8 r9 r10 r11 r12 r13 contents e = absurd cc
@@ -145,6 +146,7 @@ steps (Ok x1) (Ok x2) (Ok x3) (Ok x4) (Ok x5) (Ok x6) (Ok x7) (Ok x8) (Ok x9) (O
       ap (λ (t : Sections). Ok t.cu_index) made,
       ap (λ (t : Sections). Ok t.tu_index) made,
       ap (λ (t : Sections). Ok t.strings) made,
+      ap (λ (t : Sections). Ok t.str_offsets) made,
     )
 
 index_contents : (sections : List SectionMeaning) (contents : Sections)
@@ -153,6 +155,7 @@ index_contents : (sections : List SectionMeaning) (contents : Sections)
     × (content_among sections CuIndex ≡ Ok contents.cu_index)
     × (content_among sections TuIndex ≡ Ok contents.tu_index)
     × (content_among sections Str ≡ Ok contents.strings)
+    × (content_among sections StrOffsets ≡ Ok contents.str_offsets)
 unfolding contents_of
 index_contents sections contents e =
     steps (content_among sections Info) (content_among sections Types) (content_among sections
@@ -200,6 +203,7 @@ indexes_by file pack (Ok contents) is e =
     record {
       order = made.2;
       abbreviations = read.0 ∙ ap (λ (t : Sections). Ok t.abbrev_bytes) made.3;
+      offsets = read.4 ∙ ap (λ (t : Sections). Ok t.str_offsets) made.3;
       strings = read.3 ∙ ap (λ (t : Sections). Ok t.strings) made.3;
       compilations =
           record { bytes = contents.cu_index; content = read.1; is = made.0 };

@@ -7,7 +7,8 @@ use Rattle.std.specs.List.{concat}
 use Rattle.std.specs.declared.io.Error.{Error as IoError}
 use Rattle.std.specs.Io.KnownBytes.{Appends, Keeps}
 use Rattle.dwp_base.specs.Sections.{name_of}
-use Rattle.dwp_base.specs.declared.section.SectionKind.TheVariants.{Abbrev}
+use Rattle.dwp_base.specs.declared.section.SectionKind.{SectionKind}
+use Rattle.dwp_base.specs.declared.section.SectionKind.TheVariants.{Abbrev, Str}
 use Rattle.dwp_index.specs.Package.{Package, package_of, found}
 use Rattle.dwp_index.specs.declared.fault.PackageError.{PackageError}
 use Rattle.dwp_index.specs.declared.units.UnitEntry.{UnitEntry}
@@ -64,16 +65,28 @@ abbrev pub lacks_abbreviations : Package → List UnitEntry → Bool
 lacks_abbreviations pack entries =
     not (length entries == 0) && (length pack.contents.abbrev_bytes == 0)
 
-unfoldable pub abbreviations_line : List ℕ
-abbreviations_line = name_of Abbrev ++ (codes " is empty or absent" ++ line_end)
+-- a package that has string offsets has no section of strings, or an empty one. The offsets are
+-- those of strings there (DWARF 5, 7.26), and packing refuses a package without it
+abbrev pub lacks_strings : Package → Bool
+lacks_strings pack =
+    not (length pack.contents.str_offsets == 0) && (length pack.contents.strings == 0)
 
-abbrev pub abbreviations_lines : (lacks : Bool) → List (List ℕ)
-abbreviations_lines true = abbreviations_line ∷ []
-abbreviations_lines false = []
+unfoldable pub lacking_line : SectionKind → List ℕ
+lacking_line kind = name_of kind ++ (codes " is empty or absent" ++ line_end)
 
--- what is told of the section of abbreviations, and of the rows
-abbrev pub TellsTables : (lacks : Bool) → List (List ℕ) → Type 0
-TellsTables lacks = InTurn (Is (abbreviations_lines lacks)) TellsRows
+abbrev pub lacking_lines : SectionKind → (lacks : Bool) → List (List ℕ)
+lacking_lines kind true = lacking_line kind ∷ []
+lacking_lines kind false = []
+
+-- what is told of the sections of abbreviations and of strings
+abbrev pub TellsSections : (no_abbreviations no_strings : Bool) → List (List ℕ) → Type 0
+TellsSections no_abbreviations no_strings =
+    InTurn (Is (lacking_lines Abbrev no_abbreviations)) (Is (lacking_lines Str no_strings))
+
+-- the same, and what is told of the rows
+abbrev pub TellsTables : (no_abbreviations no_strings : Bool) → List (List ℕ) → Type 0
+TellsTables no_abbreviations no_strings =
+    InTurn (TellsSections no_abbreviations no_strings) TellsRows
 
 -- what is taken for the bytes of an executable: these, where they aren't decompressed first
 abbrev pub IsTaken : (decompresses : Bool) → (bytes taken : List ℕ) → Type 0
@@ -100,13 +113,13 @@ abbrev pub TellsExecutables : (List ℕ → Result (List ℕ) IoError → Type 0
 TellsExecutables offer reading pack executables =
     ForEach (λ executable. TellsExecutable offer reading pack executable.now) executables
 
--- all that is told of a package: of its units, its abbreviations, its rows, and the units that
--- executables name
+-- all that is told of a package: of its units, its abbreviations, its strings, its rows, and the
+-- units that executables name
 abbrev pub TellsPackage : (List ℕ → Result (List ℕ) IoError → Type 0) → (reading : Reading)
     → Package → List UnitEntry → List (Bor (List ℕ)) → List (List ℕ) → Type 0
 TellsPackage offer reading pack entries executables =
     InTurn (TellsUnits pack entries)
-    (InTurn (TellsTables (lacks_abbreviations pack entries))
+    (InTurn (TellsTables (lacks_abbreviations pack entries) (lacks_strings pack))
     (TellsExecutables offer reading pack executables))
 
 -- ---- what comes of it

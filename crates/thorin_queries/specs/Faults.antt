@@ -1,12 +1,14 @@
 -- The faults of a package that `check` tells of, each on a line.
-use Rattle.std.specs.Prelude.{◌≡◌, ◌≢◌, ◌⊎◌, ℕ, List, [], ◌∷◌, ◌++◌, codes, map, Option, Some, None}
-use Rattle.std.specs.Prelude.{Result, Ok, Err}
+use Rattle.std.specs.Prelude.{◌≡◌, ◌≢◌, ◌⊎◌, ℕ, Bool, true, false, not, ◌&&◌, ◌==◌, List, [], ◌∷◌}
+use Rattle.std.specs.Prelude.{◌++◌, codes, map, length, Option, Some, None, is_none, Result, Ok}
+use Rattle.std.specs.Prelude.{Err}
 use Rattle.std.specs.Fmt.{decimal}
 use Rattle.std.specs.List.{flat_map, range_with_len}
 use Rattle.dwp_base.specs.Sections.{name_of}
 use Rattle.dwp_base.specs.declared.section.SectionKind.{SectionKind}
-use Rattle.dwp_base.specs.declared.section.SectionKind.TheVariants.{StrOffsets}
+use Rattle.dwp_base.specs.declared.section.SectionKind.TheVariants.{Abbrev, StrOffsets}
 use Rattle.dwp_bytes.specs.declared.fault.ReadError.{ReadError}
+use Rattle.dwp_index.specs.Index.{range_in}
 use Rattle.dwp_index.specs.Package.{Package, FoundUnit, found, row_bytes}
 use Rattle.dwp_index.specs.Strings.{string_in}
 use Rattle.dwp_index.specs.declared.fault.PackageError.{PackageError}
@@ -43,11 +45,10 @@ IsUnread object (Range kind) lines = IsLine (fault_line object
     (codes "its range of " ++ (name_of kind ++ codes " is outside the section"))) lines
 IsUnread object _ lines = IsSomeFault object lines
 
--- what may be wrong with the identifier that a unit's own bytes give: there is none, or no
--- abbreviations to read it by, or it is another, or can't be read
+-- what may be wrong with the identifier that a unit's own bytes give: there is none, or it is
+-- another, or can't be read
 abbrev pub IsOwnText : List ℕ → Type 0
-IsOwnText text = ((text ≡ codes "it has no identifier of its own")
-    ⊎ (text ≡ codes "its row has no abbreviations"))
+IsOwnText text = (text ≡ codes "it has no identifier of its own")
     ⊎ ((rest : List ℕ) × (text ≡ codes "its own identifier " ++ rest))
 
 pub record IsOwnFault (object : DwarfObject) (lines : List (List ℕ)) : Type 0 where
@@ -67,10 +68,25 @@ pub record TellsOverlap (pack : Package) (object : DwarfObject) (unit : FoundUni
   pub clash : IsClash pack unit kind other
   pub line : IsLine (fault_line object (overlap_text kind other)) lines
 
--- what is told of the unit that is found in the row of a slot: an overlap, or what its own
--- identifier gives
-abbrev pub TellsInRow : Package → DwarfObject → FoundUnit → List (List ℕ) → Type 0
-TellsInRow pack object unit lines = TellsOverlap pack object unit lines ⊎ TellsOwn object lines
+-- what is told of a unit by its ranges and its own bytes: an overlap, or what its own identifier
+-- gives
+abbrev pub TellsItself : Package → DwarfObject → FoundUnit → List (List ℕ) → Type 0
+TellsItself pack object unit lines = TellsOverlap pack object unit lines ⊎ TellsOwn object lines
+
+-- a package has abbreviations
+abbrev pub has_abbreviations : Package → Bool
+has_abbreviations pack = not (length pack.contents.abbrev_bytes == 0)
+
+-- the row of a unit has no abbreviations, though the package has some: every unit needs them
+-- (DWARF 5, 7.5.3)
+abbrev pub is_bare : Package → FoundUnit → Bool
+is_bare pack unit = has_abbreviations pack && is_none (range_in unit.row Abbrev)
+
+-- what is told of the unit that is found in the row of a slot
+abbrev pub TellsInRow : Package → DwarfObject → FoundUnit → (bare : Bool) → List (List ℕ) → Type 0
+TellsInRow pack object unit true lines =
+    IsLine (fault_line object (codes "its row has no abbreviations")) lines
+TellsInRow pack object unit false lines = TellsItself pack object unit lines
 
 -- what is told of the unit that is found under the identifier of a slot
 abbrev pub TellsFound : Package → UnitEntry → FoundUnit → List (List ℕ) → Type 0
@@ -78,7 +94,7 @@ TellsFound pack entry unit lines =
     ((unit.number ≢ entry.row)
     × IsLine (fault_line entry.object (codes "found in row " ++ decimal unit.number)) lines)
     ⊎ ((unit.number ≡ entry.row)
-    × TellsInRow pack entry.object unit lines)
+    × TellsInRow pack entry.object unit (is_bare pack unit) lines)
 
 abbrev pub TellsLooked : Package → UnitEntry → Result (Option FoundUnit) PackageError
     → List (List ℕ) → Type 0

@@ -5,9 +5,8 @@ ghost use Rattle.std.specs.Prelude.{◌≡◌};
 ghost use Rattle.dwp_index.specs.Index.{range_in};
 ghost use Rattle.dwp_index.specs.Package.{place_of};
 
-use crate::input::contents_of;
 use dwp_dwarf::{AbbreviationCache, ReadError, SliceReader, UnitHeader, UnitHeaders, UnitSection};
-use dwp_elf::{Contribution, ElfFile, Endianness, SectionKind};
+use dwp_elf::{Contribution, Endianness, SectionKind};
 use dwp_index::PackagedUnit;
 use dwp_table::DwarfObject;
 use std::alloc::{AllocError, Global};
@@ -22,8 +21,6 @@ pub(crate) enum Own {
     Is(DwarfObject),
     /// It has none.
     Nameless,
-    /// It has no abbreviations, though the package has some: every unit needs them (DWARF 5, 7.5.3).
-    Lacking,
     /// Why it can't be read.
     Unread(String),
 }
@@ -47,8 +44,6 @@ enum OwnFault {
 pub(crate) struct Remembered<'a> {
     alloc: Global,
     order: Endianness,
-    // Whether the package has abbreviations.
-    has_any: bool,
     // Where the abbreviations of the unit before stand.
     range: Option<Contribution>,
     cache: AbbreviationCache<SliceReader<'a>>,
@@ -58,13 +53,11 @@ pub(crate) struct Remembered<'a> {
 }
 
 impl<'a> Remembered<'a> {
-    /// Of a package in this file. Nothing is read yet.
-    pub(crate) fn of(alloc: Global, file: &ElfFile<'_>) -> Remembered<'a> {
-        let order = file.endianness();
+    /// Of a package of this byte order. Nothing is read yet.
+    pub(crate) fn new(alloc: Global, order: Endianness) -> Remembered<'a> {
         Remembered {
             alloc,
             order,
-            has_any: !contents_of(file, SectionKind::Abbrev).is_empty(),
             range: None,
             cache: AbbreviationCache::new(alloc, SliceReader::new(&[], order)),
             last: Own::Nameless,
@@ -106,9 +99,6 @@ impl<'a> Remembered<'a> {
 
     /// Reads what a unit's own bytes say of its identifier.
     fn read(&mut self, unit: &PackagedUnit<'a>, object: DwarfObject) -> Result<Own, AllocError> {
-        if self.has_any && unit.range(SectionKind::Abbrev).is_none() {
-            return Ok(Own::Lacking);
-        }
         match own_identifier(unit, self, object) {
             Ok(Some(own)) => Ok(Own::Is(own)),
             Ok(None) => Ok(Own::Nameless),

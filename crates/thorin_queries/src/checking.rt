@@ -7,7 +7,7 @@ ghost use Rattle.dwp_index.specs.Package.{package_of};
 ghost use Rattle.thorin_queries.specs.Answers.{anything};
 ghost use Rattle.thorin_queries.specs.Checking.{count_text, counts_line, status_of, has_no_index};
 ghost use Rattle.thorin_queries.specs.Checking.{TellsTables, TellsExecutables, TellsPackage};
-ghost use Rattle.thorin_queries.specs.Checking.{lacks_abbreviations};
+ghost use Rattle.thorin_queries.specs.Checking.{lacks_abbreviations, lacks_strings};
 ghost use Rattle.thorin_queries.specs.Checking.{IsOfChecking, Finishes, PrintsLast};
 ghost use Rattle.thorin_queries.specs.Checking.{ChecksIndexed, ChecksPackage, ChecksBytes, Checks};
 ghost use Rattle.thorin_queries.specs.Indexes.{HasIndexes};
@@ -21,7 +21,7 @@ use crate::input::has_no_index;
 use crate::json_lines::JsonLines;
 use crate::listing::entries_by_row;
 use crate::output::{Failure, flush, print};
-use crate::tables::{check_tables, lacks_abbreviations};
+use crate::tables::{check_tables, lacks_abbreviations, lacks_strings};
 use crate::units::check_units;
 use dwp_elf::ElfFile;
 use dwp_index::{PackageFile, UnitEntry};
@@ -30,9 +30,10 @@ use std::io::Write;
 
 /// Goes over a package: each unit that a slot of an index names is found under its identifier, its
 /// ranges are inside their sections, its header and all its strings can be read, and the identifier
-/// is its own; a slot names each row; and the package has each split unit that the executables
-/// name. Compressed sections of these may be decompressed. Prints a line for each fault, and how
-/// many units and faults there are. Answers the status, 1 where there are faults.
+/// is its own; a slot names each row; there are abbreviations for the units and strings for the
+/// string offsets; and the package has each split unit that the executables name. Compressed
+/// sections of these may be decompressed. Prints a line for each fault, and how many units and
+/// faults there are. Answers the status, 1 where there are faults.
 ///
 /// # Errors
 /// `Input` where a file can't be read, `Malformed` where it is no package, `NoIndex` where it has
@@ -194,7 +195,8 @@ fn check_entries<F: FileReader, O: Write>(
     }
 }
 
-/// Checks the units, the abbreviations, the rows and the executables. Answers the number of faults.
+/// Checks the units, the sections that units need, the rows and the executables. Answers the number
+/// of faults.
 fn check_all<F: FileReader, O: Write>(
     rt: &HostRuntime,
     files: &F,
@@ -220,7 +222,7 @@ fn check_all<F: FileReader, O: Write>(
     }
 }
 
-/// Checks the abbreviations, the rows and the executables. Answers the number of faults.
+/// Checks the sections that units need, the rows and the executables. Answers the number of faults.
 fn check_rest<F: FileReader, O: Write>(
     rt: &HostRuntime,
     files: &F,
@@ -233,12 +235,14 @@ fn check_rest<F: FileReader, O: Write>(
 ) -> Result<u64, Failure>
     requires { HasIndexes (elf file.now) pack.now }
     ensures { TellsOr (IsOfChecking (F.offer files.now) named.entry.executables.now)
-        (InTurn (TellsTables (lacks_abbreviations pack.now entries.now)) (TellsExecutables (F.offer files.now)
-        named.entry.reading pack.now named.entry.executables.now)) (O.contents out.old) (string_bytes waiting.old)
+        (InTurn (TellsTables (lacks_abbreviations pack.now entries.now) (lacks_strings pack.now))
+        (TellsExecutables (F.offer files.now) named.entry.reading pack.now
+        named.entry.executables.now)) (O.contents out.old) (string_bytes waiting.old)
         (O.contents out.new) (string_bytes waiting.new) result }
 {
-    let lacks = lacks_abbreviations(file, entries);
-    match check_tables(file, lacks, entries, waiting, out) {
+    let no_abbreviations = lacks_abbreviations(file, entries);
+    let no_strings = lacks_strings(file);
+    match check_tables(file, no_abbreviations, no_strings, entries, waiting, out) {
         Ok(of_tables) => with_rest(
             of_tables,
             check_executables(rt, files, pack, named, waiting, out),

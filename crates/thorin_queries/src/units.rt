@@ -1,13 +1,15 @@
 //! The units of a package, in `thorin check`.
 
-ghost use Rattle.std.specs.Prelude.{◌≡◌, ◌++◌, codes, IfOk, IfSome, string_bytes};
+ghost use Rattle.std.specs.Prelude.{◌≡◌, ◌++◌, ◌&&◌, codes, IfOk, IfSome, is_none, string_bytes};
 ghost use Rattle.std.specs.Fmt.{decimal};
 ghost use Rattle.dwp_base.specs.Sections.{name_of};
 ghost use Rattle.dwp_elf_read.specs.View.{elf};
+ghost use Rattle.dwp_index.specs.Index.{range_in};
 ghost use Rattle.dwp_index.specs.declared.fault.PackageError.TheVariants as faults;
 ghost use Rattle.thorin_queries.specs.Checking.{TellsUnits};
 ghost use Rattle.thorin_queries.specs.Faults.{TellsUnit, TellsFound, TellsOwn, IsUnread};
-ghost use Rattle.thorin_queries.specs.Faults.{IsSomeFault, fault_line, TellsInRow, IsOwnText};
+ghost use Rattle.thorin_queries.specs.Faults.{IsSomeFault, fault_line, TellsItself, IsOwnText};
+ghost use Rattle.thorin_queries.specs.Faults.{has_abbreviations};
 ghost use Rattle.thorin_queries.specs.Indexes.{HasIndexes};
 ghost use Rattle.thorin_queries.specs.Overlaps.{IsClash, overlap_text};
 ghost use Rattle.thorin_queries.specs.Telling.{Tells, ForEach, IsLine};
@@ -20,6 +22,7 @@ use crate::input::strings_of;
 use crate::output::Failure;
 use crate::overlaps::{Clash, Overlaps, Shares, overlap};
 use crate::strings::{StringRange, add_range, check_strings};
+use crate::tables::has_abbreviations;
 use dwp_elf::{ElfFile, SectionKind};
 use dwp_index::{PackageError, PackageFile, PackagedUnit, UnitEntry};
 use dwp_table::{Bucketable, DwarfObject};
@@ -62,9 +65,10 @@ fn check_all<O: Write>(
         (string_bytes waiting.old) (O.contents out.new) (string_bytes waiting.new) result }
 {
     let mut ranges = Vec::new(alloc);
-    let mut abbreviations = Remembered::of(alloc, file);
+    let mut abbreviations = Remembered::new(alloc, file.endianness());
     match check_each(
         pack,
+        has_abbreviations(file),
         &mut abbreviations,
         entries,
         overlaps,
@@ -84,6 +88,7 @@ fn check_all<O: Write>(
 /// number of faults.
 fn check_each<'a, O: Write>(
     pack: &PackageFile<'a>,
+    has_any: bool,
     abbreviations: &mut Remembered<'a>,
     entries: &[UnitEntry],
     overlaps: &Overlaps,
@@ -91,6 +96,7 @@ fn check_each<'a, O: Write>(
     waiting: &mut String,
     out: &mut O,
 ) -> Result<u64, Failure>
+    requires { has_any ≡ has_abbreviations pack.now }
     ensures { Tells (ForEach (TellsUnit pack.now) entries.now) (O.contents out.old)
         (string_bytes waiting.old) (O.contents out.new) (string_bytes waiting.new) result }
 {
@@ -99,6 +105,7 @@ fn check_each<'a, O: Write>(
         let shares = overlaps.of(i);
         match check_entry(
             pack,
+            has_any,
             abbreviations,
             entries[i],
             shares,
@@ -117,6 +124,7 @@ fn check_each<'a, O: Write>(
 #[tactic(auto, using(crate::proofs::Faulted::unit_none, crate::proofs::Faulted::unit_some, crate::proofs::Faulted::unit_unread))]
 fn check_entry<'a, O: Write>(
     pack: &PackageFile<'a>,
+    has_any: bool,
     abbreviations: &mut Remembered<'a>,
     entry: UnitEntry,
     shares: Shares,
@@ -124,12 +132,14 @@ fn check_entry<'a, O: Write>(
     waiting: &mut String,
     out: &mut O,
 ) -> Result<u64, Failure>
+    requires { has_any ≡ has_abbreviations pack.now }
     ensures { Tells (TellsUnit pack.now entry) (O.contents out.old)
         (string_bytes waiting.old) (O.contents out.new) (string_bytes waiting.new) result }
 {
     match pack.find(entry.object) {
         Ok(Some(unit)) => check_found(
             pack,
+            has_any,
             abbreviations,
             entry,
             &unit,
@@ -143,10 +153,12 @@ fn check_entry<'a, O: Write>(
     }
 }
 
-/// Checks the unit that is found under the identifier of a slot. Answers the number of faults.
-#[tactic(auto, using(crate::proofs::Faulted::in_row, crate::proofs::Faulted::other_row))]
+/// Checks the unit that is found under the identifier of a slot: it is that of the slot's row, and
+/// this row has abbreviations where the package has some. Answers the number of faults.
+#[tactic(auto, using(crate::proofs::Faulted::in_bare_row, crate::proofs::Faulted::in_whole_row, crate::proofs::Faulted::other_row))]
 fn check_found<'a, O: Write>(
     pack: &PackageFile<'a>,
+    has_any: bool,
     abbreviations: &mut Remembered<'a>,
     entry: UnitEntry,
     unit: &PackagedUnit<'a>,
@@ -155,29 +167,39 @@ fn check_found<'a, O: Write>(
     waiting: &mut String,
     out: &mut O,
 ) -> Result<u64, Failure>
+    requires { has_any ≡ has_abbreviations pack.now }
     ensures { Tells (TellsFound pack.now entry unit.now) (O.contents out.old)
         (string_bytes waiting.old) (O.contents out.new) (string_bytes waiting.new) result }
 {
-    if unit.row() == entry.row {
-        check_in_row(
-            pack,
-            abbreviations,
-            entry.object,
-            unit,
-            shares,
-            strings,
-            waiting,
-            out,
-        )
-    } else {
-        tell_row(entry.object, unit.row(), waiting, out)
+    if unit.row() != entry.row {
+        return tell_row(entry.object, unit.row(), waiting, out);
     }
+    if is_bare(has_any, unit) {
+        return tell(entry.object, "its row has no abbreviations", waiting, out);
+    }
+    check_itself(
+        pack,
+        abbreviations,
+        entry.object,
+        unit,
+        shares,
+        strings,
+        waiting,
+        out,
+    )
 }
 
-/// Checks the unit that is found in the row of a slot: none of its ranges overlaps that of another,
-/// and its own identifier is that of the slot. Answers the number of faults.
+/// Whether the row of a unit of a package that may have abbreviations has none, where it has some.
+fn is_bare(has_any: bool, unit: &PackagedUnit<'_>) -> bool
+    ensures { result ≡ (has_any && is_none (range_in unit.now.row SectionKind.Abbrev)) }
+{
+    has_any && unit.range(SectionKind::Abbrev).is_none()
+}
+
+/// Checks a unit by its ranges and its own bytes: none of its ranges overlaps that of another, and
+/// its own identifier is that of the slot. Answers the number of faults.
 #[tactic(auto, using(crate::proofs::Faulted::overlapped, crate::proofs::Faulted::of_its_own))]
-fn check_in_row<'a, O: Write>(
+fn check_itself<'a, O: Write>(
     pack: &PackageFile<'a>,
     abbreviations: &mut Remembered<'a>,
     object: DwarfObject,
@@ -187,7 +209,7 @@ fn check_in_row<'a, O: Write>(
     waiting: &mut String,
     out: &mut O,
 ) -> Result<u64, Failure>
-    ensures { Tells (TellsInRow pack.now object unit.now) (O.contents out.old)
+    ensures { Tells (TellsItself pack.now object unit.now) (O.contents out.old)
         (string_bytes waiting.old) (O.contents out.new) (string_bytes waiting.new) result }
 {
     match clash_of(pack, unit, shares.clash) {
@@ -224,7 +246,7 @@ fn clash_of(pack: &PackageFile<'_>, unit: &PackagedUnit<'_>, clash: Option<Clash
 
 /// Checks the identifier that a unit's own bytes give, and gathers the range of its string offsets
 /// where it is its own. Answers the number of faults.
-#[tactic(auto, using(crate::proofs::Faulted::own_none, crate::proofs::Faulted::nameless, crate::proofs::Faulted::lacking, crate::proofs::Told::none_grown))]
+#[tactic(auto, using(crate::proofs::Faulted::own_none, crate::proofs::Faulted::nameless, crate::proofs::Told::none_grown))]
 fn check_own<'a, O: Write>(
     abbreviations: &mut Remembered<'a>,
     object: DwarfObject,
@@ -249,7 +271,6 @@ fn check_own<'a, O: Write>(
             }
         }
         Ok(Own::Nameless) => tell(object, "it has no identifier of its own", waiting, out),
-        Ok(Own::Lacking) => tell(object, "its row has no abbreviations", waiting, out),
         Ok(Own::Unread(cause)) => tell_own_unread(object, cause.as_str(), waiting, out),
         Err(_) => Err(Failure::Memory),
     }

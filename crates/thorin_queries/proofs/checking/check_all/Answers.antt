@@ -1,6 +1,6 @@
 use Rattle.std.specs.Prelude.{string_bytes}
 use Rattle.thorin_queries.specs.Checking.{TellsUnits, TellsTables, TellsExecutables, IsOfChecking}
-use Rattle.thorin_queries.specs.Checking.{lacks_abbreviations}
+use Rattle.thorin_queries.specs.Checking.{lacks_abbreviations, lacks_strings}
 use Rattle.thorin_queries.specs.Telling.{InTurn}
 use Rattle.thorin_queries.proofs.Checked.{of_printing}
 use Rattle.thorin_queries.proofs.Told.{in_turn_or}
@@ -9,7 +9,8 @@ use Rattle.thorin_queries.proofs.checking.check_all.Goals as goal
 pub returns-in-Ok : goal.returns-in-Ok
 returns-in-Ok g c =
     in_turn_or (TellsUnits c.args.pack.now c.args.entries.now)
-    (InTurn (TellsTables (lacks_abbreviations c.args.pack.now c.args.entries.now))
+    (InTurn (TellsTables (lacks_abbreviations c.args.pack.now c.args.entries.now)
+    (lacks_strings c.args.pack.now))
     (TellsExecutables (g.F.FileReader.offer c.args.files.now)
     c.args.named.reading c.args.pack.now c.args.named.executables.now))
     (IsOfChecking (g.F.FileReader.offer c.args.files.now) c.args.named.executables.now)
