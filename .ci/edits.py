@@ -212,7 +212,7 @@ class Copy:
         first, last, path = inside[0]
         name, opens = path.rpartition("/")[2], body_of(old, first, last)
         is_method, top = old[first].startswith(" "), first
-        while old[top - 1].strip().startswith(("///", "#[")):
+        while old[top - 1].strip().startswith(("//", "#[")):
             top -= 1
         call = rf"\b(self\.|Self::){name}\(" if is_method else rf"(?<![\w.:]){name}\("
         calls_itself = opens is None or re.search(call, "\n".join(old[opens + 1 : last]))
