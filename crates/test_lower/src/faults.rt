@@ -86,16 +86,15 @@ fn of_indexes(name: &str) -> Option<Error> {
 
 /// Faults that are made of others.
 fn of_causes(name: &str) -> Option<Error> {
-    let lost = io::Error::from(io::ErrorKind::NotFound);
     Some(match name {
-        "io" => Error::from(lost),
+        "io" => Error::from(io::Error::from(io::ErrorKind::NotFound)),
         "elf_read" => Error::from(ElfReadError::TooShort),
         "elf_write" => Error::from(ElfWriteError::NumberTooLarge),
         "elf_write_memory" => Error::from(ElfWriteError::Memory),
         "dwarf_read" => Error::from(DwarfReadError::BigLeb),
         "dwarf_write" => Error::from(DwarfWriteError::ValueTooLarge),
         "memory" => Error::from(AllocError),
-        "input" => Error::from(InputError::Io(lost)),
+        "input" => Error::from(InputError::Io(io::Error::from(io::ErrorKind::NotFound))),
         "input_memory" => Error::from(InputError::Memory),
         _ => return None,
     })

@@ -33,30 +33,10 @@ fn parsed(index: &[u8]) -> Result<UnitIndex<'_>, ReadError> {
 fn rewritten(row: Row<'_>, said: &mut Said) {
     let compilations = indexed(row.alloc, encoding(row.word(1)), row.word(3), said);
     let types = indexed(row.alloc, encoding(row.word(1)), row.word(4), said);
-    rewrite_by(row, parsed(&compilations), parsed(&types), said);
-}
-
-fn rewrite_by(
-    row: Row<'_>,
-    compilations: Result<UnitIndex<'_>, ReadError>,
-    types: Result<UnitIndex<'_>, ReadError>,
-    said: &mut Said,
-) {
-    match compilations {
-        Ok(compilations) => rewrite(row, &compilations, types, said),
-        Err(fault) => said.err(&fault),
-    }
-}
-
-fn rewrite(
-    row: Row<'_>,
-    compilations: &UnitIndex<'_>,
-    types: Result<UnitIndex<'_>, ReadError>,
-    said: &mut Said,
-) {
-    match types {
-        Ok(types) => put_rewritten(row, compilations, &types, said),
-        Err(fault) => said.err(&fault),
+    match (parsed(&compilations), parsed(&types)) {
+        (Ok(compilations), Ok(types)) => put_rewritten(row, &compilations, &types, said),
+        (Err(fault), _) => said.err(&fault),
+        (_, Err(fault)) => said.err(&fault),
     }
 }
 
@@ -138,18 +118,11 @@ fn put_row(
 /// Ranges of abbreviations and of string offsets, a section, and a range of it: the row that has it.
 fn row_at(row: Row<'_>, said: &mut Said) {
     let index = indexed(row.alloc, encoding("gnu"), row.word(1), said);
-    put_row_of(row, parsed(&index), said);
-}
-
-fn put_row_of(row: Row<'_>, index: Result<UnitIndex<'_>, ReadError>, said: &mut Said) {
-    match index {
-        Ok(index) => put_row(
-            row,
-            Some(&index),
-            row.kind(2),
-            contribution(row.word(3)),
-            said,
-        ),
+    match parsed(&index) {
+        Ok(index) => {
+            let range = contribution(row.word(3));
+            put_row(row, Some(&index), row.kind(2), range, said);
+        }
         Err(fault) => said.err(&fault),
     }
 }

@@ -1,7 +1,7 @@
 //! Calls of `thorin_parts`: hash tables, entries, written indexes and relocations.
 
 use dwp_base::{Contribution, ContributionOffset, Endianness, SectionKind};
-use dwp_bytes::{Encoding, ReadError, RelocationEntry};
+use dwp_bytes::{Encoding, RelocationEntry};
 use dwp_elf_read::{ElfFile, Section};
 use dwp_index::{DwarfObject, DwoId, UnitIndex};
 use std::alloc::{AllocError, Global};
@@ -66,11 +66,6 @@ pub fn contribution(word: &str) -> Contribution {
     })
 }
 
-/// Adds an entry to others.
-fn add(entries: &mut Vec<IndexEntry>, entry: IndexEntry, said: &mut Said) {
-    said.note_that(entries.push(entry).is_ok());
-}
-
 /// The entry of a row that has the ranges of a word: one of string offsets, or one of abbreviations
 /// and, behind `/`, one of string offsets.
 fn ranged(encoding: Encoding, word: &str) -> IndexEntry {
@@ -97,7 +92,7 @@ fn add_ranged(entries: &mut Vec<IndexEntry>, encoding: Encoding, word: &str, sai
     for range in word.split(',') {
         let mut entry = ranged(encoding, range);
         entry.id = DwarfObject::Compilation(DwoId(entries.len() as u64));
-        add(entries, entry, said);
+        said.note_that(entries.push(entry).is_ok());
     }
 }
 
@@ -127,7 +122,7 @@ fn entry_of(word: &str) -> IndexEntry {
 fn entries(row: Row<'_>, said: &mut Said) -> Vec<IndexEntry> {
     let mut entries = Vec::new(row.alloc);
     for word in row.rest(2) {
-        add(&mut entries, entry_of(word), said);
+        said.note_that(entries.push(entry_of(word)).is_ok());
     }
     entries
 }
@@ -138,16 +133,11 @@ fn index_of(row: Row<'_>, said: &mut Said) {
     said.sized(&write_index(row.alloc, row.order(1), &entries));
 }
 
-/// Adds an identifier to others.
-fn add_unit(units: &mut Vec<DwoId>, id: u64, said: &mut Said) {
-    said.note_that(units.push(DwoId(id)).is_ok());
-}
-
 /// Identifiers: the slots of their hash table, and how many were looked at for each.
 fn slots(row: Row<'_>, said: &mut Said) {
     let mut units = Vec::new(row.alloc);
     for word in row.rest(1) {
-        add_unit(&mut units, number(word), said);
+        said.note_that(units.push(DwoId(number(word))).is_ok());
     }
     put_table(bucket(row.alloc, &units), said);
 }
@@ -166,13 +156,9 @@ fn put_table(table: Result<Buckets, Error>, said: &mut Said) {
 fn slots_of(row: Row<'_>, said: &mut Said) {
     let mut units = Vec::new(row.alloc);
     for id in 0..row.number(1) {
-        add_unit(&mut units, id, said);
+        said.note_that(units.push(DwoId(id)).is_ok());
     }
-    put_size(bucket(row.alloc, &units), said);
-}
-
-fn put_size(table: Result<Buckets, Error>, said: &mut Said) {
-    match table {
+    match bucket(row.alloc, &units) {
         Ok(table) => said.ok(&table.slots.len()),
         Err(fault) => said.err(&fault),
     }
@@ -186,31 +172,17 @@ fn moved(row: Row<'_>, said: &mut Said) {
         return;
     }
     let entries = entries(row, said);
-    put_moved(
-        write_index(row.alloc, Endianness::Little, &entries),
-        row.number(1),
-        said,
-    );
+    let index = written(row.alloc, &entries, said);
+    put_indexed(&index, row.number(1), said);
 }
 
 /// An index and an identifier: the same.
 fn moved_by(row: Row<'_>, said: &mut Said) {
-    put_indexed(
-        UnitIndex::parse(row.bytes(1), Endianness::Little),
-        row.number(2),
-        said,
-    );
+    put_indexed(row.bytes(1), row.number(2), said);
 }
 
-fn put_moved(index: Result<Vec<u8>, Error>, id: u64, said: &mut Said) {
-    match index {
-        Ok(index) => put_indexed(UnitIndex::parse(&index, Endianness::Little), id, said),
-        Err(fault) => said.err(&fault),
-    }
-}
-
-fn put_indexed(index: Result<UnitIndex<'_>, ReadError>, id: u64, said: &mut Said) {
-    match index {
+fn put_indexed(index: &[u8], id: u64, said: &mut Said) {
+    match UnitIndex::parse(index, Endianness::Little) {
         Ok(index) => put_abbreviations(Some(&index), id, said),
         Err(fault) => said.err(&fault),
     }
@@ -237,7 +209,7 @@ fn relocations_of(row: Row<'_>, said: &mut Said) {
 
 fn put_section(file: &ElfFile<'_>, row: Row<'_>, said: &mut Said) {
     match asked(file, row.word(2)) {
-        Some(section) => put_relocated(row.alloc, file, &section, said),
+        Some(section) => put_relocations(&add_relocations(row.alloc, file, &section), said),
         None => said.word("no section"),
     }
 }
@@ -248,10 +220,6 @@ fn asked<'a>(file: &ElfFile<'a>, word: &str) -> Option<Section<'a>> {
     } else {
         file.section(place(word))
     }
-}
-
-fn put_relocated(alloc: Global, file: &ElfFile<'_>, section: &Section<'_>, said: &mut Said) {
-    put_relocations(&add_relocations(alloc, file, section), said);
 }
 
 fn put_relocations(found: &Result<Vec<RelocationEntry>, Error>, said: &mut Said) {

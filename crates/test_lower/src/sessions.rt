@@ -1,7 +1,6 @@
 //! Calls of the sessions of `thorin_faults`: what they read and place.
 
 use bumpalo::Bump;
-use std::alloc::{AllocError, Global};
 use std::borrow::CowSlice;
 use std::collections::BTreeMap;
 use std::io;
@@ -28,23 +27,8 @@ fn owned(row: Row<'_>, said: &mut Said) -> Vec<u8> {
 
 /// A path and bytes: what a session reads at the path, and places beside it.
 fn put_session<S: Session<u64>>(session: &S, row: Row<'_>, said: &mut Said) {
-    let bytes = owned(row, said);
-    put_input(
-        session,
-        session.read_input(Path::new(row.word(1))),
-        bytes,
-        said,
-    );
-}
-
-fn put_input<S: Session<u64>>(
-    session: &S,
-    read: Result<&[u8], InputError>,
-    bytes: Vec<u8>,
-    said: &mut Said,
-) {
-    match read {
-        Ok(read) => put_placed(session, read, bytes, said),
+    match session.read_input(Path::new(row.word(1))) {
+        Ok(read) => put_placed(session, read, owned(row, said), said),
         Err(fault) => said.put(&fault),
     }
 }
@@ -66,31 +50,13 @@ fn put_session_alone<S: Session<u64>>(session: &S, bytes: Vec<u8>, said: &mut Sa
     said.put(&numbers);
 }
 
-/// The file `a.dwo` with the bytes `abc`.
-fn files(alloc: Global) -> Result<BTreeMap<String, Vec<u8>>, AllocError> {
-    let name = String::from_str(alloc, "a.dwo")?;
-    file(alloc, name)
-}
-
-fn file(alloc: Global, name: String) -> Result<BTreeMap<String, Vec<u8>>, AllocError> {
-    let bytes = b"abc".to_vec(alloc)?;
-    holding(alloc, name, bytes)
-}
-
-fn holding(
-    alloc: Global,
-    name: String,
-    bytes: Vec<u8>,
-) -> Result<BTreeMap<String, Vec<u8>>, AllocError> {
-    let mut files = BTreeMap::new(alloc);
-    files.insert(name, bytes)?;
-    Ok(files)
-}
-
 /// A path, and bytes: what a session with the bytes `abc` as `a.dwo` reads at the path, and places
 /// beside it; and whether its arena is emptied then.
 fn memory(row: Row<'_>, said: &mut Said) {
-    let files = said.made(files(row.alloc), BTreeMap::new(row.alloc));
+    let name = said.made(String::from_str(row.alloc, "a.dwo"), String::new(row.alloc));
+    let bytes = said.made(b"abc".to_vec(row.alloc), Vec::new(row.alloc));
+    let mut files = BTreeMap::new(row.alloc);
+    said.note_that(files.insert(name, bytes).is_ok());
     let mut bump = Bump::new(row.alloc);
     put_memory(&files, &mut bump, row, said);
 }

@@ -242,13 +242,9 @@ fn put_sum_again(
 /// A string that is there, a section, and four ranges of offsets, which are rewritten one after the
 /// other, with what is remembered of the section's short strings; and the data behind them.
 fn short_strings(table: &mut PackageStringTable, row: Row<'_>, said: &mut Said) -> bool {
-    add_string(table, row.bytes(1), said);
+    said.note_that(inserted(table, row.bytes(1)).is_ok());
     put_short(table, row, said);
     true
-}
-
-fn add_string(table: &mut PackageStringTable, bytes: &[u8], said: &mut Said) {
-    said.note_that(inserted(table, bytes).is_ok());
 }
 
 fn put_short(table: &mut PackageStringTable, row: Row<'_>, said: &mut Said) {
@@ -282,25 +278,17 @@ fn put_both(
     put_again(table, repeats, section, row.bytes(2), said);
     let is_empty = table.is_empty();
     repeats.clear();
-    keep(table, said);
+    said.note_that(table.get_or_insert(b"kept").is_ok());
     put_again(table, repeats, section, row.bytes(3), said);
     said.put(&(is_empty, table.len()));
-}
-
-fn keep(table: &mut PackageStringTable, said: &mut Said) {
-    said.note_that(table.get_or_insert(b"kept").is_ok());
 }
 
 /// Whether a range comes out as it went in, and the data are the section.
 fn is_kept(table: &mut PackageStringTable, section: &[u8], offsets: &[u8]) -> bool {
     match alone(table, section, offsets) {
-        Ok(range) => are_kept(&range, offsets, table.data(), section),
+        Ok(range) => range.as_slice() == offsets && table.data() == section,
         Err(_) => false,
     }
-}
-
-fn are_kept(range: &[u8], offsets: &[u8], data: &[u8], section: &[u8]) -> bool {
-    range == offsets && data == section
 }
 
 /// A section of strings, and the offsets of each, twice: used again in another range, they are found

@@ -6,40 +6,21 @@ use crate::reading::tell_name;
 use crate::table::Table;
 use crate::text::Text;
 use std::alloc::Global;
-use thorin::{Bump, BytesSession, DebugTypeSignature, DwarfPackage, Error, WritableObject};
+use thorin::{Bump, BytesSession, DwarfPackage, Error, WritableObject};
 
 /// `builder FILE INPUT..`: what a builder shows of itself, then each input's answer with what it
 /// shows then, and the file, which is kept.
-pub fn build(
-    alloc: Global,
-    table: &mut Table,
-    words: &[&str],
-    text: &mut Text,
-) -> Result<(), Mistake> {
-    let [file, names @ ..] = words else {
-        return Err(Mistake::Words);
-    };
-    let bytes = built_of(alloc, table, names, text);
-    match bytes {
-        Ok(bytes) => keep(table, file, bytes, text),
-        Err(mistake) => Err(mistake),
+pub fn build(alloc: Global, table: &mut Table, words: &[&str], text: &mut Text) {
+    if let [file, names @ ..] = words {
+        let bytes = built(alloc, names, &table.all(names, text), text);
+        keep(table, file, &bytes, text);
+    } else {
+        text.wrong(Mistake::Words);
     }
 }
 
 /// The file of a builder that is given the inputs of these names.
-fn built_of(
-    alloc: Global,
-    table: &Table,
-    names: &[&str],
-    text: &mut Text,
-) -> Result<Result<Vec<u8>, Error>, Mistake> {
-    match table.all(names) {
-        Ok(inputs) => Ok(built_in_arena(alloc, names, &inputs, text)),
-        Err(mistake) => Err(mistake),
-    }
-}
-
-fn built_in_arena(
+fn built(
     alloc: Global,
     names: &[&str],
     inputs: &[&[u8]],
@@ -47,11 +28,10 @@ fn built_in_arena(
 ) -> Result<Vec<u8>, Error> {
     let arena = Bump::new(alloc);
     let session = BytesSession::new(&arena);
-    built(alloc, &session, names, inputs, text)
+    built_by(alloc, &session, names, inputs, text)
 }
 
-/// The file of a builder that is given these inputs.
-fn built<'s>(
+fn built_by<'s>(
     alloc: Global,
     session: &'s BytesSession<'s>,
     names: &[&str],
@@ -90,22 +70,16 @@ fn tell_state<'o, 's: 'o>(builder: &DwarfPackage<'o, 's, BytesSession<'s>>, text
     text.put("  ");
     text.debug(builder);
     text.put("\n  packs again: ");
-    text.debug(&builder.packs_again());
-    tell_signatures(text, builder.differing_types());
-    tell_units(builder, text);
-}
-
-fn tell_signatures(text: &mut Text, signatures: &[DebugTypeSignature]) {
+    text.put(if builder.packs_again() {
+        "true"
+    } else {
+        "false"
+    });
     text.put(", differing: [");
-    for i in 0..signatures.len() {
-        text.put(" ");
-        text.hexadecimal(signatures[i].0);
+    for signature in builder.differing_types() {
+        text.hexadecimal(signature.0);
     }
-    text.put(" ]");
-}
-
-fn tell_units<'o, 's: 'o>(builder: &DwarfPackage<'o, 's, BytesSession<'s>>, text: &mut Text) {
-    text.put(", units: [");
+    text.put(" ], units: [");
     for unit in builder.contained_units().iter() {
         tell_name(text, *unit);
     }

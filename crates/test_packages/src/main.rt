@@ -48,207 +48,102 @@ fn main(rt: HostRuntime) -> io::Result<()> {
     Ok(())
 }
 
-/// Runs the lines of the script that names parts, and then those of another.
+/// Runs the lines of the script that names parts, and then those of another, and prints what they
+/// answer.
 fn run_named(rt: &HostRuntime, script: &str) -> io::Result<()> {
-    println!(rt; "== {script}")?;
+    let mut text = Text::new(rt.alloc());
     let mut table = Table::new(rt.alloc());
-    run_both(rt, &mut table, script)
-}
-
-fn run_both(rt: &HostRuntime, table: &mut Table, script: &str) -> io::Result<()> {
-    run_script(rt, table, COMMON)?;
-    run_script(rt, table, script)
-}
-
-/// The bytes of a file.
-fn read(rt: &HostRuntime, path: &str) -> io::Result<Vec<u8>> {
-    fs::read(rt, path)
+    run_script(rt, &mut table, COMMON, &mut text);
+    run_script(rt, &mut table, script, &mut text);
+    print!(rt; "== {script}\n{}", text.as_str())
 }
 
 /// Runs the lines of a script.
-fn run_script(rt: &HostRuntime, table: &mut Table, script: &str) -> io::Result<()> {
+fn run_script(rt: &HostRuntime, table: &mut Table, script: &str, text: &mut Text) {
     match fs::read_to_string(rt, script) {
-        Ok(script) => run_lines(rt, table, script.as_str()),
-        Err(fault) => Err(fault),
+        Ok(script) => {
+            for line in script.lines() {
+                run_line(rt, table, halves(line, "#").0, text);
+            }
+        }
+        Err(_fault) => text.wrong(Mistake::Name),
     }
+    text.end_line(script);
 }
 
-fn run_lines(rt: &HostRuntime, table: &mut Table, script: &str) -> io::Result<()> {
-    for line in script.lines() {
-        tell_line(rt, table, line)?;
+/// Runs a line, which may be empty.
+fn run_line(rt: &HostRuntime, table: &mut Table, line: &str, text: &mut Text) {
+    let words: Result<Vec<&str>, AllocError> = line.split_whitespace().collect(rt.alloc());
+    match words {
+        Ok(words) => {
+            if let [command, words @ ..] = words.as_slice() {
+                run_words(rt, table, line, command, words, text);
+            }
+        }
+        Err(AllocError) => text.wrong(Mistake::Memory),
     }
-    Ok(())
+    text.end_line(line);
 }
 
-/// Runs a line, and prints it with what it answers, if it does.
-fn tell_line(rt: &HostRuntime, table: &mut Table, line: &str) -> io::Result<()> {
-    let line = without_comment(line);
-    let mut text = Text::new(rt.alloc());
-    let asks = run_words(rt, table, line, &mut text);
-    tell_answer(rt, line.trim_ascii(), asks, text.as_str())
-}
-
-/// A line without what stands behind `#`.
-fn without_comment(line: &str) -> &str {
-    match halves(line, "#") {
-        Some((line, _)) => line,
-        None => line,
-    }
-}
-
-fn tell_answer(
-    rt: &HostRuntime,
-    line: &str,
-    asks: Result<bool, Mistake>,
-    text: &str,
-) -> io::Result<()> {
-    match asks {
-        Ok(false) => Ok(()),
-        Ok(true) => print!(rt; "$ {line}\n{text}"),
-        Err(mistake) => print!(rt; "$ {line}\n{mistake:?}\n"),
-    }
-}
-
-/// Runs the words of a line; whether it asks something.
+/// Runs a line that only names bytes, or writes a line that asks something with its answer.
 fn run_words(
     rt: &HostRuntime,
     table: &mut Table,
     line: &str,
-    text: &mut Text,
-) -> Result<bool, Mistake> {
-    let words: Result<Vec<&str>, AllocError> = line.split_whitespace().collect(rt.alloc());
-    let asks = match words {
-        Ok(words) => run_line(rt, table, &words, text),
-        Err(AllocError) => Err(Mistake::Memory),
-    };
-    if text.is_whole() {
-        asks
-    } else {
-        Err(Mistake::Memory)
-    }
-}
-
-/// Runs a line that only names bytes, or asks; whether it asks something.
-fn run_line(
-    rt: &HostRuntime,
-    table: &mut Table,
-    words: &[&str],
-    text: &mut Text,
-) -> Result<bool, Mistake> {
-    let Some((command, words)) = words.split_first() else {
-        return Ok(false);
-    };
-    match named(rt, table, command, words) {
-        Some(Ok(())) => Ok(false),
-        Some(Err(mistake)) => Err(mistake),
-        None => asked(rt.alloc(), table, command, words, text),
-    }
-}
-
-/// Runs a line that only names bytes; None where it asks something.
-fn named(
-    rt: &HostRuntime,
-    table: &mut Table,
     command: &str,
     words: &[&str],
-) -> Option<Result<(), Mistake>> {
+    text: &mut Text,
+) {
     match command {
-        "file" => Some(keep_file(rt, table, words)),
-        "bytes" => Some(table.define(words)),
-        "more" => Some(table.lengthen(words)),
-        "patch" => Some(table.patch(words)),
-        _ => made(rt.alloc(), table, command, words),
-    }
-}
-
-fn made(
-    alloc: Global,
-    table: &mut Table,
-    command: &str,
-    words: &[&str],
-) -> Option<Result<(), Mistake>> {
-    match command {
-        "replace" => Some(table.replace(words)),
-        "object" => Some(objects::object(alloc, table, words)),
-        "numbers" => Some(large::numbers(alloc, table, words)),
-        _ => None,
-    }
-}
-
-/// Runs a line that asks something.
-fn asked(
-    alloc: Global,
-    table: &mut Table,
-    command: &str,
-    words: &[&str],
-    text: &mut Text,
-) -> Result<bool, Mistake> {
-    match ask(alloc, table, command, words, text) {
-        Ok(()) => Ok(true),
-        Err(mistake) => Err(mistake),
+        "file" => keep_file(rt, table, words, text),
+        "bytes" => table.define(words, text),
+        "patch" => table.patch(words, text),
+        "replace" => table.replace(words, text),
+        "object" => objects::object(rt.alloc(), table, words, text),
+        "numbers" => large::numbers(rt.alloc(), table, words, text),
+        _ => {
+            text.put("$ ");
+            text.put(line.trim_ascii());
+            text.put("\n");
+            ask(rt.alloc(), table, command, words, text);
+        }
     }
 }
 
 /// `file NAME`: the bytes of a file, under its name.
-fn keep_file(rt: &HostRuntime, table: &mut Table, words: &[&str]) -> Result<(), Mistake> {
-    let [name] = words else {
-        return Err(Mistake::Words);
-    };
-    match read(rt, name) {
-        Ok(bytes) => table.keep(name, bytes),
-        Err(_fault) => Err(Mistake::Name),
+fn keep_file(rt: &HostRuntime, table: &mut Table, words: &[&str], text: &mut Text) {
+    for i in 0..words.len() {
+        match fs::read(rt, words[i]) {
+            Ok(bytes) => table.keep(words[i], bytes, text),
+            Err(_fault) => text.wrong(Mistake::Name),
+        }
     }
 }
 
 /// Adds to a text what a line answers that asks something.
-fn ask(
-    alloc: Global,
-    table: &mut Table,
-    command: &str,
-    words: &[&str],
-    text: &mut Text,
-) -> Result<(), Mistake> {
+fn ask(alloc: Global, table: &mut Table, command: &str, words: &[&str], text: &mut Text) {
     match command {
-        "show" => table.show(words, text),
+        "show" => table.show(true, words, text),
+        "size" => table.show(false, words, text),
         "same" => table.same(words, text),
-        "size" => table.size(words, text),
         "unit" => reading::unit(table, words, text),
         "units" => reading::units(table, words, text),
+        "text" => packing::text(alloc, table, words, text),
+        "many" => large::many(alloc, table, words, text),
         _ => ask_packing(alloc, table, command, words, text),
     }
 }
 
-/// The same of lines that pack.
-fn ask_packing(
-    alloc: Global,
-    table: &mut Table,
-    command: &str,
-    words: &[&str],
-    text: &mut Text,
-) -> Result<(), Mistake> {
+/// The same of lines that pack, or damage files.
+fn ask_packing(alloc: Global, table: &mut Table, command: &str, words: &[&str], text: &mut Text) {
     match command {
         "pack" => packing::pack_named(alloc, table, words, text),
         "groups" => packing::pack_grouped(alloc, table, words, text),
         "builder" => building::build(alloc, table, words, text),
-        "text" => packing::text(alloc, table, words, text),
-        "many" => large::many(alloc, table, words, text),
-        _ => ask_of_damage(alloc, table, command, words, text),
-    }
-}
-
-/// The same of lines that damage files.
-fn ask_of_damage(
-    alloc: Global,
-    table: &Table,
-    command: &str,
-    words: &[&str],
-    text: &mut Text,
-) -> Result<(), Mistake> {
-    match command {
         "damage" => cutting::damage(alloc, table, words, text),
         "every_cut" => cutting::every_cut(alloc, table, words, text),
-        "random" => random::random(alloc, table, words, text),
-        "random_counted" => random::random_counted(alloc, table, words, text),
-        _ => Err(Mistake::Command),
+        "random" => random::random(alloc, table, false, words, text),
+        "random_counted" => random::random(alloc, table, true, words, text),
+        _ => text.wrong(Mistake::Command),
     }
 }

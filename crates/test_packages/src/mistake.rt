@@ -1,4 +1,4 @@
-//! What is wrong with a line of a script, and what lines add to.
+//! What is wrong with a line of a script.
 
 /// Why a line of a script could not be run.
 #[derive(Clone, Copy, Debug)]
@@ -21,36 +21,7 @@ pub enum Mistake {
     Memory,
 }
 
-/// The number that decimal digits write.
-pub fn number(word: &str) -> Result<usize, Mistake> {
-    match word.parse::<usize>() {
-        Ok(number) => Ok(number),
-        Err(_fault) => Err(Mistake::Number),
-    }
-}
-
-/// The parts of a word before a mark and behind it; None where it isn't there.
-pub fn halves<'a>(word: &'a str, mark: &str) -> Option<(&'a str, &'a str)> {
-    word.split_once(mark)
-}
-
-/// A word without this end, where it has it.
-pub fn without_end<'a>(word: &'a str, end: &str) -> &'a str {
-    word.strip_suffix(end).unwrap_or(word)
-}
-
-/// Adds bytes behind others.
-pub fn extend(bytes: &mut Vec<u8>, more: &[u8]) -> Result<(), Mistake> {
-    match bytes.extend_from_slice(more) {
-        Ok(()) => Ok(()),
-        Err(_fault) => Err(Mistake::Memory),
-    }
-}
-
-/// Adds one to a list.
-pub fn push<T: Copy>(list: &mut Vec<T>, one: T) -> Result<(), Mistake> {
-    match list.push(one) {
-        Ok(()) => Ok(()),
-        Err(_fault) => Err(Mistake::Memory),
-    }
+/// The parts of a word before a mark and behind it; all of it and nothing, where it isn't there.
+pub fn halves<'a>(word: &'a str, mark: &str) -> (&'a str, &'a str) {
+    word.split_once(mark).unwrap_or((word, ""))
 }

@@ -1,6 +1,9 @@
-//! Packing of a script's inputs, at once and in groups. Each call of packing is met here alone.
+//! Packing of a script's inputs, at once and in groups. Each call of packing is met here alone. Where
+//! memory runs out an input is left out, and the answer is another.
 
-use crate::mistake::{Mistake, push, without_end};
+ghost use Rattle.std.specs.Prelude.{◌≤◌};
+
+use crate::mistake::{Mistake, halves};
 use crate::table::Table;
 use crate::text::Text;
 use std::alloc::Global;
@@ -11,46 +14,54 @@ pub fn packed(alloc: Global, inputs: &[&[u8]]) -> Result<Packed, Error> {
     let arena = Bump::new(alloc);
     let session = BytesSession::new(&arena);
     let mut list = Vec::new(alloc);
-    match add_inputs(inputs, &mut list) {
-        Ok(()) => pack(alloc, &session, &list),
-        Err(_mistake) => Err(Error::Memory),
-    }
-}
-
-fn add_inputs<'a>(inputs: &[&'a [u8]], list: &mut Vec<Input<'a>>) -> Result<(), Mistake> {
     for i in 0..inputs.len() {
-        push(list, Input::Bytes(inputs[i]))?;
+        let _ = list.push(Input::Bytes(inputs[i]));
     }
-    Ok(())
+    pack(alloc, &session, &list)
 }
 
-/// Its file.
-pub fn file_of(packed: Packed) -> Result<Vec<u8>, Error> {
-    packed.file
+/// What packing these inputs in groups gives, where each group begins at one of these numbers.
+pub fn grouped(alloc: Global, inputs: &[&[u8]], starts: &[usize]) -> Result<Vec<u8>, Error> {
+    let arena = Bump::new(alloc);
+    let session = BytesSession::new(&arena);
+    let mut groups = Vec::new(alloc);
+    for i in 0..starts.len() {
+        let _ = groups.push(group(inputs, starts, i));
+    }
+    pack_groups(alloc, &session, &groups)
+}
+
+/// The inputs of a group.
+fn group<'g, 'i: 'g>(inputs: &'g [&'i [u8]], starts: &[usize], number: usize) -> &'g [&'i [u8]] {
+    let end = start_of(inputs.len(), starts, number.saturating_add(1));
+    let start = start_of(end, starts, number);
+    &inputs[start..end]
+}
+
+/// Where a group begins, but no further than at a place, and there where it isn't there.
+fn start_of(last: usize, starts: &[usize], number: usize) -> usize
+    ensures { result ≤ last }
+{
+    match starts.get(number) {
+        Some(start) if *start < last => *start,
+        _ => last,
+    }
 }
 
 /// `pack FILE INPUT..`: what each input answers, the type units that differ, and the file, which is
 /// kept.
-pub fn pack_named(
-    alloc: Global,
-    table: &mut Table,
-    words: &[&str],
-    text: &mut Text,
-) -> Result<(), Mistake> {
-    let [file, names @ ..] = words else {
-        return Err(Mistake::Words);
-    };
-    let packed = packed_names(alloc, table, names)?;
-    tell_packed(names, &packed, text);
-    keep(table, file, file_of(packed), text)
-}
-
-/// What packing the inputs of these names gives.
-fn packed_names(alloc: Global, table: &Table, names: &[&str]) -> Result<Packed, Mistake> {
-    let inputs = table.all(names)?;
-    match packed(alloc, &inputs) {
-        Ok(packed) => Ok(packed),
-        Err(_fault) => Err(Mistake::Memory),
+pub fn pack_named(alloc: Global, table: &mut Table, words: &[&str], text: &mut Text) {
+    if let [file, names @ ..] = words {
+        let packed = packed(alloc, &table.all(names, text));
+        match &packed {
+            Ok(packed) => {
+                tell_packed(names, packed, text);
+                keep(table, file, &packed.file, text);
+            }
+            Err(_fault) => text.wrong(Mistake::Memory),
+        }
+    } else {
+        text.wrong(Mistake::Words);
     }
 }
 
@@ -65,29 +76,27 @@ fn tell_packed(names: &[&str], packed: &Packed, text: &mut Text) {
     }
 }
 
-/// What packing one input answers of it.
-pub fn answer(alloc: Global, input: &[u8]) -> Result<(), Error> {
-    match packed(alloc, &[input]) {
-        Ok(packed) => first_outcome(packed),
-        Err(fault) => Err(fault),
+/// Adds what packing one input answers of it: as it is shown, or its text.
+pub fn tell_alone(packed: &Result<Packed, Error>, as_text: bool, text: &mut Text) {
+    match packed {
+        Ok(packed) => {
+            for i in 0..packed.outcomes.len() {
+                match &packed.outcomes[i] {
+                    Err(fault) if as_text => text.display(fault),
+                    Ok(()) if as_text => text.put("Ok"),
+                    outcome => text.debug(outcome),
+                }
+            }
+        }
+        Err(_fault) => text.wrong(Mistake::Memory),
     }
-}
-
-fn first_outcome(mut packed: Packed) -> Result<(), Error> {
-    packed.outcomes.pop().unwrap_or(Err(Error::Memory))
 }
 
 /// `text INPUT`: the text of what packing one input answers of it.
-pub fn text(alloc: Global, table: &Table, words: &[&str], text: &mut Text) -> Result<(), Mistake> {
-    let [input] = words else {
-        return Err(Mistake::Words);
-    };
-    match answer(alloc, table.get(input)?) {
-        Ok(()) => text.put("Ok"),
-        Err(fault) => text.display(&fault),
-    }
+pub fn text(alloc: Global, table: &Table, words: &[&str], text: &mut Text) {
+    let input = table.joined(words, text);
+    tell_alone(&packed(alloc, &[&input]), true, text);
     text.put("\n");
-    Ok(())
 }
 
 /// Adds a line of an input with its answer to a text.
@@ -104,133 +113,52 @@ pub fn tell_answer(text: &mut Text, name: &str, answer: &Result<(), Error>) {
 }
 
 /// Keeps a file under a name, and adds a line of its length or its fault to a text.
-pub fn keep(
-    table: &mut Table,
-    name: &str,
-    file: Result<Vec<u8>, Error>,
-    text: &mut Text,
-) -> Result<(), Mistake> {
+pub fn keep(table: &mut Table, name: &str, file: &Result<Vec<u8>, Error>, text: &mut Text) {
     text.put(name);
-    text.put(": ");
     match file {
         Ok(bytes) => {
-            text.number(bytes.len() as u64);
+            text.number(": ", bytes.len() as u64);
             text.put(" bytes\n");
-            table.keep(name, bytes)
+            table.keep_copy(name, bytes, text);
         }
         Err(fault) => {
-            text.debug(&fault);
+            text.put(": ");
+            text.debug(fault);
             text.put("\n");
-            Ok(())
         }
-    }
-}
-
-/// Inputs, and the place of each group's first one.
-#[derive(Drop)]
-pub struct Groups<'a> {
-    inputs: Vec<&'a [u8]>,
-    starts: Vec<usize>,
-}
-
-impl<'a> Groups<'a> {
-    pub fn new(alloc: Global) -> Groups<'a> {
-        Groups {
-            inputs: Vec::new(alloc),
-            starts: Vec::new(alloc),
-        }
-    }
-
-    /// Begins a further group.
-    pub fn begin(&mut self) -> Result<(), Mistake> {
-        push(&mut self.starts, self.inputs.len())
-    }
-
-    /// Adds an input to the last group.
-    pub fn add(&mut self, input: &'a [u8]) -> Result<(), Mistake> {
-        push(&mut self.inputs, input)
-    }
-
-    /// Adds the inputs of a word: the first of a group begins with `[`, the last ends with `]`.
-    fn add_word(&mut self, table: &'a Table, word: &str) -> Result<(), Mistake> {
-        let word = match word.strip_prefix("[") {
-            Some(word) => {
-                self.begin()?;
-                word
-            }
-            None => word,
-        };
-        let word = without_end(word, "]");
-        if word.is_empty() || self.starts.is_empty() {
-            return Ok(());
-        }
-        self.add(table.get(word)?)
-    }
-
-    fn add_words(&mut self, table: &'a Table, words: &[&str]) -> Result<(), Mistake> {
-        for i in 0..words.len() {
-            self.add_word(table, words[i])?;
-        }
-        Ok(())
-    }
-
-    /// The inputs of a group.
-    fn group(&self, number: usize) -> &[&'a [u8]] {
-        let inputs = self.inputs.as_slice();
-        let start = self.start(number);
-        let end = self.start(number.saturating_add(1));
-        let end = if end < inputs.len() {
-            end
-        } else {
-            inputs.len()
-        };
-        let start = if start < end { start } else { end };
-        &inputs[start..end]
-    }
-
-    /// Where a group begins; behind the last one, where the inputs end.
-    fn start(&self, number: usize) -> usize {
-        self.starts
-            .get(number)
-            .copied()
-            .unwrap_or(self.inputs.len())
-    }
-
-    fn list<'g>(&'g self, list: &mut Vec<&'g [&'a [u8]]>) -> Result<(), Mistake> {
-        for i in 0..self.starts.len() {
-            push(list, self.group(i))?;
-        }
-        Ok(())
     }
 }
 
 /// `groups FILE [INPUT..] [INPUT..] ..`: the package of the packages of these groups.
-pub fn pack_grouped(
-    alloc: Global,
-    table: &mut Table,
-    words: &[&str],
-    text: &mut Text,
-) -> Result<(), Mistake> {
-    let Some((file, words)) = words.split_first() else {
-        return Err(Mistake::Words);
-    };
-    let bytes = {
-        let mut groups = Groups::new(alloc);
-        match groups.add_words(table, words) {
-            Ok(()) => grouped(alloc, &groups),
-            Err(mistake) => return Err(mistake),
-        }
-    };
-    keep(table, file, bytes, text)
+pub fn pack_grouped(alloc: Global, table: &mut Table, words: &[&str], text: &mut Text) {
+    if let [file, words @ ..] = words {
+        let bytes = grouped_words(alloc, table, words, text);
+        keep(table, file, &bytes, text);
+    } else {
+        text.wrong(Mistake::Words);
+    }
 }
 
-/// What packing these groups of inputs gives.
-pub fn grouped(alloc: Global, groups: &Groups<'_>) -> Result<Vec<u8>, Error> {
-    let arena = Bump::new(alloc);
-    let session = BytesSession::new(&arena);
-    let mut list = Vec::new(alloc);
-    match groups.list(&mut list) {
-        Ok(()) => pack_groups(alloc, &session, &list),
-        Err(_mistake) => Err(Error::Memory),
+/// The same of the words of inputs: the first of a group begins with `[`, the last ends with `]`.
+fn grouped_words(
+    alloc: Global,
+    table: &Table,
+    words: &[&str],
+    text: &mut Text,
+) -> Result<Vec<u8>, Error> {
+    let mut inputs = Vec::new(alloc);
+    let mut starts = Vec::new(alloc);
+    for i in 0..words.len() {
+        let (front, input) = halves(words[i], "[");
+        let word = if front.is_empty() { input } else { front };
+        if front.is_empty() {
+            text.note(starts.push(inputs.len()).is_ok());
+        }
+        let (name, _end) = halves(word, "]");
+        if !name.is_empty() {
+            let input = table.get(name, text);
+            text.note(inputs.push(input).is_ok());
+        }
     }
+    grouped(alloc, &inputs, &starts)
 }

@@ -9,116 +9,55 @@ mod generator;
 mod reading;
 mod tally;
 
-use crate::mistake::{Mistake, number};
+use crate::mistake::Mistake;
 use crate::random::generator::Generator;
 use crate::random::tally::{CALLS, Tally};
-use crate::table::Table;
+use crate::table::{Table, number};
 use crate::text::Text;
 use std::alloc::Global;
 
 /// `random SEED ROUNDS EXECUTABLE SAMPLE..`: so many samples are damaged and read; a quarter as many
 /// packages are made of a few each, and as many of the executable. Tells of each call whether it both
 /// answered and named faults, and how often two calls contradicted each other, or memory ran out.
-pub fn random(
-    alloc: Global,
-    table: &Table,
-    words: &[&str],
-    text: &mut Text,
-) -> Result<(), Mistake> {
-    let tally = tallied(alloc, table, words)?;
-    tell(&tally, text);
-    Ok(())
-}
-
 /// `random_counted SEED ROUNDS EXECUTABLE SAMPLE..`: the same, and how many calls there were.
-pub fn random_counted(
-    alloc: Global,
-    table: &Table,
-    words: &[&str],
-    text: &mut Text,
-) -> Result<(), Mistake> {
-    let tally = tallied(alloc, table, words)?;
-    tell(&tally, text);
-    text.put("calls: ");
-    text.number(tally.calls());
-    text.put("\n");
-    Ok(())
-}
-
-fn tallied(alloc: Global, table: &Table, words: &[&str]) -> Result<Tally, Mistake> {
-    let [seed, rounds, executable, names @ ..] = words else {
-        return Err(Mistake::Words);
-    };
-    let seed = number(seed)? as u64;
-    let rounds = number(rounds)?;
-    let executable = table.get(executable)?;
-    match table.all(names) {
-        Ok(samples) => Ok(tally_of(alloc, seed, rounds, executable, &samples)),
-        Err(mistake) => Err(mistake),
+pub fn random(alloc: Global, table: &Table, counts: bool, words: &[&str], text: &mut Text) {
+    if let [seed, rounds, executable, names @ ..] = words {
+        let (seed, rounds) = (number(seed, text) as u64, number(rounds, text));
+        let executable = table.get(executable, text);
+        let tally = tallied(alloc, seed, rounds, executable, &table.all(names, text));
+        tell(&tally, counts, text);
+    } else {
+        text.wrong(Mistake::Words);
     }
-}
-
-fn tally_of(
-    alloc: Global,
-    seed: u64,
-    rounds: usize,
-    executable: &[u8],
-    samples: &[&[u8]],
-) -> Tally {
-    let mut generator = Generator::new(seed);
-    let mut tally = Tally::new();
-    damage_each(
-        alloc,
-        &mut generator,
-        rounds,
-        executable,
-        samples,
-        &mut tally,
-    );
-    tally
 }
 
 /// Damages and reads so many samples, and packs a quarter as often.
-fn damage_each(
-    alloc: Global,
-    generator: &mut Generator,
-    rounds: usize,
-    executable: &[u8],
-    samples: &[&[u8]],
-    tally: &mut Tally,
-) {
-    read_each(alloc, generator, rounds, samples, tally);
-    for _ in 0..rounds / 4 {
-        building::build(alloc, generator, samples, tally);
-        executables::refer(alloc, generator, executable, samples, tally);
-    }
-}
-
-/// Damages and reads so many samples.
-fn read_each(
-    alloc: Global,
-    generator: &mut Generator,
-    rounds: usize,
-    samples: &[&[u8]],
-    tally: &mut Tally,
-) {
+fn tallied(alloc: Global, seed: u64, rounds: usize, executable: &[u8], samples: &[&[u8]]) -> Tally {
+    let mut generator = Generator::new(seed);
+    let mut tally = Tally::new();
     for _ in 0..rounds {
-        if let Some(sample) = generator.one_of(samples) {
-            let mut bytes = builders::copy(alloc, sample, tally);
-            damage::damage(generator, &mut bytes);
-            reading::read_all(alloc, &bytes, tally);
-        }
+        let mut bytes = building::sample(alloc, &mut generator, samples);
+        damage::damage(&mut generator, &mut bytes);
+        reading::read_all(alloc, &bytes, &mut tally);
     }
+    for _ in 0..rounds / 4 {
+        building::build(alloc, &mut generator, samples, &mut tally);
+        executables::refer(alloc, &mut generator, executable, samples, &mut tally);
+    }
+    tally
 }
 
-fn tell(tally: &Tally, text: &mut Text) {
+fn tell(tally: &Tally, counts: bool, text: &mut Text) {
     for call in 0..CALLS.len() {
         text.put(CALLS[call]);
         text.put(": ");
-        text.put(tally.count(call).outcomes());
+        text.put(tally.outcomes(call));
         text.put("\n");
     }
-    text.put("contradictions: ");
-    text.number(tally.contradictions);
+    text.number("contradictions: ", tally.contradictions);
     text.put("\n");
+    if counts {
+        text.number("calls: ", tally.calls());
+        text.put("\n");
+    }
 }

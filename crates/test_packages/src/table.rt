@@ -3,7 +3,7 @@
 //! A word is hexadecimal digits, a text between quotation marks, a name, or a part of what a name
 //! has, `name[from..to]` with places in decimal; with `*count` behind it stands so often.
 
-use crate::mistake::{Mistake, extend, halves, number, push, without_end};
+use crate::mistake::{Mistake, halves};
 use crate::text::Text;
 use std::alloc::Global;
 
@@ -21,9 +21,25 @@ pub struct Table {
     all: Vec<Named>,
 }
 
+/// The number that decimal digits write.
+pub fn number(word: &str, text: &mut Text) -> usize {
+    match word.parse::<usize>() {
+        Ok(number) => number,
+        Err(_fault) => {
+            text.wrong(Mistake::Number);
+            0
+        }
+    }
+}
+
 /// The bytes from one place to another; none where they aren't there.
 pub fn part(bytes: &[u8], from: usize, to: usize) -> &[u8] {
     bytes.get(from..to).unwrap_or(&[])
+}
+
+/// Adds bytes behind others.
+pub fn extend(bytes: &mut Vec<u8>, more: &[u8], text: &mut Text) {
+    text.note(bytes.extend_from_slice(more).is_ok());
 }
 
 impl Table {
@@ -36,271 +52,205 @@ impl Table {
     }
 
     /// Gives bytes a name, which may have had others.
-    pub fn keep(&mut self, name: &str, bytes: Vec<u8>) -> Result<(), Mistake> {
+    pub fn keep(&mut self, name: &str, bytes: Vec<u8>, text: &mut Text) {
         match String::from_str(self.alloc, name) {
-            Ok(name) => self.push(Named { name, bytes }),
-            Err(_fault) => Err(Mistake::Memory),
+            Ok(name) => text.note(self.all.push(Named { name, bytes }).is_ok()),
+            Err(_fault) => text.wrong(Mistake::Memory),
         }
     }
 
-    /// The same of bytes that were made, if they were.
-    pub fn keep_made(
-        &mut self,
-        name: &str,
-        bytes: Result<Vec<u8>, Mistake>,
-    ) -> Result<(), Mistake> {
-        match bytes {
-            Ok(bytes) => self.keep(name, bytes),
-            Err(mistake) => Err(mistake),
-        }
-    }
-
-    fn push(&mut self, named: Named) -> Result<(), Mistake> {
-        match self.all.push(named) {
-            Ok(()) => Ok(()),
-            Err(_fault) => Err(Mistake::Memory),
-        }
-    }
-
-    /// The bytes of a name, or the part of them that the word says.
-    pub fn get(&self, word: &str) -> Result<&[u8], Mistake> {
-        match halves(word, "[") {
-            Some((name, places)) => part_of(self.named(name)?, places),
-            None => self.named(word),
-        }
+    /// Gives a copy of bytes a name.
+    pub fn keep_copy(&mut self, name: &str, bytes: &[u8], text: &mut Text) {
+        let mut copy = Vec::new(self.alloc);
+        extend(&mut copy, bytes, text);
+        self.keep(name, copy, text);
     }
 
     /// The bytes that a name has got last.
-    fn named(&self, name: &str) -> Result<&[u8], Mistake> {
+    fn named(&self, name: &str) -> Option<&[u8]> {
         let mut found: Option<&[u8]> = None;
         for i in 0..self.all.len() {
             if self.all[i].name.as_str() == name {
                 found = Some(self.all[i].bytes.as_slice());
             }
         }
-        found.ok_or(Mistake::Name)
+        found
+    }
+
+    /// The bytes of a name, or the part of them that the word says.
+    pub fn get(&self, word: &str, text: &mut Text) -> &[u8] {
+        let (name, places) = halves(word, "[");
+        match self.named(name) {
+            Some(bytes) => part_of(bytes, places, text),
+            None => {
+                text.wrong(Mistake::Name);
+                &[]
+            }
+        }
     }
 
     /// What each of these words has.
-    pub fn all<'t>(&'t self, words: &[&str]) -> Result<Vec<&'t [u8]>, Mistake> {
+    pub fn all<'t>(&'t self, words: &[&str], text: &mut Text) -> Vec<&'t [u8]> {
         let mut all = Vec::new(self.alloc);
-        match self.add_all(words, &mut all) {
-            Ok(()) => Ok(all),
-            Err(mistake) => Err(mistake),
-        }
-    }
-
-    fn add_all<'t>(&'t self, words: &[&str], all: &mut Vec<&'t [u8]>) -> Result<(), Mistake> {
         for i in 0..words.len() {
-            push(all, self.get(words[i])?)?;
+            let bytes = self.get(words[i], text);
+            text.note(all.push(bytes).is_ok());
         }
-        Ok(())
+        all
     }
 
     /// The bytes that words write, joined.
-    pub fn joined(&self, words: &[&str]) -> Result<Vec<u8>, Mistake> {
+    pub fn joined(&self, words: &[&str], text: &mut Text) -> Vec<u8> {
         let mut bytes = Vec::new(self.alloc);
-        match self.put_all(words, &mut bytes) {
-            Ok(()) => Ok(bytes),
-            Err(mistake) => Err(mistake),
-        }
-    }
-
-    fn put_all(&self, words: &[&str], bytes: &mut Vec<u8>) -> Result<(), Mistake> {
         for i in 0..words.len() {
-            self.put_often(words[i], bytes)?;
+            let (word, count) = halves(words[i], "*");
+            let count = if count.is_empty() {
+                1
+            } else {
+                number(count, text)
+            };
+            for _ in 0..count {
+                self.put(word, &mut bytes, text);
+            }
         }
-        Ok(())
+        bytes
     }
 
-    fn put_often(&self, word: &str, bytes: &mut Vec<u8>) -> Result<(), Mistake> {
-        match halves(word, "*") {
-            Some((word, count)) => self.put_times(word, number(count)?, bytes),
-            None => self.put(word, bytes),
-        }
-    }
-
-    fn put_times(&self, word: &str, count: usize, bytes: &mut Vec<u8>) -> Result<(), Mistake> {
-        for _ in 0..count {
-            self.put(word, bytes)?;
-        }
-        Ok(())
-    }
-
-    fn put(&self, word: &str, bytes: &mut Vec<u8>) -> Result<(), Mistake> {
-        if let Some(text) = word.strip_prefix("\"") {
-            return extend(bytes, without_end(text, "\"").as_bytes());
-        }
-        match self.get(word) {
-            Ok(named) => extend(bytes, named),
-            Err(Mistake::Name) => put_digits(word, bytes),
-            Err(mistake) => Err(mistake),
+    /// Adds the bytes that a word writes.
+    fn put(&self, word: &str, bytes: &mut Vec<u8>, text: &mut Text) {
+        let (front, quoted) = halves(word, "\"");
+        if front.is_empty() {
+            extend(bytes, halves(quoted, "\"").0.as_bytes(), text);
+        } else if self.named(halves(word, "[").0).is_some() {
+            extend(bytes, self.get(word, text), text);
+        } else {
+            put_digits(word.as_bytes(), bytes, text);
         }
     }
 
     /// `bytes NAME = WORD..`
-    pub fn define(&mut self, words: &[&str]) -> Result<(), Mistake> {
-        let [name, "=", words @ ..] = words else {
-            return Err(Mistake::Words);
-        };
-        let bytes = self.joined(words);
-        self.keep_made(name, bytes)
-    }
-
-    /// `more NAME = WORD..`: further bytes of the name.
-    pub fn lengthen(&mut self, words: &[&str]) -> Result<(), Mistake> {
-        let [name, "=", words @ ..] = words else {
-            return Err(Mistake::Words);
-        };
-        let bytes = self.longer(name, words);
-        self.keep_made(name, bytes)
-    }
-
-    /// The bytes of a name, with those that words write behind them.
-    fn longer(&self, name: &str, words: &[&str]) -> Result<Vec<u8>, Mistake> {
-        let mut bytes = Vec::new(self.alloc);
-        match self.put_longer(name, words, &mut bytes) {
-            Ok(()) => Ok(bytes),
-            Err(mistake) => Err(mistake),
+    pub fn define(&mut self, words: &[&str], text: &mut Text) {
+        if let [name, "=", words @ ..] = words {
+            let bytes = self.joined(words, text);
+            self.keep(name, bytes, text);
+        } else {
+            text.wrong(Mistake::Words);
         }
     }
 
-    fn put_longer(&self, name: &str, words: &[&str], bytes: &mut Vec<u8>) -> Result<(), Mistake> {
-        extend(bytes, self.get(name)?)?;
-        self.put_all(words, bytes)
-    }
-
     /// `patch NAME FROM PLACE WORD..`: the bytes of FROM, with others from a place on.
-    pub fn patch(&mut self, words: &[&str]) -> Result<(), Mistake> {
-        let [name, from, place, words @ ..] = words else {
-            return Err(Mistake::Words);
-        };
-        let bytes = self.damaged(from, place, words);
-        self.keep_made(name, bytes)
+    pub fn patch(&mut self, words: &[&str], text: &mut Text) {
+        if let [name, words @ ..] = words {
+            let bytes = self.damaged(words, text);
+            self.keep(name, bytes, text);
+        } else {
+            text.wrong(Mistake::Words);
+        }
     }
 
     /// The bytes of a name, with those that words write from a place on.
-    pub fn damaged(&self, from: &str, place: &str, words: &[&str]) -> Result<Vec<u8>, Mistake> {
-        let from = self.get(from)?;
-        let place = number(place)?;
-        let new = self.joined(words)?;
-        patched(self.alloc, from, place, &new)
+    pub fn damaged(&self, words: &[&str], text: &mut Text) -> Vec<u8> {
+        let (mut from, mut place): (&[u8], usize) = (&[], usize::MAX);
+        let mut new = Vec::new(self.alloc);
+        if let [name, at, words @ ..] = words {
+            from = self.get(name, text);
+            place = number(at, text);
+            new = self.joined(words, text);
+        }
+        patched(self.alloc, from, place, &new, text)
     }
 
     /// `replace NAME FROM OLD NEW`: the bytes of FROM, in which the first place of OLD has NEW,
     /// which is no longer.
-    pub fn replace(&mut self, words: &[&str]) -> Result<(), Mistake> {
-        let [name, from, old, new] = words else {
-            return Err(Mistake::Words);
-        };
-        let (from, old, new) = (self.get(from)?, self.get(old)?, self.get(new)?);
-        let bytes = replaced(self.alloc, from, old, new);
-        self.keep_made(name, bytes)
+    pub fn replace(&mut self, words: &[&str], text: &mut Text) {
+        if let [name, from, old, new] = words {
+            let from = self.get(from, text);
+            let place = place_of(from, self.get(old, text));
+            let bytes = patched(self.alloc, from, place, self.get(new, text), text);
+            self.keep(name, bytes, text);
+        } else {
+            text.wrong(Mistake::Words);
+        }
     }
 
-    /// `show WORD..`: bytes in hexadecimal.
-    pub fn show(&self, words: &[&str], text: &mut Text) -> Result<(), Mistake> {
-        let bytes = self.joined(words)?;
-        text.bytes(&bytes);
+    /// `show WORD..`: bytes in hexadecimal. `size WORD..`: how many there are.
+    pub fn show(&self, shows: bool, words: &[&str], text: &mut Text) {
+        let bytes = self.joined(words, text);
+        if shows {
+            text.bytes(&bytes);
+        } else {
+            text.number("", bytes.len() as u64);
+        }
         text.put("\n");
-        Ok(())
-    }
-
-    /// `size WORD..`: how many bytes there are.
-    pub fn size(&self, words: &[&str], text: &mut Text) -> Result<(), Mistake> {
-        let bytes = self.joined(words)?;
-        text.number(bytes.len() as u64);
-        text.put("\n");
-        Ok(())
     }
 
     /// `same NAME NAME`: whether both have the same bytes.
-    pub fn same(&self, words: &[&str], text: &mut Text) -> Result<(), Mistake> {
-        let [one, other] = words else {
-            return Err(Mistake::Words);
-        };
-        let is_same = self.get(one)? == self.get(other)?;
-        text.put(if is_same { "true\n" } else { "false\n" });
-        Ok(())
+    pub fn same(&self, words: &[&str], text: &mut Text) {
+        if let [one, other] = words {
+            let is_same = self.get(one, text) == self.get(other, text);
+            text.put(if is_same { "true\n" } else { "false\n" });
+        } else {
+            text.wrong(Mistake::Words);
+        }
     }
 }
 
-/// The part of bytes between two places, as `from..to]`.
-fn part_of<'a>(bytes: &'a [u8], places: &str) -> Result<&'a [u8], Mistake> {
-    let Some((from, to)) = halves(places, "..") else {
-        return Err(Mistake::Number);
-    };
-    let (from, to) = (number(from)?, number(without_end(to, "]"))?);
-    bytes.get(from..to).ok_or(Mistake::Place)
-}
-
-/// These bytes joined.
-pub fn joined(alloc: Global, parts: &[&[u8]]) -> Result<Vec<u8>, Mistake> {
-    let mut bytes = Vec::new(alloc);
-    match put_parts(parts, &mut bytes) {
-        Ok(()) => Ok(bytes),
-        Err(mistake) => Err(mistake),
+/// The part of bytes between two places, as `from..to]`; all where there are none.
+fn part_of<'a>(bytes: &'a [u8], places: &str, text: &mut Text) -> &'a [u8] {
+    if places.is_empty() {
+        return bytes;
     }
-}
-
-fn put_parts(parts: &[&[u8]], bytes: &mut Vec<u8>) -> Result<(), Mistake> {
-    for i in 0..parts.len() {
-        extend(bytes, parts[i])?;
+    let (from, to) = halves(halves(places, "]").0, "..");
+    match bytes.get(number(from, text)..number(to, text)) {
+        Some(part) => part,
+        None => {
+            text.wrong(Mistake::Place);
+            &[]
+        }
     }
-    Ok(())
 }
 
 /// Bytes with others from a place on, which are there.
-pub fn patched(alloc: Global, bytes: &[u8], place: usize, new: &[u8]) -> Result<Vec<u8>, Mistake> {
+fn patched(alloc: Global, bytes: &[u8], place: usize, new: &[u8], text: &mut Text) -> Vec<u8> {
     let behind = place.saturating_add(new.len());
     if behind > bytes.len() {
-        return Err(Mistake::Place);
+        text.wrong(Mistake::Place);
     }
-    let parts = [part(bytes, 0, place), new, part(bytes, behind, bytes.len())];
-    joined(alloc, &parts)
+    let mut patched = Vec::new(alloc);
+    extend(&mut patched, part(bytes, 0, place), text);
+    extend(&mut patched, new, text);
+    extend(&mut patched, part(bytes, behind, bytes.len()), text);
+    patched
 }
 
-/// Bytes in which the first place of others has new ones.
-fn replaced(alloc: Global, bytes: &[u8], old: &[u8], new: &[u8]) -> Result<Vec<u8>, Mistake> {
-    match place_of(bytes, old) {
-        Some(place) => patched(alloc, bytes, place, new),
-        None => Err(Mistake::Place),
-    }
-}
-
-/// The first place of these bytes.
-fn place_of(bytes: &[u8], sought: &[u8]) -> Option<usize> {
+/// The first place of these bytes; no place where they aren't there.
+fn place_of(bytes: &[u8], sought: &[u8]) -> usize {
     for place in 0..bytes.len() {
         if part(bytes, place, place.saturating_add(sought.len())) == sought {
-            return Some(place);
+            return place;
         }
     }
-    None
+    usize::MAX
 }
 
 /// Adds the bytes that hexadecimal digits write.
-fn put_digits(word: &str, bytes: &mut Vec<u8>) -> Result<(), Mistake> {
-    let digits = word.as_bytes();
+fn put_digits(digits: &[u8], bytes: &mut Vec<u8>, text: &mut Text) {
     if digits.len() % 2 != 0 {
-        return Err(Mistake::Bytes);
+        text.wrong(Mistake::Bytes);
     }
     for i in 0..digits.len() / 2 {
-        put_byte(digits[2 * i], digits[2 * i + 1], bytes)?;
-    }
-    Ok(())
-}
-
-fn put_byte(high: u8, low: u8, bytes: &mut Vec<u8>) -> Result<(), Mistake> {
-    match (digit(high), digit(low)) {
-        (Some(high), Some(low)) => push(bytes, high.wrapping_mul(16).wrapping_add(low)),
-        _ => Err(Mistake::Bytes),
+        let (high, low) = (digit(digits[2 * i], text), digit(digits[2 * i + 1], text));
+        text.note(bytes.push(high.wrapping_mul(16).wrapping_add(low)).is_ok());
     }
 }
 
-fn digit(byte: u8) -> Option<u8> {
+fn digit(byte: u8, text: &mut Text) -> u8 {
     match byte {
-        b'0'..=b'9' => Some(byte - b'0'),
-        b'a'..=b'f' => Some(byte - b'a' + 10),
-        _ => None,
+        b'0'..=b'9' => byte - b'0',
+        b'a'..=b'f' => byte - b'a' + 10,
+        _ => {
+            text.wrong(Mistake::Bytes);
+            0
+        }
     }
 }

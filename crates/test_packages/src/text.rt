@@ -1,14 +1,15 @@
-//! The text that lines answer with. Nothing here fails: a text says at its end whether it is whole,
-//! so that what writes it needs no early returns.
+//! The text that lines answer with. Nothing here fails: a text keeps the first mistake of a line, so
+//! that what writes it needs no early returns.
 
+use crate::mistake::Mistake;
 use std::alloc::Global;
 use std::fmt::{Debug, Display};
 
-/// What was written, all of it unless memory ran out.
+/// What was written, and the first mistake.
 #[derive(Drop)]
 pub struct Text {
     text: String,
-    is_whole: bool,
+    mistake: Option<Mistake>,
 }
 
 impl Text {
@@ -16,7 +17,7 @@ impl Text {
     pub fn new(alloc: Global) -> Text {
         Text {
             text: String::new(alloc),
-            is_whole: true,
+            mistake: None,
         }
     }
 
@@ -25,62 +26,66 @@ impl Text {
         self.text.as_str()
     }
 
-    /// Whether all was written.
-    pub fn is_whole(&self) -> bool {
-        self.is_whole
+    /// Keeps a mistake, unless there was one before.
+    pub fn wrong(&mut self, mistake: Mistake) {
+        if self.mistake.is_none() {
+            self.mistake = Some(mistake);
+        }
+    }
+
+    /// Keeps that memory ran out, if it isn't so.
+    pub fn note(&mut self, is_done: bool) {
+        if !is_done {
+            self.wrong(Mistake::Memory);
+        }
+    }
+
+    /// Writes the mistake of a line, if there was one, with the line, and forgets it.
+    pub fn end_line(&mut self, line: &str) {
+        if let Some(mistake) = self.mistake {
+            self.mistake = None;
+            self.debug(&mistake);
+            self.put(": ");
+            self.put(line);
+            self.put("\n");
+        }
     }
 
     /// Adds a word.
     pub fn put(&mut self, word: &str) {
-        if self.text.push_str(word).is_err() {
-            self.is_whole = false;
-        }
-    }
-
-    /// Adds another text.
-    pub fn append(&mut self, other: &Text) {
-        self.put(other.as_str());
-        self.is_whole = self.is_whole && other.is_whole;
+        let is_done = self.text.push_str(word).is_ok();
+        self.note(is_done);
     }
 
     /// Adds what a value displays.
     pub fn display<T: Display>(&mut self, value: &T) {
-        if write!(self.text, "{value}").is_err() {
-            self.is_whole = false;
-        }
+        let is_done = write!(self.text, "{value}").is_ok();
+        self.note(is_done);
     }
 
     /// Adds what a value shows by Debug.
     pub fn debug<T: Debug>(&mut self, value: &T) {
-        if write!(self.text, "{value:?}").is_err() {
-            self.is_whole = false;
-        }
+        let is_done = write!(self.text, "{value:?}").is_ok();
+        self.note(is_done);
     }
 
     /// Adds a word and a number.
-    pub fn numbered(&mut self, word: &str, number: u64) {
+    pub fn number(&mut self, word: &str, number: u64) {
         self.put(word);
-        self.number(number);
-    }
-
-    /// Adds a number.
-    pub fn number(&mut self, number: u64) {
         self.display(&number);
     }
 
-    /// Adds a number in hexadecimal, behind `0x`.
+    /// Adds a number in hexadecimal, behind ` 0x`.
     pub fn hexadecimal(&mut self, number: u64) {
-        if write!(self.text, "{number:#x}").is_err() {
-            self.is_whole = false;
-        }
+        let is_done = write!(self.text, " {number:#x}").is_ok();
+        self.note(is_done);
     }
 
     /// Adds bytes in hexadecimal.
     pub fn bytes(&mut self, bytes: &[u8]) {
-        for byte in bytes {
-            if write!(self.text, "{byte:02x}").is_err() {
-                self.is_whole = false;
-            }
+        for i in 0..bytes.len() {
+            let is_done = write!(self.text, "{:02x}", bytes[i]).is_ok();
+            self.note(is_done);
         }
     }
 }

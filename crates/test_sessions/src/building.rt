@@ -1,16 +1,27 @@
 //! Calls of a builder and of packing, each met here alone: they promise nothing, and tell faults by
 //! their names.
 
+use crate::asserting::{MEMORY, Seen};
 use bumpalo::Bump;
 use dwp_bytes::RelocationEntry;
 use dwp_elf::{WritableObject, WriteError};
-use dwp_table::DwarfObject;
-use std::alloc::{AllocError, Global};
+use std::alloc::Global;
 use std::collections::BTreeMap;
 use std::io;
 use std::path::{AsPath, Path};
 use thorin::{DwarfPackage, Input, Packed, pack};
 use thorin_faults::{Error, MemorySession, MissingReferencedObjectBehaviour, Session};
+
+/// An input.
+#[derive(Clone, Copy)]
+pub enum Step<'i> {
+    Bytes(&'i [u8]),
+    Object(&'static str),
+    /// The executable at `/e`.
+    Named(MissingReferencedObjectBehaviour),
+    /// The same, where units that name no object are passed over.
+    SkippingNameless(MissingReferencedObjectBehaviour),
+}
 
 /// What a call answered, where a read that fails is one that may not be made or finds nothing.
 pub fn name_of(answer: &Result<(), Error>) -> &'static str {
@@ -28,79 +39,49 @@ pub fn name_of(answer: &Result<(), Error>) -> &'static str {
     }
 }
 
-/// Adds an object.
+/// Adds an input.
 pub fn add<'o, 's: 'o, S: Session<RelocationEntry>>(
     builder: &mut DwarfPackage<'o, 's, S>,
-    bytes: &[u8],
+    step: Step<'_>,
 ) -> &'static str {
-    name_of(&builder.add_object_bytes(bytes))
+    name_of(&match step {
+        Step::Bytes(bytes) => builder.add_object_bytes(bytes),
+        Step::Object(path) => builder.add_input_object(Path::new(path)),
+        Step::Named(missing) => builder.add_executable(Path::new("/e"), missing),
+        Step::SkippingNameless(missing) => {
+            builder.add_executable_skipping_nameless(Path::new("/e"), missing)
+        }
+    })
 }
 
-/// Adds the object at a path.
-pub fn add_path<'o, 's: 'o, S: Session<RelocationEntry>>(
-    builder: &mut DwarfPackage<'o, 's, S>,
-    path: &str,
-) -> &'static str {
-    name_of(&builder.add_input_object(Path::new(path)))
-}
-
-/// Adds the executable at `/e`.
-pub fn add_named<'o, 's: 'o, S: Session<RelocationEntry>>(
-    builder: &mut DwarfPackage<'o, 's, S>,
-    missing: MissingReferencedObjectBehaviour,
-) -> &'static str {
-    name_of(&builder.add_executable(Path::new("/e"), missing))
-}
-
-/// Adds the executable at `/e`, but for units that name no object.
-pub fn add_those_named<'o, 's: 'o, S: Session<RelocationEntry>>(
-    builder: &mut DwarfPackage<'o, 's, S>,
-    missing: MissingReferencedObjectBehaviour,
-) -> &'static str {
-    name_of(&builder.add_executable_skipping_nameless(Path::new("/e"), missing))
-}
-
-/// How many units the package has.
-pub fn unit_count<'o, 's: 'o, S: Session<RelocationEntry>>(
+/// How many units the package has, and how many type units differ, each of the signature 0x11.
+pub fn counts<'o, 's: 'o, S: Session<RelocationEntry>>(
     builder: &DwarfPackage<'o, 's, S>,
-) -> usize {
-    builder.contained_units().len()
+    seen: &mut Seen,
+) -> (usize, usize) {
+    let differing = builder.differing_types();
+    for i in 0..differing.len() {
+        seen.expect("the type unit 0x11 differs", differing[i].0 == 0x11);
+    }
+    (builder.contained_units().len(), differing.len())
 }
 
-/// Whether it has a unit.
-pub fn has<'o, 's: 'o, S: Session<RelocationEntry>>(
-    builder: &DwarfPackage<'o, 's, S>,
-    name: &DwarfObject,
-) -> bool {
-    builder.contained_units().contains(name)
-}
-
-/// Its units.
-pub fn units<'o, 's: 'o, S: Session<RelocationEntry>>(
-    alloc: Global,
-    builder: &DwarfPackage<'o, 's, S>,
-) -> Result<Vec<DwarfObject>, AllocError> {
-    builder.contained_units().iter().copied().collect(alloc)
-}
-
-/// The units that are named and not there.
-pub fn missing_units<'o, 's: 'o, S: Session<RelocationEntry>>(
-    alloc: Global,
-    builder: &DwarfPackage<'o, 's, S>,
-) -> Result<Vec<DwarfObject>, AllocError> {
-    builder.missing_targets().collect(alloc)
-}
-
-/// The object to be written.
-pub fn finished<'o, 's: 'o, S: Session<RelocationEntry>>(
-    builder: DwarfPackage<'o, 's, S>,
-) -> Result<WritableObject, Error> {
-    builder.finish()
-}
-
-/// Its file.
-pub fn written(object: &WritableObject) -> Result<Vec<u8>, WriteError> {
-    object.write()
+/// The file of what was finished, by a second try where the first was refused; no bytes where it was
+/// refused to finish it, which hands nothing back.
+pub fn file_of(alloc: Global, object: &Result<WritableObject, Error>, seen: &mut Seen) -> Vec<u8> {
+    match object {
+        Ok(object) => match object.write() {
+            Ok(file) => file,
+            Err(fault) => {
+                seen.expect(MEMORY, matches!(fault, WriteError::Memory));
+                object.write().unwrap_or(Vec::new(alloc))
+            }
+        },
+        Err(fault) => {
+            seen.expect(MEMORY, matches!(fault, Error::Memory));
+            Vec::new(alloc)
+        }
+    }
 }
 
 /// What packing these objects gives.
@@ -109,45 +90,40 @@ pub fn packed(alloc: Global, objects: &[&[u8]]) -> Result<Packed, Error> {
     let files = BTreeMap::new(alloc);
     let session = MemorySession::new(&bump, &files);
     let mut inputs = Vec::new(alloc);
-    if add_inputs(objects, &mut inputs) {
-        packed_by(alloc, &session, &inputs)
+    let mut is_whole = true;
+    for i in 0..objects.len() {
+        is_whole = inputs.push(Input::Bytes(objects[i])).is_ok() && is_whole;
+    }
+    if is_whole {
+        pack(alloc, &session, &inputs)
     } else {
         Err(Error::Memory)
     }
 }
 
-/// Adds objects to inputs; whether none was refused.
-fn add_inputs<'s>(objects: &[&'s [u8]], inputs: &mut Vec<Input<'s>>) -> bool {
-    for i in 0..objects.len() {
-        if inputs.push(Input::Bytes(objects[i])).is_err() {
-            return false;
-        }
-    }
-    true
-}
-
-/// What packing these inputs gives.
-pub fn packed_by<'s, S: Session<RelocationEntry>>(
-    alloc: Global,
-    session: &'s S,
-    inputs: &[Input<'s>],
-) -> Result<Packed, Error> {
-    pack(alloc, session, inputs)
-}
-
-/// The file of these objects, where each is accepted and it can be written.
-pub fn whole(alloc: Global, objects: &[&[u8]]) -> Option<Vec<u8>> {
+/// The file of these objects, where each is accepted and it can be written; else no bytes.
+pub fn whole(alloc: Global, objects: &[&[u8]]) -> Vec<u8> {
     match packed(alloc, objects) {
-        Ok(packed) => file_of(packed),
-        Err(_) => None,
+        Ok(packed) => whole_file(alloc, packed),
+        Err(_) => Vec::new(alloc),
     }
 }
 
-/// Its file, where each input was accepted.
-pub fn file_of(packed: Packed) -> Option<Vec<u8>> {
+fn whole_file(alloc: Global, packed: Packed) -> Vec<u8> {
     let mut all = true;
     for i in 0..packed.outcomes.len() {
         all = all && packed.outcomes[i].is_ok();
     }
-    if all { packed.file.ok() } else { None }
+    let file = packed.file.unwrap_or(Vec::new(alloc));
+    if all { file } else { Vec::new(alloc) }
+}
+
+/// The file of objects, by a second try where the first was refused.
+pub fn sure_whole(alloc: Global, objects: &[&[u8]]) -> Vec<u8> {
+    let file = whole(alloc, objects);
+    if file.is_empty() {
+        whole(alloc, objects)
+    } else {
+        file
+    }
 }

@@ -1,7 +1,7 @@
 //! Small objects and executables, and the files of a session.
 
 use dwp_elf::{Class, Endianness, SectionKind, WritableObject};
-use std::alloc::{AllocError, Global};
+use std::alloc::Global;
 use std::collections::BTreeMap;
 
 /// The files of a session, by their paths.
@@ -11,11 +11,24 @@ pub type Files = BTreeMap<String, Vec<u8>>;
 const ABBREVIATIONS: [u8; 9] = [0x01, 0x11, 0x00, 0xb1, 0x42, 0x07, 0x00, 0x00, 0x00];
 
 /// A compilation unit of version 4 with the root entry 1, and its identifier.
-pub fn unit(id: u8) -> [u8; 20] {
+fn unit(id: u8) -> [u8; 20] {
     [
         0x10, 0, 0, 0, 4, 0, 0, 0, 0, 0, 8, 1, id, 0, 0, 0, 0, 0, 0, 0,
     ]
 }
+
+/// Those of the identifiers 5, 6 and 8.
+pub const UNIT_5: [u8; 20] = [
+    0x10, 0, 0, 0, 4, 0, 0, 0, 0, 0, 8, 1, 5, 0, 0, 0, 0, 0, 0, 0,
+];
+
+pub const UNIT_6: [u8; 20] = [
+    0x10, 0, 0, 0, 4, 0, 0, 0, 0, 0, 8, 1, 6, 0, 0, 0, 0, 0, 0, 0,
+];
+
+pub const UNIT_8: [u8; 20] = [
+    0x10, 0, 0, 0, 4, 0, 0, 0, 0, 0, 8, 1, 8, 0, 0, 0, 0, 0, 0, 0,
+];
 
 /// A type unit of version 4 with the signature 0x11 and no entry.
 pub const TYPE_UNIT: [u8; 23] = [
@@ -27,32 +40,16 @@ const LONGER_TYPE_UNIT: [u8; 24] = [
     0x14, 0, 0, 0, 4, 0, 0, 0, 0, 0, 8, 0x11, 0, 0, 0, 0, 0, 0, 0, 0, 0, 0, 0, 0,
 ];
 
-/// A file of 64 bits, little endian, for x86-64, with these sections; whatever fails is told as
-/// want of memory.
-fn object(alloc: Global, sections: &[(SectionKind, &[u8])]) -> Result<Vec<u8>, AllocError> {
+/// A file of 64 bits, little endian, for x86-64, with these sections; no bytes where one is refused.
+/// A section that comes again gets more bytes.
+fn object(alloc: Global, sections: &[(SectionKind, &[u8])]) -> Vec<u8> {
     let mut object = WritableObject::new(alloc, Class::Elf64, 62, Endianness::Little);
-    if append_each(&mut object, sections) {
-        written(&object)
-    } else {
-        Err(AllocError)
-    }
-}
-
-/// Appends sections; whether none was refused.
-fn append_each(object: &mut WritableObject, sections: &[(SectionKind, &[u8])]) -> bool {
+    let mut is_whole = true;
     for i in 0..sections.len() {
-        if object.append(sections[i].0, sections[i].1).is_err() {
-            return false;
-        }
+        is_whole = object.append(sections[i].0, sections[i].1).is_ok() && is_whole;
     }
-    true
-}
-
-fn written(object: &WritableObject) -> Result<Vec<u8>, AllocError> {
-    match object.write() {
-        Ok(file) => Ok(file),
-        Err(_) => Err(AllocError),
-    }
+    let file = object.write().unwrap_or(Vec::new(alloc));
+    if is_whole { file } else { Vec::new(alloc) }
 }
 
 /// What an object has beside the compilation unit of an identifier.
@@ -65,8 +62,8 @@ pub enum Kind {
     LongerTypes,
 }
 
-/// The object of a kind with the compilation unit of an identifier.
-pub fn object_of(alloc: Global, kind: Kind, id: u8) -> Result<Vec<u8>, AllocError> {
+/// The object of a kind with the compilation unit of an identifier; no bytes where it is refused.
+fn object_of(alloc: Global, kind: Kind, id: u8) -> Vec<u8> {
     let unit = unit(id);
     let info = (SectionKind::Info, unit.as_slice());
     let abbreviations = (SectionKind::Abbrev, ABBREVIATIONS.as_slice());
@@ -84,9 +81,11 @@ pub fn object_of(alloc: Global, kind: Kind, id: u8) -> Result<Vec<u8>, AllocErro
 
 /// The same, by a second try where the first was refused.
 pub fn sure(alloc: Global, kind: Kind, id: u8) -> Vec<u8> {
-    match object_of(alloc, kind, id) {
-        Ok(file) => file,
-        Err(_) => object_of(alloc, kind, id).unwrap_or(Vec::new(alloc)),
+    let file = object_of(alloc, kind, id);
+    if file.is_empty() {
+        object_of(alloc, kind, id)
+    } else {
+        file
     }
 }
 
@@ -132,6 +131,8 @@ pub enum Naming {
     Unit(u8),
     /// The same with an abbreviation more.
     Whole(u8),
+    /// The unit 5 twice.
+    Twice,
     /// The unit 5 has its place of abbreviations by a relocation.
     Relocated,
     /// A type unit that has no name stands before the unit 5.
@@ -142,59 +143,62 @@ pub enum Naming {
     Three,
 }
 
-/// That executable.
-pub fn executable(alloc: Global, naming: Naming) -> Result<Vec<u8>, AllocError> {
+/// That executable; no bytes where it is refused.
+pub fn executable(alloc: Global, naming: Naming) -> Vec<u8> {
+    let five = naming_unit(5, 0x61, 0);
     match naming {
-        Naming::Unit(id) => with_units(alloc, &NAMING_ONE, &naming_unit(id, 0x61, 0), &[]),
-        Naming::Whole(id) => with_units(alloc, &NAMING, &naming_unit(id, 0x61, 0), &[]),
+        Naming::Unit(id) => with_units(alloc, &NAMING_ONE, [&naming_unit(id, 0x61, 0), &[], &[]]),
+        Naming::Whole(id) => with_units(alloc, &NAMING, [&naming_unit(id, 0x61, 0), &[], &[]]),
+        Naming::Twice => with_units(alloc, &NAMING_ONE, [&five, &five, &[]]),
         Naming::Relocated => relocated(alloc),
-        Naming::WithType => with_joined(alloc, &[&NAMELESS_TYPE, &naming_unit(5, 0x61, 0)]),
-        Naming::WithNameless => with_joined(alloc, &[&NAMELESS, &naming_unit(5, 0x61, 0)]),
+        Naming::WithType => with_units(alloc, &NAMING, [&NAMELESS_TYPE, &five, &[]]),
+        Naming::WithNameless => with_units(alloc, &NAMING, [&NAMELESS, &five, &[]]),
         Naming::Three => with_three(alloc),
     }
 }
 
-fn with_three(alloc: Global) -> Result<Vec<u8>, AllocError> {
+fn with_three(alloc: Global) -> Vec<u8> {
     let (one, two) = (naming_unit(1, 0x61, 0), naming_unit(2, 0x62, 0));
-    with_joined(alloc, &[&one, &two, &naming_unit(3, 0x63, 0)])
+    with_units(alloc, &NAMING, [&one, &two, &naming_unit(3, 0x63, 0)])
 }
 
-/// The executable with these units, joined.
-fn with_joined(alloc: Global, units: &[&[u8]]) -> Result<Vec<u8>, AllocError> {
-    match joined(alloc, units) {
-        Ok(units) => with_units(alloc, &NAMING, &units, &[]),
-        Err(fault) => Err(fault),
-    }
-}
-
-/// The executable with these abbreviations and units, and with lines where there are some: the
-/// names of its sections lose their end `.dwo`.
-fn with_units(
-    alloc: Global,
-    abbreviations: &[u8],
-    units: &[u8],
-    lines: &[u8],
-) -> Result<Vec<u8>, AllocError> {
+/// The executable with these abbreviations and units.
+fn with_units(alloc: Global, abbreviations: &[u8], units: [&[u8]; 3]) -> Vec<u8> {
     let mut file = object(
         alloc,
         &[
             (SectionKind::Abbrev, abbreviations),
-            (SectionKind::Info, units),
-            (SectionKind::Line, lines),
+            (SectionKind::Info, units[0]),
+            (SectionKind::Info, units[1]),
+            (SectionKind::Info, units[2]),
         ],
-    )?;
-    put_name(&mut file, b".debug_abbrev.dwo", b".debug_abbrev\0");
-    put_name(&mut file, b".debug_info.dwo", b".debug_info\0");
-    Ok(file)
+    );
+    put_names(&mut file);
+    file
 }
 
-fn relocated(alloc: Global) -> Result<Vec<u8>, AllocError> {
-    let mut file = with_units(alloc, &NAMING, &naming_unit(5, 0x61, 0x77), &RELOCATION)?;
+/// The names of its sections lose their end `.dwo`.
+fn put_names(file: &mut Vec<u8>) {
+    put_name(file, b".debug_abbrev.dwo", b".debug_abbrev\0");
+    put_name(file, b".debug_info.dwo", b".debug_info\0");
+}
+
+fn relocated(alloc: Global) -> Vec<u8> {
+    let unit = naming_unit(5, 0x61, 0x77);
+    let mut file = object(
+        alloc,
+        &[
+            (SectionKind::Abbrev, NAMING.as_slice()),
+            (SectionKind::Info, unit.as_slice()),
+            (SectionKind::Line, RELOCATION.as_slice()),
+        ],
+    );
+    put_names(&mut file);
     // Contents and names end at 197, so the section headers stand at 200. The third one becomes a
     // RELA section (ELF gABI, sh_type 4) of the second one (sh_info).
     put(&mut file, 396, &[4]);
     put(&mut file, 436, &[2]);
-    Ok(file)
+    file
 }
 
 /// Writes a name over the first place where another one stands.
@@ -225,46 +229,16 @@ pub fn part(bytes: &[u8], place: usize, length: usize) -> &[u8] {
     }
 }
 
-/// These bytes joined.
-fn joined(alloc: Global, parts: &[&[u8]]) -> Result<Vec<u8>, AllocError> {
-    let mut bytes = Vec::new(alloc);
-    match put_parts(&mut bytes, parts) {
-        Ok(()) => Ok(bytes),
-        Err(fault) => Err(fault),
-    }
-}
-
-fn put_parts(bytes: &mut Vec<u8>, parts: &[&[u8]]) -> Result<(), AllocError> {
-    for i in 0..parts.len() {
-        bytes.extend_from_slice(parts[i])?;
-    }
-    Ok(())
-}
-
-/// Puts a file at a path.
-pub fn put_file(
-    alloc: Global,
-    files: &mut Files,
-    path: &str,
-    bytes: Vec<u8>,
-) -> Result<(), AllocError> {
+/// Puts a file at a path; whether it is there, and has bytes.
+pub fn put_file(alloc: Global, files: &mut Files, path: &str, bytes: Vec<u8>) -> bool {
+    let has_bytes = !bytes.is_empty();
     match String::from_str(alloc, path) {
-        Ok(path) => insert(files, path, bytes),
-        Err(fault) => Err(fault),
+        Ok(path) => files.insert(path, bytes).is_ok() && has_bytes,
+        Err(_) => false,
     }
 }
 
-fn insert(files: &mut Files, path: String, bytes: Vec<u8>) -> Result<(), AllocError> {
-    match files.insert(path, bytes) {
-        Ok(_) => Ok(()),
-        Err(_) => Err(AllocError),
-    }
-}
-
-/// Puts the object of a unit at a path.
-pub fn put_object(alloc: Global, files: &mut Files, path: &str, id: u8) -> Result<(), AllocError> {
-    match object_of(alloc, Kind::Plain, id) {
-        Ok(bytes) => put_file(alloc, files, path, bytes),
-        Err(fault) => Err(fault),
-    }
+/// Puts the object of a unit at a path; whether it is there.
+pub fn put_object(alloc: Global, files: &mut Files, path: &str, id: u8) -> bool {
+    put_file(alloc, files, path, object_of(alloc, Kind::Plain, id))
 }

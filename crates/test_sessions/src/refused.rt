@@ -1,200 +1,240 @@
 //! What is left where memory is refused: run with one allocation that fails, for each in turn. The
 //! next try has memory then, and gives the file of a run that met no refusal.
 
-use crate::asserting::{holds, same};
-use crate::building::{add, add_named, finished, has, name_of, packed, unit_count, whole, written};
+use crate::asserting::{MEMORY, SECOND, Seen, all_held};
+use crate::building::{Step, add, counts, file_of, name_of, packed, sure_whole};
 use crate::objects::{
-    Files, Kind, Naming, TYPE_UNIT, executable, part, put_file, put_object, sure, unit,
+    Files, Kind, Naming, TYPE_UNIT, UNIT_5, UNIT_6, UNIT_8, executable, part, put_file, put_object,
+    sure,
 };
 use bumpalo::Bump;
-use dwp_elf::{WritableObject, WriteError};
+use dwp_bytes::RelocationEntry;
 use dwp_index::{PackageFile, PackagedUnit};
 use dwp_table::{DebugTypeSignature, DwarfObject, DwoId};
-use std::alloc::{AllocError, Global};
+use std::alloc::Global;
 use std::collections::BTreeMap;
 use std::process::Abort;
 use thorin::{DwarfPackage, Packed};
-use thorin_faults::{Error, MemorySession, MissingReferencedObjectBehaviour};
+use thorin_faults::{Error, MemorySession, MissingReferencedObjectBehaviour, Session};
 
-// The compilation unit of an identifier, and the type unit of the objects here.
-fn cu(id: u64) -> DwarfObject {
-    DwarfObject::Compilation(DwoId(id))
+/// What a builder is given, and what then is in the package.
+#[derive(Clone, Copy)]
+struct Case {
+    /// One object or two.
+    objects: &'static [(Kind, u8)],
+    given: Given,
+    units: &'static [DwarfObject],
+    /// How many type units differ.
+    differing: usize,
+    /// Bytes of the file from a place on.
+    parts: &'static [(usize, &'static [u8])],
+    /// The file's size; 0 where that isn't asked for.
+    size: usize,
+    /// Units of the file, each with its bytes and its string of number 1.
+    named: &'static [(DwarfObject, &'static [u8], Option<&'static [u8]>)],
 }
+
+/// How objects are given.
+#[derive(Clone, Copy, PartialEq)]
+enum Given {
+    /// One after the other.
+    Each,
+    /// As a package of the first.
+    Packed,
+    /// By an executable that names the first.
+    Named,
+}
+
+const FIVE: DwarfObject = DwarfObject::Compilation(DwoId(5));
+
+const SIX: DwarfObject = DwarfObject::Compilation(DwoId(6));
+
+const SEVEN: DwarfObject = DwarfObject::Compilation(DwoId(7));
+
+const EIGHT: DwarfObject = DwarfObject::Compilation(DwoId(8));
 
 const TU: DwarfObject = DwarfObject::TypeUnit(DebugTypeSignature(0x11));
 
-// The file of objects, by a second try where the first was refused.
-fn sure_whole(alloc: Global, objects: &[&[u8]]) -> Option<Vec<u8>> {
-    match whole(alloc, objects) {
-        Some(file) => Some(file),
-        None => whole(alloc, objects),
-    }
-}
+const NEW: Case = Case {
+    objects: &[(Kind::Plain, 5)],
+    given: Given::Each,
+    units: &[FIVE],
+    differing: 0,
+    parts: &[(73, &UNIT_5)],
+    size: 544,
+    named: &[],
+};
 
-// Adds an object, or the executable where there is none.
-fn try_one<'o, 's: 'o, 'm>(
-    builder: &mut DwarfPackage<'o, 's, MemorySession<'m>>,
-    object: Option<&[u8]>,
-) -> &'static str {
-    match object {
-        Some(bytes) => add(builder, bytes),
-        None => add_named(builder, MissingReferencedObjectBehaviour::Skip),
-    }
-}
+const TWO: Case = Case {
+    objects: &[(Kind::Plain, 5), (Kind::Plain, 6)],
+    given: Given::Each,
+    units: &[FIVE, SIX],
+    differing: 0,
+    parts: &[(82, &UNIT_5), (102, &UNIT_6)],
+    size: 608,
+    named: &[],
+};
 
-// The same. What was refused has added no unit and no type unit that differs, and is added by a
-// second try: want of memory is never passed over.
-fn add_surely<'o, 's: 'o, 'm>(
-    rt: &impl Abort,
-    builder: &mut DwarfPackage<'o, 's, MemorySession<'m>>,
-    object: Option<&[u8]>,
+const STRINGS: Case = Case {
+    objects: &[(Kind::Strings, 5)],
+    given: Given::Each,
+    units: &[FIVE],
+    differing: 0,
+    parts: &[(101, b"b\0a\0")],
+    size: 728,
+    named: &[],
+};
+
+const TYPES: Case = Case {
+    objects: &[(Kind::Types, 7), (Kind::Strings, 8)],
+    given: Given::Each,
+    units: &[SEVEN, TU, EIGHT],
+    differing: 0,
+    parts: &[],
+    size: 0,
+    named: &[(TU, &TYPE_UNIT, None), (EIGHT, &UNIT_8, Some(b"a"))],
+};
+
+const PACKAGE: Case = Case {
+    given: Given::Packed,
+    ..NEW
+};
+
+const DIFFERING: Case = Case {
+    objects: &[(Kind::Types, 5), (Kind::LongerTypes, 6)],
+    given: Given::Each,
+    units: &[FIVE, TU, SIX],
+    differing: 1,
+    parts: &[],
+    size: 0,
+    named: &[],
+};
+
+const EXECUTABLE: Case = Case {
+    given: Given::Named,
+    parts: &[],
+    size: 0,
+    named: &[],
+    ..NEW
+};
+
+/// Adds an input. What was refused has added no unit and no type unit that differs, and is added by
+/// a second try: want of memory is never passed over.
+fn add_surely<'o, 's: 'o, S: Session<RelocationEntry>>(
+    builder: &mut DwarfPackage<'o, 's, S>,
+    step: Step<'_>,
+    seen: &mut Seen,
 ) {
-    let units = unit_count(builder);
-    let differing = differing_count(rt, builder);
-    if !is_added(rt, try_one(builder, object)) {
-        same(rt, unit_count(builder), units);
-        same(rt, differing_count(rt, builder), differing);
-        same(rt, try_one(builder, object), "Ok");
+    let (units, differing) = counts(builder, seen);
+    let answer = add(builder, step);
+    if answer != "Ok" {
+        seen.expect(MEMORY, answer == "Memory");
+        let now = counts(builder, seen);
+        seen.expect("no unit is added", now.0 == units);
+        seen.expect("no type unit differs more", now.1 == differing);
+        seen.expect(SECOND, add(builder, step) == "Ok");
     }
 }
 
-// How many type units differ, each of the signature 0x11.
-fn differing_count<'o, 's: 'o, 'm>(
-    rt: &impl Abort,
-    builder: &DwarfPackage<'o, 's, MemorySession<'m>>,
-) -> usize {
-    let differing = builder.differing_types();
-    for signature in differing {
-        same(rt, signature.0, 0x11);
-    }
-    differing.len()
-}
-
-// Adds objects, or the executable where there are none, and asserts that the package has these
-// units and no others, and so many type units that differ.
-fn add_all<'o, 's: 'o, 'm>(
-    rt: &impl Abort,
-    builder: &mut DwarfPackage<'o, 's, MemorySession<'m>>,
-    objects: &[&[u8]],
-    named: &[DwarfObject],
-    differing: usize,
-) {
-    if objects.is_empty() {
-        add_surely(rt, builder, None);
-    }
-    for bytes in objects {
-        add_surely(rt, builder, Some(*bytes));
-    }
-    hold_named(rt, builder, named, differing);
-}
-
-fn hold_named<'o, 's: 'o, 'm>(
-    rt: &impl Abort,
-    builder: &DwarfPackage<'o, 's, MemorySession<'m>>,
-    named: &[DwarfObject],
-    differing: usize,
-) {
-    same(rt, unit_count(builder), named.len());
-    for name in named {
-        holds(rt, has(builder, name));
-    }
-    same(rt, differing_count(rt, builder), differing);
-}
-
-// The file of what was finished, by a second try where the first was refused; none where it was
-// refused to finish it, which hands nothing back.
-fn file_of(rt: &impl Abort, object: Result<WritableObject, Error>) -> Option<Vec<u8>> {
-    match object {
-        Ok(object) => match written(&object) {
-            Ok(file) => Some(file),
-            Err(fault) => {
-                holds(rt, matches!(fault, WriteError::Memory));
-                written(&object).ok()
-            }
-        },
-        Err(fault) => {
-            holds(rt, matches!(fault, Error::Memory));
-            None
-        }
-    }
-}
-
-// The file of a package, by the calls of a builder.
-fn added<'s, 'm>(
-    rt: &impl Abort,
+/// The file of a package, by the calls of a builder: it has the units of a case and no others.
+fn added<'s, S: Session<RelocationEntry>>(
     alloc: Global,
-    session: &'s MemorySession<'m>,
-    objects: &[&[u8]],
-    named: &[DwarfObject],
-    differing: usize,
-) -> Option<Vec<u8>> {
+    session: &'s S,
+    steps: &[Step<'_>],
+    case: &Case,
+    seen: &mut Seen,
+) -> Vec<u8> {
     let mut builder = DwarfPackage::new(alloc, session);
-    add_all(rt, &mut builder, objects, named, differing);
-    file_of(rt, finished(builder))
+    for i in 0..steps.len() {
+        add_surely(&mut builder, steps[i], seen);
+    }
+    let (units, differing) = counts(&builder, seen);
+    seen.expect("there are so many units", units == case.units.len());
+    seen.expect("so many type units differ", differing == case.differing);
+    for i in 0..case.units.len() {
+        let is_there = builder.contained_units().contains(&case.units[i]);
+        seen.expect("each unit is there", is_there);
+    }
+    file_of(alloc, &builder.finish(), seen)
 }
 
-// The same, and all of it by a second try where it was refused to finish it.
+/// The same, and all of it by a second try where it was refused to finish it.
 fn added_surely(
-    rt: &impl Abort,
     alloc: Global,
     files: &Files,
-    objects: &[&[u8]],
-    named: &[DwarfObject],
-    differing: usize,
-) -> Option<Vec<u8>> {
+    steps: &[Step<'_>],
+    case: &Case,
+    seen: &mut Seen,
+) -> Vec<u8> {
     let bump = Bump::new(alloc);
     let session = MemorySession::new(&bump, files);
-    match added(rt, alloc, &session, objects, named, differing) {
-        Some(file) => Some(file),
-        None => added(rt, alloc, &session, objects, named, differing),
+    let mut file = added(alloc, &session, steps, case, seen);
+    if file.is_empty() {
+        file = added(alloc, &session, steps, case, seen);
+    }
+    file
+}
+
+/// An object of a case; no bytes where it has no such one.
+fn object(alloc: Global, case: &Case, number: usize) -> Vec<u8> {
+    match case.objects.get(number) {
+        Some((kind, id)) => sure(alloc, *kind, *id),
+        None => Vec::new(alloc),
     }
 }
 
-// Asserts that a builder gives the file that packing gives where no memory is refused, and hands
-// it back.
-fn adds(
-    rt: &impl Abort,
-    alloc: Global,
-    objects: &[&[u8]],
-    named: &[DwarfObject],
-    differing: usize,
-) -> Vec<u8> {
-    let files = BTreeMap::new(alloc);
-    let file = added_surely(rt, alloc, &files, objects, named, differing);
-    holds(rt, file.is_some() && file == sure_whole(alloc, objects));
-    file.unwrap_or(Vec::new(alloc))
+fn hold_case(alloc: Global, case: &Case, seen: &mut Seen) {
+    let (one, two) = (object(alloc, case, 0), object(alloc, case, 1));
+    if case.given == Given::Packed {
+        hold_objects(alloc, &[&sure_whole(alloc, &[&one])], case, seen);
+    } else if two.is_empty() {
+        hold_objects(alloc, &[&one], case, seen);
+    } else {
+        hold_objects(alloc, &[&one, &two], case, seen);
+    }
 }
 
-// Asserts the size of a file and its bytes from a place on.
-fn has_part(rt: &impl Abort, file: &[u8], size: usize, place: usize, bytes: &[u8]) {
-    same(rt, file.len(), size);
-    same(rt, part(file, place, bytes.len()), bytes);
+/// Whether a builder gives the file that packing gives where no memory is refused, and what is in
+/// it.
+fn hold_objects(alloc: Global, objects: &[&[u8]], case: &Case, seen: &mut Seen) {
+    let mut steps = [Step::Named(MissingReferencedObjectBehaviour::Skip); 2];
+    if case.given != Given::Named {
+        for i in 0..2 {
+            if i < objects.len() {
+                steps[i] = Step::Bytes(objects[i]);
+            }
+        }
+    }
+    let steps = steps.get(..objects.len()).unwrap_or(&[]);
+    let file = added_surely(alloc, &files_of(alloc, case), steps, case, seen);
+    let whole = sure_whole(alloc, objects);
+    seen.expect("there is a file", !file.is_empty());
+    seen.expect(
+        "packing gives the same",
+        file.as_slice() == whole.as_slice(),
+    );
+    hold_file(&file, case, seen);
 }
 
-#[test]
-fn a_refused_allocation_leaves_a_new_package(rt: HostRuntime) {
-    let five = sure(rt.alloc(), Kind::Plain, 5);
-    let file = adds(&rt, rt.alloc(), &[&five], &[cu(5)], 0);
-    has_part(&rt, &file, 544, 73, &unit(5));
+fn hold_file(file: &[u8], case: &Case, seen: &mut Seen) {
+    seen.expect(
+        "the file has its size",
+        case.size == 0 || file.len() == case.size,
+    );
+    for i in 0..case.parts.len() {
+        let (place, bytes) = case.parts[i];
+        seen.expect(
+            "it has these bytes",
+            part(file, place, bytes.len()) == bytes,
+        );
+    }
+    for i in 0..case.named.len() {
+        let (name, bytes, string) = case.named[i];
+        seen.expect("it has this unit", has_unit(file, name, bytes, string));
+    }
 }
 
-#[test]
-fn a_refused_allocation_leaves_a_package(rt: HostRuntime) {
-    let five = sure(rt.alloc(), Kind::Plain, 5);
-    let six = sure(rt.alloc(), Kind::Plain, 6);
-    let file = adds(&rt, rt.alloc(), &[&five, &six], &[cu(5), cu(6)], 0);
-    has_part(&rt, &file, 608, 82, &unit(5));
-    has_part(&rt, &file, 608, 102, &unit(6));
-}
-
-#[test]
-fn a_refused_allocation_leaves_the_strings(rt: HostRuntime) {
-    let strings = sure(rt.alloc(), Kind::Strings, 5);
-    let file = adds(&rt, rt.alloc(), &[&strings], &[cu(5)], 0);
-    has_part(&rt, &file, 728, 101, b"b\0a\0");
-}
-
-// Whether a package has a unit of these bytes, whose string of number 1 is this one.
+/// Whether a package has a unit of these bytes, whose string of number 1 is this one.
 fn has_unit(file: &[u8], name: DwarfObject, bytes: &[u8], string: Option<&[u8]>) -> bool {
     let Ok(package) = PackageFile::parse(file) else {
         return false;
@@ -212,178 +252,155 @@ fn has_string(unit: &PackagedUnit<'_>, string: Option<&[u8]>) -> bool {
     }
 }
 
-#[test]
-fn a_refused_allocation_leaves_the_type_units(rt: HostRuntime) {
-    let types = sure(rt.alloc(), Kind::Types, 7);
-    let strings = sure(rt.alloc(), Kind::Strings, 8);
-    let file = adds(&rt, rt.alloc(), &[&types, &strings], &[cu(7), TU, cu(8)], 0);
-    hold_units(&rt, &file);
+/// The files of a session: of a case that has one the executable, and the object that it names.
+fn files_of(alloc: Global, case: &Case) -> Files {
+    let mut files = BTreeMap::new(alloc);
+    if case.given == Given::Named && !put_named(alloc, &mut files) {
+        put_named(alloc, &mut files);
+    }
+    files
 }
 
-fn hold_units(rt: &impl Abort, file: &[u8]) {
-    holds(rt, has_unit(file, TU, &TYPE_UNIT, None));
-    holds(rt, has_unit(file, cu(8), &unit(8), Some(b"a".as_slice())));
+fn put_named(alloc: Global, files: &mut Files) -> bool {
+    let executable = executable(alloc, Naming::Whole(5));
+    put_file(alloc, files, "/e", executable) && put_object(alloc, files, "/b/a.dwo", 5)
+}
+
+/// The test of a case.
+fn hold(rt: &impl Abort, alloc: Global, case: &Case) {
+    let mut seen = Seen::new();
+    hold_case(alloc, case, &mut seen);
+    all_held(rt, &seen);
+}
+
+#[test]
+fn a_refused_allocation_leaves_a_new_package(rt: HostRuntime) {
+    hold(&rt, rt.alloc(), &NEW);
+}
+
+#[test]
+fn a_refused_allocation_leaves_a_package(rt: HostRuntime) {
+    hold(&rt, rt.alloc(), &TWO);
+}
+
+#[test]
+fn a_refused_allocation_leaves_the_strings(rt: HostRuntime) {
+    hold(&rt, rt.alloc(), &STRINGS);
+}
+
+#[test]
+fn a_refused_allocation_leaves_the_type_units(rt: HostRuntime) {
+    hold(&rt, rt.alloc(), &TYPES);
 }
 
 #[test]
 fn a_refused_allocation_leaves_a_package_as_input(rt: HostRuntime) {
-    let five = sure(rt.alloc(), Kind::Plain, 5);
-    let package = sure_whole(rt.alloc(), &[&five]).unwrap_or(Vec::new(rt.alloc()));
-    let file = adds(&rt, rt.alloc(), &[&package], &[cu(5)], 0);
-    has_part(&rt, &file, 544, 73, &unit(5));
+    hold(&rt, rt.alloc(), &PACKAGE);
 }
 
 #[test]
 fn a_refused_allocation_leaves_the_differing_types(rt: HostRuntime) {
-    let kept = sure(rt.alloc(), Kind::Types, 5);
-    let longer = sure(rt.alloc(), Kind::LongerTypes, 6);
-    adds(&rt, rt.alloc(), &[&kept, &longer], &[cu(5), TU, cu(6)], 1);
-}
-
-// The executable that names the object of the unit 5, and that object.
-fn named_files(alloc: Global) -> Result<Files, AllocError> {
-    let mut files = BTreeMap::new(alloc);
-    match put_named(alloc, &mut files) {
-        Ok(()) => Ok(files),
-        Err(fault) => Err(fault),
-    }
-}
-
-fn put_named(alloc: Global, files: &mut Files) -> Result<(), AllocError> {
-    put_file(alloc, files, "/e", executable(alloc, Naming::Whole(5))?)?;
-    put_object(alloc, files, "/b/a.dwo", 5)
-}
-
-fn sure_files(alloc: Global) -> Files {
-    match named_files(alloc) {
-        Ok(files) => files,
-        Err(_) => named_files(alloc).unwrap_or(BTreeMap::new(alloc)),
-    }
+    hold(&rt, rt.alloc(), &DIFFERING);
 }
 
 #[test]
 fn a_refused_allocation_leaves_an_executable(rt: HostRuntime) {
-    let five = sure(rt.alloc(), Kind::Plain, 5);
-    let files = sure_files(rt.alloc());
-    let file = added_surely(&rt, rt.alloc(), &files, &[], &[cu(5)], 0);
-    holds(
-        &rt,
-        file.is_some() && file == sure_whole(rt.alloc(), &[&five]),
-    );
+    hold(&rt, rt.alloc(), &EXECUTABLE);
 }
 
-// The file of a package of an object and, where it isn't refused, of a second one; and whether that
-// one was refused. None where the first one was, or the package.
-fn added_once<'s, 'm>(
-    rt: &impl Abort,
+/// The file of a package of an object and, where it isn't refused, of a second one; and whether that
+/// one was added. No bytes where the first one was refused, or the package.
+fn added_once<'s, S: Session<RelocationEntry>>(
     alloc: Global,
-    session: &'s MemorySession<'m>,
-    first: &[u8],
-    second: &[u8],
-) -> Option<(Vec<u8>, bool)> {
+    session: &'s S,
+    objects: [&[u8]; 2],
+    seen: &mut Seen,
+) -> (Vec<u8>, bool) {
     let mut builder = DwarfPackage::new(alloc, session);
-    let one = is_added(rt, add(&mut builder, first));
-    let two = is_added(rt, add(&mut builder, second));
-    let file = file_of(rt, finished(builder));
-    if one { with_refusal(file, !two) } else { None }
-}
-
-// Whether an object was added, by what was answered, where only memory may be refused.
-fn is_added(rt: &impl Abort, answer: &str) -> bool {
-    match answer {
-        "Ok" => true,
-        _ => {
-            same(rt, answer, "Memory");
-            false
-        }
+    let one = add(&mut builder, Step::Bytes(objects[0]));
+    let two = add(&mut builder, Step::Bytes(objects[1]));
+    seen.expect(MEMORY, one == "Ok" || one == "Memory");
+    seen.expect(MEMORY, two == "Ok" || two == "Memory");
+    let file = file_of(alloc, &builder.finish(), seen);
+    if one == "Ok" {
+        (file, two == "Ok")
+    } else {
+        (Vec::new(alloc), false)
     }
 }
 
-fn with_refusal(file: Option<Vec<u8>>, is_refused: bool) -> Option<(Vec<u8>, bool)> {
-    match file {
-        Some(file) => Some((file, is_refused)),
-        None => None,
-    }
-}
-
-fn added_once_surely(
-    rt: &impl Abort,
-    alloc: Global,
-    first: &[u8],
-    second: &[u8],
-) -> Option<(Vec<u8>, bool)> {
+fn added_once_surely(alloc: Global, objects: [&[u8]; 2], seen: &mut Seen) -> (Vec<u8>, bool) {
     let bump = Bump::new(alloc);
     let files = BTreeMap::new(alloc);
     let session = MemorySession::new(&bump, &files);
-    match added_once(rt, alloc, &session, first, second) {
-        Some(made) => Some(made),
-        None => added_once(rt, alloc, &session, first, second),
+    let mut made = added_once(alloc, &session, objects, seen);
+    if made.0.is_empty() {
+        made = added_once(alloc, &session, objects, seen);
     }
+    made
+}
+
+/// The file is that of both objects, or of the first where the second was refused.
+fn hold_once(alloc: Global, objects: [&[u8]; 2], seen: &mut Seen) {
+    let (file, is_added) = added_once_surely(alloc, objects, seen);
+    let count = if is_added { 2 } else { 1 };
+    let whole = sure_whole(alloc, objects.get(..count).unwrap_or(&[]));
+    seen.expect("there is a file", !file.is_empty());
+    seen.expect(
+        "packing gives the same",
+        file.as_slice() == whole.as_slice(),
+    );
 }
 
 #[test]
 fn a_refused_object_is_not_in_the_file(rt: HostRuntime) {
+    let mut seen = Seen::new();
     let six = sure(rt.alloc(), Kind::Plain, 6);
     let strings = sure(rt.alloc(), Kind::Strings, 5);
-    let without = sure_whole(rt.alloc(), &[&six]);
-    let with = sure_whole(rt.alloc(), &[&six, &strings]);
-    match added_once_surely(&rt, rt.alloc(), &six, &strings) {
-        Some((file, is_refused)) => {
-            let whole = if is_refused { without } else { with };
-            hold_file(&rt, &file, whole);
-        }
-        None => holds(&rt, false),
-    }
+    hold_once(rt.alloc(), [&six, &strings], &mut seen);
+    all_held(&rt, &seen);
 }
 
-// Asserts that a file is this one, which there is.
-fn hold_file(rt: &impl Abort, file: &[u8], whole: Option<Vec<u8>>) {
-    match whole {
-        Some(whole) => holds(rt, whole.as_slice() == file),
-        None => holds(rt, false),
+/// Tells each refusal of packing two objects: of the whole call, of an object, of the file, whose
+/// size is that of this many objects refused.
+fn tell(alloc: Global, objects: &[&[u8]], seen: &mut Seen) {
+    match packed(alloc, objects) {
+        Ok(packed) => tell_packed(&packed, seen),
+        Err(fault) => seen.expect(MEMORY, matches!(fault, Error::Memory)),
     }
+    let file = sure_whole(alloc, objects);
+    seen.expect("both make 608 bytes", file.len() == 608);
+    seen.expect(
+        "the second is behind",
+        part(&file, 102, 20) == UNIT_6.as_slice(),
+    );
 }
 
-// Tells each refusal of packing two objects: of the whole call, of an object, of the file, whose
-// size is that of this many objects refused.
-fn tells(rt: &impl Abort, packed: &Packed, sizes: [usize; 2]) {
-    let refused = refused_count(rt, &packed.outcomes);
-    match &packed.file {
-        Ok(file) => same(rt, Some(&file.len()), sizes.get(refused)),
-        Err(fault) => {
-            same(rt, refused, 0);
-            holds(rt, matches!(fault, Error::Memory));
-        }
-    }
-}
-
-fn refused_count(rt: &impl Abort, outcomes: &[Result<(), Error>]) -> usize {
+fn tell_packed(packed: &Packed, seen: &mut Seen) {
     let mut refused = 0usize;
-    for outcome in outcomes {
-        if outcome.is_err() {
-            same(rt, name_of(outcome), "Memory");
+    for i in 0..packed.outcomes.len() {
+        if packed.outcomes[i].is_err() {
+            seen.expect(MEMORY, name_of(&packed.outcomes[i]) == "Memory");
             refused = refused.saturating_add(1);
         }
     }
-    refused
+    match &packed.file {
+        Ok(file) => {
+            let size = [608, 544].get(refused).copied().unwrap_or(0);
+            seen.expect("the file has the size of those added", file.len() == size);
+        }
+        Err(fault) => {
+            seen.expect("one refusal is told once", refused == 0);
+            seen.expect(MEMORY, matches!(fault, Error::Memory));
+        }
+    }
 }
 
 #[test]
 fn a_refused_allocation_of_packing_is_told(rt: HostRuntime) {
+    let mut seen = Seen::new();
     let five = sure(rt.alloc(), Kind::Plain, 5);
     let six = sure(rt.alloc(), Kind::Plain, 6);
-    tell_packing(&rt, rt.alloc(), &[&five, &six]);
-    hold_packing(&rt, rt.alloc(), &[&five, &six]);
-}
-
-fn tell_packing(rt: &impl Abort, alloc: Global, objects: &[&[u8]]) {
-    match packed(alloc, objects) {
-        Ok(packed) => tells(rt, &packed, [608, 544]),
-        Err(fault) => holds(rt, matches!(fault, Error::Memory)),
-    }
-}
-
-fn hold_packing(rt: &impl Abort, alloc: Global, objects: &[&[u8]]) {
-    let file = sure_whole(alloc, objects).unwrap_or(Vec::new(alloc));
-    has_part(rt, &file, 608, 102, &unit(6));
+    tell(rt.alloc(), &[&five, &six], &mut seen);
+    all_held(&rt, &seen);
 }

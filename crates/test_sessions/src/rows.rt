@@ -2,11 +2,11 @@
 //! it, fails, for each in turn. The text of a row ends with the file's size, where it is that of
 //! its units, or with why there is none.
 
-use crate::asserting::same;
-use crate::building::name_of;
+use crate::asserting::says;
+use crate::building::{Step, name_of};
 use crate::counting::{CountingSession, Refusal};
 use crate::objects::{Files, Kind, Naming, sure};
-use crate::running::{Objects, Step, is_made_of, told};
+use crate::running::{Objects, is_made_of, told};
 use bumpalo::Bump;
 use dwp_table::{DwarfObject, DwoId};
 use std::alloc::Global;
@@ -15,33 +15,37 @@ use std::process::Abort;
 use thorin::pack_groups;
 use thorin_faults::MissingReferencedObjectBehaviour;
 
-const SKIP: Step = Step::Named(MissingReferencedObjectBehaviour::Skip);
+const SKIP: Step<'static> = Step::Named(MissingReferencedObjectBehaviour::Skip);
 
-const STOP: Step = Step::Named(MissingReferencedObjectBehaviour::Error);
+const STOP: Step<'static> = Step::Named(MissingReferencedObjectBehaviour::Error);
 
-const NAMELESS_SKIP: Step = Step::SkippingNameless(MissingReferencedObjectBehaviour::Skip);
+const NAMELESS_SKIP: Step<'static> = Step::SkippingNameless(MissingReferencedObjectBehaviour::Skip);
 
-const NAMELESS_STOP: Step = Step::SkippingNameless(MissingReferencedObjectBehaviour::Error);
+const NAMELESS_STOP: Step<'static> = Step::SkippingNameless(
+    MissingReferencedObjectBehaviour::Error,
+);
 
 /// Asserts what the executable of the units 1 to 3 gives: which call is refused, by what number;
 /// the inputs; and what is told.
-fn hold_of_three(rt: &impl Abort, alloc: Global, rows: &[(Refusal, &[Step], &str)]) {
-    for row in rows {
-        let told = told(alloc, Naming::Three, Objects::Four, row.0, row.1);
-        same(rt, told.as_str(), row.2);
+fn hold_of_three(rt: &impl Abort, alloc: Global, rows: &[(Refusal, &[Step<'static>], &str)]) {
+    for i in 0..rows.len() {
+        let (refusal, steps, want) = rows[i];
+        let told = told(alloc, Naming::Three, Objects::Four, refusal, steps);
+        says(rt, told.as_str(), want);
     }
 }
 
 /// The same of an executable, the objects that there are, and the inputs.
-fn hold(rt: &impl Abort, alloc: Global, rows: &[(Naming, Objects, &[Step], &str)]) {
-    for row in rows {
-        let told = told(alloc, row.0, row.1, Refusal::None, row.2);
-        same(rt, told.as_str(), row.3);
+fn hold(rt: &impl Abort, alloc: Global, rows: &[(Naming, Objects, &[Step<'static>], &str)]) {
+    for i in 0..rows.len() {
+        let (naming, objects, steps, want) = rows[i];
+        let told = told(alloc, naming, objects, Refusal::None, steps);
+        says(rt, told.as_str(), want);
     }
 }
 
 /// The executable is read first, and then its objects 1 to 3.
-const READS: [(Refusal, &'static [Step], &'static str); 10] = [
+const READS: [(Refusal, &'static [Step<'static>], &'static str); 10] = [
     (
         Refusal::Read(0),
         &[SKIP],
@@ -100,7 +104,7 @@ fn each_read_fails_in_turn(rt: HostRuntime) {
 }
 
 /// The same where the session wants memory for a read, whatever is done where one can't be read.
-const WANTS: [(Refusal, &'static [Step], &'static str); 10] = [
+const WANTS: [(Refusal, &'static [Step<'static>], &'static str); 10] = [
     (
         Refusal::ReadForMemory(0),
         &[SKIP],
@@ -158,11 +162,11 @@ fn want_of_memory_is_never_passed_over(rt: HostRuntime) {
     hold_of_three(&rt, rt.alloc(), &WANTS);
 }
 
-const D: Step = Step::Object("/b/d.dwo");
+const D: Step<'static> = Step::Object("/b/d.dwo");
 
 /// An object behind the executable, and the executable a second time, which adds what a read kept
 /// away.
-const IN_TURN: [(Refusal, &'static [Step], &'static str); 8] = [
+const IN_TURN: [(Refusal, &'static [Step<'static>], &'static str); 8] = [
     (
         Refusal::Read(0),
         &[SKIP, D],
@@ -210,12 +214,12 @@ fn what_a_read_kept_away_is_added_by_a_second_try(rt: HostRuntime) {
     hold_of_three(&rt, rt.alloc(), &IN_TURN);
 }
 
-const OBJECT: Step = Step::Object("/b/a.dwo");
+const OBJECT: Step<'static> = Step::Object("/b/a.dwo");
 
-const NO_OBJECT: Step = Step::Object("/b/b.dwo");
+const NO_OBJECT: Step<'static> = Step::Object("/b/b.dwo");
 
 /// Executables with their objects and without them, and objects at paths.
-const EXECUTABLES: [(Naming, Objects, &'static [Step], &'static str); 15] = [
+const EXECUTABLES: [(Naming, Objects, &'static [Step<'static>], &'static str); 15] = [
     (
         Naming::Unit(5),
         Objects::Five,
@@ -331,8 +335,9 @@ const PLACINGS: [(u32, &'static str, &'static str); 3] = [
 
 #[test]
 fn relocations_and_packages_that_cannot_be_placed(rt: HostRuntime) {
-    for row in &PLACINGS {
-        let refusal = Refusal::Placing(row.0);
+    for i in 0..PLACINGS.len() {
+        let (placing, want, of_groups) = PLACINGS[i];
+        let refusal = Refusal::Placing(placing);
         let told = told(
             rt.alloc(),
             Naming::Relocated,
@@ -340,8 +345,8 @@ fn relocations_and_packages_that_cannot_be_placed(rt: HostRuntime) {
             refusal,
             &[SKIP],
         );
-        same(&rt, told.as_str(), row.1);
-        same(&rt, grouped(rt.alloc(), refusal), row.2);
+        says(&rt, told.as_str(), want);
+        says(&rt, grouped(rt.alloc(), refusal), of_groups);
     }
 }
 
@@ -353,12 +358,7 @@ fn grouped(alloc: Global, refusal: Refusal) -> &'static str {
     let bump = Bump::new(alloc);
     let session = CountingSession::new(&bump, &files, refusal);
     let answer = answer_of_groups(alloc, &session, &[&[&five], &[&six]]);
-    with_refusal(session.has_refused_placing(), answer)
-}
-
-fn with_refusal(is_refused: bool, answer: &'static str) -> &'static str {
-    match (is_refused, answer) {
-        (false, "Ok") => "Ok",
+    match (session.has_refused_placing(), answer) {
         (true, "Memory") => "Memory refused",
         (true, "Ok") => "another file",
         (_, name) => name,
@@ -375,13 +375,8 @@ fn answer_of_groups<'s>(
         DwarfObject::Compilation(DwoId(6)),
     ];
     match pack_groups(alloc, session, groups) {
-        Ok(file) => {
-            if is_made_of(alloc, &file, &units) {
-                "Ok"
-            } else {
-                "another file"
-            }
-        }
+        Ok(file) if is_made_of(alloc, &file, &units) => "Ok",
+        Ok(_) => "another file",
         Err(fault) => name_of(&Err(fault)),
     }
 }

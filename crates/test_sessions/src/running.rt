@@ -1,29 +1,18 @@
 //! What inputs give by a session that refuses a call: by a builder, and by packing them at once.
 
-use crate::building::{
-    add_named, add_path, add_those_named, finished, missing_units, name_of, packed_by, units,
-    whole, written,
-};
+use crate::asserting::Seen;
+use crate::building::{Step, add, file_of, name_of, whole};
 use crate::counting::{CountingSession, Refusal};
 use crate::objects::{Files, Kind, Naming, executable, put_file, put_object, sure};
 use bumpalo::Bump;
+use dwp_bytes::RelocationEntry;
 use dwp_elf::WritableObject;
 use dwp_table::DwarfObject;
-use std::alloc::{AllocError, Global};
+use std::alloc::Global;
 use std::collections::BTreeMap;
 use std::path::{AsPath, Path};
-use thorin::{Bucketable, DwarfPackage, Input, Packed};
-use thorin_faults::{Error, MissingReferencedObjectBehaviour};
-
-/// An input.
-#[derive(Clone, Copy)]
-pub enum Step {
-    Object(&'static str),
-    /// The executable at `/e`.
-    Named(MissingReferencedObjectBehaviour),
-    /// The same, where units that name no object are passed over.
-    SkippingNameless(MissingReferencedObjectBehaviour),
-}
+use thorin::{Bucketable, DwarfPackage, Input, Packed, pack};
+use thorin_faults::{Error, Session};
 
 /// Which objects there are.
 #[derive(Clone, Copy)]
@@ -37,33 +26,33 @@ pub enum Objects {
     Four,
 }
 
-fn files_of(alloc: Global, naming: Naming, objects: Objects) -> Files {
-    let mut files = BTreeMap::new(alloc);
-    // (where memory runs out, what is told is another text)
-    let _ = put_all(alloc, naming, objects, &mut files);
-    files
-}
-
-fn put_all(
-    alloc: Global,
-    naming: Naming,
-    objects: Objects,
-    files: &mut Files,
-) -> Result<(), AllocError> {
-    put_file(alloc, files, "/e", executable(alloc, naming)?)?;
+/// (where memory runs out, what is told is another text)
+fn put_all(alloc: Global, naming: Naming, objects: Objects, files: &mut Files) {
+    put_file(alloc, files, "/e", executable(alloc, naming));
     match objects {
-        Objects::None => Ok(()),
-        Objects::Five => put_object(alloc, files, "/b/a.dwo", 5),
-        Objects::Cut => put_file(alloc, files, "/b/a.dwo", vec![in alloc; 0u8; 15]?),
+        Objects::None => {}
+        Objects::Five => {
+            put_object(alloc, files, "/b/a.dwo", 5);
+        }
+        Objects::Cut => {
+            let cut = [0u8; 15].to_vec(alloc).unwrap_or(Vec::new(alloc));
+            put_file(alloc, files, "/b/a.dwo", cut);
+        }
         Objects::Four => put_four(alloc, files),
     }
 }
 
-fn put_four(alloc: Global, files: &mut Files) -> Result<(), AllocError> {
-    put_object(alloc, files, "/b/a.dwo", 1)?;
-    put_object(alloc, files, "/b/b.dwo", 2)?;
-    put_object(alloc, files, "/b/c.dwo", 3)?;
-    put_object(alloc, files, "/b/d.dwo", 4)
+fn put_four(alloc: Global, files: &mut Files) {
+    let objects = [
+        ("/b/a.dwo", 1),
+        ("/b/b.dwo", 2),
+        ("/b/c.dwo", 3),
+        ("/b/d.dwo", 4),
+    ];
+    for i in 0..4 {
+        let (path, id) = objects[i];
+        put_object(alloc, files, path, id);
+    }
 }
 
 /// What inputs give where the session refuses a call: what is answered of each, after how many
@@ -74,9 +63,10 @@ pub fn told(
     naming: Naming,
     objects: Objects,
     refusal: Refusal,
-    steps: &[Step],
+    steps: &[Step<'static>],
 ) -> String {
-    let files = files_of(alloc, naming, objects);
+    let mut files = BTreeMap::new(alloc);
+    put_all(alloc, naming, objects, &mut files);
     let bump = Bump::new(alloc);
     let session = CountingSession::new(&bump, &files, refusal);
     let ran = run_all(alloc, &session, steps);
@@ -92,32 +82,32 @@ struct Ran {
     answers: String,
     has: Vec<DwarfObject>,
     lacks: Vec<DwarfObject>,
-    file: Option<Vec<u8>>,
+    file: Vec<u8>,
     fault: String,
 }
 
-fn run_all<'s>(alloc: Global, session: &'s CountingSession<'s>, steps: &[Step]) -> Ran {
+fn run_all<'s, S: Session<RelocationEntry>>(
+    alloc: Global,
+    session: &'s S,
+    steps: &[Step<'_>],
+) -> Ran {
     let mut builder = DwarfPackage::new(alloc, session);
     let mut answers = String::new(alloc);
-    answer_each(&mut builder, steps, &mut answers);
-    let has = units(alloc, &builder).unwrap_or(Vec::new(alloc));
-    let lacks = missing_units(alloc, &builder).unwrap_or(Vec::new(alloc));
-    let object = finished(builder);
+    for i in 0..steps.len() {
+        put(&mut answers, add(&mut builder, steps[i]));
+        put(&mut answers, " ");
+    }
+    let has = builder.contained_units().iter().copied().collect(alloc);
+    let lacks = builder.missing_targets().collect(alloc);
+    let object = builder.finish();
     let mut fault = String::new(alloc);
     put_fault(&mut fault, &object);
     Ran {
         answers,
-        has,
-        lacks,
-        file: written_file(&object),
+        has: has.unwrap_or(Vec::new(alloc)),
+        lacks: lacks.unwrap_or(Vec::new(alloc)),
+        file: file_of(alloc, &object, &mut Seen::new()),
         fault,
-    }
-}
-
-fn written_file(object: &Result<WritableObject, Error>) -> Option<Vec<u8>> {
-    match object {
-        Ok(object) => written(object).ok(),
-        Err(_) => None,
     }
 }
 
@@ -137,34 +127,17 @@ fn put_fault(text: &mut String, object: &Result<WritableObject, Error>) {
     }
 }
 
-fn answer_each<'o, 's: 'o>(
-    builder: &mut DwarfPackage<'o, 's, CountingSession<'s>>,
-    steps: &[Step],
-    text: &mut String,
-) {
-    for i in 0..steps.len() {
-        put(
-            text,
-            match steps[i] {
-                Step::Object(path) => add_path(builder, path),
-                Step::Named(missing) => add_named(builder, missing),
-                Step::SkippingNameless(missing) => add_those_named(builder, missing),
-            },
-        );
-        put(text, " ");
-    }
-}
-
 /// Whether packing the inputs at once answers the same, and gives the same file.
-fn is_packed_so<'s>(
+fn is_packed_so<'s, S: Session<RelocationEntry>>(
     alloc: Global,
-    session: &'s CountingSession<'s>,
-    steps: &[Step],
+    session: &'s S,
+    steps: &[Step<'static>],
     ran: &Ran,
 ) -> bool {
     let mut inputs = Vec::new(alloc);
     for i in 0..steps.len() {
         let _ = inputs.push(match steps[i] {
+            Step::Bytes(bytes) => Input::Bytes(bytes),
             Step::Object(path) => Input::Object(Path::new(path)),
             Step::Named(missing) => Input::Executable(Path::new("/e"), missing),
             Step::SkippingNameless(missing) => {
@@ -172,7 +145,7 @@ fn is_packed_so<'s>(
             }
         });
     }
-    match packed_by(alloc, session, &inputs) {
+    match pack(alloc, session, &inputs) {
         Ok(packed) => is_so(alloc, packed, ran),
         Err(_) => false,
     }
@@ -184,7 +157,8 @@ fn is_so(alloc: Global, packed: Packed, ran: &Ran) -> bool {
         put(&mut text, name_of(&packed.outcomes[i]));
         put(&mut text, " ");
     }
-    text.as_str() == ran.answers.as_str() && packed.file.ok() == ran.file
+    let file = packed.file.unwrap_or(Vec::new(alloc));
+    text.as_str() == ran.answers.as_str() && file.as_slice() == ran.file.as_slice()
 }
 
 fn text_of(alloc: Global, ran: &Ran, session: &CountingSession<'_>, is_alike: bool) -> String {
@@ -216,19 +190,19 @@ fn put_units(text: &mut String, units: &[DwarfObject]) {
 
 /// Writes the size of the file of these units, or why there is none.
 fn put_file_of(alloc: Global, text: &mut String, ran: &Ran) {
-    match &ran.file {
-        None => put(text, ran.fault.as_str()),
-        Some(file) => {
-            put_number(text, file.len() as u64);
-            put(
-                text,
-                if is_made_of(alloc, file, &ran.has) {
-                    " bytes, theirs"
-                } else {
-                    " bytes, another file"
-                },
-            );
-        }
+    if ran.file.is_empty() {
+        put(text, ran.fault.as_str());
+    } else {
+        put_number(text, ran.file.len() as u64);
+        let is_theirs = is_made_of(alloc, &ran.file, &ran.has);
+        put(
+            text,
+            if is_theirs {
+                " bytes, theirs"
+            } else {
+                " bytes, another file"
+            },
+        );
     }
 }
 
@@ -243,8 +217,5 @@ pub fn is_made_of(alloc: Global, file: &[u8], units: &[DwarfObject]) -> bool {
     for i in 0..objects.len() {
         let _ = parts.push(objects[i].as_slice());
     }
-    match whole(alloc, &parts) {
-        Some(whole) => whole.as_slice() == file,
-        None => false,
-    }
+    whole(alloc, &parts).as_slice() == file
 }

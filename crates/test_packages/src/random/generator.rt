@@ -26,13 +26,13 @@ impl Generator {
         (self.stream.next_u64() % n as u64) as usize
     }
 
-    /// One of these; None where there are none.
-    pub fn one_of<'a, T>(&mut self, all: &'a [T]) -> Option<&'a T> {
+    /// One of these; no bytes where there are none.
+    pub fn one_of<'a>(&mut self, all: &[&'a [u8]]) -> &'a [u8] {
         let count = all.len();
         if count == 0 {
-            return None;
+            return &[];
         }
-        all.get(self.below(count))
+        all[self.below(count)]
     }
 
     /// Any byte.

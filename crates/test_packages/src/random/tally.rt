@@ -2,7 +2,7 @@
 
 /// How often a call answered, and how often it named a fault.
 #[derive(Clone, Copy, Default)]
-pub struct Count {
+struct Count {
     answers: u64,
     faults: u64,
 }
@@ -87,7 +87,7 @@ pub struct Tally {
 
 impl Count {
     /// Counts a call.
-    pub fn note(&mut self, answered: bool) {
+    fn note(&mut self, answered: bool) {
         if answered {
             self.answers = self.answers.saturating_add(1);
         } else {
@@ -95,13 +95,8 @@ impl Count {
         }
     }
 
-    /// How many calls there were.
-    fn calls(&self) -> u64 {
-        self.answers.saturating_add(self.faults)
-    }
-
     /// Which kinds of outcome there were.
-    pub fn outcomes(&self) -> &'static str {
+    fn outcomes(&self) -> &'static str {
         match (self.answers, self.faults) {
             (0, 0) => "no call",
             (_, 0) => "answers alone",
@@ -126,12 +121,12 @@ impl Tally {
         }
     }
 
-    /// The count of a number.
-    pub fn count(&self, call: usize) -> Count {
+    /// Which kinds of outcome a call had.
+    pub fn outcomes(&self, call: usize) -> &'static str {
         if call < 22 {
-            self.counts[call]
+            self.counts[call].outcomes()
         } else {
-            Count::default()
+            "no call"
         }
     }
 
@@ -139,7 +134,9 @@ impl Tally {
     pub fn calls(&self) -> u64 {
         let mut calls: u64 = 0;
         for i in 0..22 {
-            calls = calls.saturating_add(self.counts[i].calls());
+            calls = calls
+                .saturating_add(self.counts[i].answers)
+                .saturating_add(self.counts[i].faults);
         }
         calls
     }

@@ -1,51 +1,47 @@
 //! A file that is put together.
 
-use crate::asserting::same;
+use crate::asserting::{MEMORY, Seen, all_held};
 use dwp_elf::{Class, Endianness, SectionKind, WritableObject, WriteError};
-use std::alloc::Global;
-use std::process::Abort;
 
 const INFO: &[u8] =
     b"\x10\x00\x00\x00\x04\x00\x00\x00\x00\x00\x08\x01\x05\x00\x00\x00\x00\x00\x00\x00";
 
-/// Appends and writes; where memory is refused, nothing has changed.
-fn append_and_write(rt: &impl Abort, alloc: Global) -> Result<usize, WriteError> {
-    let mut object = WritableObject::new(alloc, Class::Elf64, 62, Endianness::Little);
-    match append_each(rt, &mut object) {
-        Ok(()) => written(&object),
-        Err(fault) => Err(fault),
+const SECTIONS: [(SectionKind, &'static [u8]); 3] = [
+    (SectionKind::Info, INFO),
+    (SectionKind::Str, b"a\0"),
+    (SectionKind::Info, INFO),
+];
+
+/// Appends sections up to the first that is refused; whether none is. Where memory is refused,
+/// nothing has changed.
+fn append_each(object: &mut WritableObject, seen: &mut Seen) -> bool {
+    for i in 0..SECTIONS.len() {
+        let (kind, bytes) = SECTIONS[i];
+        let size = object.file_size().unwrap_or(0);
+        if let Err(fault) = object.append(kind, bytes) {
+            seen.expect(MEMORY, matches!(fault, WriteError::Memory));
+            let is_left = object.file_size().unwrap_or(1) == size;
+            seen.expect("the size is as before", is_left);
+            return false;
+        }
     }
+    true
 }
 
-fn append_each(rt: &impl Abort, object: &mut WritableObject) -> Result<(), WriteError> {
-    append(rt, object, SectionKind::Info, INFO)?;
-    append(rt, object, SectionKind::Str, b"a\0")?;
-    append(rt, object, SectionKind::Info, INFO)
-}
-
-fn append(
-    rt: &impl Abort,
-    object: &mut WritableObject,
-    kind: SectionKind,
-    bytes: &[u8],
-) -> Result<(), WriteError> {
-    let size = object.file_size()?;
-    if let Err(error) = object.append(kind, bytes) {
-        same(rt, object.file_size()?, size);
-        return Err(error);
+/// Writes a file, which may be refused too.
+fn write(object: &WritableObject, seen: &mut Seen) {
+    match object.write() {
+        Ok(file) => seen.expect("the file has 408 bytes", file.len() == 408),
+        Err(fault) => seen.expect(MEMORY, matches!(fault, WriteError::Memory)),
     }
-    Ok(())
-}
-
-fn written(object: &WritableObject) -> Result<usize, WriteError> {
-    Ok(object.write()?.len())
 }
 
 #[test]
 fn refused_memory_is_answered(rt: HostRuntime) {
-    match append_and_write(&rt, rt.alloc()) {
-        Ok(size) => same(&rt, size, 408),
-        Err(WriteError::Memory) => {}
-        Err(_) => panic!(rt; "only memory was refused"),
+    let mut seen = Seen::new();
+    let mut object = WritableObject::new(rt.alloc(), Class::Elf64, 62, Endianness::Little);
+    if append_each(&mut object, &mut seen) {
+        write(&object, &mut seen);
     }
+    all_held(&rt, &seen);
 }

@@ -1,11 +1,10 @@
 //! Rows by place, and string offsets of a package.
 
-use crate::asserting::{holds, same};
+use crate::asserting::{MEMORY, Seen, all_held};
 use dwp_base::{Contribution, ContributionOffset, Endianness, SectionKind};
 use dwp_bytes::{Encoding, Format};
 use dwp_index::{DwarfObject, DwoId, UnitIndex};
 use std::alloc::Global;
-use std::process::Abort;
 use thorin_faults::Error;
 use thorin_packaged::{RowPlaces, remap_packaged_offsets};
 use thorin_parts::{IndexEntry, write_index};
@@ -23,7 +22,7 @@ const A_THEN_B: [u8; 24] = [
 ];
 
 /// The same once `b` stands first and `a` behind it.
-const A_THEN_B_IN_B_A: [u8; 24] = [
+const B_A: [u8; 24] = [
     8, 0, 0, 0, 5, 0, 0, 0, 2, 0, 0, 0, 8, 0, 0, 0, 5, 0, 0, 0, 0, 0, 0, 0,
 ];
 
@@ -60,21 +59,42 @@ fn index(alloc: Global) -> Result<Vec<u8>, Error> {
     write_index(alloc, Endianness::Little, &entries)
 }
 
-fn row_of(alloc: Global, index: &[u8]) -> Result<Option<u32>, Error> {
-    let index = UnitIndex::parse(index, Endianness::Little)?;
+fn hold_row(alloc: Global, index: &UnitIndex<'_>, seen: &mut Seen) {
     let range = Contribution {
         offset: ContributionOffset(0x10),
         size: 8,
     };
-    Ok(RowPlaces::new(alloc, Some(&index), SectionKind::Abbrev)?.find(range))
+    match RowPlaces::new(alloc, Some(index), SectionKind::Abbrev) {
+        Ok(places) => seen.expect("the row is 2", places.find(range) == Some(2)),
+        Err(fault) => seen.expect(MEMORY, matches!(fault, Error::Memory)),
+    }
 }
 
-fn remap(alloc: Global, strings: &mut PackageStringTable, index: &[u8]) -> Result<Vec<u8>, Error> {
-    let index = UnitIndex::parse(index, Endianness::Little)?;
+/// Where memory is refused, the string that was there still is.
+fn hold_range(alloc: Global, index: &UnitIndex<'_>, seen: &mut Seen) {
+    let mut strings = PackageStringTable::new(alloc);
+    if strings.get_or_insert(b"b").is_ok() {
+        let range = remap(alloc, &mut strings, index);
+        match range {
+            Ok(bytes) => seen.expect("`b` is first", bytes.as_slice() == B_A.as_slice()),
+            Err(fault) => {
+                seen.expect(MEMORY, matches!(fault, Error::Memory));
+                let is_there = strings.data().starts_with(b"b\0");
+                seen.expect("`b` is still there", is_there);
+            }
+        }
+    }
+}
+
+fn remap(
+    alloc: Global,
+    strings: &mut PackageStringTable,
+    index: &UnitIndex<'_>,
+) -> Result<Vec<u8>, Error> {
     remap_packaged_offsets(
         alloc,
         strings,
-        Some(&index),
+        Some(index),
         None,
         b"a\0b\0",
         &A_THEN_B,
@@ -83,36 +103,22 @@ fn remap(alloc: Global, strings: &mut PackageStringTable, index: &[u8]) -> Resul
     )
 }
 
-/// Where memory is refused, the string that was there still is.
-fn remap_once(rt: &impl Abort, alloc: Global, index: &[u8]) {
-    let mut strings = PackageStringTable::new(alloc);
-    if strings.get_or_insert(b"b").is_ok() {
-        let range = remap(alloc, &mut strings, index);
-        hold(rt, &range, strings.data());
-    }
-}
-
-fn hold(rt: &impl Abort, range: &Result<Vec<u8>, Error>, data: &[u8]) {
-    match range {
-        Ok(bytes) => same(rt, bytes.as_slice(), A_THEN_B_IN_B_A.as_slice()),
-        Err(fault) => {
-            holds(rt, matches!(fault, Error::Memory));
-            same(rt, data.get(..2), Some(b"b\0".as_slice()));
+fn hold_index(alloc: Global, index: &[u8], seen: &mut Seen) {
+    match UnitIndex::parse(index, Endianness::Little) {
+        Ok(index) => {
+            hold_row(alloc, &index, seen);
+            hold_range(alloc, &index, seen);
         }
+        Err(_) => seen.expect("the index is read", false),
     }
 }
 
 #[test]
 fn a_refused_allocation_is_want_of_memory(rt: HostRuntime) {
+    let mut seen = Seen::new();
     match index(rt.alloc()) {
-        Ok(index) => {
-            hold_row(&rt, row_of(rt.alloc(), &index));
-            remap_once(&rt, rt.alloc(), &index);
-        }
-        Err(fault) => holds(&rt, matches!(fault, Error::Memory)),
+        Ok(index) => hold_index(rt.alloc(), &index, &mut seen),
+        Err(fault) => seen.expect(MEMORY, matches!(fault, Error::Memory)),
     }
-}
-
-fn hold_row(rt: &impl Abort, row: Result<Option<u32>, Error>) {
-    holds(rt, matches!(row, Ok(Some(2)) | Err(Error::Memory)));
+    all_held(&rt, &seen);
 }

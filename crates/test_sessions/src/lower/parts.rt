@@ -1,42 +1,40 @@
 //! Hash tables, indexes and relocations.
 
-use crate::asserting::same;
-use crate::lower::put;
+use crate::asserting::{MEMORY, SECOND, Seen, all_held};
 use dwp_base::{Contribution, ContributionOffset, Endianness};
 use dwp_bytes::{Encoding, Format};
 use dwp_elf_read::ElfFile;
 use dwp_index::{DwarfObject, DwoId};
-use std::alloc::{AllocError, Global};
-use std::fmt::Debug;
-use std::process::Abort;
+use std::alloc::Global;
 use thorin::{IndexEntry, add_relocations, bucket, write_index};
 use thorin_faults::Error;
 
-/// Asserts what a call answers; where memory was refused, the same of `again`, of which none is.
-fn answers<T: PartialEq + Debug + Drop>(
-    rt: &impl Abort,
-    first: Result<T, Error>,
-    again: Option<T>,
-    want: T,
-) {
-    match first {
-        Ok(found) => same(rt, found, want),
-        Err(fault) => {
-            assert!(rt; matches!(fault, Error::Memory));
-            same(rt, again, Some(want));
+/// A call.
+#[derive(Clone, Copy)]
+enum Call<'a> {
+    /// Three units are looked at in as many slots as they have to be.
+    Look,
+    /// The index of one unit is written, which has 52 bytes.
+    Write,
+    /// Two places of an executable's `.debug_info` are relocated.
+    Relocate(&'a [u8]),
+}
+
+/// What a call gives: whether that is right.
+fn answer(alloc: Global, call: Call<'_>) -> Result<bool, Error> {
+    match call {
+        Call::Look => {
+            let units = [DwoId(0x3_0000_0001), DwoId(0x1), DwoId(0x2_0000_0001)];
+            let table = bucket(alloc, &units)?;
+            Ok(table.looked.as_slice() == [1, 2, 2].as_slice())
         }
+        Call::Write => Ok(write_index(alloc, Endianness::Little, &[entry()])?.len() == 52),
+        Call::Relocate(file) => Ok(relocated_count(alloc, file)? == 2),
     }
 }
 
-/// Whether three units have been looked at in as many slots as they have to be.
-fn looked(alloc: Global) -> Result<bool, Error> {
-    let units = [DwoId(0x3_0000_0001), DwoId(0x1), DwoId(0x2_0000_0001)];
-    Ok(bucket(alloc, &units)?.looked.as_slice() == [1, 2, 2].as_slice())
-}
-
-/// How many bytes the index of one unit has.
-fn index_size(alloc: Global) -> Result<usize, Error> {
-    let entry = IndexEntry {
+fn entry() -> IndexEntry {
+    IndexEntry {
         encoding: Encoding {
             version: 4,
             format: Format::Dwarf32,
@@ -56,36 +54,95 @@ fn index_size(alloc: Global) -> Result<usize, Error> {
         debug_str_offsets: None,
         debug_macinfo: None,
         debug_macro: None,
-    };
-    Ok(write_index(alloc, Endianness::Little, &[entry])?.len())
-}
-
-/// An executable for x86-64 with relocations of `.debug_info`, whose symbol 1 has the value 0x1000.
-fn executable(alloc: Global, relocations: &[u64; 6]) -> Result<Vec<u8>, AllocError> {
-    let mut bytes = Vec::new(alloc);
-    match put_parts(&mut bytes, relocations) {
-        Ok(()) => Ok(bytes),
-        Err(fault) => Err(fault),
     }
 }
 
-fn put_parts(bytes: &mut Vec<u8>, relocations: &[u64; 6]) -> Result<(), AllocError> {
-    bytes.extend_from_slice(b"\x7fELF\x02\x01\x01\0\0\0\0\0\0\0\0\0\x02\0\x3e\0\x01\0\0\0")?;
-    put(bytes, &[0, 0, 0xb0])?;
-    bytes.extend_from_slice(&[0, 0, 0, 0, 64, 0, 0, 0, 0, 0, 64, 0, 5, 0, 4, 0])?;
-    bytes.extend_from_slice(b"\0.debug_info\0\0\0\0")?;
-    put(bytes, &[0, 0, 0, 0, 0x1000, 0])?;
-    put(bytes, relocations)?;
-    put(bytes, &[0, 0, 0, 0, 0, 0, 0, 0])?;
-    put(bytes, &[0x1_0000_0001, 0, 0, 0x40, 0, 0, 0, 0])?;
-    put(bytes, &[0x2_0000_0000, 0, 0, 0x50, 48, 0, 0, 0])?;
-    put(bytes, &[0x4_0000_0000, 0, 0, 0x80, 48, 0x1_0000_0002, 0, 0])?;
-    put(bytes, &[0x3_0000_0000, 0, 0, 0x40, 13, 0, 0, 0])?;
-    Ok(())
+/// An executable for x86-64 with relocations of `.debug_info`, whose symbol 1 has the value 0x1000: its
+/// header (ELF gABI), the names of its sections, and its symbols, in words of 8 bytes.
+const FRONT: [u64; 16] = [
+    0x0001_0102_464c_457f,
+    0,
+    0x1_003e_0002,
+    0,
+    0,
+    0xb0,
+    64 << 32,
+    0x0004_0005_0040_0000,
+    0x5f67_7562_6564_2e00,
+    0x6f66_6e69,
+    0,
+    0,
+    0,
+    0,
+    0x1000,
+    0,
+];
+
+/// The headers of its sections behind the relocations, the first of which is none.
+const HEADERS: [u64; 40] = [
+    0,
+    0,
+    0,
+    0,
+    0,
+    0,
+    0,
+    0,
+    0x1_0000_0001,
+    0,
+    0,
+    0x40,
+    0,
+    0,
+    0,
+    0,
+    0x2_0000_0000,
+    0,
+    0,
+    0x50,
+    48,
+    0,
+    0,
+    0,
+    0x4_0000_0000,
+    0,
+    0,
+    0x80,
+    48,
+    0x1_0000_0002,
+    0,
+    0,
+    0x3_0000_0000,
+    0,
+    0,
+    0x40,
+    13,
+    0,
+    0,
+    0,
+];
+
+/// Adds numbers of 8 bytes, little endian; whether there is memory.
+fn put(bytes: &mut Vec<u8>, words: &[u64]) -> bool {
+    let mut is_whole = true;
+    for i in 0..words.len() {
+        is_whole = bytes.extend_from_slice(&words[i].to_le_bytes()).is_ok() && is_whole;
+    }
+    is_whole
+}
+
+/// The executable with two relocations; no bytes where memory is refused.
+fn executable(alloc: Global, relocations: &[u64; 6]) -> Vec<u8> {
+    let mut bytes = Vec::new(alloc);
+    if put(&mut bytes, &FRONT) && put(&mut bytes, relocations) && put(&mut bytes, &HEADERS) {
+        bytes
+    } else {
+        Vec::new(alloc)
+    }
 }
 
 /// How many places are relocated in `.debug_info`.
-fn count_of(alloc: Global, bytes: &[u8]) -> Result<usize, Error> {
+fn relocated_count(alloc: Global, bytes: &[u8]) -> Result<usize, Error> {
     let file = ElfFile::parse(bytes)?;
     match file.section_by_name(".debug_info") {
         Some(section) => Ok(add_relocations(alloc, &file, &section)?.len()),
@@ -93,51 +150,46 @@ fn count_of(alloc: Global, bytes: &[u8]) -> Result<usize, Error> {
     }
 }
 
-fn relocate(rt: &impl Abort, alloc: Global, bytes: &[u8], twice: &[u8]) {
-    let first = count_of(alloc, bytes);
-    let again = if first.is_err() {
-        count_of(alloc, bytes).ok()
-    } else {
-        None
-    };
-    answers(rt, first, again, 2);
-    let refused = count_of(alloc, twice);
-    assert!(rt;
-        matches!(
-            refused,
-            Err(Error::MultipleRelocations(_, 8) | Error::Memory)
-        )
+/// Whether a call isn't refused; memory alone may be.
+fn is_answered(alloc: Global, call: Call<'_>, seen: &mut Seen) -> bool {
+    match answer(alloc, call) {
+        Ok(is_right) => {
+            seen.expect("the answer is right", is_right);
+            true
+        }
+        Err(fault) => {
+            seen.expect(MEMORY, matches!(fault, Error::Memory));
+            false
+        }
+    }
+}
+
+fn hold(alloc: Global, call: Call<'_>, seen: &mut Seen) {
+    if !is_answered(alloc, call, seen) {
+        let is_done = is_answered(alloc, call, seen);
+        seen.expect(SECOND, is_done);
+    }
+}
+
+/// A place that is relocated twice is refused, unless memory is.
+fn hold_twice(alloc: Global, twice: &[u8], seen: &mut Seen) {
+    let count = relocated_count(alloc, twice);
+    seen.expect(
+        "the place 8 is relocated twice",
+        matches!(count, Err(Error::MultipleRelocations(_, 8) | Error::Memory)),
     );
-}
-
-fn look(rt: &impl Abort, alloc: Global) {
-    let first = looked(alloc);
-    let again = if first.is_err() {
-        looked(alloc).ok()
-    } else {
-        None
-    };
-    answers(rt, first, again, true);
-}
-
-fn write(rt: &impl Abort, alloc: Global) {
-    let first = index_size(alloc);
-    let again = if first.is_err() {
-        index_size(alloc).ok()
-    } else {
-        None
-    };
-    answers(rt, first, again, 52);
 }
 
 #[test]
 fn a_refused_allocation_is_want_of_memory(rt: HostRuntime) {
-    let alloc = rt.alloc();
-    look(&rt, alloc);
-    write(&rt, alloc);
-    let bytes = executable(alloc, &[8, 0x1_0000_0001, 0x100, 0, 10, 5]);
-    let twice = executable(alloc, &[8, 1, 0, 8, 1, 0]);
-    if let (Ok(bytes), Ok(twice)) = (bytes, twice) {
-        relocate(&rt, alloc, &bytes, &twice);
+    let mut seen = Seen::new();
+    hold(rt.alloc(), Call::Look, &mut seen);
+    hold(rt.alloc(), Call::Write, &mut seen);
+    let bytes = executable(rt.alloc(), &[8, 0x1_0000_0001, 0x100, 0, 10, 5]);
+    let twice = executable(rt.alloc(), &[8, 1, 0, 8, 1, 0]);
+    if !bytes.is_empty() && !twice.is_empty() {
+        hold(rt.alloc(), Call::Relocate(&bytes), &mut seen);
+        hold_twice(rt.alloc(), &twice, &mut seen);
     }
+    all_held(&rt, &seen);
 }

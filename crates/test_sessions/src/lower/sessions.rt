@@ -1,12 +1,11 @@
 //! What sessions read and place.
 
-use crate::asserting::same;
+use crate::asserting::{MEMORY, Seen, all_held};
 use bumpalo::Bump;
 use std::alloc::{AllocError, Global};
 use std::borrow::CowSlice;
 use std::collections::BTreeMap;
 use std::path::{AsPath, Path, PathBuf};
-use std::process::Abort;
 use std::rt::Files;
 use std::{env, fs, io, process};
 use thorin_faults::{ArenaSession, InputError, MemorySession, Session};
@@ -42,17 +41,15 @@ fn has_bytes<R: Files>(
 
 const BYTES: &[u8] = b"a few bytes";
 
-fn place(rt: &impl Abort, alloc: Global) {
+fn place(alloc: Global, seen: &mut Seen) {
     let bump = Bump::new(alloc);
     let files = BTreeMap::new(alloc);
     let session = MemorySession::new(&bump, &files);
-    same(rt, numbers_placed(&session), Some(100));
-    place_bytes(rt, alloc, &session);
-}
-
-fn place_bytes(rt: &impl Abort, alloc: Global, session: &MemorySession<'_>) {
+    let numbers = numbers_placed(&session);
+    seen.expect("a hundred numbers are placed", numbers == Some(100));
     if let (Ok(owned), Ok(again)) = (BYTES.to_vec(alloc), BYTES.to_vec(alloc)) {
-        same(rt, is_placed(session, BYTES, owned, again), true);
+        let is_placed = is_placed(&session, BYTES, owned, again);
+        seen.expect("bytes are placed", is_placed);
     }
 }
 
@@ -87,9 +84,11 @@ fn read(rt: &HostRuntime) -> io::Result<bool> {
 
 #[test]
 fn a_refused_allocation_is_want_of_memory(rt: HostRuntime) {
-    place(&rt, rt.alloc());
+    let mut seen = Seen::new();
+    place(rt.alloc(), &mut seen);
     match read(&rt) {
-        Ok(is_read) => same(&rt, is_read, true),
-        Err(fault) => same(&rt, fault.kind(), io::ErrorKind::OutOfMemory),
+        Ok(is_read) => seen.expect("the file has its bytes", is_read),
+        Err(fault) => seen.expect(MEMORY, fault.kind() == io::ErrorKind::OutOfMemory),
     }
+    all_held(&rt, &seen);
 }

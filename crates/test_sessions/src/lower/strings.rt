@@ -1,10 +1,10 @@
 //! A table of strings.
 
-use crate::asserting::{holds, same};
+use crate::asserting::{MEMORY, SECOND, Seen, all_held};
+use crate::objects::part;
 use dwp_base::Endianness;
 use dwp_bytes::{Encoding, Format};
 use std::alloc::Global;
-use std::process::Abort;
 use thorin::PackageStringTable;
 use thorin_faults::Error;
 
@@ -14,71 +14,66 @@ const GNU: Encoding = Encoding {
     address_size: 8,
 };
 
-/// Inserts a string; where memory is refused, none is there.
-fn insert(rt: &impl Abort, table: &mut PackageStringTable) {
-    if let Err(fault) = table.get_or_insert(b"int") {
-        assert!(rt; matches!(fault, Error::Memory));
-        same(rt, table.is_empty(), true);
-        same(rt, table.data().is_empty(), true);
+/// Inserts a string; whether it is there.
+fn is_inserted(table: &mut PackageStringTable, seen: &mut Seen) -> bool {
+    match table.get_or_insert(b"int") {
+        Ok(offset) => {
+            seen.expect("`int` stands first", offset.0 == 0);
+            true
+        }
+        Err(fault) => {
+            seen.expect(MEMORY, matches!(fault, Error::Memory));
+            false
+        }
     }
-    same(rt, inserted(table), Some(0));
 }
 
-fn inserted(table: &mut PackageStringTable) -> Option<usize> {
-    Some(table.get_or_insert(b"int").ok()?.0)
+/// Inserts a string twice; where memory is refused, none is there at first.
+fn insert(table: &mut PackageStringTable, seen: &mut Seen) {
+    if !is_inserted(table, seen) {
+        seen.expect("no string is there", table.is_empty());
+        seen.expect("nor any byte", table.data().is_empty());
+    }
+    let is_there = is_inserted(table, seen);
+    seen.expect(SECOND, is_there);
 }
 
-fn remap(table: &mut PackageStringTable, section: &[u8], offsets: &[u8]) -> Result<Vec<u8>, Error> {
-    table.remap_str_offsets_section(section, offsets, 4800, Endianness::Little, GNU)
-}
-
-/// The first two offsets of a range that is rewritten.
-fn rewritten(
+/// Rewrites a range; whether it is rewritten, so that its first two strings stand behind `int`.
+fn is_rewritten(
     table: &mut PackageStringTable,
     section: &[u8],
     offsets: &[u8],
-) -> Result<[u8; 8], Error> {
-    match remap(table, section, offsets) {
-        Ok(range) => Ok(first_of(&range)),
-        Err(fault) => Err(fault),
-    }
-}
-
-/// The first bytes of a range, and zeros where it has fewer.
-fn first_of(range: &[u8]) -> [u8; 8] {
-    let mut first = [0; 8];
-    for i in 0..8 {
-        if i < range.len() {
-            first[i] = range[i];
+    seen: &mut Seen,
+) -> bool {
+    match table.remap_str_offsets_section(section, offsets, 4800, Endianness::Little, GNU) {
+        Ok(range) => {
+            let want = [4, 0, 0, 0, 7, 0, 0, 0];
+            seen.expect(
+                "strings stand behind `int`",
+                part(&range, 0, 8) == want.as_slice(),
+            );
+            true
+        }
+        Err(fault) => {
+            seen.expect(MEMORY, matches!(fault, Error::Memory));
+            false
         }
     }
-    first
 }
 
 /// Rewrites a range; where memory is refused, the table has what it had, and then it is again.
-fn remap_again(rt: &impl Abort, table: &mut PackageStringTable, section: &[u8], offsets: &[u8]) {
-    match rewritten(table, section, offsets) {
-        Ok(found) => same(rt, found, WANT),
-        Err(fault) => {
-            holds(rt, matches!(fault, Error::Memory));
-            hold_before(rt, table);
-            same(rt, rewritten(table, section, offsets).ok(), Some(WANT));
-        }
+fn rewrite(table: &mut PackageStringTable, section: &[u8], offsets: &[u8], seen: &mut Seen) {
+    if !is_rewritten(table, section, offsets, seen) {
+        seen.expect("`int` alone is there", table.data() == b"int\0".as_slice());
+        let found = table.find_counted(b"\x01\x01").0;
+        seen.expect("no other string is found", found.is_none());
+        let is_done = is_rewritten(table, section, offsets, seen);
+        seen.expect(SECOND, is_done);
     }
-    hold_after(rt, table, section);
-}
-
-/// The first two offsets once the strings stand behind `int`.
-const WANT: [u8; 8] = [4, 0, 0, 0, 7, 0, 0, 0];
-
-fn hold_before(rt: &impl Abort, table: &PackageStringTable) {
-    same(rt, table.data(), b"int\0".as_slice());
-    same(rt, table.find_counted(b"\x01\x01").0, None);
-}
-
-fn hold_after(rt: &impl Abort, table: &PackageStringTable, section: &[u8]) {
-    same(rt, table.len(), 1201);
-    same(rt, table.data().get(4..), Some(section));
+    seen.expect("all strings are there", table.len() == 1201);
+    let behind = part(table.data(), 4, section.len());
+    seen.expect("the section stands behind `int`", behind == section);
+    seen.expect("and nothing else", table.data().len() == 3604);
 }
 
 /// Each string has two bytes; there are more than a chunk of positions holds.
@@ -92,11 +87,13 @@ fn a_refused_allocation_leaves_the_table_as_it_was(rt: HostRuntime) {
         offsets[4 * i] = (3 * i % 256) as u8;
         offsets[4 * i + 1] = (3 * i / 256) as u8;
     }
-    hold_table(&rt, rt.alloc(), &section, &offsets);
+    let mut seen = Seen::new();
+    hold_table(rt.alloc(), &section, &offsets, &mut seen);
+    all_held(&rt, &seen);
 }
 
-fn hold_table(rt: &impl Abort, alloc: Global, section: &[u8], offsets: &[u8]) {
+fn hold_table(alloc: Global, section: &[u8], offsets: &[u8], seen: &mut Seen) {
     let mut table = PackageStringTable::new(alloc);
-    insert(rt, &mut table);
-    remap_again(rt, &mut table, section, offsets);
+    insert(&mut table, seen);
+    rewrite(&mut table, section, offsets, seen);
 }
