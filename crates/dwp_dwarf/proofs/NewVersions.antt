@@ -219,7 +219,12 @@ value_changed n mid new added low path key value b now other is g fits above has
 
 -- what was added makes the nodes more
 pub grows_length : (old new : List Node) → Grows old new → length old ≤ length new
-grows_length old new g = omega (arith, ap (λ (l : List Node). length l) g.is, length-append old g.more)
+grows_length old new g = omega (
+  arith,
+  ap (λ (l : List Node). length l) g.is,
+  length-append old
+      g.more,
+)
 
 -- ---- the same by levels that aren't none
 

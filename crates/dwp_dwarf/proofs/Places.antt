@@ -1,5 +1,6 @@
 -- What is remembered of a place of a section of abbreviations, from what is remembered of the next.
-use Rattle.std.proofs.Common.{◌≡◌, ◌≢◌, ℕ, ◌≤◌, ◌-◌, List, [], length, Bool, true, false, Option, Some, None}
+use Rattle.std.proofs.Common.{◌≡◌, ◌≢◌, ℕ, ◌≤◌, ◌-◌, List, [], length, Bool, true}
+use Rattle.std.proofs.Common.{false, Option, Some, None}
 use Rattle.std.proofs.Common.{Result, Ok, Err, eqb, refl, ap, sym, subst, ◌∙◌, eq-eqb, arith}
 use Rattle.std.specs.Option.{IfSome}
 use Rattle.std.specs.Map.{lookup}
@@ -301,15 +302,18 @@ module _ {R : Type 0} (input : R → Input) where
               let other : value_in grown place.version c ≡ value_in nodes next.version c =
               others c (λ e. let never : true ≡ false = sym (eq-eqb code c (sym e)) ∙ apart in
               absurd cc) in
-              let table : r.table ≡ behind = one_input (last_of (length behind.bytes) section) r.table
+              let table : r.table ≡ behind = one_input (last_of (length behind.bytes) section)
+              r.table
               behind r.is (last_behind lebs section i left
               ((code, declaration_of input declared), behind) is h) in
               let says : declaration c r.table ≡ declaration c i = ap (declaration c) table
-              ∙ sym (look_up-other lebs c i ((code, declaration_of input declared), behind) h apart) in
+              ∙ sym (look_up-other lebs c i ((code, declaration_of input declared), behind) h apart)
+              in
               subst (λ (f : Option ReadError). SaidBy input new f (value_in grown place.version c)
               (declaration c i)) (sym fault)
               (subst (λ (o : Option ℕ). SaidBy input new next.fault o (declaration c i)) (sym other)
-              (subst (λ (d : Said). SaidBy input new next.fault (value_in nodes next.version c) d) says
+              (subst (λ (d : Said). SaidBy input new next.fault (value_in nodes next.version c) d)
+              says
               (said_stays old new next.fault (value_in nodes next.version c) (declaration c r.table)
               keeps (r.same c)))));
         }

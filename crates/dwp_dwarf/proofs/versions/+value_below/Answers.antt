@@ -18,7 +18,8 @@ returns-then-node-key t c = sym (at_here c.args.levels c.args.nodes.now c.args.v
 
 pub returns : goal.returns
 returns t c = c.value_below.ensures
-    ∙ ap (λ (v : ℕ). value_below (c.args.levels - 1) c.args.nodes.now v (c.args.bits / 2) c.args.key)
+    ∙ ap (λ (v : ℕ). value_below (c.args.levels - 1) c.args.nodes.now v (c.args.bits / 2)
+    c.args.key)
     (c.older.ensures ∙ ap (older c.args.version) c.side.ensures)
     ∙ sym (at_other c.args.levels c.args.nodes.now c.args.version c.args.bits c.args.key
     c.in-Some.node c.if-levels-eq0.false (sym c.node_of.ensures ∙ c.in-Some.is) c.if-node-key.false)

@@ -23,7 +23,8 @@ returns-in_ok-version-in-Ok-Some-clause-place g c = λ section new all is keeps 
     c.insert.new.self.nodes.items c.args.self.now.places new c.args.left c.in-Ok-Some.code
     c.in-Ok-Some.declared c.in_ok-next-in-Ok-Some.next _ is read
     (if_there (RemembersPlace g.R.Reader.input section c.args.self.now.firsts.nodes.items
-    c.args.self.now.places left) (get nat_cmp c.args.self.now.places left) c.in_ok-next-in-Ok-Some.next next
+    c.args.self.now.places left) (get nat_cmp c.args.self.now.places left)
+    c.in_ok-next-in-Ok-Some.next next
     (all left)) c.insert.ensures.grows keeps here refl refl c.in_ok-version-in-Ok-Some.ensures.fits
     c.in_ok-version-in-Ok-Some.ensures.value c.in_ok-version-in-Ok-Some.ensures.others
 
@@ -37,4 +38,5 @@ returns-in-Ok-None-clause-place g c = λ section new all is keeps here.
 pub returns-in-Err-clause-place : goal.returns-in-Err-clause-place
 returns-in-Err-clause-place g c = λ section new all is keeps here.
     place_fault g.R.Reader.input c.lebs_take_bytes.ensures section (g.R.Reader.input c.args.at)
-    c.args.self.now.firsts.nodes.items new c.args.left _ c.in-Err.fault is c.in-Err.ensures refl refl
+    c.args.self.now.firsts.nodes.items new c.args.left _ c.in-Err.fault is c.in-Err.ensures refl
+    refl
