@@ -31,49 +31,32 @@ fn tell(rt: &HostRuntime, line: &str) -> io::Result<()> {
     }
 }
 
+/// Runs a line by its first word, which may be a command's name already.
 fn answer(rt: &HostRuntime, line: &str, text: &mut Vec<u8>) -> io::Result<()> {
-    if let Some(file) = line.strip_prefix("size ") {
-        tell_size(rt, file, text)
-    } else if let Some(line) = line.strip_prefix("full ") {
-        let place = Place {
-            out: Takes::Full,
-            ..PLAIN
-        };
-        run_line(rt, line, place, text)
-    } else if let Some(line) = line.strip_prefix("closed ") {
-        let place = Place {
-            out: Takes::Closed,
-            ..PLAIN
-        };
-        run_line(rt, line, place, text)
-    } else if let Some(line) = line.strip_prefix("mute ") {
-        let place = Place {
-            err: Takes::Full,
-            ..PLAIN
-        };
-        run_line(rt, line, place, text)
-    } else if let Some(line) = line.strip_prefix("built ") {
-        let facts = Facts {
-            commit: "0123abc",
-            ..PLAIN.facts
-        };
-        run_line(rt, line, Place { facts, ..PLAIN }, text)
-    } else if let Some(line) = line.strip_prefix("tty ") {
-        let facts = Facts {
-            on_terminal: true,
-            ..PLAIN.facts
-        };
-        run_line(rt, line, Place { facts, ..PLAIN }, text)
-    } else if let Some(line) = line.strip_prefix("slow ") {
-        let facts = Facts {
-            on_terminal: true,
-            patience: 0,
-            ..PLAIN.facts
-        };
-        run_line(rt, line, Place { facts, ..PLAIN }, text)
-    } else {
-        run_line(rt, line, PLAIN, text)
+    let (word, rest) = line.split_once(' ').unwrap_or((line, ""));
+    match place_of(word) {
+        Some(place) => run_line(rt, rest, place, text),
+        None if word == "size" => tell_size(rt, rest, text),
+        None => run_line(rt, line, PLAIN, text),
     }
+}
+
+/// Where a line runs that begins with this word; None where the word says nothing of it.
+fn place_of(word: &str) -> Option<Place> {
+    let (mut out, mut err, mut facts) = (Takes::All, Takes::All, PLAIN.facts);
+    match word {
+        "full" => out = Takes::Full,
+        "closed" => out = Takes::Closed,
+        "mute" => err = Takes::Full,
+        "built" => facts.commit = "0123abc",
+        "tty" => facts.on_terminal = true,
+        "slow" => {
+            facts.on_terminal = true;
+            facts.patience = 0;
+        }
+        _ => return None,
+    }
+    Some(Place { facts, out, err })
 }
 
 /// Where a command line runs.
