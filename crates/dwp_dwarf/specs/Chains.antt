@@ -1,5 +1,5 @@
--- Tables of abbreviations that overlap: what tables say that go on at a place of the section is
--- remembered by the place. From a declaration on they all go on alike.
+-- Tables of abbreviations (DWARF 5, 7.5.3) that overlap: what tables say that go on at a place of
+-- the section is remembered by the place. From a declaration on they all go on alike.
 use Rattle.std.specs.Prelude.{◌≡◌, ◌≤◌, ◌-◌, ℕ, List, length, Option, Some, None, Result, Ok, Err}
 use Rattle.std.specs.Prelude.{IfSome}
 use Rattle.std.specs.Ordering.{nat_cmp}

@@ -141,8 +141,8 @@ impl<R: Reader> AbbreviationCache<R> {
     /// forgotten when it would have more.
     ///
     /// Tables that overlap go on alike from each declaration that they share. So once more was read
-    /// than two times the section, each declaration is read once for all of them; what is remembered
-    /// of it grows with the logarithm of how many there are.
+    /// than two times the section, what is said from a declaration on is remembered for all of them,
+    /// in at most four nodes of 24 bytes for each byte of the section.
     ///
     /// # Errors
     /// `OffsetOutOfRange` past the section's end, and those of `Abbreviations::get`. Want of memory

@@ -35,6 +35,9 @@ pub(crate) struct Place<R> {
     pub(crate) fault: Option<ReadError>,
 }
 
+/// How many nodes the versions have at most for each byte of the section: codes in order take fewer.
+const NODES_FOR_A_BYTE: usize = 4;
+
 /// What tables say that go on at places of a section: where they meet they go on alike, so each
 /// declaration is read for all of them.
 #[derive(Drop)]
@@ -57,7 +60,8 @@ impl<R: Reader> Chains<R> {
         }
     }
 
-    /// What the table at an offset of the section says of a code. None where there is no memory.
+    /// What the table at an offset of the section says of a code. None where there is no memory, or
+    /// as much was taken as may be.
     pub(crate) fn get(
         &mut self,
         section: R,
@@ -75,8 +79,16 @@ impl<R: Reader> Chains<R> {
             return None;
         }
         let left = length - offset;
+        if self.is_full(section) && !self.places.contains_key(&left) {
+            return None;
+        }
         self.learn_from(section, left);
         self.said(left, code)
+    }
+
+    /// Whether no more nodes may be added. Codes can be chosen so that each takes many.
+    fn is_full(&self, section: R) -> bool {
+        self.firsts.len() >= section.len().saturating_mul(NODES_FOR_A_BYTE)
     }
 
     /// What is remembered of a place.
@@ -161,13 +173,17 @@ impl<R: Reader> Chains<R> {
         lefts
     }
 
-    /// Remembers a place, where so many bytes are left. It isn't remembered where there is no memory.
+    /// Remembers a place, where so many bytes are left. It isn't remembered where there is no memory,
+    /// or as much was taken as may be.
     fn learn(&mut self, section: R, left: u64) -> Option<bool>
         ensures { RemembersPlaces R.input (R.input section) self.old
             → RemembersPlaces R.input (R.input section) self.new }
     {
         if self.places.contains_key(&left) {
             return Some(true);
+        }
+        if self.is_full(section) {
+            return None;
         }
         let at = last_of(section, left)?;
         let place = self.place_at(at, left)?;

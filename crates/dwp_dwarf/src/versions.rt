@@ -34,6 +34,11 @@ impl Versions {
         }
     }
 
+    /// How many nodes all versions have.
+    pub(crate) fn len(&self) -> usize {
+        self.nodes.len()
+    }
+
     /// The value of a key in a version.
     pub(crate) fn get(&self, version: u32, key: u64) -> Option<u64>
         ensures { result ≡ value_in self.now.nodes.items version key }

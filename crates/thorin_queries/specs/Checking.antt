@@ -65,8 +65,9 @@ abbrev pub lacks_abbreviations : Package → List UnitEntry → Bool
 lacks_abbreviations pack entries =
     not (length entries == 0) && (length pack.contents.abbrev_bytes == 0)
 
--- a package that has string offsets has no section of strings, or an empty one. The offsets are
--- those of strings there (DWARF 5, 7.26), and packing refuses a package without it
+-- a package that has string offsets (DWARF 5, 7.26) has no section of strings, or an empty one. The
+-- standard allows it where no offset names a string; but packing refuses such a package, or the one
+-- that it makes of it
 abbrev pub lacks_strings : Package → Bool
 lacks_strings pack =
     not (length pack.contents.str_offsets == 0) && (length pack.contents.strings == 0)

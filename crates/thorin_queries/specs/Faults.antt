@@ -77,8 +77,8 @@ TellsItself pack object unit lines = TellsOverlap pack object unit lines ⊎ Tel
 abbrev pub has_abbreviations : Package → Bool
 has_abbreviations pack = not (length pack.contents.abbrev_bytes == 0)
 
--- the row of a unit has no abbreviations, though the package has some: every unit needs them
--- (DWARF 5, 7.5.3)
+-- the row of a unit has no abbreviations, though the package has some: every unit's header names
+-- some (DWARF 5, 7.5.1.1)
 abbrev pub is_bare : Package → FoundUnit → Bool
 is_bare pack unit = has_abbreviations pack && is_none (range_in unit.row Abbrev)
 
