@@ -1,14 +1,17 @@
 -- A list of split units, one unit after the other.
-use Rattle.std.proofs.Common.{◌≡◌, ◌∙◌, List, [], ◌∷◌, ◌++◌, Option, Result, ap, sym, refl}
-use Rattle.std.proofs.Common.{append_assoc, length, take}
+use Rattle.std.proofs.Common.{◌≡◌, ◌∙◌, List, [], ◌∷◌, ◌++◌, Option, Result, Ok, Err, ap, sym, refl}
+use Rattle.std.proofs.Common.{append_assoc, length, map, take}
 use Rattle.std.proofs.lemmas.List.{append-nil}
 use Rattle.dwp_bytes.specs.declared.fault.ReadError.{ReadError}
 use Rattle.dwp_dwarf.specs.Units.{Unit as UnitMeaning}
 use Rattle.thorin_faults.specs.Fault.{Fault}
+use Rattle.thorin_faults.specs.declared.fault.Error.{Error}
 use Rattle.thorin_executable.specs.Sections.{DebugData}
 use Rattle.thorin_executable.specs.Skeletons.{Named, Listed, with_first, skeleton_read}
 use Rattle.thorin_executable.specs.Skeletons.{skeletons_from}
+use Rattle.thorin_executable.specs.View.{named, IsPushed}
 use Rattle.thorin_executable.specs.declared.listing.NamelessUnits.{NamelessUnits}
+use Rattle.thorin_executable.specs.declared.listing.Skeleton.{Skeleton}
 
 -- what comes first, and what the units behind it stand for
 pub first-then : (nameless : NamelessUnits) (debug : DebugData)
@@ -45,3 +48,13 @@ put-front before left all h = rw (sym h) (by before left.0)
     by : (xs ys : List Named) → take (length xs) (xs ++ ys) ≡ xs
     by [] ys = refl
     by (x ∷ xs) ys = ap (λ (l : List Named). x ∷ l) (by xs ys)
+
+-- what was added of a list is the first of it
+pub pushed-front : (meaning : Listed) (result : Result (Unit {0}) Error) (units : List Skeleton)
+    → IsPushed meaning result units → take (length units) meaning.0 ≡ map named units
+pushed-front meaning (Err e) units is = is.1
+pushed-front meaning (Ok x) units is = ap (λ (l : Listed). take (length units) l.0) is ∙ by units
+  where
+    by : (xs : List Skeleton) → take (length xs) (map named xs) ≡ map named xs
+    by [] = refl
+    by (x ∷ xs) = ap (λ (l : List Named). named x ∷ l) (by xs)

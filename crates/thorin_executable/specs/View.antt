@@ -78,11 +78,12 @@ IsNextNamed meaning (Ok (Some first)) path left = meaning ≡ (named_at path fir
 IsNextNamed meaning (Ok None) path left = (meaning ≡ ([], None)) × (left ≡ ([], None))
 IsNextNamed meaning (Err e) path left = MemoryAside e (meaning ≡ ([], Some (fault_of e)))
 
--- what becomes of the path that came last: it stays where a unit repeats it, and where none comes
+-- what becomes of the path that came last: it stays where a unit repeats it, where none comes, and
+-- where there is a fault
 abbrev pub IsPathAfter : Result (Option NamedUnit) Error → (old new : List ℕ) → Type 0
 IsPathAfter (Ok (Some unit)) old new = IsTrue unit.is_repeated → new ≡ old
 IsPathAfter (Ok None) old new = new ≡ old
-IsPathAfter (Err e) old new = Unit {0}
+IsPathAfter (Err e) old new = new ≡ old
 
 -- what all that was left became: units, and the fault that ended them
 abbrev pub IsPushed : Listed → Result (Unit {0}) Error → List Skeleton → Type 0

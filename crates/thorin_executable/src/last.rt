@@ -1,6 +1,7 @@
 //! The path that came last, and where its strings stand: many units may name one path.
 
-ghost use Rattle.std.specs.Prelude.{◌≡◌, None, Some, IsTrue, IfOk, IfSome, string_bytes};
+ghost use Rattle.std.specs.Prelude.{◌≡◌, [], None, Some, IsTrue, IfOk, IfSome, OnErr};
+ghost use Rattle.std.specs.Prelude.{string_bytes};
 ghost use Rattle.dwp_dwarf.specs.Attributes.{attribute_of};
 ghost use Rattle.dwp_dwarf.specs.Sections.{strings_of};
 ghost use Rattle.thorin_faults.specs.Answers.{Gives};
@@ -181,7 +182,8 @@ pub(crate) struct LastPath {
 impl LastPath {
     /// No path came yet.
     pub fn new(alloc: Global) -> LastPath
-        ensures { result.places ≡ None }
+        ensures places { result.places ≡ None }
+        ensures text { string_bytes result.text ≡ [] }
     {
         LastPath {
             alloc,
@@ -201,7 +203,7 @@ impl LastPath {
     }
 
     /// Makes it the path that an attribute of a root entry names. Answers whether it was that
-    /// before; then no string is read.
+    /// before; then no string is read. Where it fails, the text stays.
     #[tactic(auto, using(crate::proofs::Places::kept_is, crate::proofs::Places::kept_anew))]
     pub fn set<R: Reader>(
         &mut self,
@@ -217,6 +219,7 @@ impl LastPath {
         ensures kept { IsKept (strings_of R.input strings.now) self.new }
         ensures again { IfOk result (λ again. IsTrue again
             → string_bytes self.new.text ≡ string_bytes self.old.text) }
+        ensures failed { OnErr result (string_bytes self.new.text ≡ string_bytes self.old.text) }
     {
         let places = PathPlaces::of(format, root, name);
         if let Some(places) = places {

@@ -1,6 +1,6 @@
 //! The split units of an executable, whose paths are lent.
 
-ghost use Rattle.std.specs.Prelude.{◌≡◌, [], None, OnErr};
+ghost use Rattle.std.specs.Prelude.{◌≡◌, [], None, IfOk, OnErr};
 ghost use Rattle.thorin_executable.specs.Skeletons as spec;
 ghost use Rattle.thorin_executable.specs.View.{IsOpenedNamed, IsNextNamed, IsPathAfter};
 
@@ -51,7 +51,8 @@ impl<'a> NamedUnits<'a> {
         bytes: &'a [u8],
         nameless: NamelessUnits,
     ) -> Result<NamedUnits<'a>, Error>
-        ensures { IsOpenedNamed result (spec.skeletons_by nameless bytes.now) }
+        ensures opened { IsOpenedNamed result (spec.skeletons_by nameless bytes.now) }
+        ensures path { IfOk result (λ units. units.path ≡ []) }
     {
         let debug = DebugData::read(alloc, session, bytes)?;
         Ok(NamedUnits {
@@ -71,7 +72,8 @@ impl<'a> NamedUnits<'a> {
         self.left.next()
     }
 
-    /// The path of the object of the unit that came last; empty before the first.
+    /// The path of the object of the unit that came last; empty before the first. It stays at the end
+    /// of the units, and where one can't be read.
     pub fn path(&self) -> &str
         ensures { result.now ≡ self.now.path }
     {

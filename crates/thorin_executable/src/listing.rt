@@ -205,7 +205,8 @@ impl<R: Reader> Model for UnitsLeft<R> {
 impl<R: Reader> UnitsLeft<R> {
     /// All units.
     pub fn new(alloc: Global, debug: DebugData<R>, nameless: NamelessUnits) -> UnitsLeft<R>
-        ensures { result.listed ≡ spec.skeletons_in nameless (Ok (data_of R.input debug)) }
+        ensures listed { result.listed ≡ spec.skeletons_in nameless (Ok (data_of R.input debug)) }
+        ensures path { result.path ≡ [] }
     {
         UnitsLeft {
             last: LastPath::new(alloc),
