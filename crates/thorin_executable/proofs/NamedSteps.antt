@@ -50,10 +50,10 @@ put-front before left all h = rw (sym h) (by before left.0)
     by (x ∷ xs) ys = ap (λ (l : List Named). x ∷ l) (by xs ys)
 
 -- what was added of a list is the first of it
-pub pushed_front : (meaning : Listed) (result : Result (Unit {0}) Error) (units : List Skeleton)
+pub pushed-front : (meaning : Listed) (result : Result (Unit {0}) Error) (units : List Skeleton)
     → IsPushed meaning result units → take (length units) meaning.0 ≡ map named units
-pushed_front meaning (Err e) units is = is.1
-pushed_front meaning (Ok x) units is = ap (λ (l : Listed). take (length units) l.0) is ∙ by units
+pushed-front meaning (Err e) units is = is.1
+pushed-front meaning (Ok x) units is = ap (λ (l : Listed). take (length units) l.0) is ∙ by units
   where
     by : (xs : List Skeleton) → take (length xs) (map named xs) ≡ map named xs
     by [] = refl
