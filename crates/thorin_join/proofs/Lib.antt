@@ -5,3 +5,4 @@ pub mod Rows
 pub mod Units
 pub mod Joined
 pub mod Files
+pub mod Sizes

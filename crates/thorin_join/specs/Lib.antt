@@ -7,3 +7,4 @@ pub mod Represents
 pub mod Join
 pub mod StandApart
 pub mod FirstUse
+pub mod Sizes

@@ -1,6 +1,7 @@
 //! What packing means, as laws.
 
-ghost use Rattle.std.specs.Prelude.{◌≡◌, ℕ, ◌^◌, ◌<◌, Option, Ok};
+ghost use Rattle.std.specs.Prelude.{◌≡◌, ℕ, ◌+◌, ◌^◌, ◌<◌, ◌≤◌, List, length, Option, Ok, All};
+ghost use Rattle.std.specs.List.{sum_by};
 ghost use Rattle.dwp_base.specs.declared.section.SectionKind.TheVariants.{CuIndex, TuIndex};
 ghost use Rattle.dwp_elf.specs.FileText.{Object, file_text};
 ghost use Rattle.dwp_elf.specs.Contents.{KindsDiffer, content_of};
@@ -8,10 +9,15 @@ ghost use Rattle.dwp_elf.specs.Numbers.{Fits};
 ghost use Rattle.dwp_index.specs.Index.{Index};
 ghost use Rattle.dwp_index.specs.Holding.{sections_of};
 ghost use Rattle.dwp_index.specs.Package.{package_of, index_in_section};
-ghost use Rattle.thorin_join.specs.Builder.{State, finish_test, IsFinishedState};
+ghost use Rattle.thorin_join.specs.Builder.{State, finish_test, IsFinished, IsFinishedState};
+ghost use Rattle.thorin_join.specs.Builder.{with_input};
 ghost use Rattle.thorin_join.specs.Join.{IsPackageOnceWritten};
 ghost use Rattle.thorin_join.specs.Represents.{IsSoundBegun, units_in};
+ghost use Rattle.thorin_join.specs.Sizes.{bytes_of_contents, bytes_begun, carried_bytes, used_bytes};
+ghost use Rattle.thorin_join.specs.Sizes.{with_inputs, IsSizeFinished};
+ghost use Rattle.thorin_join.specs.State.{InProgress};
 
+use dwp_dwarf::laws::units_have_all_bytes;
 use dwp_elf::laws::written_contents_are_read_back;
 use dwp_index::laws::{contents_are_read, packages_find_exactly, units_are_named_once};
 use thorin_parts::laws::{written_index_has_the_entries, written_index_is_read};
@@ -53,4 +59,29 @@ pub fn finished_packages_are_read()
     contents_are_read();
     packages_find_exactly();
     units_are_named_once();
+}
+
+/// The law of sizes: an input adds to a package at most the bytes of its used sections, without its
+/// strings and indexes; inputs one after another at most the sum, which is at most the bytes of the
+/// inputs where no input's used sections have more bytes than it (where they don't overlap). What
+/// finishing adds is exact: each distinct string with its zero byte, and both indexes. The bytes of
+/// the inputs are no bound for the strings: a string offset may point into a string, so that one
+/// long string can bring all of its ends, each a string of its own. It does nothing.
+pub fn packages_grow_by_used_sections()
+    ensures input { (bytes : List ℕ) (begun now : Option InProgress)
+        → with_input bytes begun ≡ Ok now
+        → bytes_begun now ≤ bytes_begun begun + carried_bytes bytes }
+    ensures inputs { (inputs : List (List ℕ)) (begun now : Option InProgress)
+        → with_inputs inputs begun ≡ Ok now
+        → bytes_begun now ≤ bytes_begun begun + sum_by carried_bytes inputs }
+    ensures carried { (bytes : List ℕ) → carried_bytes bytes ≤ used_bytes bytes }
+    ensures files { (inputs : List (List ℕ)) (begun now : Option InProgress)
+        → All (λ bytes. used_bytes bytes ≤ length bytes) inputs
+        → with_inputs inputs begun ≡ Ok now
+        → bytes_begun now ≤ bytes_begun begun + sum_by length inputs }
+    ensures finished { (made : InProgress) (file : Object)
+        → IsFinished made file
+        → IsSizeFinished made (bytes_of_contents file.contents) }
+{
+    units_have_all_bytes();
 }

@@ -66,7 +66,7 @@ pub count-again : (format : Format) (l h n : ℕ) → l ≡ h + n * offset_size 
 count-again Dwarf32 l h n e = omega arith
 count-again Dwarf64 l h n e = omega arith
 
-count-fits : (format : Format) (l h : ℕ) → h ≤ l → h + (l - h) / offset_size format *
+pub count-fits : (format : Format) (l h : ℕ) → h ≤ l → h + (l - h) / offset_size format *
     offset_size format ≤ l
 count-fits Dwarf32 l h e = omega arith
 count-fits Dwarf64 l h e = omega arith

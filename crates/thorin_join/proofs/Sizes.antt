@@ -1,0 +1,5 @@
+pub mod Offsets
+pub mod Contents
+pub mod Units
+pub mod Input
+pub mod Finished

@@ -1,0 +1,187 @@
+-- Inputs add to the contents of a package at most the bytes of their used sections.
+use Rattle.std.proofs.Common.{◌≡◌, ◌∙◌, ℕ, zero, suc, ◌+◌, ◌<◌, ◌≤◌, Bool, true, false, cond, List}
+use Rattle.std.proofs.Common.{[], ◌∷◌, ◌++◌, length, refl, sym, ap, Result, Ok, Option, Some, None}
+use Rattle.std.proofs.Common.{arith}
+use Rattle.std.specs.Prelude.{All}
+use Rattle.std.specs.List.{sum_by}
+use Rattle.std.proofs.lemmas.List.Sums.{sum_by-cons}
+use Rattle.dwp_base.specs.declared.section.SectionKind.{SectionKind}
+use Rattle.dwp_base.specs.declared.section.SectionKind.TheVariants.{Info, Types, Abbrev, Line, Loc}
+use Rattle.dwp_base.specs.declared.section.SectionKind.TheVariants.{Loclists, Rnglists, StrOffsets}
+use Rattle.dwp_base.specs.declared.section.SectionKind.TheVariants.{Macinfo, Macro, Str, CuIndex}
+use Rattle.dwp_base.specs.declared.section.SectionKind.TheVariants.{TuIndex}
+use Rattle.dwp_base.specs.Reading.{◌>>=◌}
+use Rattle.dwp_base.specs.Sections.{same_kind}
+use Rattle.dwp_elf_read.specs.Elf.{Elf}
+use Rattle.dwp_dwarf.specs.Units.{UnitsAreTaken}
+use Rattle.thorin_faults.specs.Fault.{Fault}
+use Rattle.thorin_input.specs.Encodings.{encoding_of}
+use Rattle.thorin_input.specs.Growing.{with_parts}
+use Rattle.thorin_input.specs.Indexes.{Source, indexes_of}
+use Rattle.thorin_input.specs.NewUnits.{new_units, unit_section}
+use Rattle.thorin_input.specs.Parts.{is_copied, parts_of}
+use Rattle.thorin_input.specs.Used.{Used, InputFile, opened, has_info, counts_once, input_file_of}
+use Rattle.thorin_join.specs.Builder.{package_or_new, order_test, with_source_or_new, with_units}
+use Rattle.thorin_join.specs.Builder.{with_input}
+use Rattle.thorin_join.specs.Sizes.{bytes_of_contents, bytes_begun, sections_in, or_none}
+use Rattle.thorin_join.specs.Sizes.{sections_of_input, used_bytes, carried, carried_bytes}
+use Rattle.thorin_join.specs.Sizes.{with_inputs}
+use Rattle.thorin_join.specs.State.{InProgress, adding, abbreviations_test, with_source}
+use Rattle.thorin_join.proofs.Joined.Source.{with_all_parts, all-is}
+use Rattle.thorin_join.proofs.Sizes.Contents.{with_parts-long, unit_long, units-within, part_bytes}
+use Rattle.thorin_join.proofs.Sizes.Contents.{parts-within}
+use Rattle.thorin_join.proofs.Sizes.Units.{placed_bytes, unit_bytes, new-within}
+use Rattle.thorin_join.proofs.Steps.{bind-ok, bind-inv, ok-eq}
+
+-- ---- a section goes to one place at most
+one-place : (kind : SectionKind) (s : Used) (n : ℕ) → placed_bytes (unit_section kind) s ≤ n
+    → length s.bytes ≡ n
+    → cond (same_kind kind StrOffsets) n (cond (is_copied kind) n 0) + placed_bytes
+    (unit_section kind) s ≤ cond (counts_once kind) 0 n
+one-place Info s n h e = omega (arith, h)
+one-place Types s n h e = omega (arith, h)
+one-place Abbrev s n h e = omega arith
+one-place Line s n h e = omega arith
+one-place Loc s n h e = omega arith
+one-place Loclists s n h e = omega arith
+one-place Rnglists s n h e = omega arith
+one-place StrOffsets s n h e = omega arith
+one-place Macinfo s n h e = omega arith
+one-place Macro s n h e = omega arith
+one-place Str s n h e = omega arith
+one-place CuIndex s n h e = omega arith
+one-place TuIndex s n h e = omega arith
+
+placed-within : (kind : SectionKind) (s : Used) → placed_bytes (unit_section kind) s ≤
+    length s.bytes
+placed-within Info s = omega arith
+placed-within Types s = omega arith
+placed-within Abbrev s = omega arith
+placed-within Line s = omega arith
+placed-within Loc s = omega arith
+placed-within Loclists s = omega arith
+placed-within Rnglists s = omega arith
+placed-within StrOffsets s = omega arith
+placed-within Macinfo s = omega arith
+placed-within Macro s = omega arith
+placed-within Str s = omega arith
+placed-within CuIndex s = omega arith
+placed-within TuIndex s = omega arith
+
+places-within : (sections : List Used) → sum_by part_bytes sections + sum_by unit_bytes sections ≤
+    sum_by carried sections
+places-within [] = omega arith
+places-within (s ∷ ss) =
+    let one : part_bytes s + unit_bytes s ≤ carried s = one-place s.kind s (length s.bytes)
+    (placed-within s.kind s) refl in
+    omega (arith, one, places-within ss, sum_by-cons part_bytes s ss, sum_by-cons unit_bytes s ss,
+    sum_by-cons carried s ss)
+
+-- ---- an input with units
+source-within : UnitsAreTaken → (source : Source) (before now : InProgress)
+    → with_source source before ≡ Ok now
+    → bytes_of_contents now.file.contents ≤ bytes_of_contents before.file.contents + sum_by carried
+    source.object.sections
+unfolding with_source
+source-within taken source before now h =
+    let s1 = bind-inv (parts_of source before.strings) _ now h in
+    let s2 = bind-inv (abbreviations_test source.object) _ now s1.2 in
+    let s3 = bind-inv (new_units (adding source before s1.0.0)) _ now s2.2 in
+    let parts = s1.0.0 in
+    let new = s3.0 in
+    let q = with_all_parts before parts s1.0.1 (before.differing ++ new.differing) in
+    let is = ap (λ (m : InProgress). bytes_of_contents m.file.contents)
+    (sym (all-is before parts s1.0.1 new) ∙ ok-eq _ now s3.2) in
+    omega (arith, is, units-within q new.units, with_parts-long parts before.file.contents,
+    parts-within source before.strings s1.0 s1.1, new-within taken (adding source before parts) new
+    s3.1, places-within source.object.sections)
+
+begun-bytes : (file : Elf) (begun : Option InProgress)
+    → bytes_of_contents (package_or_new file begun).file.contents ≡ bytes_begun begun
+begun-bytes file None = refl
+begun-bytes file (Some made) = refl
+
+sections-at : (bytes : List ℕ) (file : Elf) (b : Bool) → opened bytes ≡ Ok file → has_info file ≡ b
+    → sections_of_input bytes ≡ or_none (cond b (input_file_of file >>= λ object. Ok
+    object.sections) (Ok []))
+unfolding sections_of_input sections_in
+sections-at bytes file b h k = ap or_none (bind-ok (opened bytes) file _ h ∙ ap (λ e.
+    cond e (input_file_of file >>= λ object. Ok object.sections) (Ok [])) k)
+
+units-taken : UnitsAreTaken → (bytes : List ℕ) (file : Elf) (begun now : Option InProgress)
+    → opened bytes ≡ Ok file → has_info file ≡ true → with_units file begun ≡ Ok now
+    → bytes_begun now ≤ bytes_begun begun + carried_bytes bytes
+unfolding with_units with_source_or_new
+units-taken taken bytes file begun now opens info h =
+    let s1 = bind-inv (input_file_of file) _ now h in
+    let s2 = bind-inv (encoding_of s1.0) _ now s1.2 in
+    let s3 = bind-inv (order_test s1.0.order begun) _ now s2.2 in
+    let s4 = bind-inv (indexes_of s1.0 s2.0) _ now s3.2 in
+    let source : Source = record { object = s1.0; encoding = s2.0; indexes = s4.0 } in
+    let s5 = bind-inv (with_source source (package_or_new file begun)) _ now s4.2 in
+    let is = ap bytes_begun (ok-eq _ now s5.2) in
+    let own : carried_bytes bytes ≡ sum_by carried s1.0.sections = ap (sum_by carried)
+    (sections-at bytes file true opens info ∙ ap or_none (bind-ok (input_file_of file) s1.0 _
+    s1.1)) in
+    omega (arith, is, own, begun-bytes file begun, source-within taken source
+    (package_or_new file begun) s5.0 s5.1)
+
+by-info : UnitsAreTaken → (bytes : List ℕ) (file : Elf) (begun now : Option InProgress) (b : Bool)
+    → opened bytes ≡ Ok file → has_info file ≡ b
+    → cond b (with_units file begun) (Ok (Some (package_or_new file begun))) ≡ Ok now
+    → bytes_begun now ≤ bytes_begun begun + carried_bytes bytes
+by-info taken bytes file begun now true opens info h =
+    units-taken taken bytes file begun now opens info h
+by-info taken bytes file begun now false opens info h =
+    let is = ap bytes_begun (ok-eq (Some (package_or_new file begun)) now h) in
+    omega (arith, is, begun-bytes file begun)
+
+pub input-within : UnitsAreTaken → (bytes : List ℕ) (begun now : Option InProgress)
+    → with_input bytes begun ≡ Ok now → bytes_begun now ≤ bytes_begun begun + carried_bytes bytes
+unfolding with_input
+input-within taken bytes begun now h =
+    let s = bind-inv (opened bytes) _ now h in
+    by-info taken bytes s.0 begun now (has_info s.0) s.1 refl s.2
+
+-- ---- inputs one after another
+pub inputs-within : UnitsAreTaken → (inputs : List (List ℕ)) (begun now : Option InProgress)
+    → with_inputs inputs begun ≡ Ok now
+    → bytes_begun now ≤ bytes_begun begun + sum_by carried_bytes inputs
+unfolding with_inputs
+inputs-within taken [] begun now h =
+    let is = ap bytes_begun (ok-eq begun now h) in
+    omega (arith, is)
+inputs-within taken (bytes ∷ inputs) begun now h =
+    let s = bind-inv (with_input bytes begun) _ now h in
+    omega (arith, input-within taken bytes begun s.0 s.1, inputs-within taken inputs s.0 now s.2,
+    sum_by-cons carried_bytes bytes inputs)
+
+-- ---- where used sections don't overlap
+carried-by : (once : Bool) (n : ℕ) → cond once 0 n ≤ n
+carried-by true n = omega arith
+carried-by false n = omega arith
+
+carried-sections : (sections : List Used) → sum_by carried sections ≤ sum_by (λ used.
+    length used.bytes) sections
+carried-sections [] = omega arith
+carried-sections (s ∷ ss) =
+    omega (arith, carried-by (counts_once s.kind) (length s.bytes), carried-sections ss,
+    sum_by-cons carried s ss, sum_by-cons (λ (used : Used). length used.bytes) s ss)
+
+pub carried-used : (bytes : List ℕ) → carried_bytes bytes ≤ used_bytes bytes
+carried-used bytes = carried-sections (sections_of_input bytes)
+
+lengths-within : (inputs : List (List ℕ)) → All (λ bytes. used_bytes bytes ≤ length bytes) inputs
+    → sum_by carried_bytes inputs ≤ sum_by length inputs
+lengths-within [] h = omega arith
+lengths-within (bytes ∷ inputs) h =
+    let one : used_bytes bytes ≤ length bytes = h 0 [] (omega arith) in
+    omega (arith, one, carried-used bytes, lengths-within inputs (λ k d within. h (suc k) d
+    (omega arith)), sum_by-cons carried_bytes bytes inputs,
+    sum_by-cons (length {A = ℕ}) bytes inputs)
+
+pub files-within : UnitsAreTaken → (inputs : List (List ℕ)) (begun now : Option InProgress)
+    → All (λ bytes. used_bytes bytes ≤ length bytes) inputs → with_inputs inputs begun ≡ Ok now
+    → bytes_begun now ≤ bytes_begun begun + sum_by length inputs
+files-within taken inputs begun now apart h =
+    omega (arith, inputs-within taken inputs begun now h, lengths-within inputs apart)

@@ -1,0 +1,81 @@
+-- How large a package becomes: what inputs add to its contents, and what finishing adds (DWARF 5,
+-- 7.3.5 and 7.3.5.3).
+use Rattle.std.specs.Prelude.{◌≡◌, ℕ, ◌+◌, ◌*◌, List, [], ◌∷◌, length, Option, slice_get, Result}
+use Rattle.std.specs.Prelude.{Ok, Err, MatchOption, if◌then◌else◌}
+use Rattle.std.specs.List.{sum_by}
+use Rattle.dwp_base.specs.Reading.{◌>>=◌}
+use Rattle.dwp_elf_read.specs.Elf.{Elf}
+use Rattle.dwp_table.specs.Table.{HasSlots}
+use Rattle.thorin_parts.specs.declared.entry.IndexEntry.{IndexEntry}
+use Rattle.thorin_parts.specs.IndexText.{used_sections}
+use Rattle.thorin_faults.specs.Fault.{Fault}
+use Rattle.thorin_input.specs.Growing.{Contents}
+use Rattle.thorin_input.specs.Used.{Used, InputFile, opened, has_info, counts_once, input_file_of}
+use Rattle.thorin_join.specs.Builder.{with_input, compilations, type_units}
+use Rattle.thorin_join.specs.StandApart.{contents_begun}
+use Rattle.thorin_join.specs.State.{InProgress}
+
+-- the bytes of all contents
+abbrev pub bytes_of_contents : Contents → ℕ
+bytes_of_contents contents = sum_by (λ c. length c.1) contents
+
+-- those of a package in progress, where an input has begun one: its strings and its indexes aren't
+-- among its contents before it is finished
+abbrev pub bytes_begun : Option InProgress → ℕ
+bytes_begun begun = bytes_of_contents (contents_begun begun)
+
+-- the used sections of an ELF file; an input without an info section has none
+unfoldable pub sections_in : Elf → Result (List Used) Fault
+sections_in file =
+    if has_info file then (input_file_of file >>= λ object. Ok object.sections) else Ok []
+
+-- none where an input can't be opened, or one of them can't be used
+abbrev pub or_none : Result (List Used) Fault → List Used
+or_none (Ok sections) = sections
+or_none (Err fault) = []
+
+unfoldable pub sections_of_input : List ℕ → List Used
+sections_of_input bytes = or_none (opened bytes >>= sections_in)
+
+-- the bytes of the used sections of an input
+abbrev pub used_bytes : List ℕ → ℕ
+used_bytes bytes = sum_by (λ used. length used.bytes) (sections_of_input bytes)
+
+-- the same without strings and indexes, which a package has of its own
+abbrev pub carried : Used → ℕ
+carried used = if counts_once used.kind then 0 else length used.bytes
+
+abbrev pub carried_bytes : List ℕ → ℕ
+carried_bytes bytes = sum_by carried (sections_of_input bytes)
+
+-- what inputs make of a package, one after another, or the first fault
+unfoldable pub with_inputs : List (List ℕ) → Option InProgress → Result (Option InProgress) Fault
+with_inputs [] begun = Ok begun
+with_inputs (bytes ∷ inputs) begun = do
+  next ← with_input bytes begun
+  with_inputs inputs next
+
+-- the bytes of strings, each with the zero byte that ends it
+abbrev pub bytes_of_strings : List (List ℕ) → ℕ
+bytes_of_strings strings = sum_by (λ string. length string + 1) strings
+
+-- the bytes of an index of so many slots: a header of 16, an identifier and a row number for each
+-- slot, and 4 for each column and for each offset and each size of a row
+abbrev pub bytes_of_index : (slots columns rows : ℕ) → ℕ
+bytes_of_index slots columns rows = 16 + 12 * slots + 4 * columns + 8 * (rows * columns)
+
+-- no entries have no index; else it has as many slots as their number wants, and a column for each
+-- kind of section that one of them has a part of
+abbrev pub IsSizeOfIndex : List IndexEntry → ℕ → Type 0
+IsSizeOfIndex entries size = MatchOption (slice_get entries 0) (size ≡ 0) (λ first.
+    (slots : ℕ) × HasSlots (length entries) slots
+    × (size ≡ bytes_of_index slots (length (used_sections entries)) (length entries)))
+
+-- a finished file's contents are those in progress, the strings and both indexes
+pub record IsSizeFinished (made : InProgress) (size : ℕ) : Type 0 where
+  pub compilation_index : ℕ
+  pub type_index : ℕ
+  pub of_compilations : IsSizeOfIndex (compilations made.rows) compilation_index
+  pub of_types : IsSizeOfIndex (type_units made.rows) type_index
+  pub is : size ≡ bytes_of_contents made.file.contents + bytes_of_strings made.strings
+      + compilation_index + type_index
