@@ -10,7 +10,7 @@ use Rattle.thorin_parts.specs.declared.entry.IndexEntry.{IndexEntry}
 use Rattle.thorin_parts.specs.IndexText.{used_sections}
 use Rattle.thorin_faults.specs.Fault.{Fault}
 use Rattle.thorin_input.specs.Growing.{Contents}
-use Rattle.thorin_input.specs.Used.{Used, InputFile, opened, has_info, counts_once, input_file_of}
+use Rattle.thorin_input.specs.Used.{Used, opened, has_info, counts_once, input_file_of}
 use Rattle.thorin_join.specs.Builder.{with_input, compilations, type_units}
 use Rattle.thorin_join.specs.StandApart.{contents_begun}
 use Rattle.thorin_join.specs.State.{InProgress}

@@ -1,9 +1,8 @@
 -- How many bytes the contents of a finished file have.
-use Rattle.std.proofs.Common.{◌≡◌, ◌∙◌, ℕ, suc, ◌+◌, ◌*◌, Bool, true, false, cond, eqb, List, []}
-use Rattle.std.proofs.Common.{◌∷◌, ◌++◌, length, map, refl, sym, ap, Option, Some, None, suc-mul}
+use Rattle.std.proofs.Common.{◌≡◌, ◌∙◌, ℕ, ◌+◌, ◌*◌, Bool, true, false, cond, eqb, List, []}
+use Rattle.std.proofs.Common.{◌∷◌, ◌++◌, length, refl, ap, Option, Some, None, suc-mul}
 use Rattle.std.proofs.Common.{zero-mul, arith}
 use Rattle.std.specs.Prelude.{MatchOption, slice_get}
-use Rattle.std.specs.List.{flat_map}
 use Rattle.std.proofs.lemmas.List.{length-append, length-map}
 use Rattle.std.proofs.lemmas.List.Sums.{sum_by-cons}
 use Rattle.dwp_base.specs.declared.endian.Endianness.{Endianness}
@@ -21,7 +20,7 @@ use Rattle.thorin_parts.specs.Entries.{offset_or_0, size_or_0}
 use Rattle.thorin_parts.specs.IndexText.{numbers_bytes, version_bytes, used_sections}
 use Rattle.thorin_parts.specs.IndexText.{column_numbers, row_numbers, rows_bytes, signatures_bytes}
 use Rattle.thorin_parts.specs.IndexText.{entry_ids, index_bytes, IsIndexText, IsIndexOf}
-use Rattle.thorin_input.specs.Growing.{Contents, with_bytes}
+use Rattle.thorin_input.specs.Growing.{with_bytes}
 use Rattle.thorin_join.specs.Builder.{IsFinished}
 use Rattle.thorin_join.specs.Sizes.{bytes_of_contents, bytes_of_strings, bytes_of_index}
 use Rattle.thorin_join.specs.Sizes.{IsSizeOfIndex, IsSizeFinished}

@@ -1,6 +1,6 @@
 -- Inputs add to the contents of a package at most the bytes of their used sections.
-use Rattle.std.proofs.Common.{◌≡◌, ◌∙◌, ℕ, zero, suc, ◌+◌, ◌<◌, ◌≤◌, Bool, true, false, cond, List}
-use Rattle.std.proofs.Common.{[], ◌∷◌, ◌++◌, length, refl, sym, ap, Result, Ok, Option, Some, None}
+use Rattle.std.proofs.Common.{◌≡◌, ◌∙◌, ℕ, suc, ◌+◌, ◌≤◌, Bool, true, false, cond, List}
+use Rattle.std.proofs.Common.{[], ◌∷◌, ◌++◌, length, refl, sym, ap, Ok, Option, Some, None}
 use Rattle.std.proofs.Common.{arith}
 use Rattle.std.specs.Prelude.{All}
 use Rattle.std.specs.List.{sum_by}
@@ -14,13 +14,11 @@ use Rattle.dwp_base.specs.Reading.{◌>>=◌}
 use Rattle.dwp_base.specs.Sections.{same_kind}
 use Rattle.dwp_elf_read.specs.Elf.{Elf}
 use Rattle.dwp_dwarf.specs.Units.{UnitsAreTaken}
-use Rattle.thorin_faults.specs.Fault.{Fault}
 use Rattle.thorin_input.specs.Encodings.{encoding_of}
-use Rattle.thorin_input.specs.Growing.{with_parts}
 use Rattle.thorin_input.specs.Indexes.{Source, indexes_of}
 use Rattle.thorin_input.specs.NewUnits.{new_units, unit_section}
 use Rattle.thorin_input.specs.Parts.{is_copied, parts_of}
-use Rattle.thorin_input.specs.Used.{Used, InputFile, opened, has_info, counts_once, input_file_of}
+use Rattle.thorin_input.specs.Used.{Used, opened, has_info, counts_once, input_file_of}
 use Rattle.thorin_join.specs.Builder.{package_or_new, order_test, with_source_or_new, with_units}
 use Rattle.thorin_join.specs.Builder.{with_input}
 use Rattle.thorin_join.specs.Sizes.{bytes_of_contents, bytes_begun, sections_in, or_none}
@@ -28,7 +26,7 @@ use Rattle.thorin_join.specs.Sizes.{sections_of_input, used_bytes, carried, carr
 use Rattle.thorin_join.specs.Sizes.{with_inputs}
 use Rattle.thorin_join.specs.State.{InProgress, adding, abbreviations_test, with_source}
 use Rattle.thorin_join.proofs.Joined.Source.{with_all_parts, all-is}
-use Rattle.thorin_join.proofs.Sizes.Contents.{with_parts-long, unit_long, units-within, part_bytes}
+use Rattle.thorin_join.proofs.Sizes.Contents.{with_parts-long, units-within, part_bytes}
 use Rattle.thorin_join.proofs.Sizes.Contents.{parts-within}
 use Rattle.thorin_join.proofs.Sizes.Units.{placed_bytes, unit_bytes, new-within}
 use Rattle.thorin_join.proofs.Steps.{bind-ok, bind-inv, ok-eq}

@@ -1,6 +1,6 @@
 -- The units that are read in a section have no more bytes than it.
 use Rattle.std.proofs.Common.{◌≡◌, ◌∙◌, ℕ, zero, suc, ◌+◌, ◌-◌, ◌≤◌, Bool, true, false, cond, eqb}
-use Rattle.std.proofs.Common.{List, [], ◌∷◌, ◌++◌, length, take, drop, min, refl, sym, ap, Result}
+use Rattle.std.proofs.Common.{List, [], ◌∷◌, ◌++◌, length, min, refl, sym, ap, Result}
 use Rattle.std.proofs.Common.{Ok, Err, Option, Some, None, arith}
 use Rattle.std.specs.List.{sum_by}
 use Rattle.std.specs.Str.{bytes_eq}
