@@ -3,14 +3,16 @@
 use Rattle.std.specs.Prelude.{◌≡◌, ℕ, ◌+◌, ◌*◌, List, [], ◌∷◌, length, Option, slice_get, Result}
 use Rattle.std.specs.Prelude.{Ok, Err, MatchOption, if◌then◌else◌}
 use Rattle.std.specs.List.{sum_by}
+use Rattle.dwp_base.specs.declared.section.SectionKind.TheVariants.{Str, StrOffsets}
 use Rattle.dwp_base.specs.Reading.{◌>>=◌}
+use Rattle.dwp_base.specs.Sections.{same_kind}
 use Rattle.dwp_elf_read.specs.Elf.{Elf}
 use Rattle.dwp_table.specs.Table.{HasSlots}
 use Rattle.thorin_parts.specs.declared.entry.IndexEntry.{IndexEntry}
 use Rattle.thorin_parts.specs.IndexText.{used_sections}
 use Rattle.thorin_faults.specs.Fault.{Fault}
 use Rattle.thorin_input.specs.Growing.{Contents}
-use Rattle.thorin_input.specs.Used.{Used, opened, has_info, counts_once, input_file_of}
+use Rattle.thorin_input.specs.Used.{Used, opened, has_info, counts_once, input_file_of, first}
 use Rattle.thorin_join.specs.Builder.{with_input, compilations, type_units}
 use Rattle.thorin_join.specs.StandApart.{contents_begun}
 use Rattle.thorin_join.specs.State.{InProgress}
@@ -48,6 +50,16 @@ carried used = if counts_once used.kind then 0 else length used.bytes
 abbrev pub carried_bytes : List ℕ → ℕ
 carried_bytes bytes = sum_by carried (sections_of_input bytes)
 
+-- the bytes of an input's string offsets, and of its section of strings
+abbrev pub offsets_used : Used → ℕ
+offsets_used used = if same_kind used.kind StrOffsets then length used.bytes else 0
+
+abbrev pub offset_bytes : List ℕ → ℕ
+offset_bytes bytes = sum_by offsets_used (sections_of_input bytes)
+
+abbrev pub string_bytes : List ℕ → ℕ
+string_bytes bytes = length (first Str (sections_of_input bytes))
+
 -- what inputs make of a package, one after another, or the first fault
 unfoldable pub with_inputs : List (List ℕ) → Option InProgress → Result (Option InProgress) Fault
 with_inputs [] begun = Ok begun
@@ -79,3 +91,8 @@ pub record IsSizeFinished (made : InProgress) (size : ℕ) : Type 0 where
   pub of_types : IsSizeOfIndex (type_units made.rows) type_index
   pub is : size ≡ bytes_of_contents made.file.contents + bytes_of_strings made.strings
       + compilation_index + type_index
+
+-- what the ELF file of a package has beside its contents at most: a header of 64 bytes, 15 section
+-- headers of 64, the names of 13 sections of 23, 11 more bytes of names, and 7 zeros
+abbrev pub container_most : ℕ
+container_most = 64 + 15 * 64 + 13 * 23 + 11 + 7

@@ -1,6 +1,6 @@
 //! What packing means, as laws.
 
-ghost use Rattle.std.specs.Prelude.{◌≡◌, ℕ, ◌+◌, ◌^◌, ◌<◌, ◌≤◌, List, length, Option, Ok, All};
+ghost use Rattle.std.specs.Prelude.{◌≡◌, ℕ, ◌+◌, ◌*◌, ◌^◌, ◌<◌, ◌≤◌, List, length, Option, Ok, All};
 ghost use Rattle.std.specs.List.{sum_by};
 ghost use Rattle.dwp_base.specs.declared.section.SectionKind.TheVariants.{CuIndex, TuIndex};
 ghost use Rattle.dwp_elf.specs.FileText.{Object, file_text};
@@ -11,10 +11,12 @@ ghost use Rattle.dwp_index.specs.Holding.{sections_of};
 ghost use Rattle.dwp_index.specs.Package.{package_of, index_in_section};
 ghost use Rattle.thorin_join.specs.Builder.{State, finish_test, IsFinished, IsFinishedState};
 ghost use Rattle.thorin_join.specs.Builder.{with_input};
+ghost use Rattle.thorin_join.specs.FirstUse.{strings_begun};
 ghost use Rattle.thorin_join.specs.Join.{IsPackageOnceWritten};
 ghost use Rattle.thorin_join.specs.Represents.{IsSoundBegun, units_in};
 ghost use Rattle.thorin_join.specs.Sizes.{bytes_of_contents, bytes_begun, carried_bytes, used_bytes};
-ghost use Rattle.thorin_join.specs.Sizes.{with_inputs, IsSizeFinished};
+ghost use Rattle.thorin_join.specs.Sizes.{bytes_of_strings, offset_bytes, string_bytes};
+ghost use Rattle.thorin_join.specs.Sizes.{with_inputs, IsSizeFinished, container_most};
 ghost use Rattle.thorin_join.specs.State.{InProgress};
 
 use dwp_dwarf::laws::units_have_all_bytes;
@@ -63,10 +65,13 @@ pub fn finished_packages_are_read()
 
 /// The law of sizes: an input adds to a package at most the bytes of its used sections, without its
 /// strings and indexes; inputs one after another at most the sum, which is at most the bytes of the
-/// inputs where no input's used sections have more bytes than it (where they don't overlap). What
-/// finishing adds is exact: each distinct string with its zero byte, and both indexes. The bytes of
-/// the inputs are no bound for the strings: a string offset may point into a string, so that one
-/// long string can bring all of its ends, each a string of its own. It does nothing.
+/// inputs where none has used sections of more bytes than itself (where they don't overlap).
+///
+/// Strings and indexes are a package's own. The bytes of the inputs are no bound for the strings: an
+/// offset may point into a string, so that one long string can bring each of its ends, and each is a
+/// string of its own. But an input brings one string at most for each 4 bytes of its string offsets,
+/// and none is longer than its section of strings. What finishing adds is exact: each string with
+/// its zero byte, and both indexes. The ELF file has few more bytes. It does nothing.
 pub fn packages_grow_by_used_sections()
     ensures input { (bytes : List ℕ) (begun now : Option InProgress)
         → with_input bytes begun ≡ Ok now
@@ -79,9 +84,16 @@ pub fn packages_grow_by_used_sections()
         → All (λ bytes. used_bytes bytes ≤ length bytes) inputs
         → with_inputs inputs begun ≡ Ok now
         → bytes_begun now ≤ bytes_begun begun + sum_by length inputs }
+    ensures strings { (bytes : List ℕ) (begun now : Option InProgress)
+        → with_input bytes begun ≡ Ok now
+        → 4 * bytes_of_strings (strings_begun now)
+        ≤ 4 * bytes_of_strings (strings_begun begun) + offset_bytes bytes * string_bytes bytes }
     ensures finished { (made : InProgress) (file : Object)
         → IsFinished made file
         → IsSizeFinished made (bytes_of_contents file.contents) }
+    ensures file { (file : Object)
+        → KindsDiffer file.contents
+        → length (file_text file) ≤ bytes_of_contents file.contents + container_most }
 {
     units_have_all_bytes();
 }

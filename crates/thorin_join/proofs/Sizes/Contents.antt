@@ -28,7 +28,7 @@ abbrev pub long : SectionKind × List ℕ → ℕ
 long c = length c.1
 
 -- ---- bytes that are added to a kind's
-cons-long : (c : SectionKind × List ℕ) (cs : Contents) → bytes_of_contents (c ∷ cs) ≡ length c.1
+pub cons-long : (c : SectionKind × List ℕ) (cs : Contents) → bytes_of_contents (c ∷ cs) ≡ length c.1
     + bytes_of_contents cs
 cons-long c cs = sum_by-cons long c cs
 

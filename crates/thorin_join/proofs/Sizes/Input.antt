@@ -1,5 +1,5 @@
 -- Inputs add to the contents of a package at most the bytes of their used sections.
-use Rattle.std.proofs.Common.{◌≡◌, ◌∙◌, ℕ, suc, ◌+◌, ◌≤◌, Bool, true, false, cond, List}
+use Rattle.std.proofs.Common.{◌⊎◌, inl, inr, ◌*◌, ◌≡◌, ◌∙◌, ℕ, suc, ◌+◌, ◌≤◌, Bool, true, false, cond, List}
 use Rattle.std.proofs.Common.{[], ◌∷◌, ◌++◌, length, refl, sym, ap, Ok, Option, Some, None}
 use Rattle.std.proofs.Common.{arith}
 use Rattle.std.specs.Prelude.{All}
@@ -18,17 +18,20 @@ use Rattle.thorin_input.specs.Encodings.{encoding_of}
 use Rattle.thorin_input.specs.Indexes.{Source, indexes_of}
 use Rattle.thorin_input.specs.NewUnits.{new_units, unit_section}
 use Rattle.thorin_input.specs.Parts.{is_copied, parts_of}
-use Rattle.thorin_input.specs.Used.{Used, opened, has_info, counts_once, input_file_of}
+use Rattle.thorin_input.specs.Used.{Used, opened, has_info, counts_once, input_file_of, first}
 use Rattle.thorin_join.specs.Builder.{package_or_new, order_test, with_source_or_new, with_units}
 use Rattle.thorin_join.specs.Builder.{with_input}
 use Rattle.thorin_join.specs.Sizes.{bytes_of_contents, bytes_begun, sections_in, or_none}
 use Rattle.thorin_join.specs.Sizes.{sections_of_input, used_bytes, carried, carried_bytes}
 use Rattle.thorin_join.specs.Sizes.{with_inputs}
+use Rattle.thorin_join.specs.FirstUse.{strings_begun}
+use Rattle.thorin_join.specs.Sizes.{bytes_of_strings, offsets_used, offset_bytes, string_bytes}
 use Rattle.thorin_join.specs.State.{InProgress, adding, abbreviations_test, with_source}
 use Rattle.thorin_join.proofs.Joined.Source.{with_all_parts, all-is}
 use Rattle.thorin_join.proofs.Sizes.Contents.{with_parts-long, units-within, part_bytes}
 use Rattle.thorin_join.proofs.Sizes.Contents.{parts-within}
 use Rattle.thorin_join.proofs.Sizes.Units.{placed_bytes, unit_bytes, new-within}
+use Rattle.thorin_join.proofs.Sizes.Strings.{units-strings, parts-most}
 use Rattle.thorin_join.proofs.Steps.{bind-ok, bind-inv, ok-eq}
 
 -- ---- a section goes to one place at most
@@ -94,10 +97,33 @@ source-within taken source before now h =
     parts-within source before.strings s1.0 s1.1, new-within taken (adding source before parts) new
     s3.1, places-within source.object.sections)
 
-begun-bytes : (file : Elf) (begun : Option InProgress)
-    → bytes_of_contents (package_or_new file begun).file.contents ≡ bytes_begun begun
-begun-bytes file None = refl
-begun-bytes file (Some made) = refl
+-- the strings are those that its string offsets name
+source-strings : (source : Source) (before now : InProgress) → with_source source before ≡ Ok now
+    → 4 * bytes_of_strings now.strings ≤ 4 * bytes_of_strings before.strings
+    + sum_by offsets_used source.object.sections * length (first Str source.object.sections)
+unfolding with_source
+source-strings source before now h =
+    let s1 = bind-inv (parts_of source before.strings) _ now h in
+    let s2 = bind-inv (abbreviations_test source.object) _ now s1.2 in
+    let s3 = bind-inv (new_units (adding source before s1.0.0)) _ now s2.2 in
+    let new = s3.0 in
+    let q = with_all_parts before s1.0.0 s1.0.1 (before.differing ++ new.differing) in
+    let is : bytes_of_strings s1.0.1 ≡ bytes_of_strings now.strings = ap bytes_of_strings
+    (sym (units-strings q new.units) ∙ ap (λ (m : InProgress). m.strings)
+    (sym (all-is before s1.0.0 s1.0.1 new) ∙ ok-eq _ now s3.2)) in
+    omega (arith, is, parts-most source before.strings s1.0 s1.1)
+
+-- ---- an input begins a package at most, or its units are added
+record Adds (bytes : List ℕ) (begun now : Option InProgress) : Type 0 where
+  file : Elf
+  source : Source
+  made : InProgress
+  with : with_source source (package_or_new file begun) ≡ Ok made
+  is : Some made ≡ now
+  used : sections_of_input bytes ≡ source.object.sections
+
+abbrev Begins : Option InProgress → Option InProgress → Type 0
+Begins begun now = (file : Elf) × (Some (package_or_new file begun) ≡ now)
 
 sections-at : (bytes : List ℕ) (file : Elf) (b : Bool) → opened bytes ≡ Ok file → has_info file ≡ b
     → sections_of_input bytes ≡ or_none (cond b (input_file_of file >>= λ object. Ok
@@ -106,40 +132,90 @@ unfolding sections_of_input sections_in
 sections-at bytes file b h k = ap or_none (bind-ok (opened bytes) file _ h ∙ ap (λ e.
     cond e (input_file_of file >>= λ object. Ok object.sections) (Ok [])) k)
 
-units-taken : UnitsAreTaken → (bytes : List ℕ) (file : Elf) (begun now : Option InProgress)
+units-added : (bytes : List ℕ) (file : Elf) (begun now : Option InProgress)
     → opened bytes ≡ Ok file → has_info file ≡ true → with_units file begun ≡ Ok now
-    → bytes_begun now ≤ bytes_begun begun + carried_bytes bytes
+    → Adds bytes begun now
 unfolding with_units with_source_or_new
-units-taken taken bytes file begun now opens info h =
+units-added bytes file begun now opens info h =
     let s1 = bind-inv (input_file_of file) _ now h in
     let s2 = bind-inv (encoding_of s1.0) _ now s1.2 in
     let s3 = bind-inv (order_test s1.0.order begun) _ now s2.2 in
     let s4 = bind-inv (indexes_of s1.0 s2.0) _ now s3.2 in
     let source : Source = record { object = s1.0; encoding = s2.0; indexes = s4.0 } in
     let s5 = bind-inv (with_source source (package_or_new file begun)) _ now s4.2 in
-    let is = ap bytes_begun (ok-eq _ now s5.2) in
-    let own : carried_bytes bytes ≡ sum_by carried s1.0.sections = ap (sum_by carried)
-    (sections-at bytes file true opens info ∙ ap or_none (bind-ok (input_file_of file) s1.0 _
-    s1.1)) in
-    omega (arith, is, own, begun-bytes file begun, source-within taken source
-    (package_or_new file begun) s5.0 s5.1)
+    record {
+      file = file;
+      source = source;
+      made = s5.0;
+      with = s5.1;
+      is = ok-eq _ now s5.2;
+      used = sections-at bytes file true opens info ∙ ap or_none (bind-ok (input_file_of file)
+          s1.0 _ s1.1);
+    }
 
-by-info : UnitsAreTaken → (bytes : List ℕ) (file : Elf) (begun now : Option InProgress) (b : Bool)
+by-info : (bytes : List ℕ) (file : Elf) (begun now : Option InProgress) (b : Bool)
     → opened bytes ≡ Ok file → has_info file ≡ b
     → cond b (with_units file begun) (Ok (Some (package_or_new file begun))) ≡ Ok now
+    → Adds bytes begun now ⊎ Begins begun now
+by-info bytes file begun now true opens info h = inl (units-added bytes file begun now opens info h)
+by-info bytes file begun now false opens info h =
+    inr (file, ok-eq (Some (package_or_new file begun)) now h)
+
+input-adds : (bytes : List ℕ) (begun now : Option InProgress) → with_input bytes begun ≡ Ok now
+    → Adds bytes begun now ⊎ Begins begun now
+unfolding with_input
+input-adds bytes begun now h =
+    let s = bind-inv (opened bytes) _ now h in
+    by-info bytes s.0 begun now (has_info s.0) s.1 refl s.2
+
+begun-bytes : (file : Elf) (begun : Option InProgress)
+    → bytes_of_contents (package_or_new file begun).file.contents ≡ bytes_begun begun
+begun-bytes file None = refl
+begun-bytes file (Some made) = refl
+
+begun-strings : (file : Elf) (begun : Option InProgress)
+    → bytes_of_strings (package_or_new file begun).strings ≡ bytes_of_strings (strings_begun begun)
+begun-strings file None = refl
+begun-strings file (Some made) = refl
+
+within-by : UnitsAreTaken → (bytes : List ℕ) (begun now : Option InProgress)
+    → Adds bytes begun now ⊎ Begins begun now
     → bytes_begun now ≤ bytes_begun begun + carried_bytes bytes
-by-info taken bytes file begun now true opens info h =
-    units-taken taken bytes file begun now opens info h
-by-info taken bytes file begun now false opens info h =
-    let is = ap bytes_begun (ok-eq (Some (package_or_new file begun)) now h) in
+within-by taken bytes begun now (inl a) =
+    let is = ap bytes_begun a.is in
+    let own : carried_bytes bytes ≡ sum_by carried a.source.object.sections =
+    ap (sum_by carried) a.used in
+    omega (arith, is, own, begun-bytes a.file begun, source-within taken a.source
+    (package_or_new a.file begun) a.made a.with)
+within-by taken bytes begun now (inr (file, same)) =
+    let is = ap bytes_begun same in
     omega (arith, is, begun-bytes file begun)
 
 pub input-within : UnitsAreTaken → (bytes : List ℕ) (begun now : Option InProgress)
     → with_input bytes begun ≡ Ok now → bytes_begun now ≤ bytes_begun begun + carried_bytes bytes
-unfolding with_input
-input-within taken bytes begun now h =
-    let s = bind-inv (opened bytes) _ now h in
-    by-info taken bytes s.0 begun now (has_info s.0) s.1 refl s.2
+input-within taken bytes begun now h = within-by taken bytes begun now (input-adds bytes begun now
+    h)
+
+-- the same of its strings
+strings-by : (bytes : List ℕ) (begun now : Option InProgress)
+    → Adds bytes begun now ⊎ Begins begun now
+    → 4 * bytes_of_strings (strings_begun now) ≤ 4 * bytes_of_strings (strings_begun begun)
+    + offset_bytes bytes * string_bytes bytes
+strings-by bytes begun now (inl a) =
+    let is = ap (λ n. bytes_of_strings (strings_begun n)) a.is in
+    let own : offset_bytes bytes * string_bytes bytes ≡ sum_by offsets_used
+    a.source.object.sections * length (first Str a.source.object.sections) =
+    ap (λ sections. sum_by offsets_used sections * length (first Str sections)) a.used in
+    omega (arith, is, own, begun-strings a.file begun, source-strings a.source
+    (package_or_new a.file begun) a.made a.with)
+strings-by bytes begun now (inr (file, same)) =
+    let is = ap (λ n. bytes_of_strings (strings_begun n)) same in
+    omega (arith, is, begun-strings file begun)
+
+pub input-strings : (bytes : List ℕ) (begun now : Option InProgress) → with_input bytes begun ≡
+    Ok now → 4 * bytes_of_strings (strings_begun now) ≤ 4 * bytes_of_strings (strings_begun begun)
+    + offset_bytes bytes * string_bytes bytes
+input-strings bytes begun now h = strings-by bytes begun now (input-adds bytes begun now h)
 
 -- ---- inputs one after another
 pub inputs-within : UnitsAreTaken → (inputs : List (List ℕ)) (begun now : Option InProgress)

@@ -99,11 +99,11 @@ and-first true b h = refl
 and-first false b h = h
 
 -- a range that was tested
-record Lies (encoding : Encoding) (size at : ℕ) (r : Contribution)
+pub record Lies (encoding : Encoding) (size at : ℕ) (r : Contribution)
     (rs : List Contribution) : Type 0 where
-  inside : r.offset.0 + r.size ≤ size
-  behind : at ≤ r.offset.0
-  rest : ranges_test encoding size (r.offset.0 + r.size) rs ≡ Ok tt
+  pub inside : r.offset.0 + r.size ≤ size
+  pub behind : at ≤ r.offset.0
+  pub rest : ranges_test encoding size (r.offset.0 + r.size) rs ≡ Ok tt
 
 lies-by : (encoding : Encoding) (size at : ℕ) (r : Contribution) (rs : List Contribution)
     (whole before : Bool) → is_whole_range encoding size r ≡ whole → ltb r.offset.0 at ≡ before
@@ -120,7 +120,7 @@ lies-by encoding size at r rs true false w b h = record {
   rest = h;
 }
 
-lies : (encoding : Encoding) (size at : ℕ) (r : Contribution) (rs : List Contribution)
+pub lies : (encoding : Encoding) (size at : ℕ) (r : Contribution) (rs : List Contribution)
     → ranges_test encoding size at (r ∷ rs) ≡ Ok tt → Lies encoding size at r rs
 unfolding ranges_test
 lies encoding size at r rs h = lies-by encoding size at r rs (is_whole_range encoding size r)
