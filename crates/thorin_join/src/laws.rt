@@ -63,15 +63,10 @@ pub fn finished_packages_are_read()
     units_are_named_once();
 }
 
-/// The law of sizes: an input adds to a package at most the bytes of its used sections, without its
-/// strings and indexes; inputs one after another at most the sum, which is at most the bytes of the
-/// inputs where none has used sections of more bytes than itself (where they don't overlap).
-///
-/// Strings and indexes are a package's own. The bytes of the inputs are no bound for the strings: an
-/// offset may point into a string, so that one long string can bring each of its ends, and each is a
-/// string of its own. But an input brings one string at most for each 4 bytes of its string offsets,
-/// and none is longer than its section of strings. What finishing adds is exact: each string with
-/// its zero byte, and both indexes. The ELF file has few more bytes. It does nothing.
+/// The law of sizes: an input adds to the contents of a package at most the bytes of its used
+/// sections, without strings and indexes, which a package has of its own; inputs one after another
+/// at most the sum. That is at most the bytes of the inputs, where none has used sections of more
+/// bytes than itself: where they don't overlap. It does nothing.
 pub fn packages_grow_by_used_sections()
     ensures input { (bytes : List ℕ) (begun now : Option InProgress)
         → with_input bytes begun ≡ Ok now
@@ -84,16 +79,35 @@ pub fn packages_grow_by_used_sections()
         → All (λ bytes. used_bytes bytes ≤ length bytes) inputs
         → with_inputs inputs begun ≡ Ok now
         → bytes_begun now ≤ bytes_begun begun + sum_by length inputs }
-    ensures strings { (bytes : List ℕ) (begun now : Option InProgress)
+{
+    units_have_all_bytes();
+}
+
+/// The law of strings' sizes: an input brings one string at most for each 4 bytes of its string
+/// offsets, and none has more bytes than its section of strings, zero byte included.
+///
+/// The bytes of the inputs themselves are no bound: an offset may point into a string, so that one
+/// long string can bring each of its ends, and each is a string of its own. It does nothing.
+pub fn strings_grow_by_offsets()
+    ensures input { (bytes : List ℕ) (begun now : Option InProgress)
         → with_input bytes begun ≡ Ok now
         → 4 * bytes_of_strings (strings_begun now)
         ≤ 4 * bytes_of_strings (strings_begun begun) + offset_bytes bytes * string_bytes bytes }
-    ensures finished { (made : InProgress) (file : Object)
+    ensures inputs { (inputs : List (List ℕ)) (begun now : Option InProgress)
+        → with_inputs inputs begun ≡ Ok now
+        → 4 * bytes_of_strings (strings_begun now)
+        ≤ 4 * bytes_of_strings (strings_begun begun)
+        + sum_by (λ bytes. offset_bytes bytes * string_bytes bytes) inputs }
+{}
+
+/// The law of finished sizes: what finishing adds to the contents is each string with its zero byte
+/// and both indexes, whose sizes the rows determine; the ELF file of any contents of distinct kinds
+/// has at most `container_most` bytes beside them. It does nothing.
+pub fn finished_packages_have_their_sizes()
+    ensures contents { (made : InProgress) (file : Object)
         → IsFinished made file
         → IsSizeFinished made (bytes_of_contents file.contents) }
     ensures file { (file : Object)
         → KindsDiffer file.contents
         → length (file_text file) ≤ bytes_of_contents file.contents + container_most }
-{
-    units_have_all_bytes();
-}
+{}

@@ -7,4 +7,7 @@ mod laws;
 
 pub use beside::{inputs_stand_apart, strings_stand_in_order_of_first_use};
 pub use joins::inputs_are_joined;
-pub use laws::{finished_packages_are_read, packages_grow_by_used_sections, written_packages_are_read};
+pub use laws::{
+    finished_packages_are_read, finished_packages_have_their_sizes, packages_grow_by_used_sections,
+    strings_grow_by_offsets, written_packages_are_read,
+};

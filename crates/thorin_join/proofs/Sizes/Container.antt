@@ -1,5 +1,5 @@
 -- An ELF file has few bytes beside its contents.
-use Rattle.std.proofs.Common.{◌≡◌, ℕ, ◌+◌, ◌*◌, ◌%◌, ◌-◌, ◌≤◌, List, [], ◌∷◌, ◌++◌, length, refl}
+use Rattle.std.proofs.Common.{◌≡◌, ℕ, ◌+◌, ◌*◌, ◌≤◌, [], ◌∷◌, ◌++◌, length, refl}
 use Rattle.std.proofs.Common.{arith}
 use Rattle.std.specs.Prelude.{codes}
 use Rattle.std.proofs.lemmas.List.{length-append}
@@ -24,8 +24,12 @@ use Rattle.thorin_join.proofs.Sizes.Contents.{cons-long}
 contents-long : (cs : Contents) → length (content_bytes cs) ≡ bytes_of_contents cs
 unfolding content_bytes
 contents-long [] = refl
-contents-long (c ∷ cs) = omega (arith, length-append c.1 (content_bytes cs), contents-long cs,
-    cons-long c cs)
+contents-long (c ∷ cs) = omega (
+  arith,
+  length-append c.1 (content_bytes cs),
+  contents-long cs,
+  cons-long c cs,
+)
 
 name-within : (kind : SectionKind) → length (name_of kind) ≤ 22
 name-within Info = omega arith
@@ -45,24 +49,46 @@ name-within TuIndex = omega arith
 names-within : (cs : Contents) → length (names_of cs) ≤ 23 * length cs
 unfolding names_of
 names-within [] = omega arith
-names-within (c ∷ cs) = omega (arith, length-append (name_of c.0 ++ 0 ∷ []) (names_of cs),
-    length-append (name_of c.0) (0 ∷ []), name-within c.0, names-within cs)
+names-within (c ∷ cs) = omega (
+  arith,
+  length-append (name_of c.0 ++ 0 ∷ []) (names_of cs),
+  length-append (name_of c.0) (0 ∷ []),
+  name-within c.0,
+  names-within cs,
+)
 
 table-within : (cs : Contents) → length (name_table cs) ≤ 11 + 23 * length cs
-table-within cs = omega (arith, length-append (names_of cs) (codes ".shstrtab" ++ 0 ∷ []),
-    names-within cs)
+table-within cs = omega (
+  arith,
+  length-append (names_of cs) (codes ".shstrtab" ++ 0 ∷ []),
+  names-within cs,
+)
 
 zeros-within : (n : ℕ) → zeros_after n ≤ 7
 zeros-within n = omega arith
 
 length-within : (class : Class) (cs : Contents) → length cs ≤ 13 → file_length class cs ≤
     bytes_of_contents cs + container_most
-length-within Elf32 cs few = omega (arith, few, contents-long cs, table-within cs,
-    zeros-within (names_end Elf32 cs))
-length-within Elf64 cs few = omega (arith, few, contents-long cs, table-within cs,
-    zeros-within (names_end Elf64 cs))
+length-within Elf32 cs few = omega (
+  arith,
+  few,
+  contents-long cs,
+  table-within cs,
+  zeros-within (names_end Elf32 cs),
+)
+length-within Elf64 cs few = omega (
+  arith,
+  few,
+  contents-long cs,
+  table-within cs,
+  zeros-within (names_end Elf64 cs),
+)
 
 pub file-within : (file : Object) → KindsDiffer file.contents
     → length (file_text file) ≤ bytes_of_contents file.contents + container_most
-file-within file differ = omega (arith, length-file_text file, length-within file.class
-    file.contents (length-KindsDiffer file.contents differ))
+file-within file differ = omega (
+  arith,
+  length-file_text file,
+  length-within file.class
+      file.contents (length-KindsDiffer file.contents differ),
+)

@@ -36,10 +36,18 @@ appended-by : (same : Bool) (k : SectionKind) (bytes : List ℕ) (c : SectionKin
     (cs : Contents) → bytes_of_contents (appended k bytes cs) ≡ bytes_of_contents cs + length bytes
     → bytes_of_contents (cond same ((c.0, c.1 ++ bytes) ∷ cs) (c ∷ appended k bytes cs)) ≡
     bytes_of_contents (c ∷ cs) + length bytes
-appended-by true k bytes c cs later = omega (arith, cons-long (c.0, c.1 ++ bytes) cs,
-    cons-long c cs, length-append c.1 bytes)
-appended-by false k bytes c cs later = omega (arith, cons-long c (appended k bytes cs),
-    cons-long c cs, later)
+appended-by true k bytes c cs later = omega (
+  arith,
+  cons-long (c.0, c.1 ++ bytes) cs,
+  cons-long c cs,
+  length-append c.1 bytes,
+)
+appended-by false k bytes c cs later = omega (
+  arith,
+  cons-long c (appended k bytes cs),
+  cons-long c cs,
+  later,
+)
 
 appended-long : (k : SectionKind) (bytes : List ℕ) (c : Contents)
     → bytes_of_contents (appended k bytes c) ≡ bytes_of_contents c + length bytes
@@ -61,8 +69,12 @@ pub with_parts-long : (parts c : Contents) → bytes_of_contents (with_parts par
     bytes_of_contents c + bytes_of_contents parts
 unfolding with_parts
 with_parts-long [] c = omega arith
-with_parts-long (p ∷ ps) c = omega (arith, with_parts-long ps (with_bytes p.0 p.1 c),
-    with_bytes-long p.0 p.1 c, cons-long p ps)
+with_parts-long (p ∷ ps) c = omega (
+  arith,
+  with_parts-long ps (with_bytes p.0 p.1 c),
+  with_bytes-long p.0 p.1 c,
+  cons-long p ps,
+)
 
 -- ---- units
 abbrev pub unit_long : DwarfObject × NewUnit → ℕ
@@ -72,8 +84,11 @@ unit-by : (there : Bool) (made : InProgress) (unit : DwarfObject × NewUnit)
     → bytes_of_contents (cond there made (with_unit_added made unit)).file.contents ≤
     bytes_of_contents made.file.contents + length unit.1.bytes
 unit-by true made unit = omega arith
-unit-by false made unit = omega (arith, with_bytes-long (kind_at unit.1.place) unit.1.bytes
-    made.file.contents)
+unit-by false made unit = omega (
+  arith,
+  with_bytes-long (kind_at unit.1.place) unit.1.bytes
+      made.file.contents,
+)
 
 unit-within : (made : InProgress) (unit : DwarfObject × NewUnit)
     → bytes_of_contents (with_new_unit made unit).file.contents ≤
@@ -86,8 +101,12 @@ pub units-within : (made : InProgress) (units : List (DwarfObject × NewUnit))
     bytes_of_contents made.file.contents + sum_by unit_long units
 unfolding with_new_units
 units-within made [] = omega arith
-units-within made (unit ∷ units) = omega (arith, units-within (with_new_unit made unit) units,
-    unit-within made unit, sum_by-cons unit_long unit units)
+units-within made (unit ∷ units) = omega (
+  arith,
+  units-within (with_new_unit made unit) units,
+  unit-within made unit,
+  sum_by-cons unit_long unit units,
+)
 
 -- ---- the parts of an input: its string offsets, and the sections that are copied
 abbrev pub part_bytes : Used → ℕ

@@ -30,8 +30,14 @@ use Rattle.thorin_join.proofs.Sizes.Contents.{with_bytes-long}
 -- ---- strings
 strings-long : (strings : List (List ℕ)) → length (data_of strings) ≡ bytes_of_strings strings
 strings-long [] = refl
-strings-long (s ∷ ss) = omega (arith, length-append (terminated s) (data_of ss), length-append s
-    (0 ∷ []), strings-long ss, sum_by-cons (λ (string : List ℕ). length string + 1) s ss)
+strings-long (s ∷ ss) = omega (
+  arith,
+  length-append (terminated s) (data_of ss),
+  length-append s
+      (0 ∷ []),
+  strings-long ss,
+  sum_by-cons (λ (string : List ℕ). length string + 1) s ss,
+)
 
 -- ---- numbers
 four-long : (order : Endianness) (n : ℕ) → length (number_bytes order 4 n) ≡ 4
@@ -52,15 +58,25 @@ version-by Big false = refl
 numbers-long : (order : Endianness) (numbers : List ℕ) → length (numbers_bytes order numbers) ≡ 4
     * length numbers
 numbers-long order [] = refl
-numbers-long order (n ∷ ns) = omega (arith, length-append (number_bytes order 4 n)
-    (numbers_bytes order ns), four-long order n, numbers-long order ns)
+numbers-long order (n ∷ ns) = omega (
+  arith,
+  length-append (number_bytes order 4 n)
+      (numbers_bytes order ns),
+  four-long order n,
+  numbers-long order ns,
+)
 
 signatures-long : (order : Endianness) (ids rows : List ℕ)
     → length (signatures_bytes order ids rows) ≡ 8 * length rows
 signatures-long order ids [] = refl
-signatures-long order ids (row ∷ rows) = omega (arith, length-append (number_bytes order 8
-    (signature_of ids row)) (signatures_bytes order ids rows), eight-long order
-    (signature_of ids row), signatures-long order ids rows)
+signatures-long order ids (row ∷ rows) = omega (
+  arith,
+  length-append (number_bytes order 8
+      (signature_of ids row)) (signatures_bytes order ids rows),
+  eight-long order
+      (signature_of ids row),
+  signatures-long order ids rows,
+)
 
 rows-long : (order : Endianness) (measure : Option Contribution → ℕ) (columns : List SectionKind)
     (entries : List IndexEntry) → length (rows_bytes order measure columns entries) ≡ 4
@@ -69,9 +85,14 @@ rows-long order measure columns [] = omega (arith, zero-mul (length columns))
 rows-long order measure columns (e ∷ es) =
     let row = row_numbers measure columns e in
     let many : length row ≡ length columns = length-map columns _ in
-    omega (arith, length-append (numbers_bytes order row) (rows_bytes order measure columns es),
-    numbers-long order row, many, rows-long order measure columns es,
-    suc-mul (length es) (length columns))
+    omega (
+      arith,
+      length-append (numbers_bytes order row) (rows_bytes order measure columns es),
+      numbers-long order row,
+      many,
+      rows-long order measure columns es,
+      suc-mul (length es) (length columns),
+    )
 
 -- ---- an index
 index-long : (order : Endianness) (version : ℕ) (columns : List SectionKind)
@@ -88,14 +109,23 @@ index-long order version columns entries rows =
     let headed = slots ++ numbers_bytes order numbers in
     let offsets = rows_bytes order offset_or_0 columns entries in
     let many : length numbers ≡ length columns = length-map columns _ in
-    omega (arith, many, length-append (version_bytes order version) (numbers_bytes order counts),
-    length-append front ids, length-append (front ++ ids) (numbers_bytes order rows),
-    length-append slots (numbers_bytes order numbers), length-append headed offsets,
-    length-append (headed ++ offsets) (rows_bytes order size_or_0 columns entries),
-    version-by order (eqb version 5), numbers-long order counts,
-    signatures-long order (entry_ids entries) rows, numbers-long order rows,
-    numbers-long order numbers, rows-long order offset_or_0 columns entries,
-    rows-long order size_or_0 columns entries)
+    omega (
+      arith,
+      many,
+      length-append (version_bytes order version) (numbers_bytes order counts),
+      length-append front ids,
+      length-append (front ++ ids) (numbers_bytes order rows),
+      length-append slots (numbers_bytes order numbers),
+      length-append headed offsets,
+      length-append (headed ++ offsets) (rows_bytes order size_or_0 columns entries),
+      version-by order (eqb version 5),
+      numbers-long order counts,
+      signatures-long order (entry_ids entries) rows,
+      numbers-long order rows,
+      numbers-long order numbers,
+      rows-long order offset_or_0 columns entries,
+      rows-long order size_or_0 columns entries,
+    )
 
 index-by : (order : Endianness) (first : Option IndexEntry) (entries : List IndexEntry)
     (bytes : List ℕ) → MatchOption first (bytes ≡ []) (λ first. IsIndexText order
@@ -126,8 +156,12 @@ finished-size made file f =
       type_index = length f.type_index;
       of_compilations = index-size made.file.order _ f.compilation_index f.compilations;
       of_types = index-size made.file.order _ f.type_index f.types;
-      is = omega (arith, is, with_bytes-long kinds.TuIndex f.type_index both,
-          with_bytes-long kinds.CuIndex f.compilation_index strings,
-          with_bytes-long kinds.Str (data_of made.strings) made.file.contents,
-          strings-long made.strings);
+      is = omega (
+        arith,
+        is,
+        with_bytes-long kinds.TuIndex f.type_index both,
+        with_bytes-long kinds.CuIndex f.compilation_index strings,
+        with_bytes-long kinds.Str (data_of made.strings) made.file.contents,
+        strings-long made.strings,
+      );
     }

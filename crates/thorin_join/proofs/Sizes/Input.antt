@@ -1,7 +1,7 @@
 -- Inputs add to the contents of a package at most the bytes of their used sections.
-use Rattle.std.proofs.Common.{◌⊎◌, inl, inr, ◌*◌, ◌≡◌, ◌∙◌, ℕ, suc, ◌+◌, ◌≤◌, Bool, true, false, cond, List}
-use Rattle.std.proofs.Common.{[], ◌∷◌, ◌++◌, length, refl, sym, ap, Ok, Option, Some, None}
-use Rattle.std.proofs.Common.{arith}
+use Rattle.std.proofs.Common.{◌≡◌, ◌∙◌, ℕ, suc, ◌+◌, ◌*◌, ◌≤◌, Bool, true, false, cond, List, []}
+use Rattle.std.proofs.Common.{◌∷◌, ◌++◌, length, refl, sym, ap, Ok, Option, Some, None, ◌⊎◌, inl}
+use Rattle.std.proofs.Common.{inr, arith}
 use Rattle.std.specs.Prelude.{All}
 use Rattle.std.specs.List.{sum_by}
 use Rattle.std.proofs.lemmas.List.Sums.{sum_by-cons}
@@ -75,8 +75,14 @@ places-within [] = omega arith
 places-within (s ∷ ss) =
     let one : part_bytes s + unit_bytes s ≤ carried s = one-place s.kind s (length s.bytes)
     (placed-within s.kind s) refl in
-    omega (arith, one, places-within ss, sum_by-cons part_bytes s ss, sum_by-cons unit_bytes s ss,
-    sum_by-cons carried s ss)
+    omega (
+      arith,
+      one,
+      places-within ss,
+      sum_by-cons part_bytes s ss,
+      sum_by-cons unit_bytes s ss,
+      sum_by-cons carried s ss,
+    )
 
 -- ---- an input with units
 source-within : UnitsAreTaken → (source : Source) (before now : InProgress)
@@ -93,9 +99,16 @@ source-within taken source before now h =
     let q = with_all_parts before parts s1.0.1 (before.differing ++ new.differing) in
     let is = ap (λ (m : InProgress). bytes_of_contents m.file.contents)
     (sym (all-is before parts s1.0.1 new) ∙ ok-eq _ now s3.2) in
-    omega (arith, is, units-within q new.units, with_parts-long parts before.file.contents,
-    parts-within source before.strings s1.0 s1.1, new-within taken (adding source before parts) new
-    s3.1, places-within source.object.sections)
+    omega (
+      arith,
+      is,
+      units-within q new.units,
+      with_parts-long parts before.file.contents,
+      parts-within source before.strings s1.0 s1.1,
+      new-within taken (adding source before parts) new
+          s3.1,
+      places-within source.object.sections,
+    )
 
 -- the strings are those that its string offsets name
 source-strings : (source : Source) (before now : InProgress) → with_source source before ≡ Ok now
@@ -185,8 +198,14 @@ within-by taken bytes begun now (inl a) =
     let is = ap bytes_begun a.is in
     let own : carried_bytes bytes ≡ sum_by carried a.source.object.sections =
     ap (sum_by carried) a.used in
-    omega (arith, is, own, begun-bytes a.file begun, source-within taken a.source
-    (package_or_new a.file begun) a.made a.with)
+    omega (
+      arith,
+      is,
+      own,
+      begun-bytes a.file begun,
+      source-within taken a.source
+          (package_or_new a.file begun) a.made a.with,
+    )
 within-by taken bytes begun now (inr (file, same)) =
     let is = ap bytes_begun same in
     omega (arith, is, begun-bytes file begun)
@@ -206,8 +225,14 @@ strings-by bytes begun now (inl a) =
     let own : offset_bytes bytes * string_bytes bytes ≡ sum_by offsets_used
     a.source.object.sections * length (first Str a.source.object.sections) =
     ap (λ sections. sum_by offsets_used sections * length (first Str sections)) a.used in
-    omega (arith, is, own, begun-strings a.file begun, source-strings a.source
-    (package_or_new a.file begun) a.made a.with)
+    omega (
+      arith,
+      is,
+      own,
+      begun-strings a.file begun,
+      source-strings a.source
+          (package_or_new a.file begun) a.made a.with,
+    )
 strings-by bytes begun now (inr (file, same)) =
     let is = ap (λ n. bytes_of_strings (strings_begun n)) same in
     omega (arith, is, begun-strings file begun)
@@ -227,8 +252,33 @@ inputs-within taken [] begun now h =
     omega (arith, is)
 inputs-within taken (bytes ∷ inputs) begun now h =
     let s = bind-inv (with_input bytes begun) _ now h in
-    omega (arith, input-within taken bytes begun s.0 s.1, inputs-within taken inputs s.0 now s.2,
-    sum_by-cons carried_bytes bytes inputs)
+    omega (
+      arith,
+      input-within taken bytes begun s.0 s.1,
+      inputs-within taken inputs s.0 now s.2,
+      sum_by-cons carried_bytes bytes inputs,
+    )
+
+-- what an input's strings have at most, four times
+abbrev most_strings : List ℕ → ℕ
+most_strings bytes = offset_bytes bytes * string_bytes bytes
+
+pub inputs-strings : (inputs : List (List ℕ)) (begun now : Option InProgress)
+    → with_inputs inputs begun ≡ Ok now
+    → 4 * bytes_of_strings (strings_begun now) ≤ 4 * bytes_of_strings (strings_begun begun)
+    + sum_by (λ bytes. offset_bytes bytes * string_bytes bytes) inputs
+unfolding with_inputs
+inputs-strings [] begun now h =
+    let is = ap (λ n. bytes_of_strings (strings_begun n)) (ok-eq begun now h) in
+    omega (arith, is)
+inputs-strings (bytes ∷ inputs) begun now h =
+    let s = bind-inv (with_input bytes begun) _ now h in
+    omega (
+      arith,
+      input-strings bytes begun s.0 s.1,
+      inputs-strings inputs s.0 now s.2,
+      sum_by-cons most_strings bytes inputs,
+    )
 
 -- ---- where used sections don't overlap
 carried-by : (once : Bool) (n : ℕ) → cond once 0 n ≤ n
@@ -239,8 +289,13 @@ carried-sections : (sections : List Used) → sum_by carried sections ≤ sum_by
     length used.bytes) sections
 carried-sections [] = omega arith
 carried-sections (s ∷ ss) =
-    omega (arith, carried-by (counts_once s.kind) (length s.bytes), carried-sections ss,
-    sum_by-cons carried s ss, sum_by-cons (λ (used : Used). length used.bytes) s ss)
+    omega (
+      arith,
+      carried-by (counts_once s.kind) (length s.bytes),
+      carried-sections ss,
+      sum_by-cons carried s ss,
+      sum_by-cons (λ (used : Used). length used.bytes) s ss,
+    )
 
 pub carried-used : (bytes : List ℕ) → carried_bytes bytes ≤ used_bytes bytes
 carried-used bytes = carried-sections (sections_of_input bytes)
@@ -250,9 +305,15 @@ lengths-within : (inputs : List (List ℕ)) → All (λ bytes. used_bytes bytes 
 lengths-within [] h = omega arith
 lengths-within (bytes ∷ inputs) h =
     let one : used_bytes bytes ≤ length bytes = h 0 [] (omega arith) in
-    omega (arith, one, carried-used bytes, lengths-within inputs (λ k d within. h (suc k) d
-    (omega arith)), sum_by-cons carried_bytes bytes inputs,
-    sum_by-cons (length {A = ℕ}) bytes inputs)
+    omega (
+      arith,
+      one,
+      carried-used bytes,
+      lengths-within inputs (λ k d within. h (suc k) d
+          (omega arith)),
+      sum_by-cons carried_bytes bytes inputs,
+      sum_by-cons (length {A = ℕ}) bytes inputs,
+    )
 
 pub files-within : UnitsAreTaken → (inputs : List (List ℕ)) (begun now : Option InProgress)
     → All (λ bytes. used_bytes bytes ≤ length bytes) inputs → with_inputs inputs begun ≡ Ok now

@@ -43,8 +43,13 @@ entries-long order format [] = sym (zero-mul (offset_size format))
 entries-long order format (x ∷ xs) =
     let one = number_bytes order (offset_size format) x in
     let rest = entry_bytes order format xs in
-    omega (arith, length-append one rest, number-long order format x, entries-long order format xs,
-    suc-mul (length xs) (offset_size format))
+    omega (
+      arith,
+      length-append one rest,
+      number-long order format x,
+      entries-long order format xs,
+      suc-mul (length xs) (offset_size format),
+    )
 
 entries-many : (order : Endianness) (encoding : Encoding) (section bytes : List ℕ) (n : ℕ)
     (strings : List (List ℕ)) (entries : List ℕ × List (List ℕ))
@@ -83,8 +88,15 @@ by-size order encoding section bytes false false size strings fault range room h
     let is = ap (λ (e : List ℕ × List (List ℕ)). length e.0) (ok-eq _ range b.2) in
     let fits = count-fits encoding.format size (header_size encoding)
     (ltb-false size (header_size encoding) room) in
-    omega (arith, is, front, long, same, fits,
-    length-append a.0 (entry_bytes order encoding.format b.0.0))
+    omega (
+      arith,
+      is,
+      front,
+      long,
+      same,
+      fits,
+      length-append a.0 (entry_bytes order encoding.format b.0.0),
+    )
 
 pub remapped-within : (order : Endianness) (encoding : Encoding) (section bytes : List ℕ) (size : ℕ)
     (strings : List (List ℕ)) (range : List ℕ × List (List ℕ))

@@ -1,20 +1,19 @@
 -- Each string offset brings one string at most, which isn't longer than the section that it is in.
-use Rattle.std.proofs.Common.{◌≡◌, ◌∙◌, ℕ, zero, suc, ◌+◌, ◌-◌, ◌*◌, ◌<◌, ◌≤◌, Bool, true, false}
-use Rattle.std.proofs.Common.{cond, eqb, ltb, List, [], ◌∷◌, ◌++◌, length, take, drop, Result, Ok}
-use Rattle.std.proofs.Common.{Err, refl, sym, ap, inl, inr, not, ◌||◌, zero-mul, suc-mul, add-mul}
+use Rattle.std.proofs.Common.{◌≡◌, ◌∙◌, ℕ, zero, suc, ◌+◌, ◌*◌, ◌<◌, ◌≤◌, Bool, true, false}
+use Rattle.std.proofs.Common.{cond, eqb, ltb, List, [], ◌∷◌, ◌++◌, length, drop, Result, Ok}
+use Rattle.std.proofs.Common.{Err, refl, ap, inl, inr, not, ◌||◌, suc-mul, add-mul}
 use Rattle.std.proofs.Common.{arith}
 use Rattle.std.specs.Prelude.{slice_range}
-use Rattle.std.specs.List.{sum_by, list_any, before_first, position_or_len}
+use Rattle.std.specs.List.{sum_by, list_any, position_or_len}
 use Rattle.std.specs.Str.{bytes_eq}
 use Rattle.std.proofs.lemmas.List.{length-take, length-drop}
 use Rattle.std.proofs.lemmas.List.Sums.{sum_by-cons, sum_by-append}
-use Rattle.std.proofs.lemmas.Bool.{ltb-false, eqb-true}
+use Rattle.std.proofs.lemmas.Bool.{ltb-false}
 use Rattle.std.proofs.Math.Nat.{mul_assoc, mul-le-mul_right}
 use Rattle.dwp_base.specs.declared.endian.Endianness.{Endianness}
 use Rattle.dwp_base.specs.declared.section.Contribution.{Contribution}
-use Rattle.dwp_base.specs.declared.section.SectionKind.TheVariants.{Str, StrOffsets}
+use Rattle.dwp_base.specs.declared.section.SectionKind.TheVariants.{Str}
 use Rattle.dwp_base.specs.Reading.{◌>>=◌}
-use Rattle.dwp_base.specs.Sections.{same_kind}
 use Rattle.dwp_bytes.specs.declared.encoding.Encoding.{Encoding}
 use Rattle.dwp_bytes.specs.declared.encoding.Format.{Format}
 use Rattle.dwp_bytes.specs.declared.encoding.Format.TheVariants.{Dwarf32, Dwarf64}
@@ -22,8 +21,8 @@ use Rattle.dwp_bytes.specs.declared.fault.ReadError.{ReadError}
 use Rattle.dwp_bytes.specs.declared.fault.ReadError.TheVariants.{OffsetOutOfRange, NoTerminator}
 use Rattle.dwp_bytes.specs.Encoding.{offset_size}
 use Rattle.dwp_bytes.specs.StringOffsets.{header_size, entry_count, string_from, string_at}
-use Rattle.thorin_strings.specs.Strings.{offset_of, with_string}
-use Rattle.thorin_strings.specs.StringOffsets.{header_of, entry_at, string_read, named_at}
+use Rattle.thorin_strings.specs.Strings.{offset_of}
+use Rattle.thorin_strings.specs.StringOffsets.{header_of, entry_at, named_at}
 use Rattle.thorin_strings.specs.StringOffsets.{fitting_offset, remapped_entry, remapped_entries}
 use Rattle.thorin_strings.specs.StringOffsets.{entry_bytes, remapped}
 use Rattle.thorin_packaged.specs.PackagedOffsets.{ranges_test, offset_ranges, rewritten_from}
@@ -67,8 +66,13 @@ string-by section s at false false e h = absurd cc
 string-by section s at false true e h =
     let is : length (string_from section at) ≡ length s = ap length (ok-eq _ s h) in
     let end = position_or_len is_zero (drop at section) in
-    omega (arith, is, length-take end (drop at section), zero-within (drop at section) e,
-    length-drop at section)
+    omega (
+      arith,
+      is,
+      length-take end (drop at section),
+      zero-within (drop at section) e,
+      length-drop at section,
+    )
 
 string-within : (section s : List ℕ) (at : ℕ) → string_at section at ≡ Ok s → length s + 1 ≤
     length section
@@ -89,8 +93,11 @@ one-more : (there : Bool) (strings : List (List ℕ)) (s : List ℕ)
     → bytes_of_strings (cond there strings (strings ++ s ∷ [])) ≤ bytes_of_strings strings
     + (length s + 1)
 one-more true strings s = omega arith
-one-more false strings s = omega (arith, sum_by-append ended_long strings (s ∷ []),
-    sum_by-cons ended_long s [])
+one-more false strings s = omega (
+  arith,
+  sum_by-append ended_long strings (s ∷ []),
+  sum_by-cons ended_long s [],
+)
 
 -- ---- the strings of a range
 few : (format : Format) (n head size long : ℕ) → head + n * offset_size format ≤ size → 4
@@ -112,8 +119,12 @@ module _ (order : Endianness) (encoding : Encoding) (section : List ℕ) where
       let b = bind-inv (entry_at order encoding bytes index) _ a.0 a.1 in
       let c = bind-inv (fitting_offset encoding.format (offset_of strings a.0)) _ entry a.2 in
       let is = ap (λ (e : ℕ × List (List ℕ)). bytes_of_strings e.1) (ok-eq _ entry c.2) in
-      omega (arith, is, read-within section a.0 b.0 (string_at section b.0) refl b.2,
-      one-more (list_any (λ t. bytes_eq t a.0) strings) strings a.0)
+      omega (
+        arith,
+        is,
+        read-within section a.0 b.0 (string_at section b.0) refl b.2,
+        one-more (list_any (λ t. bytes_eq t a.0) strings) strings a.0,
+      )
 
   entries-most : (bytes : List ℕ) (n : ℕ) (strings : List (List ℕ)) (entries : List ℕ
       × List (List ℕ)) → remapped_entries order encoding section bytes n strings ≡ Ok entries
@@ -126,8 +137,13 @@ module _ (order : Endianness) (encoding : Encoding) (section : List ℕ) where
       let a = bind-inv (remapped_entries order encoding section bytes n strings) _ entries h in
       let b = bind-inv (remapped_entry order encoding section bytes n a.0.1) _ entries a.2 in
       let is = ap (λ (e : List ℕ × List (List ℕ)). bytes_of_strings e.1) (ok-eq _ entries b.2) in
-      omega (arith, is, entry-most bytes n a.0.1 b.0 b.1, entries-most bytes n strings a.0 a.1,
-      suc-mul n (length section))
+      omega (
+        arith,
+        is,
+        entry-most bytes n a.0.1 b.0 b.1,
+        entries-most bytes n strings a.0 a.1,
+        suc-mul n (length section),
+      )
 
   by-size : (bytes : List ℕ) (none short : Bool) (size : ℕ) (strings : List (List ℕ))
       (fault : Fault) (range : List ℕ × List (List ℕ)) → ltb size (header_size encoding) ≡ short
@@ -147,8 +163,13 @@ module _ (order : Endianness) (encoding : Encoding) (section : List ℕ) where
       let is = ap (λ (e : List ℕ × List (List ℕ)). bytes_of_strings e.1) (ok-eq _ range b.2) in
       let fits = count-fits encoding.format size (header_size encoding)
       (ltb-false size (header_size encoding) room) in
-      omega (arith, is, entries-most bytes n strings b.0 b.1, few encoding.format n
-      (header_size encoding) size (length section) fits)
+      omega (
+        arith,
+        is,
+        entries-most bytes n strings b.0 b.1,
+        few encoding.format n
+            (header_size encoding) size (length section) fits,
+      )
 
   range-most : (bytes : List ℕ) (size : ℕ) (strings : List (List ℕ)) (range : List ℕ
       × List (List ℕ)) → remapped order encoding section bytes size strings ≡ Ok range
@@ -174,9 +195,15 @@ module _ (order : Endianness) (encoding : Encoding) (section : List ℕ) where
       let a = bind-inv (remapped order encoding section own r.size strings) _ written h in
       let b = bind-inv (rewritten_from order encoding section bytes end rs a.0.1) _ written a.2 in
       let is = ap (λ (e : List ℕ × List (List ℕ)). bytes_of_strings e.1) (ok-eq _ written b.2) in
-      omega (arith, is, range-most own r.size strings a.0 a.1, from-most bytes end rs a.0.1 b.0
-      lie.inside lie.rest b.1, mul-le-mul_right (length section) lie.behind,
-      add-mul r.offset.0 r.size (length section))
+      omega (
+        arith,
+        is,
+        range-most own r.size strings a.0 a.1,
+        from-most bytes end rs a.0.1 b.0
+            lie.inside lie.rest b.1,
+        mul-le-mul_right (length section) lie.behind,
+        add-mul r.offset.0 r.size (length section),
+      )
 
 -- ---- the strings of an input
 module _ (source : Source) where
@@ -191,8 +218,11 @@ module _ (source : Source) where
   packaged-most bytes strings written h =
       let ranges = offset_ranges source.indexes.compilations source.indexes.types in
       let a = bind-inv (ranges_test source.encoding (length bytes) 0 ranges) _ written h in
-      omega (arith, from-most source.object.order source.encoding section bytes 0 ranges strings
-      written (omega arith) a.1 a.2)
+      omega (
+        arith,
+        from-most source.object.order source.encoding section bytes 0 ranges strings
+            written (omega arith) a.1 a.2,
+      )
 
   most-by : (packed : Bool) (bytes : List ℕ) (strings : List (List ℕ)) (written : List ℕ
       × List (List ℕ)) → cond packed (packaged source bytes strings)
@@ -238,9 +268,13 @@ module _ (source : Source) where
       let sums : sum_by offsets_used (s ∷ ss) * length section ≡ (offsets_used s + sum_by
       offsets_used ss) * length section = ap (λ n. n * length section)
       (sum_by-cons offsets_used s ss) in
-      omega (arith, part-most before s next.0 (step source before s next.0 next.1).adds,
-      each-most ss next.0 after next.2, sums,
-      add-mul (offsets_used s) (sum_by offsets_used ss) (length section))
+      omega (
+        arith,
+        part-most before s next.0 (step source before s next.0 next.1).adds,
+        each-most ss next.0 after next.2,
+        sums,
+        add-mul (offsets_used s) (sum_by offsets_used ss) (length section),
+      )
 
   pub parts-most : (strings : List (List ℕ)) (parts : Parts) → parts_of source strings ≡ Ok parts
       → 4 * bytes_of_strings parts.1 ≤ 4 * bytes_of_strings strings

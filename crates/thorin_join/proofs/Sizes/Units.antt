@@ -53,8 +53,8 @@ within : UnitsAreTaken → (n : ℕ) (place : UnitSection) (i : Input)
     → sum_by read_long (units_within n place i) ≤ length i.bytes
 unfolding units_within
 within taken zero place i = omega arith
-within taken (suc n) place i = listed-within taken place i (eqb (length i.bytes) 0) (unit_at place i)
-    (units_within n place) refl (λ rest. within taken n place rest)
+within taken (suc n) place i = listed-within taken place i (eqb (length i.bytes) 0)
+    (unit_at place i) (units_within n place) refl (λ rest. within taken n place rest)
 
 reads-within : UnitsAreTaken → (place : UnitSection) (i : Input)
     → sum_by read_long (units place i) ≤ length i.bytes
@@ -127,8 +127,12 @@ module _ (adding : Adding) (from : Used) where
       omega (arith, is)
   each-within (read ∷ rest) new next h =
       let a = bind-inv (with_read adding from new read) _ next h in
-      omega (arith, read-within read new a.0 a.1, each-within rest a.0 next a.2,
-      sum_by-cons read_long read rest)
+      omega (
+        arith,
+        read-within read new a.0 a.1,
+        each-within rest a.0 next a.2,
+        sum_by-cons read_long read rest,
+      )
 
 -- ---- by sections
 abbrev pub placed_bytes : Option UnitSection → Used → ℕ
@@ -151,8 +155,13 @@ module _ (taken : UnitsAreTaken) (adding : Adding) where
       let a = bind-inv (once_test adding place before.0) _ after h in
       let b = bind-inv (with_each_read adding from before.1 reads) _ after a.2 in
       let is = ap (λ (m : Met × New). new_long m.1) (ok-eq _ after b.2) in
-      omega (arith, is, each-within adding from reads before.1 b.0 b.1, reads-within taken place
-      (section adding.source.object.order from.bytes))
+      omega (
+        arith,
+        is,
+        each-within adding from reads before.1 b.0 b.1,
+        reads-within taken place
+            (section adding.source.object.order from.bytes),
+      )
 
   section-within : (from : Used) (before after : Met × New)
       → with_section adding before from ≡ Ok after
@@ -169,8 +178,12 @@ module _ (taken : UnitsAreTaken) (adding : Adding) where
       omega (arith, is)
   sections-within (from ∷ others) before after h =
       let a = bind-inv (with_section adding before from) _ after h in
-      omega (arith, section-within from before a.0 a.1, sections-within others a.0 after a.2,
-      sum_by-cons unit_bytes from others)
+      omega (
+        arith,
+        section-within from before a.0 a.1,
+        sections-within others a.0 after a.2,
+        sum_by-cons unit_bytes from others,
+      )
 
   pub new-within : (new : New) → new_units adding ≡ Ok new
       → new_long new ≤ sum_by unit_bytes adding.source.object.sections
@@ -180,5 +193,9 @@ module _ (taken : UnitsAreTaken) (adding : Adding) where
       let all = bind-inv (with_each_section adding (none_met, none)
       adding.source.object.sections) _ new h in
       let is = ap new_long (ok-eq _ new all.2) in
-      omega (arith, is, sections-within adding.source.object.sections (none_met, none)
-      all.0 all.1)
+      omega (
+        arith,
+        is,
+        sections-within adding.source.object.sections (none_met, none)
+            all.0 all.1,
+      )

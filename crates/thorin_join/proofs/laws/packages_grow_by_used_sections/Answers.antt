@@ -1,7 +1,4 @@
 use Rattle.thorin_join.proofs.Sizes.Input.{input-within, inputs-within, carried-used, files-within}
-use Rattle.thorin_join.proofs.Sizes.Input.{input-strings}
-use Rattle.thorin_join.proofs.Sizes.Container.{file-within}
-use Rattle.thorin_join.proofs.Sizes.Finished.{finished-size}
 use Rattle.thorin_join.proofs.laws.packages_grow_by_used_sections.Goals as goal
 
 pub returns-clause-input : goal.returns-clause-input
@@ -15,12 +12,3 @@ returns-clause-carried c = carried-used
 
 pub returns-clause-files : goal.returns-clause-files
 returns-clause-files c = files-within c.units_have_all_bytes.ensures.taken
-
-pub returns-clause-finished : goal.returns-clause-finished
-returns-clause-finished c = finished-size
-
-pub returns-clause-strings : goal.returns-clause-strings
-returns-clause-strings c = input-strings
-
-pub returns-clause-file : goal.returns-clause-file
-returns-clause-file c = file-within

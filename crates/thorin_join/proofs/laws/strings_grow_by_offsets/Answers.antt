@@ -1,0 +1,8 @@
+use Rattle.thorin_join.proofs.Sizes.Input.{input-strings, inputs-strings}
+use Rattle.thorin_join.proofs.laws.strings_grow_by_offsets.Goals as goal
+
+pub returns-clause-input : goal.returns-clause-input
+returns-clause-input c = input-strings
+
+pub returns-clause-inputs : goal.returns-clause-inputs
+returns-clause-inputs c = inputs-strings
