@@ -66,7 +66,7 @@ pub fn finished_packages_are_read()
 /// The law of sizes: an input adds to the contents of a package at most the bytes of its used
 /// sections, without strings and indexes, which a package has of its own; inputs one after another
 /// at most the sum. That is at most the bytes of the inputs, where none has used sections of more
-/// bytes than itself: where they don't overlap. It does nothing.
+/// bytes than itself, as only overlapping ones have. It does nothing.
 pub fn packages_grow_by_used_sections()
     ensures input { (bytes : List ℕ) (begun now : Option InProgress)
         → with_input bytes begun ≡ Ok now
