@@ -1,8 +1,8 @@
 use Rattle.std.proofs.Common.{◌≡◌, sym, subst}
 use Rattle.thorin_join.specs.Builder.{taken}
 use Rattle.thorin_again.specs.OwnRefusals.{UnlessForeseen}
-use Rattle.thorin_uses.proofs.Foreseen.{foreseen}
-use Rattle.thorin_uses.proofs.pack_again.add_package.Goals as goal
+use Rattle.example_uses.proofs.Foreseen.{foreseen}
+use Rattle.example_uses.proofs.pack_again.add_package.Goals as goal
 
 pub returns-clause-refused : goal.returns-clause-refused
 returns-clause-refused g c =
