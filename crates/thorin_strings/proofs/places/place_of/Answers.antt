@@ -7,7 +7,7 @@ use Rattle.thorin_strings.proofs.places.place_of.Goals as goal
 
 pub loop-number-init : goal.loop-number-init
 loop-number-init c = record {
-  looked = begun c.args.slots.now c.args.mask c.args.hash _ _ c.tag-tag.result
+  looked = begun c.args.slots.now c.args.size c.args.hash _ _ c.tag-tag.result
       c.home-home.ensures.value (omega arith) c.tag-tag.ensures;
 }
 
@@ -20,7 +20,7 @@ returns-then-number-slots c =
 pub loop-number-preserved : goal.loop-number-preserved
 loop-number-preserved c = record {
   looked = c.loop-number.invariant.looked
-      ∙ at_other c.args.slots.now c.loop-number.number (c.home-home.result + 64 -
-      c.loop-number.number) (c.home-home.result + 64 - (c.loop-number.number + 1)) c.tag-tag.result
+      ∙ at_other c.args.slots.now c.loop-number.number (c.home-home.result + 128 -
+      c.loop-number.number) (c.home-home.result + 128 - (c.loop-number.number + 1)) c.tag-tag.result
       (omega arith) c.if-slot-eq0.false c.if-slot-tag.false;
 }

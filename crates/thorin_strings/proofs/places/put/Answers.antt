@@ -7,7 +7,7 @@ pub loop-number-init : goal.loop-number-init
 loop-number-init c = record {
   same = refl;
   used = λ j low less. absurd (omega arith);
-  looked = begun c.args.slots.now c.args.mask c.args.hash _ _ c.args.slot.tag
+  looked = begun c.args.slots.now c.args.size c.args.hash _ _ c.args.slot.tag
       c.home-home.ensures.value (omega arith) c.requires.tag;
 }
 
@@ -19,14 +19,14 @@ loop-number-preserved c = record {
       (sym here) ∙ e))
       (λ apart. c.loop-number.invariant.used j low (omega (arith, apart)));
   looked = c.loop-number.invariant.looked
-      ∙ at_other c.loop-number.slots c.loop-number.number (c.home-home.result + 64 -
-      c.loop-number.number) (c.home-home.result + 64 - (c.loop-number.number + 1)) c.args.slot.tag
+      ∙ at_other c.loop-number.slots c.loop-number.number (c.home-home.result + 128 -
+      c.loop-number.number) (c.home-home.result + 128 - (c.loop-number.number + 1)) c.args.slot.tag
       (omega arith) c.if-other-eq0.false c.if-other-tag.false;
 }
 
 pub returns-then-other-eq0-clause-put : goal.returns-then-other-eq0-clause-put
 returns-then-other-eq0-clause-put c = λ _ n more.
-    put_of c.loop-number.slots c.args.mask c.args.hash c.args.slot c.loop-number.number _
+    put_of c.loop-number.slots c.args.size c.args.hash c.args.slot c.loop-number.number _
     c.home-home.ensures.value c.requires.tag (omega arith) (omega arith) (omega arith)
     c.loop-number.invariant.used
     (c.loop-number.invariant.looked ∙ at_free c.loop-number.slots c.loop-number.number _
@@ -35,6 +35,6 @@ returns-then-other-eq0-clause-put c = λ _ n more.
 
 pub returns-then-other-eq0-clause-kept : goal.returns-then-other-eq0-clause-kept
 returns-then-other-eq0-clause-kept c = λ h n is.
-    kept_of c.loop-number.slots c.args.mask c.args.slot c.loop-number.number h n
+    kept_of c.loop-number.slots c.args.size c.args.slot c.loop-number.number h n
     c.if-other-eq0.true
-    (ap (λ l. place_of l c.args.mask h) c.loop-number.invariant.same ∙ is)
+    (ap (λ l. place_of l c.args.size h) c.loop-number.invariant.same ∙ is)

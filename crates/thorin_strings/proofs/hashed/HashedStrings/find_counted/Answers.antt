@@ -34,11 +34,11 @@ returns-then-stands_at-clause-offset c =
 
 pub returns-else-stands_at-clause-found : goal.returns-else-stands_at-clause-found
 returns-else-stands_at-clause-found c =
-    let placed = ap (place_of c.self.inside.places.slots.items c.self.inside.places.mask)
+    let placed = ap (place_of c.self.inside.places.slots.items c.self.inside.places.size)
     (sym c.hash.ensures) ∙ sym c.find.ensures ∙ c.in-Some.is in
     rw (← c.self.view_is) (
       λ e. absurd (false≢true e),
-      λ there. absurd (misplaced _ _ _ _ _ c.args.string.now
+      λ there. absurd (misplaced _ _ _ _ c.args.string.now
           c.in-Some.place c.self.invariant placed (λ here.
           false≢true (sym c.if-stands_at.false ∙ c.stands_at.ensures.1
           (rw c.deref.ensures.value here))) there),
@@ -46,9 +46,9 @@ returns-else-stands_at-clause-found c =
 
 pub returns-in_default-clause-found : goal.returns-in_default-clause-found
 returns-in_default-clause-found c =
-    let none = ap (place_of c.self.inside.places.slots.items c.self.inside.places.mask)
+    let none = ap (place_of c.self.inside.places.slots.items c.self.inside.places.size)
     (sym c.hash.ensures) ∙ sym c.find.ensures ∙ c.in_default.is in
     rw (← c.self.view_is) (
       λ e. absurd (false≢true e),
-      λ there. absurd (unplaced _ _ _ _ _ c.args.string.now c.self.invariant none there),
+      λ there. absurd (unplaced _ _ _ _ c.args.string.now c.self.invariant none there),
     )
