@@ -31,8 +31,12 @@ hashed_none bytes count slots size none zero' =
       ended = ap data_of strings ∙ sym none;
       distinct = λ i j d less within. absurd (omega (arith, ap length strings));
       counted = zero' ∙ sym (ap length strings);
-      placed = λ k less. absurd (omega (arith, ap length strings, length-map (strings_in bytes)
-          hash));
+      placed = λ k less. absurd (omega (
+        arith,
+        ap length strings,
+        length-map (strings_in bytes)
+            hash,
+      ));
     }
 
 -- slots that keep the places of the strings do as well
@@ -122,8 +126,13 @@ hashed_push bytes count slots size slots' size' s new count' n h table free abse
     record {
       ended = subst (λ l. data_of (strings_in l) ≡ l) (sym is_new) push.1;
       distinct = distinct;
-      counted = is_count ∙ omega (arith, table.counted, ap length strings, length-append ss
-          (s ∷ []));
+      counted = is_count ∙ omega (
+        arith,
+        table.counted,
+        ap length strings,
+        length-append ss
+            (s ∷ []),
+      );
       placed = entered_push bytes new s slots' size' h n table.ended strings is_long is_hash
           (kept table.placed) entered;
     }

@@ -1,12 +1,12 @@
 -- Places of strings by their hashes, in slots.
 use Rattle.std.proofs.Common.{◌≡◌, ◌≢◌, ℕ, zero, suc, ◌+◌, ◌-◌, ◌<◌, ◌≤◌, List, [], ◌++◌}
-use Rattle.std.proofs.Common.{length, take, drop, get_or, set, Some, None, ap, ap₂, sym, refl, ◌∙◌}
-use Rattle.std.proofs.Common.{⊎_elim, arith}
+use Rattle.std.proofs.Common.{length, take, drop, get_or, set, Some, None, ap, ap₂, sym, subst, refl}
+use Rattle.std.proofs.Common.{◌∙◌, ⊎_elim, arith}
 use Rattle.std.proofs.lemmas.Grind.{get_or-set_at}
 use Rattle.std.proofs.lemmas.List.{get_or-set_other, get_or_past, take_at}
 use Rattle.std.proofs.lemmas.Bool.{cond-true, cond-false, ne_eqb, eq-eqb, cases_order}
 use Rattle.thorin_strings.specs.declared.places.Slot.{Slot}
-use Rattle.thorin_strings.specs.Places.{free, home, tag, place_from, place_of, HavePlaces}
+use Rattle.thorin_strings.specs.Places.{free, home, tag, place_from, place_of, IsNext, HavePlaces}
 
 -- two numbers are the same or not
 pub same_or : (A : Type 0) (a b : ℕ) → (a ≡ b → A) → (a ≢ b → A) → A
@@ -97,14 +97,23 @@ kept_from slots s k at (suc n) h p was is =
     ∙ kept_from slots s k (at + 1) n h p was (sym (at_other slots at (suc n) n h (omega arith)
     some other) ∙ is)))
 
-pub put_of : (slots : List Slot) (size h : ℕ) (s : Slot) (k at : ℕ) → at ≡ home size h → s.tag ≡
-    tag h → k < length slots → at ≤ k → k < at + 128 → ((j : ℕ) → at ≤ j → j < k
-    → (get_or slots j free).behind ≢ 0) → place_of slots size h ≡ None → s.behind ≢ 0
-    → place_of (set slots k s) size h ≡ Some (s.behind - 1)
-put_of slots size h s k at is_at is_tag within low high used none some =
-    begun (set slots k s) size h at 128 s.tag is_at refl is_tag
-    ∙ put_from slots s k at 128 within low high used
-    (sym (begun slots size h at 128 s.tag is_at refl is_tag) ∙ none) some
+-- the next slot for a hash
+pub next_for : (slots : List Slot) (size h at k : ℕ) → at ≡ home size h → at ≤ k → k < at + 128
+    → ((j : ℕ) → at ≤ j → j < k → (get_or slots j free).behind ≢ 0) → IsNext slots size h k
+next_for slots size h at k is_at low high used = record {
+  from = subst (λ n. n ≤ k) is_at low;
+  within = subst (λ n. k < n + 128) is_at high;
+  used = λ j from less. used j (subst (λ n. n ≤ j) (sym is_at) from) less;
+}
+
+pub put_of : (slots : List Slot) (size h : ℕ) (s : Slot) (k : ℕ) → IsNext slots size h k → s.tag ≡
+    tag h → k < length slots → place_of slots size h ≡ None → s.behind ≢ 0 → place_of
+    (set slots k s) size h ≡ Some (s.behind - 1)
+put_of slots size h s k next is_tag within none some =
+    let at = home size h in
+    begun (set slots k s) size h at 128 s.tag refl refl is_tag
+    ∙ put_from slots s k at 128 within next.from next.within next.used
+    (sym (begun slots size h at 128 s.tag refl refl is_tag) ∙ none) some
 
 pub kept_of : (slots : List Slot) (size : ℕ) (s : Slot) (k h p : ℕ) → (get_or slots k free).behind ≡
     0 → place_of slots size h ≡ Some p → place_of (set slots k s) size h ≡ Some p

@@ -4,7 +4,6 @@ use Rattle.std.proofs.Common.{suc, get_or, Some, ap, sym, ◌∙◌, ⊎_elim, a
 use Rattle.std.proofs.Common.{length-append}
 use Rattle.std.proofs.Math.Seq.{take-add, take-suc}
 use Rattle.std.proofs.lemmas.List.{get_or_append_left, get_or_at, length-map, map-append, length-drop}
-
 use Rattle.std.proofs.lemmas.Bool.{cases_lt}
 use Rattle.thorin_strings.specs.declared.places.Slot.{Slot}
 use Rattle.thorin_strings.specs.Ends.{IsFirstZero}
@@ -68,8 +67,12 @@ entered_front bytes kept front back slots size whole first entered = λ k less.
     let parts : offsets_from 0 (strings_in bytes) ≡ offsets_from 0 front ++ offsets_from
     (0 + length (data_of front)) back = ap (offsets_from 0) whole ∙ offsets_from-append 0 front
     back in
-    let few : k < length (map hash front) = omega (arith, less, ap (λ l. length (map hash l))
-    first) in
+    let few : k < length (map hash front) = omega (
+      arith,
+      less,
+      ap (λ l. length (map hash l))
+          first,
+    ) in
     let few' : k < length (offsets_from 0 front) = omega (
       arith,
       few,

@@ -1,6 +1,6 @@
 -- Places of strings by their hashes, in slots: a hash has the first slot that is free then, from
 -- its home on. The slot keeps the lower half of the hash; the upper half tells the home.
-use Rattle.std.specs.Prelude.{◌≡◌, ℕ, zero, suc, ◌+◌, ◌-◌, ◌*◌, ◌/◌, ◌%◌, ◌^◌, ◌<◌, ◌==◌}
+use Rattle.std.specs.Prelude.{◌≡◌, ◌≢◌, ◌≤◌, ℕ, zero, suc, ◌+◌, ◌-◌, ◌*◌, ◌/◌, ◌%◌, ◌^◌, ◌<◌, ◌==◌}
 use Rattle.std.specs.Prelude.{if◌then◌else◌, List, Option, None, Some, length, map, slice_index}
 use Rattle.std.specs.Prelude.{slice_index_or}
 use Rattle.std.specs.Hash.FoldHasher.{initial, write, finish}
@@ -37,6 +37,12 @@ home size h = h / 2 ^ 32 * size / 2 ^ 32
 -- the place that a hash has
 unfoldable pub place_of : List Slot → ℕ → ℕ → Option ℕ
 place_of slots size h = place_from slots (home size h) 128 (tag h)
+
+-- a slot is the next for a hash: one of its own, behind used ones
+pub record IsNext (slots : List Slot) (size h number : ℕ) : Type 0 where
+  pub from : home size h ≤ number
+  pub within : number < home size h + 128
+  pub used : (j : ℕ) → home size h ≤ j → j < number → (slice_index_or slots j free).behind ≢ 0
 
 -- each of these hashes has its place
 abbrev pub HavePlaces : List ℕ → List ℕ → List Slot → ℕ → Type 0

@@ -9,7 +9,7 @@ ghost use Rattle.thorin_strings.specs.Strings.{IsTable, IsWithinDigits};
 ghost use Rattle.thorin_strings.specs.Marks.{mark_of};
 ghost use Rattle.thorin_strings.specs.Strings.{strings_in};
 ghost use Rattle.thorin_strings.specs.Hashed.{IsHashed, IsPlaced};
-ghost use Rattle.thorin_strings.specs.Places.{hash as hash_of, place_of};
+ghost use Rattle.thorin_strings.specs.Places.{hash as hash_of, place_of, IsNext};
 
 use crate::ends::{GUESSED_ROUNDS, short_end};
 use crate::places::{Places, hash};
@@ -60,11 +60,14 @@ fn add(
     places: &mut Places,
     string: &[u8],
     hash: u64,
+    next: usize,
 ) -> Result<usize, Unplaced>
     requires table { IsHashed bytes.old.items count.old places.old.slots.items places.old.size }
     requires zero_free { IsZeroFree string.now }
     requires hashed { hash ≡ hash_of string.now }
     requires none { place_of places.old.slots.items places.old.size hash ≡ None }
+    requires next { next < length places.old.slots.items
+        → IsNext places.old.slots.items places.old.size hash next }
     ensures table { IsHashed bytes.new.items count.new places.new.slots.items places.new.size }
     ensures placed { IfOk result (IsPlaced (strings_in bytes.old.items)
         (strings_in bytes.new.items) string.now) }
@@ -74,7 +77,7 @@ fn add(
 {
     let place = bytes.len();
     bytes.reserve(string.len() + 1)?;
-    if !places.enter(hash, place, bytes) {
+    if !places.enter(hash, next, place, bytes) {
         return Err(Unplaced::Clash);
     }
     bytes.extend_from_slice(string).unwrap();
@@ -136,7 +139,7 @@ impl HashedStrings {
         if memchr(0, string).is_some() {
             return (None, 0);
         }
-        let Some(place) = self.places.find(hash(string)) else {
+        let Ok(place) = self.places.seek(hash(string)) else {
             return (None, 0);
         };
         if stands_at(&self.bytes, place, string) {
@@ -163,19 +166,23 @@ impl HashedStrings {
             return Ok(place);
         }
         let hash = hash(string);
-        if let Some(place) = self.places.find(hash) {
-            if stands_at(&self.bytes, place, string) {
-                self.next = place.saturating_add(string.len() + 1);
-                return Ok(place);
+        let next = match self.places.seek(hash) {
+            Ok(place) => {
+                if stands_at(&self.bytes, place, string) {
+                    self.next = place.saturating_add(string.len() + 1);
+                    return Ok(place);
+                }
+                return Err(Unplaced::Clash);
             }
-            return Err(Unplaced::Clash);
-        }
+            Err(next) => next,
+        };
         add(
             &mut self.bytes,
             &mut self.count,
             &mut self.places,
             string,
             hash,
+            next,
         )
     }
 
@@ -197,13 +204,16 @@ impl HashedStrings {
             return Some(place);
         }
         let hash = hash(&bytes[..end]);
-        if let Some(place) = self.places.find(hash) {
-            if begins_alike(&self.bytes, place, bytes, end) {
-                self.next = place.saturating_add(end + 1);
-                return Some(place);
+        let next = match self.places.seek(hash) {
+            Ok(place) => {
+                if begins_alike(&self.bytes, place, bytes, end) {
+                    self.next = place.saturating_add(end + 1);
+                    return Some(place);
+                }
+                return None;
             }
-            return None;
-        }
+            Err(next) => next,
+        };
         let first = short_end(bytes, GUESSED_ROUNDS)?;
         if first != end {
             return None;
@@ -214,6 +224,7 @@ impl HashedStrings {
             &mut self.places,
             &bytes[..end],
             hash,
+            next,
         );
         let Ok(place) = added else {
             return None;

@@ -1,9 +1,9 @@
 //! Places of strings by their hashes, none of which is lost.
 
 ghost use Rattle.std.specs.Prelude.{◌≡◌, ◌≢◌, ◌<◌, ◌+◌, ◌^◌, ℕ, List, length, Some, None, IfSome};
-ghost use Rattle.std.specs.Prelude.{IsTrue};
+ghost use Rattle.std.specs.Prelude.{IsTrue, OnErr, IfOk, IfErr};
 ghost use Rattle.thorin_strings.specs.Places.{hash as hash_of, tag, place_from, place_of, home};
-ghost use Rattle.thorin_strings.specs.Places.{AreEntered};
+ghost use Rattle.thorin_strings.specs.Places.{IsNext, AreEntered};
 
 use crate::ends::{ROUNDS, end_of, short_end};
 use std::alloc::Global;
@@ -62,25 +62,48 @@ fn home(size: u32, hash: u64) -> usize
     ((hash >> 32) * u64::from(size) >> 32) as usize
 }
 
-/// The place that a hash has in these slots.
-fn place_of(slots: &[Slot], size: u32, hash: u64) -> Option<usize>
-    ensures { result ≡ place_of slots.now size hash }
+/// The place that a hash has in these slots; the slot that is next for it where it has none, which is
+/// past all of them where none of the hash's is free.
+#[inline(always)]
+fn seek(slots: &[Slot], size: u32, hash: u64) -> Result<usize, usize>
+    ensures found { IfOk result (λ place. place_of slots.now size hash ≡ Some place) }
+    ensures none { OnErr result (place_of slots.now size hash ≡ None) }
+    ensures next { IfErr result (λ number. number < length slots.now
+        → IsNext slots.now size hash number) }
 {
     let home = home(size, hash);
     let tag = tag(hash);
     for number in home..home + PROBES {
         if number >= slots.len() {
-            return None;
+            return Err(number);
         }
         let slot = slots[number];
         if slot.behind == 0 {
-            return None;
+            return Err(number);
         }
         if slot.tag == tag {
-            return Some(slot.behind as usize - 1);
+            return Ok(slot.behind as usize - 1);
         }
     }
-    None
+    Err(slots.len())
+}
+
+/// Puts a slot where it is next for a hash that it has the lower half of, if there is a free one.
+fn put_next(slots: &mut [Slot], number: usize, slot: Slot) -> bool
+    requires some { slot.behind ≢ 0 }
+    ensures put { IsTrue result → (size h n : ℕ) → IsNext slots.old size h number
+        → place_of slots.old size h ≡ None → slot.tag ≡ tag h → n + 1 ≡ slot.behind
+        → place_of slots.new size h ≡ Some n }
+    ensures within { IsTrue result → number < length slots.old }
+    ensures kept { (size h n : ℕ) → place_of slots.old size h ≡ Some n
+        → place_of slots.new size h ≡ Some n }
+    ensures long { length slots.new ≡ length slots.old }
+{
+    if number >= slots.len() || slots[number].behind != 0 {
+        return false;
+    }
+    slots[number] = slot;
+    true
 }
 
 /// Puts a slot into the first free one of a hash that it has the lower half of, where one is free
@@ -94,22 +117,10 @@ fn put(slots: &mut [Slot], size: u32, hash: u64, slot: Slot) -> bool
         → place_of slots.new size h ≡ Some n }
     ensures long { length slots.new ≡ length slots.old }
 {
-    let home = home(size, hash);
-    let tag = slot.tag;
-    for number in home..home + PROBES {
-        if number >= slots.len() {
-            return false;
-        }
-        let other = slots[number];
-        if other.behind == 0 {
-            slots[number] = slot;
-            return true;
-        }
-        if other.tag == tag {
-            return false;
-        }
+    match seek(slots, size, hash) {
+        Ok(_) => false,
+        Err(number) => put_next(slots, number, slot),
     }
-    false
 }
 
 /// Puts the places of strings, each with a zero byte, which stand one behind another, into slots by
@@ -180,11 +191,16 @@ impl Places {
         }
     }
 
-    /// The place that a hash has.
-    pub fn find(&self, hash: u64) -> Option<usize>
-        ensures { result ≡ place_of self.now.slots.items self.now.size hash }
+    /// The place that a hash has, or the slot that is next for it.
+    #[inline(always)]
+    pub fn seek(&self, hash: u64) -> Result<usize, usize>
+        ensures found { IfOk result (λ place.
+            place_of self.now.slots.items self.now.size hash ≡ Some place) }
+        ensures none { OnErr result (place_of self.now.slots.items self.now.size hash ≡ None) }
+        ensures next { IfErr result (λ number. number < length self.now.slots.items
+            → IsNext self.now.slots.items self.now.size hash number) }
     {
-        place_of(&self.slots, self.size, hash)
+        seek(&self.slots, self.size, hash)
     }
 
     /// The places of these strings in more slots. None where they don't fit or there is no memory.
@@ -221,10 +237,14 @@ impl Places {
         put(&mut self.slots, self.size, hash, slot)
     }
 
-    /// Enters the place of a hash; false where it has one, and where that can't be. At most five of
-    /// eight slots are used, and where none is free for a hash there are made more, if an eighth is
-    /// used. `strings` are those that were entered before, each with a zero byte.
-    pub fn enter(&mut self, hash: u64, place: usize, strings: &[u8]) -> bool
+    /// Enters the place of a hash that has none, by the slot that is next for it; false where that
+    /// can't be. At most five of eight slots are used, and where none is free for a hash there are
+    /// made more, if an eighth is used. `strings` are those that were entered before, each with a
+    /// zero byte.
+    pub fn enter(&mut self, hash: u64, next: usize, place: usize, strings: &[u8]) -> bool
+        requires none { place_of self.old.slots.items self.old.size hash ≡ None }
+        requires next { next < length self.old.slots.items
+            → IsNext self.old.slots.items self.old.size hash next }
         ensures entered { IsTrue result
             → place_of self.new.slots.items self.new.size hash ≡ Some place }
         ensures kept { AreEntered strings.now self.old.slots.items self.old.size
@@ -241,7 +261,7 @@ impl Places {
         if self.used >= size / 8 * 5 {
             return self.enter_in_more(hash, slot, strings);
         }
-        if put(&mut self.slots, self.size, hash, slot) {
+        if put_next(&mut self.slots, next, slot) {
             self.used = self.used.saturating_add(1);
             return true;
         }
