@@ -239,7 +239,7 @@ impl Places {
 
     /// Enters the place of a hash that has none, by the slot that is next for it; false where that
     /// can't be. At most five of eight slots are used, and where none is free for a hash there are
-    /// made more, if an eighth is used. `strings` are those that were entered before, each with a
+    /// made more, if a quarter is used. `strings` are those that were entered before, each with a
     /// zero byte.
     pub fn enter(&mut self, hash: u64, next: usize, place: usize, strings: &[u8]) -> bool
         requires none { place_of self.old.slots.items self.old.size hash ≡ None }
@@ -265,7 +265,7 @@ impl Places {
             self.used = self.used.saturating_add(1);
             return true;
         }
-        if self.used < size / 8 {
+        if self.used < size / 4 {
             return false;
         }
         self.enter_in_more(hash, slot, strings)
