@@ -3,7 +3,8 @@ use Rattle.std.proofs.Common.{◌≡◌, ℕ, ◌+◌, ◌<◌, ◌≤◌, List,
 use Rattle.std.proofs.Common.{suc, get_or, Some, ap, sym, ◌∙◌, ⊎_elim, arith}
 use Rattle.std.proofs.Common.{length-append}
 use Rattle.std.proofs.Math.Seq.{take-add, take-suc}
-use Rattle.std.proofs.lemmas.List.{get_or_append_left, get_or_at, length-map, map-append, length-drop}
+use Rattle.std.proofs.lemmas.List.{get_or_append_left, get_or_at, length-map, map-append}
+use Rattle.std.proofs.lemmas.List.{length-drop}
 use Rattle.std.proofs.lemmas.Bool.{cases_lt}
 use Rattle.thorin_strings.specs.declared.places.Slot.{Slot}
 use Rattle.thorin_strings.specs.Ends.{IsFirstZero}
@@ -58,9 +59,9 @@ entered_push bytes new s slots size h n ended strings is_long is_hash entered la
     entered last
 
 -- places of the first strings
-pub entered_front : (bytes kept : List ℕ) (front back : List (List ℕ)) (slots : List Slot) (size : ℕ)
-    → strings_in bytes ≡ front ++ back → strings_in kept ≡ front → AreEntered bytes slots size
-    → AreEntered kept slots size
+pub entered_front : (bytes kept : List ℕ) (front back : List (List ℕ)) (slots : List Slot)
+    (size : ℕ) → strings_in bytes ≡ front ++ back → strings_in kept ≡ front
+    → AreEntered bytes slots size → AreEntered kept slots size
 entered_front bytes kept front back slots size whole first entered = λ k less.
     let halves : map hash (strings_in bytes) ≡ map hash front ++ map hash back =
     ap (map hash) whole ∙ map-append hash front back in

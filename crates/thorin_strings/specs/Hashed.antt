@@ -4,8 +4,8 @@ use Rattle.thorin_strings.specs.declared.places.Slot.{Slot}
 use Rattle.thorin_strings.specs.Places.{AreEntered}
 use Rattle.thorin_strings.specs.Strings.{data_of, offset_of, with_string, strings_in}
 
--- a section of ended strings, which are distinct; how many; and the hash of each has the place where
--- it begins
+-- a section of ended strings, which are distinct; how many; and the hash of each has the place
+-- where it begins
 pub record IsHashed (bytes : List ℕ) (count : ℕ) (slots : List Slot) (size : ℕ) : Type 0 where
   pub ended : data_of (strings_in bytes) ≡ bytes
   pub distinct : AllPairs (λ s t. s ≢ t) (strings_in bytes)
