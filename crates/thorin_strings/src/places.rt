@@ -15,7 +15,7 @@ const PROBES: usize = 128;
 /// How many slots hashes begin at, at first.
 const FIRST_SIZE: u32 = 1024;
 
-/// From how many on they are made more by a half or a third, and four times as many before.
+/// Four times as many are made of less than this, half as many more of this, and twice as many of more.
 const MANY: u32 = 1 << 18;
 
 /// A free slot.
@@ -158,10 +158,10 @@ fn more_than(size: u32) -> u32 {
         FIRST_SIZE
     } else if size < MANY {
         size * 4
-    } else if size.is_power_of_two() {
-        size.saturating_add(size / 2)
+    } else if size == MANY {
+        MANY / 2 * 3
     } else {
-        size.saturating_add(size / 3)
+        size.saturating_mul(2)
     }
 }
 
