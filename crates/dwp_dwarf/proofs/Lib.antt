@@ -10,4 +10,5 @@ pub mod Values
 pub mod Remembered
 pub mod NewVersions
 pub mod Places
+pub mod PlaceLists
 pub mod Numbers
