@@ -5,6 +5,7 @@ pub mod UnitsForward
 pub mod UnitLists
 pub mod PastEnd
 pub mod Grammar
+pub mod CodeNumbers
 pub mod Goes
 pub mod Values
 pub mod Remembered

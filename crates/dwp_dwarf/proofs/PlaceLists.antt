@@ -15,7 +15,9 @@ use Rattle.dwp_dwarf.specs.Abbreviations.{children_at, declaration_at, specifica
 use Rattle.dwp_dwarf.specs.Abbreviations.{past_specifications}
 use Rattle.dwp_dwarf.specs.Chains.{StandsAt, ListedAt, ListsPlaces}
 use Rattle.dwp_dwarf.specs.Chains.{RemembersPlace, RemembersPlaces, RemembersChains, FirstAt}
+use Rattle.dwp_dwarf.specs.Codes.{Numbered}
 use Rattle.dwp_dwarf.specs.Offsets.{from_at}
+use Rattle.dwp_dwarf.specs.declared.codes.Codes.{Codes}
 use Rattle.dwp_dwarf.specs.Grammar.{next_at}
 use Rattle.dwp_dwarf.specs.declared.abbrev.AttributeSpecification.{AttributeSpecification}
 use Rattle.dwp_dwarf.specs.declared.chains.Chains.{Chains}
@@ -122,12 +124,18 @@ chains_learned section old new kept same r = record {
 
 -- more lists alone
 pub chains_listed : (section : Input) (old new : Chains) → new.places ≡ old.places
-    → new.firsts ≡ old.firsts → (ListsPlaces section old.lists → ListsPlaces section new.lists)
+    → new.firsts ≡ old.firsts → new.codes ≡ old.codes
+    → (ListsPlaces section old.lists → ListsPlaces section new.lists)
     → RemembersChains section old → RemembersChains section new
-chains_listed section old new places firsts kept r = record {
-  places = λ left. subst (λ (ps : BTreeMap ℕ Place). IfSome (get nat_cmp ps left)
-      (RemembersPlace section new.firsts.nodes.items left)) (sym places)
-      (subst (λ (v : Versions). IfSome (get nat_cmp old.places left)
-      (RemembersPlace section v.nodes.items left)) (sym firsts) (r.places left));
+chains_listed section old new places firsts codes kept r = record {
+  places = record {
+    numbered = subst (λ (c : Codes). Numbered c) (sym codes) r.places.numbered;
+    each = λ left. subst (λ (ps : BTreeMap ℕ Place). IfSome (get nat_cmp ps left)
+        (RemembersPlace section new.codes new.firsts.nodes.items left)) (sym places)
+        (subst (λ (v : Versions). IfSome (get nat_cmp old.places left)
+        (RemembersPlace section new.codes v.nodes.items left)) (sym firsts)
+        (subst (λ (c : Codes). IfSome (get nat_cmp old.places left)
+        (RemembersPlace section c old.firsts.nodes.items left)) (sym codes) (r.places.each left)));
+  };
   lists = kept r.lists;
 }

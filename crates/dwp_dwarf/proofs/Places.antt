@@ -14,15 +14,19 @@ use Rattle.dwp_dwarf.specs.Abbreviations.{Declaration, declaration}
 use Rattle.dwp_dwarf.specs.Chains.{from_end, absent_by, StandsAt, DeclaredAt, SaidBy}
 use Rattle.dwp_dwarf.specs.Chains.{RemembersPlace, RemembersPlaces, RemembersChains, FirstAt}
 use Rattle.dwp_dwarf.specs.Declarations.{found_of}
+use Rattle.dwp_dwarf.specs.Chains.{first_by, first_in}
+use Rattle.dwp_dwarf.specs.Codes.{Numbered, KeptOrNew, GrowsCodes}
 use Rattle.dwp_dwarf.specs.Grammar.{next_at}
 use Rattle.dwp_dwarf.specs.Versions.{value_in, Grows}
 use Rattle.dwp_dwarf.specs.declared.abbrev.Abbreviation.{Abbreviation}
 use Rattle.dwp_dwarf.specs.declared.chains.Chains.{Chains}
 use Rattle.dwp_dwarf.specs.declared.chains.Place.{Place}
+use Rattle.dwp_dwarf.specs.declared.codes.Codes.{Codes}
 use Rattle.dwp_dwarf.specs.declared.versions.Node.{Node}
 use Rattle.dwp_dwarf.specs.declared.versions.Versions.{Versions}
 use Rattle.dwp_base.specs.Reading.{Answers}
 use Rattle.dwp_dwarf.specs.Offsets.{from_at}
+use Rattle.dwp_dwarf.proofs.CodeNumbers.{none_numbered}
 use Rattle.dwp_dwarf.proofs.Goes.{end_behind}
 use Rattle.dwp_dwarf.proofs.Grammar.{by_bool, look_up-end, look_up-fault, look_up-here}
 use Rattle.dwp_dwarf.proofs.Grammar.{look_up-other}
@@ -43,64 +47,97 @@ if_map None P Q f h = tt
 pub if_there : {A : Type 0} (P : A → Type 0) (o : Option A) (x : A) → o ≡ Some x → IfSome o P → P x
 if_there {A = A} P o x e h = subst (λ (y : Option A). IfSome y P) e h
 
-pub place_stays : (section : Input) (nodes grown : List Node) (left : ℕ) (place : Place)
-    → Grows nodes grown → RemembersPlace section nodes left place
-    → RemembersPlace section grown left place
-place_stays section nodes grown left place g r = record {
+-- a version has the same for a code whose number stays or is new
+number_stays : (count : ℕ) (before now : Option ℕ) (nodes grown : List Node) (version : ℕ)
+    → KeptOrNew count before now → Grows nodes grown → version ≤ length nodes
+    → ((number : ℕ) → count ≤ number → value_in nodes version number ≡ None)
+    → first_by now grown version ≡ first_by before nodes version
+number_stays count (Some n) now nodes grown version kept g fits none =
+    ap (λ (o : Option ℕ). first_by o grown version) kept
+    ∙ value_stays 33 nodes grown version n n g fits
+number_stays count None None nodes grown version kept g fits none = refl
+number_stays count None (Some n) nodes grown version kept g fits none =
+    value_stays 33 nodes grown version n n g fits ∙ none n kept
+
+pub place_stays : (section : Input) (old new : Codes) (nodes grown : List Node) (left : ℕ)
+    (place : Place) → GrowsCodes old new → Grows nodes grown
+    → RemembersPlace section old nodes left place → RemembersPlace section new grown left place
+place_stays section old new nodes grown left place c g r = record {
   table = r.table;
   is = r.is;
   fits = omega (arith, r.fits, grows_length nodes grown g);
+  none = λ number over. value_stays 33 nodes grown place.version number number g r.fits
+      ∙ r.none number (omega (arith, c.count, over));
   same = λ code. subst (λ (o : Option ℕ). SaidBy section place.fault o (declaration code r.table))
-      (sym (value_stays 65 nodes grown place.version code code g r.fits)) (r.same code);
+      (sym (number_stays old.count (get nat_cmp old.numbers code) (get nat_cmp new.numbers code)
+      nodes grown place.version (c.kept code) g r.fits r.none)) (r.same code);
 }
 
 pub none_remembered : (section : Input) (chains : Chains) → chains.places.entries ≡ []
-    → RemembersPlaces section chains
-none_remembered section chains empty left =
-    subst (λ (es : List (ℕ × Place)). IfSome (lookup (is_at (nat_cmp left)) es)
-    (RemembersPlace section chains.firsts.nodes.items left)) (sym empty) tt
+    → chains.codes.numbers.entries ≡ [] → RemembersPlaces section chains
+none_remembered section chains empty unmet = record {
+  numbered = none_numbered chains.codes unmet;
+  each = λ left. subst (λ (es : List (ℕ × Place)). IfSome (lookup (is_at (nat_cmp left)) es)
+      (RemembersPlace section chains.codes chains.firsts.nodes.items left)) (sym empty) tt;
+}
 
--- more nodes alone
+-- more numbers and nodes alone
 pub places_stay : (section : Input) (old new : Chains) → new.places ≡ old.places
-    → Grows old.firsts.nodes.items new.firsts.nodes.items → RemembersPlaces section old
+    → Grows old.firsts.nodes.items new.firsts.nodes.items → GrowsCodes old.codes new.codes
+    → (Numbered old.codes → Numbered new.codes) → RemembersPlaces section old
     → RemembersPlaces section new
-places_stay section old new same g r left =
-    subst (λ (ps : BTreeMap ℕ Place). IfSome (get nat_cmp ps left)
-    (RemembersPlace section new.firsts.nodes.items left)) (sym same)
-    (if_map (get nat_cmp old.places left) (RemembersPlace section old.firsts.nodes.items left)
-    (RemembersPlace section new.firsts.nodes.items left)
-    (λ place h. place_stays section old.firsts.nodes.items new.firsts.nodes.items left place g h)
-    (r left))
+places_stay section old new same g codes numbered r = record {
+  numbered = numbered r.numbered;
+  each = λ left. subst (λ (ps : BTreeMap ℕ Place). IfSome (get nat_cmp ps left)
+      (RemembersPlace section new.codes new.firsts.nodes.items left)) (sym same)
+      (if_map (get nat_cmp old.places left)
+      (RemembersPlace section old.codes old.firsts.nodes.items left)
+      (RemembersPlace section new.codes new.firsts.nodes.items left)
+      (λ place h. place_stays section old.codes new.codes old.firsts.nodes.items
+      new.firsts.nodes.items left place codes g h)
+      (r.each left));
+}
 
 -- what is remembered of a place that is as it was
 same_place : (section : Input) (old new : Chains) (left : ℕ)
     → get nat_cmp new.places left ≡ get nat_cmp old.places left → new.firsts ≡ old.firsts
-    → RemembersPlaces section old
-    → IfSome (get nat_cmp new.places left) (RemembersPlace section new.firsts.nodes.items left)
-same_place section old new left same firsts r =
-    subst (λ (o : Option Place). IfSome o (RemembersPlace section new.firsts.nodes.items left))
-    (sym same) (subst (λ (v : Versions). IfSome (get nat_cmp old.places left)
-    (RemembersPlace section v.nodes.items left)) (sym firsts) (r left))
+    → new.codes ≡ old.codes → RemembersPlaces section old → IfSome (get nat_cmp new.places left)
+    (RemembersPlace section new.codes new.firsts.nodes.items left)
+same_place section old new left same firsts codes r =
+    subst (λ (o : Option Place). IfSome o
+    (RemembersPlace section new.codes new.firsts.nodes.items left)) (sym same)
+    (subst (λ (v : Versions). IfSome (get nat_cmp old.places left)
+    (RemembersPlace section new.codes v.nodes.items left)) (sym firsts)
+    (subst (λ (c : Codes). IfSome (get nat_cmp old.places left)
+    (RemembersPlace section c old.firsts.nodes.items left)) (sym codes) (r.each left)))
 
 -- one more place, where there was memory for it
 pub place_put : (section : Input) (old new : Chains) (left : ℕ) (place : Place) (added : Bool)
-    → new.firsts ≡ old.firsts → (added ≡ true → get nat_cmp new.places left ≡ Some place)
+    → new.firsts ≡ old.firsts → new.codes ≡ old.codes
+    → (added ≡ true → get nat_cmp new.places left ≡ Some place)
     → ((q : ℕ) → q ≢ left → get nat_cmp new.places q ≡ get nat_cmp old.places q)
     → (added ≡ false → (q : ℕ) → get nat_cmp new.places q ≡ get nat_cmp old.places q)
-    → RemembersPlace section old.firsts.nodes.items left place → RemembersPlaces section old
-    → RemembersPlaces section new
-place_put section old new left place added firsts here others refused is r q =
+    → RemembersPlace section old.codes old.firsts.nodes.items left place
+    → RemembersPlaces section old → RemembersPlaces section new
+place_put section old new left place added firsts codes here others refused is r =
     let P : ℕ → Type 0 = λ k. IfSome (get nat_cmp new.places k) (RemembersPlace section
-    new.firsts.nodes.items k) in
-    by_bool (P q) added
-    (λ yes. by_bool (P q) (eqb left q)
-    (λ e. subst P (eqb-true _ _ e)
-    (subst (λ (o : Option Place). IfSome o (RemembersPlace section new.firsts.nodes.items left))
-    (sym (here yes))
-    (subst (λ (v : Versions). RemembersPlace section v.nodes.items left place) (sym firsts) is)))
-    (λ apart. same_place section old new q (others q (λ e.
-    let never : true ≡ false = sym (eq-eqb left q (sym e)) ∙ apart in absurd cc)) firsts r))
-    (λ no. same_place section old new q (refused no q) firsts r)
+    new.codes new.firsts.nodes.items k) in
+    record {
+      numbered = subst (λ (c : Codes). Numbered c) (sym codes) r.numbered;
+      each = λ q. by_bool (P q) added
+          (λ yes. by_bool (P q) (eqb left q)
+          (λ e. subst P (eqb-true _ _ e)
+          (subst (λ (o : Option Place). IfSome o
+          (RemembersPlace section new.codes new.firsts.nodes.items left)) (sym (here yes))
+          (subst (λ (v : Versions). RemembersPlace section new.codes v.nodes.items left place)
+          (sym firsts)
+          (subst (λ (c : Codes). RemembersPlace section c old.firsts.nodes.items left place)
+          (sym codes) is))))
+          (λ apart. same_place section old new q (others q (λ e.
+          let never : true ≡ false = sym (eq-eqb left q (sym e)) ∙ apart in absurd cc)) firsts codes
+          r))
+          (λ no. same_place section old new q (refused no q) firsts codes r);
+    }
 
 -- ---- what is remembered is said
 
@@ -124,13 +161,13 @@ one_stands section left d e p q =
 pub said_of : (section table : Input) (chains : Chains) (left code : ℕ) (place : Place)
     → get nat_cmp chains.places left ≡ Some place → RemembersPlaces section chains
     → from_end left section ≡ Ok table → SaidBy section place.fault
-    (value_in chains.firsts.nodes.items place.version code) (declaration code table)
+    (first_in chains.codes chains.firsts.nodes.items place.version code) (declaration code table)
 said_of section table chains left code place here all is =
-    let p = if_there (RemembersPlace section chains.firsts.nodes.items left)
-    (get nat_cmp chains.places left) place here (all left) in
+    let p = if_there (RemembersPlace section chains.codes chains.firsts.nodes.items left)
+    (get nat_cmp chains.places left) place here (all.each left) in
     let same : p.table ≡ table = one_input (from_end left section) p.table table p.is is in
-    subst (λ (t : Input). SaidBy section place.fault (value_in chains.firsts.nodes.items
-    place.version code) (declaration code t)) same (p.same code)
+    subst (λ (t : Input). SaidBy section place.fault (first_in chains.codes
+    chains.firsts.nodes.items place.version code) (declaration code t)) same (p.same code)
 
 same_offset : (section : Input) (offset size : ℕ) → size ≡ length section.bytes → offset ≤ size
     → offset ≡ length section.bytes - (size - offset)
@@ -147,11 +184,12 @@ from_left section table offset size is fits from =
 pub first_is : (section : Input) (chains : Chains) (offset size code first : ℕ) (place : Place)
     → size ≡ length section.bytes → offset ≤ size
     → get nat_cmp chains.places (size - offset) ≡ Some place
-    → value_in chains.firsts.nodes.items place.version code ≡ Some first
+    → first_in chains.codes chains.firsts.nodes.items place.version code ≡ Some first
     → RemembersChains section chains → FirstAt section offset code first
 first_is section chains offset size code first place is fits here some all =
-    let p = if_there (RemembersPlace section chains.firsts.nodes.items (size - offset))
-    (get nat_cmp chains.places (size - offset)) place here (all.places (size - offset)) in
+    let p = if_there (RemembersPlace section chains.codes chains.firsts.nodes.items
+    (size - offset)) (get nat_cmp chains.places (size - offset)) place here
+    (all.places.each (size - offset)) in
     record {
       table = p.table;
       is = subst (λ (k : ℕ). from_at k section ≡ Ok p.table)
@@ -166,8 +204,9 @@ module _ {R : Type 0} (input : R → Input) where
 
   pub said_is : (o : Option Read) (section : Input) (chains : Chains) (left code : ℕ)
       (place : Place) → get nat_cmp chains.places left ≡ Some place
-      → ((said : Said) → SaidBy section place.fault (value_in chains.firsts.nodes.items
-      place.version code) said → IfSome o (λ r. Answers (found_of input) r said))
+      → ((said : Said) → SaidBy section place.fault (first_in chains.codes
+      chains.firsts.nodes.items place.version code) said
+      → IfSome o (λ r. Answers (found_of input) r said))
       → IfSome o (λ r. RemembersPlaces section chains → (table : Input)
       → from_end left section ≡ Ok table → Answers (found_of input) r (declaration code table))
   said_is None section chains left code place here says = tt
@@ -188,37 +227,66 @@ module _ {R : Type 0} (input : R → Input) where
 
 -- ---- a place that is remembered now
 
+-- a version without numbers
+value_none : (nodes : List Node) (place : Place) (number : ℕ) → place.version ≡ 0
+    → value_in nodes place.version number ≡ None
+value_none nodes place number zero = ap (λ (v : ℕ). value_in nodes v number) zero
+    ∙ below_none 33 nodes 0 number number refl
+
+first_none : (o : Option ℕ) (nodes : List Node) (place : Place) → place.version ≡ 0
+    → first_by o nodes place.version ≡ None
+first_none None nodes place zero = refl
+first_none (Some number) nodes place zero = value_none nodes place number zero
+
 -- a version without the code
-said_none : (section : Input) (place : Place) (nodes : List Node) (code : ℕ) (said : Said)
-    → place.version ≡ 0 → said ≡ absent_by place.fault
-    → SaidBy section place.fault (value_in nodes place.version code) said
-said_none section place nodes code said zero is =
-    let none : value_in nodes place.version code ≡ None =
-    ap (λ (v : ℕ). value_in nodes v code) zero ∙ below_none 65 nodes 0 code code refl in
-    subst (λ (o : Option ℕ). SaidBy section place.fault o said) (sym none) is
+said_none : (section : Input) (place : Place) (codes : Codes) (nodes : List Node) (code : ℕ)
+    (said : Said) → place.version ≡ 0 → said ≡ absent_by place.fault
+    → SaidBy section place.fault (first_in codes nodes place.version code) said
+said_none section place codes nodes code said zero is =
+    subst (λ (o : Option ℕ). SaidBy section place.fault o said)
+    (sym (first_none (get nat_cmp codes.numbers code) nodes place zero)) is
+
+first_apart : (o : Option ℕ) (nodes grown : List Node) (version changed number : ℕ)
+    → (o ≢ Some number)
+    → ((n : ℕ) → n ≢ number → value_in grown changed n ≡ value_in nodes version n)
+    → first_by o grown changed ≡ first_by o nodes version
+first_apart None nodes grown version changed number apart others = refl
+first_apart (Some n) nodes grown version changed number apart others =
+    others n (λ e. apart (ap (λ (k : ℕ). Some k) e))
+
+-- a version that was changed for another code
+first_other : (codes : Codes) (nodes grown : List Node) (version changed code number other : ℕ)
+    → Numbered codes → get nat_cmp codes.numbers code ≡ Some number → other ≢ code
+    → ((n : ℕ) → n ≢ number → value_in grown changed n ≡ value_in nodes version n)
+    → first_in codes grown changed other ≡ first_in codes nodes version other
+first_other codes nodes grown version changed code number other numbered is apart others =
+    first_apart (get nat_cmp codes.numbers other) nodes grown version changed number
+    (λ e. apart (numbered.apart other code number e is)) others
 
 module _ (lebs : LebsTakeBytes) where
   -- at the end of a table
-  pub place_end : (section i : Input) (nodes : List Node) (left : ℕ) (place : Place)
-      → from_end left section ≡ Ok i → next_at i ≡ Ok None → place.version ≡ 0
-      → place.fault ≡ None → RemembersPlace section nodes left place
-  place_end section i nodes left place is end zero none = record {
+  pub place_end : (section i : Input) (codes : Codes) (nodes : List Node) (left : ℕ)
+      (place : Place) → from_end left section ≡ Ok i → next_at i ≡ Ok None → place.version ≡ 0
+      → place.fault ≡ None → RemembersPlace section codes nodes left place
+  place_end section i codes nodes left place is end zero none = record {
     table = i;
     is = is;
     fits = omega (arith, zero);
-    same = λ code. said_none section place nodes code (declaration code i) zero
+    none = λ number _. value_none nodes place number zero;
+    same = λ code. said_none section place codes nodes code (declaration code i) zero
         (look_up-end lebs code i end ∙ ap absent_by (sym none));
   }
 
   -- at a fault
-  pub place_fault : (section i : Input) (nodes : List Node) (left : ℕ) (place : Place)
-      (e : ReadError) → from_end left section ≡ Ok i → next_at i ≡ Err e → place.version ≡ 0
-      → place.fault ≡ Some e → RemembersPlace section nodes left place
-  place_fault section i nodes left place e is fails zero some = record {
+  pub place_fault : (section i : Input) (codes : Codes) (nodes : List Node) (left : ℕ)
+      (place : Place) (e : ReadError) → from_end left section ≡ Ok i → next_at i ≡ Err e
+      → place.version ≡ 0 → place.fault ≡ Some e → RemembersPlace section codes nodes left place
+  place_fault section i codes nodes left place e is fails zero some = record {
     table = i;
     is = is;
     fits = omega (arith, zero);
-    same = λ code. said_none section place nodes code (declaration code i) zero
+    none = λ number _. value_none nodes place number zero;
+    same = λ code. said_none section place codes nodes code (declaration code i) zero
         (look_up-fault lebs code i e fails ∙ ap absent_by (sym some));
   }
 
@@ -232,36 +300,46 @@ module _ (lebs : LebsTakeBytes) where
   }
 
   -- at a declaration
-  pub place_next : (section i behind : Input) (nodes grown : List Node) (left code : ℕ)
-      (declared : Declaration) (next place : Place) → from_end left section ≡ Ok i
-      → next_at i ≡ Ok (Some ((code, declared), behind))
-      → RemembersPlace section nodes (length behind.bytes) next → place.fault ≡ next.fault
-      → place.version ≤ length grown → value_in grown place.version code ≡ Some left
-      → ((other : ℕ) → other ≢ code → value_in grown place.version other ≡ value_in nodes
-      next.version other) → RemembersPlace section grown left place
-  place_next section i behind nodes grown left code declared next place is h r fault fits value
-      others = record {
+  pub place_next : (section i behind : Input) (codes : Codes) (nodes grown : List Node)
+      (left code number : ℕ) (declared : Declaration) (next place : Place)
+      → from_end left section ≡ Ok i
+      → next_at i ≡ Ok (Some ((code, declared), behind)) → Numbered codes
+      → get nat_cmp codes.numbers code ≡ Some number
+      → RemembersPlace section codes nodes (length behind.bytes) next → place.fault ≡ next.fault
+      → place.version ≤ length grown → value_in grown place.version number ≡ Some left
+      → ((other : ℕ) → other ≢ number → value_in grown place.version other ≡ value_in nodes
+      next.version other) → RemembersPlace section codes grown left place
+  place_next section i behind codes nodes grown left code number declared next place is h numbered
+      number_is r fault fits value others = record {
         table = i;
         is = is;
         fits = fits;
-        same = λ c. by_bool (SaidBy section place.fault (value_in grown place.version c)
+        none = λ n over. others n (λ e. absurd (omega (
+          arith,
+          numbered.below code number number_is,
+          over,
+          e,
+        ))) ∙ r.none n over;
+        same = λ c. by_bool (SaidBy section place.fault (first_in codes grown place.version c)
             (declaration c i)) (eqb code c)
-            (λ e. subst (λ (k : ℕ). SaidBy section place.fault (value_in grown place.version k)
-            (declaration k i)) (eqb-true _ _ e)
+            (λ e. subst (λ (k : ℕ). SaidBy section place.fault (first_in codes grown place.version
+            k) (declaration k i)) (eqb-true _ _ e)
             (subst (λ (o : Option ℕ). SaidBy section place.fault o (declaration code i))
-            (sym value) (said_here section i behind left code declared is h)))
+            (sym (ap (λ (o : Option ℕ). first_by o grown place.version) number_is ∙ value))
+            (said_here section i behind left code declared is h)))
             (λ apart.
-            let other : value_in grown place.version c ≡ value_in nodes next.version c =
-            others c (λ e. let never : true ≡ false = sym (eq-eqb code c (sym e)) ∙ apart in
-            absurd cc) in
+            let other : first_in codes grown place.version c ≡ first_in codes nodes next.version c =
+            first_other codes nodes grown next.version place.version code number c numbered
+            number_is (λ e. let never : true ≡ false = sym (eq-eqb code c (sym e)) ∙ apart in
+            absurd cc) others in
             let table : r.table ≡ behind = one_input (from_end (length behind.bytes) section)
             r.table
             behind r.is (end_behind lebs section i left ((code, declared), behind) is h) in
             let says : declaration c r.table ≡ declaration c i = ap (declaration c) table
             ∙ sym (look_up-other lebs c i ((code, declared), behind) h apart) in
-            subst (λ (f : Option ReadError). SaidBy section f (value_in grown place.version c)
+            subst (λ (f : Option ReadError). SaidBy section f (first_in codes grown place.version c)
             (declaration c i)) (sym fault)
             (subst (λ (o : Option ℕ). SaidBy section next.fault o (declaration c i)) (sym other)
-            (subst (λ (d : Said). SaidBy section next.fault (value_in nodes next.version c) d)
+            (subst (λ (d : Said). SaidBy section next.fault (first_in codes nodes next.version c) d)
             says (r.same c))));
       }

@@ -8,6 +8,7 @@ use Rattle.std.specs.BTreeMap.{BTreeMap, get}
 use Rattle.dwp_bytes.specs.Input.{Input}
 use Rattle.dwp_bytes.specs.declared.fault.ReadError.{ReadError}
 use Rattle.dwp_dwarf.specs.Abbreviations.{Declaration, declaration}
+use Rattle.dwp_dwarf.specs.Codes.{Numbered}
 use Rattle.dwp_dwarf.specs.Declarations.{specification_of}
 use Rattle.dwp_dwarf.specs.Grammar.{next_at}
 use Rattle.dwp_dwarf.specs.Numbers.{has_bytes}
@@ -16,6 +17,7 @@ use Rattle.dwp_dwarf.specs.Versions.{value_in}
 use Rattle.dwp_dwarf.specs.declared.abbrev.AttributeSpecification.{AttributeSpecification}
 use Rattle.dwp_dwarf.specs.declared.chains.Chains.{Chains}
 use Rattle.dwp_dwarf.specs.declared.chains.Place.{Place}
+use Rattle.dwp_dwarf.specs.declared.codes.Codes.{Codes}
 use Rattle.dwp_dwarf.specs.declared.versions.Node.{Node}
 
 -- what stands so many bytes before the end of a section
@@ -48,19 +50,31 @@ abbrev pub SaidBy : Input → Option ReadError → Option ℕ → Result (Option
 SaidBy section fault None said = said ≡ absent_by fault
 SaidBy section fault (Some left) said = DeclaredAt section left said
 
--- what is remembered of a place says of each code what the table says that begins there
-pub record RemembersPlace (section : Input) (nodes : List Node) (left : ℕ) (place : Place) : Type 0
-  where
-    pub table : Input
-    pub is : from_end left section ≡ Ok table
-    pub fits : place.version ≤ length nodes
-    pub same : (code : ℕ) → SaidBy section place.fault (value_in nodes place.version code)
-        (declaration code table)
+-- the value that a version has for a number, if there is one
+abbrev pub first_by : Option ℕ → List Node → ℕ → Option ℕ
+first_by None nodes version = None
+first_by (Some number) nodes version = value_in nodes version number
+
+-- the place of the first declaration of a code, in a version that has it by the code's number
+abbrev pub first_in : Codes → List Node → ℕ → ℕ → Option ℕ
+first_in codes nodes version code = first_by (get nat_cmp codes.numbers code) nodes version
+
+-- what is remembered of a place says of each code what the table says that begins there; it has no
+-- number that wasn't given
+pub record RemembersPlace (section : Input) (codes : Codes) (nodes : List Node) (left : ℕ)
+    (place : Place) : Type 0 where
+  pub table : Input
+  pub is : from_end left section ≡ Ok table
+  pub fits : place.version ≤ length nodes
+  pub none : (number : ℕ) → codes.count ≤ number → value_in nodes place.version number ≡ None
+  pub same : (code : ℕ) → SaidBy section place.fault (first_in codes nodes place.version code)
+      (declaration code table)
 
 -- each place that is remembered is remembered so
-abbrev pub RemembersPlaces : Input → Chains → Type 0
-RemembersPlaces section chains = (left : ℕ) → IfSome (get nat_cmp chains.places left)
-    (RemembersPlace section chains.firsts.nodes.items left)
+pub record RemembersPlaces (section : Input) (chains : Chains) : Type 0 where
+  pub numbered : Numbered chains.codes
+  pub each : (left : ℕ) → IfSome (get nat_cmp chains.places left)
+      (RemembersPlace section chains.codes chains.firsts.nodes.items left)
 
 -- a list of those attributes of the declaration at a place whose values have bytes
 pub record ListedAt (section : Input) (left : ℕ) (list : Vec AttributeSpecification Global) : Type 0

@@ -1,7 +1,7 @@
 -- A map from numbers to numbers whose versions share what they have alike: it has the declarations
--- of tables of abbreviations by their codes (DWARF 5, 7.5.3). Each version is made by path copying
--- (Driscoll, Sarnak, Sleator and Tarjan 1989, Making Data Structures Persistent). It is 0, which
--- has nothing, or the number of a node, counted from 1.
+-- of tables of abbreviations by the numbers of their codes (DWARF 5, 7.5.3). Each version is made by
+-- path copying (Driscoll, Sarnak, Sleator and Tarjan 1989, Making Data Structures Persistent). It is
+-- 0, which has nothing, or the number of a node, counted from 1.
 use Rattle.std.specs.Prelude.{◌≡◌, ℕ, zero, suc, ◌%◌, ◌/◌, ◌++◌, List, Option, Some, None}
 use Rattle.std.specs.Prelude.{slice_get, nat_lt, ◌==◌, if◌then◌else◌}
 use Rattle.dwp_dwarf.specs.declared.versions.Node.{Node}
@@ -30,9 +30,9 @@ value_below zero nodes version bits key = None
 value_below (suc n) nodes version bits key = value_by (node_of nodes version) key
     (λ node. value_below n nodes (older version (side_of node bits)) (bits / 2) key)
 
--- the value of a key in a version: a key has 64 bits
+-- the value of a key in a version: a key has 32 bits
 abbrev pub value_in : List Node → ℕ → ℕ → Option ℕ
-value_in nodes version key = value_below 65 nodes version key key
+value_in nodes version key = value_below 33 nodes version key key
 
 -- the second has the nodes of the first, and more
 pub record Grows (old new : List Node) : Type 0 where

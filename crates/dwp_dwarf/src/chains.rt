@@ -10,14 +10,17 @@ ghost use Rattle.dwp_bytes.specs.declared.fault.ReadError.{ReadError};
 ghost use Rattle.dwp_dwarf.specs.Abbreviations.{Declaration, declaration};
 ghost use Rattle.dwp_dwarf.specs.Chains.{from_end, absent_by, StandsAt, SaidBy, RemembersPlace};
 ghost use Rattle.dwp_dwarf.specs.Chains.{RemembersPlaces, ListsPlaces, RemembersChains, FirstAt};
+ghost use Rattle.dwp_dwarf.specs.Chains.{first_in};
+ghost use Rattle.dwp_dwarf.specs.Codes.{Numbered, GrowsCodes};
 ghost use Rattle.dwp_dwarf.specs.Declarations.{declaration_of, found_of};
 ghost use Rattle.dwp_dwarf.specs.Entries.{entry};
 ghost use Rattle.dwp_dwarf.specs.Numbers.{first_number};
 ghost use Rattle.dwp_dwarf.specs.Offsets.{from_at};
-ghost use Rattle.dwp_dwarf.specs.Versions.{value_in, Grows};
+ghost use Rattle.dwp_dwarf.specs.Versions.{Grows};
 
 use crate::abbrev::{Abbreviation, AttributeSpecification, SPECIFICATION_SIZE, known_declaration};
 use crate::cache::next_declaration;
+use crate::codes::Codes;
 use crate::number::{list_with_bytes, number_listed, number_read};
 use crate::offset::from_offset;
 use crate::versions::Versions;
@@ -35,7 +38,8 @@ pub(crate) struct Place {
     pub(crate) fault: Option<ReadError>,
 }
 
-/// How many nodes the versions have at most for each byte of the section: codes in order take fewer.
+/// How many nodes the versions have at most for each byte of the section. A declaration takes about
+/// as many as the number of codes has bits, so declarations one after the other take fewer.
 const NODES_FOR_A_BYTE: usize = 4;
 
 /// What tables say that go on at places of a section: where they meet they go on alike, so each
@@ -45,6 +49,8 @@ pub(crate) struct Chains {
     alloc: Global,
     // By how many bytes of the section are left there.
     pub(crate) places: BTreeMap<u64, Place>,
+    pub(crate) codes: Codes,
+    // By the numbers of codes.
     pub(crate) firsts: Versions,
     // Of the declarations at some places those attributes whose values have bytes.
     pub(crate) lists: BTreeMap<u64, Vec<AttributeSpecification>>,
@@ -56,11 +62,13 @@ impl Chains {
     /// Nothing is remembered, and no memory is taken.
     pub(crate) fn new(alloc: Global) -> Chains
         ensures places { result.places.entries ≡ [] }
+        ensures codes { result.codes.numbers.entries ≡ [] }
         ensures lists { result.lists.entries ≡ [] }
     {
         Chains {
             alloc,
             places: BTreeMap::new(alloc),
+            codes: Codes::new(alloc),
             firsts: Versions::new(alloc),
             lists: BTreeMap::new(alloc),
             listed: 0,
@@ -104,7 +112,7 @@ impl Chains {
             return None;
         }
         let place = self.place_of(length - offset)?;
-        let first = self.firsts.get(place.version, code)?;
+        let first = self.first_in(place.version, code)?;
         let is_full = self.listed >= section.len() / SPECIFICATION_SIZE;
         if is_full && !self.lists.contains_key(&first) {
             return None;
@@ -145,6 +153,7 @@ impl Chains {
             → ListsPlaces section self.old.lists → ListsPlaces section self.new.lists }
         ensures places { self.new.places ≡ self.old.places }
         ensures firsts { self.new.firsts ≡ self.old.firsts }
+        ensures codes { self.new.codes ≡ self.old.codes }
     {
         if self.lists.contains_key(&first) {
             return;
@@ -157,7 +166,8 @@ impl Chains {
         }
     }
 
-    /// Whether no more nodes may be added. Codes can be chosen so that each takes many.
+    /// Whether no more nodes may be added. Tables that begin inside declarations of others may take
+    /// more.
     fn is_full<R: Reader>(&self, section: R) -> bool {
         self.firsts.len() >= section.len().saturating_mul(NODES_FOR_A_BYTE)
     }
@@ -176,6 +186,15 @@ impl Chains {
         self.place_of(behind.len() as u64)
     }
 
+    /// The place of the first declaration of a code, in a version.
+    fn first_in(&self, version: u32, code: u64) -> Option<u64>
+        ensures { result ≡ first_in self.now.codes self.now.firsts.nodes.items version code }
+    {
+        let number = self.codes.number(code)?;
+        let first = self.firsts.get(version, number)?;
+        Some(u64::from(first))
+    }
+
     /// What is remembered of the table that begins at that place, of a code.
     fn said_by<R: Reader>(
         &self,
@@ -184,10 +203,10 @@ impl Chains {
         code: u64,
     ) -> Option<Result<Option<Abbreviation<R>>, ReadError>>
         ensures { (said : Result (Option Declaration) ReadError) → SaidBy (R.input section)
-            place.fault (value_in self.now.firsts.nodes.items place.version code) said
+            place.fault (first_in self.now.codes self.now.firsts.nodes.items place.version code) said
             → IfSome result (λ found. Answers (found_of R.input) found said) }
     {
-        let Some(first) = self.firsts.get(place.version, code) else {
+        let Some(first) = self.first_in(place.version, code) else {
             return Some(absent(place.fault));
         };
         let declared = declared_at(section, first)?;
@@ -266,6 +285,7 @@ impl Chains {
         ensures refused { result ≡ false → (other : ℕ)
             → get nat_cmp self.new.places other ≡ get nat_cmp self.old.places other }
         ensures firsts { self.new.firsts ≡ self.old.firsts }
+        ensures codes { self.new.codes ≡ self.old.codes }
         ensures lists { self.new.lists ≡ self.old.lists }
     {
         self.places.insert(left, place).is_ok()
@@ -275,17 +295,21 @@ impl Chains {
     /// memory, or the next place isn't remembered.
     fn place_at<R: Reader>(&mut self, at: R, left: u64) -> Option<Place>
         ensures grows { Grows self.old.firsts.nodes.items self.new.firsts.nodes.items }
+        ensures codes { GrowsCodes self.old.codes self.new.codes }
+        ensures numbered { Numbered self.old.codes → Numbered self.new.codes }
         ensures places { self.new.places ≡ self.old.places }
         ensures lists { self.new.lists ≡ self.old.lists }
         ensures place { IfSome result (λ place. (section : Input)
             → RemembersPlaces section self.old → from_end left section ≡ Ok (R.input at)
-            → RemembersPlace section self.new.firsts.nodes.items left place) }
+            → RemembersPlace section self.new.codes self.new.firsts.nodes.items left place) }
     {
         lebs_take_bytes();
         match next_declaration(at) {
             Ok(Some((code, _, behind))) => {
                 let next = self.next_place(behind)?;
-                let version = self.firsts.insert(next.version, code, left)?;
+                let first = in_32_bits(left)?;
+                let number = self.codes.number_or_next(code)?;
+                let version = self.firsts.insert(next.version, number, first)?;
                 Some(Place {
                     version,
                     fault: next.fault,
@@ -301,6 +325,13 @@ impl Chains {
             }),
         }
     }
+}
+
+/// The same number, where 32 bits are enough for it.
+fn in_32_bits(number: u64) -> Option<u32>
+    ensures { IfSome result (λ same. same ≡ number) }
+{
+    u32::try_from(number).ok()
 }
 
 /// What stands where so many bytes of a section are left.

@@ -34,6 +34,7 @@ impl SeenTables {
     /// Nothing was read, and no memory is taken.
     pub(crate) fn new(alloc: Global) -> SeenTables
         ensures places { result.chains.places.entries ≡ [] }
+        ensures codes { result.chains.codes.numbers.entries ≡ [] }
         ensures lists { result.chains.lists.entries ≡ [] }
     {
         SeenTables {

@@ -8,8 +8,8 @@ use std::alloc::Global;
 /// A key with its value, and where the others are.
 #[derive(Clone, Copy, Debug)]
 pub(crate) struct Node {
-    pub(crate) key: u64,
-    pub(crate) value: u64,
+    pub(crate) key: u32,
+    pub(crate) value: u32,
     // The version that has the others whose next bit is 0.
     pub(crate) even: u32,
     // The version that has the others whose next bit is 1.
@@ -24,7 +24,7 @@ pub(crate) struct Versions {
 }
 
 /// The nodes on a way, at most: one for each bit of a key, and one below them.
-const LEVELS: u32 = 65;
+const LEVELS: u32 = 33;
 
 impl Versions {
     /// The version 0 alone. No memory is taken.
@@ -40,15 +40,15 @@ impl Versions {
     }
 
     /// The value of a key in a version.
-    pub(crate) fn get(&self, version: u32, key: u64) -> Option<u64>
+    pub(crate) fn get(&self, version: u32, key: u32) -> Option<u32>
         ensures { result ≡ value_in self.now.nodes.items version key }
     {
         value_below(&self.nodes, LEVELS, version, key, key)
     }
 
     /// A version that has this value for the key, and else what that version has. It takes as many
-    /// nodes as the key's way in that version, at most 65. None where there is no memory.
-    pub(crate) fn insert(&mut self, version: u32, key: u64, value: u64) -> Option<u32>
+    /// nodes as the key's way in that version, at most 33. None where there is no memory.
+    pub(crate) fn insert(&mut self, version: u32, key: u32, value: u32) -> Option<u32>
         ensures grows { Grows self.old.nodes.items self.new.nodes.items }
         ensures fits { IfSome result (λ added. added ≤ length self.new.nodes.items) }
         ensures value { IfSome result (λ added. value_in self.new.nodes.items added key
@@ -61,7 +61,7 @@ impl Versions {
 }
 
 impl Node {
-    fn side(&self, bits: u64) -> u32
+    fn side(&self, bits: u32) -> u32
         ensures { result ≡ side_of self.now bits }
     {
         if bits % 2 == 0 { self.even } else { self.odd }
@@ -85,7 +85,7 @@ fn node_of(nodes: &[Node], version: u32) -> Option<Node>
 }
 
 /// The value of a key in a version, of so many nodes on the way at most.
-fn value_below(nodes: &[Node], levels: u32, version: u32, bits: u64, key: u64) -> Option<u64>
+fn value_below(nodes: &[Node], levels: u32, version: u32, bits: u32, key: u32) -> Option<u32>
     ensures { result ≡ value_below levels nodes.now version bits key }
 {
     if levels == 0 {
@@ -123,9 +123,9 @@ fn insert_below(
     nodes: &mut Vec<Node>,
     levels: u32,
     version: u32,
-    bits: u64,
-    key: u64,
-    value: u64,
+    bits: u32,
+    key: u32,
+    value: u32,
 ) -> Option<u32>
     ensures grows { Grows nodes.old.items nodes.new.items }
     ensures fits { IfSome result (λ added. added ≤ length nodes.new.items) }

@@ -11,7 +11,8 @@ invariant_of-result g c = (
       c.new.ensures.known c.new.ensures.lists,
   none_put_away g.R.Reader.input _ c.new-2.result c.new-2.ensures.empty,
   record {
-    places = none_remembered _ c.new-3.result.chains c.new-3.ensures.places;
+    places = none_remembered _ c.new-3.result.chains c.new-3.ensures.places
+        c.new-3.ensures.codes;
     lists = none_listed _ c.new-3.result.chains.lists c.new-3.ensures.lists;
   },
 )

@@ -36,9 +36,9 @@ returns-in-Some-clause-number g c = λ section stands all.
 pub returns-in-Some-clause-kept : goal.returns-in-Some-clause-kept
 returns-in-Some-clause-kept g c = λ section stands.
     chains_listed section c.args.self.now c.list.new.self c.list.ensures.places
-    c.list.ensures.firsts (c.list.ensures.lists section stands)
+    c.list.ensures.firsts c.list.ensures.codes (c.list.ensures.lists section stands)
 
 pub returns-in-None-clause-kept : goal.returns-in-None-clause-kept
 returns-in-None-clause-kept g c = λ section stands.
     chains_listed section c.args.self.now c.list.new.self c.list.ensures.places
-    c.list.ensures.firsts (c.list.ensures.lists section stands)
+    c.list.ensures.firsts c.list.ensures.codes (c.list.ensures.lists section stands)
