@@ -1,7 +1,7 @@
 -- A map from numbers to numbers whose versions share what they have alike: it has the declarations
--- of tables of abbreviations by the numbers of their codes (DWARF 5, 7.5.3). Each version is made by
--- path copying (Driscoll, Sarnak, Sleator and Tarjan 1989, Making Data Structures Persistent). It is
--- 0, which has nothing, or the number of a node, counted from 1.
+-- of tables of abbreviations by the numbers of their codes (DWARF 5, 7.5.3). Each version is made
+-- by path copying (Driscoll, Sarnak, Sleator and Tarjan 1989, Making Data Structures Persistent).
+-- It is 0, which has nothing, or the number of a node, counted from 1.
 use Rattle.std.specs.Prelude.{◌≡◌, ℕ, zero, suc, ◌%◌, ◌/◌, ◌++◌, List, Option, Some, None}
 use Rattle.std.specs.Prelude.{slice_get, nat_lt, ◌==◌, if◌then◌else◌}
 use Rattle.dwp_dwarf.specs.declared.versions.Node.{Node}
