@@ -54,10 +54,10 @@ number_stays : (count : ℕ) (before now : Option ℕ) (nodes grown : List Node)
     → first_by now grown version ≡ first_by before nodes version
 number_stays count (Some n) now nodes grown version kept g fits none =
     ap (λ (o : Option ℕ). first_by o grown version) kept
-    ∙ value_stays 33 nodes grown version n n g fits
+    ∙ value_stays 33 nodes grown version n g fits
 number_stays count None None nodes grown version kept g fits none = refl
 number_stays count None (Some n) nodes grown version kept g fits none =
-    value_stays 33 nodes grown version n n g fits ∙ none n kept
+    value_stays 33 nodes grown version n g fits ∙ none n kept
 
 pub place_stays : (section : Input) (old new : Codes) (nodes grown : List Node) (left : ℕ)
     (place : Place) → GrowsCodes old new → Grows nodes grown
@@ -66,7 +66,7 @@ place_stays section old new nodes grown left place c g r = record {
   table = r.table;
   is = r.is;
   fits = omega (arith, r.fits, grows_length nodes grown g);
-  none = λ number over. value_stays 33 nodes grown place.version number number g r.fits
+  none = λ number over. value_stays 33 nodes grown place.version number g r.fits
       ∙ r.none number (omega (arith, c.count, over));
   same = λ code. subst (λ (o : Option ℕ). SaidBy section place.fault o (declaration code r.table))
       (sym (number_stays old.count (get nat_cmp old.numbers code) (get nat_cmp new.numbers code)
@@ -231,7 +231,7 @@ module _ {R : Type 0} (input : R → Input) where
 value_none : (nodes : List Node) (place : Place) (number : ℕ) → place.version ≡ 0
     → value_in nodes place.version number ≡ None
 value_none nodes place number zero = ap (λ (v : ℕ). value_in nodes v number) zero
-    ∙ below_none 33 nodes 0 number number refl
+    ∙ below_none 33 nodes 0 number refl
 
 first_none : (o : Option ℕ) (nodes : List Node) (place : Place) → place.version ≡ 0
     → first_by o nodes place.version ≡ None

@@ -140,7 +140,7 @@ impl<R: Reader> AbbreviationCache<R> {
     ///
     /// Tables that overlap go on alike from each declaration that they share. So once more was read
     /// than two times the section, what is said from a declaration on is remembered for all of them,
-    /// in at most four nodes of 16 bytes for each byte of the section.
+    /// in at most four nodes of 12 bytes for each byte of the section.
     ///
     /// # Errors
     /// `OffsetOutOfRange` past the section's end, and those of `Abbreviations::get`. Want of memory
