@@ -14,7 +14,7 @@ use Rattle.dwp_bytes.specs.Leb.{LebsTakeBytes, uleb_at, sleb_at}
 use Rattle.dwp_dwarf.specs.Abbreviations.{Specification, Declaration, constant_at, specification_at}
 use Rattle.dwp_dwarf.specs.Abbreviations.{specifications_within, specifications_at, is_last, tag_at}
 use Rattle.dwp_dwarf.specs.Abbreviations.{children_at, declaration_at, code_at}
-use Rattle.dwp_dwarf.specs.Chains.{last_of}
+use Rattle.dwp_dwarf.specs.Chains.{from_end}
 use Rattle.dwp_dwarf.specs.Grammar.{next_at}
 use Rattle.dwp_dwarf.specs.Offsets.{from_at}
 use Rattle.dwp_dwarf.proofs.Forward.{bind_ok, guard_ok, by_choice, no_value, IsBehind-then}
@@ -70,7 +70,7 @@ goes_from offset section i e =
     }
 
 -- what lies further on is what the section has from its own offset on
-from_goes : (section i : Input) → Goes 0 section i → last_of (length i.bytes) section ≡ Ok i
+from_goes : (section i : Input) → Goes 0 section i → from_end (length i.bytes) section ≡ Ok i
 unfolding from_at skip_at
 from_goes section i g =
     let left : length i.bytes ≡ length section.bytes - g.taken =
@@ -208,8 +208,8 @@ module _ (lebs : LebsTakeBytes) where
       (λ f h. let never : Err f ≡ Ok (Some x) = sym (next-bad_code i f h) ∙ e in absurd cc)
 
   -- what comes behind a declaration is what the section has from there on
-  pub last_behind : (section i : Input) (left : ℕ) (x : (ℕ × Declaration) × Input)
-      → last_of left section ≡ Ok i → next_at i ≡ Ok (Some x)
-      → last_of (length x.1.bytes) section ≡ Ok x.1
-  last_behind section i left x is h = from_goes section x.1 (goes_then 0 0 section i x.1
+  pub end_behind : (section i : Input) (left : ℕ) (x : (ℕ × Declaration) × Input)
+      → from_end left section ≡ Ok i → next_at i ≡ Ok (Some x)
+      → from_end (length x.1.bytes) section ≡ Ok x.1
+  end_behind section i left x is h = from_goes section x.1 (goes_then 0 0 section i x.1
       (goes_from (length section.bytes - left) section i is) (next_goes i x h))

@@ -5,9 +5,11 @@ pub mod UnitsForward
 pub mod UnitLists
 pub mod PastEnd
 pub mod Grammar
+pub mod CodeNumbers
 pub mod Goes
 pub mod Values
 pub mod Remembered
 pub mod NewVersions
 pub mod Places
+pub mod PlaceLists
 pub mod Numbers

@@ -1,59 +1,99 @@
 -- Tables of abbreviations (DWARF 5, 7.5.3) that overlap: what tables say that go on at a place of
 -- the section is remembered by the place. From a declaration on they all go on alike.
 use Rattle.std.specs.Prelude.{◌≡◌, ◌≤◌, ◌-◌, ℕ, List, length, Option, Some, None, Result, Ok, Err}
-use Rattle.std.specs.Prelude.{IfSome}
+use Rattle.std.specs.Prelude.{IfSome, Vec, map, filter}
+use Rattle.std.specs.declared.alloc.Global.{Global}
 use Rattle.std.specs.Ordering.{nat_cmp}
 use Rattle.std.specs.BTreeMap.{BTreeMap, get}
 use Rattle.dwp_bytes.specs.Input.{Input}
 use Rattle.dwp_bytes.specs.declared.fault.ReadError.{ReadError}
 use Rattle.dwp_dwarf.specs.Abbreviations.{Declaration, declaration}
-use Rattle.dwp_dwarf.specs.Declarations.{declaration_of}
+use Rattle.dwp_dwarf.specs.Codes.{Numbered}
+use Rattle.dwp_dwarf.specs.Declarations.{specification_of}
+use Rattle.dwp_dwarf.specs.Grammar.{next_at}
+use Rattle.dwp_dwarf.specs.Numbers.{has_bytes}
 use Rattle.dwp_dwarf.specs.Offsets.{from_at}
 use Rattle.dwp_dwarf.specs.Versions.{value_in}
-use Rattle.dwp_dwarf.specs.declared.abbrev.Abbreviation.{Abbreviation}
+use Rattle.dwp_dwarf.specs.declared.abbrev.AttributeSpecification.{AttributeSpecification}
 use Rattle.dwp_dwarf.specs.declared.chains.Chains.{Chains}
 use Rattle.dwp_dwarf.specs.declared.chains.Place.{Place}
+use Rattle.dwp_dwarf.specs.declared.codes.Codes.{Codes}
 use Rattle.dwp_dwarf.specs.declared.versions.Node.{Node}
 
 -- what stands so many bytes before the end of a section
-abbrev pub last_of : ℕ → Input → Result Input ReadError
-last_of left section = from_at (length section.bytes - left) section
+abbrev pub from_end : ℕ → Input → Result Input ReadError
+from_end left section = from_at (length section.bytes - left) section
 
 -- what a table without the code says, by the fault at its end
 abbrev pub absent_by : Option ReadError → Result (Option Declaration) ReadError
 absent_by None = Ok None
 absent_by (Some e) = Err e
 
--- the declaration at a remembered place is what is said
-pub record DeclaredAt {R : Type 0} (input : R → Input) (places : BTreeMap ℕ (Place R)) (left : ℕ)
-    (said : Result (Option Declaration) ReadError) : Type 0 where
-  pub place : Place R
-  pub is : get nat_cmp places left ≡ Some place
-  pub declared : Abbreviation R
-  pub has : place.declared ≡ Some declared
-  pub says : said ≡ Ok (Some (declaration_of input declared))
+-- a declaration that stands so many bytes before the end of a section
+pub record StandsAt (section : Input) (left : ℕ) (declared : Declaration) : Type 0 where
+  pub start : Input
+  pub is : from_end left section ≡ Ok start
+  pub code : ℕ
+  pub behind : Input
+  pub next : next_at start ≡ Ok (Some ((code, declared), behind))
+
+-- the declaration at a place is what is said
+pub record DeclaredAt (section : Input) (left : ℕ) (said : Result (Option Declaration) ReadError) :
+    Type 0 where
+  pub declared : Declaration
+  pub stands : StandsAt section left declared
+  pub says : said ≡ Ok (Some declared)
 
 -- what is said is the declaration at the place that was found, or that there is none
-abbrev pub SaidBy : {R : Type 0} → (R → Input) → BTreeMap ℕ (Place R) → Option ReadError → Option ℕ
-    → Result (Option Declaration) ReadError → Type 0
-SaidBy input places fault None said = said ≡ absent_by fault
-SaidBy input places fault (Some left) said = DeclaredAt input places left said
+abbrev pub SaidBy : Input → Option ReadError → Option ℕ → Result (Option Declaration) ReadError
+    → Type 0
+SaidBy section fault None said = said ≡ absent_by fault
+SaidBy section fault (Some left) said = DeclaredAt section left said
 
--- what is remembered of a place says of each code what the table says that begins there
-pub record RemembersPlace {R : Type 0} (input : R → Input) (section : Input) (nodes : List Node)
-    (places : BTreeMap ℕ (Place R)) (left : ℕ) (place : Place R) : Type 0 where
+-- the value that a version has for a number, if there is one
+abbrev pub first_by : Option ℕ → List Node → ℕ → Option ℕ
+first_by None nodes version = None
+first_by (Some number) nodes version = value_in nodes version number
+
+-- the place of the first declaration of a code, in a version that has it by the code's number
+abbrev pub first_in : Codes → List Node → ℕ → ℕ → Option ℕ
+first_in codes nodes version code = first_by (get nat_cmp codes.numbers code) nodes version
+
+-- what is remembered of a place says of each code what the table says that begins there; it has no
+-- number that wasn't given
+pub record RemembersPlace (section : Input) (codes : Codes) (nodes : List Node) (left : ℕ)
+    (place : Place) : Type 0 where
   pub table : Input
-  pub is : last_of left section ≡ Ok table
+  pub is : from_end left section ≡ Ok table
   pub fits : place.version ≤ length nodes
-  pub same : (code : ℕ) → SaidBy input places place.fault (value_in nodes place.version code)
+  pub none : (number : ℕ) → codes.count ≤ number → value_in nodes place.version number ≡ None
+  pub same : (code : ℕ) → SaidBy section place.fault (first_in codes nodes place.version code)
       (declaration code table)
 
 -- each place that is remembered is remembered so
-abbrev pub RemembersPlaces : {R : Type 0} → (R → Input) → Input → Chains R → Type 0
-RemembersPlaces input section chains = (left : ℕ) → IfSome (get nat_cmp chains.places left)
-    (RemembersPlace input section chains.firsts.nodes.items chains.places left)
+pub record RemembersPlaces (section : Input) (chains : Chains) : Type 0 where
+  pub numbered : Numbered chains.codes
+  pub each : (left : ℕ) → IfSome (get nat_cmp chains.places left)
+      (RemembersPlace section chains.codes chains.firsts.nodes.items left)
 
--- all that was remembered stays
-abbrev pub KeepsPlaces : {R : Type 0} → BTreeMap ℕ (Place R) → BTreeMap ℕ (Place R) → Type 0
-KeepsPlaces old new = (left : ℕ) → IfSome (get nat_cmp old left)
-    (λ place. get nat_cmp new left ≡ Some place)
+-- a list of those attributes of the declaration at a place whose values have bytes
+pub record ListedAt (section : Input) (left : ℕ) (list : Vec AttributeSpecification Global) : Type 0
+  where
+    pub declared : Declaration
+    pub stands : StandsAt section left declared
+    pub listed : map specification_of list.items ≡ filter has_bytes declared.specifications
+
+-- each list is such a list of its place
+abbrev pub ListsPlaces : Input → BTreeMap ℕ (Vec AttributeSpecification Global) → Type 0
+ListsPlaces section lists = (left : ℕ) → IfSome (get nat_cmp lists left) (ListedAt section left)
+
+-- all that is remembered of a section by places
+pub record RemembersChains (section : Input) (chains : Chains) : Type 0 where
+  pub places : RemembersPlaces section chains
+  pub lists : ListsPlaces section chains.lists
+
+-- what the table at an offset says of a code is the declaration at a place
+pub record FirstAt (section : Input) (offset code left : ℕ) : Type 0 where
+  pub table : Input
+  pub is : from_at offset section ≡ Ok table
+  pub declares : DeclaredAt section left (declaration code table)

@@ -1,6 +1,7 @@
 pub mod Abbreviations
 pub mod Attributes
 pub mod Chains
+pub mod Codes
 pub mod Declarations
 pub mod Entries
 pub mod Forms

@@ -1,10 +1,13 @@
 //! Abbreviations and their table (DWARF 5, 7.5.3).
 
-ghost use Rattle.std.specs.Prelude.{◌≡◌};
+ghost use Rattle.std.specs.Prelude.{◌≡◌, ℕ, Ok, Some, IfOk};
 ghost use Rattle.dwp_base.specs.Reading.{Answers, Reads};
+ghost use Rattle.dwp_bytes.specs.Input.{Input};
 ghost use Rattle.dwp_dwarf.specs.Abbreviations.{constant_at, specification_at, past_specifications};
 ghost use Rattle.dwp_dwarf.specs.Abbreviations.{specifications_at, tag_at, children_at};
 ghost use Rattle.dwp_dwarf.specs.Abbreviations.{declaration_at, code_at, declaration, is_last};
+ghost use Rattle.dwp_dwarf.specs.Abbreviations.{Declaration};
+ghost use Rattle.dwp_dwarf.specs.Grammar.{next_at};
 ghost use Rattle.dwp_dwarf.specs.Offsets.{from_at};
 ghost use Rattle.dwp_dwarf.specs.Declarations.{specification_of, declaration_of, table_of};
 ghost use Rattle.dwp_dwarf.specs.Declarations.{found_of};
@@ -34,6 +37,9 @@ pub struct Abbreviation<R> {
 pub struct Abbreviations<R> {
     pub(crate) table: R,
 }
+
+/// The fewest bytes of an attribute and its form.
+pub(crate) const SPECIFICATION_SIZE: usize = 2;
 
 #[tactic(auto, unfolding(crate::specs::Abbreviations::constant_at))]
 fn skip_constant<R: Reader>(reader: &mut R, form: u64) -> Result<(), ReadError>
@@ -114,6 +120,21 @@ pub(crate) fn read_declaration<R: Reader>(reader: &mut R) -> Result<Abbreviation
         tag,
         has_children,
         specifications,
+    })
+}
+
+/// The declaration that stands there with its code, where one is known to: its list isn't gone over.
+pub(crate) fn known_declaration<R: Reader>(mut at: R) -> Result<Abbreviation<R>, ReadError>
+    ensures { IfOk result (λ found. (x : (ℕ × Declaration) × Input)
+        → next_at (R.input at) ≡ Ok (Some x) → x.0.1 ≡ declaration_of R.input found) }
+{
+    let _code = read_code(&mut at)?;
+    let tag = read_tag(&mut at)?;
+    let has_children = read_children(&mut at)?;
+    Ok(Abbreviation {
+        tag,
+        has_children,
+        specifications: at,
     })
 }
 

@@ -16,7 +16,8 @@ ghost use Rattle.dwp_dwarf.specs.Remembered.{next_of, remembered, HasLists, Reme
 ghost use Rattle.dwp_dwarf.specs.Remembered.{RemembersTables};
 
 use crate::abbrev::{
-    Abbreviation, Abbreviations, AttributeSpecification, read_code, read_declaration,
+    Abbreviation, Abbreviations, AttributeSpecification, SPECIFICATION_SIZE, read_code,
+    read_declaration,
 };
 use crate::number::{list_with_bytes, number_listed, number_read};
 use crate::offset::from_offset;
@@ -35,7 +36,7 @@ use std::mem;
 pub struct AbbreviationCache<R: Reader> {
     section: R,
     tables: ReadTables<R>,
-    seen: SeenTables<R>,
+    seen: SeenTables,
 }
 
 /// An entry's tag, and the number of an attribute of it.
@@ -86,12 +87,9 @@ struct TablesPutAway<R: Reader> {
 /// The fewest bytes of a declaration: its code, its tag, its byte on children, and the pair 0, 0.
 const DECLARATION_SIZE: usize = 5;
 
-/// The fewest bytes of an attribute and its form.
-const SPECIFICATION_SIZE: usize = 2;
-
 impl<R: Reader> Model for AbbreviationCache<R> {
     ghost use Rattle.dwp_dwarf.specs.Remembered.{RemembersTable, RemembersTables};
-    ghost use Rattle.dwp_dwarf.specs.Chains.{RemembersPlaces};
+    ghost use Rattle.dwp_dwarf.specs.Chains.{RemembersChains};
 
     // Contracts see the section.
     ghost Value = { R };
@@ -101,7 +99,7 @@ impl<R: Reader> Model for AbbreviationCache<R> {
     ghost invariant = { λ c.
         RemembersTable R.input (R.input c.section) c.tables.offset c.tables.at_hand
         × RemembersTables R.input (R.input c.section) c.tables.others.tables
-        × RemembersPlaces R.input (R.input c.section) c.seen.chains };
+        × RemembersChains (R.input c.section) c.seen.chains };
 }
 
 impl<R: Reader> AbbreviationCache<R> {
@@ -142,7 +140,7 @@ impl<R: Reader> AbbreviationCache<R> {
     ///
     /// Tables that overlap go on alike from each declaration that they share. So once more was read
     /// than two times the section, what is said from a declaration on is remembered for all of them,
-    /// in at most four nodes of 24 bytes for each byte of the section.
+    /// in at most four nodes of 12 bytes for each byte of the section.
     ///
     /// # Errors
     /// `OffsetOutOfRange` past the section's end, and those of `Abbreviations::get`. Want of memory
@@ -172,7 +170,8 @@ impl<R: Reader> AbbreviationCache<R> {
     /// None where the table doesn't have the code.
     ///
     /// Once the code's declaration is remembered, its attributes whose values have no bytes are
-    /// passed over: an entry then costs no more than its bytes.
+    /// passed over: an entry then costs no more than its bytes. Tables that overlap share what is
+    /// listed of a declaration, up to an attribute for two bytes of the section.
     ///
     /// # Errors
     /// Those of `get`.
@@ -194,7 +193,11 @@ impl<R: Reader> AbbreviationCache<R> {
         let Some(abbreviation) = self.get(offset, code)? else {
             return Ok(None);
         };
-        let number = if is_known && self.tables.is_at_hand(offset) {
+        let first = self.seen.first_of(self.section, offset, code);
+        let number = if let Some(first) = first {
+            let chains = &mut self.seen.chains;
+            chains.number(first, abbreviation, encoding, values, name)
+        } else if is_known && self.tables.is_at_hand(offset) {
             let at_hand = &mut self.tables.at_hand;
             at_hand.number(
                 self.tables.alloc,

@@ -3,76 +3,91 @@
 ghost use Rattle.std.specs.Prelude.{◌≡◌, ◌≢◌, ℕ, Option, Result, Ok, Some, true, false, []};
 ghost use Rattle.std.specs.Prelude.{IfSome, length};
 ghost use Rattle.std.specs.Ordering.{nat_cmp};
-ghost use Rattle.std.specs.BTreeMap.{BTreeMap as Map, get};
+ghost use Rattle.std.specs.BTreeMap.{get};
 ghost use Rattle.dwp_base.specs.Reading.{Answers};
 ghost use Rattle.dwp_bytes.specs.Input.{Input};
 ghost use Rattle.dwp_bytes.specs.declared.fault.ReadError.{ReadError};
 ghost use Rattle.dwp_dwarf.specs.Abbreviations.{Declaration, declaration};
-ghost use Rattle.dwp_dwarf.specs.Chains.{last_of, absent_by, DeclaredAt, SaidBy, RemembersPlace};
-ghost use Rattle.dwp_dwarf.specs.Chains.{RemembersPlaces, KeepsPlaces};
+ghost use Rattle.dwp_dwarf.specs.Chains.{from_end, absent_by, StandsAt, SaidBy, RemembersPlace};
+ghost use Rattle.dwp_dwarf.specs.Chains.{RemembersPlaces, ListsPlaces, RemembersChains, FirstAt};
+ghost use Rattle.dwp_dwarf.specs.Chains.{first_in};
+ghost use Rattle.dwp_dwarf.specs.Codes.{Numbered, GrowsCodes};
 ghost use Rattle.dwp_dwarf.specs.Declarations.{declaration_of, found_of};
+ghost use Rattle.dwp_dwarf.specs.Entries.{entry};
+ghost use Rattle.dwp_dwarf.specs.Numbers.{first_number};
 ghost use Rattle.dwp_dwarf.specs.Offsets.{from_at};
-ghost use Rattle.dwp_dwarf.specs.Versions.{value_in, Grows};
-ghost use Rattle.dwp_dwarf.specs.declared.chains.Place.{Place as Remembered};
+ghost use Rattle.dwp_dwarf.specs.Versions.{Grows};
 
-use crate::abbrev::Abbreviation;
+use crate::abbrev::{Abbreviation, AttributeSpecification, SPECIFICATION_SIZE, known_declaration};
 use crate::cache::next_declaration;
+use crate::codes::Codes;
+use crate::number::{list_with_bytes, number_listed, number_read};
 use crate::offset::from_offset;
 use crate::versions::Versions;
 use dwp_bytes::laws::lebs_take_bytes;
-use dwp_bytes::{ReadError, Reader};
+use dwp_bytes::{Encoding, ReadError, Reader};
 use std::alloc::Global;
 use std::collections::BTreeMap;
 
 /// What tables say that go on at a place of a section.
 #[derive(Clone, Copy, Debug)]
-pub(crate) struct Place<R> {
-    // The declaration that stands there.
-    pub(crate) declared: Option<Abbreviation<R>>,
+pub(crate) struct Place {
     // The version that has, by its code, the place of the first declaration from there on.
     pub(crate) version: u32,
     // The fault at their end.
     pub(crate) fault: Option<ReadError>,
 }
 
-/// How many nodes the versions have at most for each byte of the section: codes in order take fewer.
+/// How many nodes the versions have at most for each byte of the section. A declaration takes about
+/// as many as the number of codes has bits, so declarations one after the other take fewer.
 const NODES_FOR_A_BYTE: usize = 4;
 
 /// What tables say that go on at places of a section: where they meet they go on alike, so each
 /// declaration is read for all of them.
 #[derive(Drop)]
-pub(crate) struct Chains<R: Reader> {
+pub(crate) struct Chains {
     alloc: Global,
     // By how many bytes of the section are left there.
-    pub(crate) places: BTreeMap<u64, Place<R>>,
+    pub(crate) places: BTreeMap<u64, Place>,
+    pub(crate) codes: Codes,
+    // By the numbers of codes.
     pub(crate) firsts: Versions,
+    // Of the declarations at some places those attributes whose values have bytes.
+    pub(crate) lists: BTreeMap<u64, Vec<AttributeSpecification>>,
+    // How many attributes are listed.
+    listed: usize,
 }
 
-impl<R: Reader> Chains<R> {
+impl Chains {
     /// Nothing is remembered, and no memory is taken.
-    pub(crate) fn new(alloc: Global) -> Chains<R>
-        ensures { result.places.entries ≡ [] }
+    pub(crate) fn new(alloc: Global) -> Chains
+        ensures places { result.places.entries ≡ [] }
+        ensures codes { result.codes.numbers.entries ≡ [] }
+        ensures lists { result.lists.entries ≡ [] }
     {
         Chains {
             alloc,
             places: BTreeMap::new(alloc),
+            codes: Codes::new(alloc),
             firsts: Versions::new(alloc),
+            lists: BTreeMap::new(alloc),
+            listed: 0,
         }
     }
 
     /// What the table at an offset of the section says of a code. None where there is no memory, or
     /// as much was taken as may be.
-    pub(crate) fn get(
+    pub(crate) fn get<R: Reader>(
         &mut self,
         section: R,
         offset: u64,
         code: u64,
     ) -> Option<Result<Option<Abbreviation<R>>, ReadError>>
-        ensures said { IfSome result (λ said. RemembersPlaces R.input (R.input section) self.old
+        ensures said { IfSome result (λ said. RemembersChains (R.input section) self.old
             → (table : Input) → from_at offset (R.input section) ≡ Ok table
             → Answers (found_of R.input) said (declaration code table)) }
-        ensures kept { RemembersPlaces R.input (R.input section) self.old
-            → RemembersPlaces R.input (R.input section) self.new }
+        ensures kept { RemembersChains (R.input section) self.old
+            → RemembersChains (R.input section) self.new }
     {
         let length = section.len() as u64;
         if length < offset {
@@ -83,84 +98,154 @@ impl<R: Reader> Chains<R> {
             return None;
         }
         self.learn_from(section, left);
-        self.said(left, code)
+        self.said(section, left, code)
     }
 
-    /// Whether no more nodes may be added. Codes can be chosen so that each takes many.
-    fn is_full(&self, section: R) -> bool {
+    /// The place of the declaration of a code that the table at an offset of the section has, where
+    /// its attributes are listed or may be. None where the table isn't remembered.
+    pub(crate) fn first_of<R: Reader>(&self, section: R, offset: u64, code: u64) -> Option<u64>
+        ensures { IfSome result (λ first. RemembersChains (R.input section) self.now
+            → FirstAt (R.input section) offset code first) }
+    {
+        let length = section.len() as u64;
+        if length < offset {
+            return None;
+        }
+        let place = self.place_of(length - offset)?;
+        let first = self.first_in(place.version, code)?;
+        let is_full = self.listed >= section.len() / SPECIFICATION_SIZE;
+        if is_full && !self.lists.contains_key(&first) {
+            return None;
+        }
+        Some(first)
+    }
+
+    /// The first number of a name in the entry of the declaration at a place, whose values stand
+    /// there.
+    pub(crate) fn number<R: Reader>(
+        &mut self,
+        first: u64,
+        abbreviation: Abbreviation<R>,
+        encoding: Encoding,
+        values: R,
+        name: u64,
+    ) -> Result<Option<u64>, ReadError>
+        ensures number { (section : Input)
+            → StandsAt section first (declaration_of R.input abbreviation)
+            → RemembersChains section self.old → result ≡ first_number name (entry encoding
+            (declaration_of R.input abbreviation) (R.input values)).attributes }
+        ensures kept { (section : Input)
+            → StandsAt section first (declaration_of R.input abbreviation)
+            → RemembersChains section self.old → RemembersChains section self.new }
+    {
+        self.list(first, abbreviation);
+        match self.lists.get(&first) {
+            Some(list) => number_listed(list, encoding, values, name),
+            None => number_read(abbreviation.entry(encoding, values), name),
+        }
+    }
+
+    /// Lists those attributes of the declaration at a place whose values have bytes, where there is
+    /// memory for it.
+    fn list<R: Reader>(&mut self, first: u64, abbreviation: Abbreviation<R>)
+        ensures lists { (section : Input)
+            → StandsAt section first (declaration_of R.input abbreviation)
+            → ListsPlaces section self.old.lists → ListsPlaces section self.new.lists }
+        ensures places { self.new.places ≡ self.old.places }
+        ensures firsts { self.new.firsts ≡ self.old.firsts }
+        ensures codes { self.new.codes ≡ self.old.codes }
+    {
+        if self.lists.contains_key(&first) {
+            return;
+        }
+        if let Some(list) = list_with_bytes(self.alloc, abbreviation.specifications) {
+            let length = list.len();
+            if self.lists.insert(first, list).is_ok() {
+                self.listed = self.listed.saturating_add(length).saturating_add(1);
+            }
+        }
+    }
+
+    /// Whether no more nodes may be added. Tables that begin inside declarations of others may take
+    /// more.
+    fn is_full<R: Reader>(&self, section: R) -> bool {
         self.firsts.len() >= section.len().saturating_mul(NODES_FOR_A_BYTE)
     }
 
     /// What is remembered of a place.
-    fn place_of(&self, left: u64) -> Option<Place<R>>
+    fn place_of(&self, left: u64) -> Option<Place>
         ensures { result ≡ get nat_cmp self.now.places left }
     {
         self.places.get(&left).copied()
     }
 
     /// What is remembered of the place where a reader stands.
-    fn next_place(&self, behind: R) -> Option<Place<R>>
+    fn next_place<R: Reader>(&self, behind: R) -> Option<Place>
         ensures { result ≡ get nat_cmp self.now.places (length (R.input behind).bytes) }
     {
         self.place_of(behind.len() as u64)
     }
 
-    /// The declaration at a place.
-    fn declared_at(&self, first: u64) -> Option<Abbreviation<R>>
-        ensures { IfSome result (λ found. (said : Result (Option Declaration) ReadError)
-            → DeclaredAt R.input self.now.places first said
-            → said ≡ Ok (Some (declaration_of R.input found))) }
+    /// The place of the first declaration of a code, in a version.
+    fn first_in(&self, version: u32, code: u64) -> Option<u64>
+        ensures { result ≡ first_in self.now.codes self.now.firsts.nodes.items version code }
     {
-        match self.place_of(first) {
-            Some(place) => place.declared,
-            None => None,
-        }
+        let number = self.codes.number(code)?;
+        let first = self.firsts.get(version, number)?;
+        Some(u64::from(first))
     }
 
     /// What is remembered of the table that begins at that place, of a code.
-    fn said_by(
+    fn said_by<R: Reader>(
         &self,
-        place: Place<R>,
+        section: R,
+        place: Place,
         code: u64,
     ) -> Option<Result<Option<Abbreviation<R>>, ReadError>>
-        ensures { (said : Result (Option Declaration) ReadError) → SaidBy R.input self.now.places
-            place.fault (value_in self.now.firsts.nodes.items place.version code) said
+        ensures { (said : Result (Option Declaration) ReadError) → SaidBy (R.input section)
+            place.fault (first_in self.now.codes self.now.firsts.nodes.items place.version code) said
             → IfSome result (λ found. Answers (found_of R.input) found said) }
     {
-        let Some(first) = self.firsts.get(place.version, code) else {
+        let Some(first) = self.first_in(place.version, code) else {
             return Some(absent(place.fault));
         };
-        let declared = self.declared_at(first)?;
+        let declared = declared_at(section, first)?;
         Some(Ok(Some(declared)))
     }
 
     /// What is remembered of the table that begins where so many bytes are left, of a code.
-    fn said(&self, left: u64, code: u64) -> Option<Result<Option<Abbreviation<R>>, ReadError>>
-        ensures { IfSome result (λ said. (section table : Input)
-            → RemembersPlaces R.input section self.now → last_of left section ≡ Ok table
+    fn said<R: Reader>(
+        &self,
+        section: R,
+        left: u64,
+        code: u64,
+    ) -> Option<Result<Option<Abbreviation<R>>, ReadError>>
+        ensures { IfSome result (λ said. RemembersPlaces (R.input section) self.now
+            → (table : Input) → from_end left (R.input section) ≡ Ok table
             → Answers (found_of R.input) said (declaration code table)) }
     {
         let place = self.place_of(left)?;
-        self.said_by(place, code)
+        self.said_by(section, place, code)
     }
 
     /// Remembers the places of the table that begins where so many bytes are left, up to one that is
     /// remembered.
-    fn learn_from(&mut self, section: R, left: u64)
-        ensures { RemembersPlaces R.input (R.input section) self.old
-            → RemembersPlaces R.input (R.input section) self.new }
+    fn learn_from<R: Reader>(&mut self, section: R, left: u64)
+        ensures places { RemembersPlaces (R.input section) self.old
+            → RemembersPlaces (R.input section) self.new }
+        ensures lists { self.new.lists ≡ self.old.lists }
     {
         let mut lefts = self.lefts(section, left);
         while let Some(left) = lefts.pop() {
-            let _is_known = self.learn(section, left);
+            self.learn(section, left);
         }
     }
 
     /// How many bytes are left at the places of that table, up to one that is remembered.
-    fn lefts(&self, section: R, left: u64) -> Vec<u64> {
+    fn lefts<R: Reader>(&self, section: R, left: u64) -> Vec<u64> {
         lebs_take_bytes();
         let mut lefts = Vec::new(self.alloc);
-        let Some(mut at) = last_of(section, left) else {
+        let Some(mut at) = from_end(section, left) else {
             return lefts;
         };
         while !self.places.contains_key(&(at.len() as u64)) && lefts.push(at.len() as u64).is_ok() {
@@ -175,61 +260,66 @@ impl<R: Reader> Chains<R> {
 
     /// Remembers a place, where so many bytes are left. It isn't remembered where there is no memory,
     /// or as much was taken as may be.
-    fn learn(&mut self, section: R, left: u64) -> Option<bool>
-        ensures { RemembersPlaces R.input (R.input section) self.old
-            → RemembersPlaces R.input (R.input section) self.new }
+    fn learn<R: Reader>(&mut self, section: R, left: u64)
+        ensures places { RemembersPlaces (R.input section) self.old
+            → RemembersPlaces (R.input section) self.new }
+        ensures lists { self.new.lists ≡ self.old.lists }
     {
-        if self.places.contains_key(&left) {
-            return Some(true);
-        }
         if self.is_full(section) {
-            return None;
+            return;
         }
-        let at = last_of(section, left)?;
-        let place = self.place_at(at, left)?;
-        Some(self.put(left, place))
+        let Some(at) = from_end(section, left) else {
+            return;
+        };
+        let Some(place) = self.place_at(at, left) else {
+            return;
+        };
+        let _is_put = self.put(left, place);
     }
 
     /// Puts down what is to be remembered of a place. False where there is no memory for it.
-    fn put(&mut self, left: u64, place: Place<R>) -> bool
+    fn put(&mut self, left: u64, place: Place) -> bool
         ensures added { result ≡ true → get nat_cmp self.new.places left ≡ Some place }
         ensures others { (other : ℕ) → other ≢ left
             → get nat_cmp self.new.places other ≡ get nat_cmp self.old.places other }
         ensures refused { result ≡ false → (other : ℕ)
             → get nat_cmp self.new.places other ≡ get nat_cmp self.old.places other }
         ensures firsts { self.new.firsts ≡ self.old.firsts }
+        ensures codes { self.new.codes ≡ self.old.codes }
+        ensures lists { self.new.lists ≡ self.old.lists }
     {
         self.places.insert(left, place).is_ok()
     }
 
     /// What is to be remembered of a place, where so many bytes are left. None where there is no
     /// memory, or the next place isn't remembered.
-    fn place_at(&mut self, at: R, left: u64) -> Option<Place<R>>
+    fn place_at<R: Reader>(&mut self, at: R, left: u64) -> Option<Place>
         ensures grows { Grows self.old.firsts.nodes.items self.new.firsts.nodes.items }
-        ensures kept { self.new.places ≡ self.old.places }
-        ensures place { IfSome result (λ place. (section : Input) (new : Map ℕ (Remembered R))
-            → RemembersPlaces R.input section self.old → last_of left section ≡ Ok (R.input at)
-            → KeepsPlaces self.old.places new → get nat_cmp new left ≡ Some place
-            → RemembersPlace R.input section self.new.firsts.nodes.items new left place) }
+        ensures codes { GrowsCodes self.old.codes self.new.codes }
+        ensures numbered { Numbered self.old.codes → Numbered self.new.codes }
+        ensures places { self.new.places ≡ self.old.places }
+        ensures lists { self.new.lists ≡ self.old.lists }
+        ensures place { IfSome result (λ place. (section : Input)
+            → RemembersPlaces section self.old → from_end left section ≡ Ok (R.input at)
+            → RemembersPlace section self.new.codes self.new.firsts.nodes.items left place) }
     {
         lebs_take_bytes();
         match next_declaration(at) {
-            Ok(Some((code, declared, behind))) => {
+            Ok(Some((code, _, behind))) => {
                 let next = self.next_place(behind)?;
-                let version = self.firsts.insert(next.version, code, left)?;
+                let first = in_32_bits(left)?;
+                let number = self.codes.number_or_next(code)?;
+                let version = self.firsts.insert(next.version, number, first)?;
                 Some(Place {
-                    declared: Some(declared),
                     version,
                     fault: next.fault,
                 })
             }
             Ok(None) => Some(Place {
-                declared: None,
                 version: 0,
                 fault: None,
             }),
             Err(fault) => Some(Place {
-                declared: None,
                 version: 0,
                 fault: Some(fault),
             }),
@@ -237,15 +327,31 @@ impl<R: Reader> Chains<R> {
     }
 }
 
+/// The same number, where 32 bits are enough for it.
+fn in_32_bits(number: u64) -> Option<u32>
+    ensures { IfSome result (λ same. same ≡ number) }
+{
+    u32::try_from(number).ok()
+}
+
 /// What stands where so many bytes of a section are left.
-fn last_of<R: Reader>(section: R, left: u64) -> Option<R>
-    ensures { IfSome result (λ at. last_of left (R.input section) ≡ Ok (R.input at)) }
+fn from_end<R: Reader>(section: R, left: u64) -> Option<R>
+    ensures { IfSome result (λ at. from_end left (R.input section) ≡ Ok (R.input at)) }
 {
     let start = (section.len() as u64).saturating_sub(left);
     match from_offset(section, start) {
         Ok(at) => Some(at),
         Err(_) => None,
     }
+}
+
+/// The declaration that is known to stand where so many bytes of a section are left.
+fn declared_at<R: Reader>(section: R, left: u64) -> Option<Abbreviation<R>>
+    ensures { IfSome result (λ found. (declared : Declaration)
+        → StandsAt (R.input section) left declared → declared ≡ declaration_of R.input found) }
+{
+    let at = from_end(section, left)?;
+    known_declaration(at).ok()
 }
 
 /// What a table says of a code that it doesn't have, by the fault at its end.

@@ -5,6 +5,7 @@
 mod abbrev;
 mod cache;
 mod chains;
+mod codes;
 mod entry;
 mod form;
 pub mod laws;

@@ -1,12 +1,12 @@
 //! How much was read of tables of abbreviations (DWARF 5, 7.5.3).
 
-ghost use Rattle.std.specs.Prelude.{◌≡◌, Ok, None, []};
+ghost use Rattle.std.specs.Prelude.{◌≡◌, Ok, None, IfSome, []};
 ghost use Rattle.std.specs.Ordering.{nat_cmp};
 ghost use Rattle.std.specs.BTreeMap.{get};
 ghost use Rattle.dwp_base.specs.Reading.{Answers};
 ghost use Rattle.dwp_bytes.specs.Input.{Input};
 ghost use Rattle.dwp_dwarf.specs.Abbreviations.{declaration};
-ghost use Rattle.dwp_dwarf.specs.Chains.{RemembersPlaces};
+ghost use Rattle.dwp_dwarf.specs.Chains.{FirstAt, RemembersChains};
 ghost use Rattle.dwp_dwarf.specs.Declarations.{found_of};
 ghost use Rattle.dwp_dwarf.specs.Offsets.{from_at};
 ghost use Rattle.dwp_dwarf.specs.Remembered.{RemembersTable};
@@ -20,20 +20,22 @@ use std::alloc::Global;
 
 /// How much was read of tables, and what they say where they overlap.
 #[derive(Drop)]
-pub(crate) struct SeenTables<R: Reader> {
+pub(crate) struct SeenTables {
     // How many bytes were read.
     read: usize,
     // By places of the section, once tables are known to overlap.
-    pub(crate) chains: Chains<R>,
+    pub(crate) chains: Chains,
 }
 
 /// How often tables that don't overlap are read, at most.
 const READ_AT_MOST: usize = 2;
 
-impl<R: Reader> SeenTables<R> {
+impl SeenTables {
     /// Nothing was read, and no memory is taken.
-    pub(crate) fn new(alloc: Global) -> SeenTables<R>
-        ensures { result.chains.places.entries ≡ [] }
+    pub(crate) fn new(alloc: Global) -> SeenTables
+        ensures places { result.chains.places.entries ≡ [] }
+        ensures codes { result.chains.codes.numbers.entries ≡ [] }
+        ensures lists { result.chains.lists.entries ≡ [] }
     {
         SeenTables {
             read: 0,
@@ -42,7 +44,7 @@ impl<R: Reader> SeenTables<R> {
     }
 
     /// Whether so much was read that tables overlap, or some of them were forgotten.
-    fn is_past(&self, section: R) -> bool {
+    fn is_past<R: Reader>(&self, section: R) -> bool {
         self.read > section.len().saturating_mul(READ_AT_MOST)
     }
 
@@ -60,18 +62,18 @@ impl<R: Reader> SeenTables<R> {
 
     /// What the table at an offset of the section says of a code, which starts there and wasn't used
     /// before.
-    pub(crate) fn get_first(
+    pub(crate) fn get_first<R: Reader>(
         &mut self,
         section: R,
         offset: u64,
         start: R,
         code: u64,
     ) -> Result<Option<Abbreviation<R>>, ReadError>
-        ensures declared { RemembersPlaces R.input (R.input section) self.old.chains
+        ensures declared { RemembersChains (R.input section) self.old.chains
             → from_at offset (R.input section) ≡ Ok (R.input start)
             → Answers (found_of R.input) result (declaration code (R.input start)) }
-        ensures kept { RemembersPlaces R.input (R.input section) self.old.chains
-            → RemembersPlaces R.input (R.input section) self.new.chains }
+        ensures kept { RemembersChains (R.input section) self.old.chains
+            → RemembersChains (R.input section) self.new.chains }
     {
         if self.is_past(section) {
             if let Some(said) = self.chains.get(section, offset, code) {
@@ -86,7 +88,7 @@ impl<R: Reader> SeenTables<R> {
 
     /// What the table at an offset of the section, which is at hand, says of a code that isn't
     /// remembered.
-    pub(crate) fn get_further(
+    pub(crate) fn get_further<R: Reader>(
         &mut self,
         section: R,
         offset: u64,
@@ -95,14 +97,14 @@ impl<R: Reader> SeenTables<R> {
     ) -> Result<Option<Abbreviation<R>>, ReadError>
         requires { get nat_cmp at_hand.old.known code ≡ None }
         ensures declared { (table : Input) → from_at offset (R.input section) ≡ Ok table
-            → RemembersPlaces R.input (R.input section) self.old.chains
+            → RemembersChains (R.input section) self.old.chains
             → RemembersTable R.input (R.input section) offset at_hand.old
             → Answers (found_of R.input) result (declaration code table) }
-        ensures at_hand { RemembersPlaces R.input (R.input section) self.old.chains
+        ensures at_hand { RemembersChains (R.input section) self.old.chains
             → RemembersTable R.input (R.input section) offset at_hand.old
             → RemembersTable R.input (R.input section) offset at_hand.new }
-        ensures kept { RemembersPlaces R.input (R.input section) self.old.chains
-            → RemembersPlaces R.input (R.input section) self.new.chains }
+        ensures kept { RemembersChains (R.input section) self.old.chains
+            → RemembersChains (R.input section) self.new.chains }
     {
         if self.is_past(section) {
             if let Some(said) = self.chains.get(section, offset, code) {
@@ -113,6 +115,19 @@ impl<R: Reader> SeenTables<R> {
         let found = read_on(&mut at_hand.known, &mut at_hand.rest, code);
         self.count(before, found.is_err(), at_hand.rest.len());
         found
+    }
+
+    /// The place of the declaration of a code that the table at an offset of the section has, where
+    /// tables overlap and its attributes are listed, or may be, for all tables that share it.
+    pub(crate) fn first_of<R: Reader>(&self, section: R, offset: u64, code: u64) -> Option<u64>
+        ensures { IfSome result (λ first. RemembersChains (R.input section) self.now.chains
+            → FirstAt (R.input section) offset code first) }
+    {
+        if self.is_past(section) {
+            self.chains.first_of(section, offset, code)
+        } else {
+            None
+        }
     }
 }
 

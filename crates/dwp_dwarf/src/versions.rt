@@ -1,22 +1,23 @@
 //! A map from numbers to numbers whose versions share what they have alike.
 
-ghost use Rattle.std.specs.Prelude.{◌≡◌, ◌≢◌, ◌≤◌, ◌<◌, ℕ, length, Some, IfSome};
-ghost use Rattle.dwp_dwarf.specs.Versions.{node_of, side_of, older, value_below, value_in, Grows};
+ghost use Rattle.std.specs.Prelude.{◌≡◌, ◌≢◌, ◌≤◌, ◌<◌, ◌-◌, ◌/◌, ℕ, length, Some, IfSome};
+ghost use Rattle.dwp_dwarf.specs.Versions.{node_of, held, side_of, half, older, copy_of};
+ghost use Rattle.dwp_dwarf.specs.Versions.{value_below, value_in, Grows};
 
 use std::alloc::Global;
 
-/// A key with its value, and where the others are.
+/// The value of a key, and where the others are.
 #[derive(Clone, Copy, Debug)]
 pub(crate) struct Node {
-    pub(crate) key: u64,
-    pub(crate) value: u64,
-    // The version that has the others whose next bit is 0.
+    // 0 where there is none.
+    pub(crate) value: u32,
+    // The version that has half of each even key.
     pub(crate) even: u32,
-    // The version that has the others whose next bit is 1.
+    // The version that has half of each odd key.
     pub(crate) odd: u32,
 }
 
-/// A map from numbers to numbers, in versions that are all kept. The version 0 has nothing.
+/// A map from numbers to numbers but 0, in versions that are all kept. The version 0 has nothing.
 #[derive(Drop)]
 pub(crate) struct Versions {
     // Each version but 0 is the number of a node, counted from 1.
@@ -24,7 +25,14 @@ pub(crate) struct Versions {
 }
 
 /// The nodes on a way, at most: one for each bit of a key, and one below them.
-const LEVELS: u32 = 65;
+const LEVELS: u32 = 33;
+
+/// What a version without a node has.
+const EMPTY: Node = Node {
+    value: 0,
+    even: 0,
+    odd: 0,
+};
 
 impl Versions {
     /// The version 0 alone. No memory is taken.
@@ -40,15 +48,16 @@ impl Versions {
     }
 
     /// The value of a key in a version.
-    pub(crate) fn get(&self, version: u32, key: u64) -> Option<u64>
+    pub(crate) fn get(&self, version: u32, key: u32) -> Option<u32>
         ensures { result ≡ value_in self.now.nodes.items version key }
     {
-        value_below(&self.nodes, LEVELS, version, key, key)
+        value_below(&self.nodes, LEVELS, version, key)
     }
 
     /// A version that has this value for the key, and else what that version has. It takes as many
-    /// nodes as the key's way in that version, at most 65. None where there is no memory.
-    pub(crate) fn insert(&mut self, version: u32, key: u64, value: u64) -> Option<u32>
+    /// nodes as the number behind the key has bits, at most 33. None for the value 0, or where there
+    /// is no memory.
+    pub(crate) fn insert(&mut self, version: u32, key: u32, value: u32) -> Option<u32>
         ensures grows { Grows self.old.nodes.items self.new.nodes.items }
         ensures fits { IfSome result (λ added. added ≤ length self.new.nodes.items) }
         ensures value { IfSome result (λ added. value_in self.new.nodes.items added key
@@ -56,15 +65,29 @@ impl Versions {
         ensures others { IfSome result (λ added. (other : ℕ) → other ≢ key → value_in
             self.new.nodes.items added other ≡ value_in self.old.nodes.items version other) }
     {
-        insert_below(&mut self.nodes, LEVELS, version, key, key, value)
+        if value == 0 {
+            return None;
+        }
+        insert_below(&mut self.nodes, LEVELS, version, key, value)
     }
 }
 
 impl Node {
-    fn side(&self, bits: u64) -> u32
-        ensures { result ≡ side_of self.now bits }
+    fn side(&self, key: u32) -> u32
+        ensures { result ≡ side_of self.now key }
     {
-        if bits % 2 == 0 { self.even } else { self.odd }
+        if key % 2 == 0 { self.even } else { self.odd }
+    }
+
+    /// The value, where there is one.
+    fn held(&self) -> Option<u32>
+        ensures { result ≡ held self.now.value }
+    {
+        if self.value == 0 {
+            None
+        } else {
+            Some(self.value)
+        }
     }
 }
 
@@ -72,6 +95,13 @@ fn older(version: u32, other: u32) -> u32
     ensures { result ≡ older version other }
 {
     if other < version { other } else { 0 }
+}
+
+/// What is left of a key on its side.
+fn half(key: u32) -> u32
+    ensures { result ≡ half key }
+{
+    key.saturating_sub(1) / 2
 }
 
 /// The node of a version.
@@ -84,9 +114,23 @@ fn node_of(nodes: &[Node], version: u32) -> Option<Node>
     nodes.get(version as usize - 1).copied()
 }
 
+/// A node that has what a version has.
+fn copy_of(nodes: &[Node], version: u32) -> Node
+    ensures { result ≡ copy_of nodes.now version }
+{
+    match node_of(nodes, version) {
+        Some(node) => Node {
+            value: node.value,
+            even: older(version, node.even),
+            odd: older(version, node.odd),
+        },
+        None => EMPTY,
+    }
+}
+
 /// The value of a key in a version, of so many nodes on the way at most.
-fn value_below(nodes: &[Node], levels: u32, version: u32, bits: u64, key: u64) -> Option<u64>
-    ensures { result ≡ value_below levels nodes.now version bits key }
+fn value_below(nodes: &[Node], levels: u32, version: u32, key: u32) -> Option<u32>
+    ensures { result ≡ value_below levels nodes.now version key }
 {
     if levels == 0 {
         return None;
@@ -94,16 +138,10 @@ fn value_below(nodes: &[Node], levels: u32, version: u32, bits: u64, key: u64) -
     let Some(node) = node_of(nodes, version) else {
         return None;
     };
-    if node.key == key {
-        return Some(node.value);
+    if key == 0 {
+        return node.held();
     }
-    value_below(
-        nodes,
-        levels - 1,
-        older(version, node.side(bits)),
-        bits / 2,
-        key,
-    )
+    value_below(nodes, levels - 1, older(version, node.side(key)), half(key))
 }
 
 /// Adds a node, and says its version.
@@ -123,49 +161,29 @@ fn insert_below(
     nodes: &mut Vec<Node>,
     levels: u32,
     version: u32,
-    bits: u64,
-    key: u64,
-    value: u64,
+    key: u32,
+    value: u32,
 ) -> Option<u32>
+    requires { value ≢ 0 }
     ensures grows { Grows nodes.old.items nodes.new.items }
     ensures fits { IfSome result (λ added. added ≤ length nodes.new.items) }
-    ensures value { IfSome result (λ added. value_below levels nodes.new.items added bits key
+    ensures value { IfSome result (λ added. value_below levels nodes.new.items added key
         ≡ Some value) }
-    ensures others { IfSome result (λ added. (other path : ℕ) → other ≢ key → value_below levels
-        nodes.new.items added path other ≡ value_below levels nodes.old.items version path other) }
+    ensures others { IfSome result (λ added. (other : ℕ) → other ≢ key → value_below levels
+        nodes.new.items added other ≡ value_below levels nodes.old.items version other) }
 {
     if levels == 0 {
         return None;
     }
-    let Some(node) = node_of(nodes, version) else {
-        return add(
-            nodes,
-            Node {
-                key,
-                value,
-                even: 0,
-                odd: 0,
-            },
-        );
-    };
-    let even = older(version, node.even);
-    let odd = older(version, node.odd);
-    if node.key == key {
-        return add(
-            nodes,
-            Node {
-                key,
-                value,
-                even,
-                odd,
-            },
-        );
+    let node = copy_of(nodes, version);
+    if key == 0 {
+        return add(nodes, Node { value, ..node });
     }
-    if bits % 2 == 0 {
-        let even = insert_below(nodes, levels - 1, even, bits / 2, key, value)?;
-        add(nodes, Node { even, odd, ..node })
+    if key % 2 == 0 {
+        let even = insert_below(nodes, levels - 1, node.even, half(key), value)?;
+        add(nodes, Node { even, ..node })
     } else {
-        let odd = insert_below(nodes, levels - 1, odd, bits / 2, key, value)?;
-        add(nodes, Node { even, odd, ..node })
+        let odd = insert_below(nodes, levels - 1, node.odd, half(key), value)?;
+        add(nodes, Node { odd, ..node })
     }
 }

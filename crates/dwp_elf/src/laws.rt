@@ -1,9 +1,12 @@
-//! What a written file means, as a law.
+//! What a written file means and how long it is, as laws.
 
-ghost use Rattle.std.specs.Prelude.{◌≡◌, ◌^◌, ◌<◌, length};
+ghost use Rattle.std.specs.Prelude.{◌≡◌, ◌^◌, ◌<◌, ◌≤◌, ℕ, List, length};
+ghost use Rattle.dwp_base.specs.declared.section.SectionKind.{SectionKind};
 ghost use Rattle.dwp_elf_read.specs.Layout.{word_size};
 ghost use Rattle.dwp_elf_read.specs.Elf.{elf_of};
+ghost use Rattle.dwp_elf.specs.Contents.{KindsDiffer};
 ghost use Rattle.dwp_elf.specs.FileText.{Object, headers_place, file_text};
+ghost use Rattle.dwp_elf.specs.Places.{file_length};
 ghost use Rattle.dwp_elf.specs.Written.{written_elf};
 
 /// The law that a written file is read back: it means the contents that it was written from, in
@@ -15,4 +18,12 @@ pub fn written_contents_are_read_back()
     ensures { (o : Object) → o.machine < 256 ^ 2
         → headers_place o.class o.contents < 256 ^ word_size o.class
         → length o.contents < 60000 → elf_of (file_text o) ≡ Ok (written_elf o) }
+{}
+
+/// The law of a written file's size: its text ends with the section headers, and contents of distinct
+/// kinds are 13 at most. It does nothing.
+pub fn written_files_have_their_size()
+    ensures size { (o : Object) → length (file_text o) ≡ file_length o.class o.contents }
+    ensures sections { (contents : List (SectionKind × List ℕ)) → KindsDiffer contents
+        → length contents ≤ 13 }
 {}

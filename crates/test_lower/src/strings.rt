@@ -313,6 +313,6 @@ fn crowded(
 fn in_order(table: &mut PackageStringTable, row: Row<'_>, said: &mut Said) -> bool {
     said.note_that(alone(table, row.bytes(1), row.bytes(2)).is_ok());
     let (_found, count) = table.find_counted(b"none");
-    said.put(&(count > 1, count <= 6));
+    said.put(&(count > 1, count <= 8));
     false
 }

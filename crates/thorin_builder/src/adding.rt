@@ -24,16 +24,6 @@ fn begun_by(alloc: Global, file: &ElfFile<'_>) -> InProgressDwarfPackage
     InProgressDwarfPackage::new(alloc, file.class(), file.machine(), file.endianness())
 }
 
-/// Whether two byte orders are the same.
-fn is_same_order(a: Endianness, b: Endianness) -> bool
-    ensures { result ≡ spec.same_order a b }
-{
-    match (a, b) {
-        (Endianness::Little, Endianness::Little) | (Endianness::Big, Endianness::Big) => true,
-        _ => false,
-    }
-}
-
 /// `MixedInputEncodings` where the package has another byte order.
 #[tactic(auto, unfolding(thorin_join::specs::Builder::order_test))]
 fn test_order(in_progress: &Option<InProgressDwarfPackage>, order: Endianness) -> Result<(), Error>
@@ -42,7 +32,7 @@ fn test_order(in_progress: &Option<InProgressDwarfPackage>, order: Endianness) -
     match in_progress {
         None => Ok(()),
         Some(package) => {
-            if is_same_order(package.endianness(), order) {
+            if package.endianness() == order {
                 Ok(())
             } else {
                 Err(Error::MixedInputEncodings)

@@ -1,4 +1,5 @@
--- Where the strings of a path stand: two units that name the same places name the same path.
+-- Where the strings of a path stand: two units that name the same places name the same path
+-- (DWARF 5, 7.5.5 for the forms that name a string's place, 7.26 for string offsets).
 use Rattle.std.specs.Prelude.{◌≡◌, ℕ, List, Result, Ok, IfSome, string_bytes}
 use Rattle.std.specs.Option.{option_and_then}
 use Rattle.std.specs.Result.{result_ok}

@@ -102,18 +102,11 @@ impl Present {
         let strings = section.is_called(SectionKind::Str.name());
         let abbreviations = section.is_called(SectionKind::Abbrev.name());
         Present {
-            info: either(self.info, info),
-            strings: either(self.strings, strings),
-            abbreviations: either(self.abbreviations, abbreviations),
+            info: self.info || info,
+            strings: self.strings || strings,
+            abbreviations: self.abbreviations || abbreviations,
         }
     }
-}
-
-/// Whether one of two is so.
-fn either(a: bool, b: bool) -> bool
-    ensures { result ≡ (a || b) }
-{
-    a || b
 }
 
 impl<'a> Taken<'a> {
@@ -170,9 +163,9 @@ impl<'a> Taken<'a> {
         })?;
         Ok(Taken {
             sections,
-            strings: either(strings, kind.is(SectionKind::Str)),
-            compilations: either(compilations, kind.is(SectionKind::CuIndex)),
-            types: either(types, kind.is(SectionKind::TuIndex)),
+            strings: strings || kind.is(SectionKind::Str),
+            compilations: compilations || kind.is(SectionKind::CuIndex),
+            types: types || kind.is(SectionKind::TuIndex),
         })
     }
 
@@ -197,7 +190,7 @@ impl<'a> Taken<'a> {
             sections,
             has_strings: present.strings,
             has_abbreviations: present.abbreviations,
-            plain: !either(compilations, types),
+            plain: !(compilations | types),
         }
     }
 }

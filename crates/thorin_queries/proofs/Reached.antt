@@ -4,13 +4,14 @@ use Rattle.std.proofs.Common.{drop, get_or, Option, Some, None, Result, Ok, Err,
 use Rattle.std.proofs.Common.{ap, sym, subst, refl, arith}
 use Rattle.std.specs.List.{list_any, HoldsAt}
 use Rattle.std.proofs.lemmas.List.{get_or_default, get_or-drop, length-drop}
-use Rattle.std.proofs.lemmas.Bool.{le-ltb, lt-ltb, cases_lt, false_from_ne_true, eq-eqb, eqb-true}
+use Rattle.std.proofs.lemmas.Bool.{le-ltb, lt-ltb, ltb-true, cases_lt, false_from_ne_true, eq-eqb}
+use Rattle.std.proofs.lemmas.Bool.{eqb-true}
 use Rattle.std.proofs.lemmas.Bool.Decides.{Decides-by_or, Decides-eqb}
 use Rattle.memchr.specs.Find.{IsLastByte, Passes, Nowhere, is_byte}
 use Rattle.dwp_base.specs.Reading.{◌>>=◌}
 use Rattle.dwp_base.specs.declared.endian.Endianness.{Endianness}
 use Rattle.dwp_base.specs.declared.section.SectionKind.TheVariants.{Types}
-use Rattle.dwp_bytes.specs.StringOffsets.{string_at}
+use Rattle.dwp_bytes.specs.StringOffsets.{string_at, entry_count}
 use Rattle.dwp_bytes.specs.declared.encoding.Encoding.{Encoding}
 use Rattle.dwp_bytes.specs.declared.fault.ReadError.{ReadError}
 use Rattle.dwp_bytes.specs.declared.fault.ReadError.TheVariants.{OffsetOutOfRange, NoTerminator}
@@ -19,13 +20,13 @@ use Rattle.dwp_index.specs.Package.{Package, FoundUnit, as_fault, first_outside,
 use Rattle.dwp_index.specs.Package.{place_of, kind_of, row_bytes, encoding_in, unit_in}
 use Rattle.dwp_index.specs.Package.{unit_at_row, unit_found, found_by, index_for, found_counted}
 use Rattle.dwp_index.specs.Package.{found}
-use Rattle.dwp_index.specs.Strings.{entry_in, string_in}
+use Rattle.dwp_index.specs.Strings.{entry_in, string_for, string_in}
 use Rattle.dwp_index.specs.declared.fault.PackageError.{PackageError}
 use Rattle.dwp_index.specs.declared.fault.PackageError.TheVariants as faults
 use Rattle.dwp_table.specs.Objects.{identifier_of}
 use Rattle.dwp_table.specs.Probing.{found_row, look_count}
 use Rattle.dwp_table.specs.declared.object.DwarfObject.{DwarfObject}
-use Rattle.thorin_queries.specs.Ends.{IsReach, HasEnds, fault_of}
+use Rattle.thorin_queries.specs.Ends.{IsReach, HasEnds, is_inside, fault_of}
 use Rattle.thorin_queries.specs.declared.ends.Ends.{Ends}
 
 -- whether a zero is there
@@ -219,3 +220,44 @@ module _ (order other : Endianness) (encoding code : Encoding) (strings range by
   one_there offset e =
       let there = entry_is (Some offset) e in
       rw there (sym (fault_of-bound (string_at strings offset)))
+
+-- ---- all strings of a unit
+
+module _ (ends : Ends) (order : Endianness) (strings : List ℕ) (h : HasEnds ends order strings)
+    (encoding : Encoding) (range : List ℕ) where
+  inside_read : (found : Option ℕ) → is_inside ends found ≡ true
+      → fault_of (string_for strings found) ≡ None
+  inside_read None e = refl
+  inside_read (Some offset) e = fault_of-bound (string_at strings offset)
+      ∙ sym (ended_at ends order strings offset h (ltb-true offset ends.reach e))
+
+  past_inside : (i : ℕ) → entry_count encoding (length range) ≤ i
+      → is_inside ends (entry_in ends.order encoding range i) ≡ true
+  unfolding entry_in
+  past_inside i le =
+      let past = le-ltb i (entry_count encoding (length range)) le in
+      rw past refl
+
+  each_read : (i : ℕ) → is_inside ends (entry_in ends.order encoding range i) ≡ true
+      → fault_of (string_in order encoding strings range i) ≡ None
+  unfolding string_in
+  each_read i e = inside_read (entry_in order encoding range i)
+      (subst (λ o. is_inside ends (entry_in o encoding range i) ≡ true) h.order_is e)
+
+  all_read : (end : ℕ) → entry_count encoding (length range) ≤ end
+      → ((k : ℕ) → k < end → is_inside ends (entry_in ends.order encoding range k) ≡ true)
+      → (i : ℕ) → fault_of (string_in order encoding strings range i) ≡ None
+  all_read end le below i = each_read i (⊎_elim (λ lt. below i lt)
+      (λ past. past_inside i (omega (arith, le, past))) (cases_lt i end))
+
+-- the same of a unit's encoding and range, as they were got
+module _ (ends : Ends) (order : Endianness) (encoding code : Encoding)
+    (strings range bytes : List ℕ) (h : HasEnds ends order strings)
+    (written : code ≡ encoding) (whole : bytes ≡ range) where
+  pub all_read_of : (end : ℕ) → entry_count code (length bytes) ≤ end
+      → ((k : ℕ) → k < end → is_inside ends (entry_in ends.order code bytes k) ≡ true)
+      → (i : ℕ) → fault_of (string_in order encoding strings range i) ≡ None
+  all_read_of end le below i =
+      subst (λ e. fault_of (string_in order e strings range i) ≡ None) written
+      (subst (λ b. fault_of (string_in order code strings b i) ≡ None) whole
+      (all_read ends order strings h code bytes end le below i))

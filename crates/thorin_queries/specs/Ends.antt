@@ -1,9 +1,11 @@
 -- Which strings of a section end: those that begin before its last zero byte, or at it (DWARF 5,
 -- 7.26).
 use Rattle.std.specs.Prelude.{◌≡◌, ℕ, ◌≤◌, nat_lt, ◌==◌, List, length, drop, Option, Some, None}
-use Rattle.std.specs.Prelude.{Result, Ok, Err}
+use Rattle.std.specs.Prelude.{Result, Ok, Err, Bool, true}
 use Rattle.std.specs.List.{list_any}
 use Rattle.dwp_base.specs.declared.endian.Endianness.{Endianness}
+use Rattle.dwp_index.specs.Package.{FoundUnit}
+use Rattle.thorin_queries.specs.Faults.{string_of}
 use Rattle.thorin_queries.specs.declared.ends.Ends.{Ends}
 
 -- a zero byte stands at an offset or behind it where that offset is before this place
@@ -22,3 +24,12 @@ pub record HasEnds (ends : Ends) (order : Endianness) (strings : List ℕ) : Typ
 abbrev pub fault_of : {A E : Type 0} → Result A E → Option E
 fault_of (Ok x) = None
 fault_of (Err e) = Some e
+
+-- an offset is before the place behind the last zero byte, where there is an offset
+abbrev pub is_inside : Ends → Option ℕ → Bool
+is_inside ends None = true
+is_inside ends (Some offset) = nat_lt offset ends.reach
+
+-- no string of a unit has a fault
+abbrev pub AllEnd : FoundUnit → Type 0
+AllEnd unit = (i : ℕ) → fault_of (string_of unit i) ≡ None

@@ -1,9 +1,9 @@
 //! Which strings of a package end, in `thorin check`.
 
-ghost use Rattle.std.specs.Prelude.{◌≡◌, ◌≤◌, ℕ, List, length};
+ghost use Rattle.std.specs.Prelude.{◌≡◌, ◌≤◌, ℕ, List, length, true};
 ghost use Rattle.dwp_bytes.specs.StringOffsets.{string_at};
 ghost use Rattle.dwp_index.specs.Package.{Package};
-ghost use Rattle.thorin_queries.specs.Ends.{IsReach, HasEnds, fault_of};
+ghost use Rattle.thorin_queries.specs.Ends.{IsReach, HasEnds, AllEnd, is_inside, fault_of};
 ghost use Rattle.thorin_queries.specs.Faults.{string_of};
 ghost use Rattle.thorin_queries.specs.Listing.{HasStrings};
 
@@ -48,6 +48,33 @@ impl Ends {
         match entry_in(self.order, unit.encoding(), offsets, i) {
             None => None,
             Some(offset) => self.fault_at(offset),
+        }
+    }
+
+    /// Whether every string of a unit can be read: each begins before the place behind the last
+    /// zero byte.
+    pub(crate) fn all_end(self, unit: &PackagedUnit<'_>) -> bool
+        ensures { result ≡ true → HasEnds self unit.now.order unit.now.contents.strings
+            → AllEnd unit.now }
+    {
+        let offsets = unit.section(SectionKind::StrOffsets);
+        let encoding = unit.encoding();
+        for i in 0..encoding.string_offsets_count(offsets.len() as u64) {
+            if !self.is_inside(entry_in(self.order, encoding, offsets, i)) {
+                return false;
+            }
+        }
+        true
+    }
+
+    /// Whether an offset is before the place behind the last zero byte, where there is an offset.
+    #[inline(always)]
+    fn is_inside(self, offset: Option<u64>) -> bool
+        ensures { result ≡ is_inside self offset }
+    {
+        match offset {
+            Some(offset) => offset < self.reach,
+            None => true,
         }
     }
 

@@ -95,14 +95,19 @@ fn lacks_index_in(bytes: &[u8]) -> bool
 
 /// How many rows the index of a kind has.
 pub(crate) fn row_count(file: &ElfFile<'_>, kind: SectionKind) -> u32 {
+    match index_in(file, kind) {
+        Some(index) => index.unit_count(),
+        None => 0,
+    }
+}
+
+/// The index of a kind; None where there is none, or it can't be read.
+pub(crate) fn index_in<'a>(file: &ElfFile<'a>, kind: SectionKind) -> Option<UnitIndex<'a>> {
     let bytes = contents_of(file, kind);
     if bytes.is_empty() {
-        return 0;
+        return None;
     }
-    match UnitIndex::parse(bytes, file.endianness()) {
-        Ok(index) => index.unit_count(),
-        Err(_) => 0,
-    }
+    UnitIndex::parse(bytes, file.endianness()).ok()
 }
 
 /// The strings of a package's bytes.

@@ -240,6 +240,7 @@ fn string_number<R: Reader>(attribute: &Attribute<R>) -> Option<u64>
 
 /// The i-th offset of a unit's string offsets.
 #[tactic(auto, unfolding(dwp_index::specs::Strings::entry_in))]
+#[inline(always)]
 pub(crate) fn entry_in(order: Endianness, encoding: Encoding, bytes: &[u8], i: u64) -> Option<u64>
     ensures { result ≡ entry_in order encoding bytes.now i }
 {

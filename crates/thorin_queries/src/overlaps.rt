@@ -3,8 +3,9 @@
 ghost use Rattle.std.specs.Prelude.{◌≡◌};
 ghost use Rattle.thorin_queries.specs.Overlaps.{begins_inside, overlap};
 
-use dwp_elf::{Contribution, SectionKind};
-use dwp_index::{PackageFile, PackagedUnit, UnitEntry};
+use crate::input::index_in;
+use dwp_elf::{Contribution, ElfFile, SectionKind};
+use dwp_index::{PackageFile, Row, UnitEntry, UnitIndex};
 use dwp_table::{CONTRIBUTION_KINDS, DwarfObject};
 use std::alloc::{AllocError, Global};
 
@@ -19,6 +20,13 @@ struct Placed {
     entry: usize,
 }
 
+/// The ranges that units have of a section.
+#[derive(Drop)]
+struct Column {
+    kind: SectionKind,
+    ranges: Vec<Placed>,
+}
+
 /// What the ranges of a unit have in common with those of others.
 #[derive(Clone, Copy)]
 pub(crate) struct Shares {
@@ -28,53 +36,123 @@ pub(crate) struct Shares {
     pub has_twin: bool,
 }
 
-const NOTHING: Shares = Shares {
-    clash: None,
-    has_twin: false,
-};
-
 /// What the ranges of each unit that a slot names have in common with those of others.
 #[derive(Drop)]
 pub(crate) struct Overlaps {
-    shares: Vec<Shares>,
+    // For each entry whether another row has the same bytes.
+    twins: Vec<bool>,
+    // For each entry a range that seems to overlap that of another; nothing where no row has one.
+    clashes: Vec<Option<Clash>>,
 }
 
 impl Overlaps {
-    /// Goes over the ranges of the units that these entries name, of each section in turn. Sorted
-    /// by their places, a range overlaps one before it where the farthest end before is past its
-    /// place, and one behind it where the next place is before its end.
+    /// Goes over the ranges of the rows that these entries name, of each section in turn. Where
+    /// some of them overlap, it goes over those of the units that are found in these rows: the
+    /// rows have all of these, and are read without a look-up.
     pub(crate) fn find(
         alloc: Global,
         pack: &PackageFile<'_>,
+        file: &ElfFile<'_>,
         entries: &[UnitEntry],
     ) -> Result<Overlaps, AllocError> {
         let mut overlaps = Overlaps {
-            shares: Vec::new(alloc),
+            twins: Vec::new(alloc),
+            clashes: Vec::new(alloc),
         };
-        let mut sections = Vec::new(alloc);
-        for _kind in &CONTRIBUTION_KINDS {
-            sections.push(Vec::new(alloc))?;
+        for _entry in entries {
+            overlaps.twins.push(false)?;
         }
+        let mut columns = columns_of(alloc, file)?;
+        gather_rows(file, entries, &mut columns)?;
+        if !overlaps.mark_twins(&mut columns)? {
+            return Ok(overlaps);
+        }
+        let mut columns = columns_of(alloc, file)?;
         for entry in 0..entries.len() {
-            overlaps.shares.push(NOTHING)?;
-            gather(pack, entries[entry], entry, &mut sections)?;
+            overlaps.clashes.push(None)?;
+            gather_found(pack, entries[entry], entry, &mut columns)?;
         }
-        for i in 0..CONTRIBUTION_KINDS.len() {
-            if let Some(ranges) = sections.get_mut(i) {
-                ranges.sort_by_key(|range| (range.offset, range.size))?;
-                overlaps.mark_earlier(CONTRIBUTION_KINDS[i], ranges.as_slice(), entries);
-                overlaps.mark_later(CONTRIBUTION_KINDS[i], ranges.as_slice(), entries);
-            }
-        }
+        overlaps.mark_clashes(&mut columns, entries)?;
         Ok(overlaps)
     }
 
     /// What the ranges of the unit of an entry have in common with those of others.
     pub(crate) fn of(&self, entry: usize) -> Shares {
-        match self.shares.get(entry) {
-            Some(shares) => *shares,
-            None => NOTHING,
+        Shares {
+            clash: match self.clashes.get(entry) {
+                Some(clash) => *clash,
+                None => None,
+            },
+            has_twin: match self.twins.get(entry) {
+                Some(has_twin) => *has_twin,
+                None => false,
+            },
         }
+    }
+
+    /// Marks each unit whose own bytes another has too. Answers whether ranges overlap that aren't
+    /// the same.
+    fn mark_twins(&mut self, columns: &mut Vec<Column>) -> Result<bool, AllocError> {
+        let mut overlap = false;
+        for i in 0..columns.len() {
+            if let Some(column) = columns.get_mut(i) {
+                sort(&mut column.ranges)?;
+                if self.mark_same(column.kind, column.ranges.as_slice()) {
+                    overlap = true;
+                }
+            }
+        }
+        Ok(overlap)
+    }
+
+    /// The same of a section's ranges, sorted by their places.
+    fn mark_same(&mut self, kind: SectionKind, ranges: &[Placed]) -> bool {
+        let mut overlap = false;
+        let mut farthest = 0u64;
+        let mut before: Option<Placed> = None;
+        for range in ranges {
+            match before {
+                Some(last) => {
+                    if is_same(last, *range) {
+                        self.mark_twin(kind, last.entry);
+                        self.mark_twin(kind, range.entry);
+                    } else if range.offset < farthest {
+                        overlap = true;
+                    }
+                }
+                None => {}
+            }
+            farthest = farthest.max(end(*range));
+            before = Some(*range);
+        }
+        overlap
+    }
+
+    /// Marks a unit that has the bytes of another, where the range is that of its own bytes.
+    fn mark_twin(&mut self, kind: SectionKind, entry: usize) {
+        if matches!(kind, SectionKind::Info | SectionKind::Types) {
+            if let Some(has_twin) = self.twins.get_mut(entry) {
+                *has_twin = true;
+            }
+        }
+    }
+
+    /// Marks each range that another seems to overlap. Sorted by their places, a range overlaps one
+    /// before it where the farthest end before is past its place, and one behind it where the next
+    /// place is before its end.
+    fn mark_clashes(
+        &mut self,
+        columns: &mut Vec<Column>,
+        entries: &[UnitEntry],
+    ) -> Result<(), AllocError> {
+        for i in 0..columns.len() {
+            if let Some(column) = columns.get_mut(i) {
+                sort(&mut column.ranges)?;
+                self.mark_earlier(column.kind, column.ranges.as_slice(), entries);
+                self.mark_later(column.kind, column.ranges.as_slice(), entries);
+            }
+        }
+        Ok(())
     }
 
     /// Marks each range that one before it overlaps.
@@ -83,9 +161,7 @@ impl Overlaps {
         let mut before: Option<Placed> = None;
         for range in ranges {
             if let Some(last) = before {
-                if is_same(last, *range) {
-                    self.mark_twin(kind, *range);
-                } else {
+                if !is_same(last, *range) {
                     farthest = farther(farthest, last);
                 }
             }
@@ -104,9 +180,7 @@ impl Overlaps {
         let mut behind: Option<Placed> = None;
         for range in ranges.iter().rev() {
             if let Some(last) = behind {
-                if is_same(last, *range) {
-                    self.mark_twin(kind, *range);
-                } else {
+                if !is_same(last, *range) {
                     next = Some(last);
                 }
             }
@@ -121,37 +195,85 @@ impl Overlaps {
 
     /// Marks a range that another seems to overlap; the first mark of a unit stays.
     fn mark(&mut self, kind: SectionKind, range: Placed, other: Placed, entries: &[UnitEntry]) {
-        if let Some(shares) = self.shares.get_mut(range.entry) {
+        if let Some(clash) = self.clashes.get_mut(range.entry) {
             if let Some(other) = entries.get(other.entry) {
-                if shares.clash.is_none() {
-                    shares.clash = Some((kind, other.object));
+                if clash.is_none() {
+                    *clash = Some((kind, other.object));
                 }
-            }
-        }
-    }
-
-    /// Marks a range that another unit has too, where it is that of the unit's own bytes.
-    fn mark_twin(&mut self, kind: SectionKind, range: Placed) {
-        if matches!(kind, SectionKind::Info | SectionKind::Types) {
-            if let Some(shares) = self.shares.get_mut(range.entry) {
-                shares.has_twin = true;
             }
         }
     }
 }
 
+/// The sections that an index of a file has a column for. No range is gathered yet.
+fn columns_of(alloc: Global, file: &ElfFile<'_>) -> Result<Vec<Column>, AllocError> {
+    let compilations = index_in(file, SectionKind::CuIndex);
+    let types = index_in(file, SectionKind::TuIndex);
+    let mut columns = Vec::new(alloc);
+    for kind in &CONTRIBUTION_KINDS {
+        if has_column(&compilations, *kind) || has_column(&types, *kind) {
+            columns.push(Column {
+                kind: *kind,
+                ranges: Vec::new(alloc),
+            })?;
+        }
+    }
+    Ok(columns)
+}
+
+/// Whether an index has a column for a section.
+fn has_column(index: &Option<UnitIndex<'_>>, kind: SectionKind) -> bool {
+    match index {
+        Some(index) => index.has_column(kind),
+        None => false,
+    }
+}
+
+/// Gathers the ranges of the rows that these entries name, of the sections of these columns.
+fn gather_rows(
+    file: &ElfFile<'_>,
+    entries: &[UnitEntry],
+    columns: &mut Vec<Column>,
+) -> Result<(), AllocError> {
+    let compilations = index_in(file, SectionKind::CuIndex);
+    let types = index_in(file, SectionKind::TuIndex);
+    for entry in 0..entries.len() {
+        let slot = entries[entry];
+        match slot.object {
+            DwarfObject::Compilation(_) => gather_row(&compilations, slot, entry, columns)?,
+            DwarfObject::TypeUnit(_) => gather_row(&types, slot, entry, columns)?,
+        }
+    }
+    Ok(())
+}
+
+/// Gathers the ranges of the row that a slot of an index names.
+fn gather_row(
+    index: &Option<UnitIndex<'_>>,
+    slot: UnitEntry,
+    entry: usize,
+    columns: &mut Vec<Column>,
+) -> Result<(), AllocError> {
+    if let Some(index) = index {
+        if let Ok(row) = index.row(slot.row) {
+            return gather_of(&row, entry, columns);
+        }
+    }
+    Ok(())
+}
+
 /// Gathers the ranges of the unit that a slot names, where its identifier leads to the slot's row
-/// and the unit can be read; those of each section apart.
-fn gather(
+/// and the unit can be read.
+fn gather_found(
     pack: &PackageFile<'_>,
     slot: UnitEntry,
     entry: usize,
-    sections: &mut Vec<Vec<Placed>>,
+    columns: &mut Vec<Column>,
 ) -> Result<(), AllocError> {
     match pack.find(slot.object) {
         Ok(Some(unit)) => {
             if unit.row() == slot.row {
-                gather_of(&unit, entry, sections)
+                gather_of(unit.ranges(), entry, columns)
             } else {
                 Ok(())
             }
@@ -160,16 +282,12 @@ fn gather(
     }
 }
 
-/// Gathers the ranges of a unit.
-fn gather_of(
-    unit: &PackagedUnit<'_>,
-    entry: usize,
-    sections: &mut Vec<Vec<Placed>>,
-) -> Result<(), AllocError> {
-    for i in 0..CONTRIBUTION_KINDS.len() {
-        if let Some(range) = unit.range(CONTRIBUTION_KINDS[i]) {
-            if let Some(ranges) = sections.get_mut(i) {
-                ranges.push(Placed {
+/// Gathers the ranges of a row, of the sections of these columns.
+fn gather_of(row: &Row<'_>, entry: usize, columns: &mut Vec<Column>) -> Result<(), AllocError> {
+    for i in 0..columns.len() {
+        if let Some(column) = columns.get_mut(i) {
+            if let Some(range) = row.range(column.kind) {
+                column.ranges.push(Placed {
                     offset: range.offset.0,
                     size: range.size,
                     entry,
@@ -178,6 +296,28 @@ fn gather_of(
         }
     }
     Ok(())
+}
+
+/// Sorts ranges by their places, unless they are sorted: mostly rows have the order of their ranges.
+fn sort(ranges: &mut Vec<Placed>) -> Result<(), AllocError> {
+    if is_sorted(ranges.as_slice()) {
+        return Ok(());
+    }
+    ranges.sort_by_key(|range| (range.offset, range.size))
+}
+
+/// Whether ranges are sorted by their places.
+fn is_sorted(ranges: &[Placed]) -> bool {
+    let mut offset = 0u64;
+    let mut size = 0u64;
+    for range in ranges {
+        if range.offset < offset || (range.offset == offset && range.size < size) {
+            return false;
+        }
+        offset = range.offset;
+        size = range.size;
+    }
+    true
 }
 
 /// Whether two ranges are the same.

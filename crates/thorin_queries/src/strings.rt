@@ -16,25 +16,64 @@ use dwp_bytes::{Format, ReadError};
 use dwp_elf::SectionKind;
 use dwp_index::{PackageFile, PackagedUnit};
 use dwp_table::DwarfObject;
-use std::alloc::AllocError;
+use std::alloc::{AllocError, Global};
 use std::io::Write;
 
 /// The string offsets of a unit: where they begin, their size, the unit's version, and whether they
 /// have 64 bits. Units that have the same ones have the same strings.
-pub(crate) type StringRange = (u64, u64, u16, bool);
+type StringRange = (u64, u64, u16, bool);
 
-/// Adds the range of a unit's string offsets, where it has one.
-pub(crate) fn add_range(
-    unit: &PackagedUnit<'_>,
-    object: DwarfObject,
-    strings: &mut Vec<(StringRange, DwarfObject)>,
-) -> Result<(), AllocError> {
-    match string_range(unit) {
-        Some(range) => {
-            strings.push((range, object))?;
-            Ok(())
+/// The units whose strings are still to be checked. Most units' are while the unit is at hand.
+#[derive(Drop)]
+pub(crate) struct Strings {
+    ends: Ends,
+    // How many bytes of string offsets may still be gone over so: units can have the same ones.
+    left: u64,
+    // The string offsets of the unit before.
+    last: Option<StringRange>,
+    /// Those that aren't checked, or can't all be read.
+    pub(crate) unread: Vec<(StringRange, DwarfObject)>,
+}
+
+impl Strings {
+    /// Of a package whose strings end so, and whose string offsets have so many bytes.
+    pub(crate) fn new(alloc: Global, ends: Ends, size: usize) -> Strings {
+        Strings {
+            ends,
+            left: (size as u64).saturating_mul(2),
+            last: None,
+            unread: Vec::new(alloc),
         }
-        None => Ok(()),
+    }
+
+    /// Adds a unit, unless it has the string offsets of the one before, or all its strings can be
+    /// read.
+    pub(crate) fn add(
+        &mut self,
+        unit: &PackagedUnit<'_>,
+        object: DwarfObject,
+    ) -> Result<(), AllocError> {
+        let Some(range) = string_range(unit) else {
+            return Ok(());
+        };
+        if self.last == Some(range) {
+            return Ok(());
+        }
+        self.last = Some(range);
+        if self.reads_all(unit, range.1) {
+            return Ok(());
+        }
+        self.unread.push((range, object))?;
+        Ok(())
+    }
+
+    /// Whether a unit's strings can all be read; false where it would take too long to tell.
+    fn reads_all(&mut self, unit: &PackagedUnit<'_>, size: u64) -> bool {
+        if self.left < size {
+            return false;
+        }
+        self.left -= size;
+        self.ends.all_end(unit)
     }
 }
 

@@ -18,10 +18,10 @@ use crate::abbreviations::{Own, Remembered};
 use crate::ends::Ends;
 use crate::faults::{tell, with_rest};
 use crate::finding::short_kind;
-use crate::input::strings_of;
+use crate::input::{contents_of, strings_of};
 use crate::output::Failure;
 use crate::overlaps::{Clash, Overlaps, Shares, overlap};
-use crate::strings::{StringRange, add_range, check_strings};
+use crate::strings::{Strings, check_strings};
 use crate::tables::has_abbreviations;
 use dwp_elf::{ElfFile, SectionKind};
 use dwp_index::{PackageError, PackageFile, PackagedUnit, UnitEntry};
@@ -44,7 +44,7 @@ pub(crate) fn check_units<O: Write>(
     ensures { Tells (TellsUnits pack.now entries.now) (O.contents out.old)
         (string_bytes waiting.old) (O.contents out.new) (string_bytes waiting.new) result }
 {
-    match Overlaps::find(alloc, pack, entries) {
+    match Overlaps::find(alloc, pack, file, entries) {
         Ok(overlaps) => check_all(alloc, pack, file, entries, &overlaps, waiting, out),
         Err(_) => Err(Failure::Memory),
     }
@@ -64,7 +64,12 @@ fn check_all<O: Write>(
     ensures { Tells (TellsUnits pack.now entries.now) (O.contents out.old)
         (string_bytes waiting.old) (O.contents out.new) (string_bytes waiting.new) result }
 {
-    let mut ranges = Vec::new(alloc);
+    let ends = Ends::of(strings_of(file));
+    let mut strings = Strings::new(
+        alloc,
+        ends,
+        contents_of(file, SectionKind::StrOffsets).len(),
+    );
     let mut abbreviations = Remembered::new(alloc, file.endianness());
     match check_each(
         pack,
@@ -72,27 +77,27 @@ fn check_all<O: Write>(
         &mut abbreviations,
         entries,
         overlaps,
-        &mut ranges,
+        &mut strings,
         waiting,
         out,
     ) {
         Ok(of_units) => with_rest(
             of_units,
-            check_strings(pack, Ends::of(strings_of(file)), &mut ranges, waiting, out),
+            check_strings(pack, ends, &mut strings.unread, waiting, out),
         ),
         Err(failure) => Err(failure),
     }
 }
 
-/// Checks each unit that a slot names, and gathers the ranges of their string offsets. Answers the
-/// number of faults.
+/// Checks each unit that a slot names, and gathers those whose strings are still to be checked.
+/// Answers the number of faults.
 fn check_each<'a, O: Write>(
     pack: &PackageFile<'a>,
     has_any: bool,
     abbreviations: &mut Remembered<'a>,
     entries: &[UnitEntry],
     overlaps: &Overlaps,
-    strings: &mut Vec<(StringRange, DwarfObject)>,
+    strings: &mut Strings,
     waiting: &mut String,
     out: &mut O,
 ) -> Result<u64, Failure>
@@ -128,7 +133,7 @@ fn check_entry<'a, O: Write>(
     abbreviations: &mut Remembered<'a>,
     entry: UnitEntry,
     shares: Shares,
-    strings: &mut Vec<(StringRange, DwarfObject)>,
+    strings: &mut Strings,
     waiting: &mut String,
     out: &mut O,
 ) -> Result<u64, Failure>
@@ -163,7 +168,7 @@ fn check_found<'a, O: Write>(
     entry: UnitEntry,
     unit: &PackagedUnit<'a>,
     shares: Shares,
-    strings: &mut Vec<(StringRange, DwarfObject)>,
+    strings: &mut Strings,
     waiting: &mut String,
     out: &mut O,
 ) -> Result<u64, Failure>
@@ -205,7 +210,7 @@ fn check_itself<'a, O: Write>(
     object: DwarfObject,
     unit: &PackagedUnit<'a>,
     shares: Shares,
-    strings: &mut Vec<(StringRange, DwarfObject)>,
+    strings: &mut Strings,
     waiting: &mut String,
     out: &mut O,
 ) -> Result<u64, Failure>
@@ -244,15 +249,15 @@ fn clash_of(pack: &PackageFile<'_>, unit: &PackagedUnit<'_>, clash: Option<Clash
     }
 }
 
-/// Checks the identifier that a unit's own bytes give, and gathers the range of its string offsets
-/// where it is its own. Answers the number of faults.
+/// Checks the identifier that a unit's own bytes give, and gathers the unit for the check of its
+/// strings where it is its own. Answers the number of faults.
 #[tactic(auto, using(crate::proofs::Faulted::own_none, crate::proofs::Faulted::nameless, crate::proofs::Told::none_grown))]
 fn check_own<'a, O: Write>(
     abbreviations: &mut Remembered<'a>,
     object: DwarfObject,
     unit: &PackagedUnit<'a>,
     has_twin: bool,
-    strings: &mut Vec<(StringRange, DwarfObject)>,
+    strings: &mut Strings,
     waiting: &mut String,
     out: &mut O,
 ) -> Result<u64, Failure>
@@ -262,7 +267,7 @@ fn check_own<'a, O: Write>(
     match abbreviations.own(unit, object, has_twin) {
         Ok(Own::Is(own)) => {
             if *own == object {
-                match add_range(unit, object, strings) {
+                match strings.add(unit, object) {
                     Ok(()) => Ok(0),
                     Err(_) => Err(Failure::Memory),
                 }

@@ -21,3 +21,4 @@ pub mod PlacesLemmas
 pub mod HashedLemmas
 pub mod LaneLemmas
 pub mod EndLemmas
+pub mod WalkLemmas

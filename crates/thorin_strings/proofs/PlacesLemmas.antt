@@ -1,12 +1,12 @@
 -- Places of strings by their hashes, in slots.
 use Rattle.std.proofs.Common.{◌≡◌, ◌≢◌, ℕ, zero, suc, ◌+◌, ◌-◌, ◌<◌, ◌≤◌, List, [], ◌++◌}
-use Rattle.std.proofs.Common.{length, take, drop, get_or, set, Some, None, ap, ap₂, sym, refl, ◌∙◌}
-use Rattle.std.proofs.Common.{⊎_elim, arith}
+use Rattle.std.proofs.Common.{length, take, drop, get_or, set, Some, None, ap, ap₂, sym, subst}
+use Rattle.std.proofs.Common.{refl, ◌∙◌, ⊎_elim, arith}
 use Rattle.std.proofs.lemmas.Grind.{get_or-set_at}
 use Rattle.std.proofs.lemmas.List.{get_or-set_other, get_or_past, take_at}
 use Rattle.std.proofs.lemmas.Bool.{cond-true, cond-false, ne_eqb, eq-eqb, cases_order}
 use Rattle.thorin_strings.specs.declared.places.Slot.{Slot}
-use Rattle.thorin_strings.specs.Places.{free, home, tag, place_from, place_of, AreEntered}
+use Rattle.thorin_strings.specs.Places.{free, home, tag, place_from, place_of, IsNext, HavePlaces}
 
 -- two numbers are the same or not
 pub same_or : (A : Type 0) (a b : ℕ) → (a ≡ b → A) → (a ≢ b → A) → A
@@ -37,17 +37,17 @@ at_other slots at (suc n) m h more some other =
     place_from slots (at + 1) k h) same
 
 -- where it begins
-pub begun : (slots : List Slot) (mask h at n t : ℕ) → at ≡ home mask h → n ≡ 64 → t ≡ tag h
-    → place_of slots mask h ≡ place_from slots at n t
+pub begun : (slots : List Slot) (size h at n t : ℕ) → at ≡ home size h → n ≡ 128 → t ≡ tag h
+    → place_of slots size h ≡ place_from slots at n t
 unfolding place_of
-begun slots mask h at n t is_at is_n is_tag = ap₂ (λ a k. place_from slots a k (tag h)) (sym is_at)
+begun slots size h at n t is_at is_n is_tag = ap₂ (λ a k. place_from slots a k (tag h)) (sym is_at)
     (sym is_n) ∙ ap (place_from slots at n) (sym is_tag)
 
 -- no slots, no places
-pub none_of : (slots : List Slot) (mask h : ℕ) → slots ≡ [] → place_of slots mask h ≡ None
+pub none_of : (slots : List Slot) (size h : ℕ) → slots ≡ [] → place_of slots size h ≡ None
 unfolding place_of
-none_of slots mask h none = at_free slots (home mask h) 64 (tag h) (ap (λ (s : Slot). s.behind)
-    (ap (λ l. get_or l (home mask h) free) none ∙ get_or_past [] (home mask h) free (omega arith)))
+none_of slots size h none = at_free slots (home size h) 128 (tag h) (ap (λ (s : Slot). s.behind)
+    (ap (λ l. get_or l (home size h) free) none ∙ get_or_past [] (home size h) free (omega arith)))
 
 -- a slot that was free has its place
 put_from : (slots : List Slot) (s : Slot) (k at n : ℕ) → k < length slots → at ≤ k → k < at + n
@@ -97,42 +97,34 @@ kept_from slots s k at (suc n) h p was is =
     ∙ kept_from slots s k (at + 1) n h p was (sym (at_other slots at (suc n) n h (omega arith)
     some other) ∙ is)))
 
-pub put_of : (slots : List Slot) (mask h : ℕ) (s : Slot) (k at : ℕ) → at ≡ home mask h → s.tag ≡
-    tag h → k < length slots → at ≤ k → k < at + 64 → ((j : ℕ) → at ≤ j → j < k
-    → (get_or slots j free).behind ≢ 0) → place_of slots mask h ≡ None → s.behind ≢ 0
-    → place_of (set slots k s) mask h ≡ Some (s.behind - 1)
-put_of slots mask h s k at is_at is_tag within low high used none some =
-    begun (set slots k s) mask h at 64 s.tag is_at refl is_tag
-    ∙ put_from slots s k at 64 within low high used
-    (sym (begun slots mask h at 64 s.tag is_at refl is_tag) ∙ none) some
+-- the next slot for a hash
+pub next_for : (slots : List Slot) (size h at k : ℕ) → at ≡ home size h → at ≤ k → k < at + 128
+    → ((j : ℕ) → at ≤ j → j < k → (get_or slots j free).behind ≢ 0) → IsNext slots size h k
+next_for slots size h at k is_at low high used = record {
+  from = subst (λ n. n ≤ k) is_at low;
+  within = subst (λ n. k < n + 128) is_at high;
+  used = λ j from less. used j (subst (λ n. n ≤ j) (sym is_at) from) less;
+}
 
-pub kept_of : (slots : List Slot) (mask : ℕ) (s : Slot) (k h p : ℕ) → (get_or slots k free).behind ≡
-    0 → place_of slots mask h ≡ Some p → place_of (set slots k s) mask h ≡ Some p
+pub put_of : (slots : List Slot) (size h : ℕ) (s : Slot) (k : ℕ) → IsNext slots size h k → s.tag ≡
+    tag h → k < length slots → place_of slots size h ≡ None → s.behind ≢ 0 → place_of
+    (set slots k s) size h ≡ Some (s.behind - 1)
+put_of slots size h s k next is_tag within none some =
+    let at = home size h in
+    begun (set slots k s) size h at 128 s.tag refl refl is_tag
+    ∙ put_from slots s k at 128 within next.from next.within next.used
+    (sym (begun slots size h at 128 s.tag refl refl is_tag) ∙ none) some
+
+pub kept_of : (slots : List Slot) (size : ℕ) (s : Slot) (k h p : ℕ) → (get_or slots k free).behind ≡
+    0 → place_of slots size h ≡ Some p → place_of (set slots k s) size h ≡ Some p
 unfolding place_of
-kept_of slots mask s k h p was is = kept_from slots s k (home mask h) 64 (tag h) p was is
-
--- the first of some hashes have their places
-abbrev pub AreSome : List ℕ → List ℕ → List Slot → ℕ → ℕ → Type 0
-AreSome hashes places slots mask count = (k : ℕ) → k < count → place_of slots mask
-    (get_or hashes k 0) ≡ Some (get_or places k 0)
-
--- so does the next, once it is entered
-pub entered_more : (hashes places : List ℕ) (before new : List Slot) (count mask h n : ℕ)
-    → AreSome hashes places before mask count → h ≡ get_or hashes count 0
-    → n ≡ get_or places count 0 → place_of new mask h ≡ Some n
-    → ((h n : ℕ) → place_of before mask h ≡ Some n → place_of new mask h ≡ Some n)
-    → AreSome hashes places new mask (count + 1)
-entered_more hashes places before new count mask h n entered is_hash is_place put kept = λ k less.
-    same_or _ k count
-    (λ here. ap (λ i. place_of new mask (get_or hashes i 0)) here ∙ ap (place_of new mask)
-    (sym is_hash) ∙ put ∙ ap Some (is_place ∙ ap (λ i. get_or places i 0) (sym here)))
-    (λ other. kept _ _ (entered k (omega arith)))
+kept_of slots size s k h p was is = kept_from slots s k (home size h) 128 (tag h) p was is
 
 -- slots that keep each place keep these
-pub entered_kept : (hashes places : List ℕ) (slots new : List Slot) (mask mask' : ℕ)
-    → AreEntered hashes places slots mask → ((h n : ℕ) → place_of slots mask h ≡ Some n
-    → place_of new mask' h ≡ Some n) → AreEntered hashes places new mask'
-entered_kept hashes places slots new mask mask' entered kept = λ k less. kept _ _ (entered k less)
+pub entered_kept : (hashes places : List ℕ) (slots new : List Slot) (size size' : ℕ)
+    → HavePlaces hashes places slots size → ((h n : ℕ) → place_of slots size h ≡ Some n
+    → place_of new size' h ≡ Some n) → HavePlaces hashes places new size'
+entered_kept hashes places slots new size size' entered kept = λ k less. kept _ _ (entered k less)
 
 -- what was written through a slice of a vector
 pub taken : (items new : List Slot) (len : ℕ) → length new ≡ length items → len ≡ length items

@@ -1,10 +1,11 @@
 -- Places of strings by their hashes, in slots: a hash has the first slot that is free then, from
 -- its home on. The slot keeps the lower half of the hash; the upper half tells the home.
-use Rattle.std.specs.Prelude.{◌≡◌, ℕ, zero, suc, ◌+◌, ◌-◌, ◌/◌, ◌%◌, ◌^◌, ◌<◌, ◌==◌, if◌then◌else◌}
-use Rattle.std.specs.Prelude.{List, Option, None, Some, length, slice_index, slice_index_or}
-use Rattle.std.specs.Int.RustNames.{bit_and}
+use Rattle.std.specs.Prelude.{◌≡◌, ◌≢◌, ◌≤◌, ℕ, zero, suc, ◌+◌, ◌-◌, ◌*◌, ◌/◌, ◌%◌, ◌^◌, ◌<◌, ◌==◌}
+use Rattle.std.specs.Prelude.{if◌then◌else◌, List, Option, None, Some, length, map, slice_index}
+use Rattle.std.specs.Prelude.{slice_index_or}
 use Rattle.std.specs.Hash.FoldHasher.{initial, write, finish}
 use Rattle.thorin_strings.specs.declared.places.Slot.{Slot}
+use Rattle.thorin_strings.specs.Strings.{strings_in, offsets_from}
 
 -- the hash of a string, 64 bits
 unfoldable pub hash : List ℕ → ℕ
@@ -28,15 +29,27 @@ place_from slots at (suc n) t =
     then Some ((slice_index_or slots at free).behind - 1)
     else place_from slots (at + 1) n t)
 
--- the first slot of a hash, by its upper half
+-- the first slot of a hash, by its upper half: that is a part of 2 ^ 32, and this the same part of
+-- so many slots
 abbrev pub home : ℕ → ℕ → ℕ
-home mask h = bit_and (h / 2 ^ 32) mask
+home size h = h / 2 ^ 32 * size / 2 ^ 32
 
 -- the place that a hash has
 unfoldable pub place_of : List Slot → ℕ → ℕ → Option ℕ
-place_of slots mask h = place_from slots (home mask h) 64 (tag h)
+place_of slots size h = place_from slots (home size h) 128 (tag h)
+
+-- a slot is the next for a hash: one of its own, behind used ones
+pub record IsNext (slots : List Slot) (size h number : ℕ) : Type 0 where
+  pub from : home size h ≤ number
+  pub within : number < home size h + 128
+  pub used : (j : ℕ) → home size h ≤ j → j < number → (slice_index_or slots j free).behind ≢ 0
 
 -- each of these hashes has its place
-abbrev pub AreEntered : List ℕ → List ℕ → List Slot → ℕ → Type 0
-AreEntered hashes places slots mask = (k : ℕ) → k < length hashes
-    → place_of slots mask (slice_index hashes k) ≡ Some (slice_index places k)
+abbrev pub HavePlaces : List ℕ → List ℕ → List Slot → ℕ → Type 0
+HavePlaces hashes places slots size = (k : ℕ) → k < length hashes
+    → place_of slots size (slice_index hashes k) ≡ Some (slice_index places k)
+
+-- the hash of each string of a section has the place where the string begins
+abbrev pub AreEntered : List ℕ → List Slot → ℕ → Type 0
+AreEntered bytes slots size =
+    HavePlaces (map hash (strings_in bytes)) (offsets_from 0 (strings_in bytes)) slots size

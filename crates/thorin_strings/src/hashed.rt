@@ -9,12 +9,12 @@ ghost use Rattle.thorin_strings.specs.Strings.{IsTable, IsWithinDigits};
 ghost use Rattle.thorin_strings.specs.Marks.{mark_of};
 ghost use Rattle.thorin_strings.specs.Strings.{strings_in};
 ghost use Rattle.thorin_strings.specs.Hashed.{IsHashed, IsPlaced};
-ghost use Rattle.thorin_strings.specs.Places.{hash as hash_of, place_of};
+ghost use Rattle.thorin_strings.specs.Places.{hash as hash_of, place_of, IsNext};
 
 use crate::ends::{GUESSED_ROUNDS, short_end};
 use crate::places::{Places, hash};
 use crate::search::{begins_alike, stands_at};
-use crate::sorted::{SortedStrings, positions_of};
+use crate::sorted::{SortedStrings, begins_of, positions_of};
 use crate::table::{PackageStringOffset, TableMark};
 use memchr::memchr;
 use std::alloc::{AllocError, Global};
@@ -22,8 +22,8 @@ use std::marker::Model;
 use std::mem::replace;
 
 /// Distinct strings, in order of first use, each of which is found by its hash: that has the
-/// string's place. So no two have one hash, and one string at most is compared with another. The
-/// hashes are kept too: by them the places are entered again where there are more slots.
+/// string's place. So no two have one hash, and one string at most is compared with another. Neither
+/// hashes nor places are kept beside that: where there are more slots, the strings are walked.
 ///
 /// The place behind the string that was found last is looked at first: inputs that share strings
 /// often use them in the same order.
@@ -31,8 +31,7 @@ use std::mem::replace;
 pub(crate) struct HashedStrings {
     alloc: Global,
     bytes: Vec<u8>,
-    begins: Vec<u64>,
-    hashes: Vec<u64>,
+    count: usize,
     places: Places,
     next: usize,
 }
@@ -57,19 +56,19 @@ impl From<AllocError> for Unplaced {
 #[inline(never)]
 fn add(
     bytes: &mut Vec<u8>,
-    begins: &mut Vec<u64>,
-    hashes: &mut Vec<u64>,
+    count: &mut usize,
     places: &mut Places,
     string: &[u8],
     hash: u64,
+    next: usize,
 ) -> Result<usize, Unplaced>
-    requires table { IsHashed bytes.old.items begins.old.items hashes.old.items
-        places.old.slots.items places.old.mask }
+    requires table { IsHashed bytes.old.items count.old places.old.slots.items places.old.size }
     requires zero_free { IsZeroFree string.now }
     requires hashed { hash ≡ hash_of string.now }
-    requires none { place_of places.old.slots.items places.old.mask hash ≡ None }
-    ensures table { IsHashed bytes.new.items begins.new.items hashes.new.items
-        places.new.slots.items places.new.mask }
+    requires none { place_of places.old.slots.items places.old.size hash ≡ None }
+    requires next { next < length places.old.slots.items
+        → IsNext places.old.slots.items places.old.size hash next }
+    ensures table { IsHashed bytes.new.items count.new places.new.slots.items places.new.size }
     ensures placed { IfOk result (IsPlaced (strings_in bytes.old.items)
         (strings_in bytes.new.items) string.now) }
     ensures kept { take (length (strings_in bytes.old.items)) (strings_in bytes.new.items)
@@ -78,15 +77,12 @@ fn add(
 {
     let place = bytes.len();
     bytes.reserve(string.len() + 1)?;
-    begins.reserve(1)?;
-    hashes.reserve(1)?;
-    if !places.enter(hash, place, hashes, begins) {
+    if !places.enter(hash, next, place, bytes) {
         return Err(Unplaced::Clash);
     }
-    begins.push(place as u64).unwrap();
-    hashes.push(hash).unwrap();
     bytes.extend_from_slice(string).unwrap();
     bytes.push(0).unwrap();
+    *count += 1;
     Ok(place)
 }
 
@@ -99,8 +95,7 @@ impl Model for HashedStrings {
 
     ghost view = { λ t. strings_in t.bytes.items };
 
-    ghost invariant = { λ t. IsHashed t.bytes.items t.begins.items t.hashes.items
-        t.places.slots.items t.places.mask };
+    ghost invariant = { λ t. IsHashed t.bytes.items t.count t.places.slots.items t.places.size };
 }
 
 impl HashedStrings {
@@ -111,8 +106,7 @@ impl HashedStrings {
         HashedStrings {
             alloc,
             bytes: Vec::new(alloc),
-            begins: Vec::new(alloc),
-            hashes: Vec::new(alloc),
+            count: 0,
             places: Places::new(alloc),
             next: 0,
         }
@@ -122,7 +116,7 @@ impl HashedStrings {
     pub fn len(&self) -> usize
         ensures { result ≡ length self.now }
     {
-        self.begins.len()
+        self.count
     }
 
     /// Each string and a zero byte.
@@ -139,13 +133,13 @@ impl HashedStrings {
         ensures offset { IfSome result.0 (λ o. o.0 ≡ offset_of self.now string.now) }
         ensures count { IsWithinDigits result.1 (length self.now) }
     {
-        if self.begins.is_empty() {
+        if self.count == 0 {
             return (None, 0);
         }
         if memchr(0, string).is_some() {
             return (None, 0);
         }
-        let Some(place) = self.places.find(hash(string)) else {
+        let Ok(place) = self.places.seek(hash(string)) else {
             return (None, 0);
         };
         if stands_at(&self.bytes, place, string) {
@@ -172,20 +166,23 @@ impl HashedStrings {
             return Ok(place);
         }
         let hash = hash(string);
-        if let Some(place) = self.places.find(hash) {
-            if stands_at(&self.bytes, place, string) {
-                self.next = place.saturating_add(string.len() + 1);
-                return Ok(place);
+        let next = match self.places.seek(hash) {
+            Ok(place) => {
+                if stands_at(&self.bytes, place, string) {
+                    self.next = place.saturating_add(string.len() + 1);
+                    return Ok(place);
+                }
+                return Err(Unplaced::Clash);
             }
-            return Err(Unplaced::Clash);
-        }
+            Err(next) => next,
+        };
         add(
             &mut self.bytes,
-            &mut self.begins,
-            &mut self.hashes,
+            &mut self.count,
             &mut self.places,
             string,
             hash,
+            next,
         )
     }
 
@@ -207,24 +204,27 @@ impl HashedStrings {
             return Some(place);
         }
         let hash = hash(&bytes[..end]);
-        if let Some(place) = self.places.find(hash) {
-            if begins_alike(&self.bytes, place, bytes, end) {
-                self.next = place.saturating_add(end + 1);
-                return Some(place);
+        let next = match self.places.seek(hash) {
+            Ok(place) => {
+                if begins_alike(&self.bytes, place, bytes, end) {
+                    self.next = place.saturating_add(end + 1);
+                    return Some(place);
+                }
+                return None;
             }
-            return None;
-        }
+            Err(next) => next,
+        };
         let first = short_end(bytes, GUESSED_ROUNDS)?;
         if first != end {
             return None;
         }
         let added = add(
             &mut self.bytes,
-            &mut self.begins,
-            &mut self.hashes,
+            &mut self.count,
             &mut self.places,
             &bytes[..end],
             hash,
+            next,
         );
         let Ok(place) = added else {
             return None;
@@ -238,12 +238,11 @@ impl HashedStrings {
         ensures same { IfSome result (λ strings. strings ≡ self.old) }
         ensures none { IsNone result → self.new ≡ self.old }
     {
-        let positions = positions_of(self.alloc, &self.bytes, &self.begins)?;
+        let begins = begins_of(self.alloc, &self.bytes)?;
+        let positions = positions_of(self.alloc, &self.bytes, &begins)?;
         let bytes = replace(&mut self.bytes, Vec::new(self.alloc));
-        let sorted = SortedStrings::of(self.alloc, bytes, positions, &self.begins);
-        self.begins.clear();
-        self.hashes.clear();
-        Some(sorted)
+        self.count = 0;
+        Some(SortedStrings::of(self.alloc, bytes, positions, &begins))
     }
 
     /// How much is here now, to which `truncate` goes back.
@@ -251,7 +250,7 @@ impl HashedStrings {
         ensures { result ≡ mark_of self.now }
     {
         TableMark {
-            strings: self.begins.len(),
+            strings: self.count,
             bytes: self.bytes.len(),
         }
     }
@@ -263,8 +262,7 @@ impl HashedStrings {
         ensures { self.new ≡ take mark.strings self.old }
     {
         self.bytes.truncate(mark.bytes);
-        self.begins.truncate(mark.strings);
-        self.hashes.truncate(mark.strings);
+        self.count = mark.strings;
     }
 
     /// Each string and a zero byte.

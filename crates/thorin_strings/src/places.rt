@@ -1,17 +1,22 @@
 //! Places of strings by their hashes, none of which is lost.
 
 ghost use Rattle.std.specs.Prelude.{◌≡◌, ◌≢◌, ◌<◌, ◌+◌, ◌^◌, ℕ, List, length, Some, None, IfSome};
-ghost use Rattle.std.specs.Prelude.{IsTrue};
-ghost use Rattle.thorin_strings.specs.Places.{hash, tag, place_from, place_of, home, AreEntered};
+ghost use Rattle.std.specs.Prelude.{IsTrue, OnErr, IfOk, IfErr};
+ghost use Rattle.thorin_strings.specs.Places.{hash as hash_of, tag, place_from, place_of, home};
+ghost use Rattle.thorin_strings.specs.Places.{IsNext, AreEntered};
 
+use crate::ends::{ROUNDS, end_of, short_end};
 use std::alloc::Global;
 use std::hash::{FoldHasher, Hasher};
 
 /// How many slots are looked at for a hash.
-const PROBES: usize = 64;
+const PROBES: usize = 128;
 
-/// One less than how many hashes have a slot of their own at first.
-const FIRST_MASK: usize = 1023;
+/// How many slots hashes begin at, at first.
+const FIRST_SIZE: u32 = 1024;
+
+/// Four times as many are made of less than this, half as many more of this, and twice as many of more.
+const MANY: u32 = 1 << 18;
 
 /// A free slot.
 const FREE: Slot = Slot { tag: 0, behind: 0 };
@@ -25,7 +30,7 @@ pub(crate) struct Slot {
 
 /// The hash of a string, by which its place is kept.
 pub(crate) fn hash(string: &[u8]) -> u64
-    ensures { result ≡ hash string.now }
+    ensures { result ≡ hash_of string.now }
 {
     let mut hasher = FoldHasher::default();
     hasher.write(string);
@@ -50,156 +55,200 @@ fn behind(place: u64) -> Option<u32>
 }
 
 /// The first slot of a hash.
-fn home(mask: usize, hash: u64) -> usize
-    ensures value { result ≡ home mask hash }
+fn home(size: u32, hash: u64) -> usize
+    ensures value { result ≡ home size hash }
     ensures small { result < 2 ^ 32 }
 {
-    (hash >> 32) as usize & mask
+    ((hash >> 32) * u64::from(size) >> 32) as usize
 }
 
-/// The place that a hash has in these slots.
-fn place_of(slots: &[Slot], mask: usize, hash: u64) -> Option<usize>
-    ensures { result ≡ place_of slots.now mask hash }
+/// The place that a hash has in these slots; the slot that is next for it where it has none, which is
+/// past all of them where none of the hash's is free.
+#[inline(always)]
+fn seek(slots: &[Slot], size: u32, hash: u64) -> Result<usize, usize>
+    ensures found { IfOk result (λ place. place_of slots.now size hash ≡ Some place) }
+    ensures none { OnErr result (place_of slots.now size hash ≡ None) }
+    ensures next { IfErr result (λ number. number < length slots.now
+        → IsNext slots.now size hash number) }
 {
-    let home = home(mask, hash);
+    let home = home(size, hash);
     let tag = tag(hash);
     for number in home..home + PROBES {
         if number >= slots.len() {
-            return None;
+            return Err(number);
         }
         let slot = slots[number];
         if slot.behind == 0 {
-            return None;
+            return Err(number);
         }
         if slot.tag == tag {
-            return Some(slot.behind as usize - 1);
+            return Ok(slot.behind as usize - 1);
         }
     }
-    None
+    Err(slots.len())
+}
+
+/// Puts a slot where it is next for a hash that it has the lower half of, if there is a free one.
+fn put_next(slots: &mut [Slot], number: usize, slot: Slot) -> bool
+    requires some { slot.behind ≢ 0 }
+    ensures put { IsTrue result → (size h n : ℕ) → IsNext slots.old size h number
+        → place_of slots.old size h ≡ None → slot.tag ≡ tag h → n + 1 ≡ slot.behind
+        → place_of slots.new size h ≡ Some n }
+    ensures within { IsTrue result → number < length slots.old }
+    ensures kept { (size h n : ℕ) → place_of slots.old size h ≡ Some n
+        → place_of slots.new size h ≡ Some n }
+    ensures long { length slots.new ≡ length slots.old }
+{
+    if number >= slots.len() || slots[number].behind != 0 {
+        return false;
+    }
+    slots[number] = slot;
+    true
 }
 
 /// Puts a slot into the first free one of a hash that it has the lower half of, where one is free
 /// and the hash has no place.
-fn put(slots: &mut [Slot], mask: usize, hash: u64, slot: Slot) -> bool
+fn put(slots: &mut [Slot], size: u32, hash: u64, slot: Slot) -> bool
     requires some { slot.behind ≢ 0 }
     requires tag { slot.tag ≡ tag hash }
     ensures put { IsTrue result → (n : ℕ) → n + 1 ≡ slot.behind
-        → place_of slots.new mask hash ≡ Some n }
-    ensures kept { (h n : ℕ) → place_of slots.old mask h ≡ Some n
-        → place_of slots.new mask h ≡ Some n }
+        → place_of slots.new size hash ≡ Some n }
+    ensures kept { (h n : ℕ) → place_of slots.old size h ≡ Some n
+        → place_of slots.new size h ≡ Some n }
     ensures long { length slots.new ≡ length slots.old }
 {
-    let home = home(mask, hash);
-    let tag = slot.tag;
-    for number in home..home + PROBES {
-        if number >= slots.len() {
-            return false;
-        }
-        let other = slots[number];
-        if other.behind == 0 {
-            slots[number] = slot;
-            return true;
-        }
-        if other.tag == tag {
-            return false;
-        }
+    match seek(slots, size, hash) {
+        Ok(_) => false,
+        Err(number) => put_next(slots, number, slot),
     }
-    false
+}
+
+/// Puts the places of strings, each with a zero byte, which stand one behind another, into slots by
+/// their hashes; how many there are. None where one can't be put.
+fn put_all(slots: &mut [Slot], size: u32, strings: &[u8]) -> Option<usize>
+    ensures entered { IfSome result (λ _. AreEntered strings.now slots.new size) }
+    ensures long { length slots.new ≡ length slots.old }
+{
+    let mut at = 0;
+    let mut count: usize = 0;
+    while at < strings.len() {
+        let rest = &strings[at..];
+        let end = match short_end(rest, ROUNDS) {
+            Some(end) => end,
+            None => end_of(rest)?,
+        };
+        let hash = hash(&rest[..end]);
+        let behind = behind(at as u64)?;
+        let slot = Slot {
+            tag: tag(hash),
+            behind,
+        };
+        if !put(slots, size, hash, slot) {
+            return None;
+        }
+        at += end + 1;
+        count = count.saturating_add(1);
+    }
+    Some(count)
+}
+
+/// How many slots hashes are to begin at, where they begin at so many now.
+fn more_than(size: u32) -> u32 {
+    if size == 0 {
+        FIRST_SIZE
+    } else if size < MANY {
+        size * 4
+    } else if size == MANY {
+        MANY / 2 * 3
+    } else {
+        size.saturating_mul(2)
+    }
 }
 
 /// Places of strings by their hashes.
 ///
-/// What has a place keeps it, and one of a hash is found by at most 64 slots: where a new one
+/// What has a place keeps it, and one of a hash is found by at most 128 slots: where a new one
 /// would need more, or there is no memory for more slots, it isn't entered, and that is told. A
 /// slot has half of a hash, so another hash may be answered the same place.
 #[derive(Drop)]
 pub(crate) struct Places {
     pub alloc: Global,
     pub slots: Vec<Slot>,
-    pub mask: usize,
+    pub size: u32,
     pub used: usize,
 }
 
 impl Places {
     /// No places, which take no memory.
     pub fn new(alloc: Global) -> Self
-        ensures { (h : ℕ) → place_of result.slots.items result.mask h ≡ None }
+        ensures { (h : ℕ) → place_of result.slots.items result.size h ≡ None }
     {
         Places {
             alloc,
             slots: Vec::new(alloc),
-            mask: 0,
+            size: 0,
             used: 0,
         }
     }
 
-    /// The place that a hash has.
-    pub fn find(&self, hash: u64) -> Option<usize>
-        ensures { result ≡ place_of self.now.slots.items self.now.mask hash }
+    /// The place that a hash has, or the slot that is next for it.
+    #[inline(always)]
+    pub fn seek(&self, hash: u64) -> Result<usize, usize>
+        ensures found { IfOk result (λ place.
+            place_of self.now.slots.items self.now.size hash ≡ Some place) }
+        ensures none { OnErr result (place_of self.now.slots.items self.now.size hash ≡ None) }
+        ensures next { IfErr result (λ number. number < length self.now.slots.items
+            → IsNext self.now.slots.items self.now.size hash number) }
     {
-        place_of(&self.slots, self.mask, hash)
+        seek(&self.slots, self.size, hash)
     }
 
-    /// The places of these hashes in twice as many slots. None where they don't fit or there is no
-    /// memory.
-    fn grown(&self, hashes: &[u64], begins: &[u64]) -> Option<Places>
-        requires { length begins.now ≡ length hashes.now }
-        ensures { IfSome result (λ new.
-            AreEntered hashes.now begins.now new.slots.items new.mask) }
+    /// The places of these strings in more slots. None where they don't fit or there is no memory.
+    fn grown(&self, strings: &[u8]) -> Option<Places>
+        ensures { IfSome result (λ new. AreEntered strings.now new.slots.items new.size) }
     {
-        let mask = self
-            .mask
-            .saturating_mul(2)
-            .saturating_add(1)
-            .max(FIRST_MASK);
-        let mut slots = Vec::from_elem(self.alloc, FREE, mask.saturating_add(PROBES)).ok()?;
-        for index in 0..hashes.len() {
-            let hash = hashes[index];
-            let behind = behind(begins[index])?;
-            let slot = Slot {
-                tag: tag(hash),
-                behind,
-            };
-            if !put(&mut slots, mask, hash, slot) {
-                return None;
-            }
-        }
+        let size = more_than(self.size);
+        let count = (size as usize).saturating_add(PROBES);
+        let mut slots = Vec::from_elem(self.alloc, FREE, count).ok()?;
+        let used = put_all(&mut slots, size, strings)?;
         Some(Places {
             alloc: self.alloc,
             slots,
-            mask,
-            used: hashes.len(),
+            size,
+            used,
         })
     }
 
-    /// Enters a slot among twice as many slots that have the places of these hashes; false where it
-    /// can't.
-    fn enter_in_more(&mut self, hash: u64, slot: Slot, hashes: &[u64], begins: &[u64]) -> bool
+    /// Enters a slot among more slots that have the places of these strings; false where it can't.
+    #[inline(never)]
+    fn enter_in_more(&mut self, hash: u64, slot: Slot, strings: &[u8]) -> bool
         requires some { slot.behind ≢ 0 }
         requires tag { slot.tag ≡ tag hash }
-        requires long { length begins.now ≡ length hashes.now }
         ensures entered { IsTrue result → (n : ℕ) → n + 1 ≡ slot.behind
-            → place_of self.new.slots.items self.new.mask hash ≡ Some n }
-        ensures kept { AreEntered hashes.now begins.now self.old.slots.items self.old.mask
-            → AreEntered hashes.now begins.now self.new.slots.items self.new.mask }
+            → place_of self.new.slots.items self.new.size hash ≡ Some n }
+        ensures kept { AreEntered strings.now self.old.slots.items self.old.size
+            → AreEntered strings.now self.new.slots.items self.new.size }
     {
-        let Some(more) = self.grown(hashes, begins) else {
+        let Some(more) = self.grown(strings) else {
             return false;
         };
         *self = more;
         self.used = self.used.saturating_add(1);
-        put(&mut self.slots, self.mask, hash, slot)
+        put(&mut self.slots, self.size, hash, slot)
     }
 
-    /// Enters the place of a hash; false where it has one, and where that can't be. At most half of
-    /// the slots are used, and where none is free for a hash there are twice as many, if an eighth
-    /// is used. `hashes` and `begins` are those that were entered before, and their places.
-    pub fn enter(&mut self, hash: u64, place: usize, hashes: &[u64], begins: &[u64]) -> bool
-        requires long { length begins.now ≡ length hashes.now }
+    /// Enters the place of a hash that has none, by the slot that is next for it; false where that
+    /// can't be. At most five of eight slots are used, and where none is free for a hash there are
+    /// made more, if a quarter is used. `strings` are those that were entered before, each with a
+    /// zero byte.
+    pub fn enter(&mut self, hash: u64, next: usize, place: usize, strings: &[u8]) -> bool
+        requires none { place_of self.old.slots.items self.old.size hash ≡ None }
+        requires next { next < length self.old.slots.items
+            → IsNext self.old.slots.items self.old.size hash next }
         ensures entered { IsTrue result
-            → place_of self.new.slots.items self.new.mask hash ≡ Some place }
-        ensures kept { AreEntered hashes.now begins.now self.old.slots.items self.old.mask
-            → AreEntered hashes.now begins.now self.new.slots.items self.new.mask }
+            → place_of self.new.slots.items self.new.size hash ≡ Some place }
+        ensures kept { AreEntered strings.now self.old.slots.items self.old.size
+            → AreEntered strings.now self.new.slots.items self.new.size }
     {
         let Some(behind) = behind(place as u64) else {
             return false;
@@ -208,16 +257,17 @@ impl Places {
             tag: tag(hash),
             behind,
         };
-        if self.used >= self.mask / 2 {
-            return self.enter_in_more(hash, slot, hashes, begins);
+        let size = self.size as usize;
+        if self.used >= size / 8 * 5 {
+            return self.enter_in_more(hash, slot, strings);
         }
-        if put(&mut self.slots, self.mask, hash, slot) {
+        if put_next(&mut self.slots, next, slot) {
             self.used = self.used.saturating_add(1);
             return true;
         }
-        if self.used < self.mask / 8 {
+        if self.used < size / 4 {
             return false;
         }
-        self.enter_in_more(hash, slot, hashes, begins)
+        self.enter_in_more(hash, slot, strings)
     }
 }

@@ -13,6 +13,7 @@ ghost use Rattle.thorin_strings.specs.Marks.{mark_of};
 ghost use Rattle.thorin_strings.specs.Known.{AreKnown};
 
 use crate::batch::Batch;
+use crate::ends::end_of;
 use crate::guess::{Guesses, hash_of};
 use crate::merge::enter_all;
 use crate::order::order;
@@ -63,6 +64,20 @@ fn guesses_of(alloc: Global, bytes: &[u8], begins: &[u64]) -> Guesses {
         }
     }
     guesses
+}
+
+/// Where the strings of a section begin; None where one has no end, and for want of memory.
+pub(crate) fn begins_of(alloc: Global, bytes: &[u8]) -> Option<Vec<u64>>
+    ensures { IfSome result (λ begins. begins.items ≡ offsets_from 0 (strings_in bytes.now)) }
+{
+    let mut begins = Vec::new(alloc);
+    let mut at = 0;
+    while at < bytes.len() {
+        let end = end_of(&bytes[at..])?;
+        begins.push(at as u64).ok()?;
+        at += end + 1;
+    }
+    Some(begins)
 }
 
 /// The positions of the strings of a section, in the strings' order; None for want of memory.

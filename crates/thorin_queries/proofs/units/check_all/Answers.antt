@@ -7,7 +7,7 @@ use Rattle.thorin_queries.proofs.units.check_all.Goals as goal
 
 pub check_strings-requires : goal.check_strings-requires
 check_strings-requires g c =
-    c.of.ensures c.args.pack.now (c.strings_of.ensures c.args.pack.now c.requires)
+    c.of-ends.ensures c.args.pack.now (c.strings_of.ensures c.args.pack.now c.requires)
 
 pub returns-in-Ok : goal.returns-in-Ok
 returns-in-Ok g c =

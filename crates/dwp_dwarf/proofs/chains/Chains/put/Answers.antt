@@ -3,5 +3,5 @@ use Rattle.dwp_dwarf.proofs.Remembered.{on_ok}
 use Rattle.dwp_dwarf.proofs.chains.Chains.put.Goals as goal
 
 pub returns-clause-added : goal.returns-clause-added
-returns-clause-added g c = λ ok. (on_ok _ c.insert.result (sym c.is_ok.ensures.value ∙ ok)
+returns-clause-added c = λ ok. (on_ok _ c.insert.result (sym c.is_ok.ensures.value ∙ ok)
     c.insert.ensures.updates).1

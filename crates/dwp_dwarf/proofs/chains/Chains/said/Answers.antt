@@ -8,5 +8,5 @@ pub returns : goal.returns
 returns g c =
     let e = c.in_ok-place.ensures in
     let is : get nat_cmp c.args.self.now.places c.args.left ≡ Some c.in_ok-place.place = cc in
-    said_is g.R.Reader.input c.said_by.result c.args.self.now c.args.left c.args.code
-    c.in_ok-place.place is c.said_by.ensures
+    said_is g.R.Reader.input c.said_by.result (g.R.Reader.input c.args.section) c.args.self.now
+    c.args.left c.args.code c.in_ok-place.place is c.said_by.ensures

@@ -10,8 +10,7 @@ pub invariant_of-result : goal.invariant_of-result
 invariant_of-result c = record {
   no_index =
       ap not
-      (c.either.ensures
-      ∙ ap (λ b. b || c.args.self.types) c.args.self.compilations_so_far
+      (ap (λ b. b || c.args.self.types) c.args.self.compilations_so_far
       ∙ ap (λ b. list_any (has_kind kinds.CuIndex) (map used c.args.self.sections.items) || b)
       c.args.self.types_so_far
       ∙ either-index c.args.self.sections.items);

@@ -1,17 +1,14 @@
 use Rattle.std.proofs.Common.{◌≡◌, ap, ap₂, length, arith}
 use Rattle.thorin_strings.specs.declared.table.TableMark.{TableMark}
 use Rattle.thorin_strings.specs.Strings.{data_of, strings_in}
-use Rattle.thorin_strings.proofs.HashedLemmas.{length-begins}
 use Rattle.thorin_strings.proofs.hashed.HashedStrings.mark.Goals as goal
 
 pub returns : goal.returns
 returns c =
-    let count : c.len.result ≡ length (strings_in c.self.inside.bytes.items) =
-    omega (arith, length-begins _ _ _ _ _ c.self.invariant, c.self.inside.begins.ok.0) in
-    let long : c.len-2.result ≡ length (data_of (strings_in c.self.inside.bytes.items)) =
+    let long : c.len.result ≡ length (data_of (strings_in c.self.inside.bytes.items)) =
     omega (arith, ap length c.self.invariant.ended, c.self.inside.bytes.ok.0) in
     rw (← c.self.view_is) (ap₂ (λ s b. let m : TableMark = record {
       strings = s;
       bytes =
           b;
-    } in m) count long)
+    } in m) c.self.invariant.counted long)

@@ -9,7 +9,7 @@ returns-then-stands_at-clause-placed c =
 
 pub returns-then-stands_at-2-clause-placed : goal.returns-then-stands_at-2-clause-placed
 returns-then-stands_at-2-clause-placed c =
-    let here = rw c.deref-in-Some.ensures.value at (c.stands_at-in-Some.ensures.0
+    let here = rw c.deref-in-Ok.ensures.value at (c.stands_at-in-Ok.ensures.0
     c.if-stands_at-2.true) in
-    rw (← c.self.view_is) (used_there c.self.inside.bytes.items c.args.string.now c.in-Some.place
+    rw (← c.self.view_is) (used_there c.self.inside.bytes.items c.args.string.now c.in-Ok.place
     c.self.invariant.ended here c.self.invariant.distinct)

@@ -13,10 +13,10 @@ returns-then-begins_alike-clause-placed c =
 
 pub returns-then-begins_alike-2-clause-placed : goal.returns-then-begins_alike-2-clause-placed
 returns-then-begins_alike-2-clause-placed c =
-    let here = rw c.deref-in-Some.ensures.value at (c.begins_alike-in-Some.ensures
+    let here = rw c.deref-in-Ok.ensures.value at (c.begins_alike-in-Ok.ensures
     c.if-begins_alike-2.true) in
     rw (← c.self.view_is) (used_there c.self.inside.bytes.items (front_string c.args.bytes.now)
-    c.in-Some.place c.self.invariant.ended here c.self.invariant.distinct)
+    c.in-Ok.place c.self.invariant.ended here c.self.invariant.distinct)
 
 pub add-added-requires-clause-zero_free : goal.add-added-requires-clause-zero_free
 add-added-requires-clause-zero_free c =
@@ -27,4 +27,4 @@ add-added-requires-clause-zero_free c =
 pub returns-clause-placed : goal.returns-clause-placed
 returns-clause-placed c =
     rw (← c.self.view_is) (placed_front c.args.bytes.now c.in_ok-first.first c.args.end _ _
-    c.in-Ok.place c.in_ok-first.ensures (omega arith) c.in-Ok.ensures.placed)
+    c.in-Ok-added.place c.in_ok-first.ensures (omega arith) c.in-Ok-added.ensures.placed)

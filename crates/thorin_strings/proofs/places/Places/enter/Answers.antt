@@ -3,28 +3,31 @@ use Rattle.thorin_strings.specs.Places.{place_of}
 use Rattle.thorin_strings.proofs.PlacesLemmas.{taken, entered_kept}
 use Rattle.thorin_strings.proofs.places.Places.enter.Goals as goal
 
-pub returns-then-put-clause-entered : goal.returns-then-put-clause-entered
-returns-then-put-clause-entered c = λ _.
-    ap (λ l. place_of l c.args.self.now.mask c.args.hash) (taken c.args.self.now.slots.items
-    c.put.new.slots c.args.self.now.slots.len (c.put.ensures.long ∙ ap length
+pub returns-then-put_next-clause-entered : goal.returns-then-put_next-clause-entered
+returns-then-put_next-clause-entered c = λ _.
+    ap (λ l. place_of l c.args.self.now.size c.args.hash) (taken c.args.self.now.slots.items
+    c.put_next.new.slots c.args.self.now.slots.len (c.put_next.ensures.long ∙ ap length
     c.deref_mut.ensures.value) (omega (arith, c.args.self.now.slots.ok.0)))
-    ∙ c.if-put.ensures.put refl c.args.place (sym c.in-Some.ensures)
+    ∙ c.if-put_next.ensures.put refl _ _ c.args.place
+    (rw c.deref_mut.ensures.value (c.requires.next (rw c.deref_mut.ensures.value at
+    (c.if-put_next.ensures.within refl))))
+    (rw c.deref_mut.ensures.value c.requires.none) c.tag.ensures (sym c.in-Some.ensures)
 
-pub returns-then-put-clause-kept : goal.returns-then-put-clause-kept
-returns-then-put-clause-kept c = λ entered.
+pub returns-then-put_next-clause-kept : goal.returns-then-put_next-clause-kept
+returns-then-put_next-clause-kept c = λ entered.
     entered_kept _ _ _ _ _ _ entered (λ h n is.
-    ap (λ l. place_of l c.args.self.now.mask h) (taken c.args.self.now.slots.items c.put.new.slots
-    c.args.self.now.slots.len (c.put.ensures.long ∙ ap length c.deref_mut.ensures.value)
-    (omega (arith, c.args.self.now.slots.ok.0)))
-    ∙ c.put.ensures.kept h n (rw c.deref_mut.ensures.value is))
+    ap (λ l. place_of l c.args.self.now.size h) (taken c.args.self.now.slots.items
+    c.put_next.new.slots c.args.self.now.slots.len (c.put_next.ensures.long ∙ ap length
+    c.deref_mut.ensures.value) (omega (arith, c.args.self.now.slots.ok.0)))
+    ∙ c.put_next.ensures.kept _ h n (rw c.deref_mut.ensures.value is))
 
-pub returns-then-self-2-clause-kept : goal.returns-then-self-2-clause-kept
-returns-then-self-2-clause-kept c = λ entered.
+pub returns-then-self-size-2-clause-kept : goal.returns-then-self-size-2-clause-kept
+returns-then-self-size-2-clause-kept c = λ entered.
     entered_kept _ _ _ _ _ _ entered (λ h n is.
-    ap (λ l. place_of l c.args.self.now.mask h) (taken c.args.self.now.slots.items c.put.new.slots
-    c.args.self.now.slots.len (c.put.ensures.long ∙ ap length c.deref_mut.ensures.value)
-    (omega (arith, c.args.self.now.slots.ok.0)))
-    ∙ c.put.ensures.kept h n (rw c.deref_mut.ensures.value is))
+    ap (λ l. place_of l c.args.self.now.size h) (taken c.args.self.now.slots.items
+    c.put_next.new.slots c.args.self.now.slots.len (c.put_next.ensures.long ∙ ap length
+    c.deref_mut.ensures.value) (omega (arith, c.args.self.now.slots.ok.0)))
+    ∙ c.put_next.ensures.kept _ h n (rw c.deref_mut.ensures.value is))
 
 pub returns-clause-entered : goal.returns-clause-entered
 returns-clause-entered c = λ is.
@@ -33,11 +36,11 @@ returns-clause-entered c = λ is.
 pub returns-clause-kept : goal.returns-clause-kept
 returns-clause-kept c = λ entered.
     c.enter_in_more-2.ensures.kept (entered_kept _ _ _ _ _ _ entered (λ h n is.
-    ap (λ l. place_of l c.args.self.now.mask h) (taken c.args.self.now.slots.items c.put.new.slots
-    c.args.self.now.slots.len (c.put.ensures.long ∙ ap length c.deref_mut.ensures.value)
-    (omega (arith, c.args.self.now.slots.ok.0)))
-    ∙ c.put.ensures.kept h n (rw c.deref_mut.ensures.value is)))
+    ap (λ l. place_of l c.args.self.now.size h) (taken c.args.self.now.slots.items
+    c.put_next.new.slots c.args.self.now.slots.len (c.put_next.ensures.long ∙ ap length
+    c.deref_mut.ensures.value) (omega (arith, c.args.self.now.slots.ok.0)))
+    ∙ c.put_next.ensures.kept _ h n (rw c.deref_mut.ensures.value is)))
 
-pub returns-then-self-clause-entered : goal.returns-then-self-clause-entered
-returns-then-self-clause-entered c = λ is.
+pub returns-then-self-size-clause-entered : goal.returns-then-self-size-clause-entered
+returns-then-self-size-clause-entered c = λ is.
     c.enter_in_more.ensures.entered is c.args.place (sym c.in-Some.ensures)

@@ -1,0 +1,7 @@
+use Rattle.std.proofs.Common.{sym, ◌∙◌}
+use Rattle.dwp_dwarf.proofs.Remembered.{on_ok}
+use Rattle.dwp_dwarf.proofs.codes.Codes.put.Goals as goal
+
+pub returns-clause-added : goal.returns-clause-added
+returns-clause-added c = λ ok. (on_ok _ c.insert.result (sym c.is_ok.ensures.value ∙ ok)
+    c.insert.ensures.updates).1

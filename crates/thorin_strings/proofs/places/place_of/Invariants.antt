@@ -1,9 +1,0 @@
-use Rattle.std.proofs.Common.{◌≡◌, ◌+◌, ◌-◌}
-use Rattle.thorin_strings.specs.Places.{place_from, place_of}
-use Rattle.thorin_strings.proofs.places.place_of.Given as goal
-
-abbrev pub invariant-loop-number : goal.invariant-loop-number
-invariant-loop-number l = record {
-  looked : place_of l.slots l.mask l.hash ≡ place_from l.slots l.number
-      (l.home + 64 - l.number) l.tag;
-}
