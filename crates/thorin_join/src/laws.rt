@@ -20,7 +20,7 @@ ghost use Rattle.thorin_join.specs.Sizes.{with_inputs, IsSizeFinished, container
 ghost use Rattle.thorin_join.specs.State.{InProgress};
 
 use dwp_dwarf::laws::units_have_all_bytes;
-use dwp_elf::laws::written_contents_are_read_back;
+use dwp_elf::laws::{written_contents_are_read_back, written_files_have_their_size};
 use dwp_index::laws::{contents_are_read, packages_find_exactly, units_are_named_once};
 use thorin_parts::laws::{written_index_has_the_entries, written_index_is_read};
 
@@ -110,4 +110,6 @@ pub fn finished_packages_have_their_sizes()
     ensures file { (file : Object)
         → KindsDiffer file.contents
         → length (file_text file) ≤ bytes_of_contents file.contents + container_most }
-{}
+{
+    written_files_have_their_size();
+}

@@ -15,8 +15,6 @@ use Rattle.dwp_elf.specs.Contents.{KindsDiffer}
 use Rattle.dwp_elf.specs.FileText.{Object, content_bytes, names_of, name_table, names_end}
 use Rattle.dwp_elf.specs.FileText.{zeros_after, file_text}
 use Rattle.dwp_elf.specs.Places.{file_length}
-use Rattle.dwp_elf.proofs.KindCounts.{length-KindsDiffer}
-use Rattle.dwp_elf.proofs.Limits.{length-file_text}
 use Rattle.thorin_input.specs.Growing.{Contents}
 use Rattle.thorin_join.specs.Sizes.{bytes_of_contents, container_most}
 use Rattle.thorin_join.proofs.Sizes.Contents.{cons-long}
@@ -84,11 +82,12 @@ length-within Elf64 cs few = omega (
   zeros-within (names_end Elf64 cs),
 )
 
-pub file-within : (file : Object) → KindsDiffer file.contents
+pub file-within : ((o : Object) → length (file_text o) ≡ file_length o.class o.contents)
+    → ((contents : Contents) → KindsDiffer contents → length contents ≤ 13)
+    → (file : Object) → KindsDiffer file.contents
     → length (file_text file) ≤ bytes_of_contents file.contents + container_most
-file-within file differ = omega (
+file-within size sections file differ = omega (
   arith,
-  length-file_text file,
-  length-within file.class
-      file.contents (length-KindsDiffer file.contents differ),
+  size file,
+  length-within file.class file.contents (sections file.contents differ),
 )

@@ -4,7 +4,7 @@ use Rattle.std.proofs.Common.{eqb, ltb, leb, List, [], ◌∷◌, ◌++◌, leng
 use Rattle.std.proofs.Common.{Ok, Err, refl, sym, ap, not, ◌&&◌, zero-mul, suc-mul, arith}
 use Rattle.std.specs.Prelude.{slice_range}
 use Rattle.std.proofs.lemmas.List.{length-append, length-take, length-drop}
-use Rattle.std.proofs.lemmas.Bool.{leb-true, ltb-false}
+use Rattle.std.proofs.lemmas.Bool.{leb-true, le-leb, ltb-false}
 use Rattle.dwp_base.specs.declared.endian.Endianness.{Endianness}
 use Rattle.dwp_base.specs.declared.endian.Endianness.TheVariants.{Little, Big}
 use Rattle.dwp_base.specs.declared.section.Contribution.{Contribution}
@@ -15,10 +15,9 @@ use Rattle.dwp_bytes.specs.declared.encoding.Encoding.{Encoding}
 use Rattle.dwp_bytes.specs.declared.encoding.Format.{Format}
 use Rattle.dwp_bytes.specs.declared.encoding.Format.TheVariants.{Dwarf32, Dwarf64}
 use Rattle.dwp_bytes.specs.Encoding.{offset_size}
-use Rattle.dwp_bytes.specs.StringOffsets.{header_size, entry_count}
-use Rattle.thorin_strings.specs.StringOffsets.{header_of, remapped_entry, remapped_entries}
-use Rattle.thorin_strings.specs.StringOffsets.{entry_bytes, remapped}
-use Rattle.thorin_strings.proofs.NamedBytes.{header_long}
+use Rattle.dwp_bytes.specs.StringOffsets.{length_size, header_size, entry_count}
+use Rattle.thorin_strings.specs.StringOffsets.{initial_length, header_of, remapped_entry}
+use Rattle.thorin_strings.specs.StringOffsets.{remapped_entries, entry_bytes, remapped}
 use Rattle.thorin_packaged.specs.PackagedOffsets.{is_whole_range, ranges_test, offset_ranges}
 use Rattle.thorin_packaged.specs.PackagedOffsets.{rewritten_from, packaged_offsets}
 use Rattle.thorin_faults.specs.Fault.{Fault, BadStringOffsets, OverlappingStringOffsets}
@@ -64,6 +63,38 @@ entries-many order encoding section bytes (suc n) strings entries h =
     let is = ap (λ (e : List ℕ × List (List ℕ)). length e.0) (ok-eq _ entries b.2) in
     omega (arith, is, many, length-append a.0.0 (b.0.0 ∷ []))
 
+-- ---- a header
+standard-long : (order : Endianness) (format : Format) (n : ℕ)
+    → length (initial_length order format n ++ number_bytes order 2 5 ++ number_bytes order 2 0) ≡
+    length_size format + 4
+standard-long Little Dwarf32 n = refl
+standard-long Little Dwarf64 n = refl
+standard-long Big Dwarf32 n = refl
+standard-long Big Dwarf64 n = refl
+
+header-by : (order : Endianness) (format : Format) (old over new : Bool) (fault : Fault) (size : ℕ)
+    (header : List ℕ) → (old ≡ false → new ≡ true)
+    → cond old (Ok []) (cond over (Err fault) (Ok (initial_length order format (size + 4)
+    ++ number_bytes order 2 5 ++ number_bytes order 2 0))) ≡ Ok header
+    → length header ≤ cond new (length_size format + 4) 0
+header-by order format true over new fault size header either h =
+    let is = ap length (ok-eq _ header h) in
+    omega (arith, is)
+header-by order format false true new fault size header either h = absurd cc
+header-by order format false false false fault size header either h =
+    let wrong = either refl in absurd cc
+header-by order format false false true fault size header either h =
+    let is = ap length (ok-eq _ header h) in
+    omega (arith, is, standard-long order format (size + 4))
+
+header-within : (order : Endianness) (encoding : Encoding) (size : ℕ) (header : List ℕ)
+    → header_of order encoding size ≡ Ok header → length header ≤ header_size encoding
+unfolding header_of
+header-within order encoding size header h =
+    let version = encoding.version in
+    header-by order encoding.format (ltb version 5) _ (leb 5 version) _ size header
+    (λ old. le-leb 5 version (ltb-false version 5 old)) h
+
 -- ---- a range
 by-size : (order : Endianness) (encoding : Encoding) (section bytes : List ℕ) (none short : Bool)
     (size : ℕ) (strings : List (List ℕ)) (fault : Fault) (range : List ℕ × List (List ℕ))
@@ -81,7 +112,7 @@ by-size order encoding section bytes false false size strings fault range room h
     let n = entry_count encoding size in
     let a = bind-inv (header_of order encoding (n * offset_size encoding.format)) _ range h in
     let b = bind-inv (remapped_entries order encoding section bytes n strings) _ range a.2 in
-    let front = header_long order encoding (n * offset_size encoding.format) a.0 a.1 in
+    let front = header-within order encoding (n * offset_size encoding.format) a.0 a.1 in
     let many = entries-many order encoding section bytes n strings b.0 b.1 in
     let long = entries-long order encoding.format b.0.0 in
     let same = ap (λ m. m * offset_size encoding.format) many in
