@@ -253,12 +253,13 @@ class Runs:
         status, said = self.expect(number, ["check", "out.dwp"], (0, 1))
         if status == 1:
             lines = [it for it in said.splitlines()[:-1] if b" overlaps that of " not in it]
-            came = "no index" if not said else "overlapping ranges" if not lines else KNOWN if all(it.endswith(LACKING) for it in lines) else "other faults"
-            if came == "other faults" and all(b": string " in it for it in lines) and len(self.versions()) > 1:
+            rest = [it for it in lines if not it.endswith(LACKING)]
+            came = "no index" if not said else "overlapping ranges" if not lines else "other faults" if rest else KNOWN
+            if rest and all(b": string " in it for it in rest) and len(self.versions()) > 1:
                 came = "strings of units of two versions"
             self.counts["packages", came] += 1
             if came == "other faults":
-                self.tell(number, words, f"a package with faults: {lines[:3]}")
+                self.tell(number, words, f"a package with faults: {rest[:3]}")
             return
         self.counts["packages", "whole"] += 1
         status, _said, told = self.run(["pack", "-o", "again.dwp", "out.dwp"])
