@@ -1,7 +1,7 @@
 //! A package while it is made.
 
 ghost use Rattle.std.specs.Prelude.{◌≡◌, ℕ, List, [], map, length, take, option_map, Some, IfOk};
-ghost use Rattle.std.specs.Prelude.{IfErr, OnOk, OnErr};
+ghost use Rattle.std.specs.Prelude.{IfErr, OnOk, OnErr, true};
 ghost use Rattle.std.specs.Map.{lookup};
 ghost use Rattle.dwp_index.specs.Package.{part_of};
 ghost use Rattle.thorin_faults.specs.Answers.{Gives};
@@ -186,7 +186,7 @@ impl InProgressDwarfPackage {
             package: &*self,
         };
         let new = NewUnits::read(alloc, &adding)?;
-        put_parts(&mut self.object, &parts)?;
+        put_parts(&mut self.object, parts)?;
         self.differing.extend_from_slice(&new.differing)?;
         self.add_units(&new)?;
         Ok(new.alike)
@@ -291,6 +291,10 @@ fn index_of(
     ensures written { IfOk result (λ bytes.
         IsIndexOf order (rows_of compilations rows.now) bytes.items) }
 {
+    // (mostly all units are of one kind: their rows are large, and aren't copied then)
+    if are_all(rows, compilations) {
+        return write_index(alloc, order, rows);
+    }
     let chosen = rows_of(alloc, rows, compilations)?;
     write_index(alloc, order, &chosen)
 }
@@ -331,6 +335,18 @@ fn is_compilation(name: DwarfObject) -> bool
         DwarfObject::Compilation(_) => true,
         DwarfObject::TypeUnit(_) => false,
     }
+}
+
+/// Whether all rows are those of compilation units, or those of type units.
+fn are_all(rows: &[IndexEntry], compilations: bool) -> bool
+    ensures { result ≡ true → rows_of compilations rows.now ≡ rows.now }
+{
+    for row in rows {
+        if is_compilation(row.id) != compilations {
+            return false;
+        }
+    }
+    true
 }
 
 /// The rows of compilation units, or those of type units.

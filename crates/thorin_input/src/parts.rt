@@ -5,12 +5,12 @@ ghost use Rattle.dwp_base.specs.declared.section.SectionKind.TheVariants.{Str};
 ghost use Rattle.dwp_elf.specs.FileText.{Object};
 ghost use Rattle.thorin_faults.specs.Answers.{Gives};
 ghost use Rattle.thorin_strings.specs.Known.{AreKnown};
-ghost use Rattle.thorin_input.specs.Growing.{IsGrown, with_parts};
+ghost use Rattle.thorin_input.specs.Growing.{IsGrown, with_bytes, with_parts};
 ghost use Rattle.thorin_input.specs.Parts as spec;
 ghost use Rattle.thorin_input.specs.Used.{first};
 ghost use Rattle.thorin_input.specs.View as view;
 
-use crate::growing::put;
+use crate::growing::{put, put_moved};
 use crate::object::UsedSection;
 use crate::source::Source;
 use dwp_base::SectionKind;
@@ -244,19 +244,36 @@ pub fn parts_of<'a>(
     Ok(parts)
 }
 
+/// Adds a part to the contents of a package. It refuses for memory alone.
+fn put_part(file: &mut WritableObject, part: Part<'_>) -> Result<(), Error>
+    ensures contents { OnOk result (file.new ≡ record file.old {
+      contents = with_bytes part.entry.kind (view.part part.entry).1 file.old.contents;
+    }) }
+    ensures refused { IfErr result (λ e. e ≡ Error.Memory) }
+    ensures grown { (before : Object) → IsGrown before file.old → IsGrown before file.new }
+{
+    let Part { kind, bytes } = part;
+    match bytes {
+        PartBytes::Copied(bytes) => put(file, kind, bytes)?,
+        PartBytes::Rewritten(bytes) => put_moved(file, kind, bytes)?,
+    };
+    Ok(())
+}
+
 /// Adds the parts to the contents of a package, in order.
 ///
 /// # Errors
 /// `Memory` alone, which may leave bytes behind those before.
 #[tactic(auto, unfolding(crate::specs::Growing::with_parts))]
-pub fn put_parts(file: &mut WritableObject, parts: &[Part<'_>]) -> Result<(), Error>
-    ensures contents { OnOk result (file.new
-        ≡ record file.old { contents = with_parts (map view.part parts.now) file.old.contents }) }
+pub fn put_parts(file: &mut WritableObject, parts: Vec<Part<'_>>) -> Result<(), Error>
+    ensures contents { OnOk result (file.new ≡ record file.old {
+      contents = with_parts (map view.part parts.entry.items) file.old.contents;
+    }) }
     ensures refused { IfErr result (λ e. e ≡ Error.Memory) }
     ensures grown { (before : Object) → IsGrown before file.old → IsGrown before file.new }
 {
     for part in parts {
-        put(file, part.kind, part.bytes())?;
+        put_part(file, part)?;
     }
     Ok(())
 }

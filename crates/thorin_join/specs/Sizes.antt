@@ -40,25 +40,25 @@ unfoldable pub sections_of_input : List ℕ → List Used
 sections_of_input bytes = or_none (opened bytes >>= sections_in)
 
 -- the bytes of the used sections of an input
-abbrev pub used_bytes : List ℕ → ℕ
-used_bytes bytes = sum_by (λ used. length used.bytes) (sections_of_input bytes)
+abbrev pub used_size : List ℕ → ℕ
+used_size bytes = sum_by (λ used. length used.bytes) (sections_of_input bytes)
 
 -- the same without strings and indexes, which a package has of its own
 abbrev pub carried : Used → ℕ
 carried used = if counts_once used.kind then 0 else length used.bytes
 
-abbrev pub carried_bytes : List ℕ → ℕ
-carried_bytes bytes = sum_by carried (sections_of_input bytes)
+abbrev pub carried_size : List ℕ → ℕ
+carried_size bytes = sum_by carried (sections_of_input bytes)
 
 -- the bytes of an input's string offsets, and of its section of strings
 abbrev pub offsets_used : Used → ℕ
 offsets_used used = if same_kind used.kind StrOffsets then length used.bytes else 0
 
-abbrev pub offset_bytes : List ℕ → ℕ
-offset_bytes bytes = sum_by offsets_used (sections_of_input bytes)
+abbrev pub offsets_size : List ℕ → ℕ
+offsets_size bytes = sum_by offsets_used (sections_of_input bytes)
 
-abbrev pub string_bytes : List ℕ → ℕ
-string_bytes bytes = length (first Str (sections_of_input bytes))
+abbrev pub strings_size : List ℕ → ℕ
+strings_size bytes = length (first Str (sections_of_input bytes))
 
 -- what inputs make of a package, one after another, or the first fault
 unfoldable pub with_inputs : List (List ℕ) → Option InProgress → Result (Option InProgress) Fault
@@ -93,6 +93,7 @@ pub record IsSizeFinished (made : InProgress) (size : ℕ) : Type 0 where
       + compilation_index + type_index
 
 -- what the ELF file of a package has beside its contents at most: a header of 64 bytes, 15 section
--- headers of 64, the names of 13 sections of 23, 11 more bytes of names, and 7 zeros
+-- headers of 64, the names of 13 sections of 23, 11 more bytes of names, and 7 zeros (ELF gABI, ELF
+-- Header, Section Header, String Table)
 abbrev pub container_most : ℕ
 container_most = 64 + 15 * 64 + 13 * 23 + 11 + 7

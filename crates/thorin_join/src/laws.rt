@@ -14,8 +14,8 @@ ghost use Rattle.thorin_join.specs.Builder.{with_input};
 ghost use Rattle.thorin_join.specs.FirstUse.{strings_begun};
 ghost use Rattle.thorin_join.specs.Join.{IsPackageOnceWritten};
 ghost use Rattle.thorin_join.specs.Represents.{IsSoundBegun, units_in};
-ghost use Rattle.thorin_join.specs.Sizes.{bytes_of_contents, bytes_begun, carried_bytes, used_bytes};
-ghost use Rattle.thorin_join.specs.Sizes.{bytes_of_strings, offset_bytes, string_bytes};
+ghost use Rattle.thorin_join.specs.Sizes.{bytes_of_contents, bytes_begun, carried_size, used_size};
+ghost use Rattle.thorin_join.specs.Sizes.{bytes_of_strings, offsets_size, strings_size};
 ghost use Rattle.thorin_join.specs.Sizes.{with_inputs, IsSizeFinished, container_most};
 ghost use Rattle.thorin_join.specs.State.{InProgress};
 
@@ -70,21 +70,22 @@ pub fn finished_packages_are_read()
 pub fn packages_grow_by_used_sections()
     ensures input { (bytes : List ℕ) (begun now : Option InProgress)
         → with_input bytes begun ≡ Ok now
-        → bytes_begun now ≤ bytes_begun begun + carried_bytes bytes }
+        → bytes_begun now ≤ bytes_begun begun + carried_size bytes }
     ensures inputs { (inputs : List (List ℕ)) (begun now : Option InProgress)
         → with_inputs inputs begun ≡ Ok now
-        → bytes_begun now ≤ bytes_begun begun + sum_by carried_bytes inputs }
-    ensures carried { (bytes : List ℕ) → carried_bytes bytes ≤ used_bytes bytes }
+        → bytes_begun now ≤ bytes_begun begun + sum_by carried_size inputs }
+    ensures carried { (bytes : List ℕ) → carried_size bytes ≤ used_size bytes }
     ensures files { (inputs : List (List ℕ)) (begun now : Option InProgress)
-        → All (λ bytes. used_bytes bytes ≤ length bytes) inputs
+        → All (λ bytes. used_size bytes ≤ length bytes) inputs
         → with_inputs inputs begun ≡ Ok now
         → bytes_begun now ≤ bytes_begun begun + sum_by length inputs }
 {
     units_have_all_bytes();
 }
 
-/// The law of strings' sizes: an input brings one string at most for each 4 bytes of its string
-/// offsets, and none has more bytes than its section of strings, zero byte included.
+/// The law of strings' sizes: the strings that an input brings, each with its zero byte, have at
+/// most a quarter of the bytes of its string offsets times the bytes of its section of strings, as
+/// if each offset of 4 bytes named a string of its own that fills the section.
 ///
 /// The bytes of the inputs themselves are no bound: an offset may point into a string, so that one
 /// long string can bring each of its ends, and each is a string of its own. It does nothing.
@@ -92,12 +93,12 @@ pub fn strings_grow_by_offsets()
     ensures input { (bytes : List ℕ) (begun now : Option InProgress)
         → with_input bytes begun ≡ Ok now
         → 4 * bytes_of_strings (strings_begun now)
-        ≤ 4 * bytes_of_strings (strings_begun begun) + offset_bytes bytes * string_bytes bytes }
+        ≤ 4 * bytes_of_strings (strings_begun begun) + offsets_size bytes * strings_size bytes }
     ensures inputs { (inputs : List (List ℕ)) (begun now : Option InProgress)
         → with_inputs inputs begun ≡ Ok now
         → 4 * bytes_of_strings (strings_begun now)
         ≤ 4 * bytes_of_strings (strings_begun begun)
-        + sum_by (λ bytes. offset_bytes bytes * string_bytes bytes) inputs }
+        + sum_by (λ bytes. offsets_size bytes * strings_size bytes) inputs }
 {}
 
 /// The law of finished sizes: what finishing adds to the contents is each string with its zero byte

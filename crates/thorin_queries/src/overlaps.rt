@@ -39,16 +39,17 @@ pub(crate) struct Shares {
 /// What the ranges of each unit that a slot names have in common with those of others.
 #[derive(Drop)]
 pub(crate) struct Overlaps {
-    // For each entry whether another row has the same bytes.
+    // For each entry whether another row has the range of its own bytes.
     twins: Vec<bool>,
     // For each entry a range that seems to overlap that of another; nothing where no row has one.
     clashes: Vec<Option<Clash>>,
 }
 
 impl Overlaps {
-    /// Goes over the ranges of the rows that these entries name, of each section in turn. Where
-    /// some of them overlap, it goes over those of the units that are found in these rows: the
-    /// rows have all of these, and are read without a look-up.
+    /// Goes over the ranges of the rows that these entries name, of each section in turn: these are
+    /// read without a look-up. Where some of them overlap without being the same, it looks each
+    /// entry's unit up, and goes over the ranges of those that are found in the row of their entry:
+    /// no others count as overlapping.
     pub(crate) fn find(
         alloc: Global,
         pack: &PackageFile<'_>,
@@ -62,9 +63,7 @@ impl Overlaps {
         for _entry in entries {
             overlaps.twins.push(false)?;
         }
-        let mut columns = columns_of(alloc, file)?;
-        gather_rows(file, entries, &mut columns)?;
-        if !overlaps.mark_twins(&mut columns)? {
+        if !overlaps.find_twins(alloc, file, entries)? {
             return Ok(overlaps);
         }
         let mut columns = columns_of(alloc, file)?;
@@ -90,14 +89,21 @@ impl Overlaps {
         }
     }
 
-    /// Marks each unit whose own bytes another has too. Answers whether ranges overlap that aren't
-    /// the same.
-    fn mark_twins(&mut self, columns: &mut Vec<Column>) -> Result<bool, AllocError> {
+    /// Marks each entry whose row has the range of its own bytes in common with another's. Answers
+    /// whether ranges of the rows overlap without being the same.
+    fn find_twins(
+        &mut self,
+        alloc: Global,
+        file: &ElfFile<'_>,
+        entries: &[UnitEntry],
+    ) -> Result<bool, AllocError> {
+        let mut columns = columns_of(alloc, file)?;
+        gather_rows(file, entries, &mut columns)?;
         let mut overlap = false;
         for i in 0..columns.len() {
             if let Some(column) = columns.get_mut(i) {
                 sort(&mut column.ranges)?;
-                if self.mark_same(column.kind, column.ranges.as_slice()) {
+                if self.mark_twins(column.kind, column.ranges.as_slice()) {
                     overlap = true;
                 }
             }
@@ -105,8 +111,8 @@ impl Overlaps {
         Ok(overlap)
     }
 
-    /// The same of a section's ranges, sorted by their places.
-    fn mark_same(&mut self, kind: SectionKind, ranges: &[Placed]) -> bool {
+    /// The same of the ranges of one section, sorted by their places.
+    fn mark_twins(&mut self, kind: SectionKind, ranges: &[Placed]) -> bool {
         let mut overlap = false;
         let mut farthest = 0u64;
         let mut before: Option<Placed> = None;

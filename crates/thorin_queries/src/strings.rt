@@ -1,9 +1,9 @@
 //! The strings of a package's units, in `thorin check`.
 
-ghost use Rattle.std.specs.Prelude.{◌≡◌, ℕ, List, Err, IfOk, string_bytes};
+ghost use Rattle.std.specs.Prelude.{◌≡◌, ℕ, List, Err, IfOk, string_bytes, true};
 ghost use Rattle.dwp_index.specs.Package.{found};
 ghost use Rattle.thorin_queries.specs.Checking.{TellsSomeStrings};
-ghost use Rattle.thorin_queries.specs.Ends.{HasEnds};
+ghost use Rattle.thorin_queries.specs.Ends.{HasEnds, AllEnd};
 ghost use Rattle.thorin_queries.specs.Faults.{TellsStringsOf, TellsStrings, TellsString};
 ghost use Rattle.thorin_queries.specs.Faults.{string_of, string_text};
 ghost use Rattle.thorin_queries.specs.Telling.{Tells, ForEach};
@@ -68,7 +68,10 @@ impl Strings {
     }
 
     /// Whether a unit's strings can all be read; false where it would take too long to tell.
-    fn reads_all(&mut self, unit: &PackagedUnit<'_>, size: u64) -> bool {
+    fn reads_all(&mut self, unit: &PackagedUnit<'_>, size: u64) -> bool
+        ensures { result ≡ true
+            → HasEnds self.old.ends unit.now.order unit.now.contents.strings → AllEnd unit.now }
+    {
         if self.left < size {
             return false;
         }

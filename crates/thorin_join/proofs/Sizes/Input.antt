@@ -22,10 +22,10 @@ use Rattle.thorin_input.specs.Used.{Used, opened, has_info, counts_once, input_f
 use Rattle.thorin_join.specs.Builder.{package_or_new, order_test, with_source_or_new, with_units}
 use Rattle.thorin_join.specs.Builder.{with_input}
 use Rattle.thorin_join.specs.Sizes.{bytes_of_contents, bytes_begun, sections_in, or_none}
-use Rattle.thorin_join.specs.Sizes.{sections_of_input, used_bytes, carried, carried_bytes}
+use Rattle.thorin_join.specs.Sizes.{sections_of_input, used_size, carried, carried_size}
 use Rattle.thorin_join.specs.Sizes.{with_inputs}
 use Rattle.thorin_join.specs.FirstUse.{strings_begun}
-use Rattle.thorin_join.specs.Sizes.{bytes_of_strings, offsets_used, offset_bytes, string_bytes}
+use Rattle.thorin_join.specs.Sizes.{bytes_of_strings, offsets_used, offsets_size, strings_size}
 use Rattle.thorin_join.specs.State.{InProgress, adding, abbreviations_test, with_source}
 use Rattle.thorin_join.proofs.Joined.Source.{with_all_parts, all-is}
 use Rattle.thorin_join.proofs.Sizes.Contents.{with_parts-long, units-within, part_bytes}
@@ -193,10 +193,10 @@ begun-strings file (Some made) = refl
 
 within-by : UnitsAreTaken → (bytes : List ℕ) (begun now : Option InProgress)
     → Adds bytes begun now ⊎ Begins begun now
-    → bytes_begun now ≤ bytes_begun begun + carried_bytes bytes
+    → bytes_begun now ≤ bytes_begun begun + carried_size bytes
 within-by taken bytes begun now (inl a) =
     let is = ap bytes_begun a.is in
-    let own : carried_bytes bytes ≡ sum_by carried a.source.object.sections =
+    let own : carried_size bytes ≡ sum_by carried a.source.object.sections =
     ap (sum_by carried) a.used in
     omega (
       arith,
@@ -211,7 +211,7 @@ within-by taken bytes begun now (inr (file, same)) =
     omega (arith, is, begun-bytes file begun)
 
 pub input-within : UnitsAreTaken → (bytes : List ℕ) (begun now : Option InProgress)
-    → with_input bytes begun ≡ Ok now → bytes_begun now ≤ bytes_begun begun + carried_bytes bytes
+    → with_input bytes begun ≡ Ok now → bytes_begun now ≤ bytes_begun begun + carried_size bytes
 input-within taken bytes begun now h = within-by taken bytes begun now (input-adds bytes begun now
     h)
 
@@ -219,10 +219,10 @@ input-within taken bytes begun now h = within-by taken bytes begun now (input-ad
 strings-by : (bytes : List ℕ) (begun now : Option InProgress)
     → Adds bytes begun now ⊎ Begins begun now
     → 4 * bytes_of_strings (strings_begun now) ≤ 4 * bytes_of_strings (strings_begun begun)
-    + offset_bytes bytes * string_bytes bytes
+    + offsets_size bytes * strings_size bytes
 strings-by bytes begun now (inl a) =
     let is = ap (λ n. bytes_of_strings (strings_begun n)) a.is in
-    let own : offset_bytes bytes * string_bytes bytes ≡ sum_by offsets_used
+    let own : offsets_size bytes * strings_size bytes ≡ sum_by offsets_used
     a.source.object.sections * length (first Str a.source.object.sections) =
     ap (λ sections. sum_by offsets_used sections * length (first Str sections)) a.used in
     omega (
@@ -239,13 +239,13 @@ strings-by bytes begun now (inr (file, same)) =
 
 pub input-strings : (bytes : List ℕ) (begun now : Option InProgress) → with_input bytes begun ≡
     Ok now → 4 * bytes_of_strings (strings_begun now) ≤ 4 * bytes_of_strings (strings_begun begun)
-    + offset_bytes bytes * string_bytes bytes
+    + offsets_size bytes * strings_size bytes
 input-strings bytes begun now h = strings-by bytes begun now (input-adds bytes begun now h)
 
 -- ---- inputs one after another
 pub inputs-within : UnitsAreTaken → (inputs : List (List ℕ)) (begun now : Option InProgress)
     → with_inputs inputs begun ≡ Ok now
-    → bytes_begun now ≤ bytes_begun begun + sum_by carried_bytes inputs
+    → bytes_begun now ≤ bytes_begun begun + sum_by carried_size inputs
 unfolding with_inputs
 inputs-within taken [] begun now h =
     let is = ap bytes_begun (ok-eq begun now h) in
@@ -256,17 +256,17 @@ inputs-within taken (bytes ∷ inputs) begun now h =
       arith,
       input-within taken bytes begun s.0 s.1,
       inputs-within taken inputs s.0 now s.2,
-      sum_by-cons carried_bytes bytes inputs,
+      sum_by-cons carried_size bytes inputs,
     )
 
 -- what an input's strings have at most, four times
 abbrev most_strings : List ℕ → ℕ
-most_strings bytes = offset_bytes bytes * string_bytes bytes
+most_strings bytes = offsets_size bytes * strings_size bytes
 
 pub inputs-strings : (inputs : List (List ℕ)) (begun now : Option InProgress)
     → with_inputs inputs begun ≡ Ok now
     → 4 * bytes_of_strings (strings_begun now) ≤ 4 * bytes_of_strings (strings_begun begun)
-    + sum_by (λ bytes. offset_bytes bytes * string_bytes bytes) inputs
+    + sum_by (λ bytes. offsets_size bytes * strings_size bytes) inputs
 unfolding with_inputs
 inputs-strings [] begun now h =
     let is = ap (λ n. bytes_of_strings (strings_begun n)) (ok-eq begun now h) in
@@ -297,26 +297,26 @@ carried-sections (s ∷ ss) =
       sum_by-cons (λ (used : Used). length used.bytes) s ss,
     )
 
-pub carried-used : (bytes : List ℕ) → carried_bytes bytes ≤ used_bytes bytes
+pub carried-used : (bytes : List ℕ) → carried_size bytes ≤ used_size bytes
 carried-used bytes = carried-sections (sections_of_input bytes)
 
-lengths-within : (inputs : List (List ℕ)) → All (λ bytes. used_bytes bytes ≤ length bytes) inputs
-    → sum_by carried_bytes inputs ≤ sum_by length inputs
+lengths-within : (inputs : List (List ℕ)) → All (λ bytes. used_size bytes ≤ length bytes) inputs
+    → sum_by carried_size inputs ≤ sum_by length inputs
 lengths-within [] h = omega arith
 lengths-within (bytes ∷ inputs) h =
-    let one : used_bytes bytes ≤ length bytes = h 0 [] (omega arith) in
+    let one : used_size bytes ≤ length bytes = h 0 [] (omega arith) in
     omega (
       arith,
       one,
       carried-used bytes,
       lengths-within inputs (λ k d within. h (suc k) d
           (omega arith)),
-      sum_by-cons carried_bytes bytes inputs,
+      sum_by-cons carried_size bytes inputs,
       sum_by-cons (length {A = ℕ}) bytes inputs,
     )
 
 pub files-within : UnitsAreTaken → (inputs : List (List ℕ)) (begun now : Option InProgress)
-    → All (λ bytes. used_bytes bytes ≤ length bytes) inputs → with_inputs inputs begun ≡ Ok now
+    → All (λ bytes. used_size bytes ≤ length bytes) inputs → with_inputs inputs begun ≡ Ok now
     → bytes_begun now ≤ bytes_begun begun + sum_by length inputs
 files-within taken inputs begun now apart h =
     omega (arith, inputs-within taken inputs begun now h, lengths-within inputs apart)
