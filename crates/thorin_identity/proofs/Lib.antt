@@ -1,1 +1,3 @@
 pub mod Numbered
+pub mod Anywhere
+pub mod Parts

@@ -8,7 +8,7 @@ ghost use Rattle.dwp_dwarf.specs.Attributes.{entry_of};
 ghost use Rattle.dwp_dwarf.specs.Numbers.{numbered_of};
 ghost use Rattle.thorin_identity.specs.Identity.{identity, identity_by, root_identity};
 ghost use Rattle.thorin_identity.specs.Identity.{entry_identity, first_identifier, is_unit_tag};
-ghost use Rattle.thorin_identity.specs.Identity.{numbered_identity};
+ghost use Rattle.thorin_identity.specs.Identity.{numbered_identity, part_from, with_offset};
 
 use dwp_dwarf::{
     AbbreviationCache, Abbreviations, EntryNumber, ReadError, Reader, RootEntry, UnitHeader,
@@ -67,6 +67,29 @@ pub fn dwo_identifier_remembering<R: Reader>(
     }
 }
 
+/// The same of a unit whose abbreviations stand in the part of that section from `start` on, which
+/// the unit's own offset is counted from, in bytes. All parts share what was read. Where `start` is
+/// past the section's end, the part is empty.
+///
+/// # Errors
+/// Those of `dwo_identifier_of_unit`, of the part.
+#[tactic(auto, unfolding(crate::specs::Identity::identity))]
+pub fn dwo_identifier_in_range<R: Reader>(
+    debug_abbrev: &mut AbbreviationCache<R>,
+    start: usize,
+    header: &UnitHeader<R>,
+) -> Result<Option<DwarfObject>, Error>
+    ensures meaning { Gives (λ name. name) result
+        (identity (part_from start (R.input debug_abbrev.old)) (unit_of R.input header.now)) }
+    ensures memory { IfErr result (λ e. e ≢ Error.Memory) }
+    ensures kept { debug_abbrev.new ≡ debug_abbrev.old }
+{
+    match header.unit_type() {
+        UnitType::Compilation => root_identifier_in_range(debug_abbrev, start, header),
+        unit_type => Ok(header_identifier(unit_type)),
+    }
+}
+
 /// The identifier that a unit of this type has in its header.
 fn header_identifier(unit_type: UnitType) -> Option<DwarfObject>
     ensures { unit_type ≢ UnitType.Compilation → (section : Input) → (unit : Unit)
@@ -104,7 +127,6 @@ fn root_identifier<R: Reader>(
 }
 
 /// The same by what is remembered.
-#[tactic(auto, unfolding(crate::specs::Identity::root_identity))]
 fn root_identifier_remembering<R: Reader>(
     debug_abbrev: &mut AbbreviationCache<R>,
     header: &UnitHeader<R>,
@@ -114,7 +136,39 @@ fn root_identifier_remembering<R: Reader>(
     ensures memory { IfErr result (λ e. e ≢ Error.Memory) }
     ensures kept { debug_abbrev.new ≡ debug_abbrev.old }
 {
-    let offset = header.abbrev_offset();
+    root_identifier_at(debug_abbrev, header.abbrev_offset(), header)
+}
+
+/// The same in the part of the section from `start` on.
+fn root_identifier_in_range<R: Reader>(
+    debug_abbrev: &mut AbbreviationCache<R>,
+    start: usize,
+    header: &UnitHeader<R>,
+) -> Result<Option<DwarfObject>, Error>
+    ensures meaning { Gives (λ name. name) result
+        (root_identity (part_from start (R.input debug_abbrev.old)) (unit_of R.input header.now)) }
+    ensures memory { IfErr result (λ e. e ≢ Error.Memory) }
+    ensures kept { debug_abbrev.new ≡ debug_abbrev.old }
+{
+    let start = start.min(debug_abbrev.section().len()) as u64;
+    let Some(offset) = start.checked_add(header.abbrev_offset()) else {
+        return Err(Error::ParseUnitAbbreviations(ReadError::OffsetOutOfRange));
+    };
+    root_identifier_at(debug_abbrev, offset, header)
+}
+
+/// The same of a unit whose abbreviations stand at that offset of the section, not at its own.
+#[tactic(auto, unfolding(crate::specs::Identity::root_identity))]
+fn root_identifier_at<R: Reader>(
+    debug_abbrev: &mut AbbreviationCache<R>,
+    offset: u64,
+    header: &UnitHeader<R>,
+) -> Result<Option<DwarfObject>, Error>
+    ensures meaning { Gives (λ name. name) result (root_identity (R.input debug_abbrev.old)
+        (with_offset offset (unit_of R.input header.now))) }
+    ensures memory { IfErr result (λ e. e ≢ Error.Memory) }
+    ensures kept { debug_abbrev.new ≡ debug_abbrev.old }
+{
     let _table = Abbreviations::new(debug_abbrev.section(), offset).map_err(
         Error::ParseUnitAbbreviations,
     )?;

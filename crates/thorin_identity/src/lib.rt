@@ -4,4 +4,4 @@
 
 mod identity;
 
-pub use identity::{dwo_identifier_of_unit, dwo_identifier_remembering};
+pub use identity::{dwo_identifier_in_range, dwo_identifier_of_unit, dwo_identifier_remembering};

@@ -2,3 +2,4 @@ pub mod Sections
 pub mod Walking
 pub mod Growth
 pub mod PartLemmas
+pub mod Ends

@@ -4,14 +4,14 @@ use Rattle.dwp_dwarf.specs.Numbers.{numbered_at, numbered_of}
 use Rattle.dwp_dwarf.specs.Offsets.{from_at}
 use Rattle.dwp_dwarf.specs.Units.{unit_of}
 use Rattle.thorin_faults.specs.Answers.{Gives}
-use Rattle.thorin_identity.specs.Identity.{DW_AT_GNU_dwo_id}
+use Rattle.thorin_identity.specs.Identity.{DW_AT_GNU_dwo_id, with_offset}
 use Rattle.thorin_identity.proofs.Numbered.{root_is}
-use Rattle.thorin_identity.proofs.identity.root_identifier_remembering.Goals as goal
+use Rattle.thorin_identity.proofs.identity.root_identifier_at.Goals as goal
 
 pub returns-clause-meaning : goal.returns-clause-meaning
 returns-clause-meaning g c =
     let input = g.R.Reader.input in
-    let unit = unit_of input c.args.header.now in
+    let unit = with_offset c.args.offset (unit_of input c.args.header.now) in
     let section = input c.args.debug_abbrev.now in
     let table = input c.in_ok-_table._table.table in
     let values = input c.in_ok-code.values in
