@@ -1,5 +1,5 @@
 -- Codes keep their numbers, and no two have one.
-use Rattle.std.proofs.Common.{◌≡◌, ◌≢◌, ℕ, ◌+◌, ◌<◌, ◌≤◌, List, [], Bool, true, false, Option, Some}
+use Rattle.std.proofs.Common.{◌≡◌, ◌≢◌, ℕ, ◌+◌, ◌<◌, ◌≤◌, List, [], true, false, Option, Some}
 use Rattle.std.proofs.Common.{None, eqb, refl, ap, sym, subst, ◌∙◌, eq-eqb, arith}
 use Rattle.std.specs.Option.{IfSome}
 use Rattle.std.specs.Map.{lookup}

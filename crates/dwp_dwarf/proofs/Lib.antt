@@ -13,3 +13,4 @@ pub mod NewVersions
 pub mod Places
 pub mod PlaceLists
 pub mod Numbers
+pub mod SplitNames

@@ -1,18 +1,22 @@
--- Attributes whose values have no bytes have no number, and leave an entry's bytes as they are.
+-- Attributes whose values have no bytes have no number and name no place, and leave an entry's bytes as they are.
 use Rattle.std.proofs.Common.{◌≡◌, ℕ, zero, suc, ◌-◌, true, false, List, [], ◌∷◌, length}
-use Rattle.std.proofs.Common.{filter, Result, Ok, Err, Option, Some, None, eqb}
+use Rattle.std.proofs.Common.{Bool, Result, Ok, Err, Option, Some, None, eqb}
 use Rattle.std.proofs.Common.{refl, ap, sym, subst, ◌∙◌, arith}
+use Rattle.std.specs.Prelude.{◌||◌}
 use Rattle.std.proofs.lemmas.Bool.{eqb-true, le-ltb}
 use Rattle.std.proofs.Math.Nat.{sub_self}
 use Rattle.dwp_bytes.specs.Input.{Input, front, skip_at, split_at}
 use Rattle.dwp_bytes.specs.declared.encoding.Encoding.{Encoding}
+use Rattle.dwp_bytes.specs.declared.encoding.Format.{Format}
 use Rattle.dwp_bytes.specs.declared.fault.ReadError.{ReadError}
 use Rattle.dwp_dwarf.specs.declared.form.Layout.TheVariants.{Fixed}
 use Rattle.dwp_dwarf.specs.Abbreviations.{Specification}
 use Rattle.dwp_dwarf.specs.Forms.{layout_of, past_value, value_at, named_within}
 use Rattle.dwp_dwarf.specs.Forms.{named_form_at}
-use Rattle.dwp_dwarf.specs.Entries.{DebugAttribute, attribute_at, attributes, number_of}
+use Rattle.dwp_dwarf.specs.Entries.{DebugAttribute, attribute_at, attributes, number_of, place_of}
 use Rattle.dwp_dwarf.specs.Units.{listed}
+use Rattle.dwp_dwarf.specs.Needed.{is_needed, met, needed}
+use Rattle.dwp_dwarf.specs.declared.needed.UnmetNames.{UnmetNames}
 use Rattle.dwp_dwarf.specs.Numbers.{named_number, number_or, first_number, has_bytes}
 use Rattle.dwp_dwarf.proofs.Grammar.{by_bool}
 use Rattle.dwp_dwarf.proofs.Values.{after-zero}
@@ -38,8 +42,8 @@ value_empty encoding form i is = rw (is, none_passed i, none_split i) refl
 
 -- ---- an attribute whose value has no bytes
 
--- what such an attribute is, and that it has no number
-record IsEmpty (encoding : Encoding) (s : Specification) (i : Input) : Type 0 where
+-- what such an attribute is, and that it has no number and names no place
+pub record IsEmpty (encoding : Encoding) (s : Specification) (i : Input) : Type 0 where
   pub read : attribute_at encoding s i ≡ Ok (
     record {
       name = s.name;
@@ -49,6 +53,11 @@ record IsEmpty (encoding : Encoding) (s : Specification) (i : Input) : Type 0 wh
     i,
   )
   pub numberless : number_of (record {
+    name = s.name;
+    form = s.form;
+    value = front 0 i;
+  }) ≡ None
+  pub placeless : (format : Format) → place_of format (record {
     name = s.name;
     form = s.form;
     value = front 0 i;
@@ -66,21 +75,23 @@ constant_named (suc n) i = refl
 
 present_empty : (encoding : Encoding) (name : ℕ) (i : Input)
     → IsEmpty encoding (record { name = name; form = 0x19 }) i
-unfolding attribute_at named_form_at number_of
+unfolding attribute_at named_form_at number_of place_of
 present_empty encoding name i = record {
   read = rw (present_named (length i.bytes) i, value_empty encoding 0x19 i refl) refl;
   numberless = refl;
+  placeless = λ format. refl;
 }
 
 constant_empty : (encoding : Encoding) (name : ℕ) (i : Input)
     → IsEmpty encoding (record { name = name; form = 0x21 }) i
-unfolding attribute_at named_form_at number_of
+unfolding attribute_at named_form_at number_of place_of
 constant_empty encoding name i = record {
   read = rw (constant_named (length i.bytes) i, value_empty encoding 0x21 i refl) refl;
   numberless = refl;
+  placeless = λ format. refl;
 }
 
-is_empty : (encoding : Encoding) (s : Specification) (i : Input) → has_bytes s ≡ false
+pub is_empty : (encoding : Encoding) (s : Specification) (i : Input) → has_bytes s ≡ false
     → IsEmpty encoding s i
 is_empty encoding s i none = by_bool (IsEmpty encoding s i) (eqb s.form 0x19)
     (λ present. subst (λ (form : ℕ). IsEmpty encoding (record { name = s.name; form = form }) i)
@@ -89,6 +100,10 @@ is_empty encoding s i none = by_bool (IsEmpty encoding s i) (eqb s.form 0x19)
     (λ constant. subst (λ (form : ℕ). IsEmpty encoding (record { name = s.name; form = form }) i)
     (sym (eqb-true _ _ constant)) (constant_empty encoding s.name i))
     (λ neither. let never : true ≡ false = sym (rw (other, neither) refl) ∙ none in absurd cc))
+
+pub or_left : (a b : Bool) → (a || b) ≡ false → a ≡ false
+or_left false b e = refl
+or_left true b e = absurd cc
 
 -- ---- the first number
 
@@ -105,17 +120,17 @@ with_read : (name : ℕ) (r : Result (DebugAttribute × Input) ReadError)
 with_read name (Ok x) f g same = ap (number_or (named_number name x.0)) (same x.1)
 with_read name (Err e) f g same = refl
 
--- it is among those whose values have bytes
-pub first_with_bytes : (name : ℕ) (encoding : Encoding) (ss : List Specification) (i : Input)
-    → first_number name (attributes encoding (filter has_bytes ss) i)
+-- it is among those that are needed
+pub first_needed : (name : ℕ) (encoding : Encoding) (unmet : UnmetNames) (ss : List Specification)
+    (i : Input) → first_number name (attributes encoding (needed unmet ss) i)
     ≡ first_number name (attributes encoding ss i)
-first_with_bytes name encoding [] i = refl
-first_with_bytes name encoding (s ∷ ss) i = by_bool
-    (first_number name (attributes encoding (filter has_bytes (s ∷ ss)) i)
-    ≡ first_number name (attributes encoding (s ∷ ss) i)) (has_bytes s)
+first_needed name encoding unmet [] i = refl
+first_needed name encoding unmet (s ∷ ss) i = by_bool
+    (first_number name (attributes encoding (needed unmet (s ∷ ss)) i)
+    ≡ first_number name (attributes encoding (s ∷ ss) i)) (is_needed unmet s)
     (λ some. rw some (with_read name (attribute_at encoding s i)
-    (attributes encoding (filter has_bytes ss)) (attributes encoding ss)
-    (first_with_bytes name encoding ss)))
-    (λ none. let empty = is_empty encoding s i none in
-    rw (none, empty.read) (first_with_bytes name encoding ss i
+    (attributes encoding (needed (met unmet s.name) ss)) (attributes encoding ss)
+    (first_needed name encoding (met unmet s.name) ss)))
+    (λ none. let empty = is_empty encoding s i (or_left _ _ none) in
+    rw (none, empty.read) (first_needed name encoding unmet ss i
     ∙ sym (numberless_or name _ _ empty.numberless)))

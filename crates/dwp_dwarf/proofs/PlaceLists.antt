@@ -9,7 +9,6 @@ use Rattle.std.specs.BTreeMap.{BTreeMap, get, is_at}
 use Rattle.std.specs.declared.alloc.Global.{Global}
 use Rattle.std.proofs.lemmas.Bool.{eqb-true}
 use Rattle.dwp_bytes.specs.Input.{Input}
-use Rattle.dwp_bytes.specs.declared.fault.ReadError.{ReadError}
 use Rattle.dwp_dwarf.specs.Abbreviations.{Specification, Declaration, declaration, code_at, tag_at}
 use Rattle.dwp_dwarf.specs.Abbreviations.{children_at, declaration_at, specifications_at, pairs_in}
 use Rattle.dwp_dwarf.specs.Abbreviations.{past_specifications}

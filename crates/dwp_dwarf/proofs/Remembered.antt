@@ -19,7 +19,7 @@ use Rattle.dwp_dwarf.specs.Abbreviations.{Declaration, declaration}
 use Rattle.dwp_dwarf.specs.Declarations.{declaration_of}
 use Rattle.dwp_dwarf.specs.Grammar.{next_at}
 use Rattle.dwp_dwarf.specs.Offsets.{from_at}
-use Rattle.dwp_dwarf.specs.Remembered.{known_or, remembered, ListsBytes, HasLists, RemembersTable}
+use Rattle.dwp_dwarf.specs.Remembered.{known_or, remembered, ListsNeeded, HasLists, RemembersTable}
 use Rattle.dwp_dwarf.specs.Remembered.{RemembersTables}
 use Rattle.dwp_dwarf.specs.declared.abbrev.AttributeSpecification.{AttributeSpecification}
 use Rattle.dwp_dwarf.specs.declared.abbrev.Abbreviation.{Abbreviation}
@@ -55,16 +55,16 @@ one_table r i j p q = cc
 
 -- lists with one more, of a code that had none
 pub one_more_list : (code : ℕ) (table : Input) (old new : BTreeMap ℕ (Vec AttributeSpecification
-    Global)) (list : Vec AttributeSpecification Global) → HasLists table old → ListsBytes code table
+    Global)) (list : Vec AttributeSpecification Global) → HasLists table old → ListsNeeded code table
     list → get nat_cmp new code ≡ Some list
     → ((q : ℕ) → q ≢ code → get nat_cmp new q ≡ get nat_cmp old q) → HasLists table new
 one_more_list code table old new list has is here others other =
-    by_bool (IfSome (get nat_cmp new other) (ListsBytes other table)) (eqb code other)
-    (λ e. subst (λ (c : ℕ). IfSome (get nat_cmp new c) (ListsBytes c table)) (eqb-true _ _ e)
-    (subst (λ (o : Option (Vec AttributeSpecification Global)). IfSome o (ListsBytes code table))
+    by_bool (IfSome (get nat_cmp new other) (ListsNeeded other table)) (eqb code other)
+    (λ e. subst (λ (c : ℕ). IfSome (get nat_cmp new c) (ListsNeeded c table)) (eqb-true _ _ e)
+    (subst (λ (o : Option (Vec AttributeSpecification Global)). IfSome o (ListsNeeded code table))
     (sym here) is))
     (λ apart. subst (λ (o : Option (Vec AttributeSpecification Global)).
-    IfSome o (ListsBytes other table)) (sym (others other (λ e.
+    IfSome o (ListsNeeded other table)) (sym (others other (λ e.
     let never : true ≡ false = sym (eq-eqb code other (sym e)) ∙ apart in absurd cc))) (has other))
 
 abbrev Said : Type 0
@@ -105,7 +105,7 @@ module _ {R : Type 0} (input : R → Input) where
         known_or input (lookup (is_at (nat_cmp code)) es) (declaration code (input read.rest)))
         empty;
     lists = λ code. subst (λ (es : List (ℕ × Vec AttributeSpecification Global)).
-        IfSome (lookup (is_at (nat_cmp code)) es) (ListsBytes code (input read.rest)))
+        IfSome (lookup (is_at (nat_cmp code)) es) (ListsNeeded code (input read.rest)))
         (sym unlisted) tt;
   }
 

@@ -1,7 +1,7 @@
 -- Tables of abbreviations (DWARF 5, 7.5.3) that overlap: what tables say that go on at a place of
 -- the section is remembered by the place. From a declaration on they all go on alike.
 use Rattle.std.specs.Prelude.{◌≡◌, ◌≤◌, ◌-◌, ℕ, List, length, Option, Some, None, Result, Ok, Err}
-use Rattle.std.specs.Prelude.{IfSome, Vec, map, filter}
+use Rattle.std.specs.Prelude.{IfSome, Vec, map}
 use Rattle.std.specs.declared.alloc.Global.{Global}
 use Rattle.std.specs.Ordering.{nat_cmp}
 use Rattle.std.specs.BTreeMap.{BTreeMap, get}
@@ -11,7 +11,7 @@ use Rattle.dwp_dwarf.specs.Abbreviations.{Declaration, declaration}
 use Rattle.dwp_dwarf.specs.Codes.{Numbered}
 use Rattle.dwp_dwarf.specs.Declarations.{specification_of}
 use Rattle.dwp_dwarf.specs.Grammar.{next_at}
-use Rattle.dwp_dwarf.specs.Numbers.{has_bytes}
+use Rattle.dwp_dwarf.specs.Needed.{none_met, needed}
 use Rattle.dwp_dwarf.specs.Offsets.{from_at}
 use Rattle.dwp_dwarf.specs.Versions.{value_in}
 use Rattle.dwp_dwarf.specs.declared.abbrev.AttributeSpecification.{AttributeSpecification}
@@ -76,12 +76,12 @@ pub record RemembersPlaces (section : Input) (chains : Chains) : Type 0 where
   pub each : (left : ℕ) → IfSome (get nat_cmp chains.places left)
       (RemembersPlace section chains.codes chains.firsts.nodes.items left)
 
--- a list of those attributes of the declaration at a place whose values have bytes
+-- a list of the attributes that are needed of the declaration at a place
 pub record ListedAt (section : Input) (left : ℕ) (list : Vec AttributeSpecification Global) : Type 0
   where
     pub declared : Declaration
     pub stands : StandsAt section left declared
-    pub listed : map specification_of list.items ≡ filter has_bytes declared.specifications
+    pub listed : map specification_of list.items ≡ needed none_met declared.specifications
 
 -- each list is such a list of its place
 abbrev pub ListsPlaces : Input → BTreeMap ℕ (Vec AttributeSpecification Global) → Type 0

@@ -1,5 +1,4 @@
--- Codes of abbreviations (DWARF 5, 7.5.3) that are numbered from 0, in the order in which they were
--- met.
+-- Codes of abbreviations (DWARF 5, 7.5.3) and their numbers, each below a count and of one code.
 use Rattle.std.specs.Prelude.{◌≡◌, ◌<◌, ◌≤◌, ℕ, Option, Some, None, IfSome}
 use Rattle.std.specs.Ordering.{nat_cmp}
 use Rattle.std.specs.BTreeMap.{get}

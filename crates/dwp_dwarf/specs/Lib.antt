@@ -6,10 +6,12 @@ pub mod Declarations
 pub mod Entries
 pub mod Forms
 pub mod Grammar
+pub mod Needed
 pub mod Numbers
 pub mod Offsets
 pub mod Remembered
 pub mod Sections
+pub mod Split
 pub mod Strings
 pub mod Units
 pub mod Values

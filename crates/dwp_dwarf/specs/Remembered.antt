@@ -1,6 +1,6 @@
 -- Tables of abbreviations that are read once: what was read of each is remembered by code, beside
 -- what is left of it.
-use Rattle.std.specs.Prelude.{◌≡◌, ℕ, map, filter, Option, Some, None, Result, Ok, IfSome, Vec}
+use Rattle.std.specs.Prelude.{◌≡◌, ℕ, map, Option, Some, None, Result, Ok, IfSome, Vec}
 use Rattle.std.specs.declared.alloc.Global.{Global}
 use Rattle.std.specs.Ordering.{nat_cmp}
 use Rattle.std.specs.BTreeMap.{BTreeMap, get}
@@ -8,7 +8,7 @@ use Rattle.dwp_bytes.specs.Input.{Input}
 use Rattle.dwp_bytes.specs.declared.fault.ReadError.{ReadError}
 use Rattle.dwp_dwarf.specs.Abbreviations.{Declaration, declaration}
 use Rattle.dwp_dwarf.specs.Declarations.{specification_of, declaration_of}
-use Rattle.dwp_dwarf.specs.Numbers.{has_bytes}
+use Rattle.dwp_dwarf.specs.Needed.{none_met, needed}
 use Rattle.dwp_dwarf.specs.Offsets.{from_at}
 use Rattle.dwp_dwarf.specs.declared.abbrev.Abbreviation.{Abbreviation}
 use Rattle.dwp_dwarf.specs.declared.abbrev.AttributeSpecification.{AttributeSpecification}
@@ -25,16 +25,16 @@ abbrev pub remembered : {R : Type 0} → (R → Input) → BTreeMap ℕ (Abbrevi
     → Result (Option Declaration) ReadError
 remembered input known rest code = known_or input (get nat_cmp known code) (declaration code rest)
 
--- a list of those attributes of a table's declaration of a code whose values have bytes
-pub record ListsBytes (code : ℕ) (table : Input)
+-- a list of the attributes that are needed of a table's declaration of a code
+pub record ListsNeeded (code : ℕ) (table : Input)
     (list : Vec AttributeSpecification Global) : Type 0 where
   pub declared : Declaration
   pub is : declaration code table ≡ Ok (Some declared)
-  pub listed : map specification_of list.items ≡ filter has_bytes declared.specifications
+  pub listed : map specification_of list.items ≡ needed none_met declared.specifications
 
 -- each list is such a list of its code
 abbrev pub HasLists : Input → BTreeMap ℕ (Vec AttributeSpecification Global) → Type 0
-HasLists table lists = (code : ℕ) → IfSome (get nat_cmp lists code) (ListsBytes code table)
+HasLists table lists = (code : ℕ) → IfSome (get nat_cmp lists code) (ListsNeeded code table)
 
 -- what is remembered and the rest say of each code what the table at an offset of the section says
 pub record RemembersTable {R : Type 0} (input : R → Input) (section : Input) (offset : ℕ)

@@ -1,6 +1,6 @@
 //! Abbreviations that are remembered (DWARF 5, 7.5.3).
 
-ghost use Rattle.std.specs.Prelude.{◌≡◌, ◌≢◌, ℕ, [], Ok, Err, Some, None, true, false, option_map};
+ghost use Rattle.std.specs.Prelude.{◌≡◌, ◌≢◌, ℕ, [], Result, Ok, Err, Some, None, true, false, option_map};
 ghost use Rattle.std.specs.Ordering.{nat_cmp};
 ghost use Rattle.std.specs.BTreeMap.{get};
 ghost use Rattle.dwp_base.specs.Reading.{Answers};
@@ -14,14 +14,18 @@ ghost use Rattle.dwp_dwarf.specs.Numbers.{first_number, numbered_at, numbered_of
 ghost use Rattle.dwp_dwarf.specs.Offsets.{from_at};
 ghost use Rattle.dwp_dwarf.specs.Remembered.{next_of, remembered, HasLists, RemembersTable};
 ghost use Rattle.dwp_dwarf.specs.Remembered.{RemembersTables};
+ghost use Rattle.dwp_dwarf.specs.Split as spec;
+ghost use Rattle.dwp_dwarf.specs.Split.{attributes_of, some_split, split_at, split_in};
 
 use crate::abbrev::{
     Abbreviation, Abbreviations, AttributeSpecification, SPECIFICATION_SIZE, read_code,
     read_declaration,
 };
-use crate::number::{list_with_bytes, number_listed, number_read};
+use crate::needed::list_needed;
+use crate::number::{number_listed, number_read};
 use crate::offset::from_offset;
 use crate::seen::SeenTables;
+use crate::split::{SplitAttributes, split_listed, split_read};
 use dwp_bytes::laws::lebs_take_bytes;
 use dwp_bytes::{Encoding, ReadError, Reader};
 use std::alloc::Global;
@@ -69,7 +73,7 @@ pub(crate) struct ReadTable<R: Reader> {
     pub(crate) known: BTreeMap<u64, Abbreviation<R>>,
     // What is left of the table.
     pub(crate) rest: R,
-    // Of some of its codes those attributes whose values have bytes.
+    // Of some of its codes the attributes that are needed.
     pub(crate) lists: BTreeMap<u64, Vec<AttributeSpecification>>,
     // How many attributes are listed.
     pub(crate) listed: usize,
@@ -169,9 +173,11 @@ impl<R: Reader> AbbreviationCache<R> {
     /// number of its first attribute of a name whose form is data1, data2, data4, data8 or udata;
     /// None where the table doesn't have the code.
     ///
-    /// Once the code's declaration is remembered, its attributes whose values have no bytes are
-    /// passed over: an entry then costs no more than its bytes. Tables that overlap share what is
-    /// listed of a declaration, up to an attribute for two bytes of the section.
+    /// Once the code's declaration is remembered, its attributes are listed, where there is memory
+    /// for it, but for those whose values have no bytes; of each of the three names that `split_in`
+    /// asks for the first is listed anyway. So of such an entry no more attributes are read than it
+    /// has bytes, and three. Tables that overlap share the lists, until these have an attribute for
+    /// two bytes of the section.
     ///
     /// # Errors
     /// Those of `get`.
@@ -215,6 +221,55 @@ impl<R: Reader> AbbreviationCache<R> {
             number,
         }))
     }
+
+    /// The attributes that name the split object of the entry of a code in the table at that offset,
+    /// whose values stand there; None where the table doesn't have the code. They cost as those of
+    /// `number_in`.
+    ///
+    /// # Errors
+    /// Those of `get`; `UnknownForm`, `BigLeb`, `UnexpectedEof` or `NoTerminator` for the first of
+    /// all attributes of the entry that can't be read.
+    pub fn split_in(
+        &mut self,
+        offset: u64,
+        code: u64,
+        encoding: Encoding,
+        values: R,
+    ) -> Result<Option<SplitAttributes<R>>, ReadError>
+        ensures split { (table : Input) → from_at offset (R.input self.old) ≡ Ok table → Answers
+            (option_map (attributes_of R.input)) result
+            (split_at encoding (R.input values) code table) }
+        ensures outside { (e : ReadError) → from_at offset (R.input self.old) ≡ Err e
+            → result ≡ Err e }
+        ensures kept { self.new ≡ self.old }
+    {
+        let is_known = self.tables.knows(offset, code);
+        let Some(abbreviation) = self.get(offset, code)? else {
+            return Ok(None);
+        };
+        let first = self.seen.first_of(self.section, offset, code);
+        let split = if let Some(first) = first {
+            let chains = &mut self.seen.chains;
+            chains.split(first, abbreviation, encoding, values)
+        } else if is_known && self.tables.is_at_hand(offset) {
+            let at_hand = &mut self.tables.at_hand;
+            at_hand.split(self.tables.alloc, code, abbreviation, encoding, values)
+        } else {
+            split_read(abbreviation.entry(encoding, values), encoding.format)
+        };
+        found_split(split)
+    }
+}
+
+/// The same of an entry whose code the table has.
+fn found_split<R: Reader>(
+    split: Result<SplitAttributes<R>, ReadError>,
+) -> Result<Option<SplitAttributes<R>>, ReadError>
+    ensures { (read : Result spec.SplitAttributes ReadError)
+        → Answers (attributes_of R.input) split read
+        → Answers (option_map (attributes_of R.input)) result (some_split read) }
+{
+    Ok(Some(split?))
 }
 
 impl<R: Reader> ReadTables<R> {
@@ -309,8 +364,8 @@ impl<R: Reader> ReadTable<R> {
         }
     }
 
-    /// Lists those attributes of the declaration of a code whose values have bytes, where there is
-    /// memory for it.
+    /// Lists the attributes that are needed of the declaration of a code, where there is memory for
+    /// it.
     fn list(&mut self, alloc: Global, code: u64, abbreviation: Abbreviation<R>)
         ensures lists { (table : Input)
             → declaration code table ≡ Ok (Some (declaration_of R.input abbreviation))
@@ -321,7 +376,7 @@ impl<R: Reader> ReadTable<R> {
         if self.lists.contains_key(&code) {
             return;
         }
-        if let Some(list) = list_with_bytes(alloc, abbreviation.specifications) {
+        if let Some(list) = list_needed(alloc, abbreviation.specifications) {
             let length = list.len();
             if self.lists.insert(code, list).is_ok() {
                 self.listed = self.listed.saturating_add(length);
@@ -354,6 +409,34 @@ impl<R: Reader> ReadTable<R> {
         match self.lists.get(&code) {
             Some(list) => number_listed(list, encoding, values, name),
             None => number_read(abbreviation.entry(encoding, values), name),
+        }
+    }
+
+    /// What names the split object of the entry of that declaration of the code, whose values stand
+    /// there.
+    fn split(
+        &mut self,
+        alloc: Global,
+        code: u64,
+        abbreviation: Abbreviation<R>,
+        encoding: Encoding,
+        values: R,
+    ) -> Result<SplitAttributes<R>, ReadError>
+        ensures split { (table : Input)
+            → declaration code table ≡ Ok (Some (declaration_of R.input abbreviation))
+            → HasLists table self.old.lists → Answers (attributes_of R.input) result
+            (split_in encoding.format (entry encoding (declaration_of R.input abbreviation)
+            (R.input values)).attributes) }
+        ensures lists { (table : Input)
+            → declaration code table ≡ Ok (Some (declaration_of R.input abbreviation))
+            → HasLists table self.old.lists → HasLists table self.new.lists }
+        ensures known { self.new.known ≡ self.old.known }
+        ensures rest { self.new.rest ≡ self.old.rest }
+    {
+        self.list(alloc, code, abbreviation);
+        match self.lists.get(&code) {
+            Some(list) => split_listed(list, encoding, values),
+            None => split_read(abbreviation.entry(encoding, values), encoding.format),
         }
     }
 }

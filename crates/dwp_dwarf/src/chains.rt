@@ -16,13 +16,16 @@ ghost use Rattle.dwp_dwarf.specs.Declarations.{declaration_of, found_of};
 ghost use Rattle.dwp_dwarf.specs.Entries.{entry};
 ghost use Rattle.dwp_dwarf.specs.Numbers.{first_number};
 ghost use Rattle.dwp_dwarf.specs.Offsets.{from_at};
+ghost use Rattle.dwp_dwarf.specs.Split.{attributes_of, split_in};
 ghost use Rattle.dwp_dwarf.specs.Versions.{Grows};
 
 use crate::abbrev::{Abbreviation, AttributeSpecification, SPECIFICATION_SIZE, known_declaration};
 use crate::cache::next_declaration;
 use crate::codes::Codes;
-use crate::number::{list_with_bytes, number_listed, number_read};
+use crate::needed::list_needed;
+use crate::number::{number_listed, number_read};
 use crate::offset::from_offset;
+use crate::split::{SplitAttributes, split_listed, split_read};
 use crate::versions::Versions;
 use dwp_bytes::laws::lebs_take_bytes;
 use dwp_bytes::{Encoding, ReadError, Reader};
@@ -38,8 +41,9 @@ pub(crate) struct Place {
     pub(crate) fault: Option<ReadError>,
 }
 
-/// How many nodes the versions have at most for each byte of the section. A declaration takes about
-/// as many as the number of codes has bits, so declarations one after the other take fewer.
+/// Once the versions have so many nodes for each byte of the section, none are added. A declaration
+/// takes as many as the number behind its code's number has bits: 20 where there are a million
+/// codes, for at least 5 bytes.
 const NODES_FOR_A_BYTE: usize = 4;
 
 /// What tables say that go on at places of a section: where they meet they go on alike, so each
@@ -52,9 +56,9 @@ pub(crate) struct Chains {
     pub(crate) codes: Codes,
     // By the numbers of codes.
     pub(crate) firsts: Versions,
-    // Of the declarations at some places those attributes whose values have bytes.
+    // Of the declarations at some places the attributes that are needed.
     pub(crate) lists: BTreeMap<u64, Vec<AttributeSpecification>>,
-    // How many attributes are listed.
+    // How many attributes are listed, and one for each list.
     listed: usize,
 }
 
@@ -145,8 +149,33 @@ impl Chains {
         }
     }
 
-    /// Lists those attributes of the declaration at a place whose values have bytes, where there is
-    /// memory for it.
+    /// What names the split object of the entry of the declaration at a place, whose values stand
+    /// there.
+    pub(crate) fn split<R: Reader>(
+        &mut self,
+        first: u64,
+        abbreviation: Abbreviation<R>,
+        encoding: Encoding,
+        values: R,
+    ) -> Result<SplitAttributes<R>, ReadError>
+        ensures split { (section : Input)
+            → StandsAt section first (declaration_of R.input abbreviation)
+            → RemembersChains section self.old → Answers (attributes_of R.input) result
+            (split_in encoding.format (entry encoding (declaration_of R.input abbreviation)
+            (R.input values)).attributes) }
+        ensures kept { (section : Input)
+            → StandsAt section first (declaration_of R.input abbreviation)
+            → RemembersChains section self.old → RemembersChains section self.new }
+    {
+        self.list(first, abbreviation);
+        match self.lists.get(&first) {
+            Some(list) => split_listed(list, encoding, values),
+            None => split_read(abbreviation.entry(encoding, values), encoding.format),
+        }
+    }
+
+    /// Lists the attributes that are needed of the declaration at a place, where there is memory for
+    /// it.
     fn list<R: Reader>(&mut self, first: u64, abbreviation: Abbreviation<R>)
         ensures lists { (section : Input)
             → StandsAt section first (declaration_of R.input abbreviation)
@@ -158,7 +187,7 @@ impl Chains {
         if self.lists.contains_key(&first) {
             return;
         }
-        if let Some(list) = list_with_bytes(self.alloc, abbreviation.specifications) {
+        if let Some(list) = list_needed(self.alloc, abbreviation.specifications) {
             let length = list.len();
             if self.lists.insert(first, list).is_ok() {
                 self.listed = self.listed.saturating_add(length).saturating_add(1);

@@ -8,7 +8,7 @@ ghost use Rattle.dwp_dwarf.specs.Codes.{Numbered, GrowsCodes};
 use std::alloc::Global;
 use std::collections::BTreeMap;
 
-/// Codes, numbered from 0 in the order in which they were met.
+/// Codes and their numbers: each new code gets the next number, from 0 on.
 #[derive(Drop)]
 pub(crate) struct Codes {
     pub(crate) numbers: BTreeMap<u64, u32>,

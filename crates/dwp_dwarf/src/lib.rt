@@ -9,9 +9,11 @@ mod codes;
 mod entry;
 mod form;
 pub mod laws;
+mod needed;
 mod number;
 mod offset;
 mod seen;
+mod split;
 mod strings;
 mod unit;
 mod value;
@@ -25,5 +27,6 @@ pub use dwp_bytes::{
     WriteError, string_at,
 };
 pub use entry::{Attribute, Attributes, RootEntry, root};
+pub use split::SplitAttributes;
 pub use strings::{StringSections, attr_string};
 pub use unit::{UnitHeader, UnitHeaders, UnitSection, UnitType};

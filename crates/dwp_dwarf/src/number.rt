@@ -1,44 +1,14 @@
 //! The number of an attribute of an entry (DWARF 5, 7.5.5).
 
-ghost use Rattle.std.specs.Prelude.{◌≡◌, map, filter, IfSome};
-ghost use Rattle.dwp_base.specs.Reading.{Answers};
-ghost use Rattle.dwp_dwarf.specs.Abbreviations.{pairs_in};
+ghost use Rattle.std.specs.Prelude.{◌≡◌, map};
 ghost use Rattle.dwp_dwarf.specs.Attributes.{entry_of};
 ghost use Rattle.dwp_dwarf.specs.Declarations.{specification_of};
 ghost use Rattle.dwp_dwarf.specs.Entries.{attributes};
-ghost use Rattle.dwp_dwarf.specs.Numbers.{first_number, has_bytes};
+ghost use Rattle.dwp_dwarf.specs.Numbers.{first_number};
 
 use crate::abbrev::AttributeSpecification;
-use crate::entry::{RootEntry, next_specification, read_attribute};
-use crate::form::{FLAG_PRESENT, IMPLICIT_CONST};
+use crate::entry::{RootEntry, read_attribute};
 use dwp_bytes::{Encoding, ReadError, Reader};
-use std::alloc::Global;
-
-impl AttributeSpecification {
-    /// Whether the attribute's value has bytes in an entry.
-    fn has_bytes(&self) -> bool
-        ensures { result ≡ has_bytes (specification_of self.now) }
-    {
-        self.form != FLAG_PRESENT && self.form != IMPLICIT_CONST
-    }
-}
-
-/// Lists those attributes whose values have bytes. None where there is no memory for the list.
-pub(crate) fn list_with_bytes<R: Reader>(
-    alloc: Global,
-    mut specifications: R,
-) -> Option<Vec<AttributeSpecification>>
-    ensures { IfSome result (λ list. map specification_of list.items
-        ≡ filter has_bytes (pairs_in (R.input specifications))) }
-{
-    let mut list = Vec::new(alloc);
-    while let Some(specification) = next_specification(&mut specifications) {
-        if specification.has_bytes() {
-            list.push(specification).ok()?;
-        }
-    }
-    Some(list)
-}
 
 /// The first number of an attribute of a name in an entry, up to the first fault.
 pub(crate) fn number_read<R: Reader>(

@@ -11,9 +11,9 @@ use std::alloc::Global;
 pub(crate) struct Node {
     // 0 where there is none.
     pub(crate) value: u32,
-    // The version that has half of each even key.
+    // The version that has each even key but 0, as half of what is before it, rounded down.
     pub(crate) even: u32,
-    // The version that has half of each odd key.
+    // The version that has each odd key, as half of what is before it.
     pub(crate) odd: u32,
 }
 

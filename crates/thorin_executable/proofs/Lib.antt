@@ -1,5 +1,4 @@
 mod Texts
-mod Attributes
 mod Loads
 mod Finds
 mod NamedSteps

@@ -3,11 +3,11 @@ use Rattle.std.proofs.Common.{◌≡◌, ◌∙◌, ℕ, List, Option, Some, Non
 use Rattle.std.specs.Prelude.{IfSome, string_bytes}
 use Rattle.dwp_bytes.specs.declared.encoding.Format.{Format}
 use Rattle.dwp_dwarf.specs.Entries.{DebugAttribute}
+use Rattle.dwp_dwarf.specs.Split.{SplitAttributes}
 use Rattle.dwp_dwarf.specs.Strings.{Strings}
 use Rattle.thorin_faults.specs.Fault.{Fault}
 use Rattle.thorin_executable.specs.Paths.{base_of, object_path}
 use Rattle.thorin_executable.specs.Places.{IsStringAt, IsPathAt, IsKept, path_at}
-use Rattle.thorin_executable.specs.Roots.{SplitAttributes}
 use Rattle.thorin_executable.specs.declared.last.StringIndex.{StringIndex}
 use Rattle.thorin_executable.specs.declared.last.StringPlace.{StringPlace}
 use Rattle.thorin_executable.specs.declared.last.PathPlaces.{PathPlaces}

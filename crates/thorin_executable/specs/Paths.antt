@@ -11,10 +11,10 @@ use Rattle.dwp_bytes.specs.Input.{Input}
 use Rattle.dwp_bytes.specs.declared.encoding.Format.{Format}
 use Rattle.dwp_bytes.specs.declared.fault.ReadError.TheVariants.{BadUtf8}
 use Rattle.dwp_dwarf.specs.Entries.{DebugAttribute}
+use Rattle.dwp_dwarf.specs.Split.{SplitAttributes}
 use Rattle.dwp_dwarf.specs.Strings.{Strings, string_of}
 use Rattle.thorin_faults.specs.Fault.{Fault, GimliRead}
 use Rattle.thorin_faults.specs.Answers.{as_fault}
-use Rattle.thorin_executable.specs.Roots.{SplitAttributes}
 
 -- `/`
 abbrev pub slash : List ℕ

@@ -4,6 +4,7 @@ use Rattle.std.specs.Prelude.{ℕ, List, [], ◌∷◌, Option, Some, None, Resu
 use Rattle.dwp_base.specs.Reading.{◌>>=◌}
 use Rattle.dwp_bytes.specs.declared.fault.ReadError.{ReadError}
 use Rattle.dwp_dwarf.specs.Entries.{DebugAttribute}
+use Rattle.dwp_dwarf.specs.Split.{SplitAttributes, object_name}
 use Rattle.dwp_dwarf.specs.Units.{Unit, units}
 use Rattle.dwp_dwarf.specs.declared.unit.UnitSection.TheVariants.{Info}
 use Rattle.dwp_table.specs.declared.object.DwarfObject.{DwarfObject}
@@ -12,7 +13,7 @@ use Rattle.thorin_faults.specs.Fault.{Fault, MissingDwoName, ParseUnitHeader}
 use Rattle.thorin_faults.specs.Answers.{as_fault}
 use Rattle.thorin_identity.specs.Identity.{identity}
 use Rattle.thorin_executable.specs.Sections.{DebugData, debug_data_of}
-use Rattle.thorin_executable.specs.Roots.{SplitAttributes, root_attributes, object_name}
+use Rattle.thorin_executable.specs.Roots.{root_attributes}
 use Rattle.thorin_executable.specs.Paths.{object_path}
 use Rattle.thorin_executable.specs.declared.listing.NamelessUnits.{NamelessUnits}
 use Rattle.thorin_executable.specs.declared.listing.NamelessUnits.TheVariants.{Refused, PassedOver}

@@ -3,18 +3,15 @@ use Rattle.std.specs.Prelude.{◌≡◌, ℕ, IsTrue, List, [], ◌∷◌, lengt
 use Rattle.std.specs.Prelude.{Result, Ok}
 use Rattle.std.specs.Prelude.{Err, option_map, string_bytes}
 use Rattle.dwp_bytes.specs.Input.{Input}
-use Rattle.dwp_dwarf.specs.Attributes.{attribute_of}
 use Rattle.dwp_dwarf.specs.Sections.{strings_of}
 use Rattle.thorin_faults.specs.declared.fault.Error.{Error}
 use Rattle.thorin_faults.specs.Answers.{MemoryAside}
 use Rattle.thorin_faults.specs.Fault.{fault_of}
 use Rattle.thorin_executable.specs.declared.loading.DebugData.{DebugData as Data}
-use Rattle.thorin_executable.specs.declared.roots.SplitAttributes.{SplitAttributes as Attributes}
 use Rattle.thorin_executable.specs.declared.lending.NamedUnit.{NamedUnit}
 use Rattle.thorin_executable.specs.declared.listing.Skeleton.{Skeleton}
 use Rattle.thorin_executable.specs.declared.listing.SkeletonList.{SkeletonList}
 use Rattle.thorin_executable.specs.Sections.{DebugData}
-use Rattle.thorin_executable.specs.Roots.{SplitAttributes}
 use Rattle.thorin_executable.specs.Skeletons.{Named, Listed, NamedLeft}
 
 -- the sections of an executable, as readers show them
@@ -23,15 +20,6 @@ data_of input d = record {
   debug_abbrev = input d.debug_abbrev;
   debug_info = input d.debug_info;
   strings = strings_of input d.strings;
-}
-
--- attributes as they were read from an input
-abbrev pub attributes_of : {R : Type 0} → (R → Input) → Attributes R → SplitAttributes
-attributes_of input a = record {
-  dwo_name = option_map (attribute_of input) a.dwo_name;
-  gnu_dwo_name = option_map (attribute_of input) a.gnu_dwo_name;
-  comp_dir = option_map (attribute_of input) a.comp_dir;
-  str_offsets_base = a.str_offsets_base;
 }
 
 -- a split unit, and the path of its object

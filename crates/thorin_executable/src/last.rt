@@ -4,14 +4,13 @@ ghost use Rattle.std.specs.Prelude.{◌≡◌, [], None, Some, IsTrue, IfOk, IfS
 ghost use Rattle.std.specs.Prelude.{string_bytes};
 ghost use Rattle.dwp_dwarf.specs.Attributes.{attribute_of};
 ghost use Rattle.dwp_dwarf.specs.Sections.{strings_of};
+ghost use Rattle.dwp_dwarf.specs.Split.{attributes_of};
 ghost use Rattle.thorin_faults.specs.Answers.{Gives};
 ghost use Rattle.thorin_executable.specs.Paths as spec;
 ghost use Rattle.thorin_executable.specs.Places.{IsStringAt, IsPathAt, IsKept};
-ghost use Rattle.thorin_executable.specs.View.{attributes_of};
 
 use crate::paths::object_path;
-use crate::roots::SplitAttributes;
-use dwp_dwarf::{Attribute, Format, Reader, StringSections};
+use dwp_dwarf::{Attribute, Format, Reader, SplitAttributes, StringSections};
 use std::alloc::Global;
 use std::mem::replace;
 use thorin_faults::Error;

@@ -14,7 +14,7 @@ use crate::last::LastPath;
 use crate::lending::NamedUnit;
 use crate::loading::DebugData;
 use crate::reader::SectionReader;
-use crate::roots::SplitAttributes;
+use crate::roots::root_attributes;
 use dwp_dwarf::{
     AbbreviationCache, ReadError, Reader, RelocationEntry, UnitHeader, UnitHeaders, UnitSection,
 };
@@ -82,7 +82,7 @@ fn named_unit<R: Reader>(
     ensures path { IsPathAfter result (string_bytes last.old.text) (string_bytes last.new.text) }
     ensures last { IsKept (strings_of R.input debug.now.strings) last.new }
 {
-    let root = SplitAttributes::of_unit(abbreviations, header)?;
+    let root = root_attributes(abbreviations, header)?;
     let format = header.encoding().format;
     match root.object_name() {
         Some(name) => {

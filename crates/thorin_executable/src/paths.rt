@@ -3,12 +3,13 @@
 ghost use Rattle.std.specs.Prelude.{◌≡◌, option_map, string_bytes, IfOk};
 ghost use Rattle.dwp_dwarf.specs.Attributes.{attribute_of};
 ghost use Rattle.dwp_dwarf.specs.Sections.{strings_of};
+ghost use Rattle.dwp_dwarf.specs.Split.{attributes_of};
 ghost use Rattle.thorin_faults.specs.Answers.{Gives};
 ghost use Rattle.thorin_executable.specs.Paths as spec;
-ghost use Rattle.thorin_executable.specs.View.{attributes_of};
 
-use crate::roots::SplitAttributes;
-use dwp_dwarf::{Attribute, Format, ReadError, Reader, StringSections, attr_string};
+use dwp_dwarf::{
+    Attribute, Format, ReadError, Reader, SplitAttributes, StringSections, attr_string,
+};
 use std::alloc::{AllocError, Global};
 use thorin_faults::Error;
 

@@ -1,4 +1,4 @@
-use Rattle.std.proofs.Common.{◌≡◌, ℕ, ◌%◌, true, false, eqb, refl, ap, sym, ◌∙◌, eq-eqb}
+use Rattle.std.proofs.Common.{◌≡◌, ◌%◌, true, false, eqb, refl, sym, eq-eqb}
 use Rattle.std.proofs.lemmas.Bool.{ne_eqb}
 use Rattle.dwp_dwarf.specs.Versions.{copy_of}
 use Rattle.dwp_dwarf.specs.declared.versions.Node.{Node}

@@ -1,4 +1,4 @@
-use Rattle.std.proofs.Common.{◌≡◌, List, map, filter, Option, Some, Vec, ap, sym, subst, ◌∙◌}
+use Rattle.std.proofs.Common.{◌≡◌, List, map, Option, Some, Vec, ap, sym, subst, ◌∙◌}
 use Rattle.std.specs.Option.{IfSome}
 use Rattle.std.specs.Ordering.{nat_cmp}
 use Rattle.std.specs.BTreeMap.{get}
@@ -7,9 +7,10 @@ use Rattle.dwp_dwarf.specs.Abbreviations.{Declaration, Specification}
 use Rattle.dwp_dwarf.specs.Chains.{ListedAt}
 use Rattle.dwp_dwarf.specs.Declarations.{specification_of, declaration_of}
 use Rattle.dwp_dwarf.specs.Entries.{attributes}
-use Rattle.dwp_dwarf.specs.Numbers.{first_number, has_bytes}
+use Rattle.dwp_dwarf.specs.Needed.{needed, none_met}
+use Rattle.dwp_dwarf.specs.Numbers.{first_number}
 use Rattle.dwp_dwarf.specs.declared.abbrev.AttributeSpecification.{AttributeSpecification}
-use Rattle.dwp_dwarf.proofs.Numbers.{first_with_bytes}
+use Rattle.dwp_dwarf.proofs.Numbers.{first_needed}
 use Rattle.dwp_dwarf.proofs.Places.{one_stands}
 use Rattle.dwp_dwarf.proofs.PlaceLists.{chains_listed}
 use Rattle.dwp_dwarf.proofs.chains.Chains.number.Goals as goal
@@ -30,8 +31,8 @@ returns-in-Some-clause-number g c = λ section stands all.
     ∙ ap (λ (ss : List Specification). first_number c.args.name
     (attributes c.args.encoding ss values))
     (ap (map specification_of) c.deref.ensures.value ∙ has.listed
-    ∙ ap (λ (x : Declaration). filter has_bytes x.specifications) same)
-    ∙ first_with_bytes c.args.name c.args.encoding d.specifications values
+    ∙ ap (λ (x : Declaration). needed none_met x.specifications) same)
+    ∙ first_needed c.args.name c.args.encoding none_met d.specifications values
 
 pub returns-in-Some-clause-kept : goal.returns-in-Some-clause-kept
 returns-in-Some-clause-kept g c = λ section stands.

@@ -3,7 +3,7 @@ use Rattle.std.specs.Prelude.{option_map}
 use Rattle.dwp_dwarf.specs.Attributes.{attribute_of}
 use Rattle.thorin_executable.specs.Paths.{base_of}
 use Rattle.thorin_executable.specs.Places.{IsStringAt}
-use Rattle.thorin_executable.specs.View.{attributes_of}
+use Rattle.dwp_dwarf.specs.Split.{attributes_of}
 use Rattle.thorin_executable.proofs.Places.{path_with, path_without}
 use Rattle.thorin_executable.proofs.last.PathPlaces.of.Goals as goal
 

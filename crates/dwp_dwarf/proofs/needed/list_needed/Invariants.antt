@@ -1,14 +1,14 @@
-use Rattle.std.proofs.Common.{◌≡◌, ◌++◌, map, filter, length}
+use Rattle.std.proofs.Common.{◌≡◌, ◌++◌, map, length}
 use Rattle.dwp_dwarf.specs.Abbreviations.{pairs_in}
 use Rattle.dwp_dwarf.specs.Declarations.{specification_of}
-use Rattle.dwp_dwarf.specs.Numbers.{has_bytes}
-use Rattle.dwp_dwarf.proofs.number.list_with_bytes.Given as goal
+use Rattle.dwp_dwarf.specs.Needed.{needed, none_met}
+use Rattle.dwp_dwarf.proofs.needed.list_needed.Given as goal
 
 -- those that are listed and those that are left are all
 abbrev pub invariant-loop-specification : goal.invariant-loop-specification
 invariant-loop-specification g l = map specification_of l.list.items
-    ++ filter has_bytes (pairs_in (g.R.Reader.input l.specifications))
-    ≡ filter has_bytes (pairs_in (g.R.Reader.input l.fn.specifications))
+    ++ needed l.unmet (pairs_in (g.R.Reader.input l.specifications))
+    ≡ needed none_met (pairs_in (g.R.Reader.input l.fn.specifications))
 
 abbrev pub decreases-loop-specification : goal.decreases-loop-specification
 decreases-loop-specification g l = length (pairs_in (g.R.Reader.input l.specifications))

@@ -1,8 +1,8 @@
 use Rattle.std.proofs.Common.{◌≡◌, ◌∙◌, ap, sym, Ok, ◌∷◌, rules}
 use Rattle.dwp_dwarf.specs.Attributes.{attribute_of, attribute_seen, attributes_left}
-use Rattle.thorin_executable.specs.View.{attributes_of}
-use Rattle.thorin_executable.proofs.Attributes.{after, after-first}
-use Rattle.thorin_executable.proofs.roots.SplitAttributes.of_entry.Goals as goal
+use Rattle.dwp_dwarf.specs.Split.{attributes_of}
+use Rattle.dwp_dwarf.proofs.SplitNames.{after, after-first}
+use Rattle.dwp_dwarf.proofs.split.split_read.Goals as goal
 
 pub loop-attribute-preserved : goal.loop-attribute-preserved
 loop-attribute-preserved g c =
@@ -10,8 +10,7 @@ loop-attribute-preserved g c =
     let left : attributes_left input c.loop-attribute.attribute-iterator ≡ attribute_seen input
     c.in-Some.attribute ∷ attributes_left input c.next.new.self =
     search (rules, c.in-Some.ensures.steps) in
-    let was : c.in-Some.attribute ≡ Ok c.in_ok-attribute.attribute =
-    search (rules, c.in_ok-attribute.ensures.cases) in
+    let was : c.in-Some.attribute ≡ Ok c.in_ok-attribute.attribute = c.in_ok-attribute.was in
     ap (λ b. after c.args.format b (attributes_left input c.next.new.self)) c.add.ensures
     ∙ sym (after-first c.args.format (attributes_of input c.loop-attribute.found)
     (attribute_of input c.in_ok-attribute.attribute) (attributes_left input c.next.new.self))

@@ -1,0 +1,78 @@
+use Rattle.std.proofs.Common.{◌≡◌, Result, Ok, Some, sym, subst}
+use Rattle.dwp_base.specs.Reading.{Answers}
+use Rattle.dwp_bytes.specs.Input.{Input}
+use Rattle.dwp_bytes.specs.declared.fault.ReadError.{ReadError}
+use Rattle.dwp_dwarf.specs.Abbreviations.{declaration}
+use Rattle.dwp_dwarf.specs.Chains.{StandsAt}
+use Rattle.dwp_dwarf.specs.Declarations.{declaration_of}
+use Rattle.dwp_dwarf.specs.Entries.{DebugEntry, entry}
+use Rattle.dwp_dwarf.specs.Offsets.{from_at}
+use Rattle.dwp_dwarf.specs.Split.{SplitAttributes, attributes_of, split_in}
+use Rattle.dwp_dwarf.proofs.PlaceLists.{stands_first}
+use Rattle.dwp_dwarf.proofs.cache.AbbreviationCache.split_in.Given.{Over}
+use Rattle.dwp_dwarf.proofs.cache.AbbreviationCache.split_in.Goals as goal
+use Rattle.dwp_dwarf.proofs.cache.AbbreviationCache.split_in.Goals.{in-Some-first}
+use Rattle.dwp_dwarf.proofs.cache.AbbreviationCache.split_in.Goals.{in_default-first+else-is_known}
+use Rattle.dwp_dwarf.proofs.cache.AbbreviationCache.split_in.Goals.{in_default-first+then-is_known+then-is_at_hand}
+
+-- what the table says of the code
+found : (g : Over) (c : goal.After-split-split g) (table : Input)
+    → from_at c.args.offset (g.R.Reader.input c.self-2.inside.section) ≡ Ok table
+    → declaration c.args.code table
+    ≡ Ok (Some (declaration_of g.R.Reader.input c.in-Some.abbreviation))
+found g c table is =
+    let view = c.self-2.view_is in
+    let kept = c.in_ok-abbreviation.ensures.kept in
+    let same : c.self-2.inside.section ≡ c.args.self.now = cc in
+    rw c.in-Some.is at (c.in_ok-abbreviation.ensures.declared table (rw same at is))
+
+stands : (g : Over) (c : goal.After-split-split g)
+    → StandsAt (g.R.Reader.input c.self-2.inside.section) c.in-Some-first.first
+    (declaration_of g.R.Reader.input c.in-Some.abbreviation)
+stands g c = stands_first (g.R.Reader.input c.self-2.inside.section) c.args.offset c.args.code
+    c.in-Some-first.first (declaration_of g.R.Reader.input c.in-Some.abbreviation)
+    (c.in-Some-first.ensures c.self-2.invariant.2) (found g c)
+
+pub invariant_of-self : goal.invariant_of-self
+invariant_of-self g c = (
+  c.self-2.invariant.0,
+  c.self-2.invariant.1,
+  c.split-split.ensures.kept (g.R.Reader.input c.self-2.inside.section) (stands g c)
+      c.self-2.invariant.2,
+)
+
+pub returns-clause-split : goal.returns-clause-split
+returns-clause-split g c = λ table is.
+    let input = g.R.Reader.input in
+    let d = declaration_of input c.in-Some.abbreviation in
+    let view = c.self-2.view_is in
+    let kept = c.in_ok-abbreviation.ensures.kept in
+    let own : c.self-2.inside.section ≡ c.args.self.now = cc in
+    let declared : (t : Input) → from_at c.args.offset (input c.self-2.inside.section) ≡ Ok t
+    → declaration c.args.code t ≡ Ok (Some d) =
+    λ t begins. rw c.in-Some.is at (c.in_ok-abbreviation.ensures.declared t (rw own at begins)) in
+    let here : declaration c.args.code table ≡ Ok (Some d) =
+    rw c.in-Some.is at (c.in_ok-abbreviation.ensures.declared table is) in
+    let read : Result SplitAttributes ReadError = split_in c.args.encoding.format
+    (entry c.args.encoding d (input c.args.values)).attributes in
+    let says : Answers (attributes_of input) c.match-first.split read =
+    elim c.match-first.branch [
+      in-Some-first w ↦ subst (λ (r : Result _ ReadError). Answers (attributes_of input) r read)
+          (sym w.split-is) (w.split-split.ensures.split (input c.self-2.inside.section)
+          (stands_first (input c.self-2.inside.section) c.args.offset c.args.code
+          w.in-Some-first.first d (w.in-Some-first.ensures c.self-2.invariant.2) declared)
+          c.self-2.invariant.2)
+      | in_default-first+then-is_known+then-is_at_hand w ↦
+          let table = c.self-2.invariant.0 in
+          let same : c.args.offset ≡ c.self-2.inside.tables.offset =
+          w.is_at_hand.ensures w.if-is_at_hand.true in
+          subst (λ (r : Result _ ReadError). Answers (attributes_of input) r read)
+          (sym w.split-is) (w.split.ensures.split table.table
+          (declared table.table (rw same table.is)) table.lists)
+      | in_default-first+else-is_known w ↦
+          subst (λ (r : Result _ ReadError). Answers (attributes_of input) r read)
+          (sym w.split-is) (subst (λ (e : DebugEntry). Answers (attributes_of input)
+          w.split_read.result (split_in c.args.encoding.format e.attributes)) w.entry.ensures
+          w.split_read.ensures)
+    ] in
+    rw here (c.found_split.ensures read says)

@@ -1,0 +1,36 @@
+-- Which attributes of a declaration tell the numbers of an entry and what names its split object:
+-- those whose values have bytes, and of each name that may name the object the first.
+use Rattle.std.specs.Prelude.{ℕ, List, [], ◌∷◌, Bool, true, false, ◌==◌, ◌&&◌, ◌||◌}
+use Rattle.std.specs.Prelude.{if◌then◌else◌}
+use Rattle.dwp_dwarf.specs.Abbreviations.{Specification}
+use Rattle.dwp_dwarf.specs.Numbers.{has_bytes}
+use Rattle.dwp_dwarf.specs.Split.{DW_AT_comp_dir, DW_AT_dwo_name, DW_AT_GNU_dwo_name}
+use Rattle.dwp_dwarf.specs.declared.needed.UnmetNames.{UnmetNames}
+
+-- none of the names was met
+abbrev pub none_met : UnmetNames
+none_met = record { dwo_name = true; gnu_dwo_name = true; comp_dir = true }
+
+-- a name is one of them, and wasn't met
+abbrev pub is_unmet : UnmetNames → ℕ → Bool
+is_unmet unmet name = (name == DW_AT_dwo_name && unmet.dwo_name)
+    || ((name == DW_AT_GNU_dwo_name && unmet.gnu_dwo_name)
+    || (name == DW_AT_comp_dir && unmet.comp_dir))
+
+-- those that weren't met, once a name was
+abbrev pub met : UnmetNames → ℕ → UnmetNames
+met unmet name = record {
+  dwo_name = if name == DW_AT_dwo_name then false else unmet.dwo_name;
+  gnu_dwo_name = if name == DW_AT_GNU_dwo_name then false else unmet.gnu_dwo_name;
+  comp_dir = if name == DW_AT_comp_dir then false else unmet.comp_dir;
+}
+
+-- an attribute's value has bytes, or it is the first of such a name
+abbrev pub is_needed : UnmetNames → Specification → Bool
+is_needed unmet s = has_bytes s || is_unmet unmet s.name
+
+-- the attributes that are needed
+abbrev pub needed : UnmetNames → List Specification → List Specification
+needed unmet [] = []
+needed unmet (s ∷ ss) = if is_needed unmet s then s ∷ needed (met unmet s.name) ss
+    else needed unmet ss
