@@ -34,6 +34,8 @@ WAYS = {
     "pack": "pack -o {at}/out.dwp {it}",
     "overlap": "pack --allow-overlap -o {at}/out.dwp {it}",
     "exe": "pack -o {at}/out.dwp --skip-missing -e {it}",
+    "partial": "pack -o {at}/out.dwp --partial -e {it}",
+    "missing": "pack --missing -e {it}",
     "list": "list {it}",
     "check": "check {it}",
     "check -e": "check {at}/one_unit.dwp -e {it}",

@@ -19,9 +19,8 @@ use std::alloc::{AllocError, Global};
 use std::collections::HashSet;
 use std::io::Write;
 use std::path::{AsPath, Path};
-use thorin::{
-    BytesSession, DwarfPackage, Input, MissingTargets, NamelessUnits, Skeleton, SkeletonUnits,
-};
+use thorin::{BytesSession, DwarfPackage, Input, MissingTargets, NamelessUnits};
+use thorin_executable::NamedUnits;
 use thorin_faults::{Error, InputError, MissingReferencedObjectBehaviour, Session};
 use thorin_queries::{Failure, buffer};
 use thorin_words::printed;
@@ -101,20 +100,20 @@ impl<'b> Left<'b> {
         self.first = self.others.next();
     }
 
-    /// Which object was looked for, and why it isn't there; what was looked for last is kept.
-    fn reason<I: Inputs>(
+    /// Looks for the object at a path, unless it was looked for last: keeps why it isn't there.
+    fn look_for<I: Inputs>(
         &mut self,
         alloc: Global,
         files: &I,
         executable: &str,
         named: &str,
-    ) -> Result<&str, AllocError> {
+    ) -> Result<(), AllocError> {
         let is_same = self.named.as_str() == named;
         if !is_same {
             self.why = reason_of(alloc, files, executable, named)?;
             self.named = String::from_str(alloc, named)?;
         }
-        Ok(self.why.as_str())
+        Ok(())
     }
 }
 
@@ -155,7 +154,7 @@ fn tell_those_of<I: Inputs, E: Write>(
     let bump = Bump::new(alloc);
     let session = BytesSession::new(&bump);
     let nameless = nameless_in(input);
-    let Ok(mut units) = SkeletonUnits::read_by(alloc, &session, bytes, nameless) else {
+    let Ok(mut units) = NamedUnits::read_by(alloc, &session, bytes, nameless) else {
         return Ok(());
     };
     tell_each(alloc, files, path.path_text(), &mut units, left, err)
@@ -166,14 +165,20 @@ fn tell_each<I: Inputs, E: Write>(
     alloc: Global,
     files: &I,
     executable: &str,
-    units: &mut SkeletonUnits<'_>,
+    units: &mut NamedUnits<'_>,
     left: &mut Left<'_>,
     err: &mut E,
 ) -> Result<(), Failure> {
-    while let Ok(Some(skeleton)) = units.next() {
-        if left.first == Some(skeleton.target) {
-            let why = left.reason(alloc, files, executable, skeleton.path.as_str())?;
-            warn(skeleton.target, why, err)?;
+    // Whether the path of the unit that came last is the one that was looked for last.
+    let mut is_known = false;
+    while let Ok(Some(unit)) = units.next() {
+        is_known = is_known && unit.is_repeated;
+        if left.first == Some(unit.target) {
+            if !is_known {
+                left.look_for(alloc, files, executable, units.path())?;
+                is_known = true;
+            }
+            warn(unit.target, left.why.as_str(), err)?;
             left.pass();
         }
     }
@@ -249,7 +254,7 @@ fn list_of<I: Inputs, W: Write>(
     };
     let bump = Bump::new(alloc);
     let session = BytesSession::new(&bump);
-    let mut units = SkeletonUnits::read_by(alloc, &session, bytes, nameless)?;
+    let mut units = NamedUnits::read_by(alloc, &session, bytes, nameless)?;
     list_each(alloc, files, &mut units, seen, lines)
 }
 
@@ -257,22 +262,38 @@ fn list_of<I: Inputs, W: Write>(
 fn list_each<I: Inputs, W: Write>(
     alloc: Global,
     files: &I,
-    units: &mut SkeletonUnits<'_>,
+    units: &mut NamedUnits<'_>,
     seen: &mut HashSet<String>,
     lines: &mut W,
 ) -> Result<bool, Refusal> {
     let mut is_one_missing = false;
-    while let Some(skeleton) = units.next()? {
-        let path = files.mapped(skeleton.path.as_str())?;
-        if !seen.contains(&path) {
-            if let Some(_reason) = files.unreadable(path.as_str())? {
-                is_one_missing = true;
-                put_path(alloc, path.as_str(), lines)?;
-            }
-            keep(seen, path)?;
+    while let Some(unit) = units.next()? {
+        if !unit.is_repeated && list_path(alloc, files, units.path(), seen, lines)? {
+            is_one_missing = true;
         }
     }
     Ok(is_one_missing)
+}
+
+/// Prints the path of an object that an executable names where it can't be read, unless the path
+/// was seen before. Answers whether it is printed.
+fn list_path<I: Inputs, W: Write>(
+    alloc: Global,
+    files: &I,
+    named: &str,
+    seen: &mut HashSet<String>,
+    lines: &mut W,
+) -> Result<bool, Refusal> {
+    let path = files.mapped(named)?;
+    if seen.contains(&path) {
+        return Ok(false);
+    }
+    let is_missing = files.unreadable(path.as_str())?.is_some();
+    if is_missing {
+        put_path(alloc, path.as_str(), lines)?;
+    }
+    keep(seen, path)?;
+    Ok(is_missing)
 }
 
 /// Keeps a path that was looked for.

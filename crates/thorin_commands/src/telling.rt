@@ -12,7 +12,8 @@ use dwp_table::{DwarfObject, DwoId};
 use std::alloc::{AllocError, Global};
 use std::io::Write;
 use std::path::{AsPath, Path};
-use thorin::{BytesSession, DwarfPackage, Input, NamelessUnits, SkeletonUnits};
+use thorin::{BytesSession, DwarfPackage, Input, NamelessUnits};
+use thorin_executable::NamedUnits;
 use thorin_faults::{Error, MissingReferencedObjectBehaviour};
 use thorin_queries::{Failure, tell_taken};
 use thorin_words::printed;
@@ -104,7 +105,7 @@ fn names_units<I: Inputs>(alloc: Global, inputs: &I, input: Input<'_>, path: Pat
 fn has_units(alloc: Global, bytes: &[u8], nameless: NamelessUnits) -> bool {
     let bump = Bump::new(alloc);
     let session = BytesSession::new(&bump);
-    match SkeletonUnits::read_by(alloc, &session, bytes, nameless) {
+    match NamedUnits::read_by(alloc, &session, bytes, nameless) {
         Ok(mut units) => !matches!(units.next(), Ok(None)),
         Err(_) => true,
     }
@@ -265,10 +266,10 @@ fn path_for(alloc: Global, executable: &[u8], unit: u64) -> Option<String> {
     let bump = Bump::new(alloc);
     let session = BytesSession::new(&bump);
     let nameless = NamelessUnits::PassedOver;
-    let mut units = SkeletonUnits::read_by(alloc, &session, executable, nameless).ok()?;
-    while let Ok(Some(skeleton)) = units.next() {
-        if skeleton.target == DwarfObject::Compilation(DwoId(unit)) {
-            return Some(skeleton.path);
+    let mut units = NamedUnits::read_by(alloc, &session, executable, nameless).ok()?;
+    while let Ok(Some(named)) = units.next() {
+        if named.target == DwarfObject::Compilation(DwoId(unit)) {
+            return String::from_str(alloc, units.path()).ok();
         }
     }
     None

@@ -2,5 +2,5 @@ use Rattle.std.proofs.Common.{length}
 use Rattle.thorin_commands.proofs.telling.path_for.Given as goal
 
 -- the units that are left
-abbrev pub decreases-loop-skeleton : goal.decreases-loop-skeleton
-decreases-loop-skeleton l = length l.units.0
+abbrev pub decreases-loop-named : goal.decreases-loop-named
+decreases-loop-named l = length l.units.listed.0
