@@ -1,4 +1,5 @@
--- Attributes whose values have no bytes have no number and name no place, and leave an entry's bytes as they are.
+-- Attributes whose values have no bytes have no number and name no place, and leave an entry's
+-- bytes as they are.
 use Rattle.std.proofs.Common.{◌≡◌, ℕ, zero, suc, ◌-◌, true, false, List, [], ◌∷◌, length}
 use Rattle.std.proofs.Common.{Bool, Result, Ok, Err, Option, Some, None, eqb}
 use Rattle.std.proofs.Common.{refl, ap, sym, subst, ◌∙◌, arith}

@@ -55,8 +55,8 @@ one_table r i j p q = cc
 
 -- lists with one more, of a code that had none
 pub one_more_list : (code : ℕ) (table : Input) (old new : BTreeMap ℕ (Vec AttributeSpecification
-    Global)) (list : Vec AttributeSpecification Global) → HasLists table old → ListsNeeded code table
-    list → get nat_cmp new code ≡ Some list
+    Global)) (list : Vec AttributeSpecification Global) → HasLists table old
+    → ListsNeeded code table list → get nat_cmp new code ≡ Some list
     → ((q : ℕ) → q ≢ code → get nat_cmp new q ≡ get nat_cmp old q) → HasLists table new
 one_more_list code table old new list has is here others other =
     by_bool (IfSome (get nat_cmp new other) (ListsNeeded other table)) (eqb code other)

@@ -14,8 +14,7 @@ ghost use Rattle.dwp_dwarf.specs.Numbers.{first_number, numbered_at, numbered_of
 ghost use Rattle.dwp_dwarf.specs.Offsets.{from_at};
 ghost use Rattle.dwp_dwarf.specs.Remembered.{next_of, remembered, HasLists, RemembersTable};
 ghost use Rattle.dwp_dwarf.specs.Remembered.{RemembersTables};
-ghost use Rattle.dwp_dwarf.specs.Split as spec;
-ghost use Rattle.dwp_dwarf.specs.Split.{attributes_of, some_split, split_at, split_in};
+ghost use Rattle.dwp_dwarf.specs.Split.{attributes_of, split_at, split_in};
 
 use crate::abbrev::{
     Abbreviation, Abbreviations, AttributeSpecification, SPECIFICATION_SIZE, read_code,
@@ -24,8 +23,9 @@ use crate::abbrev::{
 use crate::needed::list_needed;
 use crate::number::{number_listed, number_read};
 use crate::offset::from_offset;
+use crate::put_away::TablesPutAway;
 use crate::seen::SeenTables;
-use crate::split::{SplitAttributes, split_listed, split_read};
+use crate::split::{SplitAttributes, found_split, split_listed, split_read};
 use dwp_bytes::laws::lebs_take_bytes;
 use dwp_bytes::{Encoding, ReadError, Reader};
 use std::alloc::Global;
@@ -79,15 +79,6 @@ pub(crate) struct ReadTable<R: Reader> {
     pub(crate) listed: usize,
 }
 
-/// What was read of tables that may be used again.
-#[derive(Drop)]
-struct TablesPutAway<R: Reader> {
-    // By the offsets at which they begin.
-    tables: BTreeMap<u64, ReadTable<R>>,
-    // How many bytes what is remembered of them has in the section, or more.
-    size: usize,
-}
-
 /// The fewest bytes of a declaration: its code, its tag, its byte on children, and the pair 0, 0.
 const DECLARATION_SIZE: usize = 5;
 
@@ -118,10 +109,7 @@ impl<R: Reader> AbbreviationCache<R> {
                 is_begun: false,
                 offset: 0,
                 at_hand: ReadTable::new(alloc, section),
-                others: TablesPutAway {
-                    tables: BTreeMap::new(alloc),
-                    size: 0,
-                },
+                others: TablesPutAway::new(alloc),
             },
             seen: SeenTables::new(alloc),
         }
@@ -174,10 +162,10 @@ impl<R: Reader> AbbreviationCache<R> {
     /// None where the table doesn't have the code.
     ///
     /// Once the code's declaration is remembered, its attributes are listed, where there is memory
-    /// for it, but for those whose values have no bytes; of each of the three names that `split_in`
-    /// asks for the first is listed anyway. So of such an entry no more attributes are read than it
-    /// has bytes, and three. Tables that overlap share the lists, until these have an attribute for
-    /// two bytes of the section.
+    /// for it, but for those whose values have no bytes; the first DW_AT_dwo_name,
+    /// DW_AT_GNU_dwo_name and DW_AT_comp_dir are listed anyway, for `split_in`. Such an entry then
+    /// takes as many steps as it has bytes, and a few more. Tables that overlap share the lists,
+    /// until these have an attribute for two bytes of the section.
     ///
     /// # Errors
     /// Those of `get`.
@@ -223,8 +211,8 @@ impl<R: Reader> AbbreviationCache<R> {
     }
 
     /// The attributes that name the split object of the entry of a code in the table at that offset,
-    /// whose values stand there; None where the table doesn't have the code. They cost as those of
-    /// `number_in`.
+    /// whose values stand there; None where the table doesn't have the code. What is listed of
+    /// a declaration is as at `number_in`, and an entry costs as much.
     ///
     /// # Errors
     /// Those of `get`; `UnknownForm`, `BigLeb`, `UnexpectedEof` or `NoTerminator` for the first of
@@ -244,32 +232,21 @@ impl<R: Reader> AbbreviationCache<R> {
         ensures kept { self.new ≡ self.old }
     {
         let is_known = self.tables.knows(offset, code);
-        let Some(abbreviation) = self.get(offset, code)? else {
+        let Some(declared) = self.get(offset, code)? else {
             return Ok(None);
         };
         let first = self.seen.first_of(self.section, offset, code);
         let split = if let Some(first) = first {
             let chains = &mut self.seen.chains;
-            chains.split(first, abbreviation, encoding, values)
+            chains.split(first, declared, encoding, values)
         } else if is_known && self.tables.is_at_hand(offset) {
             let at_hand = &mut self.tables.at_hand;
-            at_hand.split(self.tables.alloc, code, abbreviation, encoding, values)
+            at_hand.split(self.tables.alloc, code, declared, encoding, values)
         } else {
-            split_read(abbreviation.entry(encoding, values), encoding.format)
+            split_read(declared.entry(encoding, values), encoding.format)
         };
         found_split(split)
     }
-}
-
-/// The same of an entry whose code the table has.
-fn found_split<R: Reader>(
-    split: Result<SplitAttributes<R>, ReadError>,
-) -> Result<Option<SplitAttributes<R>>, ReadError>
-    ensures { (read : Result spec.SplitAttributes ReadError)
-        → Answers (attributes_of R.input) split read
-        → Answers (option_map (attributes_of R.input)) result (some_split read) }
-{
-    Ok(Some(split?))
 }
 
 impl<R: Reader> ReadTables<R> {
@@ -324,7 +301,7 @@ impl<R: Reader> ReadTable<R> {
     }
 
     /// How many bytes of the section what is remembered has at least; one is its end.
-    fn size(&self) -> usize {
+    pub(crate) fn size(&self) -> usize {
         let declarations = self.known.len().saturating_mul(DECLARATION_SIZE);
         let attributes = self.listed.saturating_mul(SPECIFICATION_SIZE);
         declarations.saturating_add(attributes).saturating_add(1)
@@ -437,38 +414,6 @@ impl<R: Reader> ReadTable<R> {
         match self.lists.get(&code) {
             Some(list) => split_listed(list, encoding, values),
             None => split_read(abbreviation.entry(encoding, values), encoding.format),
-        }
-    }
-}
-
-impl<R: Reader> TablesPutAway<R> {
-    /// Takes the table of an offset out.
-    fn take(&mut self, offset: u64) -> Option<ReadTable<R>>
-        ensures taken { result ≡ get nat_cmp self.old.tables offset }
-        ensures others { (section : Input) → RemembersTables R.input section self.old.tables
-            → RemembersTables R.input section self.new.tables }
-    {
-        let table = self.tables.remove(&offset)?;
-        self.size = self.size.saturating_sub(table.size());
-        Some(table)
-    }
-
-    /// Puts the table of an offset away where it was used. Where there would be more than so many
-    /// bytes, all are forgotten.
-    fn put(&mut self, limit: usize, is_used: bool, offset: u64, table: ReadTable<R>)
-        ensures { (section : Input) → RemembersTables R.input section self.old.tables
-            → RemembersTable R.input section offset table
-            → RemembersTables R.input section self.new.tables }
-    {
-        if !is_used {
-            return;
-        }
-        let size = self.size.saturating_add(table.size());
-        if size > limit {
-            self.tables.clear();
-            self.size = 0;
-        } else if self.tables.insert(offset, table).is_ok() {
-            self.size = size;
         }
     }
 }

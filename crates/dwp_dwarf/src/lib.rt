@@ -12,6 +12,7 @@ pub mod laws;
 mod needed;
 mod number;
 mod offset;
+mod put_away;
 mod seen;
 mod split;
 mod strings;

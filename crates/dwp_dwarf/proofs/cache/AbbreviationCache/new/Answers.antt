@@ -9,7 +9,7 @@ invariant_of-result g c = (
   nothing_read g.R.Reader.input _ 0 _
       (from_start _ ∙ ap (λ r. Ok (g.R.Reader.input r)) (sym c.new.ensures.rest))
       c.new.ensures.known c.new.ensures.lists,
-  none_put_away g.R.Reader.input _ c.new-2.result c.new-2.ensures.empty,
+  none_put_away g.R.Reader.input _ c.new-2.result.tables c.new-2.ensures,
   record {
     places = none_remembered _ c.new-3.result.chains c.new-3.ensures.places
         c.new-3.ensures.codes;

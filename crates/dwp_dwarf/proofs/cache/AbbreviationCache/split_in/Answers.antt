@@ -19,18 +19,18 @@ use Rattle.dwp_dwarf.proofs.cache.AbbreviationCache.split_in.Goals.{in_default-f
 found : (g : Over) (c : goal.After-split-split g) (table : Input)
     → from_at c.args.offset (g.R.Reader.input c.self-2.inside.section) ≡ Ok table
     → declaration c.args.code table
-    ≡ Ok (Some (declaration_of g.R.Reader.input c.in-Some.abbreviation))
+    ≡ Ok (Some (declaration_of g.R.Reader.input c.in-Some.declared))
 found g c table is =
     let view = c.self-2.view_is in
-    let kept = c.in_ok-abbreviation.ensures.kept in
+    let kept = c.in_ok-declared.ensures.kept in
     let same : c.self-2.inside.section ≡ c.args.self.now = cc in
-    rw c.in-Some.is at (c.in_ok-abbreviation.ensures.declared table (rw same at is))
+    rw c.in-Some.is at (c.in_ok-declared.ensures.declared table (rw same at is))
 
 stands : (g : Over) (c : goal.After-split-split g)
     → StandsAt (g.R.Reader.input c.self-2.inside.section) c.in-Some-first.first
-    (declaration_of g.R.Reader.input c.in-Some.abbreviation)
+    (declaration_of g.R.Reader.input c.in-Some.declared)
 stands g c = stands_first (g.R.Reader.input c.self-2.inside.section) c.args.offset c.args.code
-    c.in-Some-first.first (declaration_of g.R.Reader.input c.in-Some.abbreviation)
+    c.in-Some-first.first (declaration_of g.R.Reader.input c.in-Some.declared)
     (c.in-Some-first.ensures c.self-2.invariant.2) (found g c)
 
 pub invariant_of-self : goal.invariant_of-self
@@ -44,20 +44,20 @@ invariant_of-self g c = (
 pub returns-clause-split : goal.returns-clause-split
 returns-clause-split g c = λ table is.
     let input = g.R.Reader.input in
-    let d = declaration_of input c.in-Some.abbreviation in
+    let d = declaration_of input c.in-Some.declared in
     let view = c.self-2.view_is in
-    let kept = c.in_ok-abbreviation.ensures.kept in
+    let kept = c.in_ok-declared.ensures.kept in
     let own : c.self-2.inside.section ≡ c.args.self.now = cc in
     let declared : (t : Input) → from_at c.args.offset (input c.self-2.inside.section) ≡ Ok t
     → declaration c.args.code t ≡ Ok (Some d) =
-    λ t begins. rw c.in-Some.is at (c.in_ok-abbreviation.ensures.declared t (rw own at begins)) in
+    λ t begins. rw c.in-Some.is at (c.in_ok-declared.ensures.declared t (rw own at begins)) in
     let here : declaration c.args.code table ≡ Ok (Some d) =
-    rw c.in-Some.is at (c.in_ok-abbreviation.ensures.declared table is) in
+    rw c.in-Some.is at (c.in_ok-declared.ensures.declared table is) in
     let read : Result SplitAttributes ReadError = split_in c.args.encoding.format
     (entry c.args.encoding d (input c.args.values)).attributes in
     let says : Answers (attributes_of input) c.match-first.split read =
     elim c.match-first.branch [
-      in-Some-first w ↦ subst (λ (r : Result _ ReadError). Answers (attributes_of input) r read)
+      | in-Some-first w ↦ subst (λ (r : Result _ ReadError). Answers (attributes_of input) r read)
           (sym w.split-is) (w.split-split.ensures.split (input c.self-2.inside.section)
           (stands_first (input c.self-2.inside.section) c.args.offset c.args.code
           w.in-Some-first.first d (w.in-Some-first.ensures c.self-2.invariant.2) declared)
