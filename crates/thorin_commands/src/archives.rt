@@ -20,8 +20,7 @@ use std::io::Write;
 use std::path::{AsPath, Path};
 use thorin::{DwarfPackage, Input, take_input};
 use thorin_faults::{Error, InputError, Session};
-use thorin_queries::{Failure, tell_taken};
-use thorin_words::printed;
+use thorin_queries::{Failure, shown, tell_taken};
 
 /// Whether bytes are those of an archive, plain or thin.
 fn is_archive(bytes: &[u8]) -> bool {
@@ -294,7 +293,7 @@ fn malformed<E: Write>(place: Place<'_>, fault: ArchiveError, err: &mut E) -> Re
     }
     let _ = writeln!(err, "error: {fault}");
     if place.telling.notes {
-        if let Ok(archive) = printed(place.alloc, place.path.path_text()) {
+        if let Ok(archive) = shown(place.alloc, place.path.path_text()) {
             let _ = writeln!(err, "note: {archive}");
         }
     }

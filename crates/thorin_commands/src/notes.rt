@@ -4,7 +4,7 @@ use std::alloc::{AllocError, Global};
 use std::fmt;
 use std::io::{self, Write};
 use thorin_faults::Error;
-use thorin_words::printed;
+use thorin_queries::shown;
 
 /// A read that failed.
 #[derive(Drop)]
@@ -33,10 +33,10 @@ pub(crate) fn place_of(
     input: &str,
     named: Option<&str>,
 ) -> Result<String, AllocError> {
-    let input = printed(alloc, input)?;
+    let input = shown(alloc, input)?;
     match named {
         Some(named) => {
-            let named = printed(alloc, named)?;
+            let named = shown(alloc, named)?;
             format!(in alloc; "{named}, named by {input}")
         }
         None => Ok(input),
@@ -49,9 +49,9 @@ pub(crate) fn place_of_member(
     archive: &str,
     name: &[u8],
 ) -> Result<String, AllocError> {
-    let archive = printed(alloc, archive)?;
+    let archive = shown(alloc, archive)?;
     let name = String::from_utf8_lossy(alloc, name)?;
-    let name = printed(alloc, name.as_str())?;
+    let name = shown(alloc, name.as_str())?;
     format!(in alloc; "{archive}({name})")
 }
 

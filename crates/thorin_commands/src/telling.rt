@@ -15,7 +15,7 @@ use std::path::{AsPath, Path};
 use thorin::{BytesSession, DwarfPackage, Input, NamelessUnits};
 use thorin_executable::NamedUnits;
 use thorin_faults::{Error, MissingReferencedObjectBehaviour};
-use thorin_queries::{Failure, tell_taken};
+use thorin_queries::{Failure, shown, tell_taken};
 use thorin_words::printed;
 
 /// What is told while inputs are taken.
@@ -84,7 +84,7 @@ fn warn_unsplit<I: Inputs, E: Write>(
 
 /// Warns of a file that has nothing that is split.
 pub(crate) fn warn_of<E: Write>(alloc: Global, path: Path<'_>, err: &mut E) -> Result<(), Failure> {
-    let name = printed(alloc, path.path_text())?;
+    let name = shown(alloc, path.path_text())?;
     match writeln!(err, "warning: {name}: no split units") {
         Ok(()) => Ok(()),
         Err(_) => Err(Failure::Line),

@@ -34,5 +34,6 @@ pub use finding::{find, find_by};
 pub use input::lacks_index;
 pub use listing::{ListForm, list, list_by};
 pub use output::{Failure, buffer, flush, report, show};
+pub use shown::shown;
 pub use telling::{tell_refused, tell_taken, unit_count, warn_differing};
 pub use wanted::FindForm;

@@ -18,7 +18,7 @@ const END: usize = 2047;
 /// # Errors
 /// Want of memory.
 #[tactic(auto, unfolding(crate::specs::Shown::shown))]
-pub(crate) fn shown(alloc: Global, name: &str) -> Result<String, AllocError>
+pub fn shown(alloc: Global, name: &str) -> Result<String, AllocError>
     ensures { IfOk result (λ text. string_bytes text ≡ spec.shown name.now) }
 {
     let kept = cut(alloc, name)?;
