@@ -15,7 +15,7 @@ use crate::faults::{pass_on, tell, with_rest};
 use crate::files::{FileReader, read_named};
 use crate::input::plain_of;
 use crate::output::Failure;
-use crate::shown::shown;
+use crate::showing::shown;
 use bumpalo::Bump;
 use dwp_bytes::RelocationEntry;
 use dwp_index::PackageFile;

@@ -2,7 +2,7 @@ use Rattle.std.proofs.Common.{◌≡◌, ◌∙◌, string_bytes}
 use Rattle.std.proofs.lemmas.Result.{IfOk-weaker}
 use Rattle.thorin_queries.specs.Shown as spec
 use Rattle.thorin_queries.proofs.Cuts.{is_cut}
-use Rattle.thorin_queries.proofs.shown.cut.Goals as goal
+use Rattle.thorin_queries.proofs.showing.cut.Goals as goal
 
 pub returns : goal.returns
 returns c =
