@@ -117,9 +117,8 @@ ended_front rest end zero =
     (λ k below. ne_eqb _ 0 (zero.before k below)) (λ below. eq-eqb _ 0 zero.ended))
 
 -- a string that was used is the one that the bytes begin with
-pub placed_front : (bytes : List ℕ) (first end : ℕ) (old new : List (List ℕ)) (place : ℕ)
-    → IsFirstZero bytes first → first ≡ end → IsPlaced old new (take end bytes) place → IsPlaced old
-    new (front_string bytes) place
-placed_front bytes first end old new place zero same placed =
-    subst (λ s. IsPlaced old new s place)
-    (sym (ended_front bytes first zero ∙ ap (λ n. take n bytes) same)) placed
+pub placed_front : (bytes : List ℕ) (end : ℕ) (old new : List (List ℕ)) (place : ℕ)
+    → IsFirstZero bytes end → IsPlaced old new (take end bytes) place → IsPlaced old new
+    (front_string bytes) place
+placed_front bytes end old new place zero placed =
+    subst (λ s. IsPlaced old new s place) (sym (ended_front bytes end zero)) placed

@@ -1,14 +1,15 @@
 -- What a mask of 64 bytes says of each.
 use Rattle.std.proofs.Common.{◌≡◌, ◌≢◌, ℕ, ◌+◌, ◌-◌, ◌%◌, ◌^◌, ◌<◌, ◌≤◌, List, Bool, true, false}
-use Rattle.std.proofs.Common.{cond, eqb, length, get_or, map, replicate, refl, sym, ap, subst, ◌∙◌}
-use Rattle.std.proofs.Common.{arith, w8, w64, ⊎_elim}
+use Rattle.std.proofs.Common.{ltb, cond, eqb, length, get_or, map, replicate, refl, sym, ap, subst}
+use Rattle.std.proofs.Common.{◌∙◌, arith, w8, w64, ⊎_elim}
 use Rattle.std.specs.Int.{bit_at, trailing_zeros}
 use Rattle.std.specs.Int.Count.{trailing_of_zero}
-use Rattle.std.specs.Simd.Lanes.{zip2, mask_l, top}
+use Rattle.std.specs.Simd.Lanes.{zip2, sel_l, mask_l, top}
 use Rattle.std.proofs.lemmas.Simd.{length-zip2, get_or-zip2, get_or-replicate}
 use Rattle.std.proofs.lemmas.Simd.{bit_mask_l, tops_compared, mask_l-mod}
+use Rattle.std.proofs.lemmas.Simd.{length-sel_l, get_or-sel_l}
 use Rattle.std.proofs.lemmas.Nat.Bits.{bit_at-trailing_zeros}
-use Rattle.std.proofs.lemmas.Bool.{eqb-false, eqb-true, cases_lt}
+use Rattle.std.proofs.lemmas.Bool.{eqb-false, eqb-true, ltb-false, ltb-true, cases_lt}
 
 -- a bit below the lowest that is set is clear
 below : (m k : ℕ) → m < 2 ^ 64 → k < trailing_zeros w64 m → bit_at m k ≡ 0
@@ -81,4 +82,57 @@ some_more bytes at n to earlier next within near k less = ⊎_elim (earlier k)
     (λ behind.
     let e : at + (k - at) ≡ k = omega arith in
     subst (λ m. get_or bytes m 0 ≢ 0) e (next (k - at) (omega arith) (omega arith)))
+    (cases_lt k at)
+
+-- two numbers of which the lesser isn't zero
+neither : (a b : ℕ) (t : Bool) → ltb a b ≡ t → cond t a b ≢ 0 → (a ≢ 0) × (b ≢ 0)
+neither a b true less some = (some, λ e. absurd (omega (arith, ltb-true a b less, e)))
+neither a b false more some = (λ e. some (omega (arith, ltb-false a b more, e)), some)
+
+-- the bytes of two vectors of which no lesser one is zero
+pub both_some : (l m : List ℕ) (k : ℕ) → length l ≡ 32 → length m ≡ 32 → k < 32
+    → mask_l (map (top 7) (zip2 (λ a b. cond (eqb a b) 255 0)
+    (sel_l (map (top 7) (zip2 (λ a b. cond (ltb a b) 255 0) l m)) l m) (replicate 32 0))) % 2 ^ 64
+    ≡ 0 → (get_or l k 0 ≢ 0) × (get_or m k 0 ≢ 0)
+both_some l m k long long' within is =
+    let none : List ℕ = replicate 32 0 in
+    let less : List Bool = zip2 ltb l m in
+    let least : List ℕ = sel_l less l m in
+    let zeros : List Bool = zip2 eqb least none in
+    let long_less : length less ≡ 32 = length-zip2 ltb l m (long ∙ sym long') ∙ long in
+    let long_least : length least ≡ 32 = length-sel_l less l m (long_less ∙ sym long)
+    (long_less ∙ sym long') ∙ long_less in
+    let long_zeros : length zeros ≡ 32 = length-zip2 eqb least none long_least ∙ long_least in
+    let lesser = ap (λ ls. mask_l (map (top 7) (zip2 (λ a b. cond (eqb a b) 255 0) (sel_l ls l m)
+    none)) % 2 ^ 64) {y = less} (tops_compared w8 ltb l m) in
+    let mask = ap (λ bs. mask_l bs % 2 ^ 64) {y = zeros} (tops_compared w8 eqb least none)
+    ∙ mask_l-mod zeros 64 (omega (arith, long_zeros)) in
+    let e : mask_l zeros ≡ 0 = sym mask ∙ sym lesser ∙ is in
+    let zero_k : eqb (get_or least k 0) 0 ≡ false =
+    ap (eqb (get_or least k 0)) {y = get_or none k 0} (sym (get_or-replicate 32 k 0 0 within))
+    ∙ sym (get_or-zip2 eqb least none k 0 0 false (omega arith) (omega arith))
+    ∙ clear _ (sym (bit_mask_l zeros k) ∙ subst (λ n. bit_at n k ≡ 0) (sym e) (omega arith)) in
+    let some : get_or least k 0 ≢ 0 = eqb-false (get_or least k 0) 0 zero_k in
+    let choice : get_or least k 0 ≡ cond (get_or less k false) (get_or l k 0) (get_or m k 0) =
+    get_or-sel_l less l m k 0 (omega arith) (omega arith) (omega arith) in
+    let test : ltb (get_or l k 0) (get_or m k 0) ≡ get_or less k false =
+    sym (get_or-zip2 ltb l m k 0 0 false (omega arith) (omega arith)) in
+    neither (get_or l k 0) (get_or m k 0) (get_or less k false) test (λ z. some (choice ∙ z))
+
+-- the bytes before a place and the next 32 at each of two others, as far as they reach together
+pub some_in_two : (bytes : List ℕ) (at first second to : ℕ)
+    → ((k : ℕ) → k < at → get_or bytes k 0 ≢ 0)
+    → ((k : ℕ) → k < 32 → get_or bytes (first + k) 0 ≢ 0)
+    → ((k : ℕ) → k < 32 → get_or bytes (second + k) 0 ≢ 0)
+    → first ≤ at → second ≤ first + 32 → to ≤ second + 32
+    → (k : ℕ) → k < to → get_or bytes k 0 ≢ 0
+some_in_two bytes at first second to earlier some more low middle high k less = ⊎_elim (earlier k)
+    (λ behind. ⊎_elim
+    (λ near.
+    let e : first + (k - first) ≡ k = omega arith in
+    subst (λ m. get_or bytes m 0 ≢ 0) e (some (k - first) (omega arith)))
+    (λ far.
+    let e : second + (k - second) ≡ k = omega arith in
+    subst (λ m. get_or bytes m 0 ≢ 0) e (more (k - second) (omega arith)))
+    (cases_lt k (first + 32)))
     (cases_lt k at)

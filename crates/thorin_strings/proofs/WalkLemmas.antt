@@ -9,7 +9,7 @@ use Rattle.std.proofs.lemmas.Bool.{cases_lt}
 use Rattle.thorin_strings.specs.declared.places.Slot.{Slot}
 use Rattle.thorin_strings.specs.Ends.{IsFirstZero}
 use Rattle.thorin_strings.specs.Places.{hash, place_of, HavePlaces, AreEntered}
-use Rattle.thorin_strings.specs.Strings.{terminated, data_of, strings_in, offsets_from, IsZeroFree}
+use Rattle.thorin_strings.specs.Strings.{terminated, data_of, strings_in, offsets_from}
 use Rattle.thorin_strings.proofs.EndLemmas.{ended_free}
 use Rattle.thorin_strings.proofs.OffsetLemmas.{offsets_from-append, length-offsets_from}
 use Rattle.thorin_strings.proofs.TableLemmas.{strings_push}

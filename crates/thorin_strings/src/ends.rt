@@ -1,6 +1,7 @@
 //! Where strings end, looked for 64 bytes at a time: few are longer than some such steps.
 
 ghost use Rattle.std.specs.Prelude.{◌≡◌, ◌≢◌, ℕ, ◌+◌, ◌<◌, ◌≤◌, length, slice_index, IfSome};
+ghost use Rattle.std.specs.Prelude.{IsTrue};
 ghost use Rattle.thorin_strings.specs.Ends.{IsFirstZero};
 
 use memchr::memchr;
@@ -9,11 +10,11 @@ use std::simd::prelude::*;
 /// How many bytes are looked at together.
 const LANES: usize = 64;
 
+/// Half of that.
+const HALF: usize = 32;
+
 /// How often at most before `memchr` goes on, which takes larger steps.
 pub(crate) const ROUNDS: usize = 4;
-
-/// The same of a string whose end is guessed.
-pub(crate) const GUESSED_ROUNDS: usize = 8;
 
 /// How many of the next 64 bytes stand before the first zero.
 #[inline(always)]
@@ -58,4 +59,44 @@ pub(crate) fn end_of(bytes: &[u8]) -> Option<usize>
         Some(end) => Some(end),
         None => None,
     }
+}
+
+/// Whether no byte of the next 32 at each of two places is zero: less work than to tell which is.
+#[inline(always)]
+fn are_some(bytes: &[u8], at: usize, other: usize) -> bool
+    requires first { at + 32 ≤ length bytes.now }
+    requires second { other + 32 ≤ length bytes.now }
+    ensures first { IsTrue result → (k : ℕ) → k < 32 → slice_index bytes.now (at + k) ≢ 0 }
+    ensures second { IsTrue result → (k : ℕ) → k < 32 → slice_index bytes.now (other + k) ≢ 0 }
+{
+    let first = u8x32::from_slice(&bytes[at..]);
+    let second = u8x32::from_slice(&bytes[other..]);
+    first.simd_min(second).simd_eq(u8x32::splat(0)).to_bitmask() == 0
+}
+
+/// Whether the string at the front of some bytes ends at that zero.
+#[inline(always)]
+pub(crate) fn ends_at(bytes: &[u8], end: usize) -> bool
+    requires within { end < length bytes.now }
+    requires ended { slice_index bytes.now end ≡ 0 }
+    ensures { IsTrue result → IsFirstZero bytes.now end }
+{
+    if end < HALF {
+        if bytes.len() >= LANES {
+            return before_zero(bytes, 0) >= end;
+        }
+        return match end_of(bytes) {
+            Some(first) => first == end,
+            None => false,
+        };
+    }
+    let mut at = 0;
+    while end - at > LANES {
+        if !are_some(bytes, at, at + HALF) {
+            return false;
+        }
+        at += LANES;
+    }
+    // (the last ones are looked at again where fewer are left)
+    are_some(bytes, end.saturating_sub(LANES), end - HALF)
 }

@@ -11,7 +11,7 @@ ghost use Rattle.thorin_strings.specs.Strings.{strings_in};
 ghost use Rattle.thorin_strings.specs.Hashed.{IsHashed, IsPlaced};
 ghost use Rattle.thorin_strings.specs.Places.{hash as hash_of, place_of, IsNext};
 
-use crate::ends::{GUESSED_ROUNDS, short_end};
+use crate::ends::ends_at;
 use crate::places::{Places, hash};
 use crate::search::{begins_alike, stands_at};
 use crate::sorted::{SortedStrings, begins_of, positions_of};
@@ -51,9 +51,8 @@ impl From<AllocError> for Unplaced {
     }
 }
 
-/// Puts a new string behind all others, and gives its place. (Not inlined: few strings are new, and
-/// the loop over the others is faster without it.)
-#[inline(never)]
+/// Puts a new string behind all others, and gives its place.
+#[inline(always)]
 fn add(
     bytes: &mut Vec<u8>,
     count: &mut usize,
@@ -84,6 +83,67 @@ fn add(
     bytes.push(0).unwrap();
     *count += 1;
     Ok(place)
+}
+
+/// The same. (Not inlined: few strings are new, and the loop over the others is faster without it.)
+#[inline(never)]
+fn add_apart(
+    bytes: &mut Vec<u8>,
+    count: &mut usize,
+    places: &mut Places,
+    string: &[u8],
+    hash: u64,
+    next: usize,
+) -> Result<usize, Unplaced>
+    requires table { IsHashed bytes.old.items count.old places.old.slots.items places.old.size }
+    requires zero_free { IsZeroFree string.now }
+    requires hashed { hash ≡ hash_of string.now }
+    requires none { place_of places.old.slots.items places.old.size hash ≡ None }
+    requires next { next < length places.old.slots.items
+        → IsNext places.old.slots.items places.old.size hash next }
+    ensures table { IsHashed bytes.new.items count.new places.new.slots.items places.new.size }
+    ensures placed { IfOk result (IsPlaced (strings_in bytes.old.items)
+        (strings_in bytes.new.items) string.now) }
+    ensures kept { take (length (strings_in bytes.old.items)) (strings_in bytes.new.items)
+        ≡ strings_in bytes.old.items }
+    ensures err { OnErr result (strings_in bytes.new.items ≡ strings_in bytes.old.items) }
+{
+    add(bytes, count, places, string, hash, next)
+}
+
+/// The same of the string that some bytes begin with, of which one is zero, which is guessed to be
+/// its end. None where it isn't, and where the string has no place.
+#[inline(never)]
+fn add_guessed(
+    bytes: &mut Vec<u8>,
+    count: &mut usize,
+    places: &mut Places,
+    rest: &[u8],
+    end: usize,
+    hash: u64,
+    next: usize,
+) -> Option<usize>
+    requires table { IsHashed bytes.old.items count.old places.old.slots.items places.old.size }
+    requires within { end < length rest.now }
+    requires ended { slice_index rest.now end ≡ 0 }
+    requires hashed { hash ≡ hash_of (take end rest.now) }
+    requires none { place_of places.old.slots.items places.old.size hash ≡ None }
+    requires next { next < length places.old.slots.items
+        → IsNext places.old.slots.items places.old.size hash next }
+    ensures table { IsHashed bytes.new.items count.new places.new.slots.items places.new.size }
+    ensures placed { IfSome result (IsPlaced (strings_in bytes.old.items)
+        (strings_in bytes.new.items) (string_from rest.now 0)) }
+    ensures kept { take (length (strings_in bytes.old.items)) (strings_in bytes.new.items)
+        ≡ strings_in bytes.old.items }
+    ensures none { IsNone result → strings_in bytes.new.items ≡ strings_in bytes.old.items }
+{
+    if !ends_at(rest, end) {
+        return None;
+    }
+    match add(bytes, count, places, &rest[..end], hash, next) {
+        Ok(place) => Some(place),
+        Err(_) => None,
+    }
 }
 
 impl Model for HashedStrings {
@@ -162,21 +222,21 @@ impl HashedStrings {
     {
         if stands_at(&self.bytes, self.next, string) {
             let place = self.next;
-            self.next = place.saturating_add(string.len() + 1);
+            self.next = place.wrapping_add(string.len() + 1);
             return Ok(place);
         }
         let hash = hash(string);
         let next = match self.places.seek(hash) {
             Ok(place) => {
                 if stands_at(&self.bytes, place, string) {
-                    self.next = place.saturating_add(string.len() + 1);
+                    self.next = place.wrapping_add(string.len() + 1);
                     return Ok(place);
                 }
                 return Err(Unplaced::Clash);
             }
             Err(next) => next,
         };
-        add(
+        add_apart(
             &mut self.bytes,
             &mut self.count,
             &mut self.places,
@@ -188,8 +248,7 @@ impl HashedStrings {
 
     /// The offset of the string that some bytes begin with, of which one is zero, which is guessed
     /// to be its end. A new string goes last. None where it is new and its end isn't the guessed
-    /// one or isn't near, where its hash doesn't tell its place, and for want of memory; nothing
-    /// changed then.
+    /// one, where its hash doesn't tell its place, and for want of memory; nothing changed then.
     #[inline(always)]
     pub fn place_guessed(&mut self, bytes: &[u8], end: usize) -> Option<usize>
         requires within { end < length bytes.now }
@@ -200,36 +259,29 @@ impl HashedStrings {
     {
         if begins_alike(&self.bytes, self.next, bytes, end) {
             let place = self.next;
-            self.next = place.saturating_add(end + 1);
+            self.next = place.wrapping_add(end + 1);
             return Some(place);
         }
         let hash = hash(&bytes[..end]);
         let next = match self.places.seek(hash) {
             Ok(place) => {
                 if begins_alike(&self.bytes, place, bytes, end) {
-                    self.next = place.saturating_add(end + 1);
+                    self.next = place.wrapping_add(end + 1);
                     return Some(place);
                 }
                 return None;
             }
             Err(next) => next,
         };
-        let first = short_end(bytes, GUESSED_ROUNDS)?;
-        if first != end {
-            return None;
-        }
-        let added = add(
+        add_guessed(
             &mut self.bytes,
             &mut self.count,
             &mut self.places,
-            &bytes[..end],
+            bytes,
+            end,
             hash,
             next,
-        );
-        let Ok(place) = added else {
-            return None;
-        };
-        Some(place)
+        )
     }
 
     /// The same strings, found by their order; none are left here then. None for want of memory,

@@ -15,11 +15,12 @@ const PROBES: usize = 128;
 /// How many slots hashes begin at, at first.
 const FIRST_SIZE: u32 = 1024;
 
-/// Four times as many are made of less than this, half as many more of this, and twice as many of more.
+/// Sixteen times as many are made of less than this, three times as many of this, and twice as many of
+/// more: strings are walked each time.
 const MANY: u32 = 1 << 18;
 
-/// A free slot.
-const FREE: Slot = Slot { tag: 0, behind: 0 };
+/// A free slot. (Not all of it is zero: so many are written 16 bytes at a time, not byte by byte.)
+const FREE: Slot = Slot { tag: 1, behind: 0 };
 
 /// The lower half of a hash, and one more than the place that it has; 0 in a free slot.
 #[derive(Clone, Copy)]
@@ -73,10 +74,12 @@ fn seek(slots: &[Slot], size: u32, hash: u64) -> Result<usize, usize>
 {
     let home = home(size, hash);
     let tag = tag(hash);
-    for number in home..home + PROBES {
-        if number >= slots.len() {
-            return Err(number);
-        }
+    let last = if slots.len() < home + PROBES {
+        slots.len()
+    } else {
+        home + PROBES
+    };
+    for number in home..last {
         let slot = slots[number];
         if slot.behind == 0 {
             return Err(number);
@@ -157,9 +160,9 @@ fn more_than(size: u32) -> u32 {
     if size == 0 {
         FIRST_SIZE
     } else if size < MANY {
-        size * 4
+        size * 16
     } else if size == MANY {
-        MANY / 2 * 3
+        MANY * 3
     } else {
         size.saturating_mul(2)
     }
@@ -262,7 +265,7 @@ impl Places {
             return self.enter_in_more(hash, slot, strings);
         }
         if put_next(&mut self.slots, next, slot) {
-            self.used = self.used.saturating_add(1);
+            self.used = self.used.wrapping_add(1);
             return true;
         }
         if self.used < size / 4 {

@@ -1,7 +1,6 @@
 use Rattle.std.proofs.Common.{◌≡◌, ◌+◌, ◌-◌, ◌∙◌, length, take, drop, sym, refl, arith}
 use Rattle.std.proofs.lemmas.List.{length-take-le, take_all}
 use Rattle.thorin_strings.specs.Ends.{IsFirstZero}
-use Rattle.thorin_strings.specs.Places.{AreEntered}
 use Rattle.thorin_strings.proofs.StringLemmas.{drop_whole}
 use Rattle.thorin_strings.proofs.PlacesLemmas.{entered_kept}
 use Rattle.thorin_strings.proofs.WalkLemmas.{walked, walked_within, entered_push, entered_first}

@@ -1,4 +1,4 @@
-use Rattle.std.proofs.Common.{◌≡◌, ◌+◌, ◌-◌, ◌∷◌, [], ◌++◌, ◌∙◌, length, take, drop, ap, sym, refl}
+use Rattle.std.proofs.Common.{◌+◌, ◌-◌, ◌∙◌, length, take, drop, sym}
 use Rattle.std.proofs.Common.{arith}
 use Rattle.std.proofs.lemmas.List.{length-take-le, take_all}
 use Rattle.thorin_strings.proofs.StringLemmas.{drop_whole}
