@@ -15,12 +15,15 @@ const PROBES: usize = 128;
 /// How many slots hashes begin at, at first.
 const FIRST_SIZE: u32 = 1024;
 
-/// Sixteen times as many are made of less than this, three times as many of this, and twice as many of
-/// more: strings are walked each time.
+/// At how many then.
+const SOME: u32 = 3 << 14;
+
+/// And then; three times as many after that, and from there on twice as many. Each time strings are
+/// walked.
 const MANY: u32 = 1 << 18;
 
-/// A free slot. (Not all of it is zero: so many are written 16 bytes at a time, not byte by byte.)
-const FREE: Slot = Slot { tag: 1, behind: 0 };
+/// A free slot.
+const FREE: Slot = Slot { tag: 0, behind: 0 };
 
 /// The lower half of a hash, and one more than the place that it has; 0 in a free slot.
 #[derive(Clone, Copy)]
@@ -159,8 +162,10 @@ fn put_all(slots: &mut [Slot], size: u32, strings: &[u8]) -> Option<usize>
 fn more_than(size: u32) -> u32 {
     if size == 0 {
         FIRST_SIZE
+    } else if size < SOME {
+        SOME
     } else if size < MANY {
-        size * 16
+        MANY
     } else if size == MANY {
         MANY * 3
     } else {
