@@ -76,12 +76,12 @@ fn warn<E: Write>(target: DwarfObject, why: &str, err: &mut E) -> Result<(), Fai
 }
 
 /// The units that are left to be told, in the order in which executables name them; the path that
-/// was looked for last, and what is the matter with it.
+/// was looked for last, if one of the same executable was, and what is the matter with it.
 #[derive(Drop)]
 struct Left<'b> {
     first: Option<DwarfObject>,
     others: MissingTargets<'b>,
-    named: String,
+    named: Option<String>,
     why: String,
 }
 
@@ -90,7 +90,7 @@ impl<'b> Left<'b> {
         Left {
             first: units.next(),
             others: units,
-            named: String::new(alloc),
+            named: None,
             why: String::new(alloc),
         }
     }
@@ -108,10 +108,13 @@ impl<'b> Left<'b> {
         executable: &str,
         named: &str,
     ) -> Result<(), AllocError> {
-        let is_same = self.named.as_str() == named;
+        let is_same = match &self.named {
+            Some(last) => last.as_str() == named,
+            None => false,
+        };
         if !is_same {
             self.why = reason_of(alloc, files, executable, named)?;
-            self.named = String::from_str(alloc, named)?;
+            self.named = Some(String::from_str(alloc, named)?);
         }
         Ok(())
     }
@@ -169,6 +172,7 @@ fn tell_each<I: Inputs, E: Write>(
     left: &mut Left<'_>,
     err: &mut E,
 ) -> Result<(), Failure> {
+    left.named = None;
     // Whether the path of the unit that came last is the one that was looked for last.
     let mut is_known = false;
     while let Ok(Some(unit)) = units.next() {
