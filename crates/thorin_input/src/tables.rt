@@ -25,15 +25,14 @@ pub struct Tables<'a> {
     alloc: Global,
     order: Endianness,
     bytes: &'a [u8],
-    // The part of the section whose tables are remembered: the part that a unit used last ends where
-    // this one ends, and doesn't start before it.
-    begin: usize,
+    // Where the part of the section ends that a unit used last.
     end: usize,
+    // The abbreviations of the section up to there.
     cache: AbbreviationCache<SliceReader<'a>>,
 }
 
 impl<'a> Model for Tables<'a> {
-    ghost use Rattle.std.specs.Prelude.{◌≡◌, ◌≤◌, ℕ, List, length, take, drop};
+    ghost use Rattle.std.specs.Prelude.{◌≡◌, ◌≤◌, ℕ, List, length, take};
     ghost use Rattle.dwp_base.specs.declared.endian.Endianness.{Endianness as Order};
     ghost use Rattle.dwp_bytes.specs.Input.{section};
 
@@ -42,10 +41,9 @@ impl<'a> Model for Tables<'a> {
 
     ghost view = { λ t. (t.order, t.bytes.now) };
 
-    ghost invariant = { λ t. (t.begin ≤ t.end)
-        × (t.end ≤ length t.bytes.now)
+    ghost invariant = { λ t. (t.end ≤ length t.bytes.now)
         × (⟦<SliceReader<'static> as Reader>⟧.input t.cache
-        ≡ section t.order (drop t.begin (take t.end t.bytes.now))) };
+        ≡ section t.order (take t.end t.bytes.now)) };
 }
 
 /// Where a part of a section starts and ends. An absent one is empty: it starts and ends at that
@@ -55,7 +53,6 @@ fn bounds(range: Option<Contribution>, place: usize, bytes: &[u8]) -> (usize, us
     requires inside { is_outside bytes.now range ≡ false }
     requires place { place ≤ length bytes.now }
     ensures part { drop result.0 (take result.1 bytes.now) ≡ part_of bytes.now range }
-    ensures order { result.0 ≤ result.1 }
     ensures end { result.1 ≤ length bytes.now }
 {
     match range {
@@ -64,38 +61,6 @@ fn bounds(range: Option<Contribution>, place: usize, bytes: &[u8]) -> (usize, us
             (start, start + range.size as usize)
         }
         None => (place, place),
-    }
-}
-
-/// Where the part begins whose tables are remembered, for a part that a unit uses: where that one
-/// starts, or earlier where the part that was remembered ends where it ends.
-fn begin_for(start: usize, end: usize, remembered: usize, is_end: bool) -> usize
-    requires { start ≤ end }
-    ensures { result ≤ start }
-{
-    if !is_end {
-        start
-    } else if start < remembered {
-        start.saturating_sub(end - start)
-    } else {
-        remembered
-    }
-}
-
-/// Begins with these abbreviations, unless they are those that are remembered.
-fn take_up<'a>(
-    alloc: Global,
-    cache: &mut AbbreviationCache<SliceReader<'a>>,
-    is_new: bool,
-    bytes: &'a [u8],
-    order: Endianness,
-)
-    requires { is_new ≡ false
-        → ⟦<SliceReader<'a> as Reader>⟧.input cache.old ≡ section order bytes.now }
-    ensures { ⟦<SliceReader<'a> as Reader>⟧.input cache.new ≡ section order bytes.now }
-{
-    if is_new {
-        *cache = AbbreviationCache::new(alloc, SliceReader::new(bytes, order));
     }
 }
 
@@ -108,7 +73,6 @@ impl<'a> Tables<'a> {
             alloc,
             order: object.order,
             bytes: object.first(SectionKind::Abbrev),
-            begin: 0,
             end: 0,
             cache: AbbreviationCache::new(alloc, SliceReader::new(&[], object.order)),
         }
@@ -123,7 +87,7 @@ impl<'a> Tables<'a> {
 
     /// What `dwo_identifier_of_unit` says of a unit whose abbreviations stand in a part of the
     /// section. Units of one part, or of parts that end at one place, one after the other, share
-    /// what was read of its tables. (Where parts start ever earlier, twice the part is taken.)
+    /// what was read of its tables.
     ///
     /// # Errors
     /// Those of `dwo_identifier_of_unit`.
@@ -138,18 +102,11 @@ impl<'a> Tables<'a> {
         ensures kept { self.new ≡ self.old }
     {
         let (start, end) = bounds(range, self.end, self.bytes);
-        let begin = begin_for(start, end, self.begin, end == self.end);
-        let is_new = end != self.end || begin != self.begin;
-        let part = &self.bytes[..end];
-        take_up(
-            self.alloc,
-            &mut self.cache,
-            is_new,
-            &part[begin..],
-            self.order,
-        );
-        self.begin = begin;
-        self.end = end;
-        dwo_identifier_in_range(&mut self.cache, start - begin, header)
+        if end != self.end {
+            let reader = SliceReader::new(&self.bytes[..end], self.order);
+            self.cache = AbbreviationCache::new(self.alloc, reader);
+            self.end = end;
+        }
+        dwo_identifier_in_range(&mut self.cache, start, header)
     }
 }
