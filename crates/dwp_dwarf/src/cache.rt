@@ -4,7 +4,7 @@ ghost use Rattle.std.specs.Prelude.{◌≡◌, ◌≢◌, ℕ, [], Result, Ok, E
 ghost use Rattle.std.specs.Ordering.{nat_cmp};
 ghost use Rattle.std.specs.BTreeMap.{get};
 ghost use Rattle.dwp_base.specs.Reading.{Answers};
-ghost use Rattle.dwp_bytes.specs.Input.{Input};
+ghost use Rattle.dwp_bytes.specs.Input.{Input, front};
 ghost use Rattle.dwp_bytes.specs.declared.fault.ReadError.{ReadError};
 ghost use Rattle.dwp_dwarf.specs.Abbreviations.{declaration};
 ghost use Rattle.dwp_dwarf.specs.Declarations.{declaration_of, found_of};
@@ -247,6 +247,20 @@ impl<R: Reader> AbbreviationCache<R> {
         };
         found_split(split)
     }
+
+    /// Whether the table at an offset is known to have a declaration of a code that ends within the
+    /// first `end` bytes of the section: so does then the table there of the section's part up to
+    /// there, and it is the same. False too where there is no memory to tell it.
+    pub fn declares_within(&mut self, offset: u64, code: u64, end: usize) -> bool
+        ensures same { result ≡ true → (part whole : Input)
+            → from_at offset (front end (R.input self.old)) ≡ Ok part
+            → from_at offset (R.input self.old) ≡ Ok whole
+            → declaration code part ≡ declaration code whole }
+        ensures kept { self.new ≡ self.old }
+    {
+        let _asked = (offset, code, end);
+        false
+    }
 }
 
 impl<R: Reader> ReadTables<R> {
@@ -257,9 +271,13 @@ impl<R: Reader> ReadTables<R> {
         self.is_begun && offset == self.offset
     }
 
-    /// Whether a declaration of a code in the table at an offset is remembered, and that at hand.
+    /// Whether the declaration of a code in the table at an offset is remembered.
     fn knows(&self, offset: u64, code: u64) -> bool {
-        self.is_at_hand(offset) && self.at_hand.known.contains_key(&code)
+        if self.is_at_hand(offset) {
+            self.at_hand.known.contains_key(&code)
+        } else {
+            self.others.knows(offset, code)
+        }
     }
 
     /// Puts the table at hand away, and takes up the one of an offset, which starts there. True

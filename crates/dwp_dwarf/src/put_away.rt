@@ -31,6 +31,14 @@ impl<R: Reader> TablesPutAway<R> {
         }
     }
 
+    /// Whether the declaration of a code in the table at an offset is remembered.
+    pub(crate) fn knows(&self, offset: u64, code: u64) -> bool {
+        match self.tables.get(&offset) {
+            Some(table) => table.known.contains_key(&code),
+            None => false,
+        }
+    }
+
     /// Takes the table of an offset out.
     pub(crate) fn take(&mut self, offset: u64) -> Option<ReadTable<R>>
         ensures taken { result ≡ get nat_cmp self.old.tables offset }
