@@ -1,6 +1,6 @@
 -- Reading a table of abbreviations goes forward in the section.
-use Rattle.std.proofs.Common.{◌≡◌, ℕ, zero, suc, ◌+◌, ◌-◌, Bool, true, false, cond, List, []}
-use Rattle.std.proofs.Common.{◌∷◌, length, Some, None, Result, Ok, Err, eqb, ltb}
+use Rattle.std.proofs.Common.{◌≡◌, ℕ, zero, suc, ◌+◌, ◌-◌, ◌≤◌, Bool, true, false, cond, List}
+use Rattle.std.proofs.Common.{[], ◌∷◌, length, Some, None, Result, Ok, Err, eqb, ltb}
 use Rattle.std.proofs.Common.{ap, sym, subst, ◌∙◌, arith}
 use Rattle.std.specs.Prelude.{slice_index}
 use Rattle.std.proofs.lemmas.Bool.{ltb-false, le-ltb}
@@ -57,17 +57,18 @@ goes_some : (i j : Input) → Goes 1 i j → Goes 0 i j
 goes_some i j p = record { taken = p.taken; some = omega arith; enough = p.enough; is = p.is }
 
 -- what stands from an offset on
-goes_from : (offset : ℕ) (section i : Input) → from_at offset section ≡ Ok i → Goes 0 section i
+pub from_is : (offset : ℕ) (section i : Input) → from_at offset section ≡ Ok i
+    → (offset ≤ length section.bytes) × (i ≡ after offset section)
 unfolding from_at skip_at
-goes_from offset section i e =
+from_is offset section i e =
     let outer = guard_ok (ltb (length section.bytes) offset) OffsetOutOfRange (after offset section)
     i (rest_ok (ltb (length section.bytes) offset) (after offset section) i e) in
-    record {
-      taken = offset;
-      some = omega arith;
-      enough = ltb-false _ _ outer.0;
-      is = sym outer.1;
-    }
+    (ltb-false _ _ outer.0, sym outer.1)
+
+goes_from : (offset : ℕ) (section i : Input) → from_at offset section ≡ Ok i → Goes 0 section i
+goes_from offset section i e =
+    let from = from_is offset section i e in
+    record { taken = offset; some = omega arith; enough = from.0; is = from.1 }
 
 -- what lies further on is what the section has from its own offset on
 from_goes : (section i : Input) → Goes 0 section i → from_end (length i.bytes) section ≡ Ok i

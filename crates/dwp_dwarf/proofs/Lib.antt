@@ -4,8 +4,10 @@ pub mod TableForward
 pub mod UnitsForward
 pub mod UnitLists
 pub mod PastEnd
+pub mod PlaceEnds
 pub mod Grammar
 pub mod CodeNumbers
+pub mod Cut
 pub mod Goes
 pub mod Values
 pub mod Remembered

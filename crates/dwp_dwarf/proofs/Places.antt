@@ -12,6 +12,7 @@ use Rattle.dwp_bytes.specs.Leb.{LebsTakeBytes}
 use Rattle.dwp_bytes.specs.declared.fault.ReadError.{ReadError}
 use Rattle.dwp_dwarf.specs.Abbreviations.{Declaration, declaration}
 use Rattle.dwp_dwarf.specs.Chains.{from_end, absent_by, StandsAt, DeclaredAt, SaidBy}
+use Rattle.dwp_dwarf.specs.Chains.{EndsBefore, EndsInside}
 use Rattle.dwp_dwarf.specs.Chains.{RemembersPlace, RemembersPlaces, RemembersChains, FirstAt}
 use Rattle.dwp_dwarf.specs.Declarations.{found_of}
 use Rattle.dwp_dwarf.specs.Chains.{first_by, first_in}
@@ -30,13 +31,11 @@ use Rattle.dwp_dwarf.proofs.CodeNumbers.{none_numbered}
 use Rattle.dwp_dwarf.proofs.Goes.{end_behind}
 use Rattle.dwp_dwarf.proofs.Grammar.{by_bool, look_up-end, look_up-fault, look_up-here}
 use Rattle.dwp_dwarf.proofs.Grammar.{look_up-other}
+use Rattle.dwp_dwarf.proofs.PlaceEnds.{Next, one_input, one_next, ends_here, ends_further}
 use Rattle.dwp_dwarf.proofs.NewVersions.{below_none, value_stays, grows_length}
 
 abbrev Said : Type 0
 Said = Result (Option Declaration) ReadError
-
-pub one_input : (r : Result Input ReadError) (i j : Input) → r ≡ Ok i → r ≡ Ok j → i ≡ j
-one_input r i j p q = cc
 
 if_map : {A : Type 0} (o : Option A) (P Q : A → Type 0) → ((x : A) → P x → Q x) → IfSome o P
     → IfSome o Q
@@ -71,6 +70,10 @@ place_stays section old new nodes grown left place c g r = record {
   same = λ code. subst (λ (o : Option ℕ). SaidBy section place.fault o (declaration code r.table))
       (sym (number_stays old.count (get nat_cmp old.numbers code) (get nat_cmp new.numbers code)
       nodes grown place.version (c.kept code) g r.fits r.none)) (r.same code);
+  ends = λ code. subst (λ (o : Option ℕ). IfSome o (EndsInside section r.table code))
+      (sym (number_stays old.count (get nat_cmp old.numbers code) (get nat_cmp new.numbers code)
+      nodes grown place.version (c.kept code) g r.fits r.none)) (r.ends code);
+  behind = r.behind;
 }
 
 pub none_remembered : (section : Input) (chains : Chains) → chains.places.entries ≡ []
@@ -141,12 +144,12 @@ place_put section old new left place added firsts codes here others refused is r
 
 -- ---- what is remembered is said
 
-abbrev Next : Type 0
-Next = (ℕ × Declaration) × Input
+not_next : (r : Result (Option Next) ReadError) (x : Next) → r ≡ Ok None → r ≡ Ok (Some x) → ⊥
+not_next r x p q = absurd cc
 
-one_next : (r : Result (Option Next) ReadError) (x y : Next) → r ≡ Ok (Some x) → r ≡ Ok (Some y)
-    → x ≡ y
-one_next r x y p q = cc
+not_fault : (r : Result (Option Next) ReadError) (e : ReadError) (x : Next) → r ≡ Err e
+    → r ≡ Ok (Some x) → ⊥
+not_fault r e x p q = absurd cc
 
 -- at a place one declaration stands
 pub one_stands : (section : Input) (left : ℕ) (d e : Declaration) → StandsAt section left d
@@ -197,6 +200,34 @@ first_is section chains offset size code first place is fits here some all =
       declares = subst (λ (o : Option ℕ). SaidBy section place.fault o (declaration code p.table))
           some (p.same code);
     }
+
+-- where the first declaration of a code ends that a version has
+pub end_is : (section table : Input) (chains : Chains) (left code first : ℕ)
+    (place declared : Place) → get nat_cmp chains.places left ≡ Some place
+    → first_in chains.codes chains.firsts.nodes.items place.version code ≡ Some first
+    → get nat_cmp chains.places first ≡ Some declared → RemembersPlaces section chains
+    → from_end left section ≡ Ok table → EndsBefore table code declared.behind
+end_is section table chains left code first place declared here some there all is =
+    let p = if_there (RemembersPlace section chains.codes chains.firsts.nodes.items left)
+    (get nat_cmp chains.places left) place here (all.each left) in
+    let q = if_there (RemembersPlace section chains.codes chains.firsts.nodes.items first)
+    (get nat_cmp chains.places first) declared there (all.each first) in
+    let same : p.table ≡ table = one_input (from_end left section) p.table table p.is is in
+    let said : DeclaredAt section first (declaration code p.table) =
+    subst (λ (o : Option ℕ). SaidBy section place.fault o (declaration code p.table)) some
+    (p.same code) in
+    let stands = said.stands in
+    let inside = if_there (EndsInside section p.table code)
+    (first_in chains.codes chains.firsts.nodes.items place.version code) first some (p.ends code)
+    in
+    let start : q.table ≡ stands.start = one_input (from_end first section) q.table stands.start
+    q.is stands.is in
+    let end : declared.behind ≡ length stands.behind.bytes =
+    q.behind ((stands.code, said.declared), stands.behind) (subst (λ (t : Input).
+    next_at t ≡ Ok (Some ((stands.code, said.declared), stands.behind))) (sym start) stands.next) in
+    subst (λ (t : Input). EndsBefore t code declared.behind) same
+    (subst (λ (n : ℕ). EndsBefore p.table code n) (sym end)
+    (inside said.declared stands).1)
 
 module _ {R : Type 0} (input : R → Input) where
   abbrev Read : Type 0
@@ -254,6 +285,14 @@ first_apart None nodes grown version changed number apart others = refl
 first_apart (Some n) nodes grown version changed number apart others =
     others n (λ e. apart (ap (λ (k : ℕ). Some k) e))
 
+-- a version without the code has no declaration that ends
+ends_none : (section table : Input) (place : Place) (codes : Codes) (nodes : List Node) (code : ℕ)
+    → place.version ≡ 0 → IfSome (first_in codes nodes place.version code)
+    (EndsInside section table code)
+ends_none section table place codes nodes code zero =
+    subst (λ (o : Option ℕ). IfSome o (EndsInside section table code))
+    (sym (first_none (get nat_cmp codes.numbers code) nodes place zero)) tt
+
 -- a version that was changed for another code
 first_other : (codes : Codes) (nodes grown : List Node) (version changed code number other : ℕ)
     → Numbered codes → get nat_cmp codes.numbers code ≡ Some number → other ≢ code
@@ -275,6 +314,8 @@ module _ (lebs : LebsTakeBytes) where
     none = λ number _. value_none nodes place number zero;
     same = λ code. said_none section place codes nodes code (declaration code i) zero
         (look_up-end lebs code i end ∙ ap absent_by (sym none));
+    ends = λ code. ends_none section i place codes nodes code zero;
+    behind = λ x h. absurd (not_next (next_at i) x end h);
   }
 
   -- at a fault
@@ -288,6 +329,8 @@ module _ (lebs : LebsTakeBytes) where
     none = λ number _. value_none nodes place number zero;
     same = λ code. said_none section place codes nodes code (declaration code i) zero
         (look_up-fault lebs code i e fails ∙ ap absent_by (sym some));
+    ends = λ code. ends_none section i place codes nodes code zero;
+    behind = λ x h. absurd (not_fault (next_at i) e x fails h);
   }
 
   said_here : (section i behind : Input) (left code : ℕ) (declared : Declaration)
@@ -306,11 +349,12 @@ module _ (lebs : LebsTakeBytes) where
       → next_at i ≡ Ok (Some ((code, declared), behind)) → Numbered codes
       → get nat_cmp codes.numbers code ≡ Some number
       → RemembersPlace section codes nodes (length behind.bytes) next → place.fault ≡ next.fault
+      → place.behind ≡ length behind.bytes
       → place.version ≤ length grown → value_in grown place.version number ≡ Some left
       → ((other : ℕ) → other ≢ number → value_in grown place.version other ≡ value_in nodes
       next.version other) → RemembersPlace section codes grown left place
   place_next section i behind codes nodes grown left code number declared next place is h numbered
-      number_is r fault fits value others = record {
+      number_is r fault end fits value others = record {
         table = i;
         is = is;
         fits = fits;
@@ -342,4 +386,26 @@ module _ (lebs : LebsTakeBytes) where
             (subst (λ (o : Option ℕ). SaidBy section next.fault o (declaration c i)) (sym other)
             (subst (λ (d : Said). SaidBy section next.fault (first_in codes nodes next.version c) d)
             says (r.same c))));
+        ends = λ c. by_bool (IfSome (first_in codes grown place.version c)
+            (EndsInside section i c)) (eqb code c)
+            (λ e. subst (λ (k : ℕ). IfSome (first_in codes grown place.version k)
+            (EndsInside section i k)) (eqb-true _ _ e)
+            (subst (λ (o : Option ℕ). IfSome o (EndsInside section i code))
+            (sym (ap (λ (o : Option ℕ). first_by o grown place.version) number_is ∙ value))
+            (ends_here lebs section i behind left code declared is h)))
+            (λ apart.
+            let other : first_in codes grown place.version c ≡ first_in codes nodes next.version c =
+            first_other codes nodes grown next.version place.version code number c numbered
+            number_is (λ e. let never : true ≡ false = sym (eq-eqb code c (sym e)) ∙ apart in
+            absurd cc) others in
+            let table : r.table ≡ behind = one_input (from_end (length behind.bytes) section)
+            r.table
+            behind r.is (end_behind lebs section i left ((code, declared), behind) is h) in
+            subst (λ (o : Option ℕ). IfSome o (EndsInside section i c)) (sym other)
+            (if_map (first_in codes nodes next.version c) (EndsInside section r.table c)
+            (EndsInside section i c) (λ first inside. ends_further lebs section i behind c code
+            first declared h apart (subst (λ (t : Input). EndsInside section t c first) table
+            inside)) (r.ends c)));
+        behind = λ x same. end
+            ∙ ap (λ (y : Next). length y.1.bytes) (one_next (next_at i) ((code, declared), behind) x h same);
       }

@@ -158,7 +158,7 @@ module _ (lebs : LebsTakeBytes) where
 
   -- ---- a list of pairs, by cases on what stands first
 
-  list_enough : (m n : ℕ) (i : Input) → length i.bytes ≤ m → length i.bytes ≤ n
+  pub list_enough : (m n : ℕ) (i : Input) → length i.bytes ≤ m → length i.bytes ≤ n
       → specifications_within m i ≡ specifications_within n i
   unfolding specifications_within
   list_enough zero zero i p q = refl

@@ -1,11 +1,11 @@
 -- Tables of abbreviations (DWARF 5, 7.5.3) that overlap: what tables say that go on at a place of
 -- the section is remembered by the place. From a declaration on they all go on alike.
-use Rattle.std.specs.Prelude.{◌≡◌, ◌≤◌, ◌-◌, ℕ, List, length, Option, Some, None, Result, Ok, Err}
-use Rattle.std.specs.Prelude.{IfSome, Vec, map}
+use Rattle.std.specs.Prelude.{◌≡◌, ◌≤◌, ◌+◌, ◌-◌, ℕ, List, length, Option, Some, None, Result, Ok}
+use Rattle.std.specs.Prelude.{Err, IfSome, Vec, map}
 use Rattle.std.specs.declared.alloc.Global.{Global}
 use Rattle.std.specs.Ordering.{nat_cmp}
 use Rattle.std.specs.BTreeMap.{BTreeMap, get}
-use Rattle.dwp_bytes.specs.Input.{Input}
+use Rattle.dwp_bytes.specs.Input.{Input, front}
 use Rattle.dwp_bytes.specs.declared.fault.ReadError.{ReadError}
 use Rattle.dwp_dwarf.specs.Abbreviations.{Declaration, declaration}
 use Rattle.dwp_dwarf.specs.Codes.{Numbered}
@@ -59,8 +59,21 @@ first_by (Some number) nodes version = value_in nodes version number
 abbrev pub first_in : Codes → List Node → ℕ → ℕ → Option ℕ
 first_in codes nodes version code = first_by (get nat_cmp codes.numbers code) nodes version
 
--- what is remembered of a place says of each code what the table says that begins there; it has no
--- number that wasn't given
+-- a table says the same of a code where at most so many bytes of its end are missing
+abbrev pub EndsBefore : Input → ℕ → ℕ → Type 0
+EndsBefore table code left = (n : ℕ) → length table.bytes ≤ n + left
+    → declaration code (front n table) ≡ declaration code table
+
+-- a table's declaration of a code is the one at a place: what the table says of the code doesn't
+-- need the bytes behind that
+abbrev pub EndsInside : Input → Input → ℕ → ℕ → Type 0
+EndsInside section table code first =
+    (declared : Declaration) → (stands : StandsAt section first declared)
+    → (length stands.behind.bytes ≤ length table.bytes)
+    × EndsBefore table code (length stands.behind.bytes)
+
+-- what is remembered of a place says of each code what the table says that begins there, and where
+-- the declaration at the place ends; it has no number that wasn't given
 pub record RemembersPlace (section : Input) (codes : Codes) (nodes : List Node) (left : ℕ)
     (place : Place) : Type 0 where
   pub table : Input
@@ -69,6 +82,10 @@ pub record RemembersPlace (section : Input) (codes : Codes) (nodes : List Node) 
   pub none : (number : ℕ) → codes.count ≤ number → value_in nodes place.version number ≡ None
   pub same : (code : ℕ) → SaidBy section place.fault (first_in codes nodes place.version code)
       (declaration code table)
+  pub ends : (code : ℕ) → IfSome (first_in codes nodes place.version code)
+      (EndsInside section table code)
+  pub behind : (next : (ℕ × Declaration) × Input) → next_at table ≡ Ok (Some next)
+      → place.behind ≡ length next.1.bytes
 
 -- each place that is remembered is remembered so
 pub record RemembersPlaces (section : Input) (chains : Chains) : Type 0 where

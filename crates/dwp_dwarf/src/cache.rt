@@ -258,8 +258,10 @@ impl<R: Reader> AbbreviationCache<R> {
             → declaration code part ≡ declaration code whole }
         ensures kept { self.new ≡ self.old }
     {
-        let _asked = (offset, code, end);
-        false
+        let Some(left) = self.seen.chains.left_behind(self.section, offset, code) else {
+            return false;
+        };
+        self.section.len() as u64 <= left.saturating_add(end as u64)
     }
 }
 

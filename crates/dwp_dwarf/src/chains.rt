@@ -10,7 +10,7 @@ ghost use Rattle.dwp_bytes.specs.declared.fault.ReadError.{ReadError};
 ghost use Rattle.dwp_dwarf.specs.Abbreviations.{Declaration, declaration};
 ghost use Rattle.dwp_dwarf.specs.Chains.{from_end, absent_by, StandsAt, SaidBy, RemembersPlace};
 ghost use Rattle.dwp_dwarf.specs.Chains.{RemembersPlaces, ListsPlaces, RemembersChains, FirstAt};
-ghost use Rattle.dwp_dwarf.specs.Chains.{first_in};
+ghost use Rattle.dwp_dwarf.specs.Chains.{first_in, EndsBefore};
 ghost use Rattle.dwp_dwarf.specs.Codes.{Numbered, GrowsCodes};
 ghost use Rattle.dwp_dwarf.specs.Declarations.{declaration_of, found_of};
 ghost use Rattle.dwp_dwarf.specs.Entries.{entry};
@@ -39,6 +39,8 @@ pub(crate) struct Place {
     pub(crate) version: u32,
     // The fault at their end.
     pub(crate) fault: Option<ReadError>,
+    // How many bytes of the section are left behind the declaration there; 0 where there is none.
+    pub(crate) behind: u32,
 }
 
 /// Once the versions have so many nodes for each byte of the section, none are added. A declaration
@@ -93,6 +95,39 @@ impl Chains {
         ensures kept { RemembersChains (R.input section) self.old
             → RemembersChains (R.input section) self.new }
     {
+        let left = self.learn_table(section, offset)?;
+        self.said(section, left, code)
+    }
+
+    /// How many bytes of the section are left behind the declaration of a code that the table at an
+    /// offset of it has. None where that isn't remembered, and where the table doesn't have the
+    /// code.
+    pub(crate) fn left_behind<R: Reader>(
+        &mut self,
+        section: R,
+        offset: u64,
+        code: u64,
+    ) -> Option<u64>
+        ensures ends { IfSome result (λ left. RemembersChains (R.input section) self.old
+            → (table : Input) → from_at offset (R.input section) ≡ Ok table
+            → EndsBefore table code left) }
+        ensures kept { RemembersChains (R.input section) self.old
+            → RemembersChains (R.input section) self.new }
+    {
+        let left = self.learn_table(section, offset)?;
+        self.end_of(left, code)
+    }
+
+    /// Remembers the table at an offset of the section, and says how many bytes are left there. None
+    /// where there is none, or as much was taken as may be.
+    fn learn_table<R: Reader>(&mut self, section: R, offset: u64) -> Option<u64>
+        ensures left { IfSome result (λ left. (table : Input)
+            → from_at offset (R.input section) ≡ Ok table
+            → from_end left (R.input section) ≡ Ok table) }
+        ensures places { RemembersPlaces (R.input section) self.old
+            → RemembersPlaces (R.input section) self.new }
+        ensures lists { self.new.lists ≡ self.old.lists }
+    {
         let length = section.len() as u64;
         if length < offset {
             return None;
@@ -102,7 +137,19 @@ impl Chains {
             return None;
         }
         self.learn_from(section, left);
-        self.said(section, left, code)
+        Some(left)
+    }
+
+    /// How many bytes of the section are left behind the declaration of a code that the table has
+    /// which begins where so many are left.
+    fn end_of(&self, left: u64, code: u64) -> Option<u64>
+        ensures { IfSome result (λ end. (section table : Input) → RemembersPlaces section self.now
+            → from_end left section ≡ Ok table → EndsBefore table code end) }
+    {
+        let place = self.place_of(left)?;
+        let at = self.first_in(place.version, code)?;
+        let declared = self.place_of(at)?;
+        Some(u64::from(declared.behind))
     }
 
     /// The place of the declaration of a code that the table at an offset of the section has, where
@@ -337,20 +384,24 @@ impl Chains {
             Ok(Some((code, _, behind))) => {
                 let next = self.next_place(behind)?;
                 let first = in_32_bits(left)?;
+                let end = in_32_bits(behind.len() as u64)?;
                 let number = self.codes.number_or_next(code)?;
                 let version = self.firsts.insert(next.version, number, first)?;
                 Some(Place {
                     version,
                     fault: next.fault,
+                    behind: end,
                 })
             }
             Ok(None) => Some(Place {
                 version: 0,
                 fault: None,
+                behind: 0,
             }),
             Err(fault) => Some(Place {
                 version: 0,
                 fault: Some(fault),
+                behind: 0,
             }),
         }
     }
