@@ -1,3 +1,4 @@
 pub mod Numbered
 pub mod Anywhere
 pub mod Parts
+pub mod Cut

@@ -1,6 +1,6 @@
 -- Which unit a unit of a split object is (DWARF 5, 7.5.1: the identifier or signature in its
 -- header; before version 5 the GNU_dwo_id of its root entry: the GNU page DebugFission).
-use Rattle.std.specs.Prelude.{ℕ, List, [], ◌∷◌, drop, Bool, ◌||◌, ◌==◌, if◌then◌else◌}
+use Rattle.std.specs.Prelude.{ℕ, List, [], ◌∷◌, take, drop, Bool, ◌||◌, ◌==◌, if◌then◌else◌}
 use Rattle.std.specs.Prelude.{Option, Some, None, Result, Ok, Err, option_map}
 use Rattle.std.specs.Option.{ok_or}
 use Rattle.dwp_base.specs.Reading.{◌>>=◌}
@@ -92,9 +92,9 @@ identity_by section unit unit_types.Partial = Ok None
 unfoldable pub identity : Input → Unit → Result (Option DwarfObject) Fault
 identity section unit = identity_by section unit unit.unit_type
 
--- a section's part from a place on, as a section of its own; nothing stands past the end
-abbrev pub part_from : ℕ → Input → Input
-part_from start whole = section whole.order (drop start whole.bytes)
+-- a section's part from a place up to another, as a section of its own; nothing stands past the end
+abbrev pub part_between : ℕ → ℕ → Input → Input
+part_between start end whole = section whole.order (drop start (take end whole.bytes))
 
 -- the unit, were its abbreviations at that offset
 abbrev pub with_offset : ℕ → Unit → Unit

@@ -1,6 +1,6 @@
 //! Which unit a unit of a split object is.
 
-ghost use Rattle.std.specs.Prelude.{◌≡◌, ◌≢◌, Ok, IfErr};
+ghost use Rattle.std.specs.Prelude.{◌≡◌, ◌≢◌, Ok, IfErr, IfSome, drop, take};
 ghost use Rattle.dwp_bytes.specs.Input.{Input};
 ghost use Rattle.thorin_faults.specs.Answers.{Gives};
 ghost use Rattle.dwp_dwarf.specs.Units.{Unit, unit_of};
@@ -8,7 +8,7 @@ ghost use Rattle.dwp_dwarf.specs.Attributes.{entry_of};
 ghost use Rattle.dwp_dwarf.specs.Numbers.{numbered_of};
 ghost use Rattle.thorin_identity.specs.Identity.{identity, identity_by, root_identity};
 ghost use Rattle.thorin_identity.specs.Identity.{entry_identity, first_identifier, is_unit_tag};
-ghost use Rattle.thorin_identity.specs.Identity.{numbered_identity, part_from, with_offset};
+ghost use Rattle.thorin_identity.specs.Identity.{numbered_identity, part_between, with_offset};
 
 use dwp_dwarf::{
     AbbreviationCache, Abbreviations, EntryNumber, ReadError, Reader, RootEntry, UnitHeader,
@@ -46,8 +46,9 @@ pub fn dwo_identifier_of_unit<R: Reader>(
     }
 }
 
-/// The same, where the section's tables are remembered: units that use one table, or several by
-/// turns, read each once, and attributes without bytes cost each unit nothing.
+/// The identifier of a unit as `dwo_identifier_of_unit` says it, where the section's tables are
+/// remembered: units that use one table, or several by turns, read each once (DWARF 5, 7.5.3). Where
+/// the unit's table is remembered, attributes without bytes cost it nothing.
 ///
 /// # Errors
 /// Those of `dwo_identifier_of_unit`.
@@ -67,9 +68,13 @@ pub fn dwo_identifier_remembering<R: Reader>(
     }
 }
 
-/// The same of a unit whose abbreviations stand in the part of that section from `start` on, which
-/// the unit's own offset is counted from, in bytes. All parts share what was read. Where `start` is
-/// past the section's end, the part is empty.
+/// The identifier of a unit as `dwo_identifier_of_unit` says it, where the unit's abbreviations are
+/// the part of the section from the byte `start` up to the byte `end`, as an index's row has it
+/// (DWARF 5, 7.3.5): the unit's own offset is counted from `start`, and no table goes on past `end`
+/// (7.5.3). Nothing stands past the section's end, nor where `end` is before `start`.
+///
+/// What is remembered of the section's tables answers for each part, where it tells that the unit's
+/// code is declared within it. Else the part is read, and nothing is remembered of that.
 ///
 /// # Errors
 /// Those of `dwo_identifier_of_unit`, of the part.
@@ -77,15 +82,16 @@ pub fn dwo_identifier_remembering<R: Reader>(
 pub fn dwo_identifier_in_range<R: Reader>(
     debug_abbrev: &mut AbbreviationCache<R>,
     start: usize,
+    end: usize,
     header: &UnitHeader<R>,
 ) -> Result<Option<DwarfObject>, Error>
-    ensures meaning { Gives (λ name. name) result
-        (identity (part_from start (R.input debug_abbrev.old)) (unit_of R.input header.now)) }
+    ensures meaning { Gives (λ name. name) result (identity
+        (part_between start end (R.input debug_abbrev.old)) (unit_of R.input header.now)) }
     ensures memory { IfErr result (λ e. e ≢ Error.Memory) }
     ensures kept { debug_abbrev.new ≡ debug_abbrev.old }
 {
     match header.unit_type() {
-        UnitType::Compilation => root_identifier_in_range(debug_abbrev, start, header),
+        UnitType::Compilation => root_identifier_in_range(debug_abbrev, start, end, header),
         unit_type => Ok(header_identifier(unit_type)),
     }
 }
@@ -139,22 +145,58 @@ fn root_identifier_remembering<R: Reader>(
     root_identifier_at(debug_abbrev, header.abbrev_offset(), header)
 }
 
-/// The same in the part of the section from `start` on.
+/// The identifier in the root entry of a compile unit whose abbreviations are a part of the section.
 fn root_identifier_in_range<R: Reader>(
     debug_abbrev: &mut AbbreviationCache<R>,
     start: usize,
+    end: usize,
     header: &UnitHeader<R>,
 ) -> Result<Option<DwarfObject>, Error>
-    ensures meaning { Gives (λ name. name) result
-        (root_identity (part_from start (R.input debug_abbrev.old)) (unit_of R.input header.now)) }
+    ensures meaning { Gives (λ name. name) result (root_identity
+        (part_between start end (R.input debug_abbrev.old)) (unit_of R.input header.now)) }
     ensures memory { IfErr result (λ e. e ≢ Error.Memory) }
     ensures kept { debug_abbrev.new ≡ debug_abbrev.old }
 {
-    let start = start.min(debug_abbrev.section().len()) as u64;
-    let Some(offset) = start.checked_add(header.abbrev_offset()) else {
-        return Err(Error::ParseUnitAbbreviations(ReadError::OffsetOutOfRange));
-    };
-    root_identifier_at(debug_abbrev, offset, header)
+    match offset_within(debug_abbrev, start, end, header) {
+        Some(offset) => root_identifier_at(debug_abbrev, offset, header),
+        None => root_identifier(&part_of(debug_abbrev.section(), start, end), header),
+    }
+}
+
+/// The offset in the section at which the unit's table begins, where it is known that what the table
+/// there says of the root entry's code is what the table of the part says.
+fn offset_within<R: Reader>(
+    debug_abbrev: &mut AbbreviationCache<R>,
+    start: usize,
+    end: usize,
+    header: &UnitHeader<R>,
+) -> Option<u64>
+    ensures same { IfSome result (λ offset. root_identity
+        (part_between start end (R.input debug_abbrev.old)) (unit_of R.input header.now)
+        ≡ root_identity (R.input debug_abbrev.old)
+        (with_offset offset (unit_of R.input header.now))) }
+    ensures kept { debug_abbrev.new ≡ debug_abbrev.old }
+{
+    let (code, _) = header.root_code().ok()??;
+    let end = end.min(debug_abbrev.section().len());
+    let offset = (start as u64).checked_add(header.abbrev_offset())?;
+    if offset <= end as u64 && debug_abbrev.declares_within(offset, code, end) {
+        Some(offset)
+    } else {
+        None
+    }
+}
+
+/// The part of a section from `start` up to `end`. Nothing stands past the section's end.
+fn part_of<R: Reader>(section: R, start: usize, end: usize) -> R
+    ensures { (R.input result).bytes ≡ drop start (take end (R.input section).bytes) }
+{
+    let mut part = section;
+    let _is_cut = part.truncate(end);
+    if part.skip(start).is_err() {
+        part.empty();
+    }
+    part
 }
 
 /// The same of a unit whose abbreviations stand at that offset of the section, not at its own.
