@@ -52,6 +52,6 @@ pub none_left : (r : Result (Unit {0}) ReadError) (i j : Input) (n : ℕ)
 unfolding skip_at
 none_left r i j n h e = elim (cases_lt (length i.bytes) n) [
   | inl past ↦ drop_all n i.bytes (omega (arith, past))
-  | inr inside ↦
-      absurd cc (done r i j (after n i) (skip_at n) (rw (le-ltb (length i.bytes) n inside) refl) h).0
+  | inr inside ↦ absurd cc
+      (done r i j (after n i) (skip_at n) (rw (le-ltb (length i.bytes) n inside) refl) h).0
 ]

@@ -69,7 +69,8 @@ root_outside section unit h = rw (from_outside unit.abbrev_offset section h) ref
 pub root_alike : (i j : Input) (unit : Unit) → i.bytes ≡ j.bytes
     → root_identity i unit ≡ root_identity j unit
 root_alike i j unit e = elim (cases_lt (length i.bytes) unit.abbrev_offset) [
-  | inl past ↦ root_outside i unit past ∙ sym (root_outside j unit (omega (arith, past, ap length e)))
+  | inl past ↦ root_outside i unit past
+      ∙ sym (root_outside j unit (omega (arith, past, ap length e)))
   | inr inside ↦
       root_table i _ unit (from_inside unit.abbrev_offset i inside)
       ∙ table_alike unit (after unit.abbrev_offset i) (after unit.abbrev_offset j)

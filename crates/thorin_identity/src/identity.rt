@@ -46,9 +46,9 @@ pub fn dwo_identifier_of_unit<R: Reader>(
     }
 }
 
-/// The identifier of a unit as `dwo_identifier_of_unit` says it, where the section's tables are
-/// remembered: units that use one table, or several by turns, read each once (DWARF 5, 7.5.3). Where
-/// the unit's table is remembered, attributes without bytes cost it nothing.
+/// The identifier of a unit, as `dwo_identifier_of_unit` answers it, where the section's tables are
+/// remembered: units that use one table, or several by turns, read each once (DWARF 5, 7.5.3). Once
+/// a table is remembered, attributes without bytes cost a unit that uses it nothing.
 ///
 /// # Errors
 /// Those of `dwo_identifier_of_unit`.
@@ -68,13 +68,15 @@ pub fn dwo_identifier_remembering<R: Reader>(
     }
 }
 
-/// The identifier of a unit as `dwo_identifier_of_unit` says it, where the unit's abbreviations are
-/// the part of the section from the byte `start` up to the byte `end`, as an index's row has it
-/// (DWARF 5, 7.3.5): the unit's own offset is counted from `start`, and no table goes on past `end`
-/// (7.5.3). Nothing stands past the section's end, nor where `end` is before `start`.
+/// The identifier of a unit whose abbreviations are the part of the section from the byte `start` up
+/// to the byte `end`, as a row of a package's index has it (DWARF 5, 7.3.5): that in its header; for
+/// a compile unit the first GNU_dwo_id of its root entry whose form is a plain number; else none. The
+/// offset of its table is counted from `start`, and no table goes on past `end` (7.5.3). Nothing
+/// stands past the section's end, nor where `end` is before `start`.
 ///
-/// What is remembered of the section's tables answers for each part, where it tells that the unit's
-/// code is declared within it. Else the part is read, and nothing is remembered of that.
+/// All parts share what is remembered of the section's tables: this answers where it tells that the
+/// code of the root entry is declared within the part. Else the part is read by itself, and nothing
+/// of that is remembered.
 ///
 /// # Errors
 /// Those of `dwo_identifier_of_unit`, of the part.
@@ -145,7 +147,7 @@ fn root_identifier_remembering<R: Reader>(
     root_identifier_at(debug_abbrev, header.abbrev_offset(), header)
 }
 
-/// The identifier in the root entry of a compile unit whose abbreviations are a part of the section.
+/// The identifier in the root entry of a compile unit whose abbreviations are a part of a section.
 fn root_identifier_in_range<R: Reader>(
     debug_abbrev: &mut AbbreviationCache<R>,
     start: usize,
@@ -163,8 +165,8 @@ fn root_identifier_in_range<R: Reader>(
     }
 }
 
-/// The offset in the section at which the unit's table begins, where it is known that what the table
-/// there says of the root entry's code is what the table of the part says.
+/// The offset in the section at which the unit's table begins, where it is known that the table there
+/// says of the root entry's code what the part's table says.
 fn offset_within<R: Reader>(
     debug_abbrev: &mut AbbreviationCache<R>,
     start: usize,
