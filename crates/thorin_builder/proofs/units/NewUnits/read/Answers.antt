@@ -23,7 +23,7 @@ stopped : (adding : Adding) (sections : List UsedSection) (i : ℕ) (d : UsedSec
 unfolding new_units with_each_section
 stopped adding sections i d before fault all inside left first =
     let more : drop i adding.source.now.object.sections.items
-        ≡ get_or sections i d ∷ drop (i + 1) sections =
+    ≡ get_or sections i d ∷ drop (i + 1) sections =
     ap (drop i) (sym all) ∙ drop_more sections i d inside in
     let met : with_each_section (adding_of adding) (
       none_met,
