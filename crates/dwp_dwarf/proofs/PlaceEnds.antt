@@ -9,7 +9,7 @@ use Rattle.dwp_bytes.specs.Input.{Input, front, after}
 use Rattle.dwp_bytes.specs.Leb.{LebsTakeBytes}
 use Rattle.dwp_bytes.specs.declared.fault.ReadError.{ReadError}
 use Rattle.dwp_dwarf.specs.Abbreviations.{Declaration, declaration}
-use Rattle.dwp_dwarf.specs.Chains.{from_end, EndsBefore, EndsInside}
+use Rattle.dwp_dwarf.specs.Chains.{from_end, StaysBefore, StaysBehind}
 use Rattle.dwp_dwarf.specs.Grammar.{next_at}
 use Rattle.dwp_dwarf.specs.Offsets.{from_at}
 use Rattle.dwp_dwarf.proofs.Cut.{more, next_cut}
@@ -81,7 +81,7 @@ module _ (lebs : LebsTakeBytes) where
 
   further_ends : (n : ℕ) (i behind : Input) (wanted code left : ℕ) (declared : Declaration)
       → next_at i ≡ Ok (Some ((code, declared), behind)) → eqb code wanted ≡ false
-      → left ≤ length behind.bytes → EndsBefore behind wanted left
+      → left ≤ length behind.bytes → StaysBefore behind wanted left
       → length i.bytes ≤ n + left → declaration wanted (front n i) ≡ declaration wanted i
   further_ends n i behind wanted code left declared h apart fits ends enough =
       by_bool (declaration wanted (front n i) ≡ declaration wanted i) (ltb n (length i.bytes))
@@ -96,14 +96,14 @@ module _ (lebs : LebsTakeBytes) where
   -- of the code of the declaration at a place
   pub ends_here : (section i behind : Input) (left code : ℕ) (declared : Declaration)
       → from_end left section ≡ Ok i → next_at i ≡ Ok (Some ((code, declared), behind))
-      → EndsInside section i code left
+      → StaysBehind section i code left
   ends_here section i behind left code declared is h = λ d stands.
       let same : stands.behind ≡ behind = ap (λ (x : Next). x.1) (one_next (next_at i)
       ((stands.code, d), stands.behind) ((code, declared), behind)
       (subst (λ (j : Input). next_at j ≡ Ok (Some ((stands.code, d), stands.behind)))
       (one_input (from_end left section) stands.start i stands.is is) stands.next) h) in
       subst (λ (b : Input). (length b.bytes ≤ length i.bytes)
-      × EndsBefore i code (length b.bytes)) (sym same) (
+      × StaysBefore i code (length b.bytes)) (sym same) (
         omega (arith, next_shorter lebs i ((code, declared), behind) h),
         λ n enough. here_ends n i behind code declared h enough,
       )
@@ -111,7 +111,7 @@ module _ (lebs : LebsTakeBytes) where
   -- of another code, by the table behind the declaration at a place
   pub ends_further : (section i behind : Input) (wanted code first : ℕ) (declared : Declaration)
       → next_at i ≡ Ok (Some ((code, declared), behind)) → eqb code wanted ≡ false
-      → EndsInside section behind wanted first → EndsInside section i wanted first
+      → StaysBehind section behind wanted first → StaysBehind section i wanted first
   ends_further section i behind wanted code first declared h apart inside = λ d stands.
       let ends = inside d stands in (
         omega (arith, next_shorter lebs i ((code, declared), behind) h, ends.0),
@@ -139,7 +139,7 @@ part_within section part whole offset end p w =
 
 -- a declaration that ends there is there too
 pub same_within : (section part whole : Input) (offset end left code : ℕ)
-    → length section.bytes ≤ left + end → EndsBefore whole code left
+    → length section.bytes ≤ left + end → StaysBefore whole code left
     → from_at offset (front end section) ≡ Ok part → from_at offset section ≡ Ok whole
     → declaration code part ≡ declaration code whole
 same_within section part whole offset end left code fits ends p w =

@@ -12,7 +12,7 @@ use Rattle.dwp_bytes.specs.Leb.{LebsTakeBytes}
 use Rattle.dwp_bytes.specs.declared.fault.ReadError.{ReadError}
 use Rattle.dwp_dwarf.specs.Abbreviations.{Declaration, declaration}
 use Rattle.dwp_dwarf.specs.Chains.{from_end, absent_by, StandsAt, DeclaredAt, SaidBy}
-use Rattle.dwp_dwarf.specs.Chains.{EndsBefore, EndsInside}
+use Rattle.dwp_dwarf.specs.Chains.{EndsBefore, StaysBefore, StaysBehind}
 use Rattle.dwp_dwarf.specs.Chains.{RemembersPlace, RemembersPlaces, RemembersChains, FirstAt}
 use Rattle.dwp_dwarf.specs.Declarations.{found_of}
 use Rattle.dwp_dwarf.specs.Chains.{first_by, first_in}
@@ -70,7 +70,7 @@ place_stays section old new nodes grown left place c g r = record {
   same = λ code. subst (λ (o : Option ℕ). SaidBy section place.fault o (declaration code r.table))
       (sym (number_stays old.count (get nat_cmp old.numbers code) (get nat_cmp new.numbers code)
       nodes grown place.version (c.kept code) g r.fits r.none)) (r.same code);
-  ends = λ code. subst (λ (o : Option ℕ). IfSome o (EndsInside section r.table code))
+  ends = λ code. subst (λ (o : Option ℕ). IfSome o (StaysBehind section r.table code))
       (sym (number_stays old.count (get nat_cmp old.numbers code) (get nat_cmp new.numbers code)
       nodes grown place.version (c.kept code) g r.fits r.none)) (r.ends code);
   behind = r.behind;
@@ -217,7 +217,7 @@ end_is section table chains left code first place declared here some there all i
     subst (λ (o : Option ℕ). SaidBy section place.fault o (declaration code p.table)) some
     (p.same code) in
     let stands = said.stands in
-    let inside = if_there (EndsInside section p.table code)
+    let inside = if_there (StaysBehind section p.table code)
     (first_in chains.codes chains.firsts.nodes.items place.version code) first some (p.ends code)
     in
     let start : q.table ≡ stands.start = one_input (from_end first section) q.table stands.start
@@ -225,9 +225,11 @@ end_is section table chains left code first place declared here some there all i
     let end : declared.behind ≡ length stands.behind.bytes =
     q.behind ((stands.code, said.declared), stands.behind) (subst (λ (t : Input).
     next_at t ≡ Ok (Some ((stands.code, said.declared), stands.behind))) (sym start) stands.next) in
-    subst (λ (t : Input). EndsBefore t code declared.behind) same
-    (subst (λ (n : ℕ). EndsBefore p.table code n) (sym end)
-    (inside said.declared stands).1)
+    subst (λ (t : Input). EndsBefore t code declared.behind) same (
+      (said.declared, said.says),
+      subst (λ (n : ℕ). StaysBefore p.table code n) (sym end)
+          (inside said.declared stands).1,
+    )
 
 module _ {R : Type 0} (input : R → Input) where
   abbrev Read : Type 0
@@ -288,9 +290,9 @@ first_apart (Some n) nodes grown version changed number apart others =
 -- a version without the code has no declaration that ends
 ends_none : (section table : Input) (place : Place) (codes : Codes) (nodes : List Node) (code : ℕ)
     → place.version ≡ 0 → IfSome (first_in codes nodes place.version code)
-    (EndsInside section table code)
+    (StaysBehind section table code)
 ends_none section table place codes nodes code zero =
-    subst (λ (o : Option ℕ). IfSome o (EndsInside section table code))
+    subst (λ (o : Option ℕ). IfSome o (StaysBehind section table code))
     (sym (first_none (get nat_cmp codes.numbers code) nodes place zero)) tt
 
 -- a version that was changed for another code
@@ -387,10 +389,10 @@ module _ (lebs : LebsTakeBytes) where
             (subst (λ (d : Said). SaidBy section next.fault (first_in codes nodes next.version c) d)
             says (r.same c))));
         ends = λ c. by_bool (IfSome (first_in codes grown place.version c)
-            (EndsInside section i c)) (eqb code c)
+            (StaysBehind section i c)) (eqb code c)
             (λ e. subst (λ (k : ℕ). IfSome (first_in codes grown place.version k)
-            (EndsInside section i k)) (eqb-true _ _ e)
-            (subst (λ (o : Option ℕ). IfSome o (EndsInside section i code))
+            (StaysBehind section i k)) (eqb-true _ _ e)
+            (subst (λ (o : Option ℕ). IfSome o (StaysBehind section i code))
             (sym (ap (λ (o : Option ℕ). first_by o grown place.version) number_is ∙ value))
             (ends_here lebs section i behind left code declared is h)))
             (λ apart.
@@ -401,10 +403,10 @@ module _ (lebs : LebsTakeBytes) where
             let table : r.table ≡ behind = one_input (from_end (length behind.bytes) section)
             r.table
             behind r.is (end_behind lebs section i left ((code, declared), behind) is h) in
-            subst (λ (o : Option ℕ). IfSome o (EndsInside section i c)) (sym other)
-            (if_map (first_in codes nodes next.version c) (EndsInside section r.table c)
-            (EndsInside section i c) (λ first inside. ends_further lebs section i behind c code
-            first declared h apart (subst (λ (t : Input). EndsInside section t c first) table
+            subst (λ (o : Option ℕ). IfSome o (StaysBehind section i c)) (sym other)
+            (if_map (first_in codes nodes next.version c) (StaysBehind section r.table c)
+            (StaysBehind section i c) (λ first inside. ends_further lebs section i behind c code
+            first declared h apart (subst (λ (t : Input). StaysBehind section t c first) table
             inside)) (r.ends c)));
         behind = λ x same. end
             ∙ ap (λ (y : Next). length y.1.bytes) (one_next (next_at i) ((code, declared), behind) x h same);

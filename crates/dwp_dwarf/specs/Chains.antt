@@ -59,21 +59,30 @@ first_by (Some number) nodes version = value_in nodes version number
 abbrev pub first_in : Codes → List Node → ℕ → ℕ → Option ℕ
 first_in codes nodes version code = first_by (get nat_cmp codes.numbers code) nodes version
 
+-- a table has a declaration of a code
+abbrev pub IsDeclared : ℕ → Input → Type 0
+IsDeclared code table = (declared : Declaration) × (declaration code table ≡ Ok (Some declared))
+
 -- a table says the same of a code where at most so many bytes of its end are missing
-abbrev pub EndsBefore : Input → ℕ → ℕ → Type 0
-EndsBefore table code left = (n : ℕ) → length table.bytes ≤ n + left
+abbrev pub StaysBefore : Input → ℕ → ℕ → Type 0
+StaysBefore table code left = (n : ℕ) → length table.bytes ≤ n + left
     → declaration code (front n table) ≡ declaration code table
 
--- a table's declaration of a code is the one at a place: what the table says of the code doesn't
--- need the bytes behind that
-abbrev pub EndsInside : Input → Input → ℕ → ℕ → Type 0
-EndsInside section table code first =
+-- a table has a declaration of a code, and needs none of so many bytes at its end for it
+abbrev pub EndsBefore : Input → ℕ → ℕ → Type 0
+EndsBefore table code left = IsDeclared code table × StaysBefore table code left
+
+-- what a table says of a code needs none of the bytes behind the declaration at a place, which lie
+-- in the table
+abbrev pub StaysBehind : Input → Input → ℕ → ℕ → Type 0
+StaysBehind section table code first =
     (declared : Declaration) → (stands : StandsAt section first declared)
     → (length stands.behind.bytes ≤ length table.bytes)
-    × EndsBefore table code (length stands.behind.bytes)
+    × StaysBefore table code (length stands.behind.bytes)
 
--- what is remembered of a place says of each code what the table says that begins there, and where
--- the declaration at the place ends; it has no number that wasn't given
+-- what is remembered of a place says of each code what the table says that begins there, and that
+-- its first declaration is all that this needs; where the declaration at the place ends; it has no
+-- number that wasn't given
 pub record RemembersPlace (section : Input) (codes : Codes) (nodes : List Node) (left : ℕ)
     (place : Place) : Type 0 where
   pub table : Input
@@ -83,7 +92,7 @@ pub record RemembersPlace (section : Input) (codes : Codes) (nodes : List Node) 
   pub same : (code : ℕ) → SaidBy section place.fault (first_in codes nodes place.version code)
       (declaration code table)
   pub ends : (code : ℕ) → IfSome (first_in codes nodes place.version code)
-      (EndsInside section table code)
+      (StaysBehind section table code)
   pub behind : (next : (ℕ × Declaration) × Input) → next_at table ≡ Ok (Some next)
       → place.behind ≡ length next.1.bytes
 

@@ -7,6 +7,7 @@ ghost use Rattle.dwp_base.specs.Reading.{Answers};
 ghost use Rattle.dwp_bytes.specs.Input.{Input, front};
 ghost use Rattle.dwp_bytes.specs.declared.fault.ReadError.{ReadError};
 ghost use Rattle.dwp_dwarf.specs.Abbreviations.{declaration};
+ghost use Rattle.dwp_dwarf.specs.Chains.{IsDeclared};
 ghost use Rattle.dwp_dwarf.specs.Declarations.{declaration_of, found_of};
 ghost use Rattle.dwp_dwarf.specs.Grammar.{next_at};
 ghost use Rattle.dwp_dwarf.specs.Entries.{entry};
@@ -132,7 +133,7 @@ impl<R: Reader> AbbreviationCache<R> {
     ///
     /// Tables that overlap go on alike from each declaration that they share. So once more was read
     /// than two times the section, what is said from a declaration on is remembered for all of them,
-    /// in at most four nodes of 12 bytes for each byte of the section.
+    /// in some four nodes of 12 bytes for each byte of the section, and 20 bytes for each place.
     ///
     /// # Errors
     /// `OffsetOutOfRange` past the section's end, and those of `Abbreviations::get`. Want of memory
@@ -250,8 +251,12 @@ impl<R: Reader> AbbreviationCache<R> {
 
     /// Whether the table at an offset is known to have a declaration of a code that ends within the
     /// first `end` bytes of the section: so does then the table there of the section's part up to
-    /// there, and it is the same. False too where there is no memory to tell it.
+    /// there, and it is the same. To know it, the table is read to its end, once for all tables that
+    /// go on alike, and remembered by places. False too for want of memory, where as many nodes are
+    /// remembered as may be, and before the last 4 GiB of a section.
     pub fn declares_within(&mut self, offset: u64, code: u64, end: usize) -> bool
+        ensures declared { result ≡ true → (whole : Input)
+            → from_at offset (R.input self.old) ≡ Ok whole → IsDeclared code whole }
         ensures same { result ≡ true → (part whole : Input)
             → from_at offset (front end (R.input self.old)) ≡ Ok part
             → from_at offset (R.input self.old) ≡ Ok whole

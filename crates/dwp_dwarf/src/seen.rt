@@ -23,7 +23,8 @@ use std::alloc::Global;
 pub(crate) struct SeenTables {
     // How many bytes were read.
     read: usize,
-    // By places of the section, once tables are known to overlap.
+    // By places of the section, once tables are known to overlap, or where a declaration ends was
+    // asked.
     pub(crate) chains: Chains,
 }
 

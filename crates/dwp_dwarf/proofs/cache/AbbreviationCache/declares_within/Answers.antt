@@ -17,5 +17,10 @@ returns-clause-same g c = λ yes part whole is_part is_whole.
     ) in
     same_within (g.R.Reader.input c.args.self.now) part whole c.args.offset c.args.end
     c.in-Some.left c.args.code fits
-    (c.in-Some.ensures.ends c.self.invariant.2 whole (rw (sym same) at is_whole))
+    (c.in-Some.ensures.ends c.self.invariant.2 whole (rw (sym same) at is_whole)).1
     is_part is_whole
+
+pub returns-clause-declared : goal.returns-clause-declared
+returns-clause-declared g c = λ yes whole is_whole.
+    let same : c.self.inside.section ≡ c.args.self.now = cc in
+    (c.in-Some.ensures.ends c.self.invariant.2 whole (rw (sym same) at is_whole)).0
