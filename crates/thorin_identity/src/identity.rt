@@ -68,11 +68,11 @@ pub fn dwo_identifier_remembering<R: Reader>(
     }
 }
 
-/// The identifier of a unit whose abbreviations are the part of the section from the byte `start` up
-/// to the byte `end`, as a row of a package's index has it (DWARF 5, 7.3.5): that in its header; for
-/// a compile unit the first GNU_dwo_id of its root entry whose form is a plain number; else none. The
-/// offset of its table is counted from `start`, and no table goes on past `end` (7.5.3). Nothing
-/// stands past the section's end, nor where `end` is before `start`.
+/// The identifier of a unit whose abbreviations are the part of the section from the byte `start`
+/// up to the byte `end`, as a row of a package's index has it (DWARF 5, 7.3.5): that in its header;
+/// for a compile unit the first GNU_dwo_id of its root entry whose form is a plain number; else
+/// none. The offset of its table is counted from `start`, and no table goes on past `end` (7.5.3).
+/// Nothing stands past the section's end, nor where `end` is before `start`.
 ///
 /// All parts share what is remembered of the section's tables: this answers where it tells that the
 /// code of the root entry is declared within the part. Else the part is read by itself, and nothing
@@ -165,8 +165,8 @@ fn root_identifier_in_range<R: Reader>(
     }
 }
 
-/// The offset in the section at which the unit's table begins, where it is known that the table there
-/// says of the root entry's code what the part's table says.
+/// The offset in the section at which the unit's table begins, where it is known that the table
+/// there says of the root entry's code what the part's table says.
 fn offset_within<R: Reader>(
     debug_abbrev: &mut AbbreviationCache<R>,
     start: usize,

@@ -66,8 +66,8 @@ impl Part {
         self.begin == start && self.end == end
     }
 
-    /// The part whose tables are to be remembered for a unit that has those from `start` to `end` of
-    /// a section of so many bytes: these, or all once too much was begun with.
+    /// The part whose tables are to be remembered for a unit that has those from `start` to `end`
+    /// of a section of so many bytes: these, or all once too much was begun with.
     fn for_unit(self, start: usize, end: usize, length: usize) -> Part
         requires order { start ≤ end }
         requires end { end ≤ length }
