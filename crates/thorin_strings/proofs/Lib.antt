@@ -22,3 +22,4 @@ pub mod HashedLemmas
 pub mod LaneLemmas
 pub mod EndLemmas
 pub mod WalkLemmas
+pub mod HashLemmas

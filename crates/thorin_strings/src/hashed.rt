@@ -12,7 +12,8 @@ ghost use Rattle.thorin_strings.specs.Hashed.{IsHashed, IsPlaced};
 ghost use Rattle.thorin_strings.specs.Places.{hash as hash_of, place_of, IsNext};
 
 use crate::ends::ends_at;
-use crate::places::{Places, hash};
+use crate::hash::hash;
+use crate::places::Places;
 use crate::search::{begins_alike, stands_at};
 use crate::sorted::{SortedStrings, begins_of, positions_of};
 use crate::table::{PackageStringOffset, TableMark};

@@ -4,6 +4,7 @@
 mod batch;
 mod ends;
 mod guess;
+mod hash;
 mod hashed;
 mod known;
 pub mod laws;

@@ -6,8 +6,8 @@ ghost use Rattle.thorin_strings.specs.Places.{hash as hash_of, tag, place_from, 
 ghost use Rattle.thorin_strings.specs.Places.{IsNext, AreEntered};
 
 use crate::ends::{ROUNDS, end_of, short_end};
+use crate::hash::hash;
 use std::alloc::Global;
-use std::hash::{FoldHasher, Hasher};
 
 /// How many slots are looked at for a hash.
 const PROBES: usize = 128;
@@ -30,15 +30,6 @@ const FREE: Slot = Slot { tag: 0, behind: 0 };
 pub(crate) struct Slot {
     tag: u32,
     behind: u32,
-}
-
-/// The hash of a string, by which its place is kept.
-pub(crate) fn hash(string: &[u8]) -> u64
-    ensures { result ≡ hash_of string.now }
-{
-    let mut hasher = FoldHasher::default();
-    hasher.write(string);
-    hasher.finish()
 }
 
 /// The lower half of a hash.

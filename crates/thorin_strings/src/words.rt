@@ -35,7 +35,12 @@ fn write_word(out: &mut [u8], at: usize, offset: u64)
     ensures long { length out.new ≡ length out.old }
     ensures written { take (at + 4) out.new ≡ take at out.old ++ number_bytes Little 4 offset }
 {
-    out[at..at + 4].copy_from_slice(&(offset as u32).to_le_bytes());
+    // (each byte is set: so it is one store, where a copy would look whether the two overlap)
+    let bytes = (offset as u32).to_le_bytes();
+    out[at] = bytes[0];
+    out[at + 1] = bytes[1];
+    out[at + 2] = bytes[2];
+    out[at + 3] = bytes[3];
 }
 
 impl PackageStringTable {
