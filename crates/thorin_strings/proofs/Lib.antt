@@ -23,3 +23,4 @@ pub mod LaneLemmas
 pub mod EndLemmas
 pub mod WalkLemmas
 pub mod HashLemmas
+pub mod WrittenLemmas

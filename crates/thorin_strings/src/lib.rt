@@ -17,6 +17,7 @@ mod repeats;
 mod search;
 mod sorted;
 mod table;
+mod told;
 mod words;
 
 pub use repeats::Repeats;

@@ -3,7 +3,7 @@ use Rattle.std.proofs.lemmas.List.{take_rest}
 use Rattle.thorin_strings.proofs.CompareLemmas.{front_string}
 use Rattle.thorin_strings.proofs.EndLemmas.{read_front}
 use Rattle.thorin_strings.proofs.KnownLemmas.{read_used, offset_within}
-use Rattle.thorin_strings.proofs.table.PackageStringTable.guessed_offset.Goals as goal
+use Rattle.thorin_strings.proofs.hashed.HashedStrings.guessed_offset.Goals as goal
 
 pub returns-clause-meaning : goal.returns-clause-meaning
 returns-clause-meaning c =
@@ -14,7 +14,7 @@ returns-clause-meaning c =
     (front_string rest)
     (read_front section rest at (c.args.after - c.args.named - 1) (omega arith)
     (take_rest section at) (omega arith) (omega arith))
-    (c.in_ok-offset.ensures.offset, c.in_ok-offset.ensures.placed)
+    c.in_ok-offset.ensures.placed
 
 pub returns-clause-fits : goal.returns-clause-fits
 returns-clause-fits c =
@@ -22,7 +22,7 @@ returns-clause-fits c =
     let rest : List ℕ = take (length section - c.args.named) (drop c.args.named section) in
     omega (
       arith,
-      c.in_ok-offset.ensures.offset,
+      c.in_ok-offset.ensures.placed.0,
       ap length c.data.ensures.whole,
       offset_within c.args.self.now (front_string rest),
     )
