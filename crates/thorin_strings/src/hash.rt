@@ -76,6 +76,7 @@ fn long_hash(bytes: &[u8]) -> u64
 }
 
 /// The hash of a string, by which its place is kept.
+#[inline(never)]
 pub(crate) fn hash(string: &[u8]) -> u64
     ensures { result ≡ hash_of string.now }
 {

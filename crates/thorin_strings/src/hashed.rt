@@ -53,7 +53,7 @@ impl From<AllocError> for Unplaced {
 }
 
 /// Puts a new string behind all others, and gives its place.
-#[inline(always)]
+#[inline(never)]
 fn add(
     bytes: &mut Vec<u8>,
     count: &mut usize,
@@ -86,35 +86,9 @@ fn add(
     Ok(place)
 }
 
-/// The same. (Not inlined: few strings are new, and the loop over the others is faster without it.)
-#[inline(never)]
-fn add_apart(
-    bytes: &mut Vec<u8>,
-    count: &mut usize,
-    places: &mut Places,
-    string: &[u8],
-    hash: u64,
-    next: usize,
-) -> Result<usize, Unplaced>
-    requires table { IsHashed bytes.old.items count.old places.old.slots.items places.old.size }
-    requires zero_free { IsZeroFree string.now }
-    requires hashed { hash ≡ hash_of string.now }
-    requires none { place_of places.old.slots.items places.old.size hash ≡ None }
-    requires next { next < length places.old.slots.items
-        → IsNext places.old.slots.items places.old.size hash next }
-    ensures table { IsHashed bytes.new.items count.new places.new.slots.items places.new.size }
-    ensures placed { IfOk result (IsPlaced (strings_in bytes.old.items)
-        (strings_in bytes.new.items) string.now) }
-    ensures kept { take (length (strings_in bytes.old.items)) (strings_in bytes.new.items)
-        ≡ strings_in bytes.old.items }
-    ensures err { OnErr result (strings_in bytes.new.items ≡ strings_in bytes.old.items) }
-{
-    add(bytes, count, places, string, hash, next)
-}
-
 /// The same of the string that some bytes begin with, of which one is zero, which is guessed to be
 /// its end. None where it isn't, and where the string has no place.
-#[inline(never)]
+#[inline(always)]
 fn add_guessed(
     bytes: &mut Vec<u8>,
     count: &mut usize,
@@ -141,10 +115,14 @@ fn add_guessed(
     if !ends_at(rest, end) {
         return None;
     }
-    match add(bytes, count, places, &rest[..end], hash, next) {
-        Ok(place) => Some(place),
-        Err(_) => None,
+    let place = bytes.len();
+    bytes.extend_from_slice(&rest[..end + 1]).ok()?;
+    if !places.enter(hash, next, place, &bytes[..place]) {
+        bytes.truncate(place);
+        return None;
     }
+    *count += 1;
+    Some(place)
 }
 
 impl Model for HashedStrings {
@@ -237,7 +215,7 @@ impl HashedStrings {
             }
             Err(next) => next,
         };
-        add_apart(
+        add(
             &mut self.bytes,
             &mut self.count,
             &mut self.places,
