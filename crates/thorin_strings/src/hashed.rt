@@ -23,8 +23,8 @@ use std::marker::Model;
 use std::mem::replace;
 
 /// Distinct strings, in order of first use, each of which is found by its hash: that has the
-/// string's place. So no two have one hash, and one string at most is compared with another. Neither
-/// hashes nor places are kept beside that: where there are more slots, the strings are walked.
+/// string's place. So no two have one hash, and one string at most is compared with another. Where
+/// there are more slots, the strings are walked, unless they are few: then their hashes are kept.
 ///
 /// The place behind the string that was found last is looked at first: inputs that share strings
 /// often use them in the same order.
@@ -62,13 +62,15 @@ fn add(
     hash: u64,
     next: usize,
 ) -> Result<usize, Unplaced>
-    requires table { IsHashed bytes.old.items count.old places.old.slots.items places.old.size }
+    requires table { IsHashed bytes.old.items count.old places.old.slots.items places.old.size
+        places.old.hashes.items }
     requires zero_free { IsZeroFree string.now }
     requires hashed { hash ≡ hash_of string.now }
     requires none { place_of places.old.slots.items places.old.size hash ≡ None }
     requires next { next < length places.old.slots.items
         → IsNext places.old.slots.items places.old.size hash next }
-    ensures table { IsHashed bytes.new.items count.new places.new.slots.items places.new.size }
+    ensures table { IsHashed bytes.new.items count.new places.new.slots.items places.new.size
+        places.new.hashes.items }
     ensures placed { IfOk result (IsPlaced (strings_in bytes.old.items)
         (strings_in bytes.new.items) string.now) }
     ensures kept { take (length (strings_in bytes.old.items)) (strings_in bytes.new.items)
@@ -82,6 +84,7 @@ fn add(
     }
     bytes.extend_from_slice(string).unwrap();
     bytes.push(0).unwrap();
+    places.keep(hash, place == 0);
     *count += 1;
     Ok(place)
 }
@@ -98,14 +101,16 @@ fn add_guessed(
     hash: u64,
     next: usize,
 ) -> Option<usize>
-    requires table { IsHashed bytes.old.items count.old places.old.slots.items places.old.size }
+    requires table { IsHashed bytes.old.items count.old places.old.slots.items places.old.size
+        places.old.hashes.items }
     requires within { end < length rest.now }
     requires ended { slice_index rest.now end ≡ 0 }
     requires hashed { hash ≡ hash_of (take end rest.now) }
     requires none { place_of places.old.slots.items places.old.size hash ≡ None }
     requires next { next < length places.old.slots.items
         → IsNext places.old.slots.items places.old.size hash next }
-    ensures table { IsHashed bytes.new.items count.new places.new.slots.items places.new.size }
+    ensures table { IsHashed bytes.new.items count.new places.new.slots.items places.new.size
+        places.new.hashes.items }
     ensures placed { IfSome result (IsPlaced (strings_in bytes.old.items)
         (strings_in bytes.new.items) (string_from rest.now 0)) }
     ensures kept { take (length (strings_in bytes.old.items)) (strings_in bytes.new.items)
@@ -121,6 +126,7 @@ fn add_guessed(
         bytes.truncate(place);
         return None;
     }
+    places.keep(hash, place == 0);
     *count += 1;
     Some(place)
 }
@@ -134,7 +140,8 @@ impl Model for HashedStrings {
 
     ghost view = { λ t. strings_in t.bytes.items };
 
-    ghost invariant = { λ t. IsHashed t.bytes.items t.count t.places.slots.items t.places.size };
+    ghost invariant = { λ t. IsHashed t.bytes.items t.count t.places.slots.items t.places.size
+        t.places.hashes.items };
 }
 
 impl HashedStrings {
@@ -273,6 +280,7 @@ impl HashedStrings {
         let positions = positions_of(self.alloc, &self.bytes, &begins)?;
         let bytes = replace(&mut self.bytes, Vec::new(self.alloc));
         self.count = 0;
+        self.places.forget();
         Some(SortedStrings::of(self.alloc, bytes, positions, &begins))
     }
 
@@ -294,6 +302,7 @@ impl HashedStrings {
     {
         self.bytes.truncate(mark.bytes);
         self.count = mark.strings;
+        self.places.hashes.truncate(mark.strings);
     }
 
     /// Each string and a zero byte.
