@@ -113,6 +113,7 @@ fn add_guessed(
         places.new.hashes.items }
     ensures placed { IfSome result (IsPlaced (strings_in bytes.old.items)
         (strings_in bytes.new.items) (string_from rest.now 0)) }
+    ensures fits { IfSome result (λ place. place < 2 ^ 32) }
     ensures kept { take (length (strings_in bytes.old.items)) (strings_in bytes.new.items)
         ≡ strings_in bytes.old.items }
     ensures none { IsNone result → strings_in bytes.new.items ≡ strings_in bytes.old.items }
@@ -234,16 +235,18 @@ impl HashedStrings {
 
     /// The offset of the string that some bytes begin with, of which one is zero, which is guessed
     /// to be its end. A new string goes last. None where it is new and its end isn't the guessed
-    /// one, where its hash doesn't tell its place, and for want of memory; nothing changed then.
+    /// one, where its hash doesn't tell its place or four bytes don't hold it, and for want of memory;
+    /// nothing changed then.
     #[inline(always)]
     pub fn place_guessed(&mut self, bytes: &[u8], end: usize) -> Option<usize>
         requires within { end < length bytes.now }
         requires ended { slice_index bytes.now end ≡ 0 }
         ensures placed { IfSome result (IsPlaced self.old self.new (string_from bytes.now 0)) }
+        ensures fits { IfSome result (λ offset. offset < 2 ^ 32) }
         ensures kept { take (length self.old) self.new ≡ self.old }
         ensures none { IsNone result → self.new ≡ self.old }
     {
-        if begins_alike(&self.bytes, self.next, bytes, end) {
+        if begins_alike(&self.bytes, self.next, bytes, end) && self.next < u32::MAX as usize {
             let place = self.next;
             self.next = place.wrapping_add(end + 1);
             return Some(place);

@@ -62,6 +62,7 @@ fn home(size: u32, hash: u64) -> usize
 #[inline(always)]
 fn seek(slots: &[Slot], size: u32, hash: u64) -> Result<usize, usize>
     ensures found { IfOk result (λ place. place_of slots.now size hash ≡ Some place) }
+    ensures fits { IfOk result (λ place. place < 2 ^ 32) }
     ensures none { OnErr result (place_of slots.now size hash ≡ None) }
     ensures next { IfErr result (λ number. number < length slots.now
         → IsNext slots.now size hash number) }
@@ -238,6 +239,7 @@ impl Places {
     pub fn seek(&self, hash: u64) -> Result<usize, usize>
         ensures found { IfOk result (λ place.
             place_of self.now.slots.items self.now.size hash ≡ Some place) }
+        ensures fits { IfOk result (λ place. place < 2 ^ 32) }
         ensures none { OnErr result (place_of self.now.slots.items self.now.size hash ≡ None) }
         ensures next { IfErr result (λ number. number < length self.now.slots.items
             → IsNext self.now.slots.items self.now.size hash number) }
@@ -301,6 +303,7 @@ impl Places {
             → IsNext self.old.slots.items self.old.size hash next }
         ensures entered { IsTrue result
             → place_of self.new.slots.items self.new.size hash ≡ Some place }
+        ensures fits { IsTrue result → place < 2 ^ 32 }
         ensures kept { AreKept self.old.hashes.items strings.now
             → AreEntered strings.now self.old.slots.items self.old.size
             → AreEntered strings.now self.new.slots.items self.new.size }

@@ -36,9 +36,6 @@ impl HashedStrings {
         if rest[end] != 0 {
             return None;
         }
-        if self.data().len() > u32::MAX as usize {
-            return None;
-        }
         let offset = self.place_guessed(rest, end)?;
         Some(offset as u64)
     }

@@ -1,8 +1,8 @@
-use Rattle.std.proofs.Common.{◌-◌, ℕ, List, length, take, drop, ap, arith}
+use Rattle.std.proofs.Common.{◌-◌, ℕ, List, length, take, drop, arith}
 use Rattle.std.proofs.lemmas.List.{take_rest}
 use Rattle.thorin_strings.proofs.CompareLemmas.{front_string}
 use Rattle.thorin_strings.proofs.EndLemmas.{read_front}
-use Rattle.thorin_strings.proofs.KnownLemmas.{read_used, offset_within}
+use Rattle.thorin_strings.proofs.KnownLemmas.{read_used}
 use Rattle.thorin_strings.proofs.hashed.HashedStrings.guessed_offset.Goals as goal
 
 pub returns-clause-meaning : goal.returns-clause-meaning
@@ -15,14 +15,3 @@ returns-clause-meaning c =
     (read_front section rest at (c.args.after - c.args.named - 1) (omega arith)
     (take_rest section at) (omega arith) (omega arith))
     c.in_ok-offset.ensures.placed
-
-pub returns-clause-fits : goal.returns-clause-fits
-returns-clause-fits c =
-    let section = c.args.debug_str.now in
-    let rest : List ℕ = take (length section - c.args.named) (drop c.args.named section) in
-    omega (
-      arith,
-      c.in_ok-offset.ensures.placed.0,
-      ap length c.data.ensures.whole,
-      offset_within c.args.self.now (front_string rest),
-    )
