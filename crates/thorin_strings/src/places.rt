@@ -204,6 +204,11 @@ fn more_than(size: u32) -> u32 {
     }
 }
 
+/// How many slots are used at most, where hashes begin at so many: five of eight.
+fn most(size: u32) -> usize {
+    size as usize / 8 * 5
+}
+
 /// Places of strings by their hashes.
 ///
 /// What has a place keeps it, and one of a hash is found by at most 128 slots: where a new one
@@ -214,7 +219,8 @@ pub(crate) struct Places {
     pub alloc: Global,
     pub slots: Vec<Slot>,
     pub size: u32,
-    pub used: usize,
+    /// How many more slots may be used.
+    pub left: usize,
     /// Those of all strings in their order, or none.
     pub hashes: Vec<u64>,
 }
@@ -229,7 +235,7 @@ impl Places {
             alloc,
             slots: Vec::new(alloc),
             size: 0,
-            used: 0,
+            left: 0,
             hashes: Vec::new(alloc),
         }
     }
@@ -261,7 +267,7 @@ impl Places {
             alloc: self.alloc,
             slots,
             size,
-            used,
+            left: most(size).saturating_sub(used),
             hashes: Vec::new(self.alloc),
         })
     }
@@ -284,12 +290,12 @@ impl Places {
         let Places {
             slots,
             size,
-            used,
+            left,
             ..
         } = more;
         self.slots = slots;
         self.size = size;
-        self.used = used.saturating_add(1);
+        self.left = left.saturating_sub(1);
         put(&mut self.slots, self.size, hash, slot)
     }
 
@@ -316,15 +322,14 @@ impl Places {
             tag: tag(hash),
             behind,
         };
-        let size = self.size as usize;
-        if self.used >= size / 8 * 5 {
+        if self.left == 0 {
             return self.enter_in_more(hash, slot, strings);
         }
         if put_next(&mut self.slots, next, slot) {
-            self.used = self.used.wrapping_add(1);
+            self.left -= 1;
             return true;
         }
-        if self.used < size / 4 {
+        if most(self.size).saturating_sub(self.left) < self.size as usize / 4 {
             return false;
         }
         self.enter_in_more(hash, slot, strings)
