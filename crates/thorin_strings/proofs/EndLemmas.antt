@@ -1,7 +1,8 @@
 -- The string at the front of some bytes, up to the first zero.
 use Rattle.std.proofs.Common.{◌≡◌, ℕ, ◌<◌, ◌≤◌, true, false, ltb, eqb, List}
 use Rattle.std.proofs.Common.{length, take, drop, Some, Ok, Decides, ap, sym, refl, ◌∙◌}
-use Rattle.std.proofs.Common.{arith, ◌+◌, [], ◌∷◌, ◌++◌, Bool, cond, not, get_or, subst}
+use Rattle.std.proofs.Common.{arith, ◌+◌, [], ◌∷◌, ◌++◌, Bool, cond, not, get_or, subst, add-one}
+use Rattle.std.proofs.Math.Seq.{take-suc}
 use Rattle.std.proofs.lemmas.Bool.{false≢true}
 use Rattle.std.proofs.lemmas.List.{take-append-drop, take_more_same}
 use Rattle.thorin_strings.proofs.CompareLemmas.{front_string, front_string-cons}
@@ -14,7 +15,7 @@ use Rattle.memchr.specs.Find.{IsFirstByte, is_byte}
 use Rattle.dwp_bytes.specs.StringOffsets.{string_at}
 use Rattle.thorin_strings.specs.Ends.{IsFirstZero}
 use Rattle.thorin_strings.specs.Hashed.{IsPlaced}
-use Rattle.thorin_strings.specs.Strings.{IsZeroFree}
+use Rattle.thorin_strings.specs.Strings.{IsZeroFree, terminated}
 use Rattle.thorin_strings.specs.StringOffsets.{string_read}
 
 any_zero : (xs : List ℕ) → Decides (list_any (λ b. eqb b 0) xs) ((k : ℕ) × (k < length xs)
@@ -122,3 +123,9 @@ pub placed_front : (bytes : List ℕ) (end : ℕ) (old new : List (List ℕ)) (p
     (front_string bytes) place
 placed_front bytes end old new place zero placed =
     subst (λ s. IsPlaced old new s place) (sym (ended_front bytes end zero)) placed
+
+-- a string and the zero behind it
+pub ended_take : (rest : List ℕ) (end : ℕ) → IsFirstZero rest end → take (end + 1) rest ≡
+    terminated (take end rest)
+ended_take rest end zero =
+    rw add-one (take-suc rest end 0 zero.within ∙ ap (λ b. take end rest ++ b ∷ []) zero.ended)

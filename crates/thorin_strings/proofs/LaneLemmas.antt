@@ -1,7 +1,8 @@
 -- What a mask of 64 bytes says of each.
 use Rattle.std.proofs.Common.{◌≡◌, ◌≢◌, ℕ, ◌+◌, ◌-◌, ◌%◌, ◌^◌, ◌<◌, ◌≤◌, List, Bool, true, false}
 use Rattle.std.proofs.Common.{ltb, cond, eqb, length, get_or, map, replicate, refl, sym, ap, subst}
-use Rattle.std.proofs.Common.{◌∙◌, arith, w8, w64, ⊎_elim}
+use Rattle.std.proofs.Common.{◌∙◌, arith, w8, w64, ⊎_elim, take, not}
+use Rattle.std.proofs.lemmas.List.{ext_get_or, get_or-take, length-take-le}
 use Rattle.std.specs.Int.{bit_at, trailing_zeros}
 use Rattle.std.specs.Int.Count.{trailing_of_zero}
 use Rattle.std.specs.Simd.Lanes.{zip2, sel_l, mask_l, top}
@@ -136,3 +137,44 @@ some_in_two bytes at first second to earlier some more low middle high k less = 
     subst (λ m. get_or bytes m 0 ≢ 0) e (more (k - second) (omega arith)))
     (cases_lt k (first + 32)))
     (cases_lt k at)
+
+denied : (b : Bool) → not b ≡ false → b ≡ true
+denied true e = refl
+denied false e = absurd cc
+
+-- the bytes of two vectors of which none differ
+pub lanes_same : (l m : List ℕ) (k : ℕ) → length l ≡ 32 → length m ≡ 32 → k < 32
+    → mask_l (map (top 7) (zip2 (λ a b. cond (not (eqb a b)) 255 0) l m)) % 2 ^ 64 ≡ 0
+    → get_or l k 0 ≡ get_or m k 0
+lanes_same l m k long long' within is =
+    let apart : List Bool = zip2 (λ a b. not (eqb a b)) l m in
+    let long_apart : length apart ≡ 32 =
+    length-zip2 (λ a b. not (eqb a b)) l m (long ∙ sym long') ∙ long in
+    let mask = ap (λ bs. mask_l bs % 2 ^ 64) {y = apart} (tops_compared w8 (λ a b. not (eqb a b)) l
+    m) ∙ mask_l-mod apart 64 (omega (arith, long_apart)) in
+    let e : mask_l apart ≡ 0 = sym mask ∙ is in
+    let same : not (eqb (get_or l k 0) (get_or m k 0)) ≡ false =
+    sym (get_or-zip2 (λ a b. not (eqb a b)) l m k 0 0 false (omega arith) (omega arith))
+    ∙ clear _ (sym (bit_mask_l apart k) ∙ subst (λ n. bit_at n k ≡ 0) (sym e) (omega arith)) in
+    eqb-true (get_or l k 0) (get_or m k 0) (denied _ same)
+
+-- what is the same before a place and in the next 32
+pub same_more : (xs ys : List ℕ) (at next to : ℕ)
+    → ((k : ℕ) → k < at → get_or xs k 0 ≡ get_or ys k 0)
+    → ((k : ℕ) → k < 32 → get_or xs (next + k) 0 ≡ get_or ys (next + k) 0)
+    → next ≤ at → to ≤ next + 32 → (k : ℕ) → k < to → get_or xs k 0 ≡ get_or ys k 0
+same_more xs ys at next to earlier more low high k less = ⊎_elim (earlier k)
+    (λ behind.
+    let e : next + (k - next) ≡ k = omega arith in
+    subst (λ m. get_or xs m 0 ≡ get_or ys m 0) e (more (k - next) (omega arith)))
+    (cases_lt k at)
+
+-- fronts of which each byte is the same
+pub same_fronts : (xs ys : List ℕ) (n : ℕ) → n ≤ length xs → n ≤ length ys
+    → ((k : ℕ) → k < n → get_or xs k 0 ≡ get_or ys k 0) → take n xs ≡ take n ys
+same_fronts xs ys n within within' same =
+    ext_get_or 0 (take n xs) (take n ys)
+    (length-take-le n xs within ∙ sym (length-take-le n ys within'))
+    (λ k less.
+    let low : k < n = omega (arith, length-take-le n xs within) in
+    get_or-take n xs k 0 low ∙ same k low ∙ sym (get_or-take n ys k 0 low))

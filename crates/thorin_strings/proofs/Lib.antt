@@ -22,3 +22,5 @@ pub mod HashedLemmas
 pub mod LaneLemmas
 pub mod EndLemmas
 pub mod WalkLemmas
+pub mod HashLemmas
+pub mod WrittenLemmas

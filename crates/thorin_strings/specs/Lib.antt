@@ -9,3 +9,4 @@ pub mod Places
 pub mod Hashed
 pub mod Table
 pub mod Ends
+pub mod Written

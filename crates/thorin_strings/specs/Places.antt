@@ -53,3 +53,7 @@ HavePlaces hashes places slots size = (k : ℕ) → k < length hashes
 abbrev pub AreEntered : List ℕ → List Slot → ℕ → Type 0
 AreEntered bytes slots size =
     HavePlaces (map hash (strings_in bytes)) (offsets_from 0 (strings_in bytes)) slots size
+
+-- the hashes that are kept of the strings of a section: each one's, in their order, or none
+abbrev pub AreKept : List ℕ → List ℕ → Type 0
+AreKept hashes bytes = 0 < length hashes → hashes ≡ map hash (strings_in bytes)

@@ -12,7 +12,8 @@ ghost use Rattle.thorin_strings.specs.Hashed.{IsHashed, IsPlaced};
 ghost use Rattle.thorin_strings.specs.Places.{hash as hash_of, place_of, IsNext};
 
 use crate::ends::ends_at;
-use crate::places::{Places, hash};
+use crate::hash::hash;
+use crate::places::Places;
 use crate::search::{begins_alike, stands_at};
 use crate::sorted::{SortedStrings, begins_of, positions_of};
 use crate::table::{PackageStringOffset, TableMark};
@@ -22,8 +23,8 @@ use std::marker::Model;
 use std::mem::replace;
 
 /// Distinct strings, in order of first use, each of which is found by its hash: that has the
-/// string's place. So no two have one hash, and one string at most is compared with another. Neither
-/// hashes nor places are kept beside that: where there are more slots, the strings are walked.
+/// string's place. So no two have one hash, and one string at most is compared with another. Where
+/// there are more slots, the strings are walked, unless they are few: then their hashes are kept.
 ///
 /// The place behind the string that was found last is looked at first: inputs that share strings
 /// often use them in the same order.
@@ -52,7 +53,7 @@ impl From<AllocError> for Unplaced {
 }
 
 /// Puts a new string behind all others, and gives its place.
-#[inline(always)]
+#[inline(never)]
 fn add(
     bytes: &mut Vec<u8>,
     count: &mut usize,
@@ -61,13 +62,15 @@ fn add(
     hash: u64,
     next: usize,
 ) -> Result<usize, Unplaced>
-    requires table { IsHashed bytes.old.items count.old places.old.slots.items places.old.size }
+    requires table { IsHashed bytes.old.items count.old places.old.slots.items places.old.size
+        places.old.hashes.items }
     requires zero_free { IsZeroFree string.now }
     requires hashed { hash ≡ hash_of string.now }
     requires none { place_of places.old.slots.items places.old.size hash ≡ None }
     requires next { next < length places.old.slots.items
         → IsNext places.old.slots.items places.old.size hash next }
-    ensures table { IsHashed bytes.new.items count.new places.new.slots.items places.new.size }
+    ensures table { IsHashed bytes.new.items count.new places.new.slots.items places.new.size
+        places.new.hashes.items }
     ensures placed { IfOk result (IsPlaced (strings_in bytes.old.items)
         (strings_in bytes.new.items) string.now) }
     ensures kept { take (length (strings_in bytes.old.items)) (strings_in bytes.new.items)
@@ -81,39 +84,14 @@ fn add(
     }
     bytes.extend_from_slice(string).unwrap();
     bytes.push(0).unwrap();
+    places.keep(hash, place == 0);
     *count += 1;
     Ok(place)
 }
 
-/// The same. (Not inlined: few strings are new, and the loop over the others is faster without it.)
-#[inline(never)]
-fn add_apart(
-    bytes: &mut Vec<u8>,
-    count: &mut usize,
-    places: &mut Places,
-    string: &[u8],
-    hash: u64,
-    next: usize,
-) -> Result<usize, Unplaced>
-    requires table { IsHashed bytes.old.items count.old places.old.slots.items places.old.size }
-    requires zero_free { IsZeroFree string.now }
-    requires hashed { hash ≡ hash_of string.now }
-    requires none { place_of places.old.slots.items places.old.size hash ≡ None }
-    requires next { next < length places.old.slots.items
-        → IsNext places.old.slots.items places.old.size hash next }
-    ensures table { IsHashed bytes.new.items count.new places.new.slots.items places.new.size }
-    ensures placed { IfOk result (IsPlaced (strings_in bytes.old.items)
-        (strings_in bytes.new.items) string.now) }
-    ensures kept { take (length (strings_in bytes.old.items)) (strings_in bytes.new.items)
-        ≡ strings_in bytes.old.items }
-    ensures err { OnErr result (strings_in bytes.new.items ≡ strings_in bytes.old.items) }
-{
-    add(bytes, count, places, string, hash, next)
-}
-
 /// The same of the string that some bytes begin with, of which one is zero, which is guessed to be
 /// its end. None where it isn't, and where the string has no place.
-#[inline(never)]
+#[inline(always)]
 fn add_guessed(
     bytes: &mut Vec<u8>,
     count: &mut usize,
@@ -123,16 +101,19 @@ fn add_guessed(
     hash: u64,
     next: usize,
 ) -> Option<usize>
-    requires table { IsHashed bytes.old.items count.old places.old.slots.items places.old.size }
+    requires table { IsHashed bytes.old.items count.old places.old.slots.items places.old.size
+        places.old.hashes.items }
     requires within { end < length rest.now }
     requires ended { slice_index rest.now end ≡ 0 }
     requires hashed { hash ≡ hash_of (take end rest.now) }
     requires none { place_of places.old.slots.items places.old.size hash ≡ None }
     requires next { next < length places.old.slots.items
         → IsNext places.old.slots.items places.old.size hash next }
-    ensures table { IsHashed bytes.new.items count.new places.new.slots.items places.new.size }
+    ensures table { IsHashed bytes.new.items count.new places.new.slots.items places.new.size
+        places.new.hashes.items }
     ensures placed { IfSome result (IsPlaced (strings_in bytes.old.items)
         (strings_in bytes.new.items) (string_from rest.now 0)) }
+    ensures fits { IfSome result (λ place. place < 2 ^ 32) }
     ensures kept { take (length (strings_in bytes.old.items)) (strings_in bytes.new.items)
         ≡ strings_in bytes.old.items }
     ensures none { IsNone result → strings_in bytes.new.items ≡ strings_in bytes.old.items }
@@ -140,10 +121,15 @@ fn add_guessed(
     if !ends_at(rest, end) {
         return None;
     }
-    match add(bytes, count, places, &rest[..end], hash, next) {
-        Ok(place) => Some(place),
-        Err(_) => None,
+    let place = bytes.len();
+    bytes.extend_from_slice(&rest[..end + 1]).ok()?;
+    if !places.enter(hash, next, place, &bytes[..place]) {
+        bytes.truncate(place);
+        return None;
     }
+    places.keep(hash, place == 0);
+    *count += 1;
+    Some(place)
 }
 
 impl Model for HashedStrings {
@@ -155,7 +141,8 @@ impl Model for HashedStrings {
 
     ghost view = { λ t. strings_in t.bytes.items };
 
-    ghost invariant = { λ t. IsHashed t.bytes.items t.count t.places.slots.items t.places.size };
+    ghost invariant = { λ t. IsHashed t.bytes.items t.count t.places.slots.items t.places.size
+        t.places.hashes.items };
 }
 
 impl HashedStrings {
@@ -236,7 +223,7 @@ impl HashedStrings {
             }
             Err(next) => next,
         };
-        add_apart(
+        add(
             &mut self.bytes,
             &mut self.count,
             &mut self.places,
@@ -248,16 +235,18 @@ impl HashedStrings {
 
     /// The offset of the string that some bytes begin with, of which one is zero, which is guessed
     /// to be its end. A new string goes last. None where it is new and its end isn't the guessed
-    /// one, where its hash doesn't tell its place, and for want of memory; nothing changed then.
+    /// one, where its hash doesn't tell its place or four bytes don't hold it, and for want of memory;
+    /// nothing changed then.
     #[inline(always)]
     pub fn place_guessed(&mut self, bytes: &[u8], end: usize) -> Option<usize>
         requires within { end < length bytes.now }
         requires ended { slice_index bytes.now end ≡ 0 }
         ensures placed { IfSome result (IsPlaced self.old self.new (string_from bytes.now 0)) }
+        ensures fits { IfSome result (λ offset. offset < 2 ^ 32) }
         ensures kept { take (length self.old) self.new ≡ self.old }
         ensures none { IsNone result → self.new ≡ self.old }
     {
-        if begins_alike(&self.bytes, self.next, bytes, end) {
+        if begins_alike(&self.bytes, self.next, bytes, end) && self.next < u32::MAX as usize {
             let place = self.next;
             self.next = place.wrapping_add(end + 1);
             return Some(place);
@@ -294,6 +283,7 @@ impl HashedStrings {
         let positions = positions_of(self.alloc, &self.bytes, &begins)?;
         let bytes = replace(&mut self.bytes, Vec::new(self.alloc));
         self.count = 0;
+        self.places.forget();
         Some(SortedStrings::of(self.alloc, bytes, positions, &begins))
     }
 
@@ -315,6 +305,7 @@ impl HashedStrings {
     {
         self.bytes.truncate(mark.bytes);
         self.count = mark.strings;
+        self.places.hashes.truncate(mark.strings);
     }
 
     /// Each string and a zero byte.

@@ -16,10 +16,6 @@ use crate::table::PackageStringTable;
 use dwp_base::Endianness;
 use dwp_bytes::Encoding;
 
-/// How many bytes a string has at most, with the zero at its end, whose end is guessed: longer ones
-/// are looked for among those that are remembered.
-const SHORT: u64 = 512;
-
 /// The offset that the entry of a number has, where it can be read.
 #[inline(always)]
 fn known_entry(
@@ -71,62 +67,8 @@ fn short_string(debug_str: &[u8], offset: u64) -> Option<&[u8]>
 }
 
 impl PackageStringTable {
-    /// As `offset_by_hash`, where short strings aren't remembered. `after` is where the next string
-    /// begins, if the offsets are in order, as those that compilers make are.
-    #[inline(always)]
-    pub(crate) fn known_offset(
-        &mut self,
-        repeats: &mut Repeats,
-        debug_str: &[u8],
-        named: u64,
-        after: u64,
-        limit: u64,
-    ) -> Option<u64>
-        requires known { AreKnown debug_str.now self.old repeats.old }
-        ensures meaning { IfSome result (λ offset.
-            offset_read debug_str.now named self.old ≡ Ok (offset, self.new)) }
-        ensures fits { IfSome result (λ offset. offset ≤ limit) }
-        ensures kept { take (length self.old) self.new ≡ self.old }
-        ensures none { IsNone result → self.new ≡ self.old }
-        ensures known { AreKnown debug_str.now self.new repeats.new }
-    {
-        match self.guessed_offset(debug_str, named, after, limit) {
-            Some(offset) => Some(offset),
-            None => self.other_offset(repeats, debug_str, named, limit),
-        }
-    }
-
-    /// The same of a string that is short and ends before the next one.
-    #[inline(always)]
-    fn guessed_offset(
-        &mut self,
-        debug_str: &[u8],
-        named: u64,
-        after: u64,
-        limit: u64,
-    ) -> Option<u64>
-        ensures meaning { IfSome result (λ offset.
-            offset_read debug_str.now named self.old ≡ Ok (offset, self.new)) }
-        ensures fits { IfSome result (λ offset. offset ≤ limit) }
-        ensures kept { take (length self.old) self.new ≡ self.old }
-        ensures none { IsNone result → self.new ≡ self.old }
-    {
-        if after <= named || after - named > SHORT || after > debug_str.len() as u64 {
-            return None;
-        }
-        let rest = &debug_str[named as usize..];
-        let end = (after - named) as usize - 1;
-        if rest[end] != 0 {
-            return None;
-        }
-        if limit < self.data().len() as u64 {
-            return None;
-        }
-        let offset = self.place_guessed(rest, end)?;
-        Some(offset)
-    }
-
-    /// The same of a string whose end is near, by its hash alone.
+    /// The offset of the string at an offset of its section, whose end is near, by its hash alone,
+    /// where no table's offset is past the limit. None else; the table is then as it was.
     #[inline(always)]
     fn short_offset(&mut self, debug_str: &[u8], named: u64, limit: u64) -> Option<u64>
         ensures meaning { IfSome result (λ offset.
@@ -143,9 +85,9 @@ impl PackageStringTable {
         Some(offset)
     }
 
-    /// The same of any other string. A short one isn't looked for among those that are remembered.
+    /// As `offset_by_hash`, where short strings aren't remembered.
     #[inline(never)]
-    fn other_offset(
+    pub(crate) fn other_offset(
         &mut self,
         repeats: &mut Repeats,
         debug_str: &[u8],

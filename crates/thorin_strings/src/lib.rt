@@ -4,6 +4,7 @@
 mod batch;
 mod ends;
 mod guess;
+mod hash;
 mod hashed;
 mod known;
 pub mod laws;
@@ -16,6 +17,7 @@ mod repeats;
 mod search;
 mod sorted;
 mod table;
+mod told;
 mod words;
 
 pub use repeats::Repeats;

@@ -1,13 +1,13 @@
 //! Places of strings by their hashes, none of which is lost.
 
-ghost use Rattle.std.specs.Prelude.{◌≡◌, ◌≢◌, ◌<◌, ◌+◌, ◌^◌, ℕ, List, length, Some, None, IfSome};
-ghost use Rattle.std.specs.Prelude.{IsTrue, OnErr, IfOk, IfErr};
+ghost use Rattle.std.specs.Prelude.{◌≡◌, ◌≢◌, ◌<◌, ◌+◌, ◌^◌, ◌++◌, ◌∷◌, [], ℕ, List, length, Some};
+ghost use Rattle.std.specs.Prelude.{None, IfSome, IsTrue, OnErr, IfOk, IfErr, slice_index};
 ghost use Rattle.thorin_strings.specs.Places.{hash as hash_of, tag, place_from, place_of, home};
-ghost use Rattle.thorin_strings.specs.Places.{IsNext, AreEntered};
+ghost use Rattle.thorin_strings.specs.Places.{IsNext, AreEntered, AreKept};
 
 use crate::ends::{ROUNDS, end_of, short_end};
+use crate::hash::hash;
 use std::alloc::Global;
-use std::hash::{FoldHasher, Hasher};
 
 /// How many slots are looked at for a hash.
 const PROBES: usize = 128;
@@ -18,8 +18,8 @@ const FIRST_SIZE: u32 = 1024;
 /// At how many then.
 const SOME: u32 = 3 << 14;
 
-/// And then; three times as many after that, and from there on twice as many. Each time strings are
-/// walked.
+/// And then; three times as many after that, and from there on twice as many. From here on hashes
+/// aren't kept, and strings are walked each time.
 const MANY: u32 = 1 << 18;
 
 /// A free slot.
@@ -30,15 +30,6 @@ const FREE: Slot = Slot { tag: 0, behind: 0 };
 pub(crate) struct Slot {
     tag: u32,
     behind: u32,
-}
-
-/// The hash of a string, by which its place is kept.
-pub(crate) fn hash(string: &[u8]) -> u64
-    ensures { result ≡ hash_of string.now }
-{
-    let mut hasher = FoldHasher::default();
-    hasher.write(string);
-    hasher.finish()
 }
 
 /// The lower half of a hash.
@@ -71,6 +62,7 @@ fn home(size: u32, hash: u64) -> usize
 #[inline(always)]
 fn seek(slots: &[Slot], size: u32, hash: u64) -> Result<usize, usize>
     ensures found { IfOk result (λ place. place_of slots.now size hash ≡ Some place) }
+    ensures fits { IfOk result (λ place. place < 2 ^ 32) }
     ensures none { OnErr result (place_of slots.now size hash ≡ None) }
     ensures next { IfErr result (λ number. number < length slots.now
         → IsNext slots.now size hash number) }
@@ -158,6 +150,45 @@ fn put_all(slots: &mut [Slot], size: u32, strings: &[u8]) -> Option<usize>
     Some(count)
 }
 
+/// Puts the places that hashes have among others into slots; how many there are. None where one
+/// can't be put.
+fn put_known(slots: &mut [Slot], size: u32, known: &Places) -> Option<usize>
+    ensures entered { IfSome result (λ _. (k n : ℕ) → k < length known.now.hashes.items
+        → place_of known.now.slots.items known.now.size (slice_index known.now.hashes.items k)
+        ≡ Some n → place_of slots.new size (slice_index known.now.hashes.items k) ≡ Some n) }
+    ensures long { length slots.new ≡ length slots.old }
+{
+    for number in 0..known.hashes.len() {
+        let hash = known.hashes[number];
+        let Ok(place) = known.seek(hash) else {
+            return None;
+        };
+        let behind = behind(place as u64)?;
+        let slot = Slot {
+            tag: tag(hash),
+            behind,
+        };
+        if !put(slots, size, hash, slot) {
+            return None;
+        }
+    }
+    Some(known.hashes.len())
+}
+
+/// Puts the places of strings that have them among others into slots; how many there are. None where
+/// one can't be put. Strings are hashed again where their hashes aren't kept.
+fn put_strings(slots: &mut [Slot], size: u32, strings: &[u8], known: &Places) -> Option<usize>
+    ensures entered { IfSome result (λ _. AreKept known.now.hashes.items strings.now
+        → AreEntered strings.now known.now.slots.items known.now.size
+        → AreEntered strings.now slots.new size) }
+    ensures long { length slots.new ≡ length slots.old }
+{
+    if known.hashes.is_empty() {
+        return put_all(slots, size, strings);
+    }
+    put_known(slots, size, known)
+}
+
 /// How many slots hashes are to begin at, where they begin at so many now.
 fn more_than(size: u32) -> u32 {
     if size == 0 {
@@ -173,6 +204,11 @@ fn more_than(size: u32) -> u32 {
     }
 }
 
+/// How many slots are used at most, where hashes begin at so many: five of eight.
+fn most(size: u32) -> usize {
+    size as usize / 8 * 5
+}
+
 /// Places of strings by their hashes.
 ///
 /// What has a place keeps it, and one of a hash is found by at most 128 slots: where a new one
@@ -183,19 +219,24 @@ pub(crate) struct Places {
     pub alloc: Global,
     pub slots: Vec<Slot>,
     pub size: u32,
-    pub used: usize,
+    /// How many more slots may be used.
+    pub left: usize,
+    /// Those of all strings in their order, or none.
+    pub hashes: Vec<u64>,
 }
 
 impl Places {
     /// No places, which take no memory.
     pub fn new(alloc: Global) -> Self
-        ensures { (h : ℕ) → place_of result.slots.items result.size h ≡ None }
+        ensures none { (h : ℕ) → place_of result.slots.items result.size h ≡ None }
+        ensures hashes { result.hashes.items ≡ [] }
     {
         Places {
             alloc,
             slots: Vec::new(alloc),
             size: 0,
-            used: 0,
+            left: 0,
+            hashes: Vec::new(alloc),
         }
     }
 
@@ -204,6 +245,7 @@ impl Places {
     pub fn seek(&self, hash: u64) -> Result<usize, usize>
         ensures found { IfOk result (λ place.
             place_of self.now.slots.items self.now.size hash ≡ Some place) }
+        ensures fits { IfOk result (λ place. place < 2 ^ 32) }
         ensures none { OnErr result (place_of self.now.slots.items self.now.size hash ≡ None) }
         ensures next { IfErr result (λ number. number < length self.now.slots.items
             → IsNext self.now.slots.items self.now.size hash number) }
@@ -213,17 +255,20 @@ impl Places {
 
     /// The places of these strings in more slots. None where they don't fit or there is no memory.
     fn grown(&self, strings: &[u8]) -> Option<Places>
-        ensures { IfSome result (λ new. AreEntered strings.now new.slots.items new.size) }
+        ensures { IfSome result (λ new. AreKept self.now.hashes.items strings.now
+            → AreEntered strings.now self.now.slots.items self.now.size
+            → AreEntered strings.now new.slots.items new.size) }
     {
         let size = more_than(self.size);
         let count = (size as usize).saturating_add(PROBES);
         let mut slots = Vec::from_elem(self.alloc, FREE, count).ok()?;
-        let used = put_all(&mut slots, size, strings)?;
+        let used = put_strings(&mut slots, size, strings, self)?;
         Some(Places {
             alloc: self.alloc,
             slots,
             size,
-            used,
+            left: most(size).saturating_sub(used),
+            hashes: Vec::new(self.alloc),
         })
     }
 
@@ -234,14 +279,23 @@ impl Places {
         requires tag { slot.tag ≡ tag hash }
         ensures entered { IsTrue result → (n : ℕ) → n + 1 ≡ slot.behind
             → place_of self.new.slots.items self.new.size hash ≡ Some n }
-        ensures kept { AreEntered strings.now self.old.slots.items self.old.size
+        ensures kept { AreKept self.old.hashes.items strings.now
+            → AreEntered strings.now self.old.slots.items self.old.size
             → AreEntered strings.now self.new.slots.items self.new.size }
+        ensures hashes { self.new.hashes.items ≡ self.old.hashes.items }
     {
         let Some(more) = self.grown(strings) else {
             return false;
         };
-        *self = more;
-        self.used = self.used.saturating_add(1);
+        let Places {
+            slots,
+            size,
+            left,
+            ..
+        } = more;
+        self.slots = slots;
+        self.size = size;
+        self.left = left.saturating_sub(1);
         put(&mut self.slots, self.size, hash, slot)
     }
 
@@ -255,8 +309,11 @@ impl Places {
             → IsNext self.old.slots.items self.old.size hash next }
         ensures entered { IsTrue result
             → place_of self.new.slots.items self.new.size hash ≡ Some place }
-        ensures kept { AreEntered strings.now self.old.slots.items self.old.size
+        ensures fits { IsTrue result → place < 2 ^ 32 }
+        ensures kept { AreKept self.old.hashes.items strings.now
+            → AreEntered strings.now self.old.slots.items self.old.size
             → AreEntered strings.now self.new.slots.items self.new.size }
+        ensures hashes { self.new.hashes.items ≡ self.old.hashes.items }
     {
         let Some(behind) = behind(place as u64) else {
             return false;
@@ -265,17 +322,53 @@ impl Places {
             tag: tag(hash),
             behind,
         };
-        let size = self.size as usize;
-        if self.used >= size / 8 * 5 {
+        if self.left == 0 {
             return self.enter_in_more(hash, slot, strings);
         }
         if put_next(&mut self.slots, next, slot) {
-            self.used = self.used.wrapping_add(1);
+            self.left -= 1;
             return true;
         }
-        if self.used < size / 4 {
+        if most(self.size).saturating_sub(self.left) < self.size as usize / 4 {
             return false;
         }
         self.enter_in_more(hash, slot, strings)
+    }
+
+    /// Keeps the hash of a string that goes behind all others, while there are few slots. Where no
+    /// hashes are kept, none is but that of the first string.
+    #[inline(always)]
+    pub fn keep(&mut self, hash: u64, is_first: bool)
+        ensures slots { self.new.slots.items ≡ self.old.slots.items }
+        ensures size { self.new.size ≡ self.old.size }
+        ensures kept { (before : List ℕ) → (0 < length self.old.hashes.items
+            → self.old.hashes.items ≡ before) → (IsTrue is_first → before ≡ [])
+            → 0 < length self.new.hashes.items → self.new.hashes.items ≡ before ++ hash ∷ [] }
+    {
+        if is_first || !self.hashes.is_empty() {
+            self.keep_next(hash);
+        }
+    }
+
+    /// The same where hashes are kept.
+    #[inline(never)]
+    fn keep_next(&mut self, hash: u64)
+        ensures slots { self.new.slots.items ≡ self.old.slots.items }
+        ensures size { self.new.size ≡ self.old.size }
+        ensures kept { 0 < length self.new.hashes.items
+            → self.new.hashes.items ≡ self.old.hashes.items ++ hash ∷ [] }
+    {
+        if self.size >= MANY || self.hashes.push(hash).is_err() {
+            self.forget();
+        }
+    }
+
+    /// Keeps no hashes.
+    pub fn forget(&mut self)
+        ensures slots { self.new.slots.items ≡ self.old.slots.items }
+        ensures size { self.new.size ≡ self.old.size }
+        ensures none { self.new.hashes.items ≡ [] }
+    {
+        self.hashes = Vec::new(self.alloc);
     }
 }

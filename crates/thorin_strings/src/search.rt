@@ -1,6 +1,6 @@
 //! Looking a string up among positions in the order of their strings.
 
-ghost use Rattle.std.specs.Prelude.{◌≡◌, ◌≤◌, ◌<◌, ◌↔◌, length, slice_index, Contains};
+ghost use Rattle.std.specs.Prelude.{◌≡◌, ◌≤◌, ◌<◌, ◌+◌, ◌↔◌, ℕ, length, take, slice_index, Contains};
 ghost use Rattle.std.specs.Prelude.{IfOk, IfErr, IsTrue};
 ghost use Rattle.std.specs.Ordering.{nat_cmp};
 ghost use Rattle.std.specs.Cmp.Lexicographic.{slice_cmp};
@@ -12,6 +12,10 @@ use crate::guess::{Guesses, hash_of};
 use crate::positions::Positions;
 use memchr::arch::all::is_equal;
 use std::cmp::Ordering;
+use std::simd::prelude::*;
+
+/// How many bytes of a string are looked at together.
+const LANES: usize = 32;
 
 /// How the string at a place stands to one without zero bytes. Its end isn't looked for: as many
 /// bytes as the other has decide, and where they are the same, whether a zero follows them.
@@ -60,6 +64,41 @@ pub(crate) fn stands_at(bytes: &[u8], at: usize, string: &[u8]) -> bool
     begins_at(bytes, at) && is_at(bytes, at, string)
 }
 
+/// Whether the next 32 bytes of both are the same.
+#[inline(always)]
+fn are_same(bytes: &[u8], other: &[u8], at: usize) -> bool
+    requires first { at + 32 ≤ length bytes.now }
+    requires second { at + 32 ≤ length other.now }
+    ensures { IsTrue result → (k : ℕ) → k < 32
+        → slice_index bytes.now (at + k) ≡ slice_index other.now (at + k) }
+{
+    let first = u8x32::from_slice(&bytes[at..]);
+    let second = u8x32::from_slice(&other[at..]);
+    first.simd_ne(second).to_bitmask() == 0
+}
+
+/// Whether so many first bytes of both are the same.
+#[inline(always)]
+fn begins_same(bytes: &[u8], other: &[u8], count: usize) -> bool
+    requires first { count ≤ length bytes.now }
+    requires second { count ≤ length other.now }
+    ensures { IsTrue result → take count bytes.now ≡ take count other.now }
+{
+    if count < LANES {
+        return is_equal(&bytes[..count], &other[..count]);
+    }
+    let last = count - LANES;
+    let mut at = 0;
+    while at < last {
+        if !are_same(bytes, other, at) {
+            return false;
+        }
+        at += LANES;
+    }
+    // (some are looked at again where fewer are left)
+    are_same(bytes, other, last)
+}
+
 /// Whether the string at a place is the one that some bytes begin with, of which one is zero: they
 /// are the same as far as that byte, so wherever they end. No where they differ behind an earlier
 /// end, which may be the same string.
@@ -74,7 +113,7 @@ fn is_alike(bytes: &[u8], at: usize, other: &[u8], end: usize) -> bool
     if rest.len() <= end {
         return false;
     }
-    rest[end] == 0 && is_equal(&rest[..end], &other[..end])
+    rest[end] == 0 && begins_same(rest, other, end)
 }
 
 /// Whether a string begins at a place of a section of ended strings and is the one that some bytes

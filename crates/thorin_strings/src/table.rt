@@ -1,15 +1,18 @@
 //! The table of distinct strings of a package (DWARF 5, 7.26).
 
-ghost use Rattle.std.specs.Prelude.{◌≡◌, ◌↔◌, ◌+◌, ◌*◌, ◌<◌, ◌^◌, ◌++◌, ℕ, List, [], length, take};
+ghost use Rattle.std.specs.Prelude.{◌≡◌, ◌↔◌, ◌+◌, ◌-◌, ◌*◌, ◌<◌, ◌≤◌, ◌^◌, ◌++◌, ℕ, List, []};
+ghost use Rattle.std.specs.Prelude.{length, take};
 ghost use Rattle.std.specs.Prelude.{Ok, OnOk, IfOk, IfErr};
-ghost use Rattle.std.specs.Prelude.{IsSome, IfSome, IsNone, IsTrue, Contains, slice_index};
+ghost use Rattle.std.specs.Prelude.{IsSome, IfSome, IsNone, IsTrue, Contains};
 ghost use Rattle.dwp_bytes.specs.Encoding.{offset_size};
-ghost use Rattle.dwp_bytes.specs.StringOffsets.{header_size, string_from};
+ghost use Rattle.dwp_bytes.specs.declared.encoding.Format.TheVariants.{Dwarf32};
+ghost use Rattle.dwp_bytes.specs.StringOffsets.{header_size};
 ghost use Rattle.thorin_strings.specs.StringOffsets.{remapped_entries, entry_bytes};
 ghost use Rattle.thorin_strings.specs.Strings.{data_of, offset_of, with_string, IsZeroFree};
 ghost use Rattle.thorin_strings.specs.Strings.{IsTable, IsWithinDigits};
 ghost use Rattle.thorin_strings.specs.Marks.{mark_of};
 ghost use Rattle.thorin_strings.specs.Known.{AreKnown};
+ghost use Rattle.thorin_strings.specs.Written.{AreWritten};
 
 use crate::hashed::{HashedStrings, Unplaced};
 use crate::repeats::Repeats;
@@ -174,24 +177,42 @@ impl PackageStringTable {
         }
     }
 
-    /// The same of the string that some bytes begin with, of which one is zero, which is guessed to
-    /// be its end.
-    #[inline(always)]
-    pub(crate) fn place_guessed(&mut self, bytes: &[u8], end: usize) -> Option<u64>
-        requires within { end < length bytes.now }
-        requires ended { slice_index bytes.now end ≡ 0 }
-        ensures offset { IfSome result (λ o. o ≡ offset_of self.old (string_from bytes.now 0)) }
-        ensures placed { IfSome result
-            (λ _. self.new ≡ with_string self.old (string_from bytes.now 0)) }
+    /// Rewrites the entries of a range of four-byte offsets from a number on, as far as each is told
+    /// by the hash of its string and isn't the last, in the room that they have behind what comes
+    /// first; the number of the next.
+    pub(crate) fn write_told(
+        &mut self,
+        debug_str: &[u8],
+        debug_str_offsets: &[u8],
+        encoding: Encoding,
+        out: &mut [u8],
+        first: usize,
+        from: usize,
+    ) -> usize
+        requires form { encoding.format ≡ Dwarf32 }
+        requires here { first + from * 4 + 4 ≤ length out.old }
+        requires within { header_size encoding + (length out.old - first)
+            ≤ length debug_str_offsets.now }
+        ensures further { from ≤ result }
+        ensures here { first + result * 4 + 4 ≤ length out.old }
+        ensures long { length out.new ≡ length out.old }
+        ensures told { (old : List (List ℕ)) (front : List ℕ)
+            → AreWritten encoding debug_str.now debug_str_offsets.now first from front old self.old
+            out.old
+            → AreWritten encoding debug_str.now debug_str_offsets.now first result front old self.new
+            out.new }
         ensures kept { take (length self.old) self.new ≡ self.old }
-        ensures none { IsNone result → self.new ≡ self.old }
     {
         match &mut self.strings {
-            Strings::Hashed(strings) => match strings.place_guessed(bytes, end) {
-                Some(offset) => Some(offset as u64),
-                None => None,
-            },
-            Strings::Sorted(_) => None,
+            Strings::Hashed(strings) => strings.write_told(
+                debug_str,
+                debug_str_offsets,
+                encoding,
+                out,
+                first,
+                from,
+            ),
+            Strings::Sorted(_) => from,
         }
     }
 

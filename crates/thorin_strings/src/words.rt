@@ -1,12 +1,12 @@
 //! String offsets of four bytes, the lowest first, each rewritten in its place: most are such.
 
-ghost use Rattle.std.specs.Prelude.{◌≡◌, ◌≤◌, ◌<◌, ◌+◌, ◌^◌, ◌++◌, ◌*◌, Ok, length, take};
+ghost use Rattle.std.specs.Prelude.{◌≡◌, ◌≤◌, ◌<◌, ◌+◌, ◌^◌, ◌++◌, ◌*◌, Ok, IfOk, length, take};
 ghost use Rattle.dwp_base.specs.declared.endian.Endianness.TheVariants.{Little};
 ghost use Rattle.dwp_base.specs.Numbers.{number_bytes};
 ghost use Rattle.dwp_bytes.specs.declared.encoding.Format.TheVariants.{Dwarf32};
 ghost use Rattle.thorin_faults.specs.Answers.{Gives};
 ghost use Rattle.dwp_bytes.specs.StringOffsets.{header_size};
-ghost use Rattle.thorin_strings.specs.StringOffsets.{entry_at, remapped};
+ghost use Rattle.thorin_strings.specs.StringOffsets.{entry_at, remapped_entry, remapped};
 ghost use Rattle.thorin_strings.specs.Known.{AreKnown};
 
 use crate::offsets::header;
@@ -18,27 +18,65 @@ use thorin_faults::Error;
 
 /// The offset that the entry of a number has.
 #[inline(always)]
-fn word_at(debug_str_offsets: &[u8], encoding: Encoding, index: u64) -> u64
+pub(crate) fn word_at(debug_str_offsets: &[u8], encoding: Encoding, index: usize) -> u64
     requires form { encoding.format ≡ Dwarf32 }
     requires within { header_size encoding + index * 4 + 4 ≤ length debug_str_offsets.now }
     ensures { entry_at Little encoding debug_str_offsets.now index ≡ Ok result }
 {
-    let at = encoding.string_offsets_header_size() + index as usize * 4;
+    let at = encoding.string_offsets_header_size() + index * 4;
     Endianness::Little.read_u32(&debug_str_offsets[at..]) as u64
 }
 
 /// Writes an offset of four bytes, the lowest first.
 #[inline(always)]
-fn write_word(out: &mut [u8], at: usize, offset: u64)
+pub(crate) fn write_word(out: &mut [u8], at: usize, offset: u64)
     requires within { at + 4 ≤ length out.old }
     requires fits { offset < 2 ^ 32 }
     ensures long { length out.new ≡ length out.old }
     ensures written { take (at + 4) out.new ≡ take at out.old ++ number_bytes Little 4 offset }
 {
-    out[at..at + 4].copy_from_slice(&(offset as u32).to_le_bytes());
+    // (each byte is set: so it is one store, where a copy would look whether the two overlap)
+    let bytes = (offset as u32).to_le_bytes();
+    out[at] = bytes[0];
+    out[at + 1] = bytes[1];
+    out[at + 2] = bytes[2];
+    out[at + 3] = bytes[3];
 }
 
 impl PackageStringTable {
+    /// The offset of the string that an entry names, which is added where it is new.
+    #[inline(always)]
+    fn other_word(
+        &mut self,
+        repeats: &mut Repeats,
+        debug_str: &[u8],
+        debug_str_offsets: &[u8],
+        encoding: Encoding,
+        index: usize,
+    ) -> Result<u64, Error>
+        requires form { encoding.format ≡ Dwarf32 }
+        requires within { header_size encoding + index * 4 + 4 ≤ length debug_str_offsets.now }
+        requires known { AreKnown debug_str.now self.old repeats.old }
+        ensures meaning { Gives (λ offset. (offset, self.new)) result
+            (remapped_entry Little encoding debug_str.now debug_str_offsets.now index self.old) }
+        ensures fits { IfOk result (λ offset. offset < 2 ^ 32) }
+        ensures kept { take (length self.old) self.new ≡ self.old }
+        ensures known { AreKnown debug_str.now self.new repeats.new }
+    {
+        let named = word_at(debug_str_offsets, encoding, index);
+        match self.other_offset(repeats, debug_str, named, u32::MAX as u64) {
+            Some(offset) => Ok(offset),
+            None => self.remapped_entry(
+                repeats,
+                debug_str,
+                debug_str_offsets,
+                Endianness::Little,
+                encoding,
+                index as u64,
+            ),
+        }
+    }
+
     /// `remapped` of a range that is whole, with offsets of four bytes, the lowest first.
     #[inline(always)]
     #[tactic(auto, unfolding(crate::specs::StringOffsets::remapped))]
@@ -65,31 +103,24 @@ impl PackageStringTable {
         if section_size < encoding.string_offsets_header_size() as u64 {
             return Err(Error::BadStringOffsets(0));
         }
-        let count = encoding.string_offsets_count(section_size);
-        let mut out = header(alloc, Endianness::Little, encoding, count * 4)?;
+        let count = encoding.string_offsets_count(section_size) as usize;
+        let mut out = header(alloc, Endianness::Little, encoding, count as u64 * 4)?;
         let first = out.len();
-        out.resize(first + count as usize * 4, 0)?;
-        for index in 0..count {
+        out.resize(first + count * 4, 0)?;
+        let mut index = 0;
+        while index < count {
             // (nearly every entry is told here, without room for an error)
-            let named = word_at(debug_str_offsets, encoding, index);
-            let after = if index + 1 < count {
-                word_at(debug_str_offsets, encoding, index + 1)
-            } else {
-                debug_str.len() as u64
-            };
-            let known = self.known_offset(repeats, debug_str, named, after, u32::MAX as u64);
-            let offset = match known {
-                Some(offset) => offset,
-                None => self.remapped_entry(
-                    repeats,
-                    debug_str,
-                    debug_str_offsets,
-                    Endianness::Little,
-                    encoding,
-                    index,
-                )?,
-            };
-            write_word(&mut out, first + index as usize * 4, offset);
+            index = self.write_told(
+                debug_str,
+                debug_str_offsets,
+                encoding,
+                &mut out,
+                first,
+                index,
+            );
+            let offset = self.other_word(repeats, debug_str, debug_str_offsets, encoding, index)?;
+            write_word(&mut out, first + index * 4, offset);
+            index += 1;
         }
         Ok(out)
     }

@@ -1,8 +1,9 @@
-use Rattle.std.proofs.Common.{◌≡◌, ◌+◌, ◌++◌, ◌∙◌, length, ap, sym, refl, arith}
+use Rattle.std.proofs.Common.{◌≡◌, ◌<◌, map, subst, ◌+◌, ◌++◌, ◌∙◌, length, ap, sym, refl, arith}
 use Rattle.thorin_strings.specs.Strings.{terminated, strings_in}
-use Rattle.thorin_strings.specs.Places.{place_of}
+use Rattle.thorin_strings.specs.Places.{hash, place_of}
 use Rattle.thorin_strings.proofs.GrownLemmas.{used_last, kept_last, two_pushes}
-use Rattle.thorin_strings.proofs.HashedLemmas.{hashed_push, unplaced, entered_same}
+use Rattle.thorin_strings.proofs.HashedLemmas.{hashed_push, unplaced, entered_same, kept_same}
+use Rattle.thorin_strings.proofs.HashedLemmas.{first_hash}
 use Rattle.thorin_strings.proofs.TableLemmas.{strings_few}
 use Rattle.thorin_strings.proofs.hashed.add.Goals as goal
 
@@ -26,12 +27,17 @@ returns-clause-table c =
     let none = ap (place_of c.args.places.now.slots.items c.args.places.now.size)
     (sym c.requires.hashed) ∙ c.requires.none in
     let kept = entered_same _ _ _ _ _ _ (c.deref.ensures.value ∙ c.reserve.ensures.items)
-    c.enter.ensures.kept in
-    let table = hashed_push _ _ _ _ c.enter.new.self.slots.items c.enter.new.self.size
+    (c.enter.ensures.kept (kept_same _ _ _ (c.deref.ensures.value ∙ c.reserve.ensures.items)
+    c.requires.table.remembered)) in
+    let table = hashed_push _ _ _ _ c.enter.new.self.slots.items c.enter.new.self.size _
+    c.keep.new.self.hashes.items
     c.args.string.now _ (c.args.count.now + 1) _ _ c.requires.table c.requires.zero_free
-    (unplaced _ _ _ _ c.args.string.now c.requires.table none) new long c.requires.hashed refl kept
-    (c.if-not-enter.ensures.entered refl) in
-    table
+    (unplaced _ _ _ _ _ c.args.string.now c.requires.table none) new long c.requires.hashed refl kept
+    (c.if-not-enter.ensures.entered refl)
+    (λ known some. c.keep.ensures.kept (map hash (strings_in c.args.bytes.now.items))
+    (λ old. c.enter.ensures.hashes ∙ known (subst (λ l. 0 < length l) c.enter.ensures.hashes old))
+    (λ first. first_hash c.args.bytes.now.items c.len-place.result long first) some) in
+    rw (c.keep.ensures.slots, c.keep.ensures.size) table
 
 pub returns-clause-placed : goal.returns-clause-placed
 returns-clause-placed c =
@@ -43,11 +49,16 @@ returns-clause-placed c =
     let none = ap (place_of c.args.places.now.slots.items c.args.places.now.size)
     (sym c.requires.hashed) ∙ c.requires.none in
     let kept = entered_same _ _ _ _ _ _ (c.deref.ensures.value ∙ c.reserve.ensures.items)
-    c.enter.ensures.kept in
-    let table = hashed_push _ _ _ _ c.enter.new.self.slots.items c.enter.new.self.size
+    (c.enter.ensures.kept (kept_same _ _ _ (c.deref.ensures.value ∙ c.reserve.ensures.items)
+    c.requires.table.remembered)) in
+    let table = hashed_push _ _ _ _ c.enter.new.self.slots.items c.enter.new.self.size _
+    c.keep.new.self.hashes.items
     c.args.string.now _ (c.args.count.now + 1) _ _ c.requires.table c.requires.zero_free
-    (unplaced _ _ _ _ c.args.string.now c.requires.table none) new long c.requires.hashed refl kept
-    (c.if-not-enter.ensures.entered refl) in
+    (unplaced _ _ _ _ _ c.args.string.now c.requires.table none) new long c.requires.hashed refl kept
+    (c.if-not-enter.ensures.entered refl)
+    (λ known some. c.keep.ensures.kept (map hash (strings_in c.args.bytes.now.items))
+    (λ old. c.enter.ensures.hashes ∙ known (subst (λ l. 0 < length l) c.enter.ensures.hashes old))
+    (λ first. first_hash c.args.bytes.now.items c.len-place.result long first) some) in
     used_last c.args.bytes.now.items c.push.new.self.items c.args.string.now c.len-place.result
     c.requires.table.ended c.requires.zero_free new long table.distinct
 

@@ -9,4 +9,4 @@ returns-then-rest-end-eq0 c = λ is.
     in
     alike_front (drop c.args.at c.args.bytes.now) rest c.args.other.now c.args.end
     (drop_whole c.args.at c.args.bytes.now) (omega arith) c.requires.within c.if-rest-end-eq0.true
-    c.requires.ended (c.is_equal.ensures.0 is)
+    c.requires.ended (c.begins_same.ensures is)

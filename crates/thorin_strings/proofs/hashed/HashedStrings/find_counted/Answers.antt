@@ -38,7 +38,7 @@ returns-else-stands_at-clause-found c =
     (sym c.hash.ensures) ∙ c.in-Ok.ensures.found in
     rw (← c.self.view_is) (
       λ e. absurd (false≢true e),
-      λ there. absurd (misplaced _ _ _ _ c.args.string.now
+      λ there. absurd (misplaced _ _ _ _ _ c.args.string.now
           c.in-Ok.place c.self.invariant placed (λ here.
           false≢true (sym c.if-stands_at.false ∙ c.stands_at.ensures.1
           (rw c.deref.ensures.value here))) there),
@@ -50,5 +50,5 @@ returns-in_default-clause-found c =
     (sym c.hash.ensures) ∙ c.in_default.ensures.none in
     rw (← c.self.view_is) (
       λ e. absurd (false≢true e),
-      λ there. absurd (unplaced _ _ _ _ c.args.string.now c.self.invariant none there),
+      λ there. absurd (unplaced _ _ _ _ _ c.args.string.now c.self.invariant none there),
     )

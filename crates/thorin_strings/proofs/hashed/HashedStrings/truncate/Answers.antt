@@ -4,11 +4,13 @@ use Rattle.thorin_strings.proofs.HashedLemmas.{hashed_take}
 use Rattle.thorin_strings.proofs.hashed.HashedStrings.truncate.Goals as goal
 
 pub invariant_of-self : goal.invariant_of-self
-invariant_of-self c = (hashed_take _ _ _ _ _ _ _ _ _ c.self.invariant c.self.view_is
+invariant_of-self c = (hashed_take _ _ _ _ _ _ _ _ _ _ _ c.self.invariant c.self.view_is
     (ap (λ (m : TableMark). m.strings) c.requires) (ap (λ (m : TableMark). m.bytes) c.requires)
-    c.truncate.ensures.items refl).1
+    c.truncate.ensures.items refl
+    c.truncate-2.ensures.items).1
 
 pub returns : goal.returns
-returns c = (hashed_take _ _ _ _ _ _ _ _ _ c.self.invariant c.self.view_is
+returns c = (hashed_take _ _ _ _ _ _ _ _ _ _ _ c.self.invariant c.self.view_is
     (ap (λ (m : TableMark). m.strings) c.requires) (ap (λ (m : TableMark). m.bytes) c.requires)
-    c.truncate.ensures.items refl).0
+    c.truncate.ensures.items refl
+    c.truncate-2.ensures.items).0

@@ -14,15 +14,15 @@ returns-then-put_next-clause-entered c = λ _.
     (rw c.deref_mut.ensures.value c.requires.none) c.tag.ensures (sym c.in-Some.ensures)
 
 pub returns-then-put_next-clause-kept : goal.returns-then-put_next-clause-kept
-returns-then-put_next-clause-kept c = λ entered.
+returns-then-put_next-clause-kept c = λ known entered.
     entered_kept _ _ _ _ _ _ entered (λ h n is.
     ap (λ l. place_of l c.args.self.now.size h) (taken c.args.self.now.slots.items
     c.put_next.new.slots c.args.self.now.slots.len (c.put_next.ensures.long ∙ ap length
     c.deref_mut.ensures.value) (omega (arith, c.args.self.now.slots.ok.0)))
     ∙ c.put_next.ensures.kept _ h n (rw c.deref_mut.ensures.value is))
 
-pub returns-then-self-size-2-clause-kept : goal.returns-then-self-size-2-clause-kept
-returns-then-self-size-2-clause-kept c = λ entered.
+pub returns-then-saturating_sub-self-clause-kept : goal.returns-then-saturating_sub-self-clause-kept
+returns-then-saturating_sub-self-clause-kept c = λ known entered.
     entered_kept _ _ _ _ _ _ entered (λ h n is.
     ap (λ l. place_of l c.args.self.now.size h) (taken c.args.self.now.slots.items
     c.put_next.new.slots c.args.self.now.slots.len (c.put_next.ensures.long ∙ ap length
@@ -34,13 +34,13 @@ returns-clause-entered c = λ is.
     c.enter_in_more-2.ensures.entered is c.args.place (sym c.in-Some.ensures)
 
 pub returns-clause-kept : goal.returns-clause-kept
-returns-clause-kept c = λ entered.
-    c.enter_in_more-2.ensures.kept (entered_kept _ _ _ _ _ _ entered (λ h n is.
+returns-clause-kept c = λ known entered.
+    c.enter_in_more-2.ensures.kept known (entered_kept _ _ _ _ _ _ entered (λ h n is.
     ap (λ l. place_of l c.args.self.now.size h) (taken c.args.self.now.slots.items
     c.put_next.new.slots c.args.self.now.slots.len (c.put_next.ensures.long ∙ ap length
     c.deref_mut.ensures.value) (omega (arith, c.args.self.now.slots.ok.0)))
     ∙ c.put_next.ensures.kept _ h n (rw c.deref_mut.ensures.value is)))
 
-pub returns-then-self-size-clause-entered : goal.returns-then-self-size-clause-entered
-returns-then-self-size-clause-entered c = λ is.
+pub returns-then-self-eq0-clause-entered : goal.returns-then-self-eq0-clause-entered
+returns-then-self-eq0-clause-entered c = λ is.
     c.enter_in_more.ensures.entered is c.args.place (sym c.in-Some.ensures)

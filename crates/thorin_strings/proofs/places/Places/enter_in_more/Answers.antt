@@ -11,8 +11,8 @@ returns-clause-entered c = λ is n more.
     ∙ c.put.ensures.put is n more
 
 pub returns-clause-kept : goal.returns-clause-kept
-returns-clause-kept c = λ _.
-    entered_kept _ _ _ _ _ _ c.in-Some.ensures (λ h n is.
+returns-clause-kept c = λ known entered.
+    entered_kept _ _ _ _ _ _ (c.in-Some.ensures known entered) (λ h n is.
     ap (λ l. place_of l c.in-Some.more.size h) (taken c.in-Some.more.slots.items c.put.new.slots
     c.in-Some.more.slots.len (c.put.ensures.long ∙ ap length c.deref_mut.ensures.value)
     (omega (arith, c.in-Some.more.slots.ok.0)))

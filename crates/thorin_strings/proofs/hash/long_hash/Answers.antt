@@ -1,0 +1,43 @@
+use Rattle.std.proofs.Common.{◌+◌, ◌∙◌, arith, refl}
+use Rattle.thorin_strings.proofs.HashLemmas.{mixed_first, mixed_more, mixed_all}
+use Rattle.thorin_strings.proofs.hash.long_hash.Goals as goal
+
+pub loop-at-init : goal.loop-at-init
+loop-at-init c = record {
+  whole = refl;
+  within = omega arith;
+  so_far = mixed_first c.args.bytes.now _ refl;
+}
+
+pub loop-at-preserved : goal.loop-at-preserved
+loop-at-preserved c =
+    let bytes = c.args.bytes.now in
+    let at = c.loop-at.at in
+    record {
+      whole = omega (arith, c.loop-at.invariant.whole);
+      within = omega arith;
+      so_far = mixed_more bytes _ (at + 48) _ _ _ (omega (arith, c.loop-at.invariant.whole))
+          (omega arith) (omega arith)
+          (mixed_more bytes _ (at + 32) _ _ _ (omega (arith, c.loop-at.invariant.whole))
+          (omega arith) (omega arith)
+          (mixed_more bytes _ (at + 16) _ _ _ (omega (arith, c.loop-at.invariant.whole))
+          (omega arith) (omega arith)
+          (mixed_more bytes _ at _ _ _ c.loop-at.invariant.whole (omega arith) (omega arith)
+          c.loop-at.invariant.so_far c.mixed-state.ensures) c.mixed-state-in-loop-at.ensures)
+          c.mixed-state-in-loop-at-2.ensures) c.mixed-state-in-loop-at-3.ensures;
+    }
+
+pub loop-at-2-preserved : goal.loop-at-2-preserved
+loop-at-2-preserved c = record {
+  whole = omega (arith, c.loop-at-2.invariant.whole);
+  within = omega arith;
+  so_far = mixed_more c.args.bytes.now _ c.loop-at-2.at _ _ _ c.loop-at-2.invariant.whole
+      (omega arith) (omega arith) c.loop-at-2.invariant.so_far
+      c.mixed-state-in-loop-at-2-2.ensures;
+}
+
+pub returns : goal.returns
+returns c =
+    c.mixed.ensures ∙ mixed_all c.args.bytes.now _ c.loop-at-2.at _ (omega arith)
+    c.loop-at-2.invariant.whole c.loop-at-2.invariant.within (omega arith)
+    c.saturating_sub.ensures c.loop-at-2.invariant.so_far

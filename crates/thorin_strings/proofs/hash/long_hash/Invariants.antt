@@ -1,0 +1,23 @@
+use Rattle.std.proofs.Common.{◌≡◌, ◌-◌, ◌%◌, ◌<◌, length}
+use Rattle.thorin_strings.proofs.HashLemmas.{mixed_to}
+use Rattle.thorin_strings.proofs.hash.long_hash.Given as goal
+
+abbrev pub invariant-loop-at : goal.invariant-loop-at
+invariant-loop-at l = record {
+  whole : l.at % 16 ≡ 0;
+  within : l.at < length l.bytes;
+  so_far : l.state ≡ mixed_to l.bytes l.at;
+}
+
+abbrev pub decreases-loop-at : goal.decreases-loop-at
+decreases-loop-at l = l.len - l.at
+
+abbrev pub invariant-loop-at-2 : goal.invariant-loop-at-2
+invariant-loop-at-2 l = record {
+  whole : l.at % 16 ≡ 0;
+  within : l.at < length l.bytes;
+  so_far : l.state ≡ mixed_to l.bytes l.at;
+}
+
+abbrev pub decreases-loop-at-2 : goal.decreases-loop-at-2
+decreases-loop-at-2 l = l.len - l.at

@@ -1,0 +1,89 @@
+//! The hash of a string. It is the one of `FoldHasher`, made of up to 64 bytes a step.
+
+ghost use Rattle.std.specs.Prelude.{◌≡◌, ◌<◌, ◌≤◌, ◌+◌, length};
+ghost use Rattle.std.specs.Hash.FoldHasher.{folded_multiply as folded, read_u32, read_u64, mix};
+ghost use Rattle.thorin_strings.specs.Places.{hash as hash_of};
+
+use std::hash::{FoldHasher, Hasher};
+
+/// What the hasher begins with.
+const START: u64 = 0x243f_6a88_85a3_08d3;
+
+/// What every second word is changed by.
+const MULTIPLIER: u64 = 0x9e37_79b9_7f4a_7c15;
+
+/// The two halves of a product, joined.
+#[inline(always)]
+fn folded_multiply(a: u64, b: u64) -> u64
+    ensures { result ≡ folded a b }
+{
+    let product = a as u128 * b as u128;
+    (product & 0xFFFF_FFFF_FFFF_FFFF) as u64 ^ (product >> 64) as u64
+}
+
+/// The four bytes at a place as a number, the lowest first.
+#[inline(always)]
+fn half_at(bytes: &[u8], at: usize) -> u64
+    requires { at + 4 ≤ length bytes.now }
+    ensures { result ≡ read_u32 bytes.now at }
+{
+    u32::from_le_bytes([bytes[at], bytes[at + 1], bytes[at + 2], bytes[at + 3]]) as u64
+}
+
+/// The eight bytes at a place as a number, the lowest first.
+#[inline(always)]
+fn word_at(bytes: &[u8], at: usize) -> u64
+    requires { at + 8 ≤ length bytes.now }
+    ensures { result ≡ read_u64 bytes.now at }
+{
+    half_at(bytes, at) | half_at(bytes, at + 4) << 32
+}
+
+/// The state after the words at two places.
+#[inline(always)]
+fn mixed(bytes: &[u8], state: u64, at: usize, other: usize) -> u64
+    requires first { at + 8 ≤ length bytes.now }
+    requires second { other + 8 ≤ length bytes.now }
+    ensures { result ≡ mix bytes.now state at other }
+{
+    folded_multiply(
+        word_at(bytes, at) ^ state,
+        word_at(bytes, other) ^ MULTIPLIER,
+    )
+}
+
+/// The hash of a string that is longer than a word.
+#[inline(always)]
+fn long_hash(bytes: &[u8]) -> u64
+    requires { 8 < length bytes.now }
+    ensures { result ≡ hash_of bytes.now }
+{
+    let len = bytes.len();
+    let mut state = START.wrapping_add(len as u64);
+    let mut at = 0;
+    while len - at > 64 {
+        state = mixed(bytes, state, at, at + 8);
+        state = mixed(bytes, state, at + 16, at + 24);
+        state = mixed(bytes, state, at + 32, at + 40);
+        state = mixed(bytes, state, at + 48, at + 56);
+        at += 64;
+    }
+    while len - at > 16 {
+        state = mixed(bytes, state, at, at + 8);
+        at += 16;
+    }
+    mixed(bytes, state, len.saturating_sub(16), len - 8)
+}
+
+/// The hash of a string, by which its place is kept.
+#[inline(never)]
+pub(crate) fn hash(string: &[u8]) -> u64
+    ensures { result ≡ hash_of string.now }
+{
+    if string.len() > 8 {
+        return long_hash(string);
+    }
+    let mut hasher = FoldHasher::default();
+    hasher.write(string);
+    hasher.finish()
+}

@@ -1,0 +1,84 @@
+//! Entries of string offsets of four bytes whose strings are told by their hashes, one after the
+//! other: nearly all are such.
+
+ghost use Rattle.std.specs.Prelude.{◌≡◌, ◌≤◌, ◌<◌, ◌+◌, ◌-◌, ◌*◌, ◌^◌, ℕ, List, length, take, Ok};
+ghost use Rattle.std.specs.Prelude.{IsNone, IfSome};
+ghost use Rattle.dwp_bytes.specs.declared.encoding.Format.TheVariants.{Dwarf32};
+ghost use Rattle.dwp_bytes.specs.StringOffsets.{header_size};
+ghost use Rattle.thorin_strings.specs.Known.{offset_read};
+ghost use Rattle.thorin_strings.specs.Written.{AreWritten};
+
+use crate::hashed::HashedStrings;
+use crate::words::{word_at, write_word};
+use dwp_bytes::Encoding;
+
+/// How many bytes a string has at most, with the zero at its end, whose end is guessed: longer ones
+/// are looked for among those that are remembered.
+const SHORT: u64 = 512;
+
+impl HashedStrings {
+    /// The offset of the string at an offset of its section, which is short and ends before the
+    /// next one. None where it isn't that, where its hash doesn't tell its place or four bytes
+    /// don't hold it, and for want of memory; nothing changed then.
+    #[inline(always)]
+    fn guessed_offset(&mut self, debug_str: &[u8], named: u64, after: u64) -> Option<u64>
+        ensures meaning { IfSome result (λ offset.
+            offset_read debug_str.now named self.old ≡ Ok (offset, self.new)) }
+        ensures fits { IfSome result (λ offset. offset < 2 ^ 32) }
+        ensures kept { take (length self.old) self.new ≡ self.old }
+        ensures none { IsNone result → self.new ≡ self.old }
+    {
+        if after <= named || after - named > SHORT || after > debug_str.len() as u64 {
+            return None;
+        }
+        let rest = &debug_str[named as usize..];
+        let end = (after - named) as usize - 1;
+        if rest[end] != 0 {
+            return None;
+        }
+        let offset = self.place_guessed(rest, end)?;
+        Some(offset as u64)
+    }
+
+    /// Rewrites the entries of a range from a number on, as far as each is told so and isn't the
+    /// last, in the room that they have behind what comes first; the number of the next. `after` is
+    /// where the next string begins, if the offsets are in order, as those that compilers make are.
+    #[inline(never)]
+    pub fn write_told(
+        &mut self,
+        debug_str: &[u8],
+        debug_str_offsets: &[u8],
+        encoding: Encoding,
+        out: &mut [u8],
+        first: usize,
+        from: usize,
+    ) -> usize
+        requires form { encoding.format ≡ Dwarf32 }
+        requires here { first + from * 4 + 4 ≤ length out.old }
+        requires within { header_size encoding + (length out.old - first)
+            ≤ length debug_str_offsets.now }
+        ensures further { from ≤ result }
+        ensures here { first + result * 4 + 4 ≤ length out.old }
+        ensures long { length out.new ≡ length out.old }
+        ensures told { (old : List (List ℕ)) (front : List ℕ)
+            → AreWritten encoding debug_str.now debug_str_offsets.now first from front old self.old
+            out.old
+            → AreWritten encoding debug_str.now debug_str_offsets.now first result front old self.new
+            out.new }
+        ensures kept { take (length self.old) self.new ≡ self.old }
+    {
+        let last = (out.len() - first) / 4 - 1;
+        let mut index = from;
+        let mut named = word_at(debug_str_offsets, encoding, from);
+        while index < last {
+            let after = word_at(debug_str_offsets, encoding, index + 1);
+            let Some(offset) = self.guessed_offset(debug_str, named, after) else {
+                return index;
+            };
+            write_word(out, first + index * 4, offset);
+            named = after;
+            index += 1;
+        }
+        index
+    }
+}
