@@ -99,7 +99,7 @@ pub fn dwo_identifier_in_range<R: Reader>(
 }
 
 /// The identifier that a unit of this type has in its header.
-fn header_identifier(unit_type: UnitType) -> Option<DwarfObject>
+pub(crate) fn header_identifier(unit_type: UnitType) -> Option<DwarfObject>
     ensures { unit_type ≢ UnitType.Compilation → (section : Input) → (unit : Unit)
         → identity_by section unit unit_type ≡ Ok result }
 {

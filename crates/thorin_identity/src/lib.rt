@@ -3,5 +3,7 @@
 #![tactic(auto)]
 
 mod identity;
+mod ranges;
 
 pub use identity::{dwo_identifier_in_range, dwo_identifier_of_unit, dwo_identifier_remembering};
+pub use ranges::RangeTables;

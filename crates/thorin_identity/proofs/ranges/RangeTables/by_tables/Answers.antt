@@ -1,0 +1,16 @@
+use Rattle.std.proofs.Common.{rules, ◌∙◌, ap}
+use Rattle.dwp_bytes.specs.Input.{section}
+use Rattle.thorin_identity.proofs.Ends.{part_within}
+use Rattle.thorin_identity.proofs.ranges.RangeTables.by_tables.Goals as goal
+
+pub returns-else-is-2-clause-meaning : goal.returns-else-is-2-clause-meaning
+returns-else-is-2-clause-meaning c =
+    let inside = c.self.inside in
+    let range = c.within-range.result in
+    let part = c.or_all-part.result in
+    let held = c.take_up.ensures ∙ ap (section inside.order) c.of.ensures in
+    let same =
+    part_within inside.order inside.bytes.now part.begin range.begin range.end part.end _
+    c.or_all-part.ensures.begin c.within-range.ensures.order c.or_all-part.ensures.end held
+    ∙ ap (section inside.order) c.within-range.ensures.same in
+    search (rules, same, c.dwo_identifier_in_range.ensures.meaning)
