@@ -102,6 +102,9 @@ impl PackageStringTable {
         ensures none { IsNone result → self.new ≡ self.old }
         ensures known { AreKnown debug_str.now self.new repeats.new }
     {
+        if let Some(known) = repeats.find(named) {
+            return if known <= limit { Some(known) } else { None };
+        }
         match self.short_offset(debug_str, named, limit) {
             Some(offset) => Some(offset),
             None => self.offset_by_hash(repeats, debug_str, named, limit),

@@ -179,7 +179,7 @@ impl PackageStringTable {
 
     /// Rewrites the entries of a range of four-byte offsets from a number on, as far as each is told
     /// by the hash of its string and isn't the last, in the room that they have behind what comes
-    /// first; the number of the next.
+    /// first; the number of the next. None where it isn't tried.
     pub(crate) fn write_told(
         &mut self,
         debug_str: &[u8],
@@ -188,6 +188,7 @@ impl PackageStringTable {
         out: &mut [u8],
         first: usize,
         from: usize,
+        is_tried: bool,
     ) -> usize
         requires form { encoding.format ≡ Dwarf32 }
         requires here { first + from * 4 + 4 ≤ length out.old }
@@ -203,6 +204,9 @@ impl PackageStringTable {
             out.new }
         ensures kept { take (length self.old) self.new ≡ self.old }
     {
+        if !is_tried {
+            return from;
+        }
         match &mut self.strings {
             Strings::Hashed(strings) => strings.write_told(
                 debug_str,

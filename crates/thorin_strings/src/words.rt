@@ -43,6 +43,19 @@ pub(crate) fn write_word(out: &mut [u8], at: usize, offset: u64)
     out[at + 3] = bytes[3];
 }
 
+/// How many entries are rewritten one by one where the first of them isn't told by a hash.
+const APART: usize = 16;
+
+/// The number of the entry from which on it is tried again to tell entries by hashes, once that came
+/// from one to another.
+fn next_try(again: usize, from: usize, to: usize) -> usize {
+    if from >= again && to == from {
+        to.saturating_add(APART)
+    } else {
+        again
+    }
+}
+
 impl PackageStringTable {
     /// The offset of the string that an entry names, which is added where it is new.
     #[inline(always)]
@@ -107,17 +120,21 @@ impl PackageStringTable {
         let mut out = header(alloc, Endianness::Little, encoding, count as u64 * 4)?;
         let first = out.len();
         out.resize(first + count * 4, 0)?;
+        let mut again = 0;
         let mut index = 0;
         while index < count {
             // (nearly every entry is told here, without room for an error)
+            let from = index;
             index = self.write_told(
                 debug_str,
                 debug_str_offsets,
                 encoding,
                 &mut out,
                 first,
-                index,
+                from,
+                from >= again,
             );
+            again = next_try(again, from, index);
             let offset = self.other_word(repeats, debug_str, debug_str_offsets, encoding, index)?;
             write_word(&mut out, first + index * 4, offset);
             index += 1;
