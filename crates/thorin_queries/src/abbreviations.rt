@@ -5,14 +5,14 @@ ghost use Rattle.std.specs.Prelude.{◌≡◌};
 ghost use Rattle.dwp_index.specs.Index.{range_in};
 ghost use Rattle.dwp_index.specs.Package.{place_of};
 
-use dwp_dwarf::{AbbreviationCache, ReadError, SliceReader, UnitHeader, UnitHeaders, UnitSection};
+use dwp_dwarf::{ReadError, SliceReader, UnitHeader, UnitHeaders, UnitSection};
 use dwp_elf::{Contribution, Endianness, SectionKind};
 use dwp_index::PackagedUnit;
 use dwp_table::DwarfObject;
 use std::alloc::{AllocError, Global};
 use std::collections::BTreeMap;
 use thorin_faults::Error;
-use thorin_identity::dwo_identifier_remembering;
+use thorin_identity::RangeTables;
 
 /// What a unit's own bytes say of its identifier.
 #[derive(Drop)]
@@ -38,28 +38,25 @@ enum OwnFault {
     Identity(Error),
 }
 
-/// What was read of the abbreviations of the unit before: units that have the same ones, one after
-/// the other, read them once. And what units say that share their bytes: these are read once.
+/// What was read of the abbreviations of the units before. And what units say that share their
+/// bytes: these are read once.
 #[derive(Drop)]
 pub(crate) struct Remembered<'a> {
     alloc: Global,
     order: Endianness,
-    // Where the abbreviations of the unit before stand.
-    range: Option<Contribution>,
-    cache: AbbreviationCache<SliceReader<'a>>,
+    tables: RangeTables<'a>,
     // What the unit before says.
     last: Own,
     shared: BTreeMap<Place, Own>,
 }
 
 impl<'a> Remembered<'a> {
-    /// Of a package of this byte order. Nothing is read yet.
-    pub(crate) fn new(alloc: Global, order: Endianness) -> Remembered<'a> {
+    /// Of a package of this byte order, with this section of abbreviations. Nothing is read yet.
+    pub(crate) fn new(alloc: Global, order: Endianness, abbreviations: &'a [u8]) -> Remembered<'a> {
         Remembered {
             alloc,
             order,
-            range: None,
-            cache: AbbreviationCache::new(alloc, SliceReader::new(&[], order)),
+            tables: RangeTables::new(alloc, abbreviations, order),
             last: Own::Nameless,
             shared: BTreeMap::new(alloc),
         }
@@ -115,13 +112,9 @@ impl<'a> Remembered<'a> {
         unit: &PackagedUnit<'a>,
         header: &UnitHeader<SliceReader<'a>>,
     ) -> Result<Option<DwarfObject>, Error> {
-        let range = unit.range(SectionKind::Abbrev);
-        if range != self.range {
-            let reader = SliceReader::new(unit.section(SectionKind::Abbrev), self.order);
-            self.cache = AbbreviationCache::new(self.alloc, reader);
-            self.range = range;
-        }
-        dwo_identifier_remembering(&mut self.cache, header)
+        let (start, size) = numbers_of(unit.range(SectionKind::Abbrev));
+        let end = start.saturating_add(size);
+        self.tables.identifier(start as usize, end as usize, header)
     }
 }
 

@@ -70,7 +70,8 @@ fn check_all<O: Write>(
         ends,
         contents_of(file, SectionKind::StrOffsets).len(),
     );
-    let mut abbreviations = Remembered::new(alloc, file.endianness());
+    let section = contents_of(file, SectionKind::Abbrev);
+    let mut abbreviations = Remembered::new(alloc, file.endianness(), section);
     match check_each(
         pack,
         has_abbreviations(file),
