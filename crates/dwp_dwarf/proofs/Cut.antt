@@ -32,7 +32,8 @@ Answer A = Result (A × Input) ReadError
 abbrev ReadWithout : {A : Type 0} → (Input → Answer A) → Input → List ℕ → A × Input → Type 0
 ReadWithout read i rest x = (y : Input) × (x.1 ≡ more y rest) × (read i ≡ Ok (x.0, y))
 
--- a reading can do without a rest of the bytes that it left, and it never leaves more than there was
+-- a reading can do without a rest of the bytes that it left, and it never leaves more than there
+-- was
 record Reads (A : Type 0) (read : Input → Answer A) : Type 0 where
   cut : (i : Input) (rest : List ℕ) (x : A × Input) → read (more i rest) ≡ Ok x
       → length rest ≤ length x.1.bytes → ReadWithout read i rest x
@@ -45,7 +46,8 @@ not-short n = le-ltb (suc n) 1 (omega arith)
 
 byte_cut : (order : Endianness) (relocated : ℕ → ℕ → ℕ) (place : ℕ) (bytes rest : List ℕ)
     (x : ℕ × Input)
-    → byte_at (record { order = order; relocated = relocated; place = place; bytes = bytes ++ rest })
+    → byte_at (record { order = order; relocated = relocated; place = place; bytes =
+        bytes ++ rest })
     ≡ Ok x → length rest ≤ length x.1.bytes → ReadWithout byte_at
     (record { order = order; relocated = relocated; place = place; bytes = bytes }) rest x
 unfolding byte_at

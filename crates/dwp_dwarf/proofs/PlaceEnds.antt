@@ -1,4 +1,5 @@
--- Where the declaration of a code ends: what a table says of the code doesn't need the bytes behind.
+-- Where the declaration of a code ends: what a table says of the code doesn't need the bytes
+-- behind.
 use Rattle.std.proofs.Common.{◌≡◌, ℕ, ◌+◌, ◌-◌, ◌≤◌, false, List, length, take, drop}
 use Rattle.std.proofs.Common.{Option, Some, Result, Ok, eqb, refl, ap, sym, subst, ◌∙◌, eq-eqb, ltb}
 use Rattle.std.proofs.Common.{arith, length-append}
@@ -73,7 +74,8 @@ module _ (lebs : LebsTakeBytes) where
   here_ends n i behind code declared h enough =
       by_bool (declaration code (front n i) ≡ declaration code i) (ltb n (length i.bytes))
       (λ less.
-      let s = shortened i n ((code, declared), behind) h (omega (arith, ltb-true _ _ less)) enough in
+      let s = shortened i n ((code, declared), behind) h
+          (omega (arith, ltb-true _ _ less)) enough in
       look_up-here lebs code (front n i) ((code, declared), front s.left behind) s.is
       (eq-eqb code code refl)
       ∙ sym (look_up-here lebs code i ((code, declared), behind) h (eq-eqb code code refl)))
@@ -130,7 +132,8 @@ part_within section part whole offset end p w =
     let way : end ≡ offset + (end - offset) = omega (arith, early) in (
       early,
       first.1
-          ∙ ap (λ (n : ℕ). record (after offset section) { bytes = drop offset (take n section.bytes) })
+          ∙ ap (λ (n : ℕ). record (after offset section) { bytes =
+              drop offset (take n section.bytes) })
           way
           ∙ ap (λ (l : List ℕ). record (after offset section) { bytes = l })
           (drop-take offset (end - offset) section.bytes)

@@ -409,5 +409,6 @@ module _ (lebs : LebsTakeBytes) where
             first declared h apart (subst (λ (t : Input). StaysBehind section t c first) table
             inside)) (r.ends c)));
         behind = λ x same. end
-            ∙ ap (λ (y : Next). length y.1.bytes) (one_next (next_at i) ((code, declared), behind) x h same);
+            ∙ ap (λ (y : Next). length y.1.bytes)
+                (one_next (next_at i) ((code, declared), behind) x h same);
       }

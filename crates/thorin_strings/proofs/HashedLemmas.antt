@@ -115,7 +115,8 @@ entered_same bytes bytes' slots slots' size size' same kept =
 -- a new string goes last
 pub hashed_push : (bytes : List ℕ) (count : ℕ) (slots : List Slot) (size : ℕ) (slots' : List Slot)
     (size' : ℕ) (hashes hashes' s new : List ℕ) (count' n h : ℕ)
-    → IsHashed bytes count slots size hashes → IsZeroFree s → (Contains (strings_in bytes) s → ⊥) → new ≡ bytes ++ terminated s
+    → IsHashed bytes count slots size hashes → IsZeroFree s → (Contains (strings_in bytes) s → ⊥)
+    → new ≡ bytes ++ terminated s
     → n ≡ length bytes → h ≡ hash s → count' ≡ count + 1
     → (AreEntered bytes slots size → AreEntered bytes slots' size')
     → place_of slots' size' h ≡ Some n
@@ -149,7 +150,8 @@ hashed_push bytes count slots size slots' size' hashes hashes' s new count' n h 
 -- back to the first strings
 pub hashed_take : (bytes : List ℕ) (count : ℕ) (kept : List ℕ) (count' : ℕ) (slots : List Slot)
     (size : ℕ) (hashes hashes' : List ℕ) (strings : List (List ℕ)) (n m : ℕ)
-    → IsHashed bytes count slots size hashes → strings_in bytes ≡ strings → n ≡ length (take n strings)
+    → IsHashed bytes count slots size hashes → strings_in bytes ≡ strings
+    → n ≡ length (take n strings)
     → m ≡ length (data_of (take n strings)) → kept ≡ take m bytes → count' ≡ n
     → hashes' ≡ take n hashes
     → (strings_in kept ≡ take n strings) × IsHashed kept count' slots size hashes'

@@ -32,7 +32,8 @@ returns-clause-table c =
     let table = hashed_push _ _ _ _ c.enter.new.self.slots.items c.enter.new.self.size _
     c.keep.new.self.hashes.items
     c.args.string.now _ (c.args.count.now + 1) _ _ c.requires.table c.requires.zero_free
-    (unplaced _ _ _ _ _ c.args.string.now c.requires.table none) new long c.requires.hashed refl kept
+    (unplaced _ _ _ _ _ c.args.string.now c.requires.table none) new long
+    c.requires.hashed refl kept
     (c.if-not-enter.ensures.entered refl)
     (λ known some. c.keep.ensures.kept (map hash (strings_in c.args.bytes.now.items))
     (λ old. c.enter.ensures.hashes ∙ known (subst (λ l. 0 < length l) c.enter.ensures.hashes old))
@@ -54,7 +55,8 @@ returns-clause-placed c =
     let table = hashed_push _ _ _ _ c.enter.new.self.slots.items c.enter.new.self.size _
     c.keep.new.self.hashes.items
     c.args.string.now _ (c.args.count.now + 1) _ _ c.requires.table c.requires.zero_free
-    (unplaced _ _ _ _ _ c.args.string.now c.requires.table none) new long c.requires.hashed refl kept
+    (unplaced _ _ _ _ _ c.args.string.now c.requires.table none) new long
+    c.requires.hashed refl kept
     (c.if-not-enter.ensures.entered refl)
     (λ known some. c.keep.ensures.kept (map hash (strings_in c.args.bytes.now.items))
     (λ old. c.enter.ensures.hashes ∙ known (subst (λ l. 0 < length l) c.enter.ensures.hashes old))

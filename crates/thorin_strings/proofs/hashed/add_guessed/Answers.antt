@@ -1,4 +1,5 @@
-use Rattle.std.proofs.Common.{◌≡◌, ◌<◌, map, subst, ◌+◌, ◌++◌, ◌∙◌, take, length, ap, sym, refl, arith}
+use Rattle.std.proofs.Common.{◌≡◌, ◌<◌, map, subst, ◌+◌, ◌++◌, ◌∙◌, take, length, ap, sym, refl}
+use Rattle.std.proofs.Common.{arith}
 use Rattle.std.proofs.lemmas.List.{take_at}
 use Rattle.thorin_strings.specs.Ends.{IsFirstZero}
 use Rattle.thorin_strings.specs.Places.{hash, place_of}
@@ -63,11 +64,13 @@ returns-clause-table c =
     (sym c.requires.hashed) ∙ c.requires.none in
     let kept = entered_same _ _ _ _ _ _ front (c.enter.ensures.kept (kept_same _ _ _ front
     c.requires.table.remembered)) in
-    rw (c.keep.ensures.slots, c.keep.ensures.size) (hashed_push _ _ _ _ c.enter.new.self.slots.items c.enter.new.self.size _
+    rw (c.keep.ensures.slots, c.keep.ensures.size) (hashed_push _ _ _ _ c.enter.new.self.slots.items
+    c.enter.new.self.size _
     c.keep.new.self.hashes.items
     (take c.args.end rest) _ (c.args.count.now + 1) _ _ c.requires.table
     (ended_free rest c.args.end first)
-    (unplaced _ _ _ _ _ (take c.args.end rest) c.requires.table none) new long c.requires.hashed refl
+    (unplaced _ _ _ _ _ (take c.args.end rest) c.requires.table none) new long
+    c.requires.hashed refl
     kept (c.if-not-enter.ensures.entered refl)
     (λ known some. c.keep.ensures.kept (map hash (strings_in c.args.bytes.now.items))
     (λ old. c.enter.ensures.hashes ∙ known (subst (λ l. 0 < length l) c.enter.ensures.hashes old))
@@ -95,7 +98,8 @@ returns-clause-placed c =
     c.keep.new.self.hashes.items
     (take c.args.end rest) _ (c.args.count.now + 1) _ _ c.requires.table
     (ended_free rest c.args.end first)
-    (unplaced _ _ _ _ _ (take c.args.end rest) c.requires.table none) new long c.requires.hashed refl
+    (unplaced _ _ _ _ _ (take c.args.end rest) c.requires.table none) new long
+    c.requires.hashed refl
     kept (c.if-not-enter.ensures.entered refl)
     (λ known some. c.keep.ensures.kept (map hash (strings_in c.args.bytes.now.items))
     (λ old. c.enter.ensures.hashes ∙ known (subst (λ l. 0 < length l) c.enter.ensures.hashes old))
