@@ -46,8 +46,13 @@ not-short n = le-ltb (suc n) 1 (omega arith)
 
 byte_cut : (order : Endianness) (relocated : ℕ → ℕ → ℕ) (place : ℕ) (bytes rest : List ℕ)
     (x : ℕ × Input)
-    → byte_at (record { order = order; relocated = relocated; place = place; bytes =
-        bytes ++ rest })
+    → byte_at (record {
+      order = order;
+      relocated = relocated;
+      place = place;
+      bytes =
+          bytes ++ rest;
+    })
     ≡ Ok x → length rest ≤ length x.1.bytes → ReadWithout byte_at
     (record { order = order; relocated = relocated; place = place; bytes = bytes }) rest x
 unfolding byte_at

@@ -75,7 +75,7 @@ module _ (lebs : LebsTakeBytes) where
       by_bool (declaration code (front n i) ≡ declaration code i) (ltb n (length i.bytes))
       (λ less.
       let s = shortened i n ((code, declared), behind) h
-          (omega (arith, ltb-true _ _ less)) enough in
+      (omega (arith, ltb-true _ _ less)) enough in
       look_up-here lebs code (front n i) ((code, declared), front s.left behind) s.is
       (eq-eqb code code refl)
       ∙ sym (look_up-here lebs code i ((code, declared), behind) h (eq-eqb code code refl)))
@@ -132,8 +132,10 @@ part_within section part whole offset end p w =
     let way : end ≡ offset + (end - offset) = omega (arith, early) in (
       early,
       first.1
-          ∙ ap (λ (n : ℕ). record (after offset section) { bytes =
-              drop offset (take n section.bytes) })
+          ∙ ap (λ (n : ℕ). record (after offset section) {
+            bytes =
+                drop offset (take n section.bytes);
+          })
           way
           ∙ ap (λ (l : List ℕ). record (after offset section) { bytes = l })
           (drop-take offset (end - offset) section.bytes)

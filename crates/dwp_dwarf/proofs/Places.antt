@@ -410,5 +410,5 @@ module _ (lebs : LebsTakeBytes) where
             inside)) (r.ends c)));
         behind = λ x same. end
             ∙ ap (λ (y : Next). length y.1.bytes)
-                (one_next (next_at i) ((code, declared), behind) x h same);
+            (one_next (next_at i) ((code, declared), behind) x h same);
       }

@@ -16,5 +16,5 @@ returns c = λ section table all is.
     let there : get nat_cmp c.args.self.now.places c.in_ok-at.at
     ≡ Some c.in_ok-declared.declared = cc in
     subst (λ (n : ℕ). EndsBefore table c.args.code n) (sym c.from.ensures)
-        (end_is section table c.args.self.now c.args.left c.args.code c.in_ok-at.at
+    (end_is section table c.args.self.now c.args.left c.args.code c.in_ok-at.at
     c.in_ok-place.place c.in_ok-declared.declared here some there all is)

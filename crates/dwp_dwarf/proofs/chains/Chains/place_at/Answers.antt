@@ -38,7 +38,7 @@ returns-in_ok-version-in-Ok-Some-clause-place g c = λ section all is.
     (if_there (RemembersPlace section c.args.self.now.codes c.args.self.now.firsts.nodes.items left)
     (get nat_cmp c.args.self.now.places left) c.in_ok-next-in-Ok-Some.next next (all.each left)))
     refl (c.in_ok-end-in-Ok-Some.ensures ∙ c.len.ensures)
-        c.in_ok-version-in-Ok-Some.ensures.fits first
+    c.in_ok-version-in-Ok-Some.ensures.fits first
     c.in_ok-version-in-Ok-Some.ensures.others
 
 pub returns-in-Ok-None-clause-place : goal.returns-in-Ok-None-clause-place
