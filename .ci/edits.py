@@ -108,7 +108,7 @@ def function_at(text, file, place):
 
 def functions_of(crate, texts):
     """The functions of a crate that have bodies, but for those of a cycle: their file, their lines there, their path below proofs/."""
-    homes, files = {}, {}
+    homes, own, files = {}, {}, {}
     for at, _folders, names in sorted(os.walk(f"{crate.folder}/src")):
         for name in sorted(it for it in names if it.endswith(".rt")):
             file = os.path.relpath(f"{at}/{name}", crate.folder)
@@ -116,7 +116,8 @@ def functions_of(crate, texts):
             text = texts.get(file) or text_of(crate, file)
             files[file] = ("" if module in ("lib", "main") else f"{module}/"), text.split("\n")
             # (a type's own methods stand at the place of the type, in whichever file they are written)
-            homes |= {it: files[file][0] for it in re.findall(r"^(?:pub(?:\([^)]*\))? )?(?:struct|enum) (\w+)", text, re.M)}
+            own[file] = {it: files[file][0] for it in re.findall(r"^(?:pub(?:\([^)]*\))? )?(?:struct|enum) (\w+)", text, re.M)}
+            homes |= own[file]
     for file, (module, lines) in files.items():
         for first, last, name in functions_in(lines):
             head = "\n".join(lines[max(0, first - 6) : first + 1])
@@ -124,7 +125,7 @@ def functions_of(crate, texts):
             if lines[last].rstrip().endswith(";") or "#[cycle" in head or lines[first].startswith("     "):
                 continue
             owner = type_above(lines, first) if lines[first].startswith(" ") else ""
-            path = (homes.get(owner, module) + f"{owner}/" if owner else module) + name
+            path = ({**homes, **own[file]}.get(owner, module) + f"{owner}/" if owner else module) + name
             if re.fullmatch(r"[\w/]+", path):
                 yield file, first, last, path
 
