@@ -1,13 +1,20 @@
 #!/usr/bin/env python3
-"""Runs `thorin` over pipes and files of /proc, each within ten seconds.
+"""Runs `thorin` over pipes and files of /proc, and over outputs that can't simply be replaced, each within ten seconds.
 
     bench/special_files.py [PROGRAM]     crates/thorin_bin/out/thorin_bin if left out
 
 A pipe that a command line names is read, whether as an object or as an executable. An object that an executable names is
 read only where it is a regular file: a pipe, a directory or a file of /proc there is refused at once, or passed over by
 --skip-missing and --partial, and listed by --missing.
+
+An output keeps its permissions and group, but for setuid and setgid; where it is a symbolic link, a bind mount or another's
+file in a sticky folder, it is written in place. What an interrupted run left beside it is removed, and what a running one
+has there stays. Where warnings can't be printed the package is written, and the status is 1. What this machine doesn't let
+one make (a mount, a file of another owner) is told and left out.
 """
 import os
+import shutil
+import stat
 import subprocess
 import sys
 import tempfile
@@ -64,6 +71,126 @@ def rows(folder):
     yield "a file of /proc that an executable names", [*pack, "--skip-missing", "-e", "app"], {}, None
 
 
+def is_packed(path):
+    """Whether a file is an ELF file, as a package is."""
+    with open(path, "rb") as it:
+        return it.read(4) == b"\x7fELF"
+
+
+def old_output(folder, mode, name="old.dwp"):
+    """A file of a few bytes with these permissions, where a package is to go."""
+    path = os.path.join(folder, name)
+    with open(path, "w", encoding="utf-8") as it:
+        it.write("old")
+    os.chmod(path, mode)
+    return path
+
+
+def pack(program, folder, out, **options):
+    """The status of packing one object into a file."""
+    words = [program, "pack", "-o", out, os.path.join(folder, "y.dwo")]
+    return subprocess.run(words, cwd=folder, timeout=10, check=False, stderr=subprocess.DEVNULL, **options).returncode
+
+
+def keeps_permissions(program, folder):
+    for mode in [0o600, 0o640, 0o4751, 0o2755]:
+        out = old_output(folder, mode)
+        if pack(program, folder, out) or not is_packed(out) or stat.S_IMODE(os.stat(out).st_mode) != mode & 0o777:
+            return False
+    return True
+
+
+def keeps_the_group(program, folder):
+    out = old_output(folder, 0o660)
+    if os.geteuid() == 0:
+        os.chown(out, -1, 65534)
+    group = os.stat(out).st_gid
+    return not pack(program, folder, out) and (os.stat(out).st_gid, stat.S_IMODE(os.stat(out).st_mode)) == (group, 0o660)
+
+
+def writes_through_a_link(program, folder):
+    out, link = old_output(folder, 0o644), os.path.join(folder, "link.dwp")
+    os.symlink(out, link)
+    return not pack(program, folder, link) and os.path.islink(link) and is_packed(out)
+
+
+def writes_a_bind_mount(program, folder):
+    out, other = old_output(folder, 0o644), old_output(folder, 0o644, "mounted")
+    if not shutil.which("mount") or subprocess.run(["mount", "--bind", other, out], capture_output=True, check=False).returncode:
+        return None
+    try:
+        return not pack(program, folder, out) and is_packed(other)
+    finally:
+        subprocess.run(["umount", out], capture_output=True, check=False)
+
+
+def writes_anothers_file(program, folder):
+    if os.geteuid() != 0:
+        return None
+    sticky = os.path.join(folder, "sticky")
+    os.mkdir(sticky)
+    os.chmod(sticky, 0o1777)
+    out = old_output(sticky, 0o666)
+    number = os.stat(out).st_ino
+    own = os.path.join(folder, "own")
+    shutil.copy(program, own)
+    os.chmod(own, 0o755)
+    return not pack(own, folder, out, user=65534, group=65534, extra_groups=[]) and is_packed(out) and os.stat(out).st_ino == number
+
+
+def removes_what_was_left(program, folder):
+    """Of a run that ended, and not of one that runs; and a hundred of them don't make the next one write in place."""
+    out = old_output(folder, 0o644)
+    ended = subprocess.Popen(["true"])
+    ended.wait()
+    left = old_output(folder, 0o600, f"old.dwp.{ended.pid}.tmp")
+    running = old_output(folder, 0o600, f"old.dwp.{os.getpid()}.tmp")
+    if pack(program, folder, out) or os.path.exists(left) or not os.path.exists(running):
+        return False
+    os.remove(running)
+    with open("/proc/sys/kernel/pid_max", encoding="utf-8") as it:
+        beyond = int(it.read())
+    for number in range(100):
+        old_output(folder, 0o600, f"old.dwp.{beyond + number}.tmp")
+    before = os.stat(out).st_ino
+    return not pack(program, folder, out) and os.stat(out).st_ino != before
+
+
+def tells_that_warnings_were_lost(program, folder):
+    out = os.path.join(folder, "warned.dwp")
+    alone = os.path.join(folder, "alone")
+    os.mkdir(alone)
+    for name in ["app", "y.dwo"]:
+        shutil.copy(os.path.join(folder, name), alone)
+    words = [program, "pack", "-o", out, "--partial", "-e", "app"]
+    with open("/dev/full", "w", encoding="utf-8") as full:
+        lost = subprocess.run(words, cwd=alone, timeout=10, check=False, stderr=full).returncode
+    return lost == 1 and is_packed(out)
+
+
+OUTPUTS = [
+    keeps_permissions, keeps_the_group, writes_through_a_link, writes_a_bind_mount, writes_anothers_file, removes_what_was_left,
+    tells_that_warnings_were_lost,
+]
+
+
+def try_outputs(program):
+    """Each in a folder of its own: how many failed."""
+    failed = 0
+    for it in OUTPUTS:
+        with tempfile.TemporaryDirectory() as folder:
+            os.chmod(folder, 0o755)
+            for name in ["app", "y.dwo"]:
+                with open(os.path.join(folder, name), "wb") as file:
+                    file.write(bytes_of(name))
+            well = it(program, folder)
+            if not well:
+                print(f"{it.__name__}: {'left out: this machine does not allow it' if well is None else 'failed'}")
+            failed += well is False
+    print(f"{failed} of {len(OUTPUTS)} kinds of outputs failed")
+    return failed
+
+
 def main(program):
     failed = count = 0
     with tempfile.TemporaryDirectory() as folder:
@@ -83,7 +210,7 @@ def main(program):
                 failed += 1
                 print(f"{name}: {given}, not {wanted}")
     print(f"{failed} of {count} commands over special files failed")
-    return 1 if failed else 0
+    return 1 if failed + try_outputs(program) else 0
 
 
 if __name__ == "__main__":

@@ -23,7 +23,7 @@ unit that was passed over though it differs from the one kept, and for an input
 that has an object with several sections of macros. At the first input that is
 refused a line `error: ` says why, and OUT isn't written: status 1. On a
 terminal, and with --verbose, a line `note: ` says where. Where a warning can't
-be printed OUT is written, and the status is 1.";
+be printed the status is 1; OUT is written, unless the warning is of --partial.";
 
 const FIND_EXAMPLES: &'static str = "Example:
   thorin find hello.dwp cu 0x084a58cc96339e44
