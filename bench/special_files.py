@@ -9,8 +9,8 @@ read only where it is a regular file: a pipe, a directory or a file of /proc the
 
 An output keeps its permissions and group, but for setuid and setgid; where it is a symbolic link, a bind mount or another's
 file in a sticky folder, it is written in place. What an interrupted run left beside it is removed, and what a running one
-has there stays. Where warnings can't be printed the package is written, and the status is 1. What this machine doesn't let
-one make (a mount, a file of another owner) is told and left out.
+has there stays. Where a warning can't be printed the status is 1, and the package is written but for one of --partial. What this
+machine doesn't let one make (a mount, a file of another owner) is told and left out.
 """
 import os
 import shutil
@@ -157,15 +157,14 @@ def removes_what_was_left(program, folder):
 
 
 def tells_that_warnings_were_lost(program, folder):
-    out = os.path.join(folder, "warned.dwp")
-    alone = os.path.join(folder, "alone")
-    os.mkdir(alone)
-    for name in ["app", "y.dwo"]:
-        shutil.copy(os.path.join(folder, name), alone)
-    words = [program, "pack", "-o", out, "--partial", "-e", "app"]
-    with open("/dev/full", "w", encoding="utf-8") as full:
-        lost = subprocess.run(words, cwd=alone, timeout=10, check=False, stderr=full).returncode
-    return lost == 1 and is_packed(out)
+    """One of type units, which comes behind the package, and one of --partial, which comes before."""
+    told = []
+    for words in [["tx.dwo", "ty.dwo"], ["--partial", "-e", "app"]]:
+        out = os.path.join(folder, f"warned{len(told)}.dwp")
+        with open("/dev/full", "w", encoding="utf-8") as full:
+            done = subprocess.run([program, "pack", "-o", out, *words], cwd=folder, timeout=10, check=False, stderr=full)
+        told.append((done.returncode, os.path.exists(out) and is_packed(out)))
+    return told == [(1, True), (1, False)]
 
 
 OUTPUTS = [
@@ -180,7 +179,7 @@ def try_outputs(program):
     for it in OUTPUTS:
         with tempfile.TemporaryDirectory() as folder:
             os.chmod(folder, 0o755)
-            for name in ["app", "y.dwo"]:
+            for name in ["app", "y.dwo", "tx.dwo", "ty.dwo"]:
                 with open(os.path.join(folder, name), "wb") as file:
                     file.write(bytes_of(name))
             well = it(program, folder)
