@@ -5,7 +5,7 @@ ghost use Rattle.std.specs.Prelude.{IsTrue};
 
 use crate::reading::slice;
 use dwp_dwarf::*;
-use test_rows::{Row, Said, Text, number, split};
+use test_rows::{Row, Said, Text, number, place, split};
 
 /// Makes the call of a row, with readers of its words 1 to 5 and of strings.
 pub fn call<R: Reader>(words: [R; 5], strings: [R; 3], row: Row<'_>, said: &mut Said) {
@@ -23,6 +23,7 @@ pub fn call<R: Reader>(words: [R; 5], strings: [R; 3], row: Row<'_>, said: &mut 
 fn call_of_tables<R: Reader>(words: [R; 5], row: Row<'_>, said: &mut Said) {
     match row.word(0) {
         "remembered" => remembered(row, words[0], row.rest(2), said),
+        "declares_within" => declares_within(row, words[0], said),
         "sizes" => sizes(row.bytes(1), row.rest(2), said),
         "object" => object(words, row, said),
         _ => crate::elf_read::call(row, said),
@@ -244,6 +245,21 @@ fn put_tags<R: Reader>(
 ) {
     let remembered = told_of(cache.get(offset, code));
     said.put(&[remembered, as_read(section, offset, code)]);
+}
+
+/// Tables of abbreviations, and places, codes and ends with colons between: whether the declaration
+/// of the code in the table at the place is known to end within the first so many bytes.
+fn declares_within<R: Reader>(row: Row<'_>, section: R, said: &mut Said) {
+    let mut cache = AbbreviationCache::new(row.alloc, section);
+    for word in row.rest(2) {
+        put_within(&mut cache, word, said);
+    }
+}
+
+fn put_within<R: Reader>(cache: &mut AbbreviationCache<R>, word: &str, said: &mut Said) {
+    let (offset, rest) = split(word, ":");
+    let (code, end) = split(rest, ":");
+    said.put(&cache.declares_within(number(offset), number(code), place(end)));
 }
 
 /// A unit, and forms: how many bytes a value of each takes.

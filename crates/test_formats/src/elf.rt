@@ -99,13 +99,13 @@ fn file_size(row: Row<'_>, said: &mut Said) {
 /// An object and its contents: the size of the file that is told, that of the file, and the file.
 fn written(row: Row<'_>, said: &mut Said) {
     let object = filled(row, 4, said);
-    put_file(object.file_size(), object.write(), said);
+    put_file(&object.file_size(), &object.write(), said);
 }
 
-fn put_file(size: Result<u64, WriteError>, file: Result<Vec<u8>, WriteError>, said: &mut Said) {
+fn put_file(size: &Result<u64, WriteError>, file: &Result<Vec<u8>, WriteError>, said: &mut Said) {
     match (size, file) {
-        (Ok(size), Ok(file)) => said.put(&(size, file.len(), Hex(&file))),
-        (size, _file) => said.put(&size),
+        (Ok(size), Ok(file)) => said.put(&(*size, file.len(), Hex(file))),
+        (size, _file) => said.put(size),
     }
 }
 
@@ -152,15 +152,15 @@ fn make_writer(row: Row<'_>, said: &mut Said) -> Limited {
 fn written_to(row: Row<'_>, said: &mut Said) {
     let mut writer = make_writer(row, said);
     let object = filled(row, 7, said);
-    put_done(object.write_to(&mut writer), said);
+    put_done(&object.write_to(&mut writer), said);
     put_written(&writer, said);
 }
 
-fn put_done(done: Result<(), WriteError>, said: &mut Said) {
+fn put_done(done: &Result<(), WriteError>, said: &mut Said) {
     match done {
         Ok(()) => said.word("written"),
         Err(WriteError::Io(fault)) => said.put(&fault.kind()),
-        Err(fault) => said.put(&fault),
+        Err(fault) => said.put(fault),
     }
 }
 
@@ -177,6 +177,6 @@ fn watched(row: Row<'_>, said: &mut Said) {
     let object = filled(row, 7, said);
     let done = object.write_to(&mut watched);
     said.put(&watched.fault);
-    put_done(done, said);
+    put_done(&done, said);
     put_written(&watched.writer, said);
 }
