@@ -2,7 +2,7 @@
 use Rattle.std.proofs.Common.{◌≡◌, ◌≢◌, ℕ, ◌+◌, ◌-◌, ◌%◌, ◌^◌, ◌<◌, ◌≤◌, List, Bool, true, false}
 use Rattle.std.proofs.Common.{ltb, cond, eqb, length, get_or, map, replicate, refl, sym, ap, subst}
 use Rattle.std.proofs.Common.{◌∙◌, arith, w8, w64, ⊎_elim, take, not}
-use Rattle.std.proofs.lemmas.List.{ext_get_or, get_or-take, length-take-le}
+use Rattle.std.proofs.lemmas.List.{ext_get_or, get_or-take, length-take-le, length-replicate}
 use Rattle.std.specs.Int.{bit_at, trailing_zeros}
 use Rattle.std.specs.Int.Count.{trailing_of_zero}
 use Rattle.std.specs.Simd.Lanes.{zip2, sel_l, mask_l, top}
@@ -23,21 +23,23 @@ clear true e = absurd (omega arith)
 clear false e = refl
 
 -- the bytes of a vector that aren't zero
-pub lanes_some : (l : List ℕ) (k : ℕ) → length l ≡ 64 → k < 64 → k < trailing_zeros w64
-    (mask_l (map (top 7) (zip2 (λ a b. cond (eqb a b) 255 0) l (replicate 64 0))) % 2 ^ 64)
+pub lanes_some : (n : ℕ) (l : List ℕ) (k : ℕ) → n ≤ 64 → length l ≡ n → k < n → k < trailing_zeros
+    w64 (mask_l (map (top 7) (zip2 (λ a b. cond (eqb a b) 255 0) l (replicate n 0))) % 2 ^ 64)
     → get_or l k 0 ≢ 0
-lanes_some l k long within less =
-    let none : List ℕ = replicate 64 0 in
+lanes_some n l k few long within less =
+    let none : List ℕ = replicate n 0 in
+    let long_none : length none ≡ n = length-replicate n 0 in
     let zeros : List Bool = zip2 eqb l none in
-    let long_zeros : length zeros ≡ 64 = length-zip2 eqb l none long ∙ long in
+    let long_zeros : length zeros ≡ n = length-zip2 eqb l none (long ∙ sym long_none) ∙ long in
     let mask = ap (λ bs. mask_l bs % 2 ^ 64) {y = zeros} (tops_compared w8 eqb l none)
-    ∙ mask_l-mod zeros 64 (omega arith) in
-    let small : mask_l zeros < 2 ^ 64 = omega (arith, mask_l-mod zeros 64 (omega arith)) in
+    ∙ mask_l-mod zeros 64 (omega (arith, long_zeros)) in
+    let small : mask_l zeros < 2 ^ 64 =
+    omega (arith, mask_l-mod zeros 64 (omega (arith, long_zeros))) in
     let less' : k < trailing_zeros w64 (mask_l zeros) =
     subst (λ m. k < trailing_zeros w64 m) mask less in
     let zero_k : eqb (get_or l k 0) 0 ≡ false =
-    ap (eqb (get_or l k 0)) {y = get_or none k 0} (sym (get_or-replicate 64 k 0 0 within))
-    ∙ sym (get_or-zip2 eqb l none k 0 0 false (omega arith) (omega arith))
+    ap (eqb (get_or l k 0)) {y = get_or none k 0} (sym (get_or-replicate n k 0 0 within))
+    ∙ sym (get_or-zip2 eqb l none k 0 0 false (omega arith) (omega (arith, long_none)))
     ∙ clear _ (sym (bit_mask_l zeros k) ∙ below (mask_l zeros) k small less') in
     eqb-false (get_or l k 0) 0 zero_k
 

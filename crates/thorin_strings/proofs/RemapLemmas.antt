@@ -123,11 +123,11 @@ word_written format out out' new at to offset form same is written =
     ∙ ap (λ f. take at out ++ number_bytes Little (offset_size f) offset) (sym form)
 
 -- all of them
-pub words_done : (out initial header tail : List ℕ) (first index count : ℕ) → index ≡ count
-    → length out ≡ first + count * 4 → take first initial ≡ header
-    → take (first + index * 4) out ≡ take first initial ++ tail → out ≡ header ++ tail
-words_done out initial header tail first index count done long is_header so_far =
-    sym (take_all (first + index * 4) out (omega arith)) ∙ so_far
+pub words_done : (out initial header tail : List ℕ) (size first index count : ℕ) → index ≡ count
+    → first ≡ size → length out ≡ first + count * 4 → take first initial ≡ header
+    → take (size + index * 4) out ≡ take first initial ++ tail → out ≡ header ++ tail
+words_done out initial header tail size first index count done is_first long is_header so_far =
+    sym (take_all (size + index * 4) out (omega arith)) ∙ so_far
     ∙ ap (λ l. l ++ tail) is_header
 
 -- a range whose entries were all rewritten

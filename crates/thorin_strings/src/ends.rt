@@ -74,6 +74,18 @@ fn are_some(bytes: &[u8], at: usize, other: usize) -> bool
     first.simd_min(second).simd_eq(u8x32::splat(0)).to_bitmask() == 0
 }
 
+/// Whether so many first bytes aren't zero, which are fewer than 32.
+#[inline(always)]
+fn begins_some(bytes: &[u8], count: usize) -> bool
+    requires within { 32 ≤ length bytes.now }
+    requires few { count < 32 }
+    ensures { IsTrue result → (k : ℕ) → k < count → slice_index bytes.now k ≢ 0 }
+{
+    let first = u8x32::from_slice(bytes);
+    let zeros = first.simd_eq(u8x32::splat(0)).to_bitmask();
+    zeros.trailing_zeros() as usize >= count
+}
+
 /// Whether the string at the front of some bytes ends at that zero.
 #[inline(always)]
 pub(crate) fn ends_at(bytes: &[u8], end: usize) -> bool
@@ -82,8 +94,8 @@ pub(crate) fn ends_at(bytes: &[u8], end: usize) -> bool
     ensures { IsTrue result → IsFirstZero bytes.now end }
 {
     if end < HALF {
-        if bytes.len() >= LANES {
-            return before_zero(bytes, 0) >= end;
+        if bytes.len() >= HALF {
+            return begins_some(bytes, end);
         }
         return match end_of(bytes) {
             Some(first) => first == end,

@@ -1,4 +1,4 @@
-//! The hash of a string. It is the one of `FoldHasher`, made of up to 64 bytes a step.
+//! The hash of a string. It is the one of `FoldHasher`, made of 32 bytes a step.
 
 ghost use Rattle.std.specs.Prelude.{◌≡◌, ◌<◌, ◌≤◌, ◌+◌, length};
 ghost use Rattle.std.specs.Hash.FoldHasher.{folded_multiply as folded, read_u32, read_u64, mix};
@@ -61,23 +61,22 @@ fn long_hash(bytes: &[u8]) -> u64
     let len = bytes.len();
     let mut state = START.wrapping_add(len as u64);
     let mut at = 0;
-    while len - at > 64 {
+    while len - at > 32 {
         state = mixed(bytes, state, at, at + 8);
         state = mixed(bytes, state, at + 16, at + 24);
-        state = mixed(bytes, state, at + 32, at + 40);
-        state = mixed(bytes, state, at + 48, at + 56);
-        at += 64;
+        at += 32;
     }
-    while len - at > 16 {
-        state = mixed(bytes, state, at, at + 8);
-        at += 16;
+    let last = len.saturating_sub(16);
+    if len - at > 16 {
+        let next = mixed(bytes, state, at, at + 8);
+        return mixed(bytes, next, last, len - 8);
     }
-    mixed(bytes, state, len.saturating_sub(16), len - 8)
+    mixed(bytes, state, last, len - 8)
 }
 
-/// The hash of a string, by which its place is kept.
-#[inline(never)]
-pub(crate) fn hash(string: &[u8]) -> u64
+/// The hash of a string, where a call is to be saved.
+#[inline(always)]
+pub(crate) fn hash_here(string: &[u8]) -> u64
     ensures { result ≡ hash_of string.now }
 {
     if string.len() > 8 {
@@ -86,4 +85,12 @@ pub(crate) fn hash(string: &[u8]) -> u64
     let mut hasher = FoldHasher::default();
     hasher.write(string);
     hasher.finish()
+}
+
+/// The hash of a string, by which its place is kept.
+#[inline(never)]
+pub(crate) fn hash(string: &[u8]) -> u64
+    ensures { result ≡ hash_of string.now }
+{
+    hash_here(string)
 }

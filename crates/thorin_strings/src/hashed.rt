@@ -12,7 +12,7 @@ ghost use Rattle.thorin_strings.specs.Hashed.{IsHashed, IsPlaced};
 ghost use Rattle.thorin_strings.specs.Places.{hash as hash_of, place_of, IsNext};
 
 use crate::ends::ends_at;
-use crate::hash::hash;
+use crate::hash::{hash, hash_here};
 use crate::places::Places;
 use crate::search::{begins_alike, stands_at};
 use crate::sorted::{SortedStrings, begins_of, positions_of};
@@ -251,7 +251,7 @@ impl HashedStrings {
             self.next = place.wrapping_add(end + 1);
             return Some(place);
         }
-        let hash = hash(&bytes[..end]);
+        let hash = hash_here(&bytes[..end]);
         let next = match self.places.seek(hash) {
             Ok(place) => {
                 if begins_alike(&self.bytes, place, bytes, end) {

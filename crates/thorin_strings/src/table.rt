@@ -17,6 +17,7 @@ ghost use Rattle.thorin_strings.specs.Written.{AreWritten};
 use crate::hashed::{HashedStrings, Unplaced};
 use crate::repeats::Repeats;
 use crate::sorted::SortedStrings;
+use crate::words::WordRange;
 use dwp_base::Endianness;
 use dwp_bytes::Encoding;
 use memchr::memchr;
@@ -178,44 +179,34 @@ impl PackageStringTable {
     }
 
     /// Rewrites the entries of a range of four-byte offsets from a number on, as far as each is told
-    /// by the hash of its string and isn't the last, in the room that they have behind what comes
-    /// first; the number of the next. None where it isn't tried.
+    /// by the hash of its string and isn't the last, in the room that they have behind its header;
+    /// the number of the next. Before the number from which on that is tried none is rewritten, and
+    /// none where strings are found by their order.
     pub(crate) fn write_told(
         &mut self,
-        debug_str: &[u8],
-        debug_str_offsets: &[u8],
-        encoding: Encoding,
+        range: &WordRange<'_>,
         out: &mut [u8],
-        first: usize,
         from: usize,
-        is_tried: bool,
+        tried_from: usize,
     ) -> usize
-        requires form { encoding.format ≡ Dwarf32 }
-        requires here { first + from * 4 + 4 ≤ length out.old }
-        requires within { header_size encoding + (length out.old - first)
-            ≤ length debug_str_offsets.now }
+        requires form { range.now.encoding.format ≡ Dwarf32 }
+        requires here { header_size range.now.encoding + from * 4 + 4 ≤ length out.old }
+        requires within { length out.old ≤ length range.now.debug_str_offsets.now }
         ensures further { from ≤ result }
-        ensures here { first + result * 4 + 4 ≤ length out.old }
+        ensures here { header_size range.now.encoding + result * 4 + 4 ≤ length out.old }
         ensures long { length out.new ≡ length out.old }
         ensures told { (old : List (List ℕ)) (front : List ℕ)
-            → AreWritten encoding debug_str.now debug_str_offsets.now first from front old self.old
-            out.old
-            → AreWritten encoding debug_str.now debug_str_offsets.now first result front old self.new
-            out.new }
+            → AreWritten range.now.encoding range.now.debug_str.now range.now.debug_str_offsets.now
+            from front old self.old out.old
+            → AreWritten range.now.encoding range.now.debug_str.now range.now.debug_str_offsets.now
+            result front old self.new out.new }
         ensures kept { take (length self.old) self.new ≡ self.old }
     {
-        if !is_tried {
+        if from < tried_from {
             return from;
         }
         match &mut self.strings {
-            Strings::Hashed(strings) => strings.write_told(
-                debug_str,
-                debug_str_offsets,
-                encoding,
-                out,
-                first,
-                from,
-            ),
+            Strings::Hashed(strings) => strings.write_told(range, out, from),
             Strings::Sorted(_) => from,
         }
     }

@@ -9,8 +9,7 @@ ghost use Rattle.thorin_strings.specs.Known.{offset_read};
 ghost use Rattle.thorin_strings.specs.Written.{AreWritten};
 
 use crate::hashed::HashedStrings;
-use crate::words::{word_at, write_word};
-use dwp_bytes::Encoding;
+use crate::words::{WordRange, word_at, write_word};
 
 /// How many bytes a string has at most, with the zero at its end, whose end is guessed: longer ones
 /// are looked for among those that are remembered.
@@ -41,32 +40,29 @@ impl HashedStrings {
     }
 
     /// Rewrites the entries of a range from a number on, as far as each is told so and isn't the
-    /// last, in the room that they have behind what comes first; the number of the next. `after` is
-    /// where the next string begins, if the offsets are in order, as those that compilers make are.
+    /// last, in the room that they have behind its header; the number of the next. `after` is where
+    /// the next string begins, if the offsets are in order, as those that compilers make are.
     #[inline(never)]
-    pub fn write_told(
-        &mut self,
-        debug_str: &[u8],
-        debug_str_offsets: &[u8],
-        encoding: Encoding,
-        out: &mut [u8],
-        first: usize,
-        from: usize,
-    ) -> usize
-        requires form { encoding.format ≡ Dwarf32 }
-        requires here { first + from * 4 + 4 ≤ length out.old }
-        requires within { header_size encoding + (length out.old - first)
-            ≤ length debug_str_offsets.now }
+    pub fn write_told(&mut self, range: &WordRange<'_>, out: &mut [u8], from: usize) -> usize
+        requires form { range.now.encoding.format ≡ Dwarf32 }
+        requires here { header_size range.now.encoding + from * 4 + 4 ≤ length out.old }
+        requires within { length out.old ≤ length range.now.debug_str_offsets.now }
         ensures further { from ≤ result }
-        ensures here { first + result * 4 + 4 ≤ length out.old }
+        ensures here { header_size range.now.encoding + result * 4 + 4 ≤ length out.old }
         ensures long { length out.new ≡ length out.old }
         ensures told { (old : List (List ℕ)) (front : List ℕ)
-            → AreWritten encoding debug_str.now debug_str_offsets.now first from front old self.old
-            out.old
-            → AreWritten encoding debug_str.now debug_str_offsets.now first result front old self.new
-            out.new }
+            → AreWritten range.now.encoding range.now.debug_str.now range.now.debug_str_offsets.now
+            from front old self.old out.old
+            → AreWritten range.now.encoding range.now.debug_str.now range.now.debug_str_offsets.now
+            result front old self.new out.new }
         ensures kept { take (length self.old) self.new ≡ self.old }
     {
+        let WordRange {
+            debug_str,
+            debug_str_offsets,
+            encoding,
+        } = *range;
+        let first = encoding.string_offsets_header_size();
         let last = (out.len() - first) / 4 - 1;
         let mut index = from;
         let mut named = word_at(debug_str_offsets, encoding, from);

@@ -16,6 +16,15 @@ use dwp_base::Endianness;
 use dwp_bytes::Encoding;
 use thorin_faults::Error;
 
+/// A range of string offsets of four bytes: the section of the strings that its entries name, the
+/// bytes that have its header and entries, and its form.
+#[derive(Clone, Copy)]
+pub(crate) struct WordRange<'a> {
+    pub debug_str: &'a [u8],
+    pub debug_str_offsets: &'a [u8],
+    pub encoding: Encoding,
+}
+
 /// The offset that the entry of a number has.
 #[inline(always)]
 pub(crate) fn word_at(debug_str_offsets: &[u8], encoding: Encoding, index: usize) -> u64
@@ -120,20 +129,17 @@ impl PackageStringTable {
         let mut out = header(alloc, Endianness::Little, encoding, count as u64 * 4)?;
         let first = out.len();
         out.resize(first + count * 4, 0)?;
+        let range = WordRange {
+            debug_str,
+            debug_str_offsets,
+            encoding,
+        };
         let mut again = 0;
         let mut index = 0;
         while index < count {
             // (nearly every entry is told here, without room for an error)
             let from = index;
-            index = self.write_told(
-                debug_str,
-                debug_str_offsets,
-                encoding,
-                &mut out,
-                first,
-                from,
-                from >= again,
-            );
+            index = self.write_told(&range, &mut out, from, again);
             again = next_try(again, from, index);
             let offset = self.other_word(repeats, debug_str, debug_str_offsets, encoding, index)?;
             write_word(&mut out, first + index * 4, offset);

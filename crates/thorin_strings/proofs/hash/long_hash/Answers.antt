@@ -16,28 +16,24 @@ loop-at-preserved c =
     record {
       whole = omega (arith, c.loop-at.invariant.whole);
       within = omega arith;
-      so_far = mixed_more bytes _ (at + 48) _ _ _ (omega (arith, c.loop-at.invariant.whole))
-          (omega arith) (omega arith)
-          (mixed_more bytes _ (at + 32) _ _ _ (omega (arith, c.loop-at.invariant.whole))
-          (omega arith) (omega arith)
-          (mixed_more bytes _ (at + 16) _ _ _ (omega (arith, c.loop-at.invariant.whole))
+      so_far = mixed_more bytes _ (at + 16) _ _ _ (omega (arith, c.loop-at.invariant.whole))
           (omega arith) (omega arith)
           (mixed_more bytes _ at _ _ _ c.loop-at.invariant.whole (omega arith) (omega arith)
-          c.loop-at.invariant.so_far c.mixed-state.ensures) c.mixed-state-in-loop-at.ensures)
-          c.mixed-state-in-loop-at-2.ensures) c.mixed-state-in-loop-at-3.ensures;
+          c.loop-at.invariant.so_far c.mixed-state.ensures) c.mixed-state-in-loop-at.ensures;
     }
 
-pub loop-at-2-preserved : goal.loop-at-2-preserved
-loop-at-2-preserved c = record {
-  whole = omega (arith, c.loop-at-2.invariant.whole);
-  within = omega arith;
-  so_far = mixed_more c.args.bytes.now _ c.loop-at-2.at _ _ _ c.loop-at-2.invariant.whole
-      (omega arith) (omega arith) c.loop-at-2.invariant.so_far
-      c.mixed-state-in-loop-at-2-2.ensures;
-}
+pub returns-then-len-at-gt16 : goal.returns-then-len-at-gt16
+returns-then-len-at-gt16 c =
+    let bytes = c.args.bytes.now in
+    let at = c.loop-at.at in
+    c.mixed.ensures ∙ mixed_all bytes _ (at + 16) _ (omega arith)
+    (omega (arith, c.loop-at.invariant.whole)) (omega arith) (omega arith)
+    c.saturating_sub-last.ensures
+    (mixed_more bytes _ at _ _ _ c.loop-at.invariant.whole (omega arith) (omega arith)
+    c.loop-at.invariant.so_far c.mixed-next.ensures)
 
 pub returns : goal.returns
 returns c =
-    c.mixed.ensures ∙ mixed_all c.args.bytes.now _ c.loop-at-2.at _ (omega arith)
-    c.loop-at-2.invariant.whole c.loop-at-2.invariant.within (omega arith)
-    c.saturating_sub.ensures c.loop-at-2.invariant.so_far
+    c.mixed-2.ensures ∙ mixed_all c.args.bytes.now _ c.loop-at.at _ (omega arith)
+    c.loop-at.invariant.whole c.loop-at.invariant.within (omega arith)
+    c.saturating_sub-last.ensures c.loop-at.invariant.so_far

@@ -11,13 +11,3 @@ invariant-loop-at l = record {
 
 abbrev pub decreases-loop-at : goal.decreases-loop-at
 decreases-loop-at l = l.len - l.at
-
-abbrev pub invariant-loop-at-2 : goal.invariant-loop-at-2
-invariant-loop-at-2 l = record {
-  whole : l.at % 16 ≡ 0;
-  within : l.at < length l.bytes;
-  so_far : l.state ≡ mixed_to l.bytes l.at;
-}
-
-abbrev pub decreases-loop-at-2 : goal.decreases-loop-at-2
-decreases-loop-at-2 l = l.len - l.at

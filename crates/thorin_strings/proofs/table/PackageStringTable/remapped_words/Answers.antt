@@ -5,6 +5,8 @@ use Rattle.dwp_base.specs.declared.endian.Endianness.TheVariants.{Little}
 use Rattle.dwp_base.specs.Numbers.{number_bytes}
 use Rattle.dwp_bytes.specs.Encoding.{offset_size}
 use Rattle.thorin_strings.proofs.KnownLemmas.{are_known_later}
+use Rattle.dwp_bytes.specs.StringOffsets.{header_size}
+use Rattle.thorin_strings.proofs.NamedBytes.{header_long}
 use Rattle.thorin_strings.proofs.RemapLemmas.{kept_more, remapped_refuses}
 use Rattle.thorin_strings.proofs.RemapLemmas.{room_made, same_room}
 use Rattle.thorin_strings.proofs.WrittenLemmas.{none_written, one_written}
@@ -16,10 +18,14 @@ loop-index-init c =
     (c.string_offsets_count-count.result * 4) c.len-first.result c.in_ok-out.out.len
     (c.len-first.ensures ∙ c.in_ok-out.out.ok.0) c.in_ok-out.out.ok.0
     c.in_ok-resize.ensures.items in
+    let is_first : c.len-first.result ≡ header_size c.args.encoding =
+    (c.len-first.ensures ∙ c.in_ok-out.out.ok.0)
+    ∙ header_long Little c.args.encoding _ c.in_ok-out.out.items c.in_ok-out.ensures in
     record {
       within = omega arith;
+      first = is_first;
       kept = take_all _ c.args.self.now (omega arith);
-      so_far = none_written _ _ _ _ _ _;
+      so_far = none_written _ _ _ _ _ _ is_first;
       long = room.0;
       known = c.requires.known;
     }
@@ -46,6 +52,7 @@ returns-in_err-offset-clause-meaning c =
       c.write_told-index.ensures.here,
       ap length c.deref_mut.ensures.value,
       c.loop-index.invariant.long,
+      c.loop-index.invariant.first,
     )))
 
 pub loop-index-preserved : goal.loop-index-preserved
@@ -70,12 +77,15 @@ loop-index-preserved c =
         c.write_told-index.ensures.here,
         ap length c.deref_mut.ensures.value,
         c.loop-index.invariant.long,
+        c.loop-index.invariant.first,
       );
+      first = c.loop-index.invariant.first;
       kept = kept_more _ _ _ (kept_more _ _ _ c.loop-index.invariant.kept
           c.write_told-index.ensures.kept) c.other_word.ensures.kept;
       so_far = one_written c.args.encoding c.args.debug_str.now c.args.debug_str_offsets.now
-          c.len-first.result c.write_told-index.result c.in_ok-offset.offset _ _ _ _
-          c.write_told-index.new.out _ c.requires.form c.in_ok-offset.ensures.meaning
+          at c.write_told-index.result c.in_ok-offset.offset _ _ _ _
+          c.write_told-index.new.out _ c.requires.form
+          (omega (arith, c.loop-index.invariant.first)) c.in_ok-offset.ensures.meaning
           (ap (take (at + 4)) same_now ∙ c.write_word.ensures.written
           ∙ ap (λ l. take at l ++ number_bytes Little 4 c.in_ok-offset.offset) value) told;
       long = ap length same_now ∙ long_now ∙ long ∙ c.loop-index.invariant.long;

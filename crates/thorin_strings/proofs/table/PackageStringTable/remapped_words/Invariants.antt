@@ -1,4 +1,5 @@
 use Rattle.std.proofs.Common.{◌≡◌, ◌≤◌, ◌+◌, ◌-◌, ◌*◌, length, take}
+use Rattle.dwp_bytes.specs.StringOffsets.{header_size}
 use Rattle.thorin_strings.specs.Known.{AreKnown}
 use Rattle.thorin_strings.specs.Written.{AreWritten}
 use Rattle.thorin_strings.proofs.table.PackageStringTable.remapped_words.Given as goal
@@ -6,8 +7,9 @@ use Rattle.thorin_strings.proofs.table.PackageStringTable.remapped_words.Given a
 abbrev pub invariant-loop-index : goal.invariant-loop-index
 invariant-loop-index l = record {
   within : l.index ≤ l.count;
+  first : l.first ≡ header_size l.encoding;
   kept : take (length l.initial.self) l.self ≡ l.initial.self;
-  so_far : AreWritten l.encoding l.debug_str l.debug_str_offsets l.first l.index
+  so_far : AreWritten l.encoding l.debug_str l.debug_str_offsets l.index
       (take l.first l.initial.out.items) l.initial.self l.self l.out.items;
   long : length l.out.items ≡ l.first + l.count * 4;
   known : AreKnown l.debug_str l.self l.repeats;

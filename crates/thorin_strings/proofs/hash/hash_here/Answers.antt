@@ -1,6 +1,6 @@
 use Rattle.std.proofs.Common.{rules}
 use Rattle.thorin_strings.specs.Places.{hash}
-use Rattle.thorin_strings.proofs.hash.hash.Goals as goal
+use Rattle.thorin_strings.proofs.hash.hash_here.Goals as goal
 
 pub returns : goal.returns
 unfolding hash
