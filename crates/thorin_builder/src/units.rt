@@ -326,8 +326,8 @@ impl<'a> NewUnits<'a> {
         if section.address != 0 {
             return Err(Error::EmptyUnit(name.index()));
         }
-        test_row(&adding.source.indexes, places, section.kind, name, header)?;
-        let row = unit_row(&adding.source.indexes, &adding.whole, name)?;
+        let number = test_row(&adding.source.indexes, places, section.kind, name, header)?;
+        let row = unit_row(&adding.source.indexes, &adding.whole, name, number)?;
         let place = place_for(name, section.kind);
         let bytes = header.bytes().slice();
         self.units.insert(name, NewUnit { place, bytes, row })?;

@@ -11,11 +11,11 @@ use Rattle.dwp_bytes.specs.declared.encoding.Encoding.{Encoding}
 use Rattle.dwp_bytes.specs.Encoding.{index_version_of, is_compatible}
 use Rattle.dwp_index.specs.Index.{Index}
 use Rattle.dwp_index.specs.IndexBytes.{index_of}
-use Rattle.dwp_table.specs.Probing.{found_row}
 use Rattle.dwp_table.specs.declared.object.DwarfObject.{DwarfObject}
 use Rattle.dwp_table.specs.declared.object.DwarfObject.TheVariants.{Compilation, TypeUnit}
 use Rattle.thorin_faults.specs.Fault.{Fault, ParseIndex, IncompatibleIndexVersion}
 use Rattle.thorin_faults.specs.Answers.{as_fault}
+pub use Rattle.thorin_parts.specs.Adjusting.{looked_up}
 use Rattle.thorin_input.specs.Used.{InputFile, first}
 
 -- both indexes, those that there are
@@ -61,8 +61,3 @@ indexes_of object encoding = do
 abbrev pub index_for : Indexes → DwarfObject → Option Index
 index_for indexes (Compilation id) = indexes.compilations
 index_for indexes (TypeUnit signature) = indexes.types
-
--- the row number that looking an identifier up gives
-abbrev pub looked_up : Option Index → ℕ → Option ℕ
-looked_up None id = None
-looked_up (Some index) id = found_row index.signatures index.rows id

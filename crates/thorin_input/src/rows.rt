@@ -9,7 +9,7 @@ ghost use Rattle.thorin_faults.specs.Answers.{Gives};
 ghost use Rattle.thorin_parts.specs.Adjusting.{GivesExactly};
 ghost use Rattle.thorin_packaged.specs.RowPlaces.{row_by_place};
 ghost use Rattle.thorin_input.specs.Growing.{joined_parts, range_put};
-ghost use Rattle.thorin_input.specs.Indexes.{index_for};
+ghost use Rattle.thorin_input.specs.Indexes.{index_for, looked_up};
 ghost use Rattle.thorin_input.specs.Rows as spec;
 ghost use Rattle.thorin_input.specs.Used.{first};
 ghost use Rattle.thorin_input.specs.View as view;
@@ -117,22 +117,33 @@ impl Whole {
     }
 }
 
+/// A unit, and the number of its row; none where its index is missing, or doesn't name it.
+#[derive(Clone, Copy)]
+struct Numbered {
+    name: DwarfObject,
+    number: Option<u32>,
+}
+
 /// A unit's part of a section which as a whole lies there in the package.
 fn adjusted_part(
     indexes: &Indexes<'_>,
-    name: DwarfObject,
+    unit: Numbered,
     kind: SectionKind,
     whole: Option<Contribution>,
 ) -> Result<Option<Contribution>, Error>
-    requires { EndFits whole }
-    ensures { GivesExactly result (spec.adjusted_part (view.indexes indexes.now) name kind whole) }
+    requires number { unit.number
+        ≡ looked_up (index_for (view.indexes indexes.now) unit.name) (identifier_of unit.name) }
+    requires whole { EndFits whole }
+    ensures { GivesExactly result
+        (spec.adjusted_part (view.indexes indexes.now) unit.name kind whole) }
 {
     let compilations = indexes.compilations.as_ref();
     let types = indexes.types.as_ref();
-    ContributionAdjustor::new(compilations, types, kind).adjust(name, whole)
+    ContributionAdjustor::new(compilations, types, kind).adjust_row(unit.name, unit.number, whole)
 }
 
-/// The row of a unit but for its own bytes: its part of each section that units share.
+/// The row of a unit but for its own bytes: its part of each section that units share. `number` is
+/// what looking the unit up gave (`test_row`).
 ///
 /// # Errors
 /// Those of `ContributionAdjustor::adjust`, of the sections in the order of a row.
@@ -141,7 +152,10 @@ pub fn unit_row(
     indexes: &Indexes<'_>,
     whole: &Whole,
     name: DwarfObject,
+    number: Option<u32>,
 ) -> Result<IndexEntry, Error>
+    requires number { number
+        ≡ looked_up (index_for (view.indexes indexes.now) name) (identifier_of name) }
     ensures { Gives (λ row. row) result
         (spec.unit_row (view.indexes indexes.now) whole.now.row name) }
 {
@@ -151,37 +165,35 @@ pub fn unit_row(
             row.id = name;
             Ok(row)
         }
-        _ => packaged_row(indexes, whole, name),
+        _ => packaged_row(indexes, whole, Numbered { name, number }),
     }
 }
 
 /// The same in a package.
 #[tactic(auto, unfolding(crate::specs::Rows::unit_row))]
-fn packaged_row(
-    indexes: &Indexes<'_>,
-    whole: &Whole,
-    name: DwarfObject,
-) -> Result<IndexEntry, Error>
+fn packaged_row(indexes: &Indexes<'_>, whole: &Whole, unit: Numbered) -> Result<IndexEntry, Error>
+    requires number { unit.number
+        ≡ looked_up (index_for (view.indexes indexes.now) unit.name) (identifier_of unit.name) }
     ensures { Gives (λ row. row) result
-        (spec.unit_row (view.indexes indexes.now) whole.now.row name) }
+        (spec.unit_row (view.indexes indexes.now) whole.now.row unit.name) }
 {
     let row = whole.row;
-    let debug_abbrev = adjusted_part(indexes, name, SectionKind::Abbrev, row.debug_abbrev)?;
-    let debug_line = adjusted_part(indexes, name, SectionKind::Line, row.debug_line)?;
-    let debug_loc = adjusted_part(indexes, name, SectionKind::Loc, row.debug_loc)?;
-    let debug_loclists = adjusted_part(indexes, name, SectionKind::Loclists, row.debug_loclists)?;
-    let debug_rnglists = adjusted_part(indexes, name, SectionKind::Rnglists, row.debug_rnglists)?;
+    let debug_abbrev = adjusted_part(indexes, unit, SectionKind::Abbrev, row.debug_abbrev)?;
+    let debug_line = adjusted_part(indexes, unit, SectionKind::Line, row.debug_line)?;
+    let debug_loc = adjusted_part(indexes, unit, SectionKind::Loc, row.debug_loc)?;
+    let debug_loclists = adjusted_part(indexes, unit, SectionKind::Loclists, row.debug_loclists)?;
+    let debug_rnglists = adjusted_part(indexes, unit, SectionKind::Rnglists, row.debug_rnglists)?;
     let debug_str_offsets = adjusted_part(
         indexes,
-        name,
+        unit,
         SectionKind::StrOffsets,
         row.debug_str_offsets,
     )?;
-    let debug_macinfo = adjusted_part(indexes, name, SectionKind::Macinfo, row.debug_macinfo)?;
-    let debug_macro = adjusted_part(indexes, name, SectionKind::Macro, row.debug_macro)?;
+    let debug_macinfo = adjusted_part(indexes, unit, SectionKind::Macinfo, row.debug_macinfo)?;
+    let debug_macro = adjusted_part(indexes, unit, SectionKind::Macro, row.debug_macro)?;
     Ok(IndexEntry {
         encoding: row.encoding,
-        id: name,
+        id: unit.name,
         debug_info: row.debug_info,
         debug_types: row.debug_types,
         debug_abbrev,
@@ -241,10 +253,11 @@ impl<'i, 'a> Places<'i, 'a> {
     }
 }
 
-/// Whether, in a package, a unit's row by place is the one that looking its identifier up gives.
+/// The row number that looking a unit up gives, in a package that of the unit's row by place; none
+/// in an input without an index.
 ///
 /// # Errors
-/// `UnitNotInIndex` where it isn't.
+/// `UnitNotInIndex` where, in a package, the two rows are not the same or one is not there.
 #[tactic(auto, unfolding(crate::specs::Rows::row_test))]
 pub fn test_row<'a>(
     indexes: &Indexes<'_>,
@@ -252,26 +265,29 @@ pub fn test_row<'a>(
     kind: SectionKind,
     name: DwarfObject,
     header: &UnitHeader<SliceReader<'a>>,
-) -> Result<(), Error>
+) -> Result<Option<u32>, Error>
     requires compilations { places.now.compilations
         ≡ record { index = (view.indexes indexes.now).compilations; section = kind } }
     requires types { places.now.types ≡ record {
       index = (view.indexes indexes.now).types;
       section = kind;
     } }
-    ensures { Gives (λ _. tt) result (spec.row_test (view.indexes indexes.now) kind name
+    ensures meaning { Gives (λ _. tt) result (spec.row_test (view.indexes indexes.now) kind name
         (unit_of ⟦<SliceReader<'a> as Reader>⟧.input header.now)) }
+    ensures number { IfOk result (λ number.
+        number ≡ looked_up (index_for (view.indexes indexes.now) name) (identifier_of name)) }
 {
+    let number = indexes.looked_up(name);
     if !indexes.is_package() {
-        return Ok(());
+        return Ok(number);
     }
     let range = own_range(header);
     let here = match name {
         DwarfObject::Compilation(_) => places.compilations.find(range),
         DwarfObject::TypeUnit(_) => places.types.find(range),
     };
-    match (here, indexes.looked_up(name)) {
-        (Some(here), Some(there)) if here == there => Ok(()),
+    match (here, number) {
+        (Some(here), Some(there)) if here == there => Ok(number),
         _ => Err(Error::UnitNotInIndex(name.index())),
     }
 }

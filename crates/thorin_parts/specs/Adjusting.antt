@@ -31,6 +31,11 @@ abbrev pub other_index : Adjustor → DwarfObject → Option Index
 other_index a (Compilation id) = a.types
 other_index a (TypeUnit signature) = a.compilation
 
+-- the row number that looking an identifier up gives
+abbrev pub looked_up : Option Index → ℕ → Option ℕ
+looked_up None id = None
+looked_up (Some index) id = found_row index.signatures index.rows id
+
 -- the row of a look-up's answer
 abbrev pub row_found : Index → ℕ → Option ℕ → Result Ranges Fault
 row_found index id None = Err (UnitNotInIndex id)

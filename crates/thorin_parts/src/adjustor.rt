@@ -2,10 +2,12 @@
 
 ghost use Rattle.std.specs.Prelude.{◌≡◌, ◌+◌, ◌<◌, ◌^◌, Ok, Result, is_some};
 ghost use Rattle.std.specs.Option.{ForSome, option_copied};
+ghost use Rattle.dwp_table.specs.Objects.{identifier_of};
 ghost use Rattle.thorin_parts.specs.Adjusting.{
   GivesExactly,
   adjusted,
   has_column_for,
+  looked_up,
   moved,
   other_index,
   own_index,
@@ -69,7 +71,6 @@ impl<'i, 'a> ContributionAdjustor<'i, 'a> {
     /// `RowNotInIndex` where a row number is past the rows; `BadContribution` where a range lies
     /// outside the section, or the input lacks the section; `SectionNotInRow` where the section is
     /// there and neither index has its column.
-    #[tactic(auto, unfolding(crate::specs::Adjusting::adjusted))]
     pub fn adjust(
         &self,
         unit: DwarfObject,
@@ -78,14 +79,33 @@ impl<'i, 'a> ContributionAdjustor<'i, 'a> {
         requires { ForSome whole (λ c. c.offset.0 + c.size < 2 ^ 64) }
         ensures { GivesExactly result (adjusted self.now unit whole) }
     {
+        let (own, _) = self.indexes_for(unit);
+        let number = looked_up(own, unit.index());
+        self.adjust_row(unit, number, whole)
+    }
+
+    /// What `adjust` answers, of a unit that was looked up before: `number` is that of its row in the
+    /// index of its kind, and None where that index is missing, or doesn't name the unit. So a unit
+    /// is looked up once for all sections of an input.
+    ///
+    /// # Errors
+    /// Those of `adjust`.
+    #[tactic(auto, unfolding(crate::specs::Adjusting::adjusted))]
+    pub fn adjust_row(
+        &self,
+        unit: DwarfObject,
+        number: Option<u32>,
+        whole: Option<Contribution>,
+    ) -> Result<Option<Contribution>, Error>
+        requires number { number ≡ looked_up (own_index self.now unit) (identifier_of unit) }
+        requires whole { ForSome whole (λ c. c.offset.0 + c.size < 2 ^ 64) }
+        ensures { GivesExactly result (adjusted self.now unit whole) }
+    {
         if self.cu_index.is_none() && self.tu_index.is_none() {
             return Ok(whole);
         }
-        let (own, other) = match unit {
-            DwarfObject::Compilation(_) => (self.cu_index, self.tu_index),
-            DwarfObject::TypeUnit(_) => (self.tu_index, self.cu_index),
-        };
-        let row = row_of(own, unit.index())?;
+        let (own, other) = self.indexes_for(unit);
+        let row = numbered_row(own, unit.index(), number)?;
         if has_column(own, self.section) {
             match row.range(self.section) {
                 None => Ok(None),
@@ -97,17 +117,46 @@ impl<'i, 'a> ContributionAdjustor<'i, 'a> {
             Err(Error::SectionNotInRow)
         }
     }
+
+    /// The index of the units of a unit's kind, and that of the other kind.
+    fn indexes_for(
+        &self,
+        unit: DwarfObject,
+    ) -> (Option<&'i UnitIndex<'a>>, Option<&'i UnitIndex<'a>>)
+        ensures own { option_copied result.0 ≡ own_index self.now unit }
+        ensures other { option_copied result.1 ≡ other_index self.now unit }
+    {
+        match unit {
+            DwarfObject::Compilation(_) => (self.cu_index, self.tu_index),
+            DwarfObject::TypeUnit(_) => (self.tu_index, self.cu_index),
+        }
+    }
 }
 
-/// The row of a unit.
+/// The row number that looking an identifier up gives.
+fn looked_up(index: Option<&UnitIndex<'_>>, identifier: u64) -> Option<u32>
+    ensures { result ≡ looked_up (option_copied index.entry) identifier }
+{
+    match index {
+        None => None,
+        Some(index) => index.find(identifier),
+    }
+}
+
+/// The row of a unit that was looked up.
 #[tactic(auto, unfolding(crate::specs::Adjusting::row_of))]
-fn row_of<'a>(index: Option<&UnitIndex<'a>>, identifier: u64) -> Result<Row<'a>, Error>
+fn numbered_row<'a>(
+    index: Option<&UnitIndex<'a>>,
+    identifier: u64,
+    number: Option<u32>,
+) -> Result<Row<'a>, Error>
+    requires { number ≡ looked_up (option_copied index) identifier }
     ensures { GivesExactly result (row_of (option_copied index.entry) identifier) }
 {
     let Some(index) = index else {
         return Err(Error::UnitNotInIndex(identifier));
     };
-    match index.find(identifier) {
+    match number {
         None => Err(Error::UnitNotInIndex(identifier)),
         Some(number) => match index.row(number) {
             Ok(row) => Ok(row),
