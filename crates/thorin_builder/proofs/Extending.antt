@@ -1,9 +1,12 @@
 -- A package that loses nothing of what it had.
 use Rattle.std.proofs.Common.{◌≡◌, ◌∙◌, ℕ, ◌≤◌, Bool, true, false, cond, List, ◌++◌, length, take}
-use Rattle.std.proofs.Common.{min, ap, sym, refl, arith, Ok, Result}
-use Rattle.std.proofs.lemmas.List.{length-take, take-append-le}
+use Rattle.std.proofs.Common.{map}
+use Rattle.std.proofs.Common.{min, ap, sym, refl, arith, Ok, Err, Result, true≢false}
+use Rattle.std.specs.Result.{OnErr, is_err}
+use Rattle.std.proofs.lemmas.List.{length-take, map-append, take-append-le}
 use Rattle.std.proofs.Math.Seq.{take-length}
 use Rattle.dwp_elf.specs.FileText.{Object as File}
+use Rattle.dwp_table.specs.declared.object.DebugTypeSignature.{DebugTypeSignature}
 use Rattle.thorin_input.specs.Growing.{Contents, IsGrown, with_parts}
 use Rattle.thorin_input.specs.Indexes.{Source}
 use Rattle.thorin_input.specs.NewUnits.{New, new_units}
@@ -35,6 +38,13 @@ pub front-either : {A : Type 0} (a b x : List A) (c : Bool) → take (length a) 
     → take (length a) (cond c (b ++ x) b) ≡ a
 front-either a b x true h = front-append a b x h
 front-either a b x false h = h
+
+-- the signatures of type units, once more are added
+pub signatures : (a b n : List DebugTypeSignature) → n ≡ a ++ b
+    → map (λ (s : DebugTypeSignature). s.0)
+    n ≡ map (λ (s : DebugTypeSignature). s.0) a ++ map (λ (s : DebugTypeSignature). s.0) b
+signatures a b n h = ap (map (λ (s : DebugTypeSignature). s.0)) h ∙ map-append
+    (λ (s : DebugTypeSignature). s.0) a b
 
 pub extends-refl : (p : InProgress) → Extends p p
 extends-refl p = record {
@@ -86,3 +96,12 @@ pub with_all-is : (p : InProgress) (parts : Contents × List (List ℕ)) (new : 
     → with_all p parts new ≡ r
 unfolding with_all
 with_all-is p parts new q r hq hr = rw (hr, hq) refl
+
+-- what holds whatever came, and what holds of no error
+pub any_result : {T E : Type 0} (P : Type 0) (r : Result T E) → P → OnErr r P
+any_result P (Ok x) p = tt
+any_result P (Err e) p = p
+
+pub no_err : {T E : Type 0} (P : Type 0) (r : Result T E) → is_err r ≡ false → OnErr r P
+no_err P (Ok x) h = tt
+no_err P (Err e) h = absurd (true≢false h)

@@ -7,3 +7,6 @@ pub mod MissingLemmas
 pub mod Grown
 pub mod UnitNames
 pub mod OwnKept
+pub mod AddedAgain
+pub mod HeldAlike
+pub mod UnitsAlone

@@ -1,5 +1,5 @@
 -- What a package that is made stands for.
-use Rattle.std.specs.Prelude.{[], map, Option, Some, None}
+use Rattle.std.specs.Prelude.{map, Option, Some, None}
 use Rattle.thorin_builder.specs.declared.in_progress.InProgressDwarfPackage.{InProgressDwarfPackage}
 use Rattle.thorin_builder.specs.declared.state.Mark.{Mark}
 use Rattle.thorin_join.specs.State.{InProgress, Amount}

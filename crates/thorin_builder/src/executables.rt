@@ -1,12 +1,16 @@
 //! The objects that executables name (DWARF 5, 3.1.2; the GNU page DebugFission).
 
-ghost use Rattle.std.specs.Prelude.{◌≡◌, ℕ, List, IsTrue};
+ghost use Rattle.std.specs.Prelude.{◌≡◌, ◌≤◌, ℕ, List, length, Ok, OnOk, IfOk, IfSome};
 ghost use Rattle.std.specs.Path.{path_bytes};
 ghost use Rattle.thorin_builder.specs.Taking.{TakesExecutable, TakesExecutableSkippingNameless};
-ghost use Rattle.thorin_builder.specs.Taking.{TakesExecutableBy, TakesNamed, TakesSkeleton};
-ghost use Rattle.thorin_builder.specs.Taking.{TakesReferredFile, IsUnread, is_there};
+ghost use Rattle.thorin_builder.specs.Taking.{TakesExecutableBy, TakesNamed, CanBePassedOver};
+ghost use Rattle.thorin_builder.specs.Taking.{TakesUpTo, TakesFileThen, TakesBytes, is_there};
+ghost use Rattle.thorin_builder.specs.Taking.{with_first, count_with};
+ghost use Rattle.thorin_builder.specs.Again.{AddsAgainTo};
 ghost use Rattle.thorin_executable.specs.Skeletons.{skeletons_by};
+ghost use Rattle.thorin_executable.specs.View.{named_at};
 
+use crate::again::Again;
 use crate::package::DwarfPackage;
 use crate::reader::InputReader;
 use dwp_bytes::RelocationEntry;
@@ -14,13 +18,6 @@ use dwp_table::DwarfObject;
 use std::path::Path;
 use thorin_executable::{NamedUnit, NamedUnits, NamelessUnits};
 use thorin_faults::{Error, InputError, MissingReferencedObjectBehaviour, Session};
-
-/// Whether what was known of the path of the unit before is known of a unit's path.
-fn is_still(was_known: bool, unit: NamedUnit) -> bool
-    ensures { IsTrue result → IsTrue was_known × IsTrue unit.is_repeated }
-{
-    was_known && unit.is_repeated
-}
 
 impl<'output, 'session: 'output, Sess: Session<RelocationEntry>> DwarfPackage<
     'output,
@@ -165,42 +162,145 @@ impl<'output, 'session: 'output, Sess: Session<RelocationEntry>> DwarfPackage<
             units.old.listed self.old.state result self.new.state accepted }
         ensures session { self.new.session ≡ self.old.session }
     {
-        // Whether the object of the unit before can't be read, and is passed over.
-        let mut is_unread = false;
-        while let Some(unit) = units.next()? {
-            is_unread = is_still(is_unread, unit);
-            let path = units.path();
-            self.add_skeleton(reader, room, unit.target, path, missing, &mut is_unread)?;
+        let mut next = units.next()?;
+        while let Some(unit) = next {
+            next = self.add_skeleton(reader, room, units, unit, missing)?;
         }
         Ok(())
     }
 
-    /// Adds the object of a unit that an executable refers to. One that couldn't be read at this
-    /// path for the unit before isn't read again where it is passed over.
+    /// Adds the object of a unit that an executable refers to, and those of the units behind it
+    /// that name the same object in turn. Gives the unit that comes next.
     fn add_skeleton<R: InputReader>(
         &mut self,
         reader: &R,
         room: &mut Vec<u8>,
-        target: DwarfObject,
-        path: &str,
+        units: &mut NamedUnits<'_>,
+        unit: NamedUnit,
         missing: MissingReferencedObjectBehaviour,
-        is_unread: &mut bool,
+    ) -> Result<Option<NamedUnit>, Error>
+        ensures taken { TakesUpTo (R.offer reader.now) missing
+            (with_first (named_at units.old.path unit) units.old.listed) self.old.state result
+            units.new.path units.new.listed self.new.state }
+        ensures shorter { IfOk result (λ next.
+            count_with next units.new.listed ≤ length units.old.listed.0) }
+        ensures session { self.new.session ≡ self.old.session }
+    {
+        if self.is_there(unit.target) {
+            return units.next();
+        }
+        self.add_target(unit.target)?;
+        self.add_referred(reader, room, units, missing)
+    }
+
+    /// Adds the object at the path of the unit that came last, and once more for each unit behind
+    /// it that names the same object in turn. One that can't be read may be passed over.
+    fn add_referred<R: InputReader>(
+        &mut self,
+        reader: &R,
+        room: &mut Vec<u8>,
+        units: &mut NamedUnits<'_>,
+        missing: MissingReferencedObjectBehaviour,
+    ) -> Result<Option<NamedUnit>, Error>
+        ensures taken { TakesFileThen (R.offer reader.now) missing units.old.path units.old.listed
+            self.old.state result units.new.path units.new.listed self.new.state }
+        ensures shorter { IfOk result (λ next.
+            count_with next units.new.listed ≤ length units.old.listed.0) }
+        ensures session { self.new.session ≡ self.old.session }
+    {
+        match reader.read_into(Path::new(units.path()), room) {
+            Ok(bytes) => {
+                self.add_object_bytes(bytes)?;
+                self.add_repeated(reader, units, bytes, missing)
+            }
+            Err(InputError::Io(e)) => match missing {
+                MissingReferencedObjectBehaviour::Skip => {
+                    self.pass_over_repeated(reader, units, missing)
+                }
+                MissingReferencedObjectBehaviour::Error => Err(Error::ReadInput(e)),
+            },
+            Err(InputError::Memory) => Err(Error::Memory),
+        }
+    }
+
+    /// Passes over the units behind one whose object couldn't be read, as long as they name the
+    /// same object. Gives the unit that comes next.
+    fn pass_over_repeated<R: InputReader>(
+        &mut self,
+        reader: &R,
+        units: &mut NamedUnits<'_>,
+        missing: MissingReferencedObjectBehaviour,
+    ) -> Result<Option<NamedUnit>, Error>
+        requires { CanBePassedOver (R.offer reader.now units.old.path) missing }
+        ensures taken { TakesUpTo (R.offer reader.now) missing units.old.listed self.old.state
+            result units.new.path units.new.listed self.new.state }
+        ensures shorter { IfOk result (λ next.
+            count_with next units.new.listed ≤ length units.old.listed.0) }
+        ensures session { self.new.session ≡ self.old.session }
+    {
+        while let Some(unit) = units.next()? {
+            if !unit.is_repeated {
+                return Ok(Some(unit));
+            }
+            if !self.is_there(unit.target) {
+                self.add_target(unit.target)?;
+                reader.pass_over();
+            }
+        }
+        Ok(None)
+    }
+
+    /// Adds the object that was added last once more for each unit behind it that names the same
+    /// object in turn. The object isn't read again, and of one that adds no unit it is remembered
+    /// what it adds. Gives the unit that comes next.
+    fn add_repeated<R: InputReader>(
+        &mut self,
+        _reader: &R,
+        units: &mut NamedUnits<'_>,
+        bytes: &[u8],
+        _missing: MissingReferencedObjectBehaviour,
+    ) -> Result<Option<NamedUnit>, Error>
+        requires { R.offer _reader.now units.old.path (Ok bytes.now) }
+        ensures taken { TakesUpTo (R.offer _reader.now) _missing units.old.listed self.old.state
+            result units.new.path units.new.listed self.new.state }
+        ensures shorter { IfOk result (λ next.
+            count_with next units.new.listed ≤ length units.old.listed.0) }
+        ensures session { self.new.session ≡ self.old.session }
+    {
+        let mut again = None;
+        while let Some(unit) = units.next()? {
+            if unit.is_repeated {
+                self.add_once_more(unit.target, bytes, &mut again)?;
+            } else {
+                return Ok(Some(unit));
+            }
+        }
+        Ok(None)
+    }
+
+    /// Adds an object that was added last once more, unless it is a compilation unit's that is
+    /// there. What the object adds is remembered.
+    fn add_once_more<'a>(
+        &mut self,
+        target: DwarfObject,
+        bytes: &'a [u8],
+        again: &mut Option<Again<'a>>,
     ) -> Result<(), Error>
-        requires { IsUnread (R.offer reader.now path.now) missing is_unread.old }
-        ensures taken { (accepted : List (List ℕ)) × TakesSkeleton (R.offer reader.now) missing
-            (target, path.now) self.old.state result self.new.state accepted }
-        ensures unread { IsUnread (R.offer reader.now path.now) missing is_unread.new }
+        requires { IfSome again.old (λ again.
+            AddsAgainTo bytes.now again self.old.state.begun) }
+        ensures taken { TakesBytes bytes.now target self.old.state result self.new.state }
+        ensures again { OnOk result (IfSome again.new (λ again.
+            AddsAgainTo bytes.now again self.new.state.begun)) }
         ensures session { self.new.session ≡ self.old.session }
     {
         if self.is_there(target) {
             return Ok(());
         }
         self.add_target(target)?;
-        if *is_unread {
-            reader.pass_over();
-            return Ok(());
+        if again.is_none() {
+            *again = self.again_of(bytes);
         }
-        self.add_referred(reader, room, Path::new(path), missing, is_unread)
+        self.add_known(bytes, again)
     }
 
     /// Whether a unit is a compilation unit that the package has.
@@ -210,36 +310,6 @@ impl<'output, 'session: 'output, Sess: Session<RelocationEntry>> DwarfPackage<
         match target {
             DwarfObject::Compilation(_) => self.contained_units().contains(&target),
             DwarfObject::TypeUnit(_) => false,
-        }
-    }
-
-    /// Adds the object at a path that an executable refers to; one that can't be read may be passed
-    /// over.
-    fn add_referred<R: InputReader>(
-        &mut self,
-        reader: &R,
-        room: &mut Vec<u8>,
-        path: Path<'_>,
-        missing: MissingReferencedObjectBehaviour,
-        is_unread: &mut bool,
-    ) -> Result<(), Error>
-        requires { IsUnread (R.offer reader.now (path_bytes path)) missing is_unread.old }
-        ensures taken { TakesReferredFile (R.offer reader.now (path_bytes path.entry)) missing
-            self.old.state result self.new.state }
-        ensures unread { IsUnread (R.offer reader.now (path_bytes path.entry)) missing
-            is_unread.new }
-        ensures session { self.new.session ≡ self.old.session }
-    {
-        match reader.read_into(path, room) {
-            Ok(bytes) => self.add_object_bytes(bytes),
-            Err(InputError::Io(e)) => match missing {
-                MissingReferencedObjectBehaviour::Skip => {
-                    *is_unread = true;
-                    Ok(())
-                }
-                MissingReferencedObjectBehaviour::Error => Err(Error::ReadInput(e)),
-            },
-            Err(InputError::Memory) => Err(Error::Memory),
         }
     }
 }

@@ -3,6 +3,7 @@
 #![tactic(auto)]
 
 mod adding;
+mod again;
 mod executables;
 mod in_progress;
 mod missing;

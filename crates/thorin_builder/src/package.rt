@@ -1,7 +1,7 @@
 //! The package builder.
 
 ghost use Rattle.std.specs.Prelude.{◌≡◌, ℕ, List, map, filter, length, IsTrue, IfOk, IfErr, OnOk};
-ghost use Rattle.std.specs.Prelude.{OnErr};
+ghost use Rattle.std.specs.Prelude.{OnErr, IfSome};
 ghost use Rattle.thorin_faults.specs.Answers.{Gives};
 ghost use Rattle.std.specs.Path.{path_bytes};
 ghost use Rattle.thorin_join.specs.Builder as spec;
@@ -14,11 +14,13 @@ ghost use Rattle.thorin_again.specs.Own.{packs_again};
 ghost use Rattle.thorin_again.specs.OwnAccepted.{IsAcceptedByNewOnceWritten};
 ghost use Rattle.thorin_again.specs.OwnAccepted.{IsAcceptedOnceWritten};
 ghost use Rattle.thorin_again.specs.OwnUnits.{HasOneEncoding};
+ghost use Rattle.thorin_builder.specs.Again.{AddsAgainTo};
 ghost use Rattle.thorin_builder.specs.StateView.{begun_of};
 ghost use Rattle.thorin_builder.specs.Taking.{TakesFile, with_target};
 ghost use Rattle.thorin_builder.specs.Missing.{without_targets};
 
-use crate::adding::add_input;
+use crate::adding::add_known_input;
+use crate::again::Again;
 use crate::in_progress::InProgressDwarfPackage;
 use crate::missing::MissingTargets;
 use crate::reader::InputReader;
@@ -155,7 +157,6 @@ impl<'output, 'session: 'output, Sess: Session<RelocationEntry>> DwarfPackage<
     /// (`MultipleDebugInfoSection`, `MultipleDebugTypesSection`), `ParseUnitHeader`, what
     /// `dwo_identifier_of_unit` answers, `NotSplitUnit`, `DuplicateUnit`, `EmptyUnit`, and in a
     /// package `UnitNotInIndex`, `RowNotInIndex`, `BadContribution`, `SectionNotInRow`.
-    #[tactic(auto, unfolding(thorin_join::specs::Builder::taken))]
     pub fn add_object_bytes(&mut self, bytes: &[u8]) -> Result<(), Error>
         ensures meaning { Gives (λ _. self.new.state) result (spec.taken bytes.now self.old.state) }
         ensures joins { OnOk result
@@ -163,12 +164,27 @@ impl<'output, 'session: 'output, Sess: Session<RelocationEntry>> DwarfPackage<
         ensures err { OnErr result (self.new.state ≡ self.old.state) }
         ensures session { self.new.session ≡ self.old.session }
     {
+        self.add_known(bytes, &None)
+    }
+
+    /// The same, where it may be known what the object adds: no unit and no string.
+    #[tactic(auto, unfolding(thorin_join::specs::Builder::taken))]
+    pub(crate) fn add_known(&mut self, bytes: &[u8], again: &Option<Again<'_>>) -> Result<(), Error>
+        requires { IfSome again.now (λ again. AddsAgainTo bytes.now again self.old.state.begun) }
+        ensures meaning { Gives (λ _. self.new.state) result (spec.taken bytes.now self.old.state) }
+        ensures joins { OnOk result
+            (Joins bytes.now (units_in self.old.state) (units_in self.new.state)) }
+        ensures err { OnErr result (self.new.state ≡ self.old.state) }
+        ensures again { OnOk result (IfSome again.now (λ again.
+            AddsAgainTo bytes.now again self.new.state.begun)) }
+        ensures session { self.new.session ≡ self.old.session }
+    {
         let is_first = self.in_progress.is_none();
         let units = unit_count(&self.in_progress);
         inputs_are_joined();
         one_encoding_is_kept();
         plain_packages_are_kept();
-        let encoding = add_input(self.alloc, &mut self.in_progress, bytes)?;
+        let encoding = add_known_input(self.alloc, &mut self.in_progress, bytes, again)?;
         self.own = if unit_count(&self.in_progress) <= units {
             None
         } else if is_first {
@@ -177,6 +193,20 @@ impl<'output, 'session: 'output, Sess: Session<RelocationEntry>> DwarfPackage<
             common(self.own, encoding)
         };
         Ok(())
+    }
+
+    /// What an object adds, where that is no unit and no string; None where it isn't, and where it
+    /// can't be told. The package stays as it is.
+    pub(crate) fn again_of<'a>(&mut self, bytes: &'a [u8]) -> Option<Again<'a>>
+        ensures state { self.new.state ≡ self.old.state }
+        ensures again { IfSome result (λ again.
+            AddsAgainTo bytes.now again self.old.state.begun) }
+        ensures session { self.new.session ≡ self.old.session }
+    {
+        match &mut self.in_progress {
+            Some(package) => package.adds_again(bytes).unwrap_or(None),
+            None => None,
+        }
     }
 
     /// The session, which keeps what is read.

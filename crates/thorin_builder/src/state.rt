@@ -32,7 +32,7 @@ use thorin_strings::{PackageStringTable, TableMark};
 
 /// How much of a package there was, to go back to.
 #[derive(Drop)]
-struct Mark {
+pub(crate) struct Mark {
     /// The length of each section, in their order.
     lengths: Vec<usize>,
     strings: TableMark,
@@ -233,7 +233,7 @@ impl InProgressDwarfPackage {
     }
 
     /// How much of the package there is. It refuses for memory alone.
-    fn mark(&self) -> Result<Mark, Error>
+    pub(crate) fn mark(&self) -> Result<Mark, Error>
         ensures mark { IfOk result (λ mark. mark_in mark ≡ spec.mark_of (in_progress_of self.now)) }
         ensures strings { IfOk result (λ mark. mark.strings ≡ mark_of self.now.strings) }
         ensures refused { IfErr result (λ e. e ≡ Error.Memory) }
@@ -247,7 +247,7 @@ impl InProgressDwarfPackage {
     }
 
     /// Takes back what was added since.
-    fn restore(&mut self, mark: &Mark)
+    pub(crate) fn restore(&mut self, mark: &Mark)
         requires { mark.now.strings ≡ mark_of (take mark.now.strings.strings self.old.strings) }
         ensures { (before : spec.InProgress) → spec.Extends before (in_progress_of self.old)
             → mark_in mark.now ≡ spec.mark_of before → in_progress_of self.new ≡ before }

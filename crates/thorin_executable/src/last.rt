@@ -202,7 +202,8 @@ impl LastPath {
     }
 
     /// Makes it the path that an attribute of a root entry names. Answers whether it was that
-    /// before; then no string is read. Where it fails, the text stays.
+    /// before; where its strings stand where they stood before, none is read. Where it fails, the
+    /// text stays.
     #[tactic(auto, using(crate::proofs::Places::kept_is, crate::proofs::Places::kept_anew))]
     pub fn set<R: Reader>(
         &mut self,
@@ -226,10 +227,11 @@ impl LastPath {
                 return Ok(true);
             }
         }
-        self.places = None;
-        self.text = object_path(self.alloc, strings, format, root, name)?;
+        let text = object_path(self.alloc, strings, format, root, name)?;
+        let is_repeated = text == self.text;
         self.places = places;
-        Ok(false)
+        self.text = text;
+        Ok(is_repeated)
     }
 
     /// Hands it out. What comes next is no path that came before.

@@ -1,17 +1,9 @@
-use Rattle.std.proofs.Common.{◌≡◌, rules, Result, Ok, Err, false, true≢false}
-use Rattle.std.specs.Result.{OnErr, is_err}
+use Rattle.std.proofs.Common.{rules}
 use Rattle.thorin_builder.specs.StateView.{in_progress_of}
 use Rattle.thorin_builder.proofs.in_progress.InProgressDwarfPackage.add.Goals.{then-is_err}
 use Rattle.thorin_builder.proofs.in_progress.InProgressDwarfPackage.add.Goals.{else-is_err}
+use Rattle.thorin_builder.proofs.Extending.{any_result, no_err}
 use Rattle.thorin_builder.proofs.in_progress.InProgressDwarfPackage.add.Goals as goal
-
-any_result : {T E : Type 0} (P : Type 0) (r : Result T E) → P → OnErr r P
-any_result P (Ok x) p = tt
-any_result P (Err e) p = p
-
-no_err : {T E : Type 0} (P : Type 0) (r : Result T E) → is_err r ≡ false → OnErr r P
-no_err P (Ok x) h = tt
-no_err P (Err e) h = absurd (true≢false h)
 
 pub returns-clause-err : goal.returns-clause-err
 returns-clause-err c = elim c.if-is_err.branch [

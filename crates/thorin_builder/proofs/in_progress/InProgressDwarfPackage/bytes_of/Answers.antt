@@ -1,7 +1,6 @@
 use Rattle.std.proofs.Common.{◌≡◌, ◌∙◌, Some, None, ap, sym, refl, rules}
 use Rattle.std.proofs.lemmas.Option.{slice_get_read}
 use Rattle.std.specs.Prelude.{slice_get, position}
-use Rattle.std.specs.Map.{lookup}
 use Rattle.thorin_input.specs.Names.{same_name}
 use Rattle.thorin_join.specs.State.{unit_bytes}
 use Rattle.thorin_builder.specs.StateView.{in_progress_of}

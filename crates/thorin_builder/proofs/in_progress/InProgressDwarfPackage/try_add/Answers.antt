@@ -1,6 +1,5 @@
 use Rattle.std.proofs.Common.{◌≡◌, ◌∙◌, ℕ, ap, map, rules, List, ◌++◌, Ok}
 use Rattle.std.proofs.Math.Seq.{take-length}
-use Rattle.std.proofs.lemmas.List.{map-append}
 use Rattle.dwp_table.specs.declared.object.DebugTypeSignature.{DebugTypeSignature}
 use Rattle.thorin_input.specs.Growing.{Contents, with_parts}
 use Rattle.thorin_input.specs.View as view
@@ -10,12 +9,8 @@ use Rattle.thorin_join.specs.State.{adding}
 use Rattle.thorin_builder.specs.StateView.{in_progress_of}
 use Rattle.thorin_builder.proofs.Grown.{is_grown-refl}
 use Rattle.thorin_builder.proofs.Extending.{extends-with, front-append, with_source-is, with_all-is}
+use Rattle.thorin_builder.proofs.Extending.{signatures}
 use Rattle.thorin_builder.proofs.in_progress.InProgressDwarfPackage.try_add.Goals as goal
-
-signatures : (a b n : List DebugTypeSignature) → n ≡ a ++ b → map (λ (s : DebugTypeSignature). s.0)
-    n ≡ map (λ (s : DebugTypeSignature). s.0) a ++ map (λ (s : DebugTypeSignature). s.0) b
-signatures a b n h = ap (map (λ (s : DebugTypeSignature). s.0)) h ∙ map-append
-    (λ (s : DebugTypeSignature). s.0) a b
 
 pub returns-in_err-parts-clause-extends : goal.returns-in_err-parts-clause-extends
 returns-in_err-parts-clause-extends c =

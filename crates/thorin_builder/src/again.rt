@@ -1,0 +1,147 @@
+//! An object that is taken again and again, since an executable names it for many units: what it
+//! adds is remembered.
+
+ghost use Rattle.std.specs.Prelude.{◌≡◌, map, Some, OnOk, OnErr, IfOk, IfErr, IfSome};
+ghost use Rattle.dwp_elf.specs.FileText.{Object};
+ghost use Rattle.thorin_input.specs.Growing.{IsGrown, with_parts};
+ghost use Rattle.thorin_input.specs.View as view;
+ghost use Rattle.thorin_builder.specs.Again.{AddsAgain, AddsNoUnit, with_more};
+ghost use Rattle.thorin_builder.specs.StateView.{in_progress_of};
+ghost use Rattle.thorin_join.specs.State as spec;
+
+use crate::in_progress::InProgressDwarfPackage;
+use crate::units::{Adding, NewUnits};
+use dwp_dwarf::Encoding;
+use dwp_elf::WritableObject;
+use dwp_table::DebugTypeSignature;
+use std::alloc::Global;
+use thorin_faults::Error;
+use thorin_input::{Indexes, Part, Source, Walked, Whole, opened, parts_of, put};
+
+/// What an input adds to a package each time that it is taken, where that is no unit and no string:
+/// parts of sections, and the signatures of its type units that differ from those kept.
+#[derive(Drop)]
+pub(crate) struct Again<'a> {
+    pub parts: Vec<Part<'a>>,
+    pub differing: Vec<DebugTypeSignature>,
+    /// The one encoding of all its units, where there is one.
+    pub own: Option<Encoding>,
+}
+
+/// Adds parts to the contents of a package, in order. It refuses for memory alone.
+#[tactic(auto, unfolding(thorin_input::specs::Growing::with_parts))]
+fn put_each(file: &mut WritableObject, parts: &[Part<'_>]) -> Result<(), Error>
+    ensures contents { OnOk result (file.new ≡ record file.old {
+      contents = with_parts (map view.part parts.now) file.old.contents;
+    }) }
+    ensures refused { IfErr result (λ e. e ≡ Error.Memory) }
+    ensures grown { (before : Object) → IsGrown before file.old → IsGrown before file.new }
+{
+    for part in parts {
+        put(file, part.kind, part.bytes())?;
+    }
+    Ok(())
+}
+
+impl InProgressDwarfPackage {
+    /// What an input adds, where that is no unit and no string; else None, or the input's first
+    /// error. The package stays as it is.
+    pub(crate) fn adds_again<'a>(&mut self, bytes: &'a [u8]) -> Result<Option<Again<'a>>, Error>
+        ensures same { in_progress_of self.new ≡ in_progress_of self.old }
+        ensures found { IfOk result (λ found. IfSome found (λ again.
+            AddsAgain bytes.now again (in_progress_of self.old))) }
+    {
+        let file = opened(bytes)?;
+        let walked = Walked::over(self.alloc, &file);
+        if !walked.with_units {
+            return Ok(Some(Again {
+                parts: Vec::new(self.alloc),
+                differing: Vec::new(self.alloc),
+                own: None,
+            }));
+        }
+        let object = walked.input?;
+        let encoding = object.encoding()?;
+        if object.order != self.endianness() {
+            return Ok(None);
+        }
+        let indexes = Indexes::read(&object, encoding)?;
+        self.source_adds_again(&Source {
+            object,
+            encoding,
+            indexes,
+        })
+    }
+
+    /// The same of an input whose sections, encoding and indexes are known.
+    fn source_adds_again<'a>(&mut self, source: &Source<'a>) -> Result<Option<Again<'a>>, Error>
+        ensures same { in_progress_of self.new ≡ in_progress_of self.old }
+        ensures found { IfOk result (λ found. IfSome found (λ again.
+            AddsNoUnit (view.source source.now) again (in_progress_of self.old))) }
+    {
+        let mark = self.mark()?;
+        let found = self.try_again(source);
+        self.restore(&mark);
+        found
+    }
+
+    /// The same, but it may leave strings behind those before.
+    fn try_again<'a>(&mut self, source: &Source<'a>) -> Result<Option<Again<'a>>, Error>
+        ensures found { IfOk result (λ found. IfSome found (λ again.
+            AddsNoUnit (view.source source.now) again (in_progress_of self.old))) }
+        ensures extends { spec.Extends (in_progress_of self.old) (in_progress_of self.new) }
+    {
+        let alloc = self.alloc;
+        let strings = self.strings.len();
+        let parts = parts_of(alloc, source, &mut self.strings)?;
+        if self.strings.len() != strings || !source.object.has_abbreviations {
+            return Ok(None);
+        }
+        let whole = Whole::of(source.encoding, &self.object, &parts)?;
+        let adding = Adding {
+            source,
+            whole,
+            package: &*self,
+        };
+        let new = NewUnits::read(alloc, &adding)?;
+        if !new.units.is_empty() {
+            return Ok(None);
+        }
+        let own = source.object.one_encoding(source.encoding, new.alike);
+        Ok(Some(Again {
+            parts,
+            differing: new.differing,
+            own,
+        }))
+    }
+
+    /// Adds what an input adds that adds no unit and no string. An `Err` leaves the package as it
+    /// was; it is for memory alone.
+    pub(crate) fn add_again(&mut self, again: &Again<'_>) -> Result<(), Error>
+        ensures added { OnOk result (in_progress_of self.new
+            ≡ with_more (map view.part again.now.parts.items)
+            (map (λ s. s.0) again.now.differing.items) (in_progress_of self.old)) }
+        ensures refused { IfErr result (λ e. e ≡ Error.Memory) }
+        ensures err { OnErr result (in_progress_of self.new ≡ in_progress_of self.old) }
+    {
+        let mark = self.mark()?;
+        let added = self.try_add_again(again);
+        if added.is_err() {
+            self.restore(&mark);
+        }
+        added
+    }
+
+    /// The same, but an `Err` may leave more than there was.
+    fn try_add_again(&mut self, again: &Again<'_>) -> Result<(), Error>
+        ensures added { OnOk result (in_progress_of self.new
+            ≡ with_more (map view.part again.now.parts.items)
+            (map (λ s. s.0) again.now.differing.items) (in_progress_of self.old)) }
+        ensures refused { IfErr result (λ e. e ≡ Error.Memory) }
+        ensures extends { spec.Extends (in_progress_of self.old) (in_progress_of self.new) }
+    {
+        put_each(&mut self.object, &again.parts)?;
+        self.differing.extend_from_slice(&again.differing)?;
+        Ok(())
+    }
+}
