@@ -202,8 +202,7 @@ impl LastPath {
     }
 
     /// Makes it the path that an attribute of a root entry names. Answers whether it was that
-    /// before; where its strings stand where they stood before, none is read. Where it fails, the
-    /// text stays.
+    /// before; then no string is read. Where it fails, the text stays.
     #[tactic(auto, using(crate::proofs::Places::kept_is, crate::proofs::Places::kept_anew))]
     pub fn set<R: Reader>(
         &mut self,
@@ -227,11 +226,10 @@ impl LastPath {
                 return Ok(true);
             }
         }
-        let text = object_path(self.alloc, strings, format, root, name)?;
-        let is_repeated = text == self.text;
+        self.places = None;
+        self.text = object_path(self.alloc, strings, format, root, name)?;
         self.places = places;
-        self.text = text;
-        Ok(is_repeated)
+        Ok(false)
     }
 
     /// Hands it out. What comes next is no path that came before.
