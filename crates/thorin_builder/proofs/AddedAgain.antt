@@ -1,9 +1,20 @@
 -- What an input adds that adds no unit, however often it is taken.
-use Rattle.std.proofs.Common.{◌≡◌, ◌∙◌, ℕ, true, false, cond, List, [], ◌++◌, refl, sym, ap, subst}
+use Rattle.std.proofs.Common.{◌≡◌, ◌∙◌, ℕ, Bool, true, false, cond, List, [], ◌∷◌, ◌++◌, refl, sym}
+use Rattle.std.proofs.Common.{ap, subst, inl, inr, true≢false, arith}
+use Rattle.std.specs.Prelude.{is_some}
 use Rattle.std.proofs.Common.{Result, Ok, Err, Option, Some, None, map}
 use Rattle.std.specs.Prelude.{IfOk, IfSome}
 use Rattle.thorin_faults.specs.declared.fault.Error.{Error}
-use Rattle.std.proofs.lemmas.List.{append-nil}
+use Rattle.std.proofs.lemmas.List.{append-nil, append_assoc, map-append, take-append-drop}
+use Rattle.std.proofs.lemmas.Option.{none-some, same_Some}
+use Rattle.std.proofs.lemmas.Slice.Eq.{bytes_eq-Decides}
+use Rattle.std.proofs.Math.Seq.{take-length}
+use Rattle.std.specs.Global.{Global}
+use Rattle.std.specs.Map.{lookup}
+use Rattle.std.specs.Prelude.{String, string_bytes, string_eq, take, drop, length}
+use Rattle.std.specs.Str.{bytes_eq}
+use Rattle.std.specs.declared.io.Error.{Error as IoError}
+use Rattle.indexmap.specs.IndexMap.{insert_entry}
 use Rattle.dwp_base.specs.Reading.{◌>>=◌}
 use Rattle.dwp_base.specs.declared.endian.Endianness.{Endianness}
 use Rattle.dwp_base.specs.declared.endian.Endianness.TheVariants.{Little, Big}
@@ -13,56 +24,124 @@ use Rattle.thorin_input.specs.Encodings.{encoding_of, own_encoding, file_encodin
 use Rattle.thorin_input.specs.Growing.{Contents, with_parts}
 use Rattle.thorin_input.specs.Indexes.{Source, indexes_of}
 use Rattle.thorin_input.specs.NewUnits.{New, new_units}
-use Rattle.thorin_input.specs.Parts.{parts_of}
 use Rattle.thorin_input.specs.Rows.{whole_row}
 use Rattle.thorin_input.specs.Used.{InputFile, opened, has_info, input_file_of}
 use Rattle.thorin_input.specs.View.{part}
 use Rattle.thorin_join.specs.Builder.{with_input, with_units, with_source_or_new, order_test}
-use Rattle.thorin_join.specs.Builder.{same_order, package_or_new}
-use Rattle.thorin_join.specs.State.{InProgress, held_units, adding, with_source, with_all}
+use Rattle.thorin_join.specs.Builder.{same_order, package_or_new, State, taken, names_in}
+use Rattle.thorin_builder.proofs.OwnKept.{taken-as, after-none}
+use Rattle.dwp_table.specs.declared.object.DwarfObject.{DwarfObject}
+use Rattle.dwp_table.specs.declared.object.DwarfObject.TheVariants.{Compilation, TypeUnit}
+use Rattle.thorin_builder.specs.Taking.{with_target}
+use Rattle.thorin_parts.specs.declared.entry.IndexEntry.{IndexEntry}
+use Rattle.thorin_join.specs.Join.{Joins}
+use Rattle.thorin_join.specs.Meaning.{Meaning}
+use Rattle.thorin_join.specs.Represents.{units_begun, units_of, meaning_at}
+use Rattle.thorin_join.specs.State.{InProgress, unit_bytes, held_units, adding, with_source}
+use Rattle.thorin_join.specs.State.{with_all}
 use Rattle.thorin_join.specs.State.{with_new_units}
 use Rattle.thorin_builder.specs.declared.again.Again.{Again}
-use Rattle.thorin_builder.specs.Again.{IsAlike, AddsAlone, AddsAgain, AddsNoUnit, with_more}
-use Rattle.thorin_builder.proofs.Extending.{with_source-is}
-use Rattle.thorin_builder.proofs.HeldAlike.{parts-apart, held-apart}
-use Rattle.thorin_builder.proofs.UnitsAlone.{units-alone}
+use Rattle.thorin_builder.specs.Again.{IsLater, IsLaterBegun, ExtendsBegun, AddsAlone, AddsAgain}
+use Rattle.thorin_builder.specs.Again.{AddsAgainTo, AddsNoUnit, with_more, IsTaken, AreTaken}
+use Rattle.thorin_builder.specs.Again.{Remembers}
+use Rattle.thorin_builder.proofs.Extending.{with_source-is, front-append, extends-refl}
+use Rattle.thorin_builder.specs.StateView.{in_progress_of, begun_of}
+use Rattle.thorin_builder.specs.declared.in_progress.InProgressDwarfPackage.{InProgressDwarfPackage}
+use Rattle.thorin_builder.proofs.PartsApart.{parts-apart, held-apart}
+use Rattle.thorin_builder.proofs.UnitsLater.{units-later}
+use Rattle.thorin_builder.proofs.StringsLater.{parts-later}
 
 -- a step that gives x goes on with it
 bind-ok : {A B E : Type 0} (r : Result A E) (x : A) (f : A → Result B E) → r ≡ Ok x
     → (r >>= f) ≡ f x
 bind-ok r x f h = ap (λ q. q >>= f) h
 
--- ---- packages that are alike
+-- ---- packages that another one became
 
-alike-refl : (made : InProgress) → IsAlike made made
-alike-refl made = record { order = refl; strings = refl; held = refl }
+pub later-refl : (made : InProgress) → IsLater made made
+later-refl made = record {
+  order = refl;
+  strings = take-length made.strings;
+  more = [];
+  held = sym (append-nil (held_units made));
+}
 
--- what is added to a package is added to it as it is then
+-- what stands at the front of a front stands at the front
+front-of-front : {A : Type 0} (a b c : List A) → take (length a) b ≡ a → take (length b) c ≡ b
+    → take (length a) c ≡ a
+front-of-front a b c h k =
+    let whole : b ++ drop (length b) c ≡ c =
+    subst (λ l. l ++ drop (length b) c ≡ c) k (take-append-drop (length b) c) in
+    subst (λ l. take (length a) l ≡ a) whole (front-append a b (drop (length b) c) h)
+
+later-trans : (a b c : InProgress) → IsLater a b → IsLater b c → IsLater a c
+later-trans a b c h k = record {
+  order = k.order ∙ h.order;
+  strings = front-of-front a.strings b.strings c.strings h.strings k.strings;
+  more = h.more ++ k.more;
+  held = k.held ∙ ap (λ l. l ++ k.more) h.held ∙ append_assoc (held_units a) h.more k.more;
+}
+
+-- what is added to a package is added to what it becomes
 pub adds-later : (bytes : List ℕ) (parts : Contents) (differing : List ℕ) (own : Option Encoding)
-    (made : InProgress) → AddsAlone bytes parts differing own made
-    → AddsAlone bytes parts differing own (with_more parts differing made)
-adds-later bytes parts differing own made h =
-    let now = h.alike made (alike-refl made) in
-    let back : (other : InProgress) → IsAlike (with_more parts differing made) other
-    → IsAlike made other = λ other k. record {
-      order = k.order ∙ now.order;
-      strings = k.strings ∙ now.strings;
-      held = k.held ∙ now.held;
-    } in
-    record {
-      own_is = h.own_is;
-      adds = λ other k. h.adds other (back other k);
-      alike = λ other k. let after = h.alike other (back other k) in record {
-        order = after.order ∙ sym now.order;
-        strings = after.strings ∙ sym now.strings;
-        held = after.held ∙ sym now.held;
-      };
-    }
+    (made now : InProgress) → IsLater made now → AddsAlone bytes parts differing own made
+    → AddsAlone bytes parts differing own now
+adds-later bytes parts differing own made now h alone = record {
+  own_is = alone.own_is;
+  adds = λ later k. alone.adds later (later-trans made now later h k);
+  stays = alone.stays;
+}
 
-pub adds-now : (bytes : List ℕ) (parts : Contents) (differing : List ℕ) (own : Option Encoding)
-    (made : InProgress) → AddsAlone bytes parts differing own made
-    → with_input bytes (Some made) ≡ Ok (Some (with_more parts differing made))
-adds-now bytes parts differing own made h = h.adds made (alike-refl made)
+pub adds-now : (bytes : List ℕ) (again : Again) (begun : Option InProgress)
+    → AddsAgainTo bytes again begun
+    → (made : InProgress) × (begun ≡ Some made) × AddsAgain bytes again made
+adds-now bytes again None h = absurd h
+adds-now bytes again (Some made) h = (made, refl, h)
+
+again-later : (bytes : List ℕ) (again : Again) (begun now : Option InProgress)
+    → IsLaterBegun begun now → AddsAgainTo bytes again begun → AddsAgainTo bytes again now
+again-later bytes again None now h adds = absurd adds
+again-later bytes again (Some made) None h adds = absurd h
+again-later bytes again (Some made) (Some later) h adds =
+    adds-later bytes (map part again.parts.items) (map (λ s. s.0) again.differing.items) again.own
+    made later h adds
+
+-- a package that was just begun, and one that stays
+pub none-extends : (p : Option InProgressDwarfPackage) (now : Option InProgress)
+    → is_some p ≡ false → ExtendsBegun (begun_of p) now
+none-extends None now h = tt
+none-extends (Some made) now h = absurd (true≢false h)
+
+pub same-extends : (p : Option InProgressDwarfPackage) → ExtendsBegun (begun_of p) (begun_of p)
+same-extends None = tt
+same-extends (Some made) = extends-refl (in_progress_of made)
+
+-- a package that units were joined to
+pub joined-later : (bytes : List ℕ) (begun now : Option InProgress) → ExtendsBegun begun now
+    → Joins bytes (units_begun begun) (units_begun now) → IsLaterBegun begun now
+joined-later bytes None now h joins = tt
+joined-later bytes (Some made) None h joins = absurd h
+joined-later bytes (Some made) (Some now) h joins = record {
+  order = h.file.order;
+  strings = h.strings;
+  more = map own-bytes joins.added;
+  held = held-is now.file.order now.file.contents now.strings now.rows ∙ ap (map own-bytes) joins.is
+      ∙ map-append own-bytes (units_of made) joins.added
+      ∙ ap (λ l. l ++ map own-bytes joins.added)
+      (sym (held-is made.file.order made.file.contents made.strings made.rows));
+}
+  where
+    own-bytes : DwarfObject × Meaning → DwarfObject × List ℕ
+    own-bytes unit = (unit.0, unit.1.bytes)
+
+    held-is : (order : Endianness) (contents : Contents) (strings : List (List ℕ))
+        (rows : List IndexEntry)
+        → map {B = DwarfObject × List ℕ} (λ row. (row.id, unit_bytes contents row)) rows
+        ≡ map own-bytes (map {B = DwarfObject × Meaning} (λ row.
+        (row.id, meaning_at order contents strings row)) rows)
+    held-is order contents strings [] = refl
+    held-is order contents strings (row ∷ rows) =
+        ap (λ l. (row.id, unit_bytes contents row) ∷ l) (held-is order contents strings rows)
 
 -- ---- an input with units, step by step
 
@@ -134,26 +213,25 @@ no-units-more : (made : InProgress) (parts : Contents) (differing : List ℕ)
 unfolding with_all with_new_units
 no-units-more made parts differing = refl
 
-source-again : (source : Source) (again : Again) (made other : InProgress)
-    → AddsNoUnit source again made → IsAlike made other
-    → with_source source other ≡ Ok (with_more (map part again.parts.items)
-    (map (λ s. s.0) again.differing.items) other)
-source-again source again made other h k =
+source-again : (source : Source) (again : Again) (made later : InProgress)
+    → AddsNoUnit source again made → IsLater made later
+    → with_source source later ≡ Ok (with_more (map part again.parts.items)
+    (map (λ s. s.0) again.differing.items) later)
+source-again source again made later h k =
     let parts = map part again.parts.items in
     let differing = map (λ s. s.0) again.differing.items in
     let new : New = record { units = []; differing = differing } in
-    let given : parts_of source other.strings ≡ Ok (parts, other.strings) =
-    subst (λ s. parts_of source s ≡ Ok (parts, s)) (sym k.strings) h.parts in
-    let units : new_units (adding source other parts) ≡ Ok new =
+    let units : new_units (adding source later parts) ≡ Ok new =
     subst (λ held. new_units (record {
       source = source;
-      whole = whole_row source.encoding other.file.contents parts;
+      whole = whole_row source.encoding later.file.contents parts;
       held = held;
-    }) ≡ Ok new) (sym k.held) (units-alone source (whole_row source.encoding made.file.contents
-    parts) (whole_row source.encoding other.file.contents parts) (held_units made) new h.units
-    refl) in
-    with_source-is source other (parts, other.strings) new given h.abbreviations units ∙ ap Ok
-    (no-units-more other parts differing)
+    }) ≡ Ok new) (sym k.held) (units-later source (whole_row source.encoding made.file.contents
+    parts) (whole_row source.encoding later.file.contents parts) (held_units made) k.more new
+    h.units refl) in
+    with_source-is source later (parts, later.strings) new
+    (parts-later source made.strings later.strings (parts, made.strings) h.parts k.strings)
+    h.abbreviations units ∙ ap Ok (no-units-more later parts differing)
 
 pub input-again : (bytes : List ℕ) (file : Elf) (source : Source) (made : InProgress)
     (again : Again)
@@ -164,15 +242,16 @@ pub input-again : (bytes : List ℕ) (file : Elf) (source : Source) (made : InPr
     → AddsAgain bytes again made
 input-again bytes file source made again h k o e order i found = record {
   own_is = own-is bytes file source.object source.encoding h k o e ∙ ap Ok (sym found.own_is);
-  adds = λ other alike. input-taken bytes file (Some other) _ h k (units-taken file source other _
-      o e (alike.order ∙ sym order) i (source-again source again made other found alike));
-  alike = λ other alike. record {
-    order = alike.order;
-    strings = alike.strings;
-    held = held-apart other (map part again.parts.items) other.strings
-        (other.differing ++ map (λ s. s.0) again.differing.items)
+  adds = λ later after. input-taken bytes file (Some later) _ h k (units-taken file source later _
+      o e (after.order ∙ sym order) i (source-again source again made later found after));
+  stays = λ later. record {
+    order = refl;
+    strings = take-length later.strings;
+    more = [];
+    held = held-apart later (map part again.parts.items) later.strings
+        (later.differing ++ map (λ s. s.0) again.differing.items)
         (parts-apart source made.strings (map part again.parts.items, made.strings) found.parts)
-        ∙ alike.held;
+        ∙ sym (append-nil (held_units later));
   };
 }
 
@@ -185,9 +264,9 @@ pub nothing-again : (bytes : List ℕ) (file : Elf) (made : InProgress)
     → opened bytes ≡ Ok file → has_info file ≡ false → AddsAlone bytes [] [] None made
 nothing-again bytes file made h k = record {
   own_is = own-none bytes file h k;
-  adds = λ other alike. without-units bytes file other h k ∙ ap (λ p. Ok (Some p))
-      (sym (nothing-more other));
-  alike = λ other alike. subst (λ p. IsAlike made p) (sym (nothing-more other)) alike;
+  adds = λ later after. without-units bytes file later h k ∙ ap (λ p. Ok (Some p))
+      (sym (nothing-more later));
+  stays = λ later. subst (λ p. IsLater later p) (sym (nothing-more later)) (later-refl later);
 }
 
 -- what is known of what was found
@@ -197,3 +276,116 @@ pub found-again : (result : Result (Option Again) Error) (P Q : Again → Type 0
 found-again (Ok (Some again)) P Q f h = f again h
 found-again (Ok None) P Q f h = tt
 found-again (Err e) P Q f h = tt
+
+-- ---- what is remembered of objects, by their paths
+
+is-taken-later : (offered : Result (List ℕ) IoError → Type 0) (again : Again)
+    (begun now : Option InProgress) → IsLaterBegun begun now → IsTaken offered again begun
+    → IsTaken offered again now
+is-taken-later offered again begun now h k = record {
+  bytes = k.bytes;
+  may = k.may;
+  adds = again-later k.bytes again begun now h k.adds;
+}
+
+pub are-taken-later : (offer : List ℕ → Result (List ℕ) IoError → Type 0)
+    (es : List (String Global × Again)) (begun now : Option InProgress)
+    → IsLaterBegun begun now → AreTaken offer es begun → AreTaken offer es now
+are-taken-later offer [] begun now h k = tt
+are-taken-later offer (e ∷ es) begun now h k = (
+  is-taken-later (offer (string_bytes e.0)) e.1 begun now h k.0,
+  are-taken-later offer es begun now h k.1,
+)
+
+-- what is found by a path is of that path
+pub taken-found : (offer : List ℕ → Result (List ℕ) IoError → Type 0)
+    (es : List (String Global × Again)) (begun : Option InProgress) (path : List ℕ) (again : Again)
+    → AreTaken offer es begun → lookup (λ k. bytes_eq path (string_bytes k)) es ≡ Some again
+    → IsTaken (offer path) again begun
+taken-found offer [] begun path again k h = absurd (none-some again h)
+taken-found offer (e ∷ es) begun path again k h =
+    by (bytes_eq path (string_bytes e.0)) refl h (taken-found offer es begun path again k.1)
+  where
+    by : (b : Bool) → bytes_eq path (string_bytes e.0) ≡ b
+        → cond b (Some e.1) (lookup (λ k. bytes_eq path (string_bytes k)) es) ≡ Some again
+        → (lookup (λ k. bytes_eq path (string_bytes k)) es ≡ Some again
+        → IsTaken (offer path) again begun)
+        → IsTaken (offer path) again begun
+    by true same is rest =
+        let path_is : path ≡ string_bytes e.0 =
+        (bytes_eq-Decides path (string_bytes e.0)).0 same in
+        subst (λ a. IsTaken (offer path) a begun) (same_Some e.1 again is)
+        (subst (λ p. IsTaken (offer p) e.1 begun) (sym path_is) k.0)
+    by false same is rest = rest is
+
+-- and with one more
+taken-more : (offer : List ℕ → Result (List ℕ) IoError → Type 0)
+    (es : List (String Global × Again)) (begun : Option InProgress) (key : String Global)
+    (again : Again)
+    → AreTaken offer es begun → IsTaken (offer (string_bytes key)) again begun
+    → AreTaken offer (insert_entry string_eq es key again) begun
+taken-more offer [] begun key again k one = (one, tt)
+taken-more offer (e ∷ es) begun key again k one =
+    by (string_eq key e.0) refl (taken-more offer es begun key again k.1 one)
+  where
+    by : (b : Bool) → string_eq key e.0 ≡ b
+        → AreTaken offer (insert_entry string_eq es key again) begun
+        → AreTaken offer (cond b ((e.0, again) ∷ es) (e ∷ insert_entry string_eq es key again))
+        begun
+    by true same rest = (
+      subst (λ p. IsTaken (offer p) again begun)
+          ((bytes_eq-Decides (string_bytes key) (string_bytes e.0)).0 same) one,
+      k.1,
+    )
+    by false same rest = (k.0, rest)
+
+-- and with what bytes that may be read at a path add
+pub taken-remembered : (offer : List ℕ → Result (List ℕ) IoError → Type 0)
+    (old new : List (String Global × Again)) (begun : Option InProgress) (path bytes : List ℕ)
+    → offer path (Ok bytes) → AreTaken offer old begun → Remembers bytes begun path old new
+    → AreTaken offer new begun
+taken-remembered offer old new begun path bytes may k (inl same) =
+    subst (λ es. AreTaken offer es begun) (sym same) k
+taken-remembered offer old new begun path bytes may k (inr (key, again, at, adds, is)) =
+    subst (λ es. AreTaken offer es begun) (sym is) (taken-more offer old begun key again k (record {
+      bytes = bytes;
+      may = subst (λ p. offer p (Ok bytes)) (sym at) may;
+      adds = adds;
+    }))
+
+-- a target changes nothing of the package
+pub target-begun : (target : DwarfObject) (state : State)
+    → (with_target target state).begun ≡ state.begun
+target-begun (Compilation id) state = refl
+target-begun (TypeUnit signature) state = refl
+
+-- ---- what is known is added
+
+-- a package is as late as itself
+pub later-same : (begun : Option InProgress) → IsLaterBegun begun begun
+later-same None = tt
+later-same (Some made) = later-refl made
+
+module _ (bytes : List ℕ) (again : Again) (old : State) (made now : InProgress)
+    (begun : old.begun ≡ Some made) (known : AddsAgainTo bytes again old.begun)
+    (added : now ≡ with_more (map part again.parts.items) (map (λ s. s.0) again.differing.items)
+    made) where
+  known-of : AddsAgain bytes again made
+  known-of = subst (λ b. AddsAgainTo bytes again b) begun known
+
+  pub input-known : with_input bytes old.begun ≡ Ok (Some now)
+  input-known =
+      ap (with_input bytes) begun ∙ known-of.adds made (later-refl made) ∙ ap (λ p. Ok (Some p))
+      (sym added)
+
+  pub taken-known : taken bytes old ≡ Ok (record old { begun = Some now; own = None })
+  taken-known =
+      let names : length (names_in (Some now)) ≡ length (names_in old.begun) =
+      ap (λ p. length (names_in (Some p))) added ∙ ap (λ b. length (names_in b)) (sym begun) in
+      taken-as bytes old (Some now) again.own None input-known known-of.own_is
+      (after-none old (Some now) again.own (length (names_in old.begun))
+      (length (names_in (Some now))) refl refl (omega (arith, names)))
+
+  pub later-known : IsLaterBegun old.begun (Some now)
+  later-known = subst (λ b. IsLaterBegun b (Some now)) (sym begun)
+      (subst (λ p. IsLater made p) (sym added) (known-of.stays made))

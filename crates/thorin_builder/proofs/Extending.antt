@@ -2,7 +2,7 @@
 use Rattle.std.proofs.Common.{◌≡◌, ◌∙◌, ℕ, ◌≤◌, Bool, true, false, cond, List, ◌++◌, length, take}
 use Rattle.std.proofs.Common.{map}
 use Rattle.std.proofs.Common.{min, ap, sym, refl, arith, Ok, Err, Result, true≢false}
-use Rattle.std.specs.Result.{OnErr, is_err}
+use Rattle.std.specs.Result.{OnOk, OnErr, is_err}
 use Rattle.std.proofs.lemmas.List.{length-take, map-append, take-append-le}
 use Rattle.std.proofs.Math.Seq.{take-length}
 use Rattle.dwp_elf.specs.FileText.{Object as File}
@@ -105,3 +105,15 @@ any_result P (Err e) p = p
 pub no_err : {T E : Type 0} (P : Type 0) (r : Result T E) → is_err r ≡ false → OnErr r P
 no_err P (Ok x) h = tt
 no_err P (Err e) h = absurd (true≢false h)
+
+-- what follows of a value and of an error follows of both
+pub either_way : {T E : Type 0} (r : Result T E) (P Q R : Type 0) → OnOk r P → OnErr r Q → (P → R)
+    → (Q → R) → R
+either_way (Ok x) P Q R p q f g = f p
+either_way (Err e) P Q R p q f g = g q
+
+-- what follows of two facts of a value
+pub on_ok-both : {T E : Type 0} (r : Result T E) (P Q R : Type 0) → OnOk r P → OnOk r Q
+    → (P → Q → R) → OnOk r R
+on_ok-both (Ok x) P Q R p q f = f p q
+on_ok-both (Err e) P Q R p q f = tt

@@ -8,5 +8,6 @@ pub mod Grown
 pub mod UnitNames
 pub mod OwnKept
 pub mod AddedAgain
-pub mod HeldAlike
-pub mod UnitsAlone
+pub mod PartsApart
+pub mod UnitsLater
+pub mod StringsLater

@@ -1,6 +1,6 @@
 -- The units that an executable refers to, one after the other.
 use Rattle.std.proofs.Common.{◌≡◌, ◌≢◌, ◌∙◌, ℕ, List, [], ◌∷◌, ◌++◌, refl, sym, ap, subst, arith}
-use Rattle.std.proofs.Common.{false, inl, inr, ◌+◌, ◌≤◌}
+use Rattle.std.proofs.Common.{false}
 use Rattle.std.proofs.Common.{Option, Some, None, Result, Ok, Err, length, take}
 use Rattle.std.proofs.lemmas.List.{append_assoc, append-nil, take_all}
 use Rattle.std.specs.declared.io.Error.{Error as IoError}
@@ -15,7 +15,6 @@ use Rattle.thorin_faults.specs.declared.fault.MissingReferencedObjectBehaviour.{
 use Rattle.thorin_faults.specs.declared.fault.MissingReferencedObjectBehaviour.TheVariants as behaviour
 use Rattle.thorin_faults.specs.Answers.{MemoryAside}
 use Rattle.thorin_executable.specs.Skeletons.{Listed}
-use Rattle.thorin_executable.specs.View.{IsNextNamed}
 use Rattle.std.specs.List.{list_any}
 use Rattle.thorin_join.specs.Builder.{State, names_in}
 use Rattle.thorin_join.specs.Meaning.{keys}
@@ -23,17 +22,22 @@ use Rattle.thorin_input.specs.Names.{same_name, with_name}
 use Rattle.thorin_join.specs.State.{InProgress}
 use Rattle.thorin_join.specs.Represents.{units_in, units_begun}
 use Rattle.thorin_builder.proofs.UnitNames.{keys-units}
-use Rattle.thorin_executable.specs.declared.lending.NamedUnit.{NamedUnit}
 use Rattle.thorin_builder.specs.Taking.{Outcome, with_target, PassesOver, TakesSkeleton, is_there}
-use Rattle.thorin_builder.specs.Taking.{EndsWith, TakesSkeletons, TakesNamed, TakesAbsent}
-use Rattle.thorin_builder.specs.Taking.{CanBePassedOver, AllTaken, TakenUpTo, TakesUpTo, TakesBytes}
-use Rattle.thorin_builder.specs.Taking.{with_first, accepted_of, TakesFileThen, TakesReferredFile}
-use Rattle.thorin_builder.specs.Taking.{GoesUpTo}
+use Rattle.thorin_builder.specs.Taking.{EndsWith, Step, TakesSkeletons, TakesNamed, TakesAbsent}
+use Rattle.thorin_builder.specs.Taking.{CanBePassedOver}
 
 abbrev pub Offer : Type 1
 Offer = List ℕ → Result (List ℕ) IoError → Type 0
 
 -- ---- the units that an executable refers to, up to one
+
+-- each of these was taken
+abbrev pub AllTaken : Offer → MissingReferencedObjectBehaviour → List (DwarfObject × List ℕ) → State
+    → State → List (List ℕ) → Type 0
+AllTaken offer missing [] old new accepted = (new ≡ old) × (accepted ≡ [])
+AllTaken offer missing (named ∷ rest) old new accepted =
+    (s : Step) × TakesSkeleton offer missing named old (Ok tt) s.middle s.here
+    × AllTaken offer missing rest s.middle new s.later × (accepted ≡ s.here ++ s.later)
 
 pub taken-more : (offer : Offer) (missing : MissingReferencedObjectBehaviour)
     (done : List (DwarfObject × List ℕ)) (n : DwarfObject × List ℕ) (old middle new : State)
@@ -73,6 +77,13 @@ taken-then offer missing (d ∷ ds) rest fault old middle new outcome before her
     ap (λ l. l ++ here) all.3 ∙ append_assoc all.0.here all.0.later here,
   ),
 )
+
+-- of all units some were taken, and these are left
+abbrev pub TakenUpTo : Offer → MissingReferencedObjectBehaviour → Listed → Listed → State
+    → State → Type 0
+TakenUpTo offer missing all left old middle =
+    (done : List (DwarfObject × List ℕ)) × (before : List (List ℕ)) × AllTaken offer missing done
+    old middle before × ((done ++ left.0, left.1) ≡ all)
 
 -- none was taken yet
 pub none-taken : (offer : Offer) (missing : MissingReferencedObjectBehaviour) (all : Listed)
@@ -164,152 +175,6 @@ pub list-fault : (offer : Offer) (missing : MissingReferencedObjectBehaviour) (a
 list-fault offer missing all left e old new so_far is = ended offer missing all left
     (Some (fault_of e)) old new (Err e) so_far (λ other.
     is (λ m. other (ap (λ f. Some (fault_of f)) m))) refl
-
--- some were taken, and then some of those that were left
-both-taken : (offer : Offer) (missing : MissingReferencedObjectBehaviour)
-    (done more : List (DwarfObject × List ℕ)) (old middle new : State)
-    (before later : List (List ℕ))
-    → AllTaken offer missing done old middle before → AllTaken offer missing more middle new later
-    → AllTaken offer missing (done ++ more) old new (before ++ later)
-both-taken offer missing [] more old middle new before later all then =
-    subst (λ a. AllTaken offer missing more old new a) (sym (ap (λ l. l ++ later) all.1))
-    (rw (sym all.0) then)
-both-taken offer missing (d ∷ ds) more old middle new before later all then = (
-  record { middle = all.0.middle; here = all.0.here; later = all.0.later ++ later },
-  all.1,
-  both-taken offer missing ds more all.0.middle middle new all.0.later later all.2 then,
-  ap (λ l. l ++ later) all.3 ∙ append_assoc all.0.here all.0.later later,
-)
-
--- some were taken, and then what came of those that were left
-pub go-on : (offer : Offer) (missing : MissingReferencedObjectBehaviour) (all from left : Listed)
-    (old middle new : State) (result : Result (Option NamedUnit) Error) (path : List ℕ)
-    → TakenUpTo offer missing all from old middle
-    → TakesUpTo offer missing from middle result path left new
-    → TakesUpTo offer missing all old result path left new
-go-on offer missing all from left old middle new (Ok next) path (done, before, taken, is)
-    (on, (more, later, then, left_is), comes) = (
-      on,
-      (
-        done ++ more,
-        before ++ later,
-        both-taken offer missing done more old middle new before later taken then,
-        ap (λ l. (l, on.1)) (append_assoc done more on.0) ∙ ap (λ (l : Listed).
-            (done ++ l.0, l.1)) left_is ∙ is,
-      ),
-      comes,
-    )
-go-on offer missing all from left old middle new (Err e) path (done, before, taken, is)
-    (accepted, t) = (
-      before ++ accepted,
-      record {
-        named = done ++ t.named;
-        fault = t.fault;
-        are = λ other. sym is ∙ ap (λ (l : Listed). (done ++ l.0, l.1)) (t.are other);
-        front = ap (λ (l : Listed). take (length (done ++ t.named)) l.0) (sym is) ∙ both-front done
-            t.named from.0 t.front;
-        taken = taken-then offer missing done t.named t.fault old middle new (Err e) before accepted
-            taken t.taken;
-      },
-    )
-  where
-    both-front : (xs ys zs : List (DwarfObject × List ℕ)) → take (length ys) zs ≡ ys
-        → take (length (xs ++ ys)) (xs ++ zs) ≡ xs ++ ys
-    both-front [] ys zs h = h
-    both-front (x ∷ xs) ys zs h = ap (λ l. x ∷ l) (both-front xs ys zs h)
-
--- the first was taken, and then what came of the others
-pub after-first : (offer : Offer) (missing : MissingReferencedObjectBehaviour)
-    (n : DwarfObject × List ℕ) (rest left : Listed) (old middle new : State)
-    (result : Result (Option NamedUnit) Error) (path : List ℕ) (here : List (List ℕ))
-    → TakesSkeleton offer missing n old (Ok tt) middle here
-    → TakesUpTo offer missing rest middle result path left new
-    → TakesUpTo offer missing (with_first n rest) old result path left new
-after-first offer missing n rest left old middle new result path here took then =
-    go-on offer missing (with_first n rest) rest left old middle new result path
-    (next-taken offer missing (with_first n rest) (with_first n rest) rest n old old middle here
-    (none-taken offer missing (with_first n rest) old) refl took) then
-
--- the first was refused
-pub first-refused : (offer : Offer) (missing : MissingReferencedObjectBehaviour)
-    (n : DwarfObject × List ℕ) (rest left : Listed) (old new : State) (e : Error)
-    (path : List ℕ) (here : List (List ℕ))
-    → TakesSkeleton offer missing n old (Err e) new here
-    → TakesUpTo offer missing (with_first n rest) old (Err e) path left new
-first-refused offer missing n rest left old new e path here took =
-    next-refused offer missing (with_first n rest) (with_first n rest) rest n old old new e here
-    (none-taken offer missing (with_first n rest) old) refl took
-
--- none was taken, and one comes next, or none, or a fault
-pub next-comes : (offer : Offer) (missing : MissingReferencedObjectBehaviour)
-    (listed left : Listed) (state : State) (result : Result (Option NamedUnit) Error)
-    (path : List ℕ) → IsNextNamed listed result path left
-    → TakesUpTo offer missing listed state result path left state
-next-comes offer missing listed left state (Ok next) path h =
-    (listed, none-taken offer missing listed state, h)
-next-comes offer missing listed left state (Err e) path h =
-    list-fault offer missing listed listed e state state (none-taken offer missing listed state) h
-
--- some were taken, and then one comes next, or none
-pub comes-then : (offer : Offer) (missing : MissingReferencedObjectBehaviour)
-    (all from left : Listed) (old middle : State) (next : Option NamedUnit) (path : List ℕ)
-    → TakenUpTo offer missing all from old middle → IsNextNamed from (Ok next) path left
-    → TakesUpTo offer missing all old (Ok next) path left middle
-comes-then offer missing all from left old middle next path taken h = (from, taken, h)
-
--- the object of a unit that isn't there was taken, and then what came of the units behind it
-pub file-then : (offer : Offer) (missing : MissingReferencedObjectBehaviour)
-    (n : DwarfObject × List ℕ) (listed left : Listed) (old with new : State)
-    (result : Result (Option NamedUnit) Error) (path : List ℕ)
-    → is_there n.0 old ≡ false → with ≡ with_target n.0 old
-    → TakesFileThen offer missing n.1 listed with result path left new
-    → TakesUpTo offer missing (with_first n listed) old result path left new
-file-then offer missing n listed left old with new result path absent is t =
-    by t.first t.middle (subst (λ s. TakesReferredFile (offer n.1) missing s t.first t.middle) is
-    t.file) t.rest
-  where
-    by : (first : Outcome) (middle : State)
-        → TakesReferredFile (offer n.1) missing (with_target n.0 old) first middle
-        → GoesUpTo offer missing first middle listed result path left new
-        → TakesUpTo offer missing (with_first n listed) old result path left new
-    by (Ok x) middle file rest =
-        after-first offer missing n listed left old middle new result path file.accepted
-        (inr (inl (record { absent = absent; file = file; accepted_is = refl }))) rest
-    by (Err e) middle file rest =
-        subst (λ r. TakesUpTo offer missing (with_first n listed) old r path left new) (sym rest.0)
-        (subst (λ s. TakesUpTo offer missing (with_first n listed) old (Err e) path left s)
-        (sym rest.1) (first-refused offer missing n listed left old middle e path file.accepted
-        (inr (inl (record { absent = absent; file = file; accepted_is = refl })))))
-
--- what is left behind the first isn't longer
-pub one-left : (from rest : Listed) (n : DwarfObject × List ℕ) (size : ℕ)
-    → from ≡ (n ∷ rest.0, rest.1) → length from.0 ≤ size → length rest.0 + 1 ≤ size
-one-left from rest n size is h =
-    let e : length from.0 ≡ length (n ∷ rest.0) = ap (λ (l : Listed). length l.0) is in
-    omega (arith, e, h)
-
--- an object whose bytes may be read at a path was taken for a unit that names it
-pub took-bytes : (offer : Offer) (missing : MissingReferencedObjectBehaviour)
-    (n : DwarfObject × List ℕ) (bytes : List ℕ) (old new : State) (outcome : Outcome)
-    → offer n.1 (Ok bytes) → TakesBytes bytes n.0 old outcome new
-    → (here : List (List ℕ)) × TakesSkeleton offer missing n old outcome new here
-took-bytes offer missing n bytes old new outcome may (inl there) =
-    ([], inl (there.0, there.1, there.2, refl))
-took-bytes offer missing n bytes old new outcome may (inr (inl took)) = (
-  accepted_of outcome bytes,
-  inr (inl (record {
-    absent = took.0;
-    file = record {
-      read = Ok bytes;
-      within = may;
-      accepted = accepted_of outcome bytes;
-      taken = (took.1, refl);
-    };
-    accepted_is = refl;
-  })),
-)
-took-bytes offer missing n bytes old new outcome may (inr (inr memory)) =
-    ([], inr (inr (memory.0, memory.1, refl)))
 
 -- a failed read that is passed over, or isn't
 pub passed-over : (missing : MissingReferencedObjectBehaviour) (cause : IoError) (outcome : Outcome)

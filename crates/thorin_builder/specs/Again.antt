@@ -1,6 +1,11 @@
--- An input that adds no unit to a package, however often it is taken.
-use Rattle.std.specs.Prelude.{◌≡◌, ℕ, true, List, [], ◌++◌, map, Option, Some, None, Ok}
+-- What an object adds that adds no unit, however often it is taken.
+use Rattle.std.specs.Prelude.{◌≡◌, ℕ, true, List, [], ◌∷◌, ◌++◌, map, take, length, Option, Some}
+use Rattle.std.specs.Prelude.{None, Result, Ok, String, string_bytes, string_eq, ◌⊎◌}
+use Rattle.std.specs.Global.{Global}
+use Rattle.std.specs.declared.io.Error.{Error as IoError}
+use Rattle.indexmap.specs.IndexMap.{insert_entry}
 use Rattle.dwp_bytes.specs.declared.encoding.Encoding.{Encoding}
+use Rattle.dwp_table.specs.declared.object.DwarfObject.{DwarfObject}
 use Rattle.thorin_input.specs.Encodings.{own_encoding, one_encoding}
 use Rattle.thorin_input.specs.Growing.{Contents, with_parts}
 use Rattle.thorin_input.specs.Indexes.{Source}
@@ -8,14 +13,27 @@ use Rattle.thorin_input.specs.NewUnits.{new_units}
 use Rattle.thorin_input.specs.Parts.{parts_of}
 use Rattle.thorin_input.specs.View.{part}
 use Rattle.thorin_join.specs.Builder.{with_input}
-use Rattle.thorin_join.specs.State.{InProgress, held_units, adding}
+use Rattle.thorin_join.specs.State.{InProgress, Extends, held_units, adding}
 use Rattle.thorin_builder.specs.declared.again.Again.{Again}
 
--- of another package this is the same: all that an input which adds no unit and no string reads
-pub record IsAlike (made other : InProgress) : Type 0 where
-  pub order : other.file.order ≡ made.file.order
-  pub strings : other.strings ≡ made.strings
-  pub held : held_units other ≡ held_units made
+-- a package that another one became: of its byte order, with its strings and its units in front
+pub record IsLater (made later : InProgress) : Type 0 where
+  pub order : later.file.order ≡ made.file.order
+  pub strings : take (length made.strings) later.strings ≡ made.strings
+  pub more : List (DwarfObject × List ℕ)
+  pub held : held_units later ≡ held_units made ++ more
+
+-- the same where an input may have begun it
+abbrev pub IsLaterBegun : Option InProgress → Option InProgress → Type 0
+IsLaterBegun None later = Unit {0}
+IsLaterBegun (Some made) None = ⊥
+IsLaterBegun (Some made) (Some later) = IsLater made later
+
+-- nothing of what it had is lost
+abbrev pub ExtendsBegun : Option InProgress → Option InProgress → Type 0
+ExtendsBegun None now = Unit {0}
+ExtendsBegun (Some before) None = ⊥
+ExtendsBegun (Some before) (Some now) = Extends before now
 
 -- a package with these parts and these signatures of type units more
 abbrev pub with_more : Contents → List ℕ → InProgress → InProgress
@@ -24,14 +42,13 @@ with_more parts differing made = record made {
   differing = made.differing ++ differing;
 }
 
--- an input adds these alone to a package, and to each that is alike, as the package then is
+-- an input adds these alone to a package, and to each that it becomes
 pub record AddsAlone (bytes : List ℕ) (parts : Contents) (differing : List ℕ)
     (own : Option Encoding) (made : InProgress) : Type 0 where
   pub own_is : own_encoding bytes ≡ Ok own
-  pub adds : (other : InProgress) → IsAlike made other
-      → with_input bytes (Some other) ≡ Ok (Some (with_more parts differing other))
-  pub alike : (other : InProgress) → IsAlike made other
-      → IsAlike made (with_more parts differing other)
+  pub adds : (later : InProgress) → IsLater made later
+      → with_input bytes (Some later) ≡ Ok (Some (with_more parts differing later))
+  pub stays : (later : InProgress) → IsLater later (with_more parts differing later)
 
 -- the same of what is remembered
 abbrev pub AddsAgain : List ℕ → Again → InProgress → Type 0
@@ -51,3 +68,24 @@ pub record AddsNoUnit (source : Source) (again : Again) (made : InProgress) : Ty
   pub units : new_units (adding source made (map part again.parts.items))
       ≡ Ok (record { units = []; differing = map (λ s. s.0) again.differing.items })
   pub own_is : again.own ≡ one_encoding source.object source.encoding
+
+-- bytes that may be read at a path add what is remembered
+pub record IsTaken (offered : Result (List ℕ) IoError → Type 0) (again : Again)
+    (begun : Option InProgress) : Type 0 where
+  pub bytes : List ℕ
+  pub may : offered (Ok bytes)
+  pub adds : AddsAgainTo bytes again begun
+
+-- nothing more is remembered, or what bytes that were read at a path add
+abbrev pub Remembers : List ℕ → Option InProgress → (path : List ℕ)
+    → (old new : List (String Global × Again)) → Type 0
+Remembers bytes begun path old new = (new ≡ old) ⊎ ((key : String Global) × (again : Again)
+    × (string_bytes key ≡ path) × AddsAgainTo bytes again begun
+    × (new ≡ insert_entry string_eq old key again))
+
+-- so do bytes at each of these paths what is remembered there
+abbrev pub AreTaken : (List ℕ → Result (List ℕ) IoError → Type 0) → List (String Global × Again)
+    → Option InProgress → Type 0
+AreTaken offer [] begun = Unit {0}
+AreTaken offer (e ∷ es) begun =
+    IsTaken (offer (string_bytes e.0)) e.1 begun × AreTaken offer es begun

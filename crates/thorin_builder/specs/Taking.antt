@@ -1,6 +1,6 @@
 -- What comes of an input: its bytes taken, those at a path, those that an executable names.
-use Rattle.std.specs.Prelude.{◌≡◌, ◌≢◌, ℕ, suc, Bool, true, false, List, [], ◌∷◌, ◌++◌, take}
-use Rattle.std.specs.Prelude.{length, Option, Some, None, Result, Ok, Err, OnOk, OnErr, ◌⊎◌}
+use Rattle.std.specs.Prelude.{◌≡◌, ◌≢◌, ℕ, Bool, true, false, List, [], ◌∷◌, ◌++◌, take, length}
+use Rattle.std.specs.Prelude.{Option, Some, None, Result, Ok, Err, OnOk, OnErr, ◌⊎◌, IsTrue}
 use Rattle.std.specs.List.{list_any}
 use Rattle.std.specs.declared.io.Error.{Error as IoError}
 use Rattle.thorin_faults.specs.declared.fault.Error.{Error}
@@ -11,8 +11,6 @@ use Rattle.thorin_faults.specs.Fault.{Fault, fault_of, Memory}
 use Rattle.thorin_faults.specs.declared.fault.MissingReferencedObjectBehaviour.{MissingReferencedObjectBehaviour}
 use Rattle.thorin_faults.specs.declared.fault.MissingReferencedObjectBehaviour.TheVariants as behaviour
 use Rattle.thorin_executable.specs.Skeletons.{Listed, skeletons_of, named_skeletons_of}
-use Rattle.thorin_executable.specs.View.{IsNextNamed}
-use Rattle.thorin_executable.specs.declared.lending.NamedUnit.{NamedUnit}
 use Rattle.dwp_table.specs.declared.object.DwarfObject.{DwarfObject}
 use Rattle.dwp_table.specs.declared.object.DwarfObject.TheVariants.{Compilation, TypeUnit}
 use Rattle.thorin_faults.specs.Answers.{Gives}
@@ -95,6 +93,11 @@ pub record CanBePassedOver (offered : Result (List ℕ) IoError → Type 0)
   pub fails : offered (Err cause)
   pub skips : missing ≡ behaviour.Skip
 
+-- that is known, or nothing is
+abbrev pub IsUnread : (Result (List ℕ) IoError → Type 0) → MissingReferencedObjectBehaviour → Bool
+    → Type 0
+IsUnread offered missing is_unread = IsTrue is_unread → CanBePassedOver offered missing
+
 -- the same for the object at a path, of which that may be read
 pub record TakesReferredFile (offered : Result (List ℕ) IoError → Type 0) (missing :
     MissingReferencedObjectBehaviour) (old : State) (outcome : Outcome) (new : State) : Type 0 where
@@ -160,71 +163,6 @@ pub record TakesNamed (offer : List ℕ → Result (List ℕ) IoError
   pub are : fault ≢ Some Memory → meaning ≡ (named, fault)
   pub front : take (length named) meaning.0 ≡ named
   pub taken : TakesSkeletons offer missing named fault old outcome new accepted
-
--- ---- units in turn, up to one that comes next
-
--- each of these was taken
-abbrev pub AllTaken : (List ℕ → Result (List ℕ) IoError → Type 0) → MissingReferencedObjectBehaviour
-    → List (DwarfObject × List ℕ) → State → State → List (List ℕ) → Type 0
-AllTaken offer missing [] old new accepted = (new ≡ old) × (accepted ≡ [])
-AllTaken offer missing (named ∷ rest) old new accepted =
-    (s : Step) × TakesSkeleton offer missing named old (Ok tt) s.middle s.here
-    × AllTaken offer missing rest s.middle new s.later × (accepted ≡ s.here ++ s.later)
-
--- of all units some were taken, and these are left
-abbrev pub TakenUpTo : (List ℕ → Result (List ℕ) IoError → Type 0)
-    → MissingReferencedObjectBehaviour → Listed → Listed → State → State → Type 0
-TakenUpTo offer missing all left old middle =
-    (done : List (DwarfObject × List ℕ)) × (before : List (List ℕ)) × AllTaken offer missing done
-    old middle before × ((done ++ left.0, left.1) ≡ all)
-
--- units were taken up to one that comes next and isn't taken yet, or to the end; or up to the first
--- refusal, or to the fault that ends the list
-abbrev pub TakesUpTo : (List ℕ → Result (List ℕ) IoError → Type 0)
-    → MissingReferencedObjectBehaviour → Listed → State → Result (Option NamedUnit) Error
-    → List ℕ → Listed → State → Type 0
-TakesUpTo offer missing all old (Ok next) path left new =
-    (from : Listed) × TakenUpTo offer missing all from old new
-    × IsNextNamed from (Ok next) path left
-TakesUpTo offer missing all old (Err e) path left new =
-    (accepted : List (List ℕ)) × TakesNamed offer missing all old (Err e) new accepted
-
--- a list with one unit more, before the others
-abbrev pub with_first : DwarfObject × List ℕ → Listed → Listed
-with_first named rest = (named ∷ rest.0, rest.1)
-
--- how many units there are, with the one that comes next
-abbrev pub count_with : Option NamedUnit → Listed → ℕ
-count_with None left = 0
-count_with (Some unit) left = suc (length left.0)
-
--- what came of an object, and then of the units behind it, unless it was refused
-abbrev pub GoesUpTo : (List ℕ → Result (List ℕ) IoError → Type 0)
-    → MissingReferencedObjectBehaviour → Outcome → State → Listed
-    → Result (Option NamedUnit) Error → List ℕ → Listed → State → Type 0
-GoesUpTo offer missing (Ok x) middle listed result path left new =
-    TakesUpTo offer missing listed middle result path left new
-GoesUpTo offer missing (Err e) middle listed result path left new =
-    (result ≡ Err e) × (new ≡ middle)
-
--- the object at a path was taken, and then units behind it
-pub record TakesFileThen (offer : List ℕ → Result (List ℕ) IoError → Type 0)
-    (missing : MissingReferencedObjectBehaviour) (path : List ℕ) (listed : Listed) (old : State)
-    (result : Result (Option NamedUnit) Error) (after : List ℕ) (left : Listed)
-    (new : State) : Type 0 where
-  pub first : Outcome
-  pub middle : State
-  pub file : TakesReferredFile (offer path) missing old first middle
-  pub rest : GoesUpTo offer missing first middle listed result after left new
-
--- a unit that an executable refers to, whose object has these bytes: it is there; or they were
--- taken;
--- or memory ran out before
-abbrev pub TakesBytes : List ℕ → DwarfObject → State → Outcome → State → Type 0
-TakesBytes bytes target old outcome new =
-    ((is_there target old ≡ true) × (outcome ≡ Ok tt) × (new ≡ old))
-    ⊎ (((is_there target old ≡ false) × Takes bytes (with_target target old) outcome new)
-    ⊎ ((outcome ≡ Err error.Memory) × (new ≡ old)))
 
 -- what a read of an executable gave was taken; `names` says which units its bytes name
 abbrev pub TakesExecutableRead : (names : List ℕ → Listed)

@@ -1,16 +1,15 @@
 //! What an object's bytes make of a package.
 
-ghost use Rattle.std.specs.Prelude.{◌≡◌, Ok, OnErr, OnOk, IfOk, IfSome};
+ghost use Rattle.std.specs.Prelude.{◌≡◌, Ok, OnErr, OnOk, IfOk};
 ghost use Rattle.dwp_elf_read.specs.View.{elf};
 ghost use Rattle.thorin_faults.specs.Answers.{Gives};
 ghost use Rattle.thorin_join.specs.Builder as spec;
 ghost use Rattle.thorin_input.specs.Encodings.{file_encoding, own_encoding, are_alike};
-ghost use Rattle.thorin_builder.specs.Again.{AddsAgainTo};
+ghost use Rattle.thorin_builder.specs.Again.{ExtendsBegun};
 ghost use Rattle.thorin_builder.specs.StateView.{in_progress_of, begun_of};
 ghost use Rattle.thorin_input.specs.Used.{input_file_of};
 ghost use Rattle.thorin_input.specs.View as view;
 
-use crate::again::Again;
 use crate::in_progress::InProgressDwarfPackage;
 use dwp_base::Endianness;
 use dwp_dwarf::Encoding;
@@ -56,6 +55,8 @@ fn add_source(
     ensures meaning { Gives (λ _. begun_of in_progress.new) result (spec.with_source_or_new
         (elf file.now) (view.source source.now) (begun_of in_progress.old)) }
     ensures err { OnErr result (begun_of in_progress.new ≡ begun_of in_progress.old) }
+    ensures extends { OnOk result
+        (ExtendsBegun (begun_of in_progress.old) (begun_of in_progress.new)) }
 {
     match in_progress {
         Some(package) => package.add(source),
@@ -81,6 +82,8 @@ fn add_units(
     ensures meaning { Gives (λ _. begun_of in_progress.new) result
         (spec.with_units (elf file.now) (begun_of in_progress.old)) }
     ensures err { OnErr result (begun_of in_progress.new ≡ begun_of in_progress.old) }
+    ensures extends { OnOk result
+        (ExtendsBegun (begun_of in_progress.old) (begun_of in_progress.new)) }
 {
     let encoding = object.encoding()?;
     test_order(in_progress, object.order)?;
@@ -100,7 +103,7 @@ fn add_units(
 /// the used sections, the first unit, the byte order, the indexes, the kinds of sections and the
 /// string offsets, the abbreviations, the units. An `Err` leaves the package as it was.
 #[tactic(auto, unfolding(thorin_join::specs::Builder::with_input, thorin_join::specs::Builder::with_units, thorin_input::specs::Encodings::own_encoding))]
-fn add_input(
+pub(crate) fn add_input(
     alloc: Global,
     in_progress: &mut Option<InProgressDwarfPackage>,
     bytes: &[u8],
@@ -109,6 +112,8 @@ fn add_input(
     ensures meaning { Gives (λ _.
         begun_of in_progress.new) result (spec.with_input bytes.now (begun_of in_progress.old)) }
     ensures err { OnErr result (begun_of in_progress.new ≡ begun_of in_progress.old) }
+    ensures extends { OnOk result
+        (ExtendsBegun (begun_of in_progress.old) (begun_of in_progress.new)) }
 {
     let file = opened(bytes)?;
     let walked = Walked::over(alloc, &file);
@@ -120,31 +125,4 @@ fn add_input(
         *in_progress = Some(begun_by(alloc, &file));
     }
     Ok(None)
-}
-
-/// The same, where it may be known what the input adds: no unit and no string.
-pub(crate) fn add_known_input(
-    alloc: Global,
-    in_progress: &mut Option<InProgressDwarfPackage>,
-    bytes: &[u8],
-    again: &Option<Again<'_>>,
-) -> Result<Option<Encoding>, Error>
-    requires { IfSome again.now (λ again. AddsAgainTo bytes.now again (begun_of in_progress.old)) }
-    ensures own { IfOk result (λ own. own_encoding bytes.now ≡ Ok own) }
-    ensures meaning { Gives (λ _.
-        begun_of in_progress.new) result (spec.with_input bytes.now (begun_of in_progress.old)) }
-    ensures err { OnErr result (begun_of in_progress.new ≡ begun_of in_progress.old) }
-    ensures again { OnOk result (IfSome again.now (λ again.
-        AddsAgainTo bytes.now again (begun_of in_progress.new))) }
-{
-    let Some(again) = again else {
-        return add_input(alloc, in_progress, bytes);
-    };
-    match in_progress {
-        Some(package) => {
-            package.add_again(again)?;
-            Ok(again.own)
-        }
-        None => add_input(alloc, in_progress, bytes),
-    }
 }

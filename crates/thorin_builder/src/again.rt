@@ -1,5 +1,5 @@
-//! An object that is taken again and again, since an executable names it for many units: what it
-//! adds is remembered.
+//! What an object adds each time that it is taken, where that is no unit and no string: an executable
+//! may name it for many units.
 
 ghost use Rattle.std.specs.Prelude.{◌≡◌, map, Some, OnOk, OnErr, IfOk, IfErr, IfSome};
 ghost use Rattle.dwp_elf.specs.FileText.{Object};
@@ -16,13 +16,13 @@ use dwp_elf::WritableObject;
 use dwp_table::DebugTypeSignature;
 use std::alloc::Global;
 use thorin_faults::Error;
-use thorin_input::{Indexes, Part, Source, Walked, Whole, opened, parts_of, put};
+use thorin_input::{Indexes, Part, PartBytes, Source, Walked, Whole, opened, parts_of, put};
 
 /// What an input adds to a package each time that it is taken, where that is no unit and no string:
 /// parts of sections, and the signatures of its type units that differ from those kept.
 #[derive(Drop)]
-pub(crate) struct Again<'a> {
-    pub parts: Vec<Part<'a>>,
+pub(crate) struct Again {
+    pub parts: Vec<Part<'static>>,
     pub differing: Vec<DebugTypeSignature>,
     /// The one encoding of all its units, where there is one.
     pub own: Option<Encoding>,
@@ -43,10 +43,26 @@ fn put_each(file: &mut WritableObject, parts: &[Part<'_>]) -> Result<(), Error>
     Ok(())
 }
 
+/// Parts with bytes of their own.
+fn copied(alloc: Global, parts: &[Part<'_>]) -> Result<Vec<Part<'static>>, Error>
+    ensures { IfOk result (λ copies. map view.part copies.items ≡ map view.part parts.now) }
+{
+    let mut copies = Vec::new(alloc);
+    for part in parts {
+        let mut bytes = Vec::new(alloc);
+        bytes.extend_from_slice(part.bytes())?;
+        copies.push(Part {
+            kind: part.kind,
+            bytes: PartBytes::Rewritten(bytes),
+        })?;
+    }
+    Ok(copies)
+}
+
 impl InProgressDwarfPackage {
     /// What an input adds, where that is no unit and no string; else None, or the input's first
     /// error. The package stays as it is.
-    pub(crate) fn adds_again<'a>(&mut self, bytes: &'a [u8]) -> Result<Option<Again<'a>>, Error>
+    pub(crate) fn adds_again(&mut self, bytes: &[u8]) -> Result<Option<Again>, Error>
         ensures same { in_progress_of self.new ≡ in_progress_of self.old }
         ensures found { IfOk result (λ found. IfSome found (λ again.
             AddsAgain bytes.now again (in_progress_of self.old))) }
@@ -74,7 +90,7 @@ impl InProgressDwarfPackage {
     }
 
     /// The same of an input whose sections, encoding and indexes are known.
-    fn source_adds_again<'a>(&mut self, source: &Source<'a>) -> Result<Option<Again<'a>>, Error>
+    fn source_adds_again(&mut self, source: &Source<'_>) -> Result<Option<Again>, Error>
         ensures same { in_progress_of self.new ≡ in_progress_of self.old }
         ensures found { IfOk result (λ found. IfSome found (λ again.
             AddsNoUnit (view.source source.now) again (in_progress_of self.old))) }
@@ -86,7 +102,7 @@ impl InProgressDwarfPackage {
     }
 
     /// The same, but it may leave strings behind those before.
-    fn try_again<'a>(&mut self, source: &Source<'a>) -> Result<Option<Again<'a>>, Error>
+    fn try_again(&mut self, source: &Source<'_>) -> Result<Option<Again>, Error>
         ensures found { IfOk result (λ found. IfSome found (λ again.
             AddsNoUnit (view.source source.now) again (in_progress_of self.old))) }
         ensures extends { spec.Extends (in_progress_of self.old) (in_progress_of self.new) }
@@ -109,7 +125,7 @@ impl InProgressDwarfPackage {
         }
         let own = source.object.one_encoding(source.encoding, new.alike);
         Ok(Some(Again {
-            parts,
+            parts: copied(alloc, &parts)?,
             differing: new.differing,
             own,
         }))
@@ -117,11 +133,13 @@ impl InProgressDwarfPackage {
 
     /// Adds what an input adds that adds no unit and no string. An `Err` leaves the package as it
     /// was; it is for memory alone.
-    pub(crate) fn add_again(&mut self, again: &Again<'_>) -> Result<(), Error>
+    pub(crate) fn add_again(&mut self, again: &Again) -> Result<(), Error>
         ensures added { OnOk result (in_progress_of self.new
             ≡ with_more (map view.part again.now.parts.items)
             (map (λ s. s.0) again.now.differing.items) (in_progress_of self.old)) }
         ensures refused { IfErr result (λ e. e ≡ Error.Memory) }
+        ensures extends { OnOk result
+            (spec.Extends (in_progress_of self.old) (in_progress_of self.new)) }
         ensures err { OnErr result (in_progress_of self.new ≡ in_progress_of self.old) }
     {
         let mark = self.mark()?;
@@ -133,7 +151,7 @@ impl InProgressDwarfPackage {
     }
 
     /// The same, but an `Err` may leave more than there was.
-    fn try_add_again(&mut self, again: &Again<'_>) -> Result<(), Error>
+    fn try_add_again(&mut self, again: &Again) -> Result<(), Error>
         ensures added { OnOk result (in_progress_of self.new
             ≡ with_more (map view.part again.now.parts.items)
             (map (λ s. s.0) again.now.differing.items) (in_progress_of self.old)) }

@@ -1,23 +1,47 @@
 //! The objects that executables name (DWARF 5, 3.1.2; the GNU page DebugFission).
 
-ghost use Rattle.std.specs.Prelude.{◌≡◌, ◌≤◌, ℕ, List, length, Ok, OnOk, IfOk, IfSome};
+ghost use Rattle.std.specs.Prelude.{◌≡◌, ℕ, List, IsTrue, Option, OnOk};
 ghost use Rattle.std.specs.Path.{path_bytes};
 ghost use Rattle.thorin_builder.specs.Taking.{TakesExecutable, TakesExecutableSkippingNameless};
-ghost use Rattle.thorin_builder.specs.Taking.{TakesExecutableBy, TakesNamed, CanBePassedOver};
-ghost use Rattle.thorin_builder.specs.Taking.{TakesUpTo, TakesFileThen, TakesBytes, is_there};
-ghost use Rattle.thorin_builder.specs.Taking.{with_first, count_with};
-ghost use Rattle.thorin_builder.specs.Again.{AddsAgainTo};
+ghost use Rattle.thorin_builder.specs.Taking.{TakesExecutableBy, TakesNamed, TakesSkeleton};
+ghost use Rattle.thorin_builder.specs.Taking.{TakesReferredFile, Takes, IsUnread, is_there};
+ghost use Rattle.thorin_builder.specs.Again.{AddsAgainTo, AreTaken, IsLaterBegun, Remembers};
+ghost use Rattle.thorin_join.specs.State.{InProgress};
 ghost use Rattle.thorin_executable.specs.Skeletons.{skeletons_by};
-ghost use Rattle.thorin_executable.specs.View.{named_at};
 
 use crate::again::Again;
 use crate::package::DwarfPackage;
 use crate::reader::InputReader;
 use dwp_bytes::RelocationEntry;
 use dwp_table::DwarfObject;
+use indexmap::IndexMap;
+use std::alloc::Global;
 use std::path::Path;
 use thorin_executable::{NamedUnit, NamedUnits, NamelessUnits};
 use thorin_faults::{Error, InputError, MissingReferencedObjectBehaviour, Session};
+
+/// Whether what was known of the path of the unit before is known of a unit's path.
+fn is_still(was_known: bool, unit: NamedUnit) -> bool
+    ensures { IsTrue result → IsTrue was_known × IsTrue unit.is_repeated }
+{
+    was_known && unit.is_repeated
+}
+
+/// A split unit that an executable names, and the path of its object.
+#[derive(Clone, Copy)]
+struct Named<'u> {
+    target: DwarfObject,
+    path: &'u str,
+}
+
+/// What is known of the objects of the units so far.
+#[derive(Drop)]
+struct Known {
+    /// Whether that of the unit before can't be read, and is passed over.
+    is_unread: bool,
+    /// What each of those adds, by its path, that adds no unit and no string when it is taken again.
+    taken: IndexMap<String, Again>,
+}
 
 impl<'output, 'session: 'output, Sess: Session<RelocationEntry>> DwarfPackage<
     'output,
@@ -71,7 +95,8 @@ impl<'output, 'session: 'output, Sess: Session<RelocationEntry>> DwarfPackage<
 
     /// Adds the objects that an executable names, as `add_executable` does, but a reader reads the
     /// files: each object into `room`, which is free again afterwards, and the executable into room
-    /// of its own. Beside the executable no more than one object and one path are held. The
+    /// of its own. Beside the executable no more than one object and one path are held, and what
+    /// those objects add that lack the unit for which they were read: they are read once. The
     /// executable's relocations are placed in the session.
     ///
     /// # Errors
@@ -162,145 +187,54 @@ impl<'output, 'session: 'output, Sess: Session<RelocationEntry>> DwarfPackage<
             units.old.listed self.old.state result self.new.state accepted }
         ensures session { self.new.session ≡ self.old.session }
     {
-        let mut next = units.next()?;
-        while let Some(unit) = next {
-            next = self.add_skeleton(reader, room, units, unit, missing)?;
+        let mut known = Known {
+            is_unread: false,
+            taken: IndexMap::new(self.allocator()),
+        };
+        while let Some(unit) = units.next()? {
+            known.is_unread = is_still(known.is_unread, unit);
+            let named = Named {
+                target: unit.target,
+                path: units.path(),
+            };
+            self.add_skeleton(reader, room, named, missing, &mut known)?;
         }
         Ok(())
     }
 
-    /// Adds the object of a unit that an executable refers to, and those of the units behind it
-    /// that name the same object in turn. Gives the unit that comes next.
+    /// Adds the object of a unit that an executable refers to. One that couldn't be read at this
+    /// path for the unit before isn't read again where it is passed over, nor is one of which it is
+    /// known what it adds.
     fn add_skeleton<R: InputReader>(
         &mut self,
         reader: &R,
         room: &mut Vec<u8>,
-        units: &mut NamedUnits<'_>,
-        unit: NamedUnit,
+        named: Named<'_>,
         missing: MissingReferencedObjectBehaviour,
-    ) -> Result<Option<NamedUnit>, Error>
-        ensures taken { TakesUpTo (R.offer reader.now) missing
-            (with_first (named_at units.old.path unit) units.old.listed) self.old.state result
-            units.new.path units.new.listed self.new.state }
-        ensures shorter { IfOk result (λ next.
-            count_with next units.new.listed ≤ length units.old.listed.0) }
-        ensures session { self.new.session ≡ self.old.session }
-    {
-        if self.is_there(unit.target) {
-            return units.next();
-        }
-        self.add_target(unit.target)?;
-        self.add_referred(reader, room, units, missing)
-    }
-
-    /// Adds the object at the path of the unit that came last, and once more for each unit behind
-    /// it that names the same object in turn. One that can't be read may be passed over.
-    fn add_referred<R: InputReader>(
-        &mut self,
-        reader: &R,
-        room: &mut Vec<u8>,
-        units: &mut NamedUnits<'_>,
-        missing: MissingReferencedObjectBehaviour,
-    ) -> Result<Option<NamedUnit>, Error>
-        ensures taken { TakesFileThen (R.offer reader.now) missing units.old.path units.old.listed
-            self.old.state result units.new.path units.new.listed self.new.state }
-        ensures shorter { IfOk result (λ next.
-            count_with next units.new.listed ≤ length units.old.listed.0) }
-        ensures session { self.new.session ≡ self.old.session }
-    {
-        match reader.read_into(Path::new(units.path()), room) {
-            Ok(bytes) => {
-                self.add_object_bytes(bytes)?;
-                self.add_repeated(reader, units, bytes, missing)
-            }
-            Err(InputError::Io(e)) => match missing {
-                MissingReferencedObjectBehaviour::Skip => {
-                    self.pass_over_repeated(reader, units, missing)
-                }
-                MissingReferencedObjectBehaviour::Error => Err(Error::ReadInput(e)),
-            },
-            Err(InputError::Memory) => Err(Error::Memory),
-        }
-    }
-
-    /// Passes over the units behind one whose object couldn't be read, as long as they name the
-    /// same object. Gives the unit that comes next.
-    fn pass_over_repeated<R: InputReader>(
-        &mut self,
-        reader: &R,
-        units: &mut NamedUnits<'_>,
-        missing: MissingReferencedObjectBehaviour,
-    ) -> Result<Option<NamedUnit>, Error>
-        requires { CanBePassedOver (R.offer reader.now units.old.path) missing }
-        ensures taken { TakesUpTo (R.offer reader.now) missing units.old.listed self.old.state
-            result units.new.path units.new.listed self.new.state }
-        ensures shorter { IfOk result (λ next.
-            count_with next units.new.listed ≤ length units.old.listed.0) }
-        ensures session { self.new.session ≡ self.old.session }
-    {
-        while let Some(unit) = units.next()? {
-            if !unit.is_repeated {
-                return Ok(Some(unit));
-            }
-            if !self.is_there(unit.target) {
-                self.add_target(unit.target)?;
-                reader.pass_over();
-            }
-        }
-        Ok(None)
-    }
-
-    /// Adds the object that was added last once more for each unit behind it that names the same
-    /// object in turn. The object isn't read again, and of one that adds no unit it is remembered
-    /// what it adds. Gives the unit that comes next.
-    fn add_repeated<R: InputReader>(
-        &mut self,
-        _reader: &R,
-        units: &mut NamedUnits<'_>,
-        bytes: &[u8],
-        _missing: MissingReferencedObjectBehaviour,
-    ) -> Result<Option<NamedUnit>, Error>
-        requires { R.offer _reader.now units.old.path (Ok bytes.now) }
-        ensures taken { TakesUpTo (R.offer _reader.now) _missing units.old.listed self.old.state
-            result units.new.path units.new.listed self.new.state }
-        ensures shorter { IfOk result (λ next.
-            count_with next units.new.listed ≤ length units.old.listed.0) }
-        ensures session { self.new.session ≡ self.old.session }
-    {
-        let mut again = None;
-        while let Some(unit) = units.next()? {
-            if unit.is_repeated {
-                self.add_once_more(unit.target, bytes, &mut again)?;
-            } else {
-                return Ok(Some(unit));
-            }
-        }
-        Ok(None)
-    }
-
-    /// Adds an object that was added last once more, unless it is a compilation unit's that is
-    /// there. What the object adds is remembered.
-    fn add_once_more<'a>(
-        &mut self,
-        target: DwarfObject,
-        bytes: &'a [u8],
-        again: &mut Option<Again<'a>>,
+        known: &mut Known,
     ) -> Result<(), Error>
-        requires { IfSome again.old (λ again.
-            AddsAgainTo bytes.now again self.old.state.begun) }
-        ensures taken { TakesBytes bytes.now target self.old.state result self.new.state }
-        ensures again { OnOk result (IfSome again.new (λ again.
-            AddsAgainTo bytes.now again self.new.state.begun)) }
+        requires unread { IsUnread (R.offer reader.now named.path.now) missing known.old.is_unread }
+        requires known { AreTaken (R.offer reader.now) known.old.taken.entries
+            self.old.state.begun }
+        ensures taken { (accepted : List (List ℕ)) × TakesSkeleton (R.offer reader.now) missing
+            (named.entry.target, named.entry.path.now) self.old.state result self.new.state accepted }
+        ensures unread { IsUnread (R.offer reader.now named.entry.path.now) missing known.new.is_unread }
+        ensures known { OnOk result (AreTaken (R.offer reader.now) known.new.taken.entries
+            self.new.state.begun) }
         ensures session { self.new.session ≡ self.old.session }
     {
-        if self.is_there(target) {
+        if self.is_there(named.target) {
             return Ok(());
         }
-        self.add_target(target)?;
-        if again.is_none() {
-            *again = self.again_of(bytes);
+        self.add_target(named.target)?;
+        if known.is_unread {
+            reader.pass_over();
+            return Ok(());
         }
-        self.add_known(bytes, again)
+        match known.taken.get(named.path) {
+            Some(again) => self.add_again(again),
+            None => self.add_referred(reader, room, named, missing, known),
+        }
     }
 
     /// Whether a unit is a compilation unit that the package has.
@@ -311,5 +245,72 @@ impl<'output, 'session: 'output, Sess: Session<RelocationEntry>> DwarfPackage<
             DwarfObject::Compilation(_) => self.contained_units().contains(&target),
             DwarfObject::TypeUnit(_) => false,
         }
+    }
+
+    /// Adds the object at a path that an executable refers to; one that can't be read may be passed
+    /// over.
+    fn add_referred<R: InputReader>(
+        &mut self,
+        reader: &R,
+        room: &mut Vec<u8>,
+        named: Named<'_>,
+        missing: MissingReferencedObjectBehaviour,
+        known: &mut Known,
+    ) -> Result<(), Error>
+        requires unread { IsUnread (R.offer reader.now named.path.now) missing known.old.is_unread }
+        requires known { AreTaken (R.offer reader.now) known.old.taken.entries
+            self.old.state.begun }
+        ensures taken { TakesReferredFile (R.offer reader.now named.entry.path.now) missing
+            self.old.state result self.new.state }
+        ensures unread { IsUnread (R.offer reader.now named.entry.path.now) missing known.new.is_unread }
+        ensures known { OnOk result (AreTaken (R.offer reader.now) known.new.taken.entries
+            self.new.state.begun) }
+        ensures session { self.new.session ≡ self.old.session }
+    {
+        match reader.read_into(Path::new(named.path), room) {
+            Ok(bytes) => self.add_read(bytes, named, &mut known.taken),
+            Err(InputError::Io(e)) => match missing {
+                MissingReferencedObjectBehaviour::Skip => {
+                    known.is_unread = true;
+                    Ok(())
+                }
+                MissingReferencedObjectBehaviour::Error => Err(Error::ReadInput(e)),
+            },
+            Err(InputError::Memory) => Err(Error::Memory),
+        }
+    }
+
+    /// Adds an object that was read. Where it lacks the unit for which it was read, other units may
+    /// name it too, so it is remembered what it adds, if that is no unit and no string.
+    fn add_read(
+        &mut self,
+        bytes: &[u8],
+        named: Named<'_>,
+        taken: &mut IndexMap<String, Again>,
+    ) -> Result<(), Error>
+        ensures takes { Takes bytes.now self.old.state result self.new.state }
+        ensures later { OnOk result
+            (IsLaterBegun self.old.state.begun self.new.state.begun) }
+        ensures remembers { OnOk result (Remembers bytes.now self.new.state.begun named.entry.path.now
+            taken.old.entries taken.new.entries) }
+        ensures session { self.new.session ≡ self.old.session }
+    {
+        self.add_bytes(bytes)?;
+        if !self.is_there(named.target) {
+            if let Some(again) = self.again_of(bytes) {
+                remember(self.allocator(), taken, named.path, again);
+            }
+        }
+        Ok(())
+    }
+}
+
+/// Remembers what the object at a path adds. Without memory for it nothing is remembered.
+fn remember(alloc: Global, taken: &mut IndexMap<String, Again>, path: &str, again: Again)
+    ensures { (bytes : List ℕ) (begun : Option InProgress) → AddsAgainTo bytes again begun
+        → Remembers bytes begun path.now taken.old.entries taken.new.entries }
+{
+    if let Ok(key) = String::from_str(alloc, path) {
+        let _ = taken.insert(key, again);
     }
 }

@@ -14,12 +14,12 @@ ghost use Rattle.thorin_again.specs.Own.{packs_again};
 ghost use Rattle.thorin_again.specs.OwnAccepted.{IsAcceptedByNewOnceWritten};
 ghost use Rattle.thorin_again.specs.OwnAccepted.{IsAcceptedOnceWritten};
 ghost use Rattle.thorin_again.specs.OwnUnits.{HasOneEncoding};
-ghost use Rattle.thorin_builder.specs.Again.{AddsAgainTo};
+ghost use Rattle.thorin_builder.specs.Again.{AddsAgainTo, IsLaterBegun};
 ghost use Rattle.thorin_builder.specs.StateView.{begun_of};
-ghost use Rattle.thorin_builder.specs.Taking.{TakesFile, with_target};
+ghost use Rattle.thorin_builder.specs.Taking.{Takes, TakesFile, with_target};
 ghost use Rattle.thorin_builder.specs.Missing.{without_targets};
 
-use crate::adding::add_known_input;
+use crate::adding::add_input;
 use crate::again::Again;
 use crate::in_progress::InProgressDwarfPackage;
 use crate::missing::MissingTargets;
@@ -164,19 +164,18 @@ impl<'output, 'session: 'output, Sess: Session<RelocationEntry>> DwarfPackage<
         ensures err { OnErr result (self.new.state ≡ self.old.state) }
         ensures session { self.new.session ≡ self.old.session }
     {
-        self.add_known(bytes, &None)
+        self.add_bytes(bytes)
     }
 
-    /// The same, where it may be known what the object adds: no unit and no string.
+    /// The same, and what the package had is kept.
     #[tactic(auto, unfolding(thorin_join::specs::Builder::taken))]
-    pub(crate) fn add_known(&mut self, bytes: &[u8], again: &Option<Again<'_>>) -> Result<(), Error>
-        requires { IfSome again.now (λ again. AddsAgainTo bytes.now again self.old.state.begun) }
+    pub(crate) fn add_bytes(&mut self, bytes: &[u8]) -> Result<(), Error>
         ensures meaning { Gives (λ _. self.new.state) result (spec.taken bytes.now self.old.state) }
         ensures joins { OnOk result
             (Joins bytes.now (units_in self.old.state) (units_in self.new.state)) }
         ensures err { OnErr result (self.new.state ≡ self.old.state) }
-        ensures again { OnOk result (IfSome again.now (λ again.
-            AddsAgainTo bytes.now again self.new.state.begun)) }
+        ensures later { OnOk result
+            (IsLaterBegun self.old.state.begun self.new.state.begun) }
         ensures session { self.new.session ≡ self.old.session }
     {
         let is_first = self.in_progress.is_none();
@@ -184,7 +183,7 @@ impl<'output, 'session: 'output, Sess: Session<RelocationEntry>> DwarfPackage<
         inputs_are_joined();
         one_encoding_is_kept();
         plain_packages_are_kept();
-        let encoding = add_known_input(self.alloc, &mut self.in_progress, bytes, again)?;
+        let encoding = add_input(self.alloc, &mut self.in_progress, bytes)?;
         self.own = if unit_count(&self.in_progress) <= units {
             None
         } else if is_first {
@@ -195,9 +194,30 @@ impl<'output, 'session: 'output, Sess: Session<RelocationEntry>> DwarfPackage<
         Ok(())
     }
 
+    /// Adds what an object adds that was added before, where that is no unit and no string. It
+    /// refuses for memory alone.
+    #[tactic(auto, unfolding(thorin_join::specs::Builder::taken))]
+    pub(crate) fn add_again(&mut self, again: &Again) -> Result<(), Error>
+        requires known { (bytes : List ℕ) × AddsAgainTo bytes again.now self.old.state.begun }
+        ensures takes { (bytes : List ℕ) → AddsAgainTo bytes again.now self.old.state.begun
+            → Takes bytes self.old.state result self.new.state }
+        ensures later { OnOk result
+            (IsLaterBegun self.old.state.begun self.new.state.begun) }
+        ensures session { self.new.session ≡ self.old.session }
+    {
+        inputs_are_joined();
+        one_encoding_is_kept();
+        plain_packages_are_kept();
+        if let Some(package) = &mut self.in_progress {
+            package.add_again(again)?;
+            self.own = None;
+        }
+        Ok(())
+    }
+
     /// What an object adds, where that is no unit and no string; None where it isn't, and where it
     /// can't be told. The package stays as it is.
-    pub(crate) fn again_of<'a>(&mut self, bytes: &'a [u8]) -> Option<Again<'a>>
+    pub(crate) fn again_of(&mut self, bytes: &[u8]) -> Option<Again>
         ensures state { self.new.state ≡ self.old.state }
         ensures again { IfSome result (λ again.
             AddsAgainTo bytes.now again self.old.state.begun) }

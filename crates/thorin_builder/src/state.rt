@@ -157,6 +157,8 @@ impl InProgressDwarfPackage {
         ensures meaning { Gives (λ _. in_progress_of self.new) result
             (spec.with_source (view.source source.now) (in_progress_of self.old)) }
         ensures err { OnErr result (in_progress_of self.new ≡ in_progress_of self.old) }
+        ensures extends { OnOk result
+            (spec.Extends (in_progress_of self.old) (in_progress_of self.new)) }
     {
         let mark = self.mark()?;
         let added = self.try_add(source);

@@ -37,3 +37,7 @@ returns-then-not-is_empty-clause-extends c =
 pub returns-clause-extends : goal.returns-clause-extends
 returns-clause-extends c =
     more-strings (in_progress_of c.args.self.now) c.parts_of.new.strings c.parts_of.ensures.kept
+
+pub returns-in_err-copied-clause-extends : goal.returns-in_err-copied-clause-extends
+returns-in_err-copied-clause-extends c =
+    more-strings (in_progress_of c.args.self.now) c.parts_of.new.strings c.parts_of.ensures.kept

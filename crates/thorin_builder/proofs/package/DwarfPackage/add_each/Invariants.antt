@@ -1,13 +1,17 @@
-use Rattle.std.proofs.Common.{◌≡◌, Ok}
-use Rattle.thorin_builder.specs.Taking.{TakesUpTo, count_with}
+use Rattle.std.proofs.Common.{◌≡◌, length}
+use Rattle.thorin_builder.proofs.Running.{TakenUpTo}
+use Rattle.thorin_builder.specs.Again.{AreTaken}
+use Rattle.thorin_builder.specs.Taking.{IsUnread}
 use Rattle.thorin_builder.proofs.package.DwarfPackage.add_each.Given as goal
 
--- the units so far were taken, up to the one that comes next
-abbrev pub invariant-loop-next : goal.invariant-loop-next
-invariant-loop-next g l =
-    TakesUpTo (g.R.InputReader.offer l.reader) l.missing l.fn.units.listed l.fn.self.state
-    (Ok l.next) l.units.path l.units.listed l.self.state
+-- the units so far were taken; what is known of the path that came last, and of those before
+abbrev pub invariant-loop-known : goal.invariant-loop-known
+invariant-loop-known g l =
+    TakenUpTo (g.R.InputReader.offer l.reader) l.missing l.fn.units.listed l.units.listed
+    l.fn.self.state l.self.state
     × (l.self.session ≡ l.fn.self.session)
+    × IsUnread (g.R.InputReader.offer l.reader l.units.path) l.missing l.known.is_unread
+    × AreTaken (g.R.InputReader.offer l.reader) l.known.taken.entries l.self.state.begun
 
-abbrev pub decreases-loop-next : goal.decreases-loop-next
-decreases-loop-next g l = count_with l.next l.units.listed
+abbrev pub decreases-loop-known : goal.decreases-loop-known
+decreases-loop-known g l = length l.units.listed.0

@@ -1,40 +1,109 @@
-use Rattle.std.proofs.Common.{◌≡◌, refl, rules, ap, inl, inr, Err, [], false}
-use Rattle.std.proofs.lemmas.Result.{err_from_is_err_and}
-use Rattle.thorin_builder.specs.Taking.{is_there, with_target}
-use Rattle.thorin_builder.proofs.Running.{after-first, first-refused, next-comes, file-then}
+use Rattle.std.proofs.Common.{◌≡◌, ◌∙◌, ap, false, refl, rules, sym, subst, inl, inr, [], Some, Ok}
+use Rattle.std.specs.Map.{lookup}
+use Rattle.std.specs.Prelude.{string_bytes}
+use Rattle.std.specs.Str.{bytes_eq}
+use Rattle.thorin_join.specs.Builder.{State}
+use Rattle.thorin_builder.specs.Again.{AddsAgainTo, AreTaken}
+use Rattle.thorin_builder.specs.Taking.{TakesReferredFile, Takes, with_target, is_there}
+use Rattle.thorin_builder.specs.Taking.{accepted_of}
+use Rattle.thorin_builder.proofs.AddedAgain.{taken-found, are-taken-later, target-begun}
+use Rattle.thorin_builder.proofs.Extending.{on_ok-both}
+use Rattle.thorin_builder.proofs.Running.{unread-again}
 use Rattle.thorin_builder.proofs.package.DwarfPackage.add_skeleton.Goals as goal
 
-pub returns-then-is_there-clause-taken : goal.returns-then-is_there-clause-taken
-returns-then-is_there-clause-taken g c =
-    after-first (g.R.InputReader.offer c.args.reader.now) c.args.missing
-    (c.args.unit.target, c.args.units.now.path) c.args.units.now.listed c.next.new.self.listed
-    c.args.self.now.state c.args.self.now.state c.args.self.now.state c.next.result
-    c.next.new.self.path []
-    (inl (search (rules, c.is_there.ensures, c.if-is_there), refl, refl, refl))
-    (next-comes (g.R.InputReader.offer c.args.reader.now) c.args.missing c.args.units.now.listed
-    c.next.new.self.listed c.args.self.now.state c.next.result c.next.new.self.path
-    c.next.ensures.next)
-
 pub returns-in_err-add_target-clause-taken : goal.returns-in_err-add_target-clause-taken
-returns-in_err-add_target-clause-taken g c =
-    let p = err_from_is_err_and c.from_residual.result c.from_residual.ensures.1 in
-    rw (p.1, p.2) (first-refused (g.R.InputReader.offer c.args.reader.now) c.args.missing
-    (c.args.unit.target, c.args.units.now.path) c.args.units.now.listed c.args.units.now.listed
-    c.args.self.now.state c.add_target.new.self.state _ c.args.units.now.path []
-    (inr (inr (
-      ap Err (search (rules, c.in_err-add_target.ensures.refused)),
-      search (rules, c.in_err-add_target.ensures.refused),
-      refl,
-    ))))
+returns-in_err-add_target-clause-taken g c = (
+  [],
+  inr (inr (
+    search (rules, c.from_residual.ensures, c.in_err-add_target.ensures.refused),
+    search (rules, c.in_err-add_target.ensures.refused),
+    refl,
+  )),
+)
 
-pub returns-clause-taken : goal.returns-clause-taken
-returns-clause-taken g c =
-    let absent : is_there c.args.unit.target c.args.self.now.state ≡ false =
+pub returns-then-known-clause-taken : goal.returns-then-known-clause-taken
+returns-then-known-clause-taken g c = (
+  [],
+  inr (inl (unread-again (g.R.InputReader.offer c.args.reader.now) c.args.missing
+      (c.args.named.target, c.args.named.path.now) c.args.self.now.state
+      c.add_target.new.self.state (search (rules, c.is_there.ensures, c.if-is_there))
+      (search (rules, c.in_ok-add_target.ensures.target))
+      (c.requires.unread (search (rules, c.if-known))))),
+)
+
+pub add_again-requires : goal.add_again-requires
+add_again-requires g c =
+    let offer = g.R.InputReader.offer c.args.reader.now in
+    let old = c.args.self.now.state in
+    let entries = c.args.known.now.taken.entries in
+    let target : c.add_target.new.self.state ≡ with_target c.args.named.target old =
+    search (rules, c.in_ok-add_target.ensures.target) in
+    let begun : old.begun ≡ c.add_target.new.self.state.begun =
+    sym (ap (λ (s : State). s.begun) target ∙ target-begun c.args.named.target old) in
+    let is : lookup (λ k. bytes_eq c.args.named.path.now (string_bytes k)) entries ≡ Some
+    c.in-Some.again.now = search (rules, c.get.ensures.value, c.in-Some.is) in
+    let found = taken-found offer entries old.begun c.args.named.path.now c.in-Some.again.now
+    c.requires.known is in
+    let adds = subst (λ b. AddsAgainTo found.bytes c.in-Some.again.now b) begun found.adds in
+    record { known = (found.bytes, adds) }
+
+pub returns-in-Some-clause-taken : goal.returns-in-Some-clause-taken
+returns-in-Some-clause-taken g c =
+    let offer = g.R.InputReader.offer c.args.reader.now in
+    let old = c.args.self.now.state in
+    let entries = c.args.known.now.taken.entries in
+    let target : c.add_target.new.self.state ≡ with_target c.args.named.target old =
+    search (rules, c.in_ok-add_target.ensures.target) in
+    let begun : old.begun ≡ c.add_target.new.self.state.begun =
+    sym (ap (λ (s : State). s.begun) target ∙ target-begun c.args.named.target old) in
+    let is : lookup (λ k. bytes_eq c.args.named.path.now (string_bytes k)) entries ≡ Some
+    c.in-Some.again.now = search (rules, c.get.ensures.value, c.in-Some.is) in
+    let found = taken-found offer entries old.begun c.args.named.path.now c.in-Some.again.now
+    c.requires.known is in
+    let adds = subst (λ b. AddsAgainTo found.bytes c.in-Some.again.now b) begun found.adds in
+    let absent : is_there c.args.named.target old ≡ false =
     search (rules, c.is_there.ensures, c.if-is_there) in
-    let target : c.add_target.new.self.state ≡ with_target c.args.unit.target
-    c.args.self.now.state = search (rules, c.in_ok-add_target.ensures.target) in
-    file-then (g.R.InputReader.offer c.args.reader.now) c.args.missing
-    (c.args.unit.target, c.args.units.now.path) c.args.units.now.listed
-    c.add_referred.new.units.listed c.args.self.now.state c.add_target.new.self.state
-    c.add_referred.new.self.state c.add_referred.result c.add_referred.new.units.path absent target
-    c.add_referred.ensures.taken
+    let takes : Takes found.bytes (with_target c.args.named.target old) c.add_again.result
+    c.add_again.new.self.state = subst (λ s. Takes found.bytes s c.add_again.result
+    c.add_again.new.self.state) target (c.add_again.ensures.takes found.bytes adds) in
+    let file : TakesReferredFile (offer c.args.named.path.now) c.args.missing
+    (with_target c.args.named.target old) c.add_again.result c.add_again.new.self.state = record {
+      read = Ok found.bytes;
+      within = found.may;
+      accepted = accepted_of c.add_again.result found.bytes;
+      taken = (takes, refl);
+    } in
+    (file.accepted, inr (inl (record { absent = absent; file = file; accepted_is = refl })))
+
+pub returns-in-Some-clause-known : goal.returns-in-Some-clause-known
+returns-in-Some-clause-known g c =
+    let offer = g.R.InputReader.offer c.args.reader.now in
+    let old = c.args.self.now.state in
+    let entries = c.args.known.now.taken.entries in
+    let target : c.add_target.new.self.state ≡ with_target c.args.named.target old =
+    search (rules, c.in_ok-add_target.ensures.target) in
+    let begun : old.begun ≡ c.add_target.new.self.state.begun =
+    sym (ap (λ (s : State). s.begun) target ∙ target-begun c.args.named.target old) in
+    let is : lookup (λ k. bytes_eq c.args.named.path.now (string_bytes k)) entries ≡ Some
+    c.in-Some.again.now = search (rules, c.get.ensures.value, c.in-Some.is) in
+    let found = taken-found offer entries old.begun c.args.named.path.now c.in-Some.again.now
+    c.requires.known is in
+    let adds = subst (λ b. AddsAgainTo found.bytes c.in-Some.again.now b) begun found.adds in
+    on_ok-both c.add_again.result _ _ _ c.add_again.ensures.later c.add_again.ensures.later
+    (λ later again. are-taken-later offer entries c.add_target.new.self.state.begun
+    c.add_again.new.self.state.begun later
+    (subst (λ b. AreTaken offer entries b) begun c.requires.known))
+
+pub returns-in-None-clause-taken : goal.returns-in-None-clause-taken
+returns-in-None-clause-taken g c =
+    let offer = g.R.InputReader.offer c.args.reader.now in
+    let old = c.args.self.now.state in
+    let absent : is_there c.args.named.target old ≡ false =
+    search (rules, c.is_there.ensures, c.if-is_there) in
+    let target : c.add_target.new.self.state ≡ with_target c.args.named.target old =
+    search (rules, c.in_ok-add_target.ensures.target) in
+    let file : TakesReferredFile (offer c.args.named.path.now) c.args.missing
+    (with_target c.args.named.target old) c.add_referred.result c.add_referred.new.self.state =
+    subst (λ s. TakesReferredFile (offer c.args.named.path.now) c.args.missing s
+    c.add_referred.result c.add_referred.new.self.state) target c.add_referred.ensures.taken in
+    (file.accepted, inr (inl (record { absent = absent; file = file; accepted_is = refl })))

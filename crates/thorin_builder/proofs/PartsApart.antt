@@ -23,7 +23,7 @@ use Rattle.thorin_input.specs.Parts.{Parts, is_in_format, is_copied, has_part, s
 use Rattle.thorin_input.specs.Parts.{rewritten, with_offsets, with_part, with_each_part, parts_of}
 use Rattle.thorin_input.specs.Used.{Used}
 use Rattle.thorin_join.specs.State.{InProgress, kind_at, unit_bytes, held_units}
-use Rattle.thorin_builder.proofs.UnitsAlone.{bind-inv}
+use Rattle.thorin_builder.proofs.UnitsLater.{bind-inv}
 
 -- none of some parts is a section of units
 abbrev pub ArePartsApart : Contents → Type 0

@@ -9,11 +9,13 @@ use Rattle.thorin_again.specs.Plain.{HoldsPlain}
 use Rattle.thorin_join.specs.Represents.{IsSoundBegun}
 use Rattle.thorin_join.specs.State.{InProgress}
 use Rattle.thorin_builder.specs.StateView.{begun_of}
+use Rattle.thorin_builder.specs.Again.{IsLaterBegun}
+use Rattle.thorin_builder.proofs.AddedAgain.{joined-later}
 use Rattle.thorin_builder.proofs.OwnKept.{taken-as, after-none, after-first, after-more}
-use Rattle.thorin_builder.proofs.package.DwarfPackage.add_known.Goals.{then-unit_count-units}
-use Rattle.thorin_builder.proofs.package.DwarfPackage.add_known.Goals.{else-unit_count-units+then-is_first}
-use Rattle.thorin_builder.proofs.package.DwarfPackage.add_known.Goals.{else-unit_count-units+else-is_first}
-use Rattle.thorin_builder.proofs.package.DwarfPackage.add_known.Goals as goal
+use Rattle.thorin_builder.proofs.package.DwarfPackage.add_bytes.Goals.{then-unit_count-units}
+use Rattle.thorin_builder.proofs.package.DwarfPackage.add_bytes.Goals.{else-unit_count-units+then-is_first}
+use Rattle.thorin_builder.proofs.package.DwarfPackage.add_bytes.Goals.{else-unit_count-units+else-is_first}
+use Rattle.thorin_builder.proofs.package.DwarfPackage.add_bytes.Goals as goal
 
 none-begun : (p : Option InProgressDwarfPackage) → is_none (begun_of p) ≡ is_none p
 none-begun None = refl
@@ -30,7 +32,7 @@ none-is p b h = none-begun p ∙ ap not h ∙ twice-not b
 -- a refused object leaves it so
 pub invariant_of-self : goal.invariant_of-self
 invariant_of-self g c =
-    let same : begun_of c.add_known_input.new.in_progress ≡ begun_of c.self.inside.in_progress =
+    let same : begun_of c.add_input.new.in_progress ≡ begun_of c.self.inside.in_progress =
     search (rules, c.in_err-encoding.ensures.err) in
     let kept : Option InProgress → Type 0 = λ begun.
     (c.self.inside.no_units.keys ≡ []) × IsSoundBegun begun
@@ -56,7 +58,7 @@ invariant_of-self-2 g c =
           c.self.inside.targets.keys;
       own = c.self.inside.own;
     } in
-    let now = begun_of c.add_known_input.new.in_progress in
+    let now = begun_of c.add_input.new.in_progress in
     let found = c.in_ok-encoding.encoding in
     let made : with_input c.args.bytes.now old.begun ≡ Ok now =
     search (rules, c.in_ok-encoding.ensures.meaning) in
@@ -94,3 +96,14 @@ invariant_of-self-2 g c =
       }) c.self.invariant.1 c.self.invariant.3
           (taken-as c.args.bytes.now old now found c.if-unit_count-units.self made encoding own),
     )
+
+pub returns-clause-later : goal.returns-clause-later
+returns-clause-later g c =
+    let old = begun_of c.self.inside.in_progress in
+    let now = begun_of c.add_input.new.in_progress in
+    let made : with_input c.args.bytes.now old ≡ Ok now =
+    search (rules, c.in_ok-encoding.ensures.meaning) in
+    let is : c.args.self.now.state.begun ≡ old = search (rules, c.self.view_is) in
+    subst (λ b. IsLaterBegun b now) (sym is) (joined-later c.args.bytes.now old now
+    c.in_ok-encoding.ensures.extends
+    (c.inputs_are_joined.ensures.joins c.args.bytes.now old now c.self.invariant.1 made))

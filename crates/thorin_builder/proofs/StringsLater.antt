@@ -1,0 +1,315 @@
+-- The parts of an input are the same over more strings behind those that it left.
+use Rattle.std.proofs.Common.{◌≡◌, ◌∙◌, ℕ, zero, suc, ◌+◌, ◌*◌, Bool, true, false, not, cond, ltb}
+use Rattle.std.proofs.Common.{eqb}
+use Rattle.std.proofs.Common.{◌&&◌, ◌||◌, List, [], ◌∷◌, ◌++◌, length, take, drop, slice_range}
+use Rattle.std.proofs.Common.{Option, Result, Ok, Err, ap, sym, subst, refl, append_assoc}
+use Rattle.std.specs.List.{list_any}
+use Rattle.std.specs.Str.{bytes_eq}
+use Rattle.std.proofs.lemmas.Bool.{false≢true, or_parts, cond-true}
+use Rattle.std.proofs.lemmas.List.{append-nil, take-append-drop}
+use Rattle.std.proofs.lemmas.Slice.Eq.{bytes_eq-Decides}
+use Rattle.dwp_base.specs.declared.endian.Endianness.{Endianness}
+use Rattle.dwp_base.specs.declared.section.Contribution.{Contribution}
+use Rattle.dwp_base.specs.declared.section.SectionKind.TheVariants.{Str, StrOffsets}
+use Rattle.dwp_base.specs.Reading.{◌>>=◌}
+use Rattle.dwp_base.specs.Sections.{name_of, same_kind}
+use Rattle.dwp_bytes.specs.declared.encoding.Encoding.{Encoding}
+use Rattle.dwp_bytes.specs.declared.encoding.Format.{Format}
+use Rattle.dwp_bytes.specs.Encoding.{offset_size}
+use Rattle.dwp_bytes.specs.StringOffsets.{header_size, entry_count}
+use Rattle.dwp_index.specs.Index.{Index}
+use Rattle.thorin_faults.specs.Fault.{Fault, BadStringOffsets, MissingRequiredSection}
+use Rattle.thorin_faults.specs.Fault.{RepeatedSection, SectionOutsideFormat}
+use Rattle.thorin_strings.specs.Strings.{offset_of, with_string}
+use Rattle.thorin_strings.specs.StringOffsets.{header_of, named_at, fitting_offset, entry_bytes}
+use Rattle.thorin_strings.specs.StringOffsets.{remapped_entry, remapped_entries, remapped}
+use Rattle.thorin_packaged.specs.PackagedOffsets.{offset_ranges, ranges_test, rewritten_from}
+use Rattle.thorin_packaged.specs.PackagedOffsets.{packaged_offsets}
+use Rattle.thorin_input.specs.Growing.{Contents}
+use Rattle.thorin_input.specs.Indexes.{Source, is_package}
+use Rattle.thorin_input.specs.Parts.{is_in_format, is_copied, has_part, stands_once}
+use Rattle.thorin_input.specs.Parts.{rewritten, with_offsets, with_part, with_each_part, parts_of}
+use Rattle.thorin_input.specs.Used.{Used, first}
+
+abbrev Strings : Type 0
+Strings = List (List ℕ)
+
+-- strings that begin with others
+record Front (before later : Strings) : Type 0 where
+  rest : Strings
+  is : later ≡ before ++ rest
+
+front-refl : (s : Strings) → Front s s
+front-refl s = record { rest = []; is = sym (append-nil s) }
+
+front-more : (a b c : Strings) → Front a b → Front b c → Front a c
+front-more a b c f g = record {
+  rest = f.rest ++ g.rest;
+  is = g.is ∙ ap (λ l. l ++ g.rest) f.is ∙ append_assoc a f.rest g.rest;
+}
+
+-- ---- steps that use strings
+
+-- what was given with these strings is given with more behind those that were left
+record Later {W : Type 0} (step : Strings → Result (W × Strings) Fault) (before : Strings)
+    (given : W × Strings) : Type 0 where
+  more : Front before given.1
+  again : (later : Strings) → Front given.1 later → step later ≡ Ok (given.0, later)
+
+-- so it is whatever the step gave
+abbrev Keeps : {W : Type 0} → (Strings → Result (W × Strings) Fault) → Type 0
+Keeps {W} step = (before : Strings) (given : W × Strings) → step before ≡ Ok given
+    → Later step before given
+
+bind-ok : {A B E : Type 0} (r : Result A E) (x : A) (f : A → Result B E) → r ≡ Ok x
+    → (r >>= f) ≡ f x
+bind-ok r x f h = ap (λ q. q >>= f) h
+
+bind-inv : {A B E : Type 0} (r : Result A E) (f : A → Result B E) (y : B) → (r >>= f) ≡ Ok y
+    → (x : A) × (r ≡ Ok x) × (f x ≡ Ok y)
+bind-inv (Ok x) f y h = (x, refl, h)
+bind-inv (Err e) f y h = absurd cc
+
+ok-eq : {X E : Type 0} (x y : X) → ◌≡◌ {A = Result X E} (Ok x) (Ok y) → x ≡ y
+ok-eq x y h = cc
+
+ok-keeps : {W : Type 0} (w : W) → Keeps (λ s. Ok (w, s))
+ok-keeps {W} w before given h =
+    subst (Later (λ s. Ok (w, s)) before) (ok-eq (w, before) given h)
+    (record { more = front-refl before; again = λ later front. refl })
+
+err-keeps : {W : Type 0} (fault : Fault) → Keeps {W = W} (λ s. Err fault)
+err-keeps fault before given h = absurd cc
+
+cond-keeps : {W : Type 0} (b : Bool) (one other : Strings → Result (W × Strings) Fault)
+    → Keeps one → Keeps other → Keeps (λ s. cond b (one s) (other s))
+cond-keeps true one other k l = k
+cond-keeps false one other k l = l
+
+-- a step that uses no string, and then one that does
+alone-keeps : {A W : Type 0} (r : Result A Fault) (next : A → Strings → Result (W × Strings) Fault)
+    → ((x : A) → Keeps (next x)) → Keeps (λ s. r >>= λ x. next x s)
+alone-keeps (Ok x) next k = k x
+alone-keeps (Err e) next k = err-keeps e
+
+-- one step after another
+then-keeps : {A W : Type 0} (step : Strings → Result (A × Strings) Fault)
+    (next : A → Strings → Result (W × Strings) Fault) → Keeps step → ((x : A) → Keeps (next x))
+    → Keeps (λ s. step s >>= λ p. next p.0 p.1)
+then-keeps step next k l before given h =
+    let one = bind-inv (step before) (λ p. next p.0 p.1) given h in
+    let here = k before one.0 one.1 in
+    let there = l one.0.0 one.0.1 given one.2 in
+    record {
+      more = front-more before one.0.1 given.1 here.more there.more;
+      again = λ later front.
+          bind-ok (step later) (one.0.0, later) (λ p. next p.0 p.1)
+          (here.again later (front-more one.0.1 given.1 later there.more front))
+          ∙ there.again later front;
+    }
+
+-- ---- a string
+
+abbrev has : Strings → List ℕ → Bool
+has ss s = list_any (λ t. bytes_eq t s) ss
+
+itself : (s : List ℕ) → bytes_eq s s ≡ true
+itself s = (bytes_eq-Decides s s).1 refl
+
+or-right : (b c : Bool) → c ≡ true → (b || c) ≡ true
+or-right true c h = refl
+or-right false c h = h
+
+has-by : (b r q : Bool) → (b || r) ≡ true → (r ≡ true → q ≡ true) → (b || q) ≡ true
+has-by true r q h more = refl
+has-by false r q h more = more h
+
+-- what is there stays there
+has-more : (ss ts : Strings) (s : List ℕ) → has ss s ≡ true → has (ss ++ ts) s ≡ true
+has-more [] ts s h = absurd (false≢true h)
+has-more (t ∷ ss) ts s h = has-by (bytes_eq t s) (has ss s) (has (ss ++ ts) s) h (has-more ss ts s)
+
+has-last : (ss : Strings) (s : List ℕ) → has (ss ++ s ∷ []) s ≡ true
+has-last [] s = rw (itself s) refl
+has-last (t ∷ ss) s = or-right (bytes_eq t s) (has (ss ++ s ∷ []) s) (has-last ss s)
+
+-- and keeps its offset
+offset-by : (b r : Bool) (n x y : ℕ) → (b || r) ≡ true → (r ≡ true → x ≡ y) → cond b 0 (n + 1 + x)
+    ≡ cond b 0 (n + 1 + y)
+offset-by true r n x y h same = refl
+offset-by false r n x y h same = ap (λ m. n + 1 + m) (same h)
+
+offset-kept : (ss ts : Strings) (s : List ℕ) → has ss s ≡ true → offset_of (ss ++ ts) s ≡
+    offset_of ss s
+offset-kept [] ts s h = absurd (false≢true h)
+offset-kept (t ∷ ss) ts s h = offset-by (bytes_eq t s) (has ss s) (length t)
+    (offset_of (ss ++ ts) s) (offset_of ss s) h (offset-kept ss ts s)
+
+offset-last : (ss : Strings) (s : List ℕ) → has ss s ≡ false → offset_of (ss ++ s ∷ []) s ≡
+    offset_of ss s
+offset-last [] s none = rw (itself s) refl
+offset-last (t ∷ ss) s none =
+    let parts = or_parts (bytes_eq t s) (has ss s) none in
+    let other : bytes_eq t s ≡ false = parts.0 in
+    rw other (ap (λ m. length t + 1 + m) (offset-last ss s parts.1))
+
+-- a string is there once it was used, and has the offset that it was given
+record Placed (ss new : Strings) (s : List ℕ) : Type 0 where
+  more : Front ss new
+  there : has new s ≡ true
+  place : offset_of new s ≡ offset_of ss s
+
+placed-by : (b : Bool) (ss : Strings) (s : List ℕ) → has ss s ≡ b
+    → Placed ss (cond b ss (ss ++ s ∷ [])) s
+placed-by true ss s h = record { more = front-refl ss; there = h; place = refl }
+placed-by false ss s h = record {
+  more = record { rest = s ∷ []; is = refl };
+  there = has-last ss s;
+  place = offset-last ss s h;
+}
+
+placed : (ss : Strings) (s : List ℕ) → Placed ss (with_string ss s) s
+placed ss s = placed-by (has ss s) ss s refl
+
+-- the string and its offset are the same over more strings
+string-keeps : (format : Format) (string : List ℕ) → Keeps (λ s.
+    fitting_offset format (offset_of s string) >>= λ o. Ok (o, with_string s string))
+string-keeps format string before given h =
+    let step : Strings → Result (ℕ × Strings) Fault = λ s.
+    fitting_offset format (offset_of s string) >>= λ o. Ok (o, with_string s string) in
+    let fit = bind-inv (fitting_offset format (offset_of before string)) _ given h in
+    let used = placed before string in
+    let new = with_string before string in
+    subst (Later step before) (ok-eq (fit.0, new) given fit.2) (record {
+      more = used.more;
+      again = λ later front.
+          let there : has later string ≡ true = subst (λ l. has l string ≡ true) (sym front.is)
+          (has-more new front.rest string used.there) in
+          let place : offset_of later string ≡ offset_of before string =
+          ap (λ l. offset_of l string) front.is
+          ∙ offset-kept new front.rest string used.there ∙ used.place in
+          let same : with_string later string ≡ later = cond-true _ _ _ there in
+          bind-ok (fitting_offset format (offset_of later string)) fit.0 _
+          (ap (fitting_offset format) place ∙ fit.1) ∙ ap (λ l. Ok (fit.0, l)) same;
+    })
+
+-- ---- string offsets
+
+module _ (order : Endianness) (encoding : Encoding) (section : List ℕ) where
+  entry-keeps : (bytes : List ℕ) (index : ℕ)
+      → Keeps (remapped_entry order encoding section bytes index)
+  unfolding remapped_entry
+  entry-keeps bytes index = alone-keeps (named_at order encoding section bytes index)
+      (λ string s. fitting_offset encoding.format (offset_of s string) >>= λ o.
+      Ok (o, with_string s string)) (string-keeps encoding.format)
+
+  entries-keep : (bytes : List ℕ) (n : ℕ)
+      → Keeps (remapped_entries order encoding section bytes n)
+  unfolding remapped_entries
+  entries-keep bytes zero = ok-keeps []
+  entries-keep bytes (suc n) = then-keeps (remapped_entries order encoding section bytes n)
+      (λ front s. remapped_entry order encoding section bytes n s >>= λ entry.
+      Ok (front ++ entry.0 ∷ [], entry.1)) (entries-keep bytes n) (λ front.
+      then-keeps (remapped_entry order encoding section bytes n)
+      (λ o s. Ok (front ++ o ∷ [], s)) (entry-keeps bytes n) (λ o. ok-keeps (front ++ o ∷ [])))
+
+  remapped-keeps : (bytes : List ℕ) (size : ℕ) → Keeps (remapped order encoding section bytes size)
+  unfolding remapped
+  remapped-keeps bytes size =
+      let header = header_of order encoding (entry_count encoding size
+      * offset_size encoding.format) in
+      let entries = remapped_entries order encoding section bytes (entry_count encoding size) in
+      let written : List ℕ → List ℕ → List ℕ = λ front offsets.
+      front ++ entry_bytes order encoding.format offsets in
+      cond-keeps (eqb size 0) (λ s. Ok ([], s)) _ (ok-keeps [])
+      (cond-keeps (ltb size (header_size encoding)) (λ s. Err (BadStringOffsets 0)) _
+      (err-keeps (BadStringOffsets 0))
+      (alone-keeps header (λ front s. entries s >>= λ e. Ok (written front e.0, e.1))
+      (λ front. then-keeps entries (λ offsets s. Ok (written front offsets, s))
+      (entries-keep bytes (entry_count encoding size))
+      (λ offsets. ok-keeps (written front offsets)))))
+
+  ranges-keep : (bytes : List ℕ) (at : ℕ) (ranges : List Contribution)
+      → Keeps (rewritten_from order encoding section bytes at ranges)
+  unfolding rewritten_from
+  ranges-keep bytes at [] = ok-keeps (drop at bytes)
+  ranges-keep bytes at (r ∷ rs) =
+      let end = r.offset.0 + r.size in
+      let between = slice_range bytes at r.offset.0 in
+      let others = rewritten_from order encoding section bytes end rs in
+      then-keeps (remapped order encoding section (slice_range bytes r.offset.0 end) r.size)
+      (λ range s. others s >>= λ rest. Ok (between ++ range ++ rest.0, rest.1))
+      (remapped-keeps (slice_range bytes r.offset.0 end) r.size)
+      (λ range. then-keeps others (λ rest s. Ok (between ++ range ++ rest, s))
+      (ranges-keep bytes end rs) (λ rest. ok-keeps (between ++ range ++ rest)))
+
+  packaged-keeps : (compilations types : Option Index) (bytes : List ℕ)
+      → Keeps (packaged_offsets order encoding compilations types section bytes)
+  unfolding packaged_offsets
+  packaged-keeps compilations types bytes =
+      let ranges = offset_ranges compilations types in
+      alone-keeps (ranges_test encoding (length bytes) 0 ranges)
+      (λ _. rewritten_from order encoding section bytes 0 ranges)
+      (λ _. ranges-keep bytes 0 ranges)
+
+-- ---- the parts of an input
+
+module _ (source : Source) where
+  rewritten-keeps : (bytes : List ℕ) → Keeps (rewritten source bytes)
+  unfolding rewritten
+  rewritten-keeps bytes =
+      let strings = first Str source.object.sections in
+      cond-keeps (is_package source.indexes)
+      (packaged_offsets source.object.order source.encoding source.indexes.compilations
+      source.indexes.types strings bytes)
+      (remapped source.object.order source.encoding strings bytes (length bytes))
+      (packaged-keeps source.object.order source.encoding strings source.indexes.compilations
+      source.indexes.types bytes)
+      (remapped-keeps source.object.order source.encoding strings bytes (length bytes))
+
+  offsets-keep : (parts : Contents) (bytes : List ℕ)
+      → Keeps (λ s. with_offsets source (parts, s) bytes)
+  unfolding with_offsets
+  offsets-keep parts bytes =
+      let fault = MissingRequiredSection (name_of Str) in
+      cond-keeps (not source.object.has_strings) (λ s. Err fault)
+      (λ s. rewritten source bytes s >>= λ w. Ok (parts ++ (StrOffsets, w.0) ∷ [], w.1))
+      (err-keeps fault)
+      (then-keeps (rewritten source bytes) (λ w s. Ok (parts ++ (StrOffsets, w) ∷ [], s))
+      (rewritten-keeps bytes) (λ w. ok-keeps (parts ++ (StrOffsets, w) ∷ [])))
+
+  part-keeps : (parts : Contents) (section : Used)
+      → Keeps (λ s. with_part source (parts, s) section)
+  unfolding with_part
+  part-keeps parts section =
+      let repeated = RepeatedSection (name_of section.kind) in
+      let outside = SectionOutsideFormat (name_of section.kind) in
+      let more : Contents = parts ++ (section.kind, section.bytes) ∷ [] in
+      cond-keeps (stands_once source section.kind && has_part section.kind parts)
+      (λ s. Err repeated) _ (err-keeps repeated)
+      (cond-keeps (not (is_in_format source.encoding section.kind)) (λ s. Err outside) _
+      (err-keeps outside)
+      (cond-keeps (same_kind section.kind StrOffsets)
+      (λ s. with_offsets source (parts, s) section.bytes) _ (offsets-keep parts section.bytes)
+      (cond-keeps (is_copied section.kind) (λ s. Ok (more, s)) (λ s. Ok (parts, s))
+      (ok-keeps more) (ok-keeps parts))))
+
+  parts-keep : (parts : Contents) (sections : List Used)
+      → Keeps (λ s. with_each_part source (parts, s) sections)
+  unfolding with_each_part
+  parts-keep parts [] = ok-keeps parts
+  parts-keep parts (section ∷ sections) =
+      then-keeps (λ s. with_part source (parts, s) section)
+      (λ next s. with_each_part source (next, s) sections) (part-keeps parts section)
+      (λ next. parts-keep next sections)
+
+-- the parts of an input are the same over more strings behind those that it left
+pub parts-later : (source : Source) (strings later : List (List ℕ))
+    (parts : Contents × List (List ℕ)) → parts_of source strings ≡ Ok parts
+    → take (length parts.1) later ≡ parts.1 → parts_of source later ≡ Ok (parts.0, later)
+parts-later source strings later parts h kept =
+    let same = parts-keep source [] source.object.sections strings parts h in
+    let whole : later ≡ parts.1 ++ drop (length parts.1) later =
+    sym (take-append-drop (length parts.1) later) ∙ ap (λ l. l ++ drop (length parts.1) later)
+    kept in
+    same.again later (record { rest = drop (length parts.1) later; is = whole })
