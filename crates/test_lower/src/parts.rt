@@ -19,6 +19,7 @@ pub fn call(row: Row<'_>, said: &mut Said) {
         "index_of" => index_of(row, said),
         "moved" => moved(row, said),
         "moved_by" => moved_by(row, said),
+        "moved_row" => moved_row(row, said),
         "relocations_of" | "relocations_in" => relocations_of(row, said),
         _ => crate::faults::call(row, said),
     }
@@ -196,6 +197,24 @@ fn put_abbreviations(index: Option<&UnitIndex<'_>>, id: u64, said: &mut Said) {
         size: 0x18,
     };
     said.put(&adjustor.adjust(DwarfObject::Compilation(DwoId(id)), Some(whole)));
+}
+
+/// An index and an identifier: the same of a unit that was looked up before.
+fn moved_row(row: Row<'_>, said: &mut Said) {
+    match UnitIndex::parse(row.bytes(1), Endianness::Little) {
+        Ok(index) => put_looked_up(&index, row.number(2), said),
+        Err(fault) => said.err(&fault),
+    }
+}
+
+fn put_looked_up(index: &UnitIndex<'_>, id: u64, said: &mut Said) {
+    let adjustor = ContributionAdjustor::new(Some(index), None, SectionKind::Abbrev);
+    let whole = Contribution {
+        offset: ContributionOffset(0x20),
+        size: 0x18,
+    };
+    let unit = DwarfObject::Compilation(DwoId(id));
+    said.put(&adjustor.adjust_row(unit, index.find(id), Some(whole)));
 }
 
 /// An executable: the places that are relocated in `.debug_info`, or in the section of a number, and
