@@ -23,7 +23,7 @@ use Rattle.dwp_dwarf.specs.Remembered.{known_or, remembered, ListsNeeded, HasLis
 use Rattle.dwp_dwarf.specs.Remembered.{RemembersTables}
 use Rattle.dwp_dwarf.specs.declared.abbrev.AttributeSpecification.{AttributeSpecification}
 use Rattle.dwp_dwarf.specs.declared.abbrev.Abbreviation.{Abbreviation}
-use Rattle.dwp_dwarf.specs.declared.cache.ReadTable.{ReadTable}
+use Rattle.dwp_dwarf.specs.declared.read_table.ReadTable.{ReadTable}
 use Rattle.dwp_dwarf.proofs.Grammar.{by_bool, look_up-here, look_up-other}
 use Rattle.dwp_dwarf.proofs.Values.{after-zero}
 

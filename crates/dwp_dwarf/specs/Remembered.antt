@@ -12,7 +12,7 @@ use Rattle.dwp_dwarf.specs.Needed.{none_met, needed}
 use Rattle.dwp_dwarf.specs.Offsets.{from_at}
 use Rattle.dwp_dwarf.specs.declared.abbrev.Abbreviation.{Abbreviation}
 use Rattle.dwp_dwarf.specs.declared.abbrev.AttributeSpecification.{AttributeSpecification}
-use Rattle.dwp_dwarf.specs.declared.cache.ReadTable.{ReadTable}
+use Rattle.dwp_dwarf.specs.declared.read_table.ReadTable.{ReadTable}
 
 -- a declaration that is remembered, or what the rest of the table says
 abbrev pub known_or : {R : Type 0} → (R → Input) → Option (Abbreviation R)

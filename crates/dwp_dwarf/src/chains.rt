@@ -20,11 +20,11 @@ ghost use Rattle.dwp_dwarf.specs.Split.{attributes_of, split_in};
 ghost use Rattle.dwp_dwarf.specs.Versions.{Grows};
 
 use crate::abbrev::{Abbreviation, AttributeSpecification, SPECIFICATION_SIZE, known_declaration};
-use crate::cache::next_declaration;
 use crate::codes::Codes;
 use crate::needed::list_needed;
 use crate::number::{number_listed, number_read};
 use crate::offset::from_offset;
+use crate::read_table::next_declaration;
 use crate::split::{SplitAttributes, split_listed, split_read};
 use crate::versions::Versions;
 use dwp_bytes::laws::lebs_take_bytes;

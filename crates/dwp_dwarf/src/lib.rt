@@ -13,6 +13,7 @@ mod needed;
 mod number;
 mod offset;
 mod put_away;
+mod read_table;
 mod seen;
 mod split;
 mod strings;

@@ -6,7 +6,7 @@ ghost use Rattle.std.specs.BTreeMap.{get};
 ghost use Rattle.dwp_bytes.specs.Input.{Input};
 ghost use Rattle.dwp_dwarf.specs.Remembered.{RemembersTable, RemembersTables};
 
-use crate::cache::ReadTable;
+use crate::read_table::ReadTable;
 use dwp_bytes::Reader;
 use std::alloc::Global;
 use std::collections::BTreeMap;

@@ -12,8 +12,8 @@ ghost use Rattle.dwp_dwarf.specs.Offsets.{from_at};
 ghost use Rattle.dwp_dwarf.specs.Remembered.{RemembersTable};
 
 use crate::abbrev::Abbreviation;
-use crate::cache::{ReadTable, next_declaration, read_on};
 use crate::chains::Chains;
+use crate::read_table::{ReadTable, next_declaration, read_on};
 use dwp_bytes::laws::lebs_take_bytes;
 use dwp_bytes::{ReadError, Reader};
 use std::alloc::Global;

@@ -4,7 +4,7 @@ use Rattle.dwp_dwarf.specs.Declarations.{declaration_of}
 use Rattle.dwp_dwarf.specs.Grammar.{next_at}
 use Rattle.dwp_dwarf.proofs.Grammar.{next_shorter, look_up-end, look_up-fault, look_up-here}
 use Rattle.dwp_dwarf.proofs.Remembered.{rest_says}
-use Rattle.dwp_dwarf.proofs.cache.read_on.Goals as goal
+use Rattle.dwp_dwarf.proofs.read_table.read_on.Goals as goal
 
 pub returns-in_err-found-clause-declared : goal.returns-in_err-found-clause-declared
 returns-in_err-found-clause-declared g c =

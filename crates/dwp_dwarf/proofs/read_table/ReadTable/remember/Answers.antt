@@ -1,6 +1,6 @@
 use Rattle.std.proofs.Common.{refl}
 use Rattle.dwp_dwarf.proofs.Remembered.{one_known, same_known}
-use Rattle.dwp_dwarf.proofs.cache.ReadTable.remember.Goals as goal
+use Rattle.dwp_dwarf.proofs.read_table.ReadTable.remember.Goals as goal
 
 pub returns-then-put_known : goal.returns-then-put_known
 returns-then-put_known g c = λ section offset table is declared r.

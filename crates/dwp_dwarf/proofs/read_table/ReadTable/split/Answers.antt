@@ -1,21 +1,23 @@
-use Rattle.std.proofs.Common.{◌≡◌, List, map, Option, Some, Vec, ap, sym, subst, ◌∙◌}
+use Rattle.std.proofs.Common.{◌≡◌, List, map, Option, Some, Vec, Result, ap, sym, subst, ◌∙◌}
 use Rattle.std.specs.Option.{IfSome}
 use Rattle.std.specs.Ordering.{nat_cmp}
 use Rattle.std.specs.BTreeMap.{get}
 use Rattle.std.specs.declared.alloc.Global.{Global}
+use Rattle.dwp_base.specs.Reading.{Answers}
+use Rattle.dwp_bytes.specs.declared.fault.ReadError.{ReadError}
 use Rattle.dwp_dwarf.specs.Abbreviations.{Declaration, Specification, declaration}
 use Rattle.dwp_dwarf.specs.Declarations.{specification_of, declaration_of}
 use Rattle.dwp_dwarf.specs.Entries.{attributes}
 use Rattle.dwp_dwarf.specs.Needed.{needed, none_met}
-use Rattle.dwp_dwarf.specs.Numbers.{first_number}
 use Rattle.dwp_dwarf.specs.Remembered.{ListsNeeded}
+use Rattle.dwp_dwarf.specs.Split.{SplitAttributes, attributes_of, split_in}
 use Rattle.dwp_dwarf.specs.declared.abbrev.AttributeSpecification.{AttributeSpecification}
-use Rattle.dwp_dwarf.proofs.Numbers.{first_needed}
 use Rattle.dwp_dwarf.proofs.Remembered.{same_declared}
-use Rattle.dwp_dwarf.proofs.cache.ReadTable.number.Goals as goal
+use Rattle.dwp_dwarf.proofs.SplitNames.{split_needed}
+use Rattle.dwp_dwarf.proofs.read_table.ReadTable.split.Goals as goal
 
-pub returns-in-Some-clause-number : goal.returns-in-Some-clause-number
-returns-in-Some-clause-number g c = λ table is old.
+pub returns-in-Some-clause-split : goal.returns-in-Some-clause-split
+returns-in-Some-clause-split g c = λ table is old.
     let values = g.R.Reader.input c.args.values in
     let d = declaration_of g.R.Reader.input c.args.abbreviation in
     let found : get nat_cmp c.list.new.self.lists c.args.code ≡ Some c.in-Some.list.now =
@@ -26,9 +28,11 @@ returns-in-Some-clause-number g c = λ table is old.
     old c.args.code) in
     let same : has.declared ≡ d = same_declared (declaration c.args.code table) has.declared d
     has.is is in
-    c.number_listed.ensures
-    ∙ ap (λ (ss : List Specification). first_number c.args.name
+    subst (λ (m : Result SplitAttributes ReadError).
+    Answers (attributes_of g.R.Reader.input) c.split_listed.result m)
+    (ap (λ (ss : List Specification). split_in c.args.encoding.format
     (attributes c.args.encoding ss values))
     (ap (map specification_of) c.deref.ensures.value ∙ has.listed
     ∙ ap (λ (x : Declaration). needed none_met x.specifications) same)
-    ∙ first_needed c.args.name c.args.encoding none_met d.specifications values
+    ∙ split_needed c.args.encoding.format c.args.encoding d.specifications values)
+    c.split_listed.ensures

@@ -2,7 +2,7 @@ use Rattle.std.proofs.Common.{◌≡◌, ℕ, length, None}
 use Rattle.std.specs.Ordering.{nat_cmp}
 use Rattle.std.specs.BTreeMap.{get}
 use Rattle.dwp_dwarf.specs.Remembered.{remembered}
-use Rattle.dwp_dwarf.proofs.cache.read_on.Given as goal
+use Rattle.dwp_dwarf.proofs.read_table.read_on.Given as goal
 
 -- nothing changes of what the memory and the rest say, and the code isn't remembered yet
 pub record Keeps (same : Type 0) (lacking : Type 0) : Type 0 where

@@ -1,6 +1,6 @@
 use Rattle.std.proofs.Common.{sym, ◌∙◌}
 use Rattle.dwp_dwarf.proofs.Remembered.{on_ok}
-use Rattle.dwp_dwarf.proofs.cache.put_known.Goals as goal
+use Rattle.dwp_dwarf.proofs.read_table.put_known.Goals as goal
 
 pub returns-clause-added : goal.returns-clause-added
 returns-clause-added g c = λ ok. (on_ok _ c.insert.result (sym c.is_ok.ensures.value ∙ ok)

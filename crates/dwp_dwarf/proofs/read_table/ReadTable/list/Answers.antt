@@ -1,6 +1,6 @@
 use Rattle.std.proofs.Common.{sym, ◌∙◌}
 use Rattle.dwp_dwarf.proofs.Remembered.{on_ok, key_apart, one_more_list}
-use Rattle.dwp_dwarf.proofs.cache.ReadTable.list.Goals as goal
+use Rattle.dwp_dwarf.proofs.read_table.ReadTable.list.Goals as goal
 
 pub returns-then-is_ok-clause-lists : goal.returns-then-is_ok-clause-lists
 returns-then-is_ok-clause-lists g c = λ table is old.

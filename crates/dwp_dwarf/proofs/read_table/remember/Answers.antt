@@ -1,7 +1,7 @@
 use Rattle.std.proofs.Common.{sym, ◌∙◌, refl}
 use Rattle.dwp_dwarf.specs.Declarations.{declaration_of}
 use Rattle.dwp_dwarf.proofs.Remembered.{on_ok, not_some, key_apart, passed, inserted}
-use Rattle.dwp_dwarf.proofs.cache.remember.Goals as goal
+use Rattle.dwp_dwarf.proofs.read_table.remember.Goals as goal
 
 pub returns-then-contains_key-clause-kept : goal.returns-then-contains_key-clause-kept
 returns-then-contains_key-clause-kept g c = λ yes rest behind h other.
