@@ -22,7 +22,9 @@ pub use dwp_index::{PackageError, PackageFile, PackagedUnit, Row, UnitEntry, Uni
 pub use dwp_table::{Bucketable, DebugTypeSignature, DwarfObject, DwoId};
 pub use groups::pack_groups;
 pub use packing::{Input, Packed, pack, take_input};
-pub use thorin_builder::{DwarfPackage, InProgressDwarfPackage, InputReader, MissingTargets};
+pub use thorin_builder::{
+    DwarfPackage, InProgressDwarfPackage, InputReader, MissingTargets, Repetition,
+};
 pub use thorin_executable::{NamelessUnits, Skeleton, SkeletonList, SkeletonUnits, skeletons};
 pub use thorin_faults::{
     ArenaSession, BytesSession, Error, InputError, MemorySession, MissingReferencedObjectBehaviour,

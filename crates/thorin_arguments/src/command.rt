@@ -121,7 +121,10 @@ const COLUMNS: Word = Word::FlagAlone(
     &["names", "json"],
 );
 
-const OVERLAP: Word = Word::Flag("allow-overlap", "Take inputs whose sections overlap");
+const OVERLAP: Word = Word::Flag(
+    "allow-overlap",
+    "Take inputs that make a package larger than they are",
+);
 
 const LAST_MACROS: Word = Word::Flag(
     "last-macros",

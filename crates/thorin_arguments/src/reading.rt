@@ -39,7 +39,7 @@ pub struct PackArguments<'m, 'a> {
     pub verbose: bool,
     /// Which warnings of type units are printed, where that is said: `each`, `once` or `none`.
     pub warnings: Option<&'a str>,
-    /// Whether sections of an input may overlap.
+    /// Whether an input may make the package larger than it is, as by sections that overlap.
     pub allows_overlap: bool,
     /// Words `FROM=TO`, by which prefixes of paths of objects are replaced.
     pub prefix_maps: Option<&'m [&'a str]>,

@@ -40,10 +40,10 @@ use Rattle.thorin_join.specs.Represents.{units_begun, units_of, meaning_at}
 use Rattle.thorin_join.specs.State.{InProgress, unit_bytes, held_units, adding, with_source}
 use Rattle.thorin_join.specs.State.{with_all}
 use Rattle.thorin_join.specs.State.{with_new_units}
-use Rattle.thorin_builder.specs.declared.again.Again.{Again}
-use Rattle.thorin_builder.specs.Again.{IsLater, IsLaterBegun, ExtendsBegun, AddsAlone, AddsAgain}
-use Rattle.thorin_builder.specs.Again.{AddsAgainTo, AddsNoUnit, with_more, IsTaken, AreTaken}
-use Rattle.thorin_builder.specs.Again.{Remembers}
+use Rattle.thorin_builder.specs.declared.repeated.Repeated.{Repeated}
+use Rattle.thorin_builder.specs.Repeated.{IsLater, IsLaterBegun, ExtendsBegun, AddsAlone, AddsAgain}
+use Rattle.thorin_builder.specs.Repeated.{AddsAgainTo, AddsNoUnit, with_more, IsTaken, AreTaken}
+use Rattle.thorin_builder.specs.Repeated.{Remembers}
 use Rattle.thorin_builder.proofs.Extending.{with_source-is, front-append, extends-refl}
 use Rattle.thorin_builder.specs.StateView.{in_progress_of, begun_of}
 use Rattle.thorin_builder.specs.declared.in_progress.InProgressDwarfPackage.{InProgressDwarfPackage}
@@ -83,28 +83,28 @@ later-trans a b c h k = record {
 }
 
 -- what is added to a package is added to what it becomes
-pub adds-later : (bytes : List ℕ) (parts : Contents) (differing : List ℕ) (own : Option Encoding)
-    (made now : InProgress) → IsLater made now → AddsAlone bytes parts differing own made
-    → AddsAlone bytes parts differing own now
-adds-later bytes parts differing own made now h alone = record {
+pub adds-later : (bytes : List ℕ) (parts : Contents) (differing : List ℕ) (made now : InProgress)
+    → IsLater made now → AddsAlone bytes parts differing made → AddsAlone bytes parts differing now
+adds-later bytes parts differing made now h alone = record {
+  own = alone.own;
   own_is = alone.own_is;
   adds = λ later k. alone.adds later (later-trans made now later h k);
   stays = alone.stays;
 }
 
-pub adds-now : (bytes : List ℕ) (again : Again) (begun : Option InProgress)
+pub adds-now : (bytes : List ℕ) (again : Repeated) (begun : Option InProgress)
     → AddsAgainTo bytes again begun
     → (made : InProgress) × (begun ≡ Some made) × AddsAgain bytes again made
 adds-now bytes again None h = absurd h
 adds-now bytes again (Some made) h = (made, refl, h)
 
-again-later : (bytes : List ℕ) (again : Again) (begun now : Option InProgress)
+again-later : (bytes : List ℕ) (again : Repeated) (begun now : Option InProgress)
     → IsLaterBegun begun now → AddsAgainTo bytes again begun → AddsAgainTo bytes again now
 again-later bytes again None now h adds = absurd adds
 again-later bytes again (Some made) None h adds = absurd h
 again-later bytes again (Some made) (Some later) h adds =
-    adds-later bytes (map part again.parts.items) (map (λ s. s.0) again.differing.items) again.own
-    made later h adds
+    adds-later bytes (map part again.parts.items) (map (λ s. s.0) again.differing.items) made later
+    h adds
 
 -- a package that was just begun, and one that stays
 pub none-extends : (p : Option InProgressDwarfPackage) (now : Option InProgress)
@@ -213,7 +213,7 @@ no-units-more : (made : InProgress) (parts : Contents) (differing : List ℕ)
 unfolding with_all with_new_units
 no-units-more made parts differing = refl
 
-source-again : (source : Source) (again : Again) (made later : InProgress)
+source-again : (source : Source) (again : Repeated) (made later : InProgress)
     → AddsNoUnit source again made → IsLater made later
     → with_source source later ≡ Ok (with_more (map part again.parts.items)
     (map (λ s. s.0) again.differing.items) later)
@@ -234,14 +234,15 @@ source-again source again made later h k =
     h.abbreviations units ∙ ap Ok (no-units-more later parts differing)
 
 pub input-again : (bytes : List ℕ) (file : Elf) (source : Source) (made : InProgress)
-    (again : Again)
+    (again : Repeated)
     → opened bytes ≡ Ok file → has_info file ≡ true → input_file_of file ≡ Ok source.object
     → encoding_of source.object ≡ Ok source.encoding → source.object.order ≡ made.file.order
     → indexes_of source.object source.encoding ≡ Ok source.indexes
     → AddsNoUnit source again made
     → AddsAgain bytes again made
 input-again bytes file source made again h k o e order i found = record {
-  own_is = own-is bytes file source.object source.encoding h k o e ∙ ap Ok (sym found.own_is);
+  own = one_encoding source.object source.encoding;
+  own_is = own-is bytes file source.object source.encoding h k o e;
   adds = λ later after. input-taken bytes file (Some later) _ h k (units-taken file source later _
       o e (after.order ∙ sym order) i (source-again source again made later found after));
   stays = λ later. record {
@@ -261,8 +262,9 @@ unfolding with_parts
 nothing-more made = ap (λ d. record made { differing = d }) (append-nil made.differing)
 
 pub nothing-again : (bytes : List ℕ) (file : Elf) (made : InProgress)
-    → opened bytes ≡ Ok file → has_info file ≡ false → AddsAlone bytes [] [] None made
+    → opened bytes ≡ Ok file → has_info file ≡ false → AddsAlone bytes [] [] made
 nothing-again bytes file made h k = record {
+  own = None;
   own_is = own-none bytes file h k;
   adds = λ later after. without-units bytes file later h k ∙ ap (λ p. Ok (Some p))
       (sym (nothing-more later));
@@ -270,8 +272,8 @@ nothing-again bytes file made h k = record {
 }
 
 -- what is known of what was found
-pub found-again : (result : Result (Option Again) Error) (P Q : Again → Type 0)
-    → ((again : Again) → P again → Q again)
+pub found-again : (result : Result (Option Repeated) Error) (P Q : Repeated → Type 0)
+    → ((again : Repeated) → P again → Q again)
     → IfOk result (λ found. IfSome found P) → IfOk result (λ found. IfSome found Q)
 found-again (Ok (Some again)) P Q f h = f again h
 found-again (Ok None) P Q f h = tt
@@ -279,7 +281,7 @@ found-again (Err e) P Q f h = tt
 
 -- ---- what is remembered of objects, by their paths
 
-is-taken-later : (offered : Result (List ℕ) IoError → Type 0) (again : Again)
+is-taken-later : (offered : Result (List ℕ) IoError → Type 0) (again : Repeated)
     (begun now : Option InProgress) → IsLaterBegun begun now → IsTaken offered again begun
     → IsTaken offered again now
 is-taken-later offered again begun now h k = record {
@@ -289,7 +291,7 @@ is-taken-later offered again begun now h k = record {
 }
 
 pub are-taken-later : (offer : List ℕ → Result (List ℕ) IoError → Type 0)
-    (es : List (String Global × Again)) (begun now : Option InProgress)
+    (es : List (String Global × Repeated)) (begun now : Option InProgress)
     → IsLaterBegun begun now → AreTaken offer es begun → AreTaken offer es now
 are-taken-later offer [] begun now h k = tt
 are-taken-later offer (e ∷ es) begun now h k = (
@@ -299,7 +301,8 @@ are-taken-later offer (e ∷ es) begun now h k = (
 
 -- what is found by a path is of that path
 pub taken-found : (offer : List ℕ → Result (List ℕ) IoError → Type 0)
-    (es : List (String Global × Again)) (begun : Option InProgress) (path : List ℕ) (again : Again)
+    (es : List (String Global × Repeated)) (begun : Option InProgress) (path : List ℕ)
+    (again : Repeated)
     → AreTaken offer es begun → lookup (λ k. bytes_eq path (string_bytes k)) es ≡ Some again
     → IsTaken (offer path) again begun
 taken-found offer [] begun path again k h = absurd (none-some again h)
@@ -320,8 +323,8 @@ taken-found offer (e ∷ es) begun path again k h =
 
 -- and with one more
 taken-more : (offer : List ℕ → Result (List ℕ) IoError → Type 0)
-    (es : List (String Global × Again)) (begun : Option InProgress) (key : String Global)
-    (again : Again)
+    (es : List (String Global × Repeated)) (begun : Option InProgress) (key : String Global)
+    (again : Repeated)
     → AreTaken offer es begun → IsTaken (offer (string_bytes key)) again begun
     → AreTaken offer (insert_entry string_eq es key again) begun
 taken-more offer [] begun key again k one = (one, tt)
@@ -341,7 +344,7 @@ taken-more offer (e ∷ es) begun key again k one =
 
 -- and with what bytes that may be read at a path add
 pub taken-remembered : (offer : List ℕ → Result (List ℕ) IoError → Type 0)
-    (old new : List (String Global × Again)) (begun : Option InProgress) (path bytes : List ℕ)
+    (old new : List (String Global × Repeated)) (begun : Option InProgress) (path bytes : List ℕ)
     → offer path (Ok bytes) → AreTaken offer old begun → Remembers bytes begun path old new
     → AreTaken offer new begun
 taken-remembered offer old new begun path bytes may k (inl same) =
@@ -366,7 +369,7 @@ pub later-same : (begun : Option InProgress) → IsLaterBegun begun begun
 later-same None = tt
 later-same (Some made) = later-refl made
 
-module _ (bytes : List ℕ) (again : Again) (old : State) (made now : InProgress)
+module _ (bytes : List ℕ) (again : Repeated) (old : State) (made now : InProgress)
     (begun : old.begun ≡ Some made) (known : AddsAgainTo bytes again old.begun)
     (added : now ≡ with_more (map part again.parts.items) (map (λ s. s.0) again.differing.items)
     made) where
@@ -382,8 +385,8 @@ module _ (bytes : List ℕ) (again : Again) (old : State) (made now : InProgress
   taken-known =
       let names : length (names_in (Some now)) ≡ length (names_in old.begun) =
       ap (λ p. length (names_in (Some p))) added ∙ ap (λ b. length (names_in b)) (sym begun) in
-      taken-as bytes old (Some now) again.own None input-known known-of.own_is
-      (after-none old (Some now) again.own (length (names_in old.begun))
+      taken-as bytes old (Some now) known-of.own None input-known known-of.own_is
+      (after-none old (Some now) known-of.own (length (names_in old.begun))
       (length (names_in (Some now))) refl refl (omega (arith, names)))
 
   pub later-known : IsLaterBegun old.begun (Some now)

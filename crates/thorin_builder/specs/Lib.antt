@@ -4,4 +4,4 @@ pub mod Building
 pub mod BuilderView
 pub mod Missing
 pub mod Taking
-pub mod Again
+pub mod Repeated

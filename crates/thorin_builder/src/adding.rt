@@ -5,7 +5,7 @@ ghost use Rattle.dwp_elf_read.specs.View.{elf};
 ghost use Rattle.thorin_faults.specs.Answers.{Gives};
 ghost use Rattle.thorin_join.specs.Builder as spec;
 ghost use Rattle.thorin_input.specs.Encodings.{file_encoding, own_encoding, are_alike};
-ghost use Rattle.thorin_builder.specs.Again.{ExtendsBegun};
+ghost use Rattle.thorin_builder.specs.Repeated.{ExtendsBegun};
 ghost use Rattle.thorin_builder.specs.StateView.{in_progress_of, begun_of};
 ghost use Rattle.thorin_input.specs.Used.{input_file_of};
 ghost use Rattle.thorin_input.specs.View as view;

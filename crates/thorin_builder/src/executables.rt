@@ -5,13 +5,13 @@ ghost use Rattle.std.specs.Path.{path_bytes};
 ghost use Rattle.thorin_builder.specs.Taking.{TakesExecutable, TakesExecutableSkippingNameless};
 ghost use Rattle.thorin_builder.specs.Taking.{TakesExecutableBy, TakesNamed, TakesSkeleton};
 ghost use Rattle.thorin_builder.specs.Taking.{TakesReferredFile, Takes, IsUnread, is_there};
-ghost use Rattle.thorin_builder.specs.Again.{AddsAgainTo, AreTaken, IsLaterBegun, Remembers};
+ghost use Rattle.thorin_builder.specs.Repeated.{AddsAgainTo, AreTaken, IsLaterBegun, Remembers};
 ghost use Rattle.thorin_join.specs.State.{InProgress};
 ghost use Rattle.thorin_executable.specs.Skeletons.{skeletons_by};
 
-use crate::again::Again;
 use crate::package::DwarfPackage;
 use crate::reader::InputReader;
+use crate::repeated::Repeated;
 use dwp_bytes::RelocationEntry;
 use dwp_table::DwarfObject;
 use indexmap::IndexMap;
@@ -40,7 +40,7 @@ struct Known {
     /// Whether that of the unit before can't be read, and is passed over.
     is_unread: bool,
     /// What each of those adds, by its path, that adds no unit and no string when it is taken again.
-    taken: IndexMap<String, Again>,
+    taken: IndexMap<String, Repeated>,
 }
 
 impl<'output, 'session: 'output, Sess: Session<RelocationEntry>> DwarfPackage<
@@ -232,7 +232,12 @@ impl<'output, 'session: 'output, Sess: Session<RelocationEntry>> DwarfPackage<
             return Ok(());
         }
         match known.taken.get(named.path) {
-            Some(again) => self.add_again(again),
+            Some(again) => {
+                if !reader.admits(again.repetition(Path::new(named.path))) {
+                    return Err(Error::Memory);
+                }
+                self.add_again(again)
+            }
             None => self.add_referred(reader, room, named, missing, known),
         }
     }
@@ -286,7 +291,7 @@ impl<'output, 'session: 'output, Sess: Session<RelocationEntry>> DwarfPackage<
         &mut self,
         bytes: &[u8],
         named: Named<'_>,
-        taken: &mut IndexMap<String, Again>,
+        taken: &mut IndexMap<String, Repeated>,
     ) -> Result<(), Error>
         ensures takes { Takes bytes.now self.old.state result self.new.state }
         ensures later { OnOk result
@@ -306,7 +311,7 @@ impl<'output, 'session: 'output, Sess: Session<RelocationEntry>> DwarfPackage<
 }
 
 /// Remembers what the object at a path adds. Without memory for it nothing is remembered.
-fn remember(alloc: Global, taken: &mut IndexMap<String, Again>, path: &str, again: Again)
+fn remember(alloc: Global, taken: &mut IndexMap<String, Repeated>, path: &str, again: Repeated)
     ensures { (bytes : List ℕ) (begun : Option InProgress) → AddsAgainTo bytes again begun
         → Remembers bytes begun path.now taken.old.entries taken.new.entries }
 {

@@ -3,18 +3,18 @@
 #![tactic(auto)]
 
 mod adding;
-mod again;
 mod executables;
 mod in_progress;
 mod missing;
 mod package;
 mod reader;
+mod repeated;
 mod state;
 mod units;
 
 pub use in_progress::InProgressDwarfPackage;
 pub use missing::MissingTargets;
 pub use package::DwarfPackage;
-pub use reader::InputReader;
+pub use reader::{InputReader, Repetition};
 pub use thorin_executable::{NamelessUnits, Skeleton, SkeletonList, SkeletonUnits, skeletons};
 pub use thorin_identity::dwo_identifier_of_unit;

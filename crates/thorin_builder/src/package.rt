@@ -14,16 +14,16 @@ ghost use Rattle.thorin_again.specs.Own.{packs_again};
 ghost use Rattle.thorin_again.specs.OwnAccepted.{IsAcceptedByNewOnceWritten};
 ghost use Rattle.thorin_again.specs.OwnAccepted.{IsAcceptedOnceWritten};
 ghost use Rattle.thorin_again.specs.OwnUnits.{HasOneEncoding};
-ghost use Rattle.thorin_builder.specs.Again.{AddsAgainTo, IsLaterBegun};
+ghost use Rattle.thorin_builder.specs.Repeated.{AddsAgainTo, IsLaterBegun};
 ghost use Rattle.thorin_builder.specs.StateView.{begun_of};
 ghost use Rattle.thorin_builder.specs.Taking.{Takes, TakesFile, with_target};
 ghost use Rattle.thorin_builder.specs.Missing.{without_targets};
 
 use crate::adding::add_input;
-use crate::again::Again;
 use crate::in_progress::InProgressDwarfPackage;
 use crate::missing::MissingTargets;
 use crate::reader::InputReader;
+use crate::repeated::Repeated;
 use dwp_bytes::RelocationEntry;
 use dwp_dwarf::Encoding;
 use dwp_elf::WritableObject;
@@ -197,7 +197,7 @@ impl<'output, 'session: 'output, Sess: Session<RelocationEntry>> DwarfPackage<
     /// Adds what an object adds that was added before, where that is no unit and no string. It
     /// refuses for memory alone.
     #[tactic(auto, unfolding(thorin_join::specs::Builder::taken))]
-    pub(crate) fn add_again(&mut self, again: &Again) -> Result<(), Error>
+    pub(crate) fn add_again(&mut self, again: &Repeated) -> Result<(), Error>
         requires known { (bytes : List ℕ) × AddsAgainTo bytes again.now self.old.state.begun }
         ensures takes { (bytes : List ℕ) → AddsAgainTo bytes again.now self.old.state.begun
             → Takes bytes self.old.state result self.new.state }
@@ -217,7 +217,7 @@ impl<'output, 'session: 'output, Sess: Session<RelocationEntry>> DwarfPackage<
 
     /// What an object adds, where that is no unit and no string; None where it isn't, and where it
     /// can't be told. The package stays as it is.
-    pub(crate) fn again_of(&mut self, bytes: &[u8]) -> Option<Again>
+    pub(crate) fn again_of(&mut self, bytes: &[u8]) -> Option<Repeated>
         ensures state { self.new.state ≡ self.old.state }
         ensures again { IfSome result (λ again.
             AddsAgainTo bytes.now again self.old.state.begun) }

@@ -9,6 +9,18 @@ use dwp_bytes::RelocationEntry;
 use std::path::Path;
 use thorin_faults::{InputError, Session};
 
+/// What an object adds once more, which lacks the units that name it and adds no unit: it is read
+/// once, and added for each of them.
+#[derive(Clone, Copy, Debug)]
+pub struct Repetition<'p> {
+    /// The path of the object, as the executable has it.
+    pub path: Path<'p>,
+    /// How many bytes of sections it adds.
+    pub bytes: usize,
+    /// How many type units it has that differ from those kept.
+    pub differing: usize,
+}
+
 /// Reads the inputs that paths name, each into the same room. Every session is such a reader; it
 /// needs no room, since it keeps what it reads.
 pub trait InputReader {
@@ -30,6 +42,12 @@ pub trait InputReader {
     /// Is called in place of a read at the path that was read last: that read failed, and objects
     /// that can't be read are passed over.
     fn pass_over(&self) {}
+
+    /// Whether an object may be added once more. A reader may set bounds to what small files ask
+    /// for; where it says no, the answer is `Memory`.
+    fn admits(&self, _repetition: Repetition<'_>) -> bool {
+        true
+    }
 }
 
 impl<S: Session<RelocationEntry>> InputReader for S {

@@ -310,20 +310,23 @@ fn member_refused<I: Inputs, E: Write>(
     fault: Error,
     err: &mut E,
 ) -> Refusal {
-    let overlap = files.found_overlap();
-    if !overlap && !place.telling.notes {
-        return Refusal::Package(fault);
-    }
-    if overlap {
-        let _ = writeln!(err, "error: Sections overlap");
-    } else {
-        let _ = tell_fault(place.alloc, err, &fault);
+    let growth = files.found_growth();
+    match growth {
+        Some(growth) => {
+            let error = growth.error();
+            let _ = writeln!(err, "error: {error}");
+        }
+        None if place.telling.notes => {
+            let _ = tell_fault(place.alloc, err, &fault);
+        }
+        None => return Refusal::Package(fault),
     }
     if place.telling.notes {
         if let Ok(text) = place_of_member(place.alloc, place.path.path_text(), name) {
             let text = text.as_str();
-            if overlap {
-                let _ = writeln!(err, "note: {text}: --allow-overlap packs it");
+            if let Some(growth) = growth {
+                let note = growth.note();
+                let _ = writeln!(err, "note: {text}: {note}");
             } else {
                 let before = Before {
                     place: before,

@@ -4,14 +4,17 @@
 
 mod archives;
 mod asked;
+mod decompressing;
 mod encodings;
 mod files;
+mod given;
+mod growth;
+mod inner;
 mod macros;
 mod missing;
 mod notes;
 mod origins;
 mod output;
-mod overlap;
 mod packing;
 mod plain;
 mod prefixes;

@@ -22,8 +22,7 @@ use std::path::{AsPath, Path};
 use thorin::{BytesSession, DwarfPackage, Input, MissingTargets, NamelessUnits};
 use thorin_executable::NamedUnits;
 use thorin_faults::{Error, InputError, MissingReferencedObjectBehaviour, Session};
-use thorin_queries::{Failure, buffer};
-use thorin_words::printed;
+use thorin_queries::{Failure, buffer, shown};
 
 /// Where that is asked for, leaves out units that executables refer to and that aren't there: each
 /// is told.
@@ -190,7 +189,7 @@ fn tell_each<I: Inputs, E: Write>(
 }
 
 /// Prints the path of each object that executables name and that can't be read, one a line, each
-/// once. Packs nothing. Answers the status: 1 where there is one, and where an executable is
+/// once, cut where it is longer than the system takes. Packs nothing. Answers the status: 1 where there is one, and where an executable is
 /// refused, which is printed.
 ///
 /// # Errors
@@ -289,18 +288,19 @@ fn list_path<I: Inputs, W: Write>(
     lines: &mut W,
 ) -> Result<bool, Refusal> {
     let path = files.mapped(named)?;
-    if seen.contains(&path) {
+    let told = shown(alloc, path.as_str())?;
+    if seen.contains(&told) {
         return Ok(false);
     }
     let is_missing = files.unreadable(path.as_str())?.is_some();
     if is_missing {
-        put_path(alloc, path.as_str(), lines)?;
+        put_path(told.as_str(), lines)?;
     }
-    keep(seen, path)?;
+    keep(seen, told)?;
     Ok(is_missing)
 }
 
-/// Keeps a path that was looked for.
+/// Keeps a path that was looked for, as it is told.
 fn keep(seen: &mut HashSet<String>, path: String) -> Result<(), AllocError> {
     match seen.insert(path) {
         Ok(_) => Ok(()),
@@ -309,8 +309,7 @@ fn keep(seen: &mut HashSet<String>, path: String) -> Result<(), AllocError> {
 }
 
 /// Prints a path.
-fn put_path<W: Write>(alloc: Global, path: &str, lines: &mut W) -> Result<(), Failure> {
-    let path = printed(alloc, path)?;
+fn put_path<W: Write>(path: &str, lines: &mut W) -> Result<(), Failure> {
     match writeln!(lines, "{path}") {
         Ok(()) => Ok(()),
         Err(_) => Err(Failure::Line),

@@ -1,31 +1,32 @@
 //! The inputs of `pack`, decompressed and with the last macros alone where that is asked for.
 
-ghost use Rattle.std.specs.Prelude.{◌≡◌, ◌⊎◌, IsTrue, IfOk, IfSome, OnOk, IfErr};
+ghost use Rattle.std.specs.Prelude.{◌≡◌, ◌⊎◌, IsTrue, IfOk, IfErr};
 ghost use Rattle.std.specs.Prelude.{string_bytes};
 ghost use Rattle.std.specs.Path.{path_bytes};
 ghost use Rattle.thorin_faults.specs.Sessions.{IsNoWantOfMemory};
-ghost use Rattle.thorin_commands.specs.Archives.{or_content};
-ghost use Rattle.thorin_commands.specs.Packing.{IsAmong, StandsAt, paths_in, through};
-ghost use Rattle.thorin_commands.specs.Plain.{IsPlainOf, IsReadOver, taken_from, last_from};
+ghost use Rattle.thorin_commands.specs.Packing.{IsAmong, paths_in, through};
+ghost use Rattle.thorin_commands.specs.Plain.{IsReadOver, taken_from, last_from};
 ghost use Rattle.thorin_commands.specs.Prefixes.{mapped as mapped_path};
 
 use crate::asked::executable_of;
+use crate::decompressing::{decompress, plain_of};
 use crate::encodings::Encodings;
 use crate::files::FileSystem;
+use crate::given::place_among;
+use crate::growth::{Growth, Repetitions, has_overlap};
+use crate::inner::has_inner_strings;
 use crate::macros::{MacroWarnings, keep_last_macros};
 use crate::notes::{Unread, place_of, reason};
 use crate::origins::{Origin, Origins, Source};
-use crate::overlap::has_overlap;
 use crate::packing::{Packing, paths_in};
 use crate::prefixes::mapped;
 use crate::reading::Inputs;
 use crate::warnings::Warnings;
-use dwp_decompress::{DecompressError, decompressed};
 use std::alloc::{AllocError, Global};
 use std::cell::Cell;
 use std::io;
 use std::path::{AsPath, Path};
-use thorin::{Input, InputReader};
+use thorin::{Input, InputReader, Repetition};
 use thorin_faults::InputError;
 use thorin_queries::Failure;
 
@@ -57,12 +58,14 @@ pub(crate) struct InputFiles<'f, F> {
     /// What was taken so far, and the encodings of what was read, where notes are printed.
     origins: Origins,
     encodings: Encodings,
-    /// Whether a file may have sections that overlap.
+    /// Whether the package may be larger than the files: their sections may overlap.
     allows_overlap: bool,
     /// Whether the input is an executable.
     is_executable: Cell<bool>,
-    /// Whether a file of the input was refused since its sections overlap.
-    overlap: Cell<bool>,
+    /// What objects of the input add once more, and why the input was refused that would make the
+    /// package larger than its files.
+    repetitions: Repetitions,
+    growth: Cell<Option<Growth>>,
 }
 
 impl<'f, F: FileSystem> InputFiles<'f, F> {
@@ -97,7 +100,8 @@ impl<'f, F: FileSystem> InputFiles<'f, F> {
             encodings: Encodings::new(alloc, packing.notes),
             allows_overlap: packing.allows_overlap,
             is_executable: Cell::new(false),
-            overlap: Cell::new(false),
+            repetitions: Repetitions::new(alloc),
+            growth: Cell::new(None),
         }
     }
 
@@ -147,13 +151,29 @@ impl<'f, F: FileSystem> InputFiles<'f, F> {
     {
         self.keep_path(is_own, path.path_text());
         match read_file(self.files, is_own && !self.again.get(), path, room) {
-            Ok(()) => Ok(()),
+            Ok(()) if self.admits_file(is_own, path.path_text(), room) => Ok(()),
+            Ok(()) => Err(InputError::Memory),
             Err(InputError::Io(cause)) => {
                 self.keep_unread(is_own, path.path_text(), &cause);
                 Err(InputError::Io(cause))
             }
             Err(InputError::Memory) => Err(InputError::Memory),
         }
+    }
+
+    /// Whether a file that was read may be added: an object of an executable may be one that was
+    /// read before by another path.
+    fn admits_file(&self, is_own: bool, path: &str, file: &[u8]) -> bool {
+        if is_own || self.allows_overlap {
+            self.repetitions.count_read(file.len());
+            return true;
+        }
+        let identity = self.files.identity(path);
+        if self.repetitions.admits_object(identity, file) {
+            return true;
+        }
+        self.growth.set(Some(Growth::Repetition));
+        false
     }
 
     /// A path that an executable names, with its prefix replaced.
@@ -171,8 +191,25 @@ impl<'f, F: FileSystem> InputFiles<'f, F> {
             return false;
         }
         let found = has_overlap(file);
-        self.overlap.set(found);
+        if found {
+            self.growth.set(Some(Growth::Sections));
+        }
         found
+    }
+
+    /// Refuses a file of plain bytes since its strings overlap, which is kept.
+    ///
+    /// # Errors
+    /// `Memory`, also where they overlap.
+    fn test_strings(&self, is_own: bool, file: &[u8]) -> Result<(), AllocError> {
+        if self.allows_overlap || is_own && self.is_executable.get() {
+            return Ok(());
+        }
+        if has_inner_strings(self.alloc, file)? {
+            self.growth.set(Some(Growth::Strings));
+            return Err(AllocError);
+        }
+        Ok(())
     }
 
     /// Keeps a path that is read, for notes: where there is no memory for it, they do without.
@@ -297,10 +334,15 @@ impl<F: FileSystem> InputReader for InputFiles<'_, F> {
         path: Path<'_>,
         room: &'b mut Vec<u8>,
     ) -> Result<&'b [u8], InputError> {
+        let is_own = self.begins.get();
         match self.read_plain(path, room) {
             Ok(()) => {}
             Err(InputError::Io(cause)) => return Err(InputError::Io(cause)),
             Err(InputError::Memory) => return Err(InputError::Memory),
+        }
+        match self.test_strings(is_own, room) {
+            Ok(()) => {}
+            Err(AllocError) => return Err(InputError::Memory),
         }
         self.look_at_encoding(path.path_text(), room);
         if !self.keeps_last_macros {
@@ -317,6 +359,16 @@ impl<F: FileSystem> InputReader for InputFiles<'_, F> {
 
     fn pass_over(&self) {
         self.count_unread();
+    }
+
+    fn admits(&self, repetition: Repetition<'_>) -> bool {
+        if self.allows_overlap || self.repetitions.admits(repetition) {
+            return true;
+        }
+        self.growth.set(Some(Growth::Repetition));
+        self.named
+            .set(self.mapped(repetition.path.path_text()).ok());
+        false
     }
 }
 
@@ -335,18 +387,25 @@ impl<F: FileSystem> Inputs for InputFiles<'_, F> {
             return Err(AllocError);
         }
         self.look_at_member(content);
-        if self.decompresses {
-            plain_of(self.alloc, content)
+        let plain = if self.decompresses {
+            plain_of(self.alloc, content)?
         } else {
-            Ok(None)
-        }
+            None
+        };
+        let taken = match &plain {
+            Some(plain) => plain.as_slice(),
+            None => content,
+        };
+        self.test_strings(false, taken)?;
+        Ok(plain)
     }
 
     fn begin(&self, input: Input<'_>) {
         self.begins.set(true);
         self.again.set(false);
         self.macros.begin();
-        self.overlap.set(false);
+        self.growth.set(None);
+        self.repetitions.begin();
         self.is_executable.set(executable_of(input).is_some());
     }
 
@@ -384,8 +443,8 @@ impl<F: FileSystem> Inputs for InputFiles<'_, F> {
         self.unread.replace(None)
     }
 
-    fn found_overlap(&self) -> bool {
-        self.overlap.get()
+    fn found_growth(&self) -> Option<Growth> {
+        self.growth.get()
     }
 
     fn keep_taken(&self, source: Source<'_>, count: usize) {
@@ -398,35 +457,6 @@ impl<F: FileSystem> Inputs for InputFiles<'_, F> {
 
     fn encoding_notes(&self) -> Result<Option<String>, AllocError> {
         self.encodings.notes()
-    }
-}
-
-/// The place of a path among others, where it is there: it is looked for at a place, at the one
-/// before, and then at all.
-fn place_among(paths: &[&str], next: usize, path: &str) -> Option<usize>
-    ensures { IfSome result (StandsAt paths.now path.now) }
-{
-    if is_at(paths, next, path) {
-        return Some(next);
-    }
-    if is_at(paths, next.saturating_sub(1), path) {
-        return Some(next.saturating_sub(1));
-    }
-    for place in 0..paths.len() {
-        if is_at(paths, place, path) {
-            return Some(place);
-        }
-    }
-    None
-}
-
-/// Whether a path stands at a place among others.
-fn is_at(paths: &[&str], place: usize, path: &str) -> bool
-    ensures { IsTrue result → StandsAt paths.now path.now place }
-{
-    match paths.get(place) {
-        Some(given) => *given == path,
-        None => false,
     }
 }
 
@@ -444,34 +474,5 @@ fn read_file<F: FileSystem>(
         files.read_over(path, room)
     } else {
         files.read_regular_over(path, room)
-    }
-}
-
-/// A file with plain sections in place of its compressed ones; none where it stays as it is.
-#[tactic(auto, unfolding(crate::specs::Plain::IsPlainOf))]
-fn plain_of(alloc: Global, file: &[u8]) -> Result<Option<Vec<u8>>, AllocError>
-    ensures { IfOk result (λ taken. IsPlainOf file.now (or_content file.now taken)) }
-{
-    match decompressed(alloc, file) {
-        Ok(plain) => Ok(plain),
-        Err(DecompressError::Memory) => Err(AllocError),
-        Err(_) => Ok(None),
-    }
-}
-
-/// Puts plain sections in place of a file's compressed ones. A file stays as it is where one of
-/// them can't be read: who uses that section refuses it.
-#[tactic(auto, unfolding(crate::specs::Plain::IsPlainOf))]
-fn decompress(alloc: Global, file: &mut Vec<u8>) -> Result<(), AllocError>
-    ensures { OnOk result (IsPlainOf file.old.items file.new.items) }
-{
-    match decompressed(alloc, file) {
-        Ok(Some(plain)) => {
-            *file = plain;
-            Ok(())
-        }
-        Ok(None) => Ok(()),
-        Err(DecompressError::Memory) => Err(AllocError),
-        Err(_) => Ok(()),
     }
 }

@@ -3,6 +3,7 @@
 ghost use Rattle.std.specs.Prelude.{◌≡◌, Bool, IfOk};
 ghost use Rattle.thorin_commands.specs.Archives.{IsTakenFor, or_content};
 
+use crate::growth::Growth;
 use crate::notes::Unread;
 use crate::origins::{Origin, Source};
 use std::alloc::AllocError;
@@ -57,8 +58,8 @@ pub(crate) trait Inputs: InputReader {
     /// The first of the reads that failed.
     fn first_unread(&self) -> Option<Unread>;
 
-    /// Whether a file of the input was refused since its sections overlap.
-    fn found_overlap(&self) -> bool;
+    /// How the input would make the package larger than its files, where it was refused for that.
+    fn found_growth(&self) -> Option<Growth>;
 
     /// Keeps for notes what was taken, and how many units the package has now.
     fn keep_taken(&self, source: Source<'_>, count: usize);

@@ -3,6 +3,7 @@
 ghost use Rattle.std.specs.Prelude.{◌≡◌};
 
 use crate::asked::{executable_of, nameless_in};
+use crate::growth::Growth;
 use crate::notes::{note_duplicate, note_refused, note_unread, place_of};
 use crate::origins::Origin;
 use crate::output::Refusal;
@@ -131,8 +132,8 @@ pub(crate) fn refusal<I: Inputs, E: Write>(
     telling: Telling,
     err: &mut E,
 ) -> Refusal {
-    if inputs.found_overlap() {
-        tell_overlap(alloc, inputs, refused.input, telling, err);
+    if let Some(growth) = inputs.found_growth() {
+        tell_growth(alloc, inputs, refused.input, growth, telling, err);
         return Refusal::Told;
     }
     if telling.notes {
@@ -142,18 +143,22 @@ pub(crate) fn refusal<I: Inputs, E: Write>(
     Refusal::Package(refused.fault)
 }
 
-/// Prints that the sections of a file overlap, and where that is asked for of which.
-fn tell_overlap<I: Inputs, E: Write>(
+/// Prints how an input would make the package larger than its files, and where that is asked for
+/// which file.
+fn tell_growth<I: Inputs, E: Write>(
     alloc: Global,
     inputs: &I,
     input: Input<'_>,
+    growth: Growth,
     telling: Telling,
     err: &mut E,
 ) {
-    let _ = writeln!(err, "error: Sections overlap");
+    let error = growth.error();
+    let _ = writeln!(err, "error: {error}");
     if telling.notes {
         if let Ok(Some(place)) = place_in(alloc, input, inputs.last_named()) {
-            let _ = writeln!(err, "note: {place}: --allow-overlap packs it");
+            let note = growth.note();
+            let _ = writeln!(err, "note: {place}: {note}");
         }
     }
 }

@@ -3,7 +3,7 @@ complete -c dwp -s o -l output -r -F -d 'The package to write; - for standard ou
 complete -c dwp -s e -l exec -r -F -d 'Executables whose objects are packed, after all inputs'
 complete -c dwp -l force -d 'Write OUT even if it is an input'
 complete -c dwp -l verify-only -d 'Check the package OUT instead of writing it'
-complete -c dwp -l allow-overlap -d 'Take inputs whose sections overlap'
+complete -c dwp -l allow-overlap -d 'Take inputs that make a package larger than they are'
 complete -c dwp -l warnings -x -a 'each once none' -d 'Warn of type units that differ: each, once or none'
 complete -c dwp -s v -l verbose -d 'Report each input'
 complete -c dwp -s h -l help -d 'Print help'

@@ -3,7 +3,7 @@ complete -c llvm-dwp -s o -l output -r -F -d 'The package to write; - for standa
 complete -c llvm-dwp -s e -l exec -r -F -d 'Executables whose objects are packed, after all inputs'
 complete -c llvm-dwp -l force -d 'Write OUT even if it is an input'
 complete -c llvm-dwp -l verify-only -d 'Check the package OUT instead of writing it'
-complete -c llvm-dwp -l allow-overlap -d 'Take inputs whose sections overlap'
+complete -c llvm-dwp -l allow-overlap -d 'Take inputs that make a package larger than they are'
 complete -c llvm-dwp -l warnings -x -a 'each once none' -d 'Warn of type units that differ: each, once or none'
 complete -c llvm-dwp -s v -l verbose -d 'Report each input'
 complete -c llvm-dwp -s h -l help -d 'Print help'

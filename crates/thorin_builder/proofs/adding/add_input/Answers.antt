@@ -1,5 +1,5 @@
 use Rattle.std.proofs.Common.{◌∙◌, ap, not, sym, subst}
-use Rattle.thorin_builder.specs.Again.{ExtendsBegun}
+use Rattle.thorin_builder.specs.Repeated.{ExtendsBegun}
 use Rattle.thorin_builder.specs.StateView.{begun_of}
 use Rattle.thorin_builder.proofs.AddedAgain.{none-extends, same-extends}
 use Rattle.thorin_builder.proofs.adding.add_input.Goals.{then-is_none+in-Some-1}

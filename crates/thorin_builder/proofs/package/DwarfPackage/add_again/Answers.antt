@@ -1,7 +1,7 @@
 use Rattle.std.proofs.Common.{◌≡◌, ap, rules, sym, subst, map, Some, None}
 use Rattle.thorin_input.specs.View as view
 use Rattle.thorin_join.specs.Builder.{State}
-use Rattle.thorin_builder.specs.Again.{AddsAgainTo, IsLaterBegun, with_more}
+use Rattle.thorin_builder.specs.Repeated.{AddsAgainTo, IsLaterBegun, with_more}
 use Rattle.thorin_builder.specs.StateView.{in_progress_of, begun_of}
 use Rattle.thorin_builder.proofs.AddedAgain.{input-known, taken-known, later-known, later-same}
 use Rattle.thorin_builder.proofs.package.DwarfPackage.add_again.Goals.{in-Some+in_ok-add_again}

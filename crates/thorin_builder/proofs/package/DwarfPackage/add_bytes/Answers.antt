@@ -9,7 +9,7 @@ use Rattle.thorin_again.specs.Plain.{HoldsPlain}
 use Rattle.thorin_join.specs.Represents.{IsSoundBegun}
 use Rattle.thorin_join.specs.State.{InProgress}
 use Rattle.thorin_builder.specs.StateView.{begun_of}
-use Rattle.thorin_builder.specs.Again.{IsLaterBegun}
+use Rattle.thorin_builder.specs.Repeated.{IsLaterBegun}
 use Rattle.thorin_builder.proofs.AddedAgain.{joined-later}
 use Rattle.thorin_builder.proofs.OwnKept.{taken-as, after-none, after-first, after-more}
 use Rattle.thorin_builder.proofs.package.DwarfPackage.add_bytes.Goals.{then-unit_count-units}

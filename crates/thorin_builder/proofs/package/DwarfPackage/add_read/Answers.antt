@@ -1,5 +1,5 @@
 use Rattle.std.proofs.Common.{◌≡◌, rules, sym, subst, inl}
-use Rattle.thorin_builder.specs.Again.{AddsAgainTo, Remembers}
+use Rattle.thorin_builder.specs.Repeated.{AddsAgainTo, Remembers}
 use Rattle.thorin_builder.proofs.package.DwarfPackage.add_read.Goals.{then-not-is_there+in-Some}
 use Rattle.thorin_builder.proofs.package.DwarfPackage.add_read.Goals.{then-not-is_there+in_default}
 use Rattle.thorin_builder.proofs.package.DwarfPackage.add_read.Goals.{else-not-is_there}

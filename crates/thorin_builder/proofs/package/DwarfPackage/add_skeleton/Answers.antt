@@ -1,9 +1,12 @@
 use Rattle.std.proofs.Common.{◌≡◌, ◌∙◌, ap, false, refl, rules, sym, subst, inl, inr, [], Some, Ok}
+use Rattle.std.proofs.Common.{Err}
 use Rattle.std.specs.Map.{lookup}
 use Rattle.std.specs.Prelude.{string_bytes}
 use Rattle.std.specs.Str.{bytes_eq}
+use Rattle.thorin_faults.specs.declared.fault.Error.TheVariants as error
+use Rattle.thorin_faults.specs.declared.fault.InputError.TheVariants.{Memory}
 use Rattle.thorin_join.specs.Builder.{State}
-use Rattle.thorin_builder.specs.Again.{AddsAgainTo, AreTaken}
+use Rattle.thorin_builder.specs.Repeated.{AddsAgainTo, AreTaken}
 use Rattle.thorin_builder.specs.Taking.{TakesReferredFile, Takes, with_target, is_there}
 use Rattle.thorin_builder.specs.Taking.{accepted_of}
 use Rattle.thorin_builder.proofs.AddedAgain.{taken-found, are-taken-later, target-begun}
@@ -47,8 +50,25 @@ add_again-requires g c =
     let adds = subst (λ b. AddsAgainTo found.bytes c.in-Some.again.now b) begun found.adds in
     record { known = (found.bytes, adds) }
 
-pub returns-in-Some-clause-taken : goal.returns-in-Some-clause-taken
-returns-in-Some-clause-taken g c =
+pub returns-then-not-admits-clause-taken : goal.returns-then-not-admits-clause-taken
+returns-then-not-admits-clause-taken g c =
+    let offer = g.R.InputReader.offer c.args.reader.now in
+    let old = c.args.self.now.state in
+    let absent : is_there c.args.named.target old ≡ false =
+    search (rules, c.is_there.ensures, c.if-is_there) in
+    let target : c.add_target.new.self.state ≡ with_target c.args.named.target old =
+    search (rules, c.in_ok-add_target.ensures.target) in
+    let file : TakesReferredFile (offer c.args.named.path.now) c.args.missing
+    (with_target c.args.named.target old) (Err error.Memory) c.add_target.new.self.state = record {
+      read = Err Memory;
+      within = tt;
+      accepted = [];
+      taken = (refl, target, refl);
+    } in
+    (file.accepted, inr (inl (record { absent = absent; file = file; accepted_is = refl })))
+
+pub returns-else-not-admits-clause-taken : goal.returns-else-not-admits-clause-taken
+returns-else-not-admits-clause-taken g c =
     let offer = g.R.InputReader.offer c.args.reader.now in
     let old = c.args.self.now.state in
     let entries = c.args.known.now.taken.entries in
@@ -75,8 +95,8 @@ returns-in-Some-clause-taken g c =
     } in
     (file.accepted, inr (inl (record { absent = absent; file = file; accepted_is = refl })))
 
-pub returns-in-Some-clause-known : goal.returns-in-Some-clause-known
-returns-in-Some-clause-known g c =
+pub returns-else-not-admits-clause-known : goal.returns-else-not-admits-clause-known
+returns-else-not-admits-clause-known g c =
     let offer = g.R.InputReader.offer c.args.reader.now in
     let old = c.args.self.now.state in
     let entries = c.args.known.now.taken.entries in

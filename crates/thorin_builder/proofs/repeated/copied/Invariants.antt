@@ -1,6 +1,6 @@
 use Rattle.std.proofs.Common.{◌≡◌, ◌++◌, map, drop}
 use Rattle.thorin_input.specs.View.{part}
-use Rattle.thorin_builder.proofs.again.copied.Given as goal
+use Rattle.thorin_builder.proofs.repeated.copied.Given as goal
 
 -- the parts so far, and those that are left, are all
 abbrev pub invariant-loop-part : goal.invariant-loop-part

@@ -5,27 +5,41 @@ ghost use Rattle.std.specs.Prelude.{◌≡◌, map, Some, OnOk, OnErr, IfOk, IfE
 ghost use Rattle.dwp_elf.specs.FileText.{Object};
 ghost use Rattle.thorin_input.specs.Growing.{IsGrown, with_parts};
 ghost use Rattle.thorin_input.specs.View as view;
-ghost use Rattle.thorin_builder.specs.Again.{AddsAgain, AddsNoUnit, with_more};
+ghost use Rattle.thorin_builder.specs.Repeated.{AddsAgain, AddsNoUnit, with_more};
 ghost use Rattle.thorin_builder.specs.StateView.{in_progress_of};
 ghost use Rattle.thorin_join.specs.State as spec;
 
 use crate::in_progress::InProgressDwarfPackage;
+use crate::reader::Repetition;
 use crate::units::{Adding, NewUnits};
-use dwp_dwarf::Encoding;
 use dwp_elf::WritableObject;
 use dwp_table::DebugTypeSignature;
 use std::alloc::Global;
+use std::path::Path;
 use thorin_faults::Error;
 use thorin_input::{Indexes, Part, PartBytes, Source, Walked, Whole, opened, parts_of, put};
 
 /// What an input adds to a package each time that it is taken, where that is no unit and no string:
 /// parts of sections, and the signatures of its type units that differ from those kept.
 #[derive(Drop)]
-pub(crate) struct Again {
+pub(crate) struct Repeated {
     pub parts: Vec<Part<'static>>,
     pub differing: Vec<DebugTypeSignature>,
-    /// The one encoding of all its units, where there is one.
-    pub own: Option<Encoding>,
+}
+
+impl Repeated {
+    /// What is added once more of the object at a path.
+    pub fn repetition<'p>(&self, path: Path<'p>) -> Repetition<'p> {
+        let mut bytes: usize = 0;
+        for part in &self.parts {
+            bytes = bytes.saturating_add(part.bytes().len());
+        }
+        Repetition {
+            path,
+            bytes,
+            differing: self.differing.len(),
+        }
+    }
 }
 
 /// Adds parts to the contents of a package, in order. It refuses for memory alone.
@@ -62,7 +76,7 @@ fn copied(alloc: Global, parts: &[Part<'_>]) -> Result<Vec<Part<'static>>, Error
 impl InProgressDwarfPackage {
     /// What an input adds, where that is no unit and no string; else None, or the input's first
     /// error. The package stays as it is.
-    pub(crate) fn adds_again(&mut self, bytes: &[u8]) -> Result<Option<Again>, Error>
+    pub(crate) fn adds_again(&mut self, bytes: &[u8]) -> Result<Option<Repeated>, Error>
         ensures same { in_progress_of self.new ≡ in_progress_of self.old }
         ensures found { IfOk result (λ found. IfSome found (λ again.
             AddsAgain bytes.now again (in_progress_of self.old))) }
@@ -70,10 +84,9 @@ impl InProgressDwarfPackage {
         let file = opened(bytes)?;
         let walked = Walked::over(self.alloc, &file);
         if !walked.with_units {
-            return Ok(Some(Again {
+            return Ok(Some(Repeated {
                 parts: Vec::new(self.alloc),
                 differing: Vec::new(self.alloc),
-                own: None,
             }));
         }
         let object = walked.input?;
@@ -90,7 +103,7 @@ impl InProgressDwarfPackage {
     }
 
     /// The same of an input whose sections, encoding and indexes are known.
-    fn source_adds_again(&mut self, source: &Source<'_>) -> Result<Option<Again>, Error>
+    fn source_adds_again(&mut self, source: &Source<'_>) -> Result<Option<Repeated>, Error>
         ensures same { in_progress_of self.new ≡ in_progress_of self.old }
         ensures found { IfOk result (λ found. IfSome found (λ again.
             AddsNoUnit (view.source source.now) again (in_progress_of self.old))) }
@@ -102,7 +115,7 @@ impl InProgressDwarfPackage {
     }
 
     /// The same, but it may leave strings behind those before.
-    fn try_again(&mut self, source: &Source<'_>) -> Result<Option<Again>, Error>
+    fn try_again(&mut self, source: &Source<'_>) -> Result<Option<Repeated>, Error>
         ensures found { IfOk result (λ found. IfSome found (λ again.
             AddsNoUnit (view.source source.now) again (in_progress_of self.old))) }
         ensures extends { spec.Extends (in_progress_of self.old) (in_progress_of self.new) }
@@ -123,17 +136,15 @@ impl InProgressDwarfPackage {
         if !new.units.is_empty() {
             return Ok(None);
         }
-        let own = source.object.one_encoding(source.encoding, new.alike);
-        Ok(Some(Again {
+        Ok(Some(Repeated {
             parts: copied(alloc, &parts)?,
             differing: new.differing,
-            own,
         }))
     }
 
     /// Adds what an input adds that adds no unit and no string. An `Err` leaves the package as it
     /// was; it is for memory alone.
-    pub(crate) fn add_again(&mut self, again: &Again) -> Result<(), Error>
+    pub(crate) fn add_again(&mut self, again: &Repeated) -> Result<(), Error>
         ensures added { OnOk result (in_progress_of self.new
             ≡ with_more (map view.part again.now.parts.items)
             (map (λ s. s.0) again.now.differing.items) (in_progress_of self.old)) }
@@ -151,7 +162,7 @@ impl InProgressDwarfPackage {
     }
 
     /// The same, but an `Err` may leave more than there was.
-    fn try_add_again(&mut self, again: &Again) -> Result<(), Error>
+    fn try_add_again(&mut self, again: &Repeated) -> Result<(), Error>
         ensures added { OnOk result (in_progress_of self.new
             ≡ with_more (map view.part again.now.parts.items)
             (map (λ s. s.0) again.now.differing.items) (in_progress_of self.old)) }

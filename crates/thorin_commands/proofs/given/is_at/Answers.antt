@@ -1,6 +1,6 @@
 use Rattle.std.proofs.Common.{◌∙◌, sym}
 use Rattle.thorin_commands.proofs.Standing.{stands_at}
-use Rattle.thorin_commands.proofs.plain.is_at.Goals as goal
+use Rattle.thorin_commands.proofs.given.is_at.Goals as goal
 
 pub returns-in-Some : goal.returns-in-Some
 returns-in-Some c =

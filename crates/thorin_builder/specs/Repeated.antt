@@ -6,7 +6,7 @@ use Rattle.std.specs.declared.io.Error.{Error as IoError}
 use Rattle.indexmap.specs.IndexMap.{insert_entry}
 use Rattle.dwp_bytes.specs.declared.encoding.Encoding.{Encoding}
 use Rattle.dwp_table.specs.declared.object.DwarfObject.{DwarfObject}
-use Rattle.thorin_input.specs.Encodings.{own_encoding, one_encoding}
+use Rattle.thorin_input.specs.Encodings.{own_encoding}
 use Rattle.thorin_input.specs.Growing.{Contents, with_parts}
 use Rattle.thorin_input.specs.Indexes.{Source}
 use Rattle.thorin_input.specs.NewUnits.{new_units}
@@ -14,7 +14,7 @@ use Rattle.thorin_input.specs.Parts.{parts_of}
 use Rattle.thorin_input.specs.View.{part}
 use Rattle.thorin_join.specs.Builder.{with_input}
 use Rattle.thorin_join.specs.State.{InProgress, Extends, held_units, adding}
-use Rattle.thorin_builder.specs.declared.again.Again.{Again}
+use Rattle.thorin_builder.specs.declared.repeated.Repeated.{Repeated}
 
 -- a package that another one became: of its byte order, with its strings and its units in front
 pub record IsLater (made later : InProgress) : Type 0 where
@@ -44,33 +44,33 @@ with_more parts differing made = record made {
 
 -- an input adds these alone to a package, and to each that it becomes
 pub record AddsAlone (bytes : List ℕ) (parts : Contents) (differing : List ℕ)
-    (own : Option Encoding) (made : InProgress) : Type 0 where
+    (made : InProgress) : Type 0 where
+  pub own : Option Encoding
   pub own_is : own_encoding bytes ≡ Ok own
   pub adds : (later : InProgress) → IsLater made later
       → with_input bytes (Some later) ≡ Ok (Some (with_more parts differing later))
   pub stays : (later : InProgress) → IsLater later (with_more parts differing later)
 
 -- the same of what is remembered
-abbrev pub AddsAgain : List ℕ → Again → InProgress → Type 0
+abbrev pub AddsAgain : List ℕ → Repeated → InProgress → Type 0
 AddsAgain bytes again made = AddsAlone bytes (map part again.parts.items)
-    (map (λ s. s.0) again.differing.items) again.own made
+    (map (λ s. s.0) again.differing.items) made
 
 -- and of a package that was begun
-abbrev pub AddsAgainTo : List ℕ → Again → Option InProgress → Type 0
+abbrev pub AddsAgainTo : List ℕ → Repeated → Option InProgress → Type 0
 AddsAgainTo bytes again None = ⊥
 AddsAgainTo bytes again (Some made) = AddsAgain bytes again made
 
 -- an input whose sections, encoding and indexes are known adds no unit and no string to a package,
 -- and else what is remembered
-pub record AddsNoUnit (source : Source) (again : Again) (made : InProgress) : Type 0 where
+pub record AddsNoUnit (source : Source) (again : Repeated) (made : InProgress) : Type 0 where
   pub parts : parts_of source made.strings ≡ Ok (map part again.parts.items, made.strings)
   pub abbreviations : source.object.has_abbreviations ≡ true
   pub units : new_units (adding source made (map part again.parts.items))
       ≡ Ok (record { units = []; differing = map (λ s. s.0) again.differing.items })
-  pub own_is : again.own ≡ one_encoding source.object source.encoding
 
 -- bytes that may be read at a path add what is remembered
-pub record IsTaken (offered : Result (List ℕ) IoError → Type 0) (again : Again)
+pub record IsTaken (offered : Result (List ℕ) IoError → Type 0) (again : Repeated)
     (begun : Option InProgress) : Type 0 where
   pub bytes : List ℕ
   pub may : offered (Ok bytes)
@@ -78,13 +78,13 @@ pub record IsTaken (offered : Result (List ℕ) IoError → Type 0) (again : Aga
 
 -- nothing more is remembered, or what bytes that were read at a path add
 abbrev pub Remembers : List ℕ → Option InProgress → (path : List ℕ)
-    → (old new : List (String Global × Again)) → Type 0
-Remembers bytes begun path old new = (new ≡ old) ⊎ ((key : String Global) × (again : Again)
+    → (old new : List (String Global × Repeated)) → Type 0
+Remembers bytes begun path old new = (new ≡ old) ⊎ ((key : String Global) × (again : Repeated)
     × (string_bytes key ≡ path) × AddsAgainTo bytes again begun
     × (new ≡ insert_entry string_eq old key again))
 
 -- so do bytes at each of these paths what is remembered there
-abbrev pub AreTaken : (List ℕ → Result (List ℕ) IoError → Type 0) → List (String Global × Again)
+abbrev pub AreTaken : (List ℕ → Result (List ℕ) IoError → Type 0) → List (String Global × Repeated)
     → Option InProgress → Type 0
 AreTaken offer [] begun = Unit {0}
 AreTaken offer (e ∷ es) begun =

@@ -1,0 +1,162 @@
+//! Strings that begin inside others: a few bytes of string offsets could ask for as many copies of
+//! one long string.
+
+ghost use Rattle.std.specs.Prelude.{◌≤◌};
+
+use crate::growth::LEAST_ROOM;
+use dwp_bytes::string_at;
+use dwp_elf::{ElfFile, Endianness, SectionKind};
+use std::alloc::{AllocError, Global};
+use thorin::UnitIndex;
+
+/// How many bytes an offset of a string has at least. A longer one is a word with its lower half,
+/// and another that is zero.
+const WORD: usize = 4;
+
+/// How many times as many bytes as their file such strings may have.
+const FILES: usize = 16;
+
+/// The strings of a file that begin inside others.
+#[derive(Drop)]
+struct InnerStrings<'a> {
+    alloc: Global,
+    /// The section of strings.
+    strings: &'a [u8],
+    /// A bit for each byte of it, once there is such a string: whether one that begins there is
+    /// counted.
+    counted: Vec<u8>,
+    /// How many bytes those have that are counted, and how many they may have.
+    size: usize,
+    most: usize,
+}
+
+/// Whether an object's or a package's strings that begin inside others have more than 16 times the
+/// bytes of the file, and more than `LEAST_ROOM`. All words of its string offsets are looked at,
+/// those of headers too.
+///
+/// # Errors
+/// Want of memory.
+pub(crate) fn has_inner_strings(alloc: Global, bytes: &[u8]) -> Result<bool, AllocError> {
+    let Ok(file) = ElfFile::parse(bytes) else {
+        return Ok(false);
+    };
+    let mut inner = InnerStrings {
+        alloc,
+        strings: first_of(&file, SectionKind::Str),
+        counted: Vec::new(alloc),
+        size: 0,
+        most: bytes.len().saturating_mul(FILES).max(LEAST_ROOM),
+    };
+    let step = if has_aligned_offsets(&file) { WORD } else { 1 };
+    let mut has_units = false;
+    for section in file.sections() {
+        match (section.section_kind(), section.data()) {
+            (Some(SectionKind::Info), _) => has_units = true,
+            (Some(SectionKind::StrOffsets), Ok(offsets)) => {
+                inner.count(offsets, file.endianness(), step)?;
+            }
+            _ => {}
+        }
+    }
+    Ok(has_units && inner.is_past())
+}
+
+impl InnerStrings<'_> {
+    /// Whether they have more bytes than they may have.
+    fn is_past(&self) -> bool {
+        self.size > self.most
+    }
+
+    /// Counts those that offsets name which stand at each so many bytes of a section, up to the one
+    /// with which they are too large.
+    fn count(&mut self, offsets: &[u8], order: Endianness, step: usize) -> Result<(), AllocError>
+        requires { step ≤ 4 }
+    {
+        let mut rest = offsets;
+        while rest.len() >= WORD {
+            let offset = order.read_u32(rest) as usize;
+            if begins_inside(self.strings, offset) {
+                self.add(offset)?;
+                if self.is_past() {
+                    return Ok(());
+                }
+            }
+            rest = &rest[step..];
+        }
+        Ok(())
+    }
+
+    /// Counts the one that begins at an offset, unless it is counted.
+    fn add(&mut self, offset: usize) -> Result<(), AllocError> {
+        if self.counted.is_empty() {
+            self.counted.resize(self.strings.len() / 8 + 1, 0)?;
+        }
+        if let Some(bits) = self.counted.get_mut(offset / 8) {
+            let bit = 1 << (offset % 8);
+            if *bits & bit == 0 {
+                *bits |= bit;
+                self.size = self.size.saturating_add(size_at(self.strings, offset));
+            }
+        }
+        Ok(())
+    }
+}
+
+/// The content of the first section of a kind that isn't empty; nothing where there is none, it is
+/// compressed, or it can't be read.
+fn first_of<'a>(file: &ElfFile<'a>, kind: SectionKind) -> &'a [u8] {
+    for section in file.sections() {
+        match section.section_kind() {
+            Some(found) if found.is(kind) && !section.is_empty() => {
+                if section.is_compressed() {
+                    return &[];
+                }
+                return section.data().unwrap_or(&[]);
+            }
+            _ => {}
+        }
+    }
+    &[]
+}
+
+/// Whether no unit of a package has string offsets that begin between words of their section.
+fn has_aligned_offsets(file: &ElfFile<'_>) -> bool {
+    let order = file.endianness();
+    are_aligned(first_of(file, SectionKind::CuIndex), order)
+        && are_aligned(first_of(file, SectionKind::TuIndex), order)
+}
+
+/// The same of the units of an index, if it is one.
+fn are_aligned(index: &[u8], order: Endianness) -> bool {
+    let Ok(index) = UnitIndex::parse(index, order) else {
+        return true;
+    };
+    if !index.has_column(SectionKind::StrOffsets) {
+        return true;
+    }
+    for number in 0..index.unit_count() {
+        let range = match index.row(number.saturating_add(1)) {
+            Ok(row) => row.range(SectionKind::StrOffsets),
+            Err(_) => None,
+        };
+        match range {
+            Some(range) if range.offset.0 % 4 != 0 => return false,
+            _ => {}
+        }
+    }
+    true
+}
+
+/// Whether a string begins at an offset behind other bytes of one.
+fn begins_inside(strings: &[u8], offset: usize) -> bool {
+    offset > 0 && offset < strings.len() && strings[offset - 1] != 0
+}
+
+/// How many bytes a string has that begins at an offset, with the zero byte at its end; those to
+/// the end of the section where there is none.
+fn size_at(strings: &[u8], offset: usize) -> usize {
+    match string_at(strings, offset as u64) {
+        Ok(string) => string.len().saturating_add(1),
+        Err(_) => strings.len().saturating_sub(offset),
+    }
+}
