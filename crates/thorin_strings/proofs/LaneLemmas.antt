@@ -160,6 +160,25 @@ lanes_same l m k long long' within is =
     ∙ clear _ (sym (bit_mask_l apart k) ∙ subst (λ n. bit_at n k ≡ 0) (sym e) (omega arith)) in
     eqb-true (get_or l k 0) (get_or m k 0) (denied _ same)
 
+-- the bytes of two vectors before the first that differ
+pub lanes_same_before : (l m : List ℕ) (k : ℕ) → length l ≡ 32 → length m ≡ 32 → k < 32 → k <
+    trailing_zeros w64 (mask_l (map (top 7) (zip2 (λ a b. cond (not (eqb a b)) 255 0) l m)) % 2 ^
+    64) → get_or l k 0 ≡ get_or m k 0
+lanes_same_before l m k long long' within less =
+    let apart : List Bool = zip2 (λ a b. not (eqb a b)) l m in
+    let long_apart : length apart ≡ 32 =
+    length-zip2 (λ a b. not (eqb a b)) l m (long ∙ sym long') ∙ long in
+    let mask = ap (λ bs. mask_l bs % 2 ^ 64) {y = apart} (tops_compared w8 (λ a b. not (eqb a b)) l
+    m) ∙ mask_l-mod apart 64 (omega (arith, long_apart)) in
+    let small : mask_l apart < 2 ^ 64 =
+    omega (arith, mask_l-mod apart 64 (omega (arith, long_apart))) in
+    let less' : k < trailing_zeros w64 (mask_l apart) =
+    subst (λ m. k < trailing_zeros w64 m) mask less in
+    let same : not (eqb (get_or l k 0) (get_or m k 0)) ≡ false =
+    sym (get_or-zip2 (λ a b. not (eqb a b)) l m k 0 0 false (omega arith) (omega arith))
+    ∙ clear _ (sym (bit_mask_l apart k) ∙ below (mask_l apart) k small less') in
+    eqb-true (get_or l k 0) (get_or m k 0) (denied _ same)
+
 -- what is the same before a place and in the next 32
 pub same_more : (xs ys : List ℕ) (at next to : ℕ)
     → ((k : ℕ) → k < at → get_or xs k 0 ≡ get_or ys k 0)

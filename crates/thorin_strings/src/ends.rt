@@ -90,25 +90,24 @@ fn begins_some(bytes: &[u8], count: usize) -> bool
 #[inline(always)]
 pub(crate) fn ends_at(bytes: &[u8], end: usize) -> bool
     requires within { end < length bytes.now }
+    requires long { 32 ≤ length bytes.now }
     requires ended { slice_index bytes.now end ≡ 0 }
     ensures { IsTrue result → IsFirstZero bytes.now end }
 {
     if end < HALF {
-        if bytes.len() >= HALF {
-            return begins_some(bytes, end);
-        }
-        return match end_of(bytes) {
-            Some(first) => first == end,
-            None => false,
-        };
+        return begins_some(bytes, end);
     }
+    if end <= LANES {
+        return are_some(bytes, 0, end - HALF);
+    }
+    let last = end - LANES;
     let mut at = 0;
-    while end - at > LANES {
+    while at < last {
         if !are_some(bytes, at, at + HALF) {
             return false;
         }
         at += LANES;
     }
     // (the last ones are looked at again where fewer are left)
-    are_some(bytes, end.saturating_sub(LANES), end - HALF)
+    are_some(bytes, last, last + HALF)
 }

@@ -36,7 +36,8 @@ fn word_at(bytes: &[u8], at: usize) -> u64
     requires { at + 8 ≤ length bytes.now }
     ensures { result ≡ read_u64 bytes.now at }
 {
-    half_at(bytes, at) | half_at(bytes, at + 4) << 32
+    let rest = &bytes[at..];
+    half_at(rest, 0) | half_at(rest, 4) << 32
 }
 
 /// The state after the words at two places.
@@ -52,26 +53,26 @@ fn mixed(bytes: &[u8], state: u64, at: usize, other: usize) -> u64
     )
 }
 
-/// The hash of a string that is longer than a word.
+/// The hash of a string that is longer than 32 bytes.
 #[inline(always)]
 fn long_hash(bytes: &[u8]) -> u64
-    requires { 8 < length bytes.now }
+    requires { 32 < length bytes.now }
     ensures { result ≡ hash_of bytes.now }
 {
     let len = bytes.len();
     let mut state = START.wrapping_add(len as u64);
+    let last = len - 32;
     let mut at = 0;
-    while len - at > 32 {
+    while at < last {
         state = mixed(bytes, state, at, at + 8);
         state = mixed(bytes, state, at + 16, at + 24);
         at += 32;
     }
-    let last = len.saturating_sub(16);
     if len - at > 16 {
         let next = mixed(bytes, state, at, at + 8);
-        return mixed(bytes, next, last, len - 8);
+        return mixed(bytes, next, len - 16, len - 8);
     }
-    mixed(bytes, state, last, len - 8)
+    mixed(bytes, state, len - 16, len - 8)
 }
 
 /// The hash of a string, where a call is to be saved.
@@ -79,8 +80,17 @@ fn long_hash(bytes: &[u8]) -> u64
 pub(crate) fn hash_here(string: &[u8]) -> u64
     ensures { result ≡ hash_of string.now }
 {
-    if string.len() > 8 {
+    let len = string.len();
+    if len > 32 {
         return long_hash(string);
+    }
+    let state = START.wrapping_add(len as u64);
+    if len > 16 {
+        let next = mixed(string, state, 0, 8);
+        return mixed(string, next, len - 16, len - 8);
+    }
+    if len > 8 {
+        return mixed(string, state, 0, len - 8);
     }
     let mut hasher = FoldHasher::default();
     hasher.write(string);

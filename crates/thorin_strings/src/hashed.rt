@@ -1,6 +1,6 @@
 //! Strings that are found by their hashes.
 
-ghost use Rattle.std.specs.Prelude.{◌≡◌, ◌↔◌, ◌+◌, ◌<◌, ◌^◌, ℕ, List, [], length, take};
+ghost use Rattle.std.specs.Prelude.{◌≡◌, ◌↔◌, ◌+◌, ◌<◌, ◌≤◌, ◌^◌, ℕ, List, [], length, take};
 ghost use Rattle.std.specs.Prelude.{OnOk, OnErr, IfOk, IsSome, IfSome, IsNone, Contains, None};
 ghost use Rattle.std.specs.Prelude.{slice_index};
 ghost use Rattle.dwp_bytes.specs.StringOffsets.{string_from};
@@ -34,7 +34,7 @@ pub(crate) struct HashedStrings {
     bytes: Vec<u8>,
     count: usize,
     places: Places,
-    next: usize,
+    next: u32,
 }
 
 /// Why a string has no place by its hash.
@@ -50,6 +50,12 @@ impl From<AllocError> for Unplaced {
     fn from(_e: AllocError) -> Unplaced {
         Unplaced::Memory
     }
+}
+
+/// The place behind a string, where four bytes hold it.
+#[inline(always)]
+fn behind(place: usize, length: usize) -> u32 {
+    (place.wrapping_add(length).wrapping_add(1) % 0x1_0000_0000) as u32
 }
 
 /// Puts a new string behind all others, and gives its place.
@@ -104,6 +110,7 @@ fn add_guessed(
     requires table { IsHashed bytes.old.items count.old places.old.slots.items places.old.size
         places.old.hashes.items }
     requires within { end < length rest.now }
+    requires long { 32 ≤ length rest.now }
     requires ended { slice_index rest.now end ≡ 0 }
     requires hashed { hash ≡ hash_of (take end rest.now) }
     requires none { place_of places.old.slots.items places.old.size hash ≡ None }
@@ -207,16 +214,16 @@ impl HashedStrings {
         ensures kept { take (length self.old) self.new ≡ self.old }
         ensures err { OnErr result (self.new ≡ self.old) }
     {
-        if stands_at(&self.bytes, self.next, string) {
-            let place = self.next;
-            self.next = place.wrapping_add(string.len() + 1);
-            return Ok(place);
+        let next = self.next as usize;
+        if stands_at(&self.bytes, next, string) {
+            self.next = behind(next, string.len());
+            return Ok(next);
         }
         let hash = hash(string);
         let next = match self.places.seek(hash) {
             Ok(place) => {
                 if stands_at(&self.bytes, place, string) {
-                    self.next = place.wrapping_add(string.len() + 1);
+                    self.next = behind(place, string.len());
                     return Ok(place);
                 }
                 return Err(Unplaced::Clash);
@@ -240,22 +247,23 @@ impl HashedStrings {
     #[inline(always)]
     pub fn place_guessed(&mut self, bytes: &[u8], end: usize) -> Option<usize>
         requires within { end < length bytes.now }
+        requires long { 32 ≤ length bytes.now }
         requires ended { slice_index bytes.now end ≡ 0 }
         ensures placed { IfSome result (IsPlaced self.old self.new (string_from bytes.now 0)) }
         ensures fits { IfSome result (λ offset. offset < 2 ^ 32) }
         ensures kept { take (length self.old) self.new ≡ self.old }
         ensures none { IsNone result → self.new ≡ self.old }
     {
-        if begins_alike(&self.bytes, self.next, bytes, end) && self.next < u32::MAX as usize {
-            let place = self.next;
-            self.next = place.wrapping_add(end + 1);
-            return Some(place);
+        let next = self.next as usize;
+        if begins_alike(&self.bytes, next, bytes, end) {
+            self.next = behind(next, end);
+            return Some(next);
         }
         let hash = hash_here(&bytes[..end]);
         let next = match self.places.seek(hash) {
             Ok(place) => {
                 if begins_alike(&self.bytes, place, bytes, end) {
-                    self.next = place.wrapping_add(end + 1);
+                    self.next = behind(place, end);
                     return Some(place);
                 }
                 return None;

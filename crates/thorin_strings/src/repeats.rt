@@ -10,7 +10,7 @@ use std::marker::Model;
 const LONG: usize = 512;
 
 /// How many trees there are: an offset is in the tree of its lowest bits.
-const TREES: usize = 1024;
+const TREES: usize = 128;
 
 /// How many bytes of a section share a cell.
 const CELL: usize = 8;

@@ -1,7 +1,7 @@
 //! Looking a string up among positions in the order of their strings.
 
-ghost use Rattle.std.specs.Prelude.{◌≡◌, ◌≤◌, ◌<◌, ◌+◌, ◌↔◌, ℕ, length, take, slice_index, Contains};
-ghost use Rattle.std.specs.Prelude.{IfOk, IfErr, IsTrue};
+ghost use Rattle.std.specs.Prelude.{◌≡◌, ◌≤◌, ◌<◌, ◌+◌, ◌^◌, ◌↔◌, ℕ, length, take, slice_index};
+ghost use Rattle.std.specs.Prelude.{IfOk, IfErr, IsTrue, Contains};
 ghost use Rattle.std.specs.Ordering.{nat_cmp};
 ghost use Rattle.std.specs.Cmp.Lexicographic.{slice_cmp};
 ghost use Rattle.dwp_bytes.specs.StringOffsets.{string_from};
@@ -77,15 +77,32 @@ fn are_same(bytes: &[u8], other: &[u8], at: usize) -> bool
     first.simd_ne(second).to_bitmask() == 0
 }
 
+/// Whether so many first bytes of both are the same, which are fewer than 32.
+#[inline(always)]
+fn few_same(bytes: &[u8], other: &[u8], count: usize) -> bool
+    requires first { count ≤ length bytes.now }
+    requires second { 32 ≤ length other.now }
+    requires few { count < 32 }
+    ensures { IsTrue result → take count bytes.now ≡ take count other.now }
+{
+    if bytes.len() < LANES {
+        return is_equal(&bytes[..count], &other[..count]);
+    }
+    let first = u8x32::from_slice(bytes);
+    let second = u8x32::from_slice(other);
+    first.simd_ne(second).to_bitmask().trailing_zeros() as usize >= count
+}
+
 /// Whether so many first bytes of both are the same.
 #[inline(always)]
 fn begins_same(bytes: &[u8], other: &[u8], count: usize) -> bool
     requires first { count ≤ length bytes.now }
     requires second { count ≤ length other.now }
+    requires long { 32 ≤ length other.now }
     ensures { IsTrue result → take count bytes.now ≡ take count other.now }
 {
     if count < LANES {
-        return is_equal(&bytes[..count], &other[..count]);
+        return few_same(bytes, other, count);
     }
     let last = count - LANES;
     let mut at = 0;
@@ -99,37 +116,23 @@ fn begins_same(bytes: &[u8], other: &[u8], count: usize) -> bool
     are_same(bytes, other, last)
 }
 
-/// Whether the string at a place is the one that some bytes begin with, of which one is zero: they
-/// are the same as far as that byte, so wherever they end. No where they differ behind an earlier
-/// end, which may be the same string.
-#[inline(always)]
-fn is_alike(bytes: &[u8], at: usize, other: &[u8], end: usize) -> bool
-    requires at { at ≤ length bytes.now }
-    requires within { end < length other.now }
-    requires ended { slice_index other.now end ≡ 0 }
-    ensures { IsTrue result → string_from bytes.now at ≡ string_from other.now 0 }
-{
-    let rest = &bytes[at..];
-    if rest.len() <= end {
-        return false;
-    }
-    rest[end] == 0 && begins_same(rest, other, end)
-}
-
 /// Whether a string begins at a place of a section of ended strings and is the one that some bytes
-/// begin with, of which one is zero.
+/// begin with, of which one is zero: they are the same as far as that byte, so wherever they end. No
+/// where they differ behind an earlier end, which may be the same string.
 #[inline(always)]
 pub(crate) fn begins_alike(bytes: &[u8], at: usize, other: &[u8], end: usize) -> bool
+    requires at { at < 2 ^ 32 }
     requires within { end < length other.now }
+    requires long { 32 ≤ length other.now }
     requires ended { slice_index other.now end ≡ 0 }
     ensures { IsTrue result
         → BeginsAt bytes.now at × (string_from bytes.now at ≡ string_from other.now 0) }
 {
     // (most that differ are told by this byte)
-    if bytes.len() <= at || bytes.len() - at <= end || bytes[at + end] != 0 {
+    if at + end >= bytes.len() || bytes[at + end] != 0 {
         return false;
     }
-    begins_at(bytes, at) && is_alike(bytes, at, other, end)
+    (at == 0 || bytes[at - 1] == 0) && begins_same(&bytes[at..], other, end)
 }
 
 /// What a search found: where the string begins, or the rank at which it would stand, and how many

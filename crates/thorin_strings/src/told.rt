@@ -17,17 +17,25 @@ const SHORT: u64 = 512;
 
 impl HashedStrings {
     /// The offset of the string at an offset of its section, which is short and ends before the
-    /// next one. None where it isn't that, where its hash doesn't tell its place or four bytes
-    /// don't hold it, and for want of memory; nothing changed then.
+    /// next one. None where it isn't that, where fewer bytes are left than a short string may have,
+    /// which `last` tells, where its hash doesn't tell its place or four bytes don't hold it, and for
+    /// want of memory; nothing changed then.
     #[inline(always)]
-    fn guessed_offset(&mut self, debug_str: &[u8], named: u64, after: u64) -> Option<u64>
+    fn guessed_offset(
+        &mut self,
+        debug_str: &[u8],
+        last: u64,
+        named: u64,
+        after: u64,
+    ) -> Option<u64>
+        requires { last + 512 ≤ length debug_str.now }
         ensures meaning { IfSome result (λ offset.
             offset_read debug_str.now named self.old ≡ Ok (offset, self.new)) }
         ensures fits { IfSome result (λ offset. offset < 2 ^ 32) }
         ensures kept { take (length self.old) self.new ≡ self.old }
         ensures none { IsNone result → self.new ≡ self.old }
     {
-        if after <= named || after - named > SHORT || after > debug_str.len() as u64 {
+        if after <= named || after - named > SHORT || named > last {
             return None;
         }
         let rest = &debug_str[named as usize..];
@@ -64,11 +72,15 @@ impl HashedStrings {
         } = *range;
         let first = encoding.string_offsets_header_size();
         let last = (out.len() - first) / 4 - 1;
+        if (debug_str.len() as u64) < SHORT {
+            return from;
+        }
+        let last_named = debug_str.len() as u64 - SHORT;
         let mut index = from;
         let mut named = word_at(debug_str_offsets, encoding, from);
         while index < last {
             let after = word_at(debug_str_offsets, encoding, index + 1);
-            let Some(offset) = self.guessed_offset(debug_str, named, after) else {
+            let Some(offset) = self.guessed_offset(debug_str, last_named, named, after) else {
                 return index;
             };
             write_word(out, first + index * 4, offset);

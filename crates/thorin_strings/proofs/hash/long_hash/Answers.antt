@@ -27,8 +27,7 @@ returns-then-len-at-gt16 c =
     let bytes = c.args.bytes.now in
     let at = c.loop-at.at in
     c.mixed.ensures ∙ mixed_all bytes _ (at + 16) _ (omega arith)
-    (omega (arith, c.loop-at.invariant.whole)) (omega arith) (omega arith)
-    c.saturating_sub-last.ensures
+    (omega (arith, c.loop-at.invariant.whole)) (omega arith) (omega arith) (omega arith)
     (mixed_more bytes _ at _ _ _ c.loop-at.invariant.whole (omega arith) (omega arith)
     c.loop-at.invariant.so_far c.mixed-next.ensures)
 
@@ -36,4 +35,4 @@ pub returns : goal.returns
 returns c =
     c.mixed-2.ensures ∙ mixed_all c.args.bytes.now _ c.loop-at.at _ (omega arith)
     c.loop-at.invariant.whole c.loop-at.invariant.within (omega arith)
-    c.saturating_sub-last.ensures c.loop-at.invariant.so_far
+    (omega arith) c.loop-at.invariant.so_far

@@ -10,4 +10,4 @@ invariant-loop-at l = record {
 }
 
 abbrev pub decreases-loop-at : goal.decreases-loop-at
-decreases-loop-at l = l.len - l.at
+decreases-loop-at l = l.last - l.at

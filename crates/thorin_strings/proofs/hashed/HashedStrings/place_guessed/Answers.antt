@@ -2,8 +2,8 @@ use Rattle.thorin_strings.proofs.CompareLemmas.{front_string}
 use Rattle.thorin_strings.proofs.GrownLemmas.{used_there}
 use Rattle.thorin_strings.proofs.hashed.HashedStrings.place_guessed.Goals as goal
 
-pub returns-then-self-clause-placed : goal.returns-then-self-clause-placed
-returns-then-self-clause-placed c =
+pub returns-then-begins_alike-clause-placed : goal.returns-then-begins_alike-clause-placed
+returns-then-begins_alike-clause-placed c =
     let here = rw c.deref.ensures.value at (c.begins_alike.ensures c.if-begins_alike.true) in
     rw (← c.self.view_is) (used_there c.self.inside.bytes.items (front_string c.args.bytes.now)
     c.self.inside.next c.self.invariant.ended here c.self.invariant.distinct)
