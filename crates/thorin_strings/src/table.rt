@@ -178,10 +178,10 @@ impl PackageStringTable {
         }
     }
 
-    /// Rewrites the entries of a range of four-byte offsets from a number on, as far as each is told
-    /// by the hash of its string and isn't the last, in the room that they have behind its header;
-    /// the number of the next. Before the number from which on that is tried none is rewritten, and
-    /// none where strings are found by their order.
+    /// Rewrites entries of a range of four-byte offsets, from the one of number `from` on, in the
+    /// room behind the range's header. It stops before the first whose string isn't told by its
+    /// hash, and before the last, and gives the number of the entry where it stopped. Where `from`
+    /// is less than `tried_from`, and where strings are found by their order, none is rewritten.
     pub(crate) fn write_told(
         &mut self,
         range: &WordRange<'_>,

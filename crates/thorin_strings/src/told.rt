@@ -21,13 +21,7 @@ impl HashedStrings {
     /// which `last` tells, where its hash doesn't tell its place or four bytes don't hold it, and for
     /// want of memory; nothing changed then.
     #[inline(always)]
-    fn guessed_offset(
-        &mut self,
-        debug_str: &[u8],
-        last: u64,
-        named: u64,
-        after: u64,
-    ) -> Option<u64>
+    fn guessed_offset(&mut self, debug_str: &[u8], last: u64, named: u64, after: u64) -> Option<u64>
         requires { last + 512 ≤ length debug_str.now }
         ensures meaning { IfSome result (λ offset.
             offset_read debug_str.now named self.old ≡ Ok (offset, self.new)) }

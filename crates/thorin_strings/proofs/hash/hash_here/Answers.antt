@@ -13,8 +13,8 @@ returns-then-len-gt16 c =
 pub returns-then-len-gt8 : goal.returns-then-len-gt8
 returns-then-len-gt8 c =
     let bytes = c.args.string.now in
-    c.mixed-then-len-gt8.ensures ∙ mixed_all bytes _ 0 _ (omega arith) refl (omega arith) (omega arith)
-    (omega arith) (mixed_first bytes _ refl)
+    c.mixed-then-len-gt8.ensures ∙ mixed_all bytes _ 0 _ (omega arith) refl (omega arith)
+    (omega arith) (omega arith) (mixed_first bytes _ refl)
 
 pub returns : goal.returns
 unfolding hash

@@ -19,10 +19,10 @@ returns-then-bytes-at-eq0 c = λ is.
         ];
       },
       alike_front (drop at bytes) rest c.args.other.now c.args.end
-      (drop_whole at bytes)
-      (omega (arith, ap length (drop_whole at bytes), length-drop at bytes, c.if-at-end.false))
-      c.requires.within
-      (ap (λ l. get_or l c.args.end 0) (drop_whole at bytes) ∙ get_or-drop at bytes c.args.end 0
-      ∙ c.if-bytes-at-ne0.false)
-      c.requires.ended (c.begins_same.ensures is),
+          (drop_whole at bytes)
+          (omega (arith, ap length (drop_whole at bytes), length-drop at bytes, c.if-at-end.false))
+          c.requires.within
+          (ap (λ l. get_or l c.args.end 0) (drop_whole at bytes) ∙ get_or-drop at bytes c.args.end 0
+          ∙ c.if-bytes-at-ne0.false)
+          c.requires.ended (c.begins_same.ensures is),
     )
