@@ -1,8 +1,6 @@
 //! Strings that begin inside others: a few bytes of string offsets could ask for as many copies of
 //! one long string.
 
-ghost use Rattle.std.specs.Prelude.{◌≤◌};
-
 use crate::growth::LEAST_ROOM;
 use dwp_bytes::string_at;
 use dwp_elf::{ElfFile, Endianness, SectionKind};
@@ -69,19 +67,17 @@ impl InnerStrings<'_> {
 
     /// Counts those that offsets name which stand at each so many bytes of a section, up to the one
     /// with which they are too large.
-    fn count(&mut self, offsets: &[u8], order: Endianness, step: usize) -> Result<(), AllocError>
-        requires { step ≤ 4 }
-    {
-        let mut rest = offsets;
-        while rest.len() >= WORD {
-            let offset = order.read_u32(rest) as usize;
+    fn count(&mut self, offsets: &[u8], order: Endianness, step: usize) -> Result<(), AllocError> {
+        for number in 0..offsets.len() {
+            let Some(offset) = word_at(offsets, order, number.saturating_mul(step)) else {
+                return Ok(());
+            };
             if begins_inside(self.strings, offset) {
                 self.add(offset)?;
                 if self.is_past() {
                     return Ok(());
                 }
             }
-            rest = &rest[step..];
         }
         Ok(())
     }
@@ -145,6 +141,14 @@ fn are_aligned(index: &[u8], order: Endianness) -> bool {
         }
     }
     true
+}
+
+/// The word at a place; None where fewer bytes are left.
+fn word_at(bytes: &[u8], order: Endianness, at: usize) -> Option<usize> {
+    if at > bytes.len() || bytes.len() - at < WORD {
+        return None;
+    }
+    Some(order.read_u32(&bytes[at..]) as usize)
 }
 
 /// Whether a string begins at an offset behind other bytes of one.
