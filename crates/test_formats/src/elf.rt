@@ -43,11 +43,6 @@ fn append(
     }
 }
 
-/// The same, and says what it answers.
-fn put_append(object: &mut WritableObject, row: Row<'_>, word: &str, said: &mut Said) {
-    said.put(&append(row.alloc, object, word));
-}
-
 /// The same, and says only why it is refused.
 fn add(object: &mut WritableObject, row: Row<'_>, word: &str, said: &mut Said) {
     if let Err(fault) = append(row.alloc, object, word) {
@@ -75,11 +70,9 @@ fn appended(row: Row<'_>, said: &mut Said) {
 }
 
 fn append_or_cut(object: &mut WritableObject, row: Row<'_>, word: &str, said: &mut Said) {
-    let (name, size) = split(word, "=");
-    if name == "cut" {
-        object.truncate(&[place(size)]);
-    } else {
-        put_append(object, row, word, said);
+    match split(word, "=") {
+        ("cut", size) => object.truncate(&[place(size)]),
+        _ => said.put(&append(row.alloc, object, word)),
     }
 }
 

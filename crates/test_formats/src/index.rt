@@ -9,12 +9,11 @@ use test_rows::{Hex, Row, Said};
 /// Makes the call of a row.
 pub fn call(row: Row<'_>, said: &mut Said) {
     match row.word(0) {
-        "index" | "column" | "look_up" | "range" => of_index(row, said),
         "package" | "packaged" | "units" | "first_byte" => of_package(row, said),
         "texts_of_index" => texts_of_index(said),
         "archive" => crate::archived::archived(row, said),
         "inflate" => crate::inflated::inflated(row, said),
-        _ => said.word("no such call"),
+        _ => of_index(row, said),
     }
 }
 
@@ -33,7 +32,8 @@ fn in_index(index: &UnitIndex<'_>, row: Row<'_>, said: &mut Said) {
         "index" => said.ok(&(index.version(), index.unit_count(), index.slot_count())),
         "column" => said.ok(&index.has_column(row.kind(3))),
         "look_up" => look_up(index, row.number(3), said),
-        _ => range(index, row, said),
+        "range" => range(index, row, said),
+        _ => said.word("no such call"),
     }
 }
 

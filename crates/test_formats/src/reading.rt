@@ -53,12 +53,17 @@ fn of_readers<R: Reader>(words: [R; 5], strings: [R; 3], row: Row<'_>, said: &mu
 fn steps<R: Reader>(mut at: R, calls: &[&str], said: &mut Said) {
     let base = at;
     for call in calls {
-        let (call, argument) = split(call, ":");
-        let argument = (number(argument) & 0xff) as u8;
-        match number_read(&mut at, call, argument) {
-            Some(number) => said.put(&number),
-            None => step(&mut at, &base, call, argument, said),
-        }
+        take_step(&mut at, &base, call, said);
+    }
+}
+
+/// Takes a step: a call and behind a colon its argument.
+fn take_step<R: Reader>(at: &mut R, base: &R, call: &str, said: &mut Said) {
+    let (call, argument) = split(call, ":");
+    let argument = (number(argument) & 0xff) as u8;
+    match number_read(at, call, argument) {
+        Some(number) => said.put(&number),
+        None => step(at, base, call, argument, said),
     }
 }
 

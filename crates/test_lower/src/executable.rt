@@ -13,9 +13,8 @@ use thorin_faults::{ArenaSession, Error, InputError, MemorySession, Session};
 pub fn call(row: Row<'_>, said: &mut Said) {
     match row.word(0) {
         "skeletons_of" => in_session(row, row.bytes(1), said),
-        "skeletons_in" => of_sections(row, said),
+        "skeletons_in" | "passing_over_nameless" => of_sections(row, said),
         "one_by_one" => one_by_one(row, said),
-        "passing_over_nameless" => of_sections(row, said),
         _ => said.word("no such call"),
     }
 }
@@ -213,10 +212,9 @@ fn put_four(left: &mut SkeletonUnits<'_>, said: &mut Said) {
 
 /// `-` and the sections of an executable, or the bytes of a file: what it names, one after the other.
 fn one_by_one(row: Row<'_>, said: &mut Said) {
-    if row.word(1) == "-" {
-        of_sections(row, said);
-    } else {
-        in_session(row, row.bytes(1), said);
+    match row.word(1) {
+        "-" => of_sections(row, said),
+        _ => in_session(row, row.bytes(1), said),
     }
 }
 

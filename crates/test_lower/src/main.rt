@@ -9,8 +9,8 @@ mod parts;
 mod sessions;
 mod strings;
 
-use std::{fs, io};
-use test_rows::{Calls, Row, Said, answers};
+use std::io;
+use test_rows::{Calls, Row, Said, print_files};
 
 /// The files of rows, one for each crate.
 const FILES: [&str; 6] = [
@@ -39,24 +39,5 @@ impl Calls for OfParts<'_> {
 }
 
 fn main(rt: HostRuntime) -> io::Result<()> {
-    let named = text_of(&rt, "named")?;
-    for file in FILES {
-        print_rows(&rt, &named, file)?;
-    }
-    Ok(())
-}
-
-fn text_of(rt: &HostRuntime, file: &str) -> io::Result<String> {
-    fs::read_to_string(rt, file)
-}
-
-/// Prints the name of a file of rows, and the answers of these.
-fn print_rows(rt: &HostRuntime, named: &str, file: &str) -> io::Result<()> {
-    let rows = text_of(rt, file)?;
-    let answers = answers(&OfParts { rt }, rt.alloc(), named, &rows)?;
-    print_line(rt, file, &answers)
-}
-
-fn print_line(rt: &HostRuntime, file: &str, answers: &str) -> io::Result<()> {
-    println!(rt; "{file}{answers}")
+    print_files(&rt, &OfParts { rt: &rt }, &FILES)
 }

@@ -37,16 +37,17 @@ fn part(word: &str) -> Option<Contribution> {
     })
 }
 
-/// The entry of compilation unit 0, with these contributions.
+/// The entry of a compilation unit, with these contributions.
 fn entry(
     encoding: Encoding,
+    id: u64,
     info: Option<Contribution>,
     abbrev: Option<Contribution>,
     str_offsets: Option<Contribution>,
 ) -> IndexEntry {
     IndexEntry {
         encoding,
-        id: DwarfObject::Compilation(DwoId(0)),
+        id: DwarfObject::Compilation(DwoId(id)),
         debug_info: info,
         debug_types: None,
         debug_abbrev: abbrev,
@@ -67,15 +68,16 @@ pub fn contribution(word: &str) -> Contribution {
     })
 }
 
-/// The entry of a row that has the ranges of a word: one of string offsets, or one of abbreviations
+/// The entry of a unit that has the ranges of a word: one of string offsets, or one of abbreviations
 /// and, behind `/`, one of string offsets.
-fn ranged(encoding: Encoding, word: &str) -> IndexEntry {
+fn ranged(encoding: Encoding, id: u64, word: &str) -> IndexEntry {
     let (abbrev, offsets) = match word.split_once('/') {
         Some(ranges) => ranges,
         None => ("", word),
     };
     entry(
         encoding,
+        id,
         None,
         Some(contribution(abbrev)),
         Some(contribution(offsets)),
@@ -91,8 +93,7 @@ pub fn indexed(alloc: Global, encoding: Encoding, word: &str, said: &mut Said) -
 
 fn add_ranged(entries: &mut Vec<IndexEntry>, encoding: Encoding, word: &str, said: &mut Said) {
     for range in word.split(',') {
-        let mut entry = ranged(encoding, range);
-        entry.id = DwarfObject::Compilation(DwoId(entries.len() as u64));
+        let entry = ranged(encoding, entries.len() as u64, range);
         said.note_that(entries.push(entry).is_ok());
     }
 }
@@ -114,9 +115,7 @@ fn entry_of(word: &str) -> IndexEntry {
     let (format, rest) = split(word, ":");
     let (id, rest) = split(rest, ":");
     let (abbrev, info) = split(rest, ":");
-    let mut entry = entry(encoding(format), part(info), part(abbrev), None);
-    entry.id = DwarfObject::Compilation(DwoId(number(id)));
-    entry
+    entry(encoding(format), number(id), part(info), part(abbrev), None)
 }
 
 /// The entries of the words 2 on.
@@ -189,14 +188,16 @@ fn put_indexed(index: &[u8], id: u64, said: &mut Said) {
     }
 }
 
+/// The section's bytes in the output.
+const WHOLE: Contribution = Contribution {
+    offset: ContributionOffset(0x20),
+    size: 0x18,
+};
+
 /// Where a unit's abbreviations lie in an output that has the section from 0x20 on.
 fn put_abbreviations(index: Option<&UnitIndex<'_>>, id: u64, said: &mut Said) {
     let adjustor = ContributionAdjustor::new(index, None, SectionKind::Abbrev);
-    let whole = Contribution {
-        offset: ContributionOffset(0x20),
-        size: 0x18,
-    };
-    said.put(&adjustor.adjust(DwarfObject::Compilation(DwoId(id)), Some(whole)));
+    said.put(&adjustor.adjust(DwarfObject::Compilation(DwoId(id)), Some(WHOLE)));
 }
 
 /// An index and an identifier: the same of a unit that was looked up before.
@@ -209,12 +210,8 @@ fn moved_row(row: Row<'_>, said: &mut Said) {
 
 fn put_looked_up(index: &UnitIndex<'_>, id: u64, said: &mut Said) {
     let adjustor = ContributionAdjustor::new(Some(index), None, SectionKind::Abbrev);
-    let whole = Contribution {
-        offset: ContributionOffset(0x20),
-        size: 0x18,
-    };
     let unit = DwarfObject::Compilation(DwoId(id));
-    said.put(&adjustor.adjust_row(unit, index.find(id), Some(whole)));
+    said.put(&adjustor.adjust_row(unit, index.find(id), Some(WHOLE)));
 }
 
 /// An executable: the places that are relocated in `.debug_info`, or in the section of a number, and

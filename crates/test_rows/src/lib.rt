@@ -9,6 +9,7 @@ pub use row::{
     split,
 };
 use std::alloc::{AllocError, Global};
+use std::{fs, io};
 
 /// The calls of a program of rows.
 pub trait Calls {
@@ -16,12 +17,45 @@ pub trait Calls {
     fn call(&self, row: Row<'_>, said: &mut Said);
 }
 
-/// Each row in a line, and what it answers in the next. `named` has the bytes that rows name.
+/// Prints the name of each file of rows, and its rows, each with what it answers in the next line. The
+/// file `named` has the bytes that rows name.
 ///
 /// # Errors
 ///
-/// Memory is refused.
-pub fn answers<C: Calls>(
+/// A file can't be read, nothing can be printed, or memory is refused.
+pub fn print_files<C: Calls>(rt: &HostRuntime, calls: &C, files: &[&str]) -> io::Result<()> {
+    let named = text_of(rt, "named")?;
+    print_each(rt, calls, &named, files)
+}
+
+fn print_each<C: Calls>(
+    rt: &HostRuntime,
+    calls: &C,
+    named: &str,
+    files: &[&str],
+) -> io::Result<()> {
+    for file in files {
+        print_rows(rt, calls, named, file)?;
+    }
+    Ok(())
+}
+
+fn text_of(rt: &HostRuntime, file: &str) -> io::Result<String> {
+    fs::read_to_string(rt, file)
+}
+
+fn print_rows<C: Calls>(rt: &HostRuntime, calls: &C, named: &str, file: &str) -> io::Result<()> {
+    let rows = text_of(rt, file)?;
+    let answers = answers(calls, rt.alloc(), named, &rows)?;
+    print_line(rt, file, &answers)
+}
+
+fn print_line(rt: &HostRuntime, file: &str, answers: &str) -> io::Result<()> {
+    println!(rt; "{file}{answers}")
+}
+
+/// Each row in a line, and what it answers in the next.
+fn answers<C: Calls>(
     calls: &C,
     alloc: Global,
     named: &str,
