@@ -3,7 +3,7 @@
 
 use crate::growth::LEAST_ROOM;
 use dwp_bytes::string_at;
-use dwp_elf::{ElfFile, Endianness, SectionKind};
+use dwp_elf::{ElfFile, Endianness, Section, SectionKind};
 use std::alloc::{AllocError, Global};
 use thorin::UnitIndex;
 
@@ -28,6 +28,64 @@ struct InnerStrings<'a> {
     most: usize,
 }
 
+/// The sections of a file that tell of its strings: of each kind the first that isn't empty, nothing
+/// where there is none, it is compressed, or it can't be read.
+#[derive(Clone, Copy)]
+struct Found<'a> {
+    strings: Option<&'a [u8]>,
+    compilations: Option<&'a [u8]>,
+    types: Option<&'a [u8]>,
+    has_units: bool,
+}
+
+impl<'a> Found<'a> {
+    /// Those of a file.
+    fn of(file: &ElfFile<'a>) -> Found<'a> {
+        let mut found = Found {
+            strings: None,
+            compilations: None,
+            types: None,
+            has_units: false,
+        };
+        for section in file.sections() {
+            if let Some(kind) = section.section_kind() {
+                found.add(kind, &section);
+            }
+        }
+        found
+    }
+
+    /// Adds a section of a kind.
+    fn add(&mut self, kind: SectionKind, section: &Section<'a>) {
+        let first = match kind {
+            SectionKind::Info => {
+                self.has_units = true;
+                return;
+            }
+            SectionKind::Str => &mut self.strings,
+            SectionKind::CuIndex => &mut self.compilations,
+            SectionKind::TuIndex => &mut self.types,
+            _ => return,
+        };
+        if first.is_none() && !section.is_empty() {
+            *first = Some(content(section));
+        }
+    }
+
+    /// Whether no unit of a package has string offsets that begin between words of their section.
+    fn has_aligned_offsets(&self, order: Endianness) -> bool {
+        are_aligned(self.compilations, order) && are_aligned(self.types, order)
+    }
+}
+
+/// The plain content of a section; nothing where it is compressed, or can't be read.
+fn content<'a>(section: &Section<'a>) -> &'a [u8] {
+    if section.is_compressed() {
+        return &[];
+    }
+    section.data().unwrap_or(&[])
+}
+
 /// Whether an object's or a package's strings that begin inside others have more than 16 times the
 /// bytes of the file, and more than `LEAST_ROOM`. All words of its string offsets are looked at,
 /// those of headers too.
@@ -38,25 +96,29 @@ pub(crate) fn has_inner_strings(alloc: Global, bytes: &[u8]) -> Result<bool, All
     let Ok(file) = ElfFile::parse(bytes) else {
         return Ok(false);
     };
+    let found = Found::of(&file);
+    let (true, Some(strings)) = (found.has_units, found.strings) else {
+        return Ok(false);
+    };
     let mut inner = InnerStrings {
         alloc,
-        strings: first_of(&file, SectionKind::Str),
+        strings,
         counted: Vec::new(alloc),
         size: 0,
         most: bytes.len().saturating_mul(FILES).max(LEAST_ROOM),
     };
-    let step = if has_aligned_offsets(&file) { WORD } else { 1 };
-    let mut has_units = false;
+    let order = file.endianness();
+    let step = if found.has_aligned_offsets(order) {
+        WORD
+    } else {
+        1
+    };
     for section in file.sections() {
-        match (section.section_kind(), section.data()) {
-            (Some(SectionKind::Info), _) => has_units = true,
-            (Some(SectionKind::StrOffsets), Ok(offsets)) => {
-                inner.count(offsets, file.endianness(), step)?;
-            }
-            _ => {}
+        if let Some(SectionKind::StrOffsets) = section.section_kind() {
+            inner.count(content(&section), order, step)?;
         }
     }
-    Ok(has_units && inner.is_past())
+    Ok(inner.is_past())
 }
 
 impl InnerStrings<'_> {
@@ -68,11 +130,27 @@ impl InnerStrings<'_> {
     /// Counts those that offsets name which stand at each so many bytes of a section, up to the one
     /// with which they are too large.
     fn count(&mut self, offsets: &[u8], order: Endianness, step: usize) -> Result<(), AllocError> {
+        // (what nearly all files have is known to the compiler in a loop of its own)
+        match (order, step) {
+            (Endianness::Little, WORD) => self.count_by(offsets, Endianness::Little, WORD),
+            _ => self.count_by(offsets, order, step),
+        }
+    }
+
+    /// The same for one order and step.
+    #[inline(always)]
+    fn count_by(
+        &mut self,
+        offsets: &[u8],
+        order: Endianness,
+        step: usize,
+    ) -> Result<(), AllocError> {
+        let strings = self.strings;
         for number in 0..offsets.len() {
-            let Some(offset) = word_at(offsets, order, number.saturating_mul(step)) else {
+            let Some(offset) = word_at(offsets, order, number.wrapping_mul(step)) else {
                 return Ok(());
             };
-            if begins_inside(self.strings, offset) {
+            if begins_inside(strings, offset) {
                 self.add(offset)?;
                 if self.is_past() {
                     return Ok(());
@@ -83,6 +161,7 @@ impl InnerStrings<'_> {
     }
 
     /// Counts the one that begins at an offset, unless it is counted.
+    #[inline(never)]
     fn add(&mut self, offset: usize) -> Result<(), AllocError> {
         if self.counted.is_empty() {
             self.counted.resize(self.strings.len() / 8 + 1, 0)?;
@@ -98,33 +177,12 @@ impl InnerStrings<'_> {
     }
 }
 
-/// The content of the first section of a kind that isn't empty; nothing where there is none, it is
-/// compressed, or it can't be read.
-fn first_of<'a>(file: &ElfFile<'a>, kind: SectionKind) -> &'a [u8] {
-    for section in file.sections() {
-        match section.section_kind() {
-            Some(found) if found.is(kind) && !section.is_empty() => {
-                if section.is_compressed() {
-                    return &[];
-                }
-                return section.data().unwrap_or(&[]);
-            }
-            _ => {}
-        }
-    }
-    &[]
-}
-
-/// Whether no unit of a package has string offsets that begin between words of their section.
-fn has_aligned_offsets(file: &ElfFile<'_>) -> bool {
-    let order = file.endianness();
-    are_aligned(first_of(file, SectionKind::CuIndex), order)
-        && are_aligned(first_of(file, SectionKind::TuIndex), order)
-}
-
-/// The same of the units of an index, if it is one.
-fn are_aligned(index: &[u8], order: Endianness) -> bool {
-    let Ok(index) = UnitIndex::parse(index, order) else {
+/// Whether no unit of an index, if it is one, has string offsets that begin between words.
+fn are_aligned(index: Option<&[u8]>, order: Endianness) -> bool {
+    let Some(bytes) = index else {
+        return true;
+    };
+    let Ok(index) = UnitIndex::parse(bytes, order) else {
         return true;
     };
     if !index.has_column(SectionKind::StrOffsets) {
@@ -144,6 +202,7 @@ fn are_aligned(index: &[u8], order: Endianness) -> bool {
 }
 
 /// The word at a place; None where fewer bytes are left.
+#[inline(always)]
 fn word_at(bytes: &[u8], order: Endianness, at: usize) -> Option<usize> {
     if at > bytes.len() || bytes.len() - at < WORD {
         return None;
@@ -151,9 +210,13 @@ fn word_at(bytes: &[u8], order: Endianness, at: usize) -> Option<usize> {
     Some(order.read_u32(&bytes[at..]) as usize)
 }
 
-/// Whether a string begins at an offset behind other bytes of one.
+/// Whether the byte before an offset is one of a string.
+#[inline(always)]
 fn begins_inside(strings: &[u8], offset: usize) -> bool {
-    offset > 0 && offset < strings.len() && strings[offset - 1] != 0
+    match strings.get(offset.wrapping_sub(1)) {
+        Some(before) => *before != 0,
+        None => false,
+    }
 }
 
 /// How many bytes a string has that begins at an offset, with the zero byte at its end; those to

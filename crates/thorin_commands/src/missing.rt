@@ -16,7 +16,7 @@ use bumpalo::Bump;
 use dwp_bytes::RelocationEntry;
 use dwp_table::{Bucketable, DwarfObject};
 use std::alloc::{AllocError, Global};
-use std::collections::HashSet;
+use std::collections::{BTreeMap, HashSet};
 use std::io::Write;
 use std::path::{AsPath, Path};
 use thorin::{BytesSession, DwarfPackage, Input, MissingTargets, NamelessUnits};
@@ -74,14 +74,20 @@ fn warn<E: Write>(target: DwarfObject, why: &str, err: &mut E) -> Result<(), Fai
     }
 }
 
+/// How many bytes paths and texts may have that are remembered of objects.
+const MOST_LOOKED_FOR: usize = 1 << 20;
+
 /// The units that are left to be told, in the order in which executables name them; the path that
-/// was looked for last, if one of the same executable was, and what is the matter with it.
+/// was looked for last, if one of the same executable was, and what is the matter with it. Others of
+/// that executable are remembered, until they are many.
 #[derive(Drop)]
 struct Left<'b> {
     first: Option<DwarfObject>,
     others: MissingTargets<'b>,
     named: Option<String>,
     why: String,
+    looked_for: BTreeMap<String, String>,
+    size: usize,
 }
 
 impl<'b> Left<'b> {
@@ -91,7 +97,16 @@ impl<'b> Left<'b> {
             others: units,
             named: None,
             why: String::new(alloc),
+            looked_for: BTreeMap::new(alloc),
+            size: 0,
         }
+    }
+
+    /// Forgets what was looked for.
+    fn forget(&mut self, alloc: Global) {
+        self.named = None;
+        self.looked_for = BTreeMap::new(alloc);
+        self.size = 0;
     }
 
     /// Passes over the first.
@@ -99,7 +114,7 @@ impl<'b> Left<'b> {
         self.first = self.others.next();
     }
 
-    /// Looks for the object at a path, unless it was looked for last: keeps why it isn't there.
+    /// Looks for the object at a path, unless it was looked for before: keeps why it isn't there.
     fn look_for<I: Inputs>(
         &mut self,
         alloc: Global,
@@ -111,11 +126,36 @@ impl<'b> Left<'b> {
             Some(last) => last.as_str() == named,
             None => false,
         };
-        if !is_same {
-            self.why = reason_of(alloc, files, executable, named)?;
-            self.named = Some(String::from_str(alloc, named)?);
+        if is_same {
+            return Ok(());
         }
+        let path = String::from_str(alloc, named)?;
+        self.why = match self.looked_for.get(&path) {
+            Some(why) => String::from_str(alloc, why.as_str())?,
+            None => {
+                let why = reason_of(alloc, files, executable, named)?;
+                self.remember(alloc, named, why.as_str())?;
+                why
+            }
+        };
+        self.named = Some(path);
         Ok(())
+    }
+
+    /// Remembers why an object isn't there.
+    fn remember(&mut self, alloc: Global, named: &str, why: &str) -> Result<(), AllocError> {
+        let more = named.len().saturating_add(why.len());
+        self.size = self.size.saturating_add(more);
+        if self.size > MOST_LOOKED_FOR {
+            self.looked_for = BTreeMap::new(alloc);
+            self.size = more;
+        }
+        let path = String::from_str(alloc, named)?;
+        let why = String::from_str(alloc, why)?;
+        match self.looked_for.insert(path, why) {
+            Ok(_before) => Ok(()),
+            Err(e) => Err(AllocError::from(e)),
+        }
     }
 }
 
@@ -171,7 +211,7 @@ fn tell_each<I: Inputs, E: Write>(
     left: &mut Left<'_>,
     err: &mut E,
 ) -> Result<(), Failure> {
-    left.named = None;
+    left.forget(alloc);
     // Whether the path of the unit that came last is the one that was looked for last.
     let mut is_known = false;
     while let Ok(Some(unit)) = units.next() {
