@@ -35,7 +35,7 @@ fn of_table(table: &mut PackageStringTable, row: Row<'_>, said: &mut Said) -> bo
     match row.word(0) {
         "table" => steps(table, row, said),
         "short_strings" => short_strings(table, row, said),
-        "crowded" => crowded(table, row.bytes(1), row.bytes(2), said),
+        "crowded" => crowded(table, row, said),
         "in_order" => in_order(table, row, said),
         _ => put_alone(table, row.bytes(1), row.bytes(2), said),
     }
@@ -291,28 +291,24 @@ fn is_kept(table: &mut PackageStringTable, section: &[u8], offsets: &[u8]) -> bo
     }
 }
 
-/// A section of strings, and the offsets of each, twice: used again in another range, they are found
-/// all the same, and others are not.
-fn crowded(
-    table: &mut PackageStringTable,
-    section: &[u8],
-    offsets: &[u8],
-    said: &mut Said,
-) -> bool {
-    let first = is_kept(table, section, offsets);
-    let second = is_kept(table, section, offsets);
+/// A section of strings, the offsets of each, twice, one of the strings, another, and that with a zero
+/// byte: used again in another range, they are found all the same, and the other is not.
+fn crowded(table: &mut PackageStringTable, row: Row<'_>, said: &mut Said) -> bool {
+    let section = row.bytes(1);
+    let first = is_kept(table, section, row.bytes(2));
+    let second = is_kept(table, section, row.bytes(2));
     said.put(&(section.len(), first, second, table.len()));
-    put_found(table, section.get(8..11).unwrap_or(&[]), said);
-    put_found(table, b"none", said);
-    put_offset(table.get_or_insert(b"none"), said);
+    put_found(table, row.bytes(3), said);
+    put_found(table, row.bytes(4), said);
+    put_offset(inserted(table, row.bytes(5)), said);
     false
 }
 
-/// The same strings and offsets: whether more than one of the strings is compared with one that isn't
-/// there, as where they are looked for in their order, and no more than six.
+/// Strings, their offsets, and another string: whether more than one of the strings is compared with
+/// that, as where they are looked for in their order, and no more than eight.
 fn in_order(table: &mut PackageStringTable, row: Row<'_>, said: &mut Said) -> bool {
     said.note_that(alone(table, row.bytes(1), row.bytes(2)).is_ok());
-    let (_found, count) = table.find_counted(b"none");
+    let (_found, count) = table.find_counted(row.bytes(3));
     said.put(&(count > 1, count <= 8));
     false
 }

@@ -4,7 +4,7 @@ use Rattle.std.proofs.Common.{drop, get_or, ap, sym, ◌∙◌}
 use Rattle.std.proofs.lemmas.List.{get_or-drop}
 use Rattle.std.proofs.lemmas.Bool.{lt-leb}
 use Rattle.std.specs.Hash.FoldHasher.{mix, mix_blocks, write, initial, read_u32}
-use Rattle.thorin_strings.specs.Places.{hash}
+use Rattle.thorin_strings.specs.Places.{wide}
 
 -- the state after the blocks before a place
 unfoldable pub mixed_to : List ℕ → ℕ → ℕ
@@ -31,8 +31,8 @@ mixed_more bytes state at other to new whole beside is so_far mixed =
 pub mixed_all : (bytes : List ℕ) (state at last : ℕ) → 8 < length bytes → at % 16 ≡ 0
     → at < length bytes → length bytes - at < 17 → last ≡ length bytes - 16
     → state ≡ mixed_to bytes at
-    → mix bytes state last (length bytes - 8) ≡ hash bytes
-unfolding mixed_to hash write initial
+    → mix bytes state last (length bytes - 8) ≡ wide bytes
+unfolding mixed_to wide write initial
 mixed_all bytes state at last long whole within near is so_far =
     let count : (length bytes - 1) / 16 ≡ at / 16 = omega (arith, whole, within, near) in
     rw (lt-leb (length bytes) 8 long, count, so_far, is)

@@ -1,228 +1,456 @@
--- Strings that are found by their hashes.
-use Rattle.std.proofs.Common.{◌≡◌, ◌≢◌, ℕ, zero, suc, ◌+◌, ◌<◌, List, [], ◌∷◌, ◌++◌, length}
-use Rattle.std.proofs.Common.{take, map, get_or, length-append}
-use Rattle.std.proofs.Common.{drop, AllPairs, Contains, Some, None, IsPermutation, ap, sym, subst}
-use Rattle.std.proofs.Common.{refl, ◌∙◌, arith, eqb, true}
-use Rattle.std.proofs.lemmas.List.{take-append-drop, take_at, get_or_default, get_or-map}
-use Rattle.std.proofs.lemmas.Bool.{eqb-true}
-use Rattle.std.proofs.lemmas.List.{length-map, length-take, map-append, take-map}
-use Rattle.std.proofs.lemmas.List.Elements.{All-contains, All-take}
-use Rattle.std.proofs.lemmas.List.Quantifiers.{all_pairs_push}
-use Rattle.std.proofs.lemmas.List.Sorted.{IsPermutation-refl}
-use Rattle.dwp_bytes.specs.StringOffsets.{string_from}
+-- Strings that are found by their hashes, or else by their order.
+use Rattle.std.proofs.Common.{◌≡◌, ◌≢◌, ℕ, zero, suc, ◌+◌, ◌<◌, Bool, true, false, cond, eqb, ltb}
+use Rattle.std.proofs.Common.{List}
+use Rattle.std.proofs.Common.{[]}
+use Rattle.std.proofs.Common.{◌∷◌, ◌++◌, length, take, drop, map, filter, get_or}
+use Rattle.std.proofs.Common.{Contains, insert, Some, None, inl, inr, ⊎_elim, ap, sym, subst}
+use Rattle.std.proofs.Common.{refl, ◌∙◌, arith, length-append, Result, Ok, Err, IfOk, IfErr}
+use Rattle.std.proofs.Common.{OnOk, OnErr}
+use Rattle.std.specs.declared.alloc.AllocError.{AllocError}
+use Rattle.std.proofs.lemmas.Result.{IfOk-at_ok}
+use Rattle.std.proofs.lemmas.List.{take-append-drop, get_or_at, get_or_append_left}
+use Rattle.std.proofs.lemmas.List.{get_or-map, length-map, map-append}
+use Rattle.std.proofs.lemmas.List.Elements.{All-contains, Contains-get_or}
+use Rattle.std.proofs.lemmas.List.Sorted.{IsPermutation-insert, Contains-permutation}
+use Rattle.std.proofs.lemmas.Bool.{cases_lt, lt-ltb}
+use Rattle.dwp_bytes.specs.declared.fault.ReadError.TheVariants.{OffsetOutOfRange, NoTerminator}
+use Rattle.dwp_bytes.specs.StringOffsets.{string_from, string_at}
+use Rattle.std.specs.List.{list_any}
 use Rattle.thorin_strings.specs.declared.places.Slot.{Slot}
-use Rattle.thorin_strings.specs.Places.{hash, place_of, AreEntered, AreKept}
+use Rattle.thorin_strings.specs.Places.{hash, place_of, shared, IsOrdered, IsFound, AreRelated}
+use Rattle.thorin_strings.specs.Places.{AreFound}
 use Rattle.thorin_strings.specs.Strings.{terminated, data_of, offset_of, strings_in, offsets_from}
-use Rattle.thorin_strings.specs.Strings.{IsZeroFree, IsTable, IsIndexed, BeginsAt, IsWithinDigits}
-use Rattle.thorin_strings.specs.Hashed.{IsHashed}
-use Rattle.thorin_strings.specs.Grown.{IsGrown, AreSorted}
-use Rattle.thorin_strings.proofs.StringLemmas.{strings_in-data_of, zero_free-strings_in}
-use Rattle.thorin_strings.proofs.OffsetLemmas.{data_of-append, has_Decides, offset_of-at}
-use Rattle.thorin_strings.proofs.TableLemmas.{strings_push, AllPairs-take}
-use Rattle.thorin_strings.proofs.WalkLemmas.{entered_push, entered_front}
+use Rattle.thorin_strings.specs.Strings.{IsZeroFree, IsTable, IsIndexed, StandsAt, BeginsAt}
+use Rattle.thorin_strings.specs.Strings.{IsWithinDigits}
+use Rattle.thorin_strings.specs.declared.entries.Entries.{Entries}
+use Rattle.thorin_strings.specs.Hashed.{IsFindable, IsHashed, held}
+use Rattle.thorin_strings.proofs.StringLemmas.{zero_free-strings_in}
+use Rattle.thorin_strings.proofs.Filters.{Contains-filter}
+use Rattle.thorin_strings.proofs.OffsetLemmas.{has_Decides, offset_of-at}
+use Rattle.thorin_strings.proofs.OffsetLemmas.{offsets_from-append, offsets_from-below}
+use Rattle.thorin_strings.proofs.OffsetLemmas.{length-offsets_from}
+use Rattle.thorin_strings.proofs.TableLemmas.{strings_push, stands_apart, indexed_more}
+use Rattle.thorin_strings.proofs.TableLemmas.{indexed_take}
+use Rattle.thorin_strings.proofs.PlacesLemmas.{same_or}
 use Rattle.thorin_strings.proofs.Named.{begins_there}
-use Rattle.thorin_strings.proofs.MergeLemmas.{table_merged}
 
--- no strings, whatever the slots have
-pub hashed_none : (bytes : List ℕ) (count : ℕ) (slots : List Slot) (size : ℕ) (hashes : List ℕ)
-    → bytes ≡ [] → count ≡ 0 → hashes ≡ [] → IsHashed bytes count slots size hashes
-hashed_none bytes count slots size hashes none zero' forgotten =
+-- lists that are related one by one, and one more of each
+related_push : (R : ℕ → ℕ → Type 0) (xs ys xs' ys' : List ℕ) (x y : ℕ) → length ys ≡ length xs
+    → xs' ≡ xs ++ x ∷ [] → ys' ≡ ys ++ y ∷ [] → AreRelated R xs ys → R x y → AreRelated R xs' ys'
+related_push R xs ys xs' ys' x y long is_xs is_ys related last = λ k less.
+    let count = ap length is_xs ∙ length-append xs (x ∷ []) in
+    ⊎_elim
+    (λ old.
+    let first : get_or xs' k 0 ≡ get_or xs k 0 = ap (λ l. get_or l k 0) is_xs ∙ get_or_append_left
+    xs (x ∷ []) 0 k old in
+    let second : get_or ys' k 0 ≡ get_or ys k 0 = ap (λ l. get_or l k 0) is_ys ∙ get_or_append_left
+    ys (y ∷ []) 0 k (omega (arith, long)) in
+    subst (λ n. R n (get_or ys' k 0)) (sym first) (subst (R (get_or xs k 0)) (sym second)
+    (related k old)))
+    (λ past.
+    let first : get_or xs' k 0 ≡ x = ap (λ l. get_or l k 0) is_xs ∙ get_or_at xs x [] 0 k
+    (omega (arith, less, past, count)) in
+    let second : get_or ys' k 0 ≡ y = ap (λ l. get_or l k 0) is_ys ∙ get_or_at ys y [] 0 k
+    (omega (arith, less, past, count, long)) in
+    subst (λ n. R n (get_or ys' k 0)) (sym first) (subst (R x) (sym second) last))
+    (cases_lt k (length xs))
+
+-- lists that are related in another way too
+related_more : (R S : ℕ → ℕ → Type 0) (xs ys : List ℕ) → ((x y : ℕ) → R x y → S x y)
+    → AreRelated R xs ys → AreRelated S xs ys
+related_more R S xs ys more related = λ k less. more _ _ (related k less)
+
+-- no strings, whatever there is
+pub findable_none : (bytes : List ℕ) (slots : List Slot) (size : ℕ) (is_full : Bool)
+    (ordered : List ℕ) → bytes ≡ [] → ordered ≡ [] → IsFindable bytes slots size is_full ordered
+findable_none bytes slots size is_full ordered none empty =
     let strings : strings_in bytes ≡ [] = ap strings_in none in
     record {
-      ended = ap data_of strings ∙ sym none;
-      distinct = λ i j d less within. absurd (omega (arith, ap length strings));
-      counted = zero' ∙ sym (ap length strings);
-      placed = λ k less. absurd (omega (
+      indexed = record {
+        ended = ap data_of strings ∙ sym none;
+        distinct = λ i j d less within. absurd (omega (arith, ap length strings));
+        begun = λ i d within. absurd (omega (arith, ap length empty));
+        sorted = λ i j d less within. absurd (omega (arith, ap length empty));
+      };
+      found = λ k less. absurd (omega (
         arith,
         ap length strings,
-        length-map (strings_in bytes)
-            hash,
+        length-map (strings_in bytes) hash,
       ));
-      remembered = λ some. absurd (omega (arith, some, ap length forgotten));
     }
 
--- slots that keep the places of the strings do as well
-pub hashed_kept : (bytes : List ℕ) (count : ℕ) (slots new : List Slot) (size size' : ℕ)
-    (hashes : List ℕ) → IsHashed bytes count slots size hashes
-    → (AreEntered bytes slots size → AreEntered bytes new size')
-    → IsHashed bytes count new size' hashes
-hashed_kept bytes count slots new size size' hashes table kept = record {
-  ended = table.ended;
-  distinct = table.distinct;
-  counted = table.counted;
-  placed = kept table.placed;
-  remembered = table.remembered;
-}
-
-pub hashed_table : (bytes : List ℕ) (count : ℕ) (slots : List Slot) (size : ℕ) (hashes : List ℕ)
-    → IsHashed bytes count slots size hashes → IsTable (strings_in bytes)
-hashed_table bytes count slots size hashes table = record {
-  distinct = table.distinct;
-  zero_free =
-      zero_free-strings_in bytes;
-}
-
--- the hash of a string has its place
-pub placed_at : (bytes : List ℕ) (count : ℕ) (slots : List Slot) (size : ℕ) (hashes s : List ℕ)
-    → IsHashed bytes count slots size hashes → Contains (strings_in bytes) s → place_of slots size
-    (hash s) ≡ Some (offset_of (strings_in bytes) s)
-placed_at bytes count slots size hashes s table there =
+-- a string of the section is found
+found_at : (bytes : List ℕ) (slots : List Slot) (size : ℕ) (is_full : Bool) (ordered s : List ℕ)
+    → IsFindable bytes slots size is_full ordered → Contains (strings_in bytes) s
+    → IsFound slots size is_full ordered (hash s) (offset_of (strings_in bytes) s)
+found_at bytes slots size is_full ordered s table there =
     let ss = strings_in bytes in
     let k = there.0 in
     let is_hash : get_or (map hash ss) k 0 ≡ hash s = get_or-map hash ss k s 0 there.1 ∙ ap hash
     there.2 in
-    let at = offset_of-at ss 0 k s 0 table.distinct there.1 in
+    let at = offset_of-at ss 0 k s 0 table.indexed.distinct there.1 in
     let is_place : get_or (offsets_from 0 ss) k 0 ≡ offset_of ss s =
     omega (arith, at, ap (offset_of ss) there.2) in
-    ap (place_of slots size) (sym is_hash) ∙ table.placed k
-    (omega (arith, there.1, length-map ss hash)) ∙ ap Some is_place
+    subst (λ h. IsFound slots size is_full ordered h (offset_of ss s)) is_hash
+    (subst (IsFound slots size is_full ordered (get_or (map hash ss) k 0)) is_place
+    (table.found k (omega (arith, there.1, length-map ss hash))))
 
--- a string whose hash has no place isn't there
-pub unplaced : (bytes : List ℕ) (count : ℕ) (slots : List Slot) (size : ℕ) (hashes s : List ℕ)
-    → IsHashed bytes count slots size hashes → place_of slots size (hash s) ≡ None
-    → Contains (strings_in bytes) s → ⊥
-unplaced bytes count slots size hashes s table none there =
-    let apart : None ≡ Some (offset_of (strings_in bytes) s) = sym none ∙ placed_at bytes count
-    slots size hashes s table there in
-    cc
+-- and stands there
+stands_there : (bytes s : List ℕ) → data_of (strings_in bytes) ≡ bytes → Contains (strings_in bytes)
+    s → BeginsAt bytes (offset_of (strings_in bytes) s) × (string_from bytes
+    (offset_of (strings_in bytes) s) ≡ s)
+stands_there bytes s ended there =
+    let ss = strings_in bytes in
+    let here = begins_there ss s (All-contains IsZeroFree ss s (zero_free-strings_in bytes) there)
+    ((has_Decides ss s).1 there) in
+    subst (λ l. BeginsAt l (offset_of ss s) × (string_from l (offset_of ss s) ≡ s)) ended here
 
--- nor one that doesn't stand at the place of its hash
-pub misplaced : (bytes : List ℕ) (count : ℕ) (slots : List Slot) (size : ℕ) (hashes s : List ℕ)
-    (p : ℕ) → IsHashed bytes count slots size hashes → place_of slots size (hash s) ≡ Some p
+-- a string whose hash has no place isn't there, where more get one
+pub unplaced : (bytes : List ℕ) (slots : List Slot) (size : ℕ) (is_full : Bool)
+    (ordered s : List ℕ) (h : ℕ) → IsFindable bytes slots size is_full ordered → h ≡ hash s
+    → is_full ≡ false → place_of slots size h ≡ None → Contains (strings_in bytes) s → ⊥
+unplaced bytes slots size is_full ordered s h table is_hash gets none there =
+    let none' : place_of slots size (hash s) ≡ None = ap (place_of slots size) (sym is_hash) ∙ none
+    in
+    ⊎_elim
+    (λ own. let apart : None ≡ Some (offset_of (strings_in bytes) s) = sym none' ∙ own.0 in cc)
+    (λ among. ⊎_elim
+    (λ common. let apart : None ≡ Some shared = sym none' ∙ common in cc)
+    (λ late. let apart : true ≡ false = sym late.0 ∙ gets in cc)
+    among.1)
+    (found_at bytes slots size is_full ordered s table there)
+
+-- nor one that doesn't stand at the place of its hash, where strings don't share that
+pub misplaced : (bytes : List ℕ) (slots : List Slot) (size : ℕ) (is_full : Bool)
+    (ordered s : List ℕ) (h p : ℕ) → IsFindable bytes slots size is_full ordered → h ≡ hash s
+    → place_of slots size h ≡ Some p → p ≢ shared
     → (BeginsAt bytes p × (string_from bytes p ≡ s) → ⊥) → Contains (strings_in bytes) s → ⊥
-misplaced bytes count slots size hashes s p table is other there =
-    let whole : Some p ≡ Some (offset_of (strings_in bytes) s) = sym is ∙ placed_at bytes count
-    slots size hashes s table there in
+misplaced bytes slots size is_full ordered s h p table is_hash is own other there =
+    let is' : place_of slots size (hash s) ≡ Some p = ap (place_of slots size) (sym is_hash) ∙ is in
+    ⊎_elim
+    (λ found.
+    let whole : Some p ≡ Some (offset_of (strings_in bytes) s) = sym is' ∙ found.0 in
     let same : p ≡ offset_of (strings_in bytes) s = cc in
-    let here = begins_there (strings_in bytes) s (All-contains IsZeroFree (strings_in bytes) s
-    (zero_free-strings_in bytes) there) ((has_Decides (strings_in bytes) s).1 there) in
-    other (subst (λ l. BeginsAt l p × (string_from l p ≡ s)) table.ended
-    (subst (λ n. BeginsAt (data_of (strings_in bytes)) n
-    × (string_from (data_of (strings_in bytes)) n ≡ s)) (sym same) here))
+    other (subst (λ n. BeginsAt bytes n × (string_from bytes n ≡ s)) (sym same)
+    (stands_there bytes s table.indexed.ended there)))
+    (λ among. ⊎_elim
+    (λ common.
+    let whole : Some p ≡ Some shared = sym is' ∙ common in
+    let same : p ≡ shared = cc in
+    own same)
+    (λ late. let apart : None ≡ Some p = sym late.1 ∙ is' in cc)
+    among.1)
+    (found_at bytes slots size is_full ordered s table there)
+
+-- nor one that isn't among those in order, where it is looked for there
+pub unordered : (bytes : List ℕ) (slots : List Slot) (size : ℕ) (is_full : Bool)
+    (ordered s : List ℕ) (h r : ℕ) → IsFindable bytes slots size is_full ordered → h ≡ hash s
+    → IsOrdered slots size is_full h → StandsAt bytes ordered s r → Contains (strings_in bytes) s
+    → ⊥
+unordered bytes slots size is_full ordered s h r table is_hash leads stands there =
+    let leads' : IsOrdered slots size is_full (hash s) = subst (IsOrdered slots size is_full)
+    is_hash leads in
+    ⊎_elim
+    (λ own. ⊎_elim
+    (λ common.
+    let whole : Some (offset_of (strings_in bytes) s) ≡ Some shared = sym own.0 ∙ common in
+    let same : offset_of (strings_in bytes) s ≡ shared = cc in
+    absurd (omega (arith, own.1, same)))
+    (λ late. let apart : None ≡ Some (offset_of (strings_in bytes) s) = sym late.1 ∙ own.0 in cc)
+    leads')
+    (λ among. stands_apart bytes ordered s r (offset_of (strings_in bytes) s) stands among.0
+    (stands_there bytes s table.indexed.ended there).1)
+    (found_at bytes slots size is_full ordered s table there)
 
 -- one comparison, where there is a string
 pub one_within : (n : ℕ) → 0 < n → IsWithinDigits 1 n
 one_within n some zero few = absurd (omega arith)
 one_within n some (suc k) few = omega arith
 
--- the same strings under another name
-pub entered_same : (bytes bytes' : List ℕ) (slots slots' : List Slot) (size size' : ℕ)
-    → bytes' ≡ bytes → (AreEntered bytes' slots size → AreEntered bytes' slots' size')
-    → AreEntered bytes slots size → AreEntered bytes slots' size'
-entered_same bytes bytes' slots slots' size size' same kept =
-    subst (λ l. AreEntered l slots size → AreEntered l slots' size') same kept
+-- what is found is so where each place that a hash has is kept, and no more are full
+pub found_kept : (slots new : List Slot) (size size' : ℕ) (is_full is_full' : Bool)
+    (ordered : List ℕ) (h n : ℕ) → is_full ≡ false
+    → ((h n : ℕ) → place_of slots size h ≡ Some n → place_of new size' h ≡ Some n)
+    → IsFound slots size is_full ordered h n → IsFound new size' is_full' ordered h n
+found_kept slots new size size' is_full is_full' ordered h n gets kept found =
+    ⊎_elim
+    (λ own. inl (kept h n own.0, own.1))
+    (λ among. ⊎_elim
+    (λ common. inr (among.0, inl (kept h shared common)))
+    (λ late. let apart : true ≡ false = sym late.0 ∙ gets in cc)
+    among.1)
+    found
+
+-- and where more are among those in order
+pub found_among : (slots : List Slot) (size : ℕ) (is_full : Bool) (ordered ordered' : List ℕ)
+    (h n : ℕ) → ((p : ℕ) → Contains ordered p → Contains ordered' p)
+    → IsFound slots size is_full ordered h n → IsFound slots size is_full ordered' h n
+found_among slots size is_full ordered ordered' h n more found =
+    ⊎_elim (λ own. inl own) (λ among. inr (more n among.0, among.1)) found
+
+-- and where strings share a hash whose place is among those in order
+pub found_shared : (slots new : List Slot) (size size' : ℕ) (is_full is_full' : Bool)
+    (ordered ordered' : List ℕ) (h p g n : ℕ) → is_full' ≡ is_full → place_of slots size h ≡ Some p
+    → place_of new size' h ≡ Some shared
+    → ((g : ℕ) → g ≢ h → place_of new size' g ≡ place_of slots size g)
+    → ((q : ℕ) → Contains ordered q → Contains ordered' q) → (n ≡ p → Contains ordered' p)
+    → IsFound slots size is_full ordered g n → IsFound new size' is_full' ordered' g n
+found_shared slots new size size' is_full is_full' ordered ordered' h p g n full has is others more
+    there found =
+    same_or _ g h
+    (λ same.
+    let has' : place_of slots size g ≡ Some p = ap (place_of slots size) same ∙ has in
+    let is' : place_of new size' g ≡ Some shared = ap (place_of new size') same ∙ is in
+    ⊎_elim
+    (λ own.
+    let whole : Some n ≡ Some p = sym own.0 ∙ has' in
+    let here : n ≡ p = cc in
+    inr (subst (Contains ordered') (sym here) (there here), inl is'))
+    (λ among. inr (more n among.0, inl is'))
+    found)
+    (λ apart.
+    let kept = others g apart in
+    ⊎_elim
+    (λ own. inl (kept ∙ own.0, own.1))
+    (λ among. inr (
+      more n among.0,
+      ⊎_elim (λ common. inl (kept ∙ common)) (λ late.
+          inr (full ∙ late.0, kept ∙ late.1)) among.1,
+    ))
+    found)
 
 -- a new string goes last
-pub hashed_push : (bytes : List ℕ) (count : ℕ) (slots : List Slot) (size : ℕ) (slots' : List Slot)
-    (size' : ℕ) (hashes hashes' s new : List ℕ) (count' n h : ℕ)
-    → IsHashed bytes count slots size hashes → IsZeroFree s → (Contains (strings_in bytes) s → ⊥)
-    → new ≡ bytes ++ terminated s
-    → n ≡ length bytes → h ≡ hash s → count' ≡ count + 1
-    → (AreEntered bytes slots size → AreEntered bytes slots' size')
-    → place_of slots' size' h ≡ Some n
-    → (AreKept hashes bytes → 0 < length hashes' → hashes' ≡ map hash (strings_in bytes) ++ h ∷ [])
-    → IsHashed new count' slots' size' hashes'
-hashed_push bytes count slots size slots' size' hashes hashes' s new count' n h table free absent
-    is_new is_long is_hash is_count kept entered more =
+pub found_push : (bytes s : List ℕ) (slots : List Slot) (size : ℕ) (is_full : Bool)
+    (ordered : List ℕ) (h n : ℕ) → data_of (strings_in bytes) ≡ bytes → IsZeroFree s
+    → n ≡ length bytes → h ≡ hash s → AreFound bytes slots size is_full ordered
+    → IsFound slots size is_full ordered h n
+    → AreFound (bytes ++ terminated s) slots size is_full ordered
+found_push bytes s slots size is_full ordered h n ended free is_long is_hash found last =
     let ss = strings_in bytes in
-    let push = strings_push bytes s table.ended free in
-    let strings : strings_in new ≡ ss ++ s ∷ [] = ap strings_in is_new ∙ push.0 in
-    let distinct : AllPairs (λ s t. s ≢ t) (strings_in new) =
-    subst (AllPairs (λ s t. s ≢ t)) (sym strings) (all_pairs_push (λ s t. s ≢ t) ss s table.distinct
-    (λ k d within same. absent (k, within, get_or_default ss k s d within ∙ same))) in
+    let push = strings_push bytes s ended free in
+    let far : 0 + length (data_of ss) ≡ n = omega (arith, ap length ended, is_long) in
+    related_push (IsFound slots size is_full ordered) (map hash ss) (offsets_from 0 ss)
+    (map hash (strings_in (bytes ++ terminated s)))
+    (offsets_from 0 (strings_in (bytes ++ terminated s))) h n
+    (length-offsets_from 0 ss ∙ sym (length-map ss hash))
+    (ap (map hash) push.0 ∙ map-append hash ss (s ∷ []) ∙ ap (λ x. map hash ss ++ x ∷ [])
+    (sym is_hash))
+    (ap (offsets_from 0) push.0 ∙ offsets_from-append 0 ss (s ∷ [])
+    ∙ ap (λ m. offsets_from 0 ss ++ m ∷ []) far)
+    found last
+
+-- each string is found where each was
+pub found_all : (bytes : List ℕ) (slots new : List Slot) (size size' : ℕ) (is_full is_full' : Bool)
+    (ordered ordered' : List ℕ)
+    → ((h n : ℕ) → IsFound slots size is_full ordered h n → IsFound new size' is_full' ordered' h n)
+    → AreFound bytes slots size is_full ordered → AreFound bytes new size' is_full' ordered'
+found_all bytes slots new size size' is_full is_full' ordered ordered' more found =
+    related_more (IsFound slots size is_full ordered) (IsFound new size' is_full' ordered') _ _ more
+    found
+
+-- a new string went last, and each is found
+pub hashed_push : (e new : Entries) (s : List ℕ) (h n : ℕ) → IsHashed e → IsZeroFree s
+    → new.bytes.items ≡ e.bytes.items ++ terminated s → n ≡ length e.bytes.items → h ≡ hash s
+    → new.count ≡ e.count + 1 → IsIndexed (e.bytes.items ++ terminated s) new.ordered
+    → ((g m : ℕ) → IsFound e.places.slots.items e.places.size e.places.is_full e.ordered g m
+    → IsFound new.places.slots.items new.places.size new.places.is_full new.ordered g m)
+    → IsFound new.places.slots.items new.places.size new.places.is_full new.ordered h n
+    → IsHashed new
+hashed_push e new s h n table free is_new is_long is_hash is_count indexed more last =
+    let bytes = e.bytes.items in
+    let found : AreFound bytes new.places.slots.items new.places.size new.places.is_full new.ordered
+    = found_all bytes _ _ _ _ _ _ _ _ more table.findable.found in
+    let push = strings_push bytes s table.findable.indexed.ended free in
     record {
-      ended = subst (λ l. data_of (strings_in l) ≡ l) (sym is_new) push.1;
-      distinct = distinct;
+      findable = subst (λ l. IsFindable l new.places.slots.items new.places.size new.places.is_full
+          new.ordered) (sym is_new) (let t : IsFindable (bytes ++ terminated s)
+          new.places.slots.items new.places.size new.places.is_full new.ordered = record {
+            indexed = indexed;
+            found = found_push bytes s _ _ _ _ h n table.findable.indexed.ended free is_long is_hash
+                found last;
+          } in t);
       counted = is_count ∙ omega (
         arith,
         table.counted,
-        ap length strings,
-        length-append ss
-            (s ∷ []),
+        ap length (ap strings_in is_new ∙ push.0),
+        length-append (strings_in bytes) (s ∷ []),
       );
-      placed = entered_push bytes new s slots' size' h n table.ended strings is_long is_hash
-          (kept table.placed) entered;
-      remembered = λ some. more table.remembered some
-          ∙ ap (λ m. map hash ss ++ m ∷ []) is_hash ∙ sym (map-append hash ss (s ∷ []))
-          ∙ ap (map hash) (sym strings);
     }
 
+-- the strings stay, and are found in another way
+pub hashed_kept : (e new : Entries) → IsHashed e → new.bytes.items ≡ e.bytes.items
+    → new.count ≡ e.count → IsIndexed e.bytes.items new.ordered
+    → ((g m : ℕ) → Contains (offsets_from 0 (held e)) m
+    → IsFound e.places.slots.items e.places.size e.places.is_full e.ordered g m
+    → IsFound new.places.slots.items new.places.size new.places.is_full new.ordered g m)
+    → IsHashed new
+hashed_kept e new table is_new is_count indexed more =
+    let bytes = e.bytes.items in
+    let offsets = offsets_from 0 (strings_in bytes) in
+    let found : AreFound bytes new.places.slots.items new.places.size new.places.is_full new.ordered
+    = λ k less.
+    let within : k < length offsets = omega (
+      arith,
+      less,
+      length-map (strings_in bytes) hash,
+      length-offsets_from 0 (strings_in bytes),
+    ) in
+    more _ _ (Contains-get_or offsets k 0 within) (table.findable.found k less) in
+    record {
+      findable = subst (λ l. IsFindable l new.places.slots.items new.places.size new.places.is_full
+          new.ordered) (sym is_new) (let t : IsFindable bytes new.places.slots.items
+          new.places.size new.places.is_full new.ordered = record {
+            indexed = indexed;
+            found = found;
+          } in t);
+      counted = is_count ∙ table.counted ∙ sym (ap (λ l. length (strings_in l)) is_new);
+    }
+
+-- a string begins where one is said to
+pub begins_at_offset : (bytes positions : List ℕ) (p : ℕ) → IsIndexed bytes positions
+    → Contains (offsets_from 0 (strings_in bytes)) p → BeginsAt bytes p
+begins_at_offset bytes positions p table there =
+    let ss = strings_in bytes in
+    let k = there.0 in
+    let within : k < length ss = omega (arith, there.1, length-offsets_from 0 ss) in
+    let s = get_or ss k [] in
+    let at : 0 + offset_of ss s ≡ p = offset_of-at ss 0 k [] p table.distinct within ∙ there.2 in
+    let same : offset_of ss s ≡ p = omega (arith, at) in
+    subst (BeginsAt bytes) same (stands_there bytes s table.ended (Contains-get_or ss k []
+    within)).0
+
+-- what a search that found a string says
+pub found_there : (bytes now ordered s : List ℕ) (p : ℕ) (answer : Result ℕ ℕ) → now ≡ bytes
+    → answer ≡ Ok p
+    → IfOk answer (λ place. Contains (strings_in now) s × (place ≡ offset_of (strings_in now) s))
+    → IfOk answer (Contains ordered)
+    → (Contains (strings_in bytes) s × (p ≡ offset_of (strings_in bytes) s)) × Contains ordered p
+found_there bytes now ordered s p answer same is_ok found there = (
+  subst (λ l. Contains (strings_in l) s × (p ≡ offset_of (strings_in l) s)) same
+      (IfOk-at_ok (λ place. Contains (strings_in now) s × (place ≡ offset_of (strings_in now) s))
+      is_ok found),
+  IfOk-at_ok (Contains ordered) is_ok there,
+)
+
+-- what a search that didn't says
+pub absent_there : (bytes now ordered s : List ℕ) (r : ℕ) (answer : Result ℕ ℕ) → now ≡ bytes
+    → answer ≡ Err r → IfErr answer (StandsAt now ordered s) → StandsAt bytes ordered s r
+absent_there bytes now ordered s r answer same is_err absent =
+    let at : StandsAt now ordered s r = rw is_err at absent in
+    subst (λ l. StandsAt l ordered s r) same at
+
+-- a string that was read begins there
+pub string_there : (section s : List ℕ) (at : ℕ) → string_at section at ≡ Ok s
+    → string_from section at ≡ s
+unfolding string_at
+string_there section s at is = by (ltb (length section) at) (list_any (λ b. eqb b 0)
+    (drop at section)) is
+  where
+    by : (t u : Bool) → cond t (Err OffsetOutOfRange) (cond u (Ok (string_from section at))
+        (Err NoTerminator)) ≡ Ok s → string_from section at ≡ s
+    by true u is = cc
+    by false true is = cc
+    by false false is = cc
+
+-- what is in a list is so when one more goes in
+pub among_more : (xs : List ℕ) (r y p : ℕ) → Contains xs p → Contains (insert xs r y) p
+among_more xs r y p there = Contains-permutation (y ∷ xs) (insert xs r y) p
+    (IsPermutation-insert xs r y) (suc there.0, omega (arith, there.1), there.2)
+
+pub among_one : (xs : List ℕ) (r y : ℕ) → Contains (insert xs r y) y
+among_one xs r y = Contains-permutation (y ∷ xs) (insert xs r y) y (IsPermutation-insert xs r y)
+    (0, omega arith, refl)
+
+-- a position of a string went to its rank, or none did
+pub inserted_or : (bytes ordered s : List ℕ) (r p : ℕ) (new : List ℕ)
+    (answer : Result (Unit {0}) AllocError) → IsIndexed bytes ordered → StandsAt bytes ordered s r
+    → Contains (offsets_from 0 (strings_in bytes)) p → string_from bytes p ≡ s
+    → OnOk answer (new ≡ insert ordered r p) → OnErr answer (new ≡ ordered)
+    → IsIndexed bytes new × ((q : ℕ) → Contains ordered q → Contains new q)
+inserted_or bytes ordered s r p new (Ok u) table stands there is ok err = (
+  subst (IsIndexed bytes) (sym ok) (indexed_more bytes ordered s r p table stands there is),
+  λ q among. subst (λ l. Contains l q) (sym ok) (among_more ordered r p q among),
+)
+inserted_or bytes ordered s r p new (Err e) table stands there is ok err =
+    (subst (IsIndexed bytes) (sym err) table, λ q among. subst (λ l. Contains l q) (sym err) among)
+
 -- back to the first strings
-pub hashed_take : (bytes : List ℕ) (count : ℕ) (kept : List ℕ) (count' : ℕ) (slots : List Slot)
-    (size : ℕ) (hashes hashes' : List ℕ) (strings : List (List ℕ)) (n m : ℕ)
-    → IsHashed bytes count slots size hashes → strings_in bytes ≡ strings
-    → n ≡ length (take n strings)
-    → m ≡ length (data_of (take n strings)) → kept ≡ take m bytes → count' ≡ n
-    → hashes' ≡ take n hashes
-    → (strings_in kept ≡ take n strings) × IsHashed kept count' slots size hashes'
-hashed_take bytes count kept count' slots size hashes hashes' strings n m table is_strings is_count
-    is_mark is_kept is_new is_front =
+pub findable_take : (bytes kept : List ℕ) (slots : List Slot) (size : ℕ) (is_full : Bool)
+    (ordered ordered' : List ℕ) (strings : List (List ℕ)) (n m : ℕ)
+    → IsFindable bytes slots size is_full ordered → strings_in bytes ≡ strings
+    → m ≡ length (data_of (take n strings)) → kept ≡ take m bytes
+    → ordered' ≡ filter (λ p. ltb p m) ordered
+    → (strings_in kept ≡ take n strings) × IsFindable kept slots size is_full ordered'
+findable_take bytes kept slots size is_full ordered ordered' strings n m table is_strings is_mark
+    is_kept is_ordered =
     let ss = strings_in bytes in
     let front = take n ss in
     let back = drop n ss in
-    let same : n ≡ length front = is_count ∙ ap (λ l. length (take n l)) (sym is_strings) in
     let long : m ≡ length (data_of front) = is_mark ∙ ap (λ l. length (data_of (take n l)))
     (sym is_strings) in
-    let whole : front ++ back ≡ ss = take-append-drop n ss in
-    let parts : bytes ≡ data_of front ++ data_of back = sym table.ended ∙ ap data_of (sym whole) ∙
-    data_of-append front back in
-    let first : kept ≡ data_of front = is_kept ∙ ap (take m) parts ∙ take_at (data_of front)
-    (data_of back) m (sym long) in
-    let strings' : strings_in kept ≡ front = ap strings_in first ∙ strings_in-data_of front
-    (All-take IsZeroFree n ss (zero_free-strings_in bytes)) in (
+    let new = indexed_take bytes ordered n m table.indexed long in
+    let strings' : strings_in kept ≡ front = ap strings_in is_kept ∙ new.0 in
+    let hashes : map hash ss ≡ map hash front ++ map hash back =
+    ap (map hash) (sym (take-append-drop n ss)) ∙ map-append hash front back in
+    let places : offsets_from 0 ss ≡ offsets_from 0 front ++ offsets_from
+    (0 + length (data_of front)) back = ap (offsets_from 0) (sym (take-append-drop n ss))
+    ∙ offsets_from-append 0 front back in
+    let found : AreFound kept slots size is_full ordered' = λ k less.
+    let few : k < length front = omega (
+      arith,
+      less,
+      length-map (strings_in kept) hash,
+      ap length strings',
+    ) in
+    let few' : k < length (offsets_from 0 front) = omega (arith, few, length-offsets_from 0 front)
+    in
+    let is_hash : get_or (map hash ss) k 0 ≡ get_or (map hash (strings_in kept)) k 0 =
+    ap (λ l. get_or l k 0) hashes ∙ get_or_append_left (map hash front) (map hash back) 0 k
+    (omega (arith, few, length-map front hash)) ∙ sym (ap (λ l. get_or (map hash l) k 0) strings')
+    in
+    let is_place : get_or (offsets_from 0 ss) k 0 ≡ get_or (offsets_from 0 (strings_in kept)) k 0 =
+    ap (λ l. get_or l k 0) places ∙ get_or_append_left (offsets_from 0 front)
+    (offsets_from (0 + length (data_of front)) back) 0 k few'
+    ∙ sym (ap (λ l. get_or (offsets_from 0 l) k 0) strings') in
+    let here : IsFound slots size is_full ordered (get_or (map hash (strings_in kept)) k 0)
+    (get_or (offsets_from 0 (strings_in kept)) k 0) =
+    subst (λ h. IsFound slots size is_full ordered h (get_or (offsets_from 0 (strings_in kept))
+    k 0)) is_hash (subst (IsFound slots size is_full ordered (get_or (map hash ss) k 0)) is_place
+    (table.found k (omega (
+      arith,
+      few,
+      ap length hashes,
+      length-append (map hash front) (map hash back),
+      length-map front hash,
+    )))) in
+    let below : get_or (offsets_from 0 (strings_in kept)) k 0 < m =
+    omega (
+      arith,
+      offsets_from-below 0 front k 0 few',
+      ap (λ l. get_or (offsets_from 0 l) k 0) strings',
+      long,
+    ) in
+    ⊎_elim
+    (λ own. inl own)
+    (λ among. inr (
+      subst (λ l. Contains l (get_or (offsets_from 0 (strings_in kept)) k 0))
+          (sym is_ordered) (Contains-filter (λ p. ltb p m) ordered _ among.0.0 among.0.1 among.0.2
+          (lt-ltb _ m below)),
+      among.1,
+    ))
+    here in (
       strings' ∙ ap (take n) is_strings,
       record {
-        ended = ap data_of strings' ∙ sym first;
-        distinct = subst (AllPairs (λ s t. s ≢ t)) (sym strings') (AllPairs-take (λ s t. s ≢ t) n ss
-            table.distinct);
-        counted = is_new ∙ same ∙ ap length (sym strings');
-        placed = entered_front bytes kept front back slots size (sym whole) strings' table.placed;
-        remembered = λ some. is_front ∙ ap (take n) (table.remembered
-            (omega (arith, some, ap length is_front, length-take n hashes)))
-            ∙ take-map hash n ss ∙ ap (map hash) (sym strings');
+        indexed = subst (λ l. IsIndexed l ordered') (sym is_kept)
+            (subst (IsIndexed (take m bytes)) (sym is_ordered) new.1);
+        found = found;
       },
     )
 
--- no strings in order
-pub indexed_none : IsIndexed [] []
-indexed_none = record {
-  ended = refl;
-  distinct = λ i j d less within. absurd (omega arith);
-  moved = IsPermutation-refl [];
-  sorted = λ i j d less within. absurd (omega arith);
+pub findable_table : (bytes : List ℕ) (slots : List Slot) (size : ℕ) (is_full : Bool)
+    (ordered : List ℕ) → IsFindable bytes slots size is_full ordered → IsTable (strings_in bytes)
+findable_table bytes slots size is_full ordered table = record {
+  distinct = table.indexed.distinct;
+  zero_free =
+      zero_free-strings_in bytes;
 }
-
--- a section as one to which all its strings went
-pub grown_all : (bytes begins : List ℕ) → data_of (strings_in bytes) ≡ bytes → begins ≡ offsets_from
-    0 (strings_in bytes) → IsGrown [] bytes begins
-grown_all bytes begins ended begun = record {
-  added = strings_in bytes;
-  was_ended = refl;
-  ended = ended;
-  strings = refl;
-  begun = begun;
-}
-
--- all its strings in their order
-pub indexed_all : (bytes begins moved positions : List ℕ) → data_of (strings_in bytes) ≡ bytes
-    → begins ≡ offsets_from 0 (strings_in bytes) → IsPermutation begins moved → IsPermutation moved
-    positions → AreSorted bytes positions → IsIndexed bytes positions
-indexed_all bytes begins moved positions ended begun order entered sorted =
-    table_merged [] bytes begins moved [] positions indexed_none (grown_all bytes begins ended
-    begun) order entered sorted
-
-empty : (bytes : List ℕ) → length bytes ≡ 0 → bytes ≡ []
-empty [] none = refl
-empty (b ∷ bs) none = absurd (omega (arith, none))
-
--- no string stands before one at the front
-pub first_hash : (bytes : List ℕ) (place : ℕ) → place ≡ length bytes → eqb place 0 ≡ true
-    → map hash (strings_in bytes) ≡ []
-first_hash bytes place is_long first = ap (λ l. map hash (strings_in l)) (empty bytes
-    (sym is_long ∙ eqb-true place 0 first))
-
--- the hashes that are kept of a section under another name
-pub kept_same : (hashes bytes bytes' : List ℕ) → bytes' ≡ bytes → AreKept hashes bytes
-    → AreKept hashes bytes'
-kept_same hashes bytes bytes' same known =
-    λ some. known some ∙ ap (λ l. map hash (strings_in l)) (sym same)

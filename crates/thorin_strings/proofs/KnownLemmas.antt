@@ -16,7 +16,7 @@ use Rattle.thorin_strings.specs.StringOffsets.{fitting_offset, remapped_entry}
 use Rattle.thorin_strings.specs.Known.{offset_read, IsKnown, AreKnown}
 use Rattle.thorin_strings.proofs.Named.{has, has_more, offset_kept, there_once_used, there_if_same}
 use Rattle.thorin_strings.proofs.NamedEntries.{bind_ok}
-use Rattle.thorin_strings.proofs.GrownLemmas.{entry_used}
+use Rattle.thorin_strings.proofs.UsedLemmas.{entry_used}
 use Rattle.thorin_strings.proofs.OffsetLemmas.{length-data_of-cons}
 
 -- a string that was read and used

@@ -1,7 +1,7 @@
 pub mod CompareLemmas
 pub mod Digits
 pub mod StringLemmas
-pub mod Permutations
+pub mod Filters
 pub mod OffsetLemmas
 pub mod TableLemmas
 pub mod PlaceLemmas
@@ -14,13 +14,11 @@ pub mod Named
 pub mod NamedEntries
 pub mod NamedBytes
 pub mod ShortLemmas
-pub mod GrownLemmas
-pub mod MergeLemmas
+pub mod UsedLemmas
 pub mod KnownLemmas
 pub mod PlacesLemmas
 pub mod HashedLemmas
 pub mod LaneLemmas
 pub mod EndLemmas
-pub mod WalkLemmas
 pub mod HashLemmas
 pub mod WrittenLemmas

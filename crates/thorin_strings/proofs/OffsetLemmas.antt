@@ -14,7 +14,7 @@ use Rattle.std.proofs.lemmas.Slice.Eq.{bytes_eq-Decides}
 use Rattle.dwp_bytes.specs.StringOffsets.{string_from}
 use Rattle.thorin_strings.specs.Strings.{terminated, data_of, offset_of, IsZeroFree, offsets_from}
 use Rattle.thorin_strings.proofs.StringLemmas.{string_from-ended, data_of-cons}
-use Rattle.thorin_strings.proofs.Permutations.{filter_all, filter_none}
+use Rattle.thorin_strings.proofs.Filters.{filter_all, filter_none}
 
 pub length-data_of-cons : (s : List ℕ) (ss : List (List ℕ)) → length (data_of (s ∷ ss)) ≡ length s +
     1 + length (data_of ss)

@@ -1,20 +1,17 @@
 -- A place of a section of ended strings at which a string begins.
-use Rattle.std.proofs.Common.{◌≡◌, ◌≢◌, AllPairs, ℕ, zero, suc, ◌+◌, ◌-◌, ◌<◌, ◌≤◌, Bool, true}
-use Rattle.std.proofs.Common.{false, cond, ◌||◌, eqb, List, [], ◌∷◌, ◌++◌, length, take, drop}
+use Rattle.std.proofs.Common.{◌≡◌, ◌≢◌, AllPairs, ℕ, zero, suc, ◌+◌, ◌-◌, ◌<◌, Bool, true}
+use Rattle.std.proofs.Common.{false, cond, eqb, List, [], ◌∷◌, ◌++◌, length, take, drop}
 use Rattle.std.proofs.Common.{get_or, All, Contains, ap, sym, subst, refl, ◌∙◌, arith, append_assoc}
-use Rattle.std.specs.List.{onto_first, list_any}
-use Rattle.std.specs.Str.{bytes_eq}
+use Rattle.std.specs.List.{onto_first}
 use Rattle.std.proofs.lemmas.List.{take-append-drop, length-take-le, length-drop}
 use Rattle.std.proofs.lemmas.List.Elements.{All-head, All-tail, Contains-append_right}
 use Rattle.std.proofs.lemmas.Bool.{eqb-true}
-use Rattle.std.proofs.lemmas.Slice.Eq.{bytes_eq-Decides}
 use Rattle.dwp_bytes.specs.StringOffsets.{string_from}
 use Rattle.thorin_strings.specs.Strings.{data_of, offset_of, offsets_from, strings_in, IsZeroFree}
-use Rattle.thorin_strings.specs.Strings.{IsIndexed, BeginsAt}
+use Rattle.thorin_strings.specs.Strings.{BeginsAt}
 use Rattle.thorin_strings.proofs.StringLemmas.{data_of-cons, strings_in-ended, zero_free-strings_in}
-use Rattle.thorin_strings.proofs.OffsetLemmas.{offsets_from-append, length-data_of-cons}
-use Rattle.thorin_strings.proofs.OffsetLemmas.{has_Decides}
-use Rattle.thorin_strings.proofs.TableLemmas.{known_offset, known_offset_in}
+use Rattle.thorin_strings.proofs.OffsetLemmas.{offsets_from-append}
+use Rattle.thorin_strings.proofs.TableLemmas.{known_offset_in}
 
 onto_ended : (b : ℕ) (ss : List (List ℕ)) (rest : List ℕ) → data_of ss ≡ rest → 0 < length rest
     → data_of (onto_first b ss) ≡ b ∷ rest
@@ -67,7 +64,7 @@ first_offset n [] some = absurd (omega arith)
 first_offset n (s ∷ ss) some = (0, omega arith, refl)
 
 -- it is the offset of a string
-offset_there : (bytes : List ℕ) (at : ℕ) → BeginsAt bytes at
+pub offset_there : (bytes : List ℕ) (at : ℕ) → BeginsAt bytes at
     → Contains (offsets_from 0 (strings_in bytes)) at
 offset_there bytes at begins =
     let front = strings_in (take at bytes) in
@@ -88,42 +85,8 @@ offset_there bytes at begins =
     (subst (λ n. Contains (offsets_from n back) at) (sym here) (first_offset at back some)))
 
 -- of the string that begins there
-pub known_place : (bytes positions s : List ℕ) (at : ℕ) → IsIndexed bytes positions
-    → BeginsAt bytes at → string_from bytes at ≡ s → Contains (strings_in bytes) s
-    × (at ≡ offset_of (strings_in bytes) s)
-known_place bytes positions s at table begins is = known_offset bytes positions s at table
-    (offset_there bytes at begins) is
-
 pub known_place_in : (bytes s : List ℕ) (at : ℕ) → data_of (strings_in bytes) ≡ bytes
     → AllPairs (λ s t. s ≢ t) (strings_in bytes) → BeginsAt bytes at → string_from bytes at ≡ s
     → Contains (strings_in bytes) s × (at ≡ offset_of (strings_in bytes) s)
 known_place_in bytes s at ended distinct begins is = known_offset_in bytes s at ended distinct
     (offset_there bytes at begins) is
-
--- a string and the zero that ends it are within the section
-ends_by : (ss : List (List ℕ)) (s : List ℕ) → list_any (λ t. bytes_eq t s) ss ≡ true
-    → offset_of ss s + length s + 1 ≤ length (data_of ss)
-ends_by [] s there = cc
-ends_by (t ∷ ss) s there = by (bytes_eq t s) refl there (ends_by ss s)
-  where
-    by : (b : Bool) → bytes_eq t s ≡ b → (b || list_any (λ t. bytes_eq t s) ss) ≡ true
-        → (list_any (λ t. bytes_eq t s) ss ≡ true → offset_of ss s + length s + 1 ≤ length
-        (data_of ss)) → cond b 0 (length t + 1 + offset_of ss s) + length s + 1 ≤ length
-        (data_of (t ∷ ss))
-    by true same there rest = omega (
-      arith,
-      length-data_of-cons t ss,
-      ap length
-          ((bytes_eq-Decides t s).0 same),
-    )
-    by false other there rest = omega (arith, length-data_of-cons t ss, rest there)
-
-pub ends_within : (bytes positions s : List ℕ) → IsIndexed bytes positions
-    → Contains (strings_in bytes) s → offset_of (strings_in bytes) s + length s + 1 ≤ length bytes
-ends_within bytes positions s table there =
-    omega (
-      arith,
-      ends_by (strings_in bytes) s ((has_Decides (strings_in bytes) s).1 there),
-      ap
-          length table.ended,
-    )

@@ -1,37 +1,35 @@
--- The positions of a table's strings, in the strings' order.
-use Rattle.std.proofs.Common.{◌≡◌, ◌≢◌, ℕ, ◌+◌, ◌-◌, ◌<◌, ◌≤◌, false, ltb, List, [], ◌∷◌, ◌++◌}
+-- Some positions of a table's strings, in the strings' order.
+use Rattle.std.proofs.Common.{◌≡◌, ◌≢◌, ℕ, ◌+◌, ◌-◌, ◌<◌, ◌≤◌, ltb, List, [], ◌∷◌, ◌++◌}
 use Rattle.std.proofs.Common.{length, take, drop, get_or, map, filter, insert, All, AllPairs}
-use Rattle.std.proofs.Common.{Contains, IsPermutation, Less, Equal, Result, Ok, Err, IfOk, IfErr}
-use Rattle.std.proofs.Common.{ap, sym, subst, refl, ◌∙◌, ⊎_elim, arith, append_assoc, length-append}
-use Rattle.std.specs.List.{list_any}
-use Rattle.std.specs.Str.{bytes_eq}
+use Rattle.std.proofs.Common.{Contains, Less, Equal, ap, sym, subst, refl, ◌∙◌, ⊎_elim, arith}
 use Rattle.std.specs.Ordering.{nat_cmp}
 use Rattle.std.specs.Cmp.Lexicographic.{slice_cmp}
 use Rattle.std.proofs.lemmas.List.{append-nil, take-append-drop, get_or-map, get_or_default}
-use Rattle.std.proofs.lemmas.List.{take_at, length-map, length-take, get_or-take}
+use Rattle.std.proofs.lemmas.List.{take_at, length-take, get_or-take}
 use Rattle.std.proofs.lemmas.List.Edits.{length-insert, get_or-insert_below, get_or-insert_at}
 use Rattle.std.proofs.lemmas.List.Edits.{get_or-insert_above}
 use Rattle.std.proofs.lemmas.List.Elements.{All-nil, All-cons, All-weaker, All-take, All-push}
-use Rattle.std.proofs.lemmas.List.Elements.{Contains-get_or}
+use Rattle.std.proofs.lemmas.List.Elements.{All-contains, All-filter, filter_passes}
+use Rattle.std.proofs.lemmas.List.Elements.{Contains-get_or, Contains-append_left}
+use Rattle.std.proofs.lemmas.List.Elements.{Contains-append_right}
 use Rattle.std.proofs.lemmas.List.Quantifiers.{all_pairs_push}
 use Rattle.std.proofs.lemmas.List.Kept.{AllPairs-filter}
-use Rattle.std.proofs.lemmas.List.Sorted.{IsPermutation-trans, IsPermutation-sym}
-use Rattle.std.proofs.lemmas.List.Sorted.{IsPermutation-cons, IsPermutation-map}
-use Rattle.std.proofs.lemmas.List.Sorted.{IsPermutation-insert, IsPermutation-to_front}
-use Rattle.std.proofs.lemmas.List.Sorted.{length_permutation, All-permutation, Contains-permutation}
-use Rattle.std.proofs.lemmas.Bool.{cases_lt, cases_order, false_from_ne_true, cond-true, cond-false}
-use Rattle.std.proofs.lemmas.Result.{IfOk-at_ok}
-use Rattle.std.proofs.lemmas.Cmp.{nat_list_cmp_total, tied_itself}
+use Rattle.std.proofs.lemmas.List.Sorted.{IsPermutation-insert, All-permutation}
+use Rattle.std.proofs.lemmas.Map.Made.{length-le_from_is_member, IsDistinct-from_AllPairs}
+use Rattle.std.proofs.lemmas.Map.Made.{is_member-Decides}
+use Rattle.std.proofs.lemmas.Bool.{cases_lt, cases_order}
+use Rattle.std.proofs.lemmas.Bool.Decides.{Decides-eqb}
+use Rattle.std.proofs.lemmas.Cmp.{nat_list_cmp_total, nat_eq_equiv, tied_itself}
 use Rattle.dwp_bytes.specs.StringOffsets.{string_from}
-use Rattle.thorin_strings.specs.Strings.{terminated, data_of, offset_of, IsZeroFree, IsTable}
-use Rattle.thorin_strings.specs.Strings.{strings_in, offsets_from, with_string, IsWithinDigits}
+use Rattle.thorin_strings.specs.Strings.{terminated, data_of, offset_of, IsZeroFree}
+use Rattle.thorin_strings.specs.Strings.{strings_in, offsets_from, IsWithinDigits}
 use Rattle.thorin_strings.specs.Strings.{IsBefore, IsIndexed, StandsAt}
 use Rattle.thorin_strings.proofs.StringLemmas.{strings_in-data_of, zero_free-strings_in}
 use Rattle.thorin_strings.proofs.StringLemmas.{string_from-ended}
-use Rattle.thorin_strings.proofs.Permutations.{IsPermutation-filter}
+use Rattle.thorin_strings.proofs.Filters.{Contains-filter}
 use Rattle.thorin_strings.proofs.OffsetLemmas.{data_of-push, data_of-append, map-string_from}
-use Rattle.thorin_strings.proofs.OffsetLemmas.{length-offsets_from, offset_of-at, offset_of-absent}
-use Rattle.thorin_strings.proofs.OffsetLemmas.{has_Decides, length-data_of-cons}
+use Rattle.thorin_strings.proofs.OffsetLemmas.{length-offsets_from, offset_of-at}
+use Rattle.thorin_strings.proofs.OffsetLemmas.{length-data_of-cons}
 use Rattle.thorin_strings.proofs.OffsetLemmas.{offsets_from-append, offsets_from-below}
 use Rattle.thorin_strings.proofs.OffsetLemmas.{filter-offsets_from}
 
@@ -47,20 +45,20 @@ pub strings_here : (bytes : List ℕ) → data_of (strings_in bytes) ≡ bytes �
 strings_here bytes ended = ap (λ l. map (string_from l) (offsets_from 0 (strings_in bytes)))
     (sym (append-nil bytes)) ∙ strings_at bytes [] ended
 
--- as many positions as strings
-pub length-positions : (bytes positions : List ℕ) → IsIndexed bytes positions → length positions ≡
-    length (strings_in bytes)
-length-positions bytes positions table = length_permutation _ _ table.moved ∙ length-offsets_from 0
-    (strings_in bytes)
+-- what holds of where strings begin holds of some of these
+held_by : (P : ℕ → Type 0) (places positions : List ℕ) → All P places
+    → All (λ p. Contains places p) positions → All P positions
+held_by P places positions held begun =
+    All-weaker (λ p. Contains places p) P (λ p there. All-contains P places p held there)
+    positions begun
 
 -- each position is within the section
 pub positions_within : (bytes positions : List ℕ) → IsIndexed bytes positions
     → All (λ p. p ≤ length bytes) positions
 positions_within bytes positions table =
-    let long = ap length table.ended in
-    All-permutation (λ p. p ≤ length bytes) _ _ table.moved
+    held_by (λ p. p ≤ length bytes) (offsets_from 0 (strings_in bytes)) positions
     (All-weaker (λ p. p < 0 + length (data_of (strings_in bytes))) (λ p. p ≤ length bytes) (λ p h.
-    omega arith) _ (offsets_from-below 0 (strings_in bytes)))
+    omega (arith, ap length table.ended)) _ (offsets_from-below 0 (strings_in bytes))) table.begun
 
 -- no string comes before itself
 not_before_itself : (s t : List ℕ) → t ≡ s → IsBefore t s → ⊥
@@ -98,34 +96,41 @@ pub known_position : (bytes positions s : List ℕ) (r p : ℕ) → IsIndexed by
     → r < length positions → p ≡ get_or positions r 0 → string_from bytes p ≡ s
     → Contains (strings_in bytes) s × (p ≡ offset_of (strings_in bytes) s)
 known_position bytes positions s r p table within is_position is =
-    let there : Contains positions p = subst (Contains positions) (sym is_position)
-    (Contains-get_or positions r 0 within) in
-    known_offset bytes positions s p table (Contains-permutation positions
-    (offsets_from 0 (strings_in bytes)) p (IsPermutation-sym _ _ table.moved) there) is
+    known_offset bytes positions s p table
+    (subst (Contains (offsets_from 0 (strings_in bytes))) (sym is_position)
+    (table.begun r 0 within)) is
 
 pub not_behind_itself : (s t : List ℕ) → t ≡ s → IsBefore s t → ⊥
 not_behind_itself s t same h = not_before_itself s s refl (subst (λ u. IsBefore s u) same h)
 
--- a string that would stand at a rank isn't there
-pub stands_absent : (bytes positions s : List ℕ) (r : ℕ) → IsIndexed bytes positions
-    → StandsAt bytes positions s r → Contains (strings_in bytes) s → ⊥
-stands_absent bytes positions s r table stands there =
-    let ss = strings_in bytes in
-    let sorted = IsPermutation-map (string_from bytes) _ _ table.moved in
-    let found = Contains-permutation ss (map (string_from bytes) positions) s
-    (subst (λ l. IsPermutation l (map (string_from bytes) positions))
-    (strings_here bytes table.ended) sorted) there in
-    let k = found.0 in
-    let within : k < length positions = omega (
-      arith,
-      found.1,
-      length-map positions
-          (string_from bytes),
-    ) in
+-- a string that would stand at a rank isn't at any position
+pub stands_apart : (bytes positions s : List ℕ) (r p : ℕ) → StandsAt bytes positions s r
+    → Contains positions p → string_from bytes p ≡ s → ⊥
+stands_apart bytes positions s r p stands there is =
+    let k = there.0 in
+    let within : k < length positions = there.1 in
     let same : string_from bytes (get_or positions k 0) ≡ s =
-    sym (get_or-map (string_from bytes) positions k 0 s within) ∙ found.2 in
+    ap (string_from bytes) (get_or_default positions k 0 p within ∙ there.2) ∙ is in
     ⊎_elim (λ less. not_before_itself s _ same (stands.before k less)) (λ more. not_behind_itself s
     _ same (stands.behind k more within)) (cases_lt k r)
+
+-- strings in strict order begin at distinct positions
+distinct_positions : (bytes positions : List ℕ) → IsIndexed bytes positions
+    → AllPairs (λ p q. p ≢ q) positions
+distinct_positions bytes positions table = λ i j d less within same.
+    not_before_itself _ _ (ap (string_from bytes) same) (table.sorted i j d less within)
+
+-- no more positions than strings
+pub positions_few : (bytes positions : List ℕ) → IsIndexed bytes positions
+    → length positions ≤ length (strings_in bytes)
+positions_few bytes positions table =
+    let offsets = offsets_from 0 (strings_in bytes) in
+    let few = length-le_from_is_member nat_eq_equiv positions offsets
+    (IsDistinct-from_AllPairs Decides-eqb positions (distinct_positions bytes positions table))
+    (λ q there. (is_member-Decides Decides-eqb offsets q).1
+    (All-contains (λ p. Contains offsets p) positions q table.begun
+    ((is_member-Decides Decides-eqb positions q).0 there))) in
+    omega (arith, few, length-offsets_from 0 (strings_in bytes))
 
 -- a list stays in order when a number goes between what is before it and what is behind
 pub insert_in_order : (R : ℕ → ℕ → Type 0) (xs : List ℕ) (r y : ℕ) → AllPairs R xs → r ≤ length xs
@@ -191,48 +196,94 @@ strings_push bytes s ended free =
     strings_in-data_of (ss ++ s ∷ []) all_free in
     (strings, ap data_of strings ∙ whole)
 
--- a new string goes last, and its position to its rank
-pub indexed_push : (bytes positions s : List ℕ) (r : ℕ) → IsIndexed bytes positions → IsZeroFree s
-    → StandsAt bytes positions s r → (strings_in (bytes ++ terminated s) ≡ strings_in bytes ++ s ∷
-    []) × IsIndexed (bytes ++ terminated s) (insert positions r (length bytes))
-indexed_push bytes positions s r table free stands =
+-- positions in a section to which a string was added
+grown_positions : (bytes positions s : List ℕ) → IsIndexed bytes positions
+    → All (λ p. string_from bytes p ≡ string_from (bytes ++ terminated s) p) positions
+grown_positions bytes positions s table =
+    held_by (λ p. string_from bytes p ≡ string_from (bytes ++ terminated s) p)
+    (offsets_from 0 (strings_in bytes)) positions
+    (maps_agree (string_from bytes) (string_from (bytes ++ terminated s)) _
+    (strings_here bytes table.ended ∙ sym (strings_at bytes (terminated s) table.ended)))
+    table.begun
+
+-- where its strings begin
+grown_offsets : (bytes s : List ℕ) → data_of (strings_in bytes) ≡ bytes → IsZeroFree s
+    → offsets_from 0 (strings_in (bytes ++ terminated s)) ≡ offsets_from 0 (strings_in bytes)
+    ++ length bytes ∷ []
+grown_offsets bytes s ended free =
+    let far : 0 + length (data_of (strings_in bytes)) ≡ length bytes =
+    omega (arith, ap length ended) in
+    ap (offsets_from 0) (strings_push bytes s ended free).0
+    ∙ offsets_from-append 0 (strings_in bytes) (s ∷ [])
+    ∙ ap (λ n. offsets_from 0 (strings_in bytes) ++ n ∷ []) far
+
+-- a new string goes last
+pub indexed_push : (bytes positions s : List ℕ) → IsIndexed bytes positions → IsZeroFree s
+    → (Contains (strings_in bytes) s → ⊥) → IsIndexed (bytes ++ terminated s) positions
+indexed_push bytes positions s table free absent =
     let ss = strings_in bytes in
-    let f = string_from bytes in
-    let f' = string_from (bytes ++ terminated s) in
-    let all_free : All IsZeroFree (ss ++ s ∷ []) = All-push IsZeroFree ss s
-    (zero_free-strings_in bytes) free in
-    let whole : data_of (ss ++ s ∷ []) ≡ bytes ++ terminated s = data_of-push ss s ∙ ap (λ l.
-    l ++ terminated s) table.ended in
-    let strings : strings_in (bytes ++ terminated s) ≡ ss ++ s ∷ [] = ap strings_in (sym whole) ∙
-    strings_in-data_of (ss ++ s ∷ []) all_free in
-    let long : 0 + length (data_of ss) ≡ length bytes = omega (arith, ap length table.ended) in
-    let offsets : offsets_from 0 (ss ++ s ∷ []) ≡ offsets_from 0 ss ++ length bytes ∷ [] =
-    offsets_from-append 0 ss (s ∷ []) ∙ ap (λ n. offsets_from 0 ss ++ n ∷ []) long in
-    let agree : All (λ p. f p ≡ f' p) positions =
-    All-permutation (λ p. f p ≡ f' p) _ _ table.moved
-    (maps_agree f f' _ (strings_here bytes table.ended ∙ sym (strings_at bytes (terminated s)
-    table.ended))) in
-    let last : f' (length bytes) ≡ s = string_from-ended bytes s [] (length bytes) refl free in (
-      strings,
-      record {
-        ended = ap data_of strings ∙ whole;
-        distinct = subst (AllPairs (λ s t. s ≢ t)) (sym strings) (all_pairs_push (λ s t. s ≢ t) ss s
-            table.distinct (λ k d within same. stands_absent bytes positions s r table stands
-            (k, within, get_or_default ss k s d within ∙ same)));
-        moved = subst (λ l. IsPermutation l (insert positions r (length bytes)))
-            (sym (ap (offsets_from 0) strings ∙ offsets))
-            (IsPermutation-trans _ _ _ (IsPermutation-to_front (offsets_from 0 ss) (length bytes))
-            (IsPermutation-trans _ _ _ (IsPermutation-cons (length bytes) _ _ table.moved)
-            (IsPermutation-insert positions r (length bytes))));
-        sorted = insert_in_order (λ p q. IsBefore (f' p) (f' q)) positions r (length bytes)
-            (order_agrees f f' positions agree table.sorted) stands.within
-            (λ k below. subst (λ u. IsBefore (f' (get_or positions k 0)) u) (sym last)
-            (subst (λ u. IsBefore u s) (agree k 0 (omega (arith, stands.within)))
-            (stands.before k below)))
-            (λ k above within. subst (λ u. IsBefore u (f' (get_or positions k 0))) (sym last)
-            (subst (λ u. IsBefore s u) (agree k 0 within) (stands.behind k above within)));
-      },
-    )
+    let push = strings_push bytes s table.ended free in
+    let offsets = offsets_from 0 ss in
+    record {
+      ended = push.1;
+      distinct = subst (AllPairs (λ s t. s ≢ t)) (sym push.0) (all_pairs_push (λ s t. s ≢ t) ss s
+          table.distinct (λ k d within same. absent
+          (k, within, get_or_default ss k s d within ∙ same)));
+      begun = subst (λ l. All (λ p. Contains l p) positions)
+          (sym (grown_offsets bytes s table.ended free))
+          (All-weaker (λ p. Contains offsets p) (λ p. Contains (offsets ++ length bytes ∷ []) p)
+          (λ p there. Contains-append_left offsets (length bytes ∷ []) p there) positions
+          table.begun);
+      sorted = order_agrees (string_from bytes) (string_from (bytes ++ terminated s)) positions
+          (grown_positions bytes positions s table) table.sorted;
+    }
+
+-- a position of a string of the section goes to its rank
+pub indexed_more : (bytes positions s : List ℕ) (r p : ℕ) → IsIndexed bytes positions
+    → StandsAt bytes positions s r → Contains (offsets_from 0 (strings_in bytes)) p
+    → string_from bytes p ≡ s → IsIndexed bytes (insert positions r p)
+indexed_more bytes positions s r p table stands there is = record {
+  ended = table.ended;
+  distinct = table.distinct;
+  begun = All-permutation (λ q. Contains (offsets_from 0 (strings_in bytes)) q) (p ∷ positions) _
+      (IsPermutation-insert positions r p)
+      (All-cons (λ q. Contains (offsets_from 0 (strings_in bytes)) q) p positions there
+      table.begun);
+  sorted = insert_in_order (λ p q. IsBefore (string_from bytes p) (string_from bytes q)) positions r
+      p table.sorted stands.within
+      (λ k below. subst (IsBefore (string_from bytes (get_or positions k 0))) (sym is)
+      (stands.before k below))
+      (λ k above within. subst (λ u. IsBefore u (string_from bytes (get_or positions k 0)))
+      (sym is) (stands.behind k above within));
+}
+
+-- a string would stand at the same rank in a section to which one was added
+pub stands_grown : (bytes positions s t : List ℕ) (r : ℕ) → IsIndexed bytes positions
+    → StandsAt bytes positions s r → StandsAt (bytes ++ terminated t) positions s r
+stands_grown bytes positions s t r table stands =
+    let agree = grown_positions bytes positions t table in
+    record {
+      within = stands.within;
+      before = λ k below. subst (λ u. IsBefore u s) (agree k 0 (omega (arith, stands.within)))
+          (stands.before k below);
+      behind = λ k above within. subst (λ u. IsBefore s u) (agree k 0 within)
+          (stands.behind k above within);
+    }
+
+-- a new string goes last, and its position to its rank
+pub indexed_both : (bytes positions s : List ℕ) (r : ℕ) → IsIndexed bytes positions → IsZeroFree s
+    → StandsAt bytes positions s r → (Contains (strings_in bytes) s → ⊥)
+    → IsIndexed (bytes ++ terminated s) (insert positions r (length bytes))
+indexed_both bytes positions s r table free stands absent =
+    let offsets = offsets_from 0 (strings_in bytes) in
+    let last : string_from (bytes ++ terminated s) (length bytes) ≡ s =
+    string_from-ended bytes s [] (length bytes) refl free in
+    indexed_more (bytes ++ terminated s) positions s r (length bytes)
+    (indexed_push bytes positions s table free absent)
+    (stands_grown bytes positions s s r table stands)
+    (subst (λ l. Contains l (length bytes)) (sym (grown_offsets bytes s table.ended free))
+    (Contains-append_right offsets (length bytes ∷ []) (length bytes) (0, omega arith, refl)))
+    last
 
 pub AllPairs-take : {X : Type 0} (R : X → X → Type 0) (n : ℕ) (xs : List X) → AllPairs R xs
     → AllPairs R (take n xs)
@@ -267,10 +318,14 @@ indexed_take bytes positions n m table long =
     ap (λ l. filter (λ p. ltb p m) (offsets_from 0 l)) (sym (take-append-drop n ss))
     ∙ ap (λ k. filter (λ p. ltb p k) (offsets_from 0 (front ++ back))) long
     ∙ filter-offsets_from front back ∙ ap (offsets_from 0) (sym strings) in
-    let moved : IsPermutation (offsets_from 0 (strings_in (take m bytes)))
+    let begun : All (λ p. Contains (offsets_from 0 (strings_in (take m bytes))) p)
     (filter (λ p. ltb p m) positions) =
-    subst (λ l. IsPermutation l (filter (λ p. ltb p m) positions)) offsets
-    (IsPermutation-filter (λ p. ltb p m) _ _ table.moved) in
+    λ i d within.
+    let p = get_or (filter (λ p. ltb p m) positions) i d in
+    let there : Contains (offsets_from 0 ss) p = All-filter (λ p. ltb p m)
+    (λ p. Contains (offsets_from 0 ss) p) positions table.begun i d within in
+    subst (λ l. Contains l p) offsets (Contains-filter (λ p. ltb p m) (offsets_from 0 ss) p there.0
+    there.1 there.2 (filter_passes (λ p. ltb p m) positions i d within)) in
     let old : map f (offsets_from 0 (strings_in (take m bytes))) ≡ front =
     ap (λ l. map f (offsets_from 0 l)) strings ∙ ap (λ l.
     map (string_from l) (offsets_from 0 front)) parts ∙ map-string_from [] front
@@ -278,126 +333,24 @@ indexed_take bytes positions n m table long =
     let new : map f' (offsets_from 0 (strings_in (take m bytes))) ≡ front =
     strings_here (take m bytes) whole ∙ strings in
     let agree : All (λ p. f p ≡ f' p) (filter (λ p. ltb p m) positions) =
-    All-permutation (λ p. f p ≡ f' p) _ _ moved (maps_agree f f' _ (old ∙ sym new)) in (
+    held_by (λ p. f p ≡ f' p) _ _ (maps_agree f f' _ (old ∙ sym new)) begun in (
       strings,
       record {
         ended = whole;
         distinct = subst (AllPairs (λ s t. s ≢ t)) (sym strings) (AllPairs-take (λ s t. s ≢ t) n ss
             table.distinct);
-        moved = moved;
+        begun = begun;
         sorted = order_agrees f f' _ agree (AllPairs-filter (λ p q. IsBefore (f p) (f q)) (λ p.
             ltb p m) positions table.sorted);
       },
     )
 
-pub is_table : (bytes positions : List ℕ) → IsIndexed bytes positions → IsTable (strings_in bytes)
-is_table bytes positions table = record {
-  distinct = table.distinct;
-  zero_free =
-      zero_free-strings_in bytes;
-}
-
 -- as many digits as the strings have, as the positions have
 pub count_within : (bytes positions : List ℕ) (count : ℕ) → IsIndexed bytes positions
     → IsWithinDigits count (length positions) → IsWithinDigits count (length (strings_in bytes))
 count_within bytes positions count table within = λ k few.
-    within k (omega (arith, length-positions bytes positions table))
-
--- what a search that found a string says
-pub found_there : (bytes now s : List ℕ) (p : ℕ) (answer : Result ℕ ℕ) → now ≡ bytes → answer ≡ Ok p
-    → IfOk answer (λ place. Contains (strings_in now) s × (place ≡ offset_of (strings_in now) s))
-    → Contains (strings_in bytes) s × (p ≡ offset_of (strings_in bytes) s)
-    × (with_string (strings_in bytes) s ≡ strings_in bytes)
-found_there bytes now s p answer same is_ok found =
-    let at : Contains (strings_in bytes) s × (p ≡ offset_of (strings_in bytes) s) =
-    subst (λ l. Contains (strings_in l) s × (p ≡ offset_of (strings_in l) s)) same
-    (IfOk-at_ok (λ place. Contains (strings_in now) s × (place ≡ offset_of (strings_in now) s))
-    is_ok found) in
-    (at.0, at.1, cond-true _ _ _ ((has_Decides (strings_in bytes) s).1 at.0))
-
--- what a search that didn't says
-pub absent_there : (bytes now positions s : List ℕ) (r : ℕ) (answer : Result ℕ ℕ)
-    → IsIndexed bytes positions → now ≡ bytes → answer ≡ Err r
-    → IfErr answer (StandsAt now positions s) → StandsAt bytes positions s r
-absent_there bytes now positions s r answer table same is_err absent =
-    let at : StandsAt now positions s r = rw is_err at absent in
-    subst (λ l. StandsAt l positions s r) same at
-
-pub stands_new : (bytes positions s : List ℕ) (r n : ℕ) → IsIndexed bytes positions
-    → StandsAt bytes positions s r → n ≡ length bytes → (n ≡ offset_of (strings_in bytes) s)
-    × (with_string (strings_in bytes) s ≡ strings_in bytes ++ s ∷ [])
-stands_new bytes positions s r n table stands is_long =
-    let none : list_any (λ t. bytes_eq t s) (strings_in bytes) ≡ false =
-    false_from_ne_true _ (λ e. stands_absent bytes positions s r table stands
-    ((has_Decides (strings_in bytes) s).0 e)) in (
-      is_long ∙ ap length (sym table.ended) ∙ sym (offset_of-absent (strings_in bytes) s none),
-      cond-false _ _ _ none,
-    )
-
--- the parts of a table after a push
-pub table_pushed : (bytes kept longer all positions moved s : List ℕ) (r n : ℕ)
-    → IsIndexed bytes positions → IsZeroFree s → StandsAt bytes positions s r → kept ≡ bytes
-    → longer ≡ kept ++ s → all ≡ longer ++ 0 ∷ [] → n ≡ length bytes → moved ≡ insert positions r n
-    → (strings_in all ≡ strings_in bytes ++ s ∷ []) × IsIndexed all moved
-table_pushed bytes kept longer all positions moved s r n table free stands e1 e2 e3
-    is_long is_moved =
-    let whole : all ≡ bytes ++ terminated s = e3 ∙ ap (λ l. l ++ 0 ∷ []) (e2 ∙ ap (λ l. l ++ s) e1)
-    ∙ append_assoc bytes s (0 ∷ []) in
-    let inserted : moved ≡ insert positions r (length bytes) =
-    is_moved ∙ ap (λ m. insert positions r m) is_long in
-    let new = indexed_push bytes positions s r table free stands in (
-      ap strings_in whole ∙ new.0,
-      subst (λ l. IsIndexed l moved) (sym whole)
-          (subst (λ l. IsIndexed (bytes ++ terminated s) l) (sym inserted) new.1),
-    )
-
--- the parts of a table after the way back to a mark
-pub table_taken : (bytes kept positions moved : List ℕ) (strings : List (List ℕ)) (n m : ℕ)
-    → IsIndexed bytes positions → strings_in bytes ≡ strings → m ≡ length (data_of (take n strings))
-    → kept ≡ take m bytes → moved ≡ filter (λ p. ltb p m) positions
-    → (strings_in kept ≡ take n strings) × IsIndexed kept moved
-table_taken bytes kept positions moved strings n m table is_strings is_mark is_kept is_moved =
-    let mark : m ≡ length (data_of (take n (strings_in bytes))) =
-    is_mark ∙ ap (λ l. length (data_of (take n l))) (sym is_strings) in
-    let new = indexed_take bytes positions n m table mark in (
-      ap strings_in is_kept ∙ new.0 ∙ ap (take n) is_strings,
-      subst (λ l. IsIndexed l moved)
-          (sym is_kept) (subst (λ l. IsIndexed (take m bytes) l) (sym is_moved) new.1),
-    )
-
-data_of-none : (ss : List (List ℕ)) → length (data_of ss) ≡ 0 → ss ≡ []
-data_of-none [] none = refl
-data_of-none (s ∷ ss) none = absurd (omega (arith, length-data_of-cons s ss))
-
--- nothing came after a mark of so many bytes
-pub nothing_after : (bytes positions : List ℕ) (strings : List (List ℕ)) (n m : ℕ)
-    → IsIndexed bytes positions → strings_in bytes ≡ strings → m ≡ length (data_of (take n strings))
-    → length bytes ≤ m → strings ≡ take n strings
-nothing_after bytes positions strings n m table is_strings is_mark long =
-    let parts = ap length (ap data_of (sym (take-append-drop n strings)) ∙ data_of-append
-    (take n strings) (drop n strings)) in
-    let whole = ap length (sym table.ended ∙ ap data_of is_strings) in
-    let none : length (data_of (drop n strings)) ≡ 0 =
-    omega (
-      arith,
-      parts,
-      whole,
-      length-append (data_of (take n strings))
-          (data_of (drop n strings)),
-    ) in
-    sym (take-append-drop n strings) ∙ ap (λ l. take n strings ++ l) (data_of-none (drop n strings)
-    none) ∙ append-nil (take n strings)
+    within k (omega (arith, positions_few bytes positions table))
 
 pub strings_few : (ss : List (List ℕ)) → length ss ≤ length (data_of ss)
 strings_few [] = omega arith
 strings_few (s ∷ ss) = omega (arith, strings_few ss, length-data_of-cons s ss)
-
--- no more positions than bytes
-pub positions_few : (bytes positions : List ℕ) → IsIndexed bytes positions
-    → length positions ≤ length bytes
-positions_few bytes positions table = omega (
-  arith,
-  length-positions bytes positions table,
-  strings_few (strings_in bytes),
-  ap length table.ended,
-)

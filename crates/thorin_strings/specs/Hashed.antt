@@ -1,18 +1,25 @@
--- Strings that are found by their hashes.
-use Rattle.std.specs.Prelude.{◌≡◌, ◌≢◌, ℕ, List, length, AllPairs}
+-- Strings that are found by their hashes, or else by their order.
+use Rattle.std.specs.Prelude.{◌≡◌, ℕ, Bool, List, length}
+use Rattle.thorin_strings.specs.declared.entries.Entries.{Entries}
 use Rattle.thorin_strings.specs.declared.places.Slot.{Slot}
-use Rattle.thorin_strings.specs.Places.{AreEntered, AreKept}
-use Rattle.thorin_strings.specs.Strings.{data_of, offset_of, with_string, strings_in}
+use Rattle.thorin_strings.specs.Places.{AreFound}
+use Rattle.thorin_strings.specs.Strings.{offset_of, with_string, strings_in, IsIndexed}
 
--- a section of ended strings, which are distinct; how many; and the hash of each has the place
--- where it begins. The hashes that are kept are theirs
-pub record IsHashed (bytes : List ℕ) (count : ℕ) (slots : List Slot) (size : ℕ) (hashes : List ℕ)
-    : Type 0 where
-  pub ended : data_of (strings_in bytes) ≡ bytes
-  pub distinct : AllPairs (λ s t. s ≢ t) (strings_in bytes)
-  pub counted : count ≡ length (strings_in bytes)
-  pub placed : AreEntered bytes slots size
-  pub remembered : AreKept hashes bytes
+-- a section of ended strings, which are distinct, and each is found
+pub record IsFindable (bytes : List ℕ) (slots : List Slot) (size : ℕ) (is_full : Bool)
+    (ordered : List ℕ) : Type 0 where
+  pub indexed : IsIndexed bytes ordered
+  pub found : AreFound bytes slots size is_full ordered
+
+-- the strings of entries
+abbrev pub held : Entries → List (List ℕ)
+held e = strings_in e.bytes.items
+
+-- they are found, and so many
+pub record IsHashed (e : Entries) : Type 0 where
+  pub findable : IsFindable e.bytes.items e.places.slots.items e.places.size e.places.is_full
+      e.ordered
+  pub counted : e.count ≡ length (held e)
 
 -- a string was used and has this offset
 abbrev pub IsPlaced : List (List ℕ) → List (List ℕ) → List ℕ → ℕ → Type 0

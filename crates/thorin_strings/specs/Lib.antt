@@ -3,10 +3,8 @@ pub mod StringOffsets
 pub mod Marks
 pub mod Chunks
 pub mod Rewritten
-pub mod Grown
 pub mod Known
 pub mod Places
 pub mod Hashed
-pub mod Table
 pub mod Ends
 pub mod Written

@@ -1,7 +1,7 @@
 -- The strings of a package, as `.debug_str.dwo` holds them: each is ended by a zero byte (DWARF 5,
 -- 7.26).
 use Rattle.std.specs.Prelude.{◌≡◌, ◌≢◌, ℕ, ◌+◌, ◌-◌, ◌^◌, ◌<◌, ◌≤◌, if◌then◌else◌, ◌==◌, List, []}
-use Rattle.std.specs.Prelude.{◌∷◌, ◌++◌, length, slice_index, All, AllPairs, IsPermutation}
+use Rattle.std.specs.Prelude.{◌∷◌, ◌++◌, length, slice_index, All, AllPairs, Contains}
 use Rattle.std.specs.List.{flat_map, list_any, onto_first}
 use Rattle.std.specs.Str.{bytes_eq}
 use Rattle.std.specs.Ordering.{nat_cmp}
@@ -60,11 +60,12 @@ offsets_from at (s ∷ ss) = at ∷ offsets_from (at + length s + 1) ss
 abbrev pub IsBefore : List ℕ → List ℕ → Type 0
 IsBefore s t = slice_cmp nat_cmp s t ≡ Less
 
--- the positions are those of the section's strings, which are distinct, sorted by the strings
+-- the positions are those of some of the section's strings, which are distinct, sorted by the
+-- strings
 pub record IsIndexed (bytes positions : List ℕ) : Type 0 where
   pub ended : data_of (strings_in bytes) ≡ bytes
   pub distinct : AllPairs (λ s t. s ≢ t) (strings_in bytes)
-  pub moved : IsPermutation (offsets_from 0 (strings_in bytes)) positions
+  pub begun : All (λ p. Contains (offsets_from 0 (strings_in bytes)) p) positions
   pub sorted : AllPairs (λ p q. IsBefore (string_from bytes p) (string_from bytes q)) positions
 
 -- a string isn't among those that begin at the positions, and would stand at that rank

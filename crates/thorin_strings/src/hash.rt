@@ -1,8 +1,8 @@
-//! The hash of a string. It is the one of `FoldHasher`, made of 32 bytes a step.
+//! The hash of a string: the lower half of the one of `FoldHasher`, made of 32 bytes a step.
 
 ghost use Rattle.std.specs.Prelude.{◌≡◌, ◌<◌, ◌≤◌, ◌+◌, length};
 ghost use Rattle.std.specs.Hash.FoldHasher.{folded_multiply as folded, read_u32, read_u64, mix};
-ghost use Rattle.thorin_strings.specs.Places.{hash as hash_of};
+ghost use Rattle.thorin_strings.specs.Places.{hash as hash_of, wide};
 
 use std::hash::{FoldHasher, Hasher};
 
@@ -53,11 +53,11 @@ fn mixed(bytes: &[u8], state: u64, at: usize, other: usize) -> u64
     )
 }
 
-/// The hash of a string that is longer than 32 bytes.
+/// The whole hash of a string that is longer than 32 bytes.
 #[inline(always)]
 fn long_hash(bytes: &[u8]) -> u64
     requires { 32 < length bytes.now }
-    ensures { result ≡ hash_of bytes.now }
+    ensures { result ≡ wide bytes.now }
 {
     let len = bytes.len();
     let mut state = START.wrapping_add(len as u64);
@@ -75,10 +75,10 @@ fn long_hash(bytes: &[u8]) -> u64
     mixed(bytes, state, len - 16, len - 8)
 }
 
-/// The hash of a string, where a call is to be saved.
+/// The whole hash of a string.
 #[inline(always)]
-pub(crate) fn hash_here(string: &[u8]) -> u64
-    ensures { result ≡ hash_of string.now }
+fn wide_hash(string: &[u8]) -> u64
+    ensures { result ≡ wide string.now }
 {
     let len = string.len();
     if len > 32 {
@@ -97,9 +97,17 @@ pub(crate) fn hash_here(string: &[u8]) -> u64
     hasher.finish()
 }
 
+/// The hash of a string, where a call is to be saved.
+#[inline(always)]
+pub(crate) fn hash_here(string: &[u8]) -> u32
+    ensures { result ≡ hash_of string.now }
+{
+    (wide_hash(string) % 0x1_0000_0000) as u32
+}
+
 /// The hash of a string, by which its place is kept.
 #[inline(never)]
-pub(crate) fn hash(string: &[u8]) -> u64
+pub(crate) fn hash(string: &[u8]) -> u32
     ensures { result ≡ hash_of string.now }
 {
     hash_here(string)

@@ -81,8 +81,10 @@ impl PackageStringTable {
         if limit < self.data().len() as u64 {
             return None;
         }
-        let offset = self.place_by_hash(string)?;
-        Some(offset)
+        let Ok(offset) = self.place(string) else {
+            return None;
+        };
+        Some(offset as u64)
     }
 
     /// As `offset_by_hash`, where short strings aren't remembered.
@@ -137,7 +139,10 @@ impl PackageStringTable {
         if limit < self.data().len() as u64 {
             return None;
         }
-        let offset = self.place_by_hash(string)?;
+        let Ok(place) = self.place(string) else {
+            return None;
+        };
+        let offset = place as u64;
         let _remembered = repeats.enter(string, named, offset);
         Some(offset)
     }

@@ -215,16 +215,6 @@ impl PackageStringTable {
         ensures err { OnErr result ((self.new ≡ self.old) × (repeats.new ≡ [])) }
         ensures known { AreKnown debug_str.now self.new repeats.new }
     {
-        if let Some(range) = self.remapped_together(
-            repeats,
-            debug_str,
-            debug_str_offsets,
-            section_size,
-            endian,
-            encoding,
-        ) {
-            return Ok(range);
-        }
         let mark = self.mark();
         let result = self.remapped_by_form(
             repeats,
@@ -239,55 +229,6 @@ impl PackageStringTable {
             repeats.clear();
         }
         result
-    }
-
-    /// The same of a range that is whole, with its new strings entered together. None where it
-    /// refuses, and where that can't be done; the table is then as it was.
-    #[inline(never)]
-    #[tactic(auto, unfolding(crate::specs::StringOffsets::remapped))]
-    fn remapped_together(
-        &mut self,
-        repeats: &mut Repeats,
-        debug_str: &[u8],
-        debug_str_offsets: &[u8],
-        section_size: u64,
-        endian: Endianness,
-        encoding: Encoding,
-    ) -> Option<Vec<u8>>
-        requires known { AreKnown debug_str.now self.old repeats.old }
-        ensures meaning { IfSome result (λ bytes.
-            remapped endian encoding debug_str.now debug_str_offsets.now section_size self.old
-            ≡ Ok (bytes.items, self.new)) }
-        ensures kept { take (length self.old) self.new ≡ self.old }
-        ensures none { IsNone result → self.new ≡ self.old }
-        ensures known { AreKnown debug_str.now self.new repeats.new }
-    {
-        let header_size = encoding.string_offsets_header_size() as u64;
-        let is_whole = section_size <= debug_str_offsets.len() as u64;
-        if section_size == 0 || section_size < header_size || !is_whole {
-            return None;
-        }
-        if !self.places_together() {
-            return None;
-        }
-        let entry_size = encoding.format.offset_size() as u64;
-        let count = encoding.string_offsets_count(section_size);
-        let mut first = header(self.allocator(), endian, encoding, count * entry_size).ok()?;
-        first.reserve((count * entry_size) as usize).ok()?;
-        let placed = self.place_entries(
-            repeats,
-            debug_str,
-            debug_str_offsets,
-            endian,
-            encoding,
-            count,
-            first,
-        );
-        let Some(range) = placed else {
-            repeats.clear();
-            return None;
-        };
-        Some(range)
     }
 
     /// The same, but that a refusal leaves what was added before it. (What nearly all ranges have is

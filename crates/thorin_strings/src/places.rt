@@ -1,12 +1,9 @@
 //! Places of strings by their hashes, none of which is lost.
 
-ghost use Rattle.std.specs.Prelude.{◌≡◌, ◌≢◌, ◌<◌, ◌+◌, ◌^◌, ◌++◌, ◌∷◌, [], ℕ, List, length, Some};
-ghost use Rattle.std.specs.Prelude.{None, IfSome, IsTrue, OnErr, IfOk, IfErr, slice_index};
-ghost use Rattle.thorin_strings.specs.Places.{hash as hash_of, tag, place_from, place_of, home};
-ghost use Rattle.thorin_strings.specs.Places.{IsNext, AreEntered, AreKept};
+ghost use Rattle.std.specs.Prelude.{◌≡◌, ◌≢◌, ◌<◌, ◌≤◌, ◌+◌, ◌^◌, [], ℕ, length, Some, None, IfSome, IsTrue};
+ghost use Rattle.std.specs.Prelude.{OnErr, IfOk, IfErr, true, false};
+ghost use Rattle.thorin_strings.specs.Places.{place_from, place_of, home, shared, IsNext};
 
-use crate::ends::{ROUNDS, end_of, short_end};
-use crate::hash::hash;
 use std::alloc::Global;
 
 /// How many slots are looked at for a hash.
@@ -18,49 +15,60 @@ const FIRST_SIZE: u32 = 1024;
 /// At how many then.
 const SOME: u32 = 3 << 14;
 
-/// And then; three times as many after that, and from there on twice as many. From here on hashes
-/// aren't kept, and strings are walked each time.
+/// And then; three times as many after that, and from there on twice as many.
 const MANY: u32 = 1 << 18;
 
-/// A free slot.
-const FREE: Slot = Slot { tag: 0, behind: 0 };
+/// A free slot. (Not all of its bytes are zero: so many are written 32 bytes at a time.)
+const FREE: Slot = Slot { hash: 1, behind: 0 };
 
-/// The lower half of a hash, and one more than the place that it has; 0 in a free slot.
+/// The place of a hash that strings share, at which none of them is kept.
+pub(crate) const SHARED: usize = 0xffff_fffe;
+
+/// A hash, and one more than the place that it has; 0 in a free slot.
 #[derive(Clone, Copy)]
 pub(crate) struct Slot {
-    tag: u32,
+    hash: u32,
     behind: u32,
 }
 
-/// The lower half of a hash.
-fn tag(hash: u64) -> u32
-    ensures { result ≡ tag hash }
-{
-    (hash % 0x1_0000_0000) as u32
-}
-
 /// One more than a place, where a slot has room for it.
-fn behind(place: u64) -> Option<u32>
-    ensures { IfSome result (λ behind. behind ≡ place + 1) }
+fn behind(place: usize) -> Option<u32>
+    ensures value { IfSome result (λ behind. behind ≡ place + 1) }
+    ensures fits { IfSome result (λ _. place < shared) }
 {
-    if place >= u64::from(u32::MAX) {
+    if place >= SHARED {
         return None;
     }
     Some(place as u32 + 1)
 }
 
 /// The first slot of a hash.
-fn home(size: u32, hash: u64) -> usize
+fn home(size: u32, hash: u32) -> usize
     ensures value { result ≡ home size hash }
     ensures small { result < 2 ^ 32 }
 {
-    ((hash >> 32) * u64::from(size) >> 32) as usize
+    (u64::from(hash) * u64::from(size) >> 32) as usize
+}
+
+/// The slot behind the last one of a hash.
+#[inline(always)]
+fn behind_last(slots: &[Slot], home: usize) -> usize
+    requires { home < 2 ^ 32 }
+    ensures within { result ≤ length slots.now }
+    ensures near { result ≤ home + 128 }
+    ensures far { result < home + 128 → result ≡ length slots.now }
+{
+    if slots.len() < home + PROBES {
+        slots.len()
+    } else {
+        home + PROBES
+    }
 }
 
 /// The place that a hash has in these slots; the slot that is next for it where it has none, which is
 /// past all of them where none of the hash's is free.
 #[inline(always)]
-fn seek(slots: &[Slot], size: u32, hash: u64) -> Result<usize, usize>
+fn seek(slots: &[Slot], size: u32, hash: u32) -> Result<usize, usize>
     ensures found { IfOk result (λ place. place_of slots.now size hash ≡ Some place) }
     ensures fits { IfOk result (λ place. place < 2 ^ 32) }
     ensures none { OnErr result (place_of slots.now size hash ≡ None) }
@@ -68,33 +76,29 @@ fn seek(slots: &[Slot], size: u32, hash: u64) -> Result<usize, usize>
         → IsNext slots.now size hash number) }
 {
     let home = home(size, hash);
-    let tag = tag(hash);
-    let last = if slots.len() < home + PROBES {
-        slots.len()
-    } else {
-        home + PROBES
-    };
+    let last = behind_last(slots, home);
     for number in home..last {
         let slot = slots[number];
         if slot.behind == 0 {
             return Err(number);
         }
-        if slot.tag == tag {
+        if slot.hash == hash {
             return Ok(slot.behind as usize - 1);
         }
     }
     Err(slots.len())
 }
 
-/// Puts a slot where it is next for a hash that it has the lower half of, if there is a free one.
+/// Puts a slot where it is next for its hash, if there is a free one.
 fn put_next(slots: &mut [Slot], number: usize, slot: Slot) -> bool
     requires some { slot.behind ≢ 0 }
-    ensures put { IsTrue result → (size h n : ℕ) → IsNext slots.old size h number
-        → place_of slots.old size h ≡ None → slot.tag ≡ tag h → n + 1 ≡ slot.behind
-        → place_of slots.new size h ≡ Some n }
+    ensures put { IsTrue result → (size n : ℕ) → IsNext slots.old size slot.hash number
+        → place_of slots.old size slot.hash ≡ None → n + 1 ≡ slot.behind
+        → place_of slots.new size slot.hash ≡ Some n }
     ensures within { IsTrue result → number < length slots.old }
     ensures kept { (size h n : ℕ) → place_of slots.old size h ≡ Some n
         → place_of slots.new size h ≡ Some n }
+    ensures same { result ≡ false → slots.new ≡ slots.old }
     ensures long { length slots.new ≡ length slots.old }
 {
     if number >= slots.len() || slots[number].behind != 0 {
@@ -104,89 +108,59 @@ fn put_next(slots: &mut [Slot], number: usize, slot: Slot) -> bool
     true
 }
 
-/// Puts a slot into the first free one of a hash that it has the lower half of, where one is free
-/// and the hash has no place.
-fn put(slots: &mut [Slot], size: u32, hash: u64, slot: Slot) -> bool
+/// Puts a slot into the first free one of its hash, where one is free and the hash has no place.
+fn put(slots: &mut [Slot], size: u32, slot: Slot) -> bool
     requires some { slot.behind ≢ 0 }
-    requires tag { slot.tag ≡ tag hash }
     ensures put { IsTrue result → (n : ℕ) → n + 1 ≡ slot.behind
-        → place_of slots.new size hash ≡ Some n }
+        → place_of slots.new size slot.hash ≡ Some n }
     ensures kept { (h n : ℕ) → place_of slots.old size h ≡ Some n
         → place_of slots.new size h ≡ Some n }
     ensures long { length slots.new ≡ length slots.old }
 {
-    match seek(slots, size, hash) {
+    match seek(slots, size, slot.hash) {
         Ok(_) => false,
         Err(number) => put_next(slots, number, slot),
     }
 }
 
-/// Puts the places of strings, each with a zero byte, which stand one behind another, into slots by
-/// their hashes; how many there are. None where one can't be put.
-fn put_all(slots: &mut [Slot], size: u32, strings: &[u8]) -> Option<usize>
-    ensures entered { IfSome result (λ _. AreEntered strings.now slots.new size) }
+/// Puts the used ones of other slots into slots; how many there are. None where one can't be put.
+fn put_again(slots: &mut [Slot], size: u32, others: &[Slot]) -> Option<usize>
+    ensures kept { IfSome result (λ _. (other h n : ℕ) → place_of others.now other h ≡ Some n
+        → place_of slots.new size h ≡ Some n) }
     ensures long { length slots.new ≡ length slots.old }
 {
-    let mut at = 0;
-    let mut count: usize = 0;
-    while at < strings.len() {
-        let rest = &strings[at..];
-        let end = match short_end(rest, ROUNDS) {
-            Some(end) => end,
-            None => end_of(rest)?,
-        };
-        let hash = hash(&rest[..end]);
-        let behind = behind(at as u64)?;
-        let slot = Slot {
-            tag: tag(hash),
-            behind,
-        };
-        if !put(slots, size, hash, slot) {
+    let mut used: usize = 0;
+    for number in 0..others.len() {
+        let slot = others[number];
+        if slot.behind == 0 {
+            continue;
+        }
+        if !put(slots, size, slot) {
             return None;
         }
-        at += end + 1;
-        count = count.saturating_add(1);
+        used = used.saturating_add(1);
     }
-    Some(count)
+    Some(used)
 }
 
-/// Puts the places that hashes have among others into slots; how many there are. None where one
-/// can't be put.
-fn put_known(slots: &mut [Slot], size: u32, known: &Places) -> Option<usize>
-    ensures entered { IfSome result (λ _. (k n : ℕ) → k < length known.now.hashes.items
-        → place_of known.now.slots.items known.now.size (slice_index known.now.hashes.items k)
-        ≡ Some n → place_of slots.new size (slice_index known.now.hashes.items k) ≡ Some n) }
+/// Gives a hash that has a place the one of hashes that strings share.
+fn put_shared(slots: &mut [Slot], size: u32, hash: u32)
+    ensures shared { (n : ℕ) → place_of slots.old size hash ≡ Some n
+        → place_of slots.new size hash ≡ Some shared }
+    ensures others { (h : ℕ) → h ≢ hash → place_of slots.new size h ≡ place_of slots.old size h }
     ensures long { length slots.new ≡ length slots.old }
 {
-    for number in 0..known.hashes.len() {
-        let hash = known.hashes[number];
-        let Ok(place) = known.seek(hash) else {
-            return None;
-        };
-        let behind = behind(place as u64)?;
-        let slot = Slot {
-            tag: tag(hash),
-            behind,
-        };
-        if !put(slots, size, hash, slot) {
-            return None;
+    let home = home(size, hash);
+    let last = behind_last(slots, home);
+    for number in home..last {
+        if slots[number].behind == 0 {
+            return;
+        }
+        if slots[number].hash == hash {
+            slots[number].behind = u32::MAX;
+            return;
         }
     }
-    Some(known.hashes.len())
-}
-
-/// Puts the places of strings that have them among others into slots; how many there are. None where
-/// one can't be put. Strings are hashed again where their hashes aren't kept.
-fn put_strings(slots: &mut [Slot], size: u32, strings: &[u8], known: &Places) -> Option<usize>
-    ensures entered { IfSome result (λ _. AreKept known.now.hashes.items strings.now
-        → AreEntered strings.now known.now.slots.items known.now.size
-        → AreEntered strings.now slots.new size) }
-    ensures long { length slots.new ≡ length slots.old }
-{
-    if known.hashes.is_empty() {
-        return put_all(slots, size, strings);
-    }
-    put_known(slots, size, known)
 }
 
 /// How many slots hashes are to begin at, where they begin at so many now.
@@ -211,9 +185,9 @@ fn most(size: u32) -> usize {
 
 /// Places of strings by their hashes.
 ///
-/// What has a place keeps it, and one of a hash is found by at most 128 slots: where a new one
-/// would need more, or there is no memory for more slots, it isn't entered, and that is told. A
-/// slot has half of a hash, so another hash may be answered the same place.
+/// What has a place keeps it, and one of a hash is found by at most 128 slots. Where a new one would
+/// need more, where four bytes don't hold it, or there is no memory for more slots, it isn't entered,
+/// and none is from then on.
 #[derive(Drop)]
 pub(crate) struct Places {
     pub alloc: Global,
@@ -221,28 +195,25 @@ pub(crate) struct Places {
     pub size: u32,
     /// How many more slots may be used.
     pub left: usize,
-    /// Those of all strings in their order, or none.
-    pub hashes: Vec<u64>,
+    /// Whether no more places are entered.
+    pub is_full: bool,
 }
 
 impl Places {
     /// No places, which take no memory.
-    pub fn new(alloc: Global) -> Self
-        ensures none { (h : ℕ) → place_of result.slots.items result.size h ≡ None }
-        ensures hashes { result.hashes.items ≡ [] }
-    {
+    pub fn new(alloc: Global) -> Self {
         Places {
             alloc,
             slots: Vec::new(alloc),
             size: 0,
             left: 0,
-            hashes: Vec::new(alloc),
+            is_full: false,
         }
     }
 
     /// The place that a hash has, or the slot that is next for it.
     #[inline(always)]
-    pub fn seek(&self, hash: u64) -> Result<usize, usize>
+    pub fn seek(&self, hash: u32) -> Result<usize, usize>
         ensures found { IfOk result (λ place.
             place_of self.now.slots.items self.now.size hash ≡ Some place) }
         ensures fits { IfOk result (λ place. place < 2 ^ 32) }
@@ -253,122 +224,94 @@ impl Places {
         seek(&self.slots, self.size, hash)
     }
 
-    /// The places of these strings in more slots. None where they don't fit or there is no memory.
-    fn grown(&self, strings: &[u8]) -> Option<Places>
-        ensures { IfSome result (λ new. AreKept self.now.hashes.items strings.now
-            → AreEntered strings.now self.now.slots.items self.now.size
-            → AreEntered strings.now new.slots.items new.size) }
+    /// The same in more slots, with one more. None where they don't fit or there is no memory.
+    fn grown(&self, slot: Slot) -> Option<Places>
+        requires some { slot.behind ≢ 0 }
+        ensures entered { IfSome result (λ new. (n : ℕ) → n + 1 ≡ slot.behind
+            → place_of new.slots.items new.size slot.hash ≡ Some n) }
+        ensures kept { IfSome result (λ new. (h n : ℕ)
+            → place_of self.now.slots.items self.now.size h ≡ Some n
+            → place_of new.slots.items new.size h ≡ Some n) }
     {
         let size = more_than(self.size);
         let count = (size as usize).saturating_add(PROBES);
         let mut slots = Vec::from_elem(self.alloc, FREE, count).ok()?;
-        let used = put_strings(&mut slots, size, strings, self)?;
+        let used = put_again(&mut slots, size, &self.slots)?;
+        if !put(&mut slots, size, slot) {
+            return None;
+        }
         Some(Places {
             alloc: self.alloc,
             slots,
             size,
-            left: most(size).saturating_sub(used),
-            hashes: Vec::new(self.alloc),
+            left: most(size).saturating_sub(used).saturating_sub(1),
+            is_full: false,
         })
     }
 
-    /// Enters a slot among more slots that have the places of these strings; false where it can't.
+    /// Enters a slot among more slots, if the ones there are have no room for it though a quarter is
+    /// used; false where that can't be.
     #[inline(never)]
-    fn enter_in_more(&mut self, hash: u64, slot: Slot, strings: &[u8]) -> bool
+    fn enter_in_more(&mut self, slot: Slot) -> bool
         requires some { slot.behind ≢ 0 }
-        requires tag { slot.tag ≡ tag hash }
         ensures entered { IsTrue result → (n : ℕ) → n + 1 ≡ slot.behind
-            → place_of self.new.slots.items self.new.size hash ≡ Some n }
-        ensures kept { AreKept self.old.hashes.items strings.now
-            → AreEntered strings.now self.old.slots.items self.old.size
-            → AreEntered strings.now self.new.slots.items self.new.size }
-        ensures hashes { self.new.hashes.items ≡ self.old.hashes.items }
+            → place_of self.new.slots.items self.new.size slot.hash ≡ Some n }
+        ensures kept { (h n : ℕ) → place_of self.old.slots.items self.old.size h ≡ Some n
+            → place_of self.new.slots.items self.new.size h ≡ Some n }
+        ensures slots { result ≡ false → self.new.slots.items ≡ self.old.slots.items }
+        ensures size { result ≡ false → self.new.size ≡ self.old.size }
+        ensures full { result ≡ false → self.new.is_full ≡ true }
     {
-        let Some(more) = self.grown(strings) else {
-            return false;
-        };
-        let Places {
-            slots,
-            size,
-            left,
-            ..
-        } = more;
-        self.slots = slots;
-        self.size = size;
-        self.left = left.saturating_sub(1);
-        put(&mut self.slots, self.size, hash, slot)
+        let used = most(self.size).saturating_sub(self.left);
+        if self.left == 0 || used >= self.size as usize / 4 {
+            if let Some(more) = self.grown(slot) {
+                *self = more;
+                return true;
+            }
+        }
+        self.is_full = true;
+        false
     }
 
     /// Enters the place of a hash that has none, by the slot that is next for it; false where that
-    /// can't be. At most five of eight slots are used, and where none is free for a hash there are
-    /// made more, if a quarter is used. `strings` are those that were entered before, each with a
-    /// zero byte.
-    pub fn enter(&mut self, hash: u64, next: usize, place: usize, strings: &[u8]) -> bool
+    /// can't be, and then no more are entered. At most five of eight slots are used, and where none
+    /// is free for a hash there are made more, if a quarter is used.
+    pub fn enter(&mut self, hash: u32, next: usize, place: usize) -> bool
         requires none { place_of self.old.slots.items self.old.size hash ≡ None }
         requires next { next < length self.old.slots.items
             → IsNext self.old.slots.items self.old.size hash next }
         ensures entered { IsTrue result
             → place_of self.new.slots.items self.new.size hash ≡ Some place }
-        ensures fits { IsTrue result → place < 2 ^ 32 }
-        ensures kept { AreKept self.old.hashes.items strings.now
-            → AreEntered strings.now self.old.slots.items self.old.size
-            → AreEntered strings.now self.new.slots.items self.new.size }
-        ensures hashes { self.new.hashes.items ≡ self.old.hashes.items }
+        ensures fits { IsTrue result → place < shared }
+        ensures kept { (h n : ℕ) → place_of self.old.slots.items self.old.size h ≡ Some n
+            → place_of self.new.slots.items self.new.size h ≡ Some n }
+        ensures none { result ≡ false
+            → place_of self.new.slots.items self.new.size hash ≡ None }
+        ensures full { result ≡ false → self.new.is_full ≡ true }
     {
-        let Some(behind) = behind(place as u64) else {
+        let Some(behind) = behind(place) else {
+            self.is_full = true;
             return false;
         };
-        let slot = Slot {
-            tag: tag(hash),
-            behind,
-        };
+        let slot = Slot { hash, behind };
         if self.left == 0 {
-            return self.enter_in_more(hash, slot, strings);
+            return self.enter_in_more(slot);
         }
         if put_next(&mut self.slots, next, slot) {
             self.left -= 1;
             return true;
         }
-        if most(self.size).saturating_sub(self.left) < self.size as usize / 4 {
-            return false;
-        }
-        self.enter_in_more(hash, slot, strings)
+        self.enter_in_more(slot)
     }
 
-    /// Keeps the hash of a string that goes behind all others, while there are few slots. Where no
-    /// hashes are kept, none is but that of the first string.
-    #[inline(always)]
-    pub fn keep(&mut self, hash: u64, is_first: bool)
-        ensures slots { self.new.slots.items ≡ self.old.slots.items }
-        ensures size { self.new.size ≡ self.old.size }
-        ensures kept { (before : List ℕ) → (0 < length self.old.hashes.items
-            → self.old.hashes.items ≡ before) → (IsTrue is_first → before ≡ [])
-            → 0 < length self.new.hashes.items → self.new.hashes.items ≡ before ++ hash ∷ [] }
+    /// Gives a hash that has a place the one of hashes that strings share.
+    pub fn share(&mut self, hash: u32)
+        ensures shared { (n : ℕ) → place_of self.old.slots.items self.old.size hash ≡ Some n
+            → place_of self.new.slots.items self.new.size hash ≡ Some shared }
+        ensures others { (h : ℕ) → h ≢ hash → place_of self.new.slots.items self.new.size h
+            ≡ place_of self.old.slots.items self.old.size h }
+        ensures full { self.new.is_full ≡ self.old.is_full }
     {
-        if is_first || !self.hashes.is_empty() {
-            self.keep_next(hash);
-        }
-    }
-
-    /// The same where hashes are kept.
-    #[inline(never)]
-    fn keep_next(&mut self, hash: u64)
-        ensures slots { self.new.slots.items ≡ self.old.slots.items }
-        ensures size { self.new.size ≡ self.old.size }
-        ensures kept { 0 < length self.new.hashes.items
-            → self.new.hashes.items ≡ self.old.hashes.items ++ hash ∷ [] }
-    {
-        if self.size >= MANY || self.hashes.push(hash).is_err() {
-            self.forget();
-        }
-    }
-
-    /// Keeps no hashes.
-    pub fn forget(&mut self)
-        ensures slots { self.new.slots.items ≡ self.old.slots.items }
-        ensures size { self.new.size ≡ self.old.size }
-        ensures none { self.new.hashes.items ≡ [] }
-    {
-        self.hashes = Vec::new(self.alloc);
+        put_shared(&mut self.slots, self.size, hash);
     }
 }

@@ -8,7 +8,6 @@ ghost use Rattle.dwp_bytes.specs.StringOffsets.{string_from};
 ghost use Rattle.thorin_strings.specs.Strings.{strings_in, offset_of, IsZeroFree, IsIndexed};
 ghost use Rattle.thorin_strings.specs.Strings.{BeginsAt, StandsAt, IsWithinDigits};
 
-use crate::guess::{Guesses, hash_of};
 use crate::positions::Positions;
 use memchr::arch::all::is_equal;
 use std::cmp::Ordering;
@@ -35,7 +34,7 @@ pub(crate) fn compare_at(bytes: &[u8], at: usize, string: &[u8]) -> Ordering
 }
 
 /// Whether a string begins at a place of a section of ended strings.
-fn begins_at(bytes: &[u8], at: usize) -> bool
+pub(crate) fn begins_at(bytes: &[u8], at: usize) -> bool
     ensures { IsTrue result ↔ BeginsAt bytes.now at }
 {
     at < bytes.len() && (at == 0 || bytes[at - 1] == 0)
@@ -143,12 +142,13 @@ pub(crate) struct Found {
     pub compared: u32,
 }
 
-/// Looks for a string of a table by halving the list of positions, which is in the strings' order.
+/// Looks for a string among those at positions by halving these, which are in the strings' order.
 pub(crate) fn search(bytes: &[u8], positions: &Positions, string: &[u8]) -> Found
     requires table { IsIndexed bytes.now positions.now }
     requires zero_free { IsZeroFree string.now }
     ensures found { IfOk result.place (λ place. Contains (strings_in bytes.now) string.now
         × (place ≡ offset_of (strings_in bytes.now) string.now)) }
+    ensures there { IfOk result.place (Contains positions.now) }
     ensures absent { IfErr result.place (StandsAt bytes.now positions.now string.now) }
     ensures count { IsWithinDigits result.compared (length positions.now) }
 {
@@ -176,29 +176,5 @@ pub(crate) fn search(bytes: &[u8], positions: &Positions, string: &[u8]) -> Foun
     Found {
         place: Err(low),
         compared,
-    }
-}
-
-/// Looks for a string of a table at a place, then where its hash guesses, and where it isn't there,
-/// among all.
-pub(crate) fn find_near(
-    bytes: &[u8],
-    positions: &Positions,
-    guesses: &Guesses,
-    near: usize,
-    string: &[u8],
-) -> Result<usize, usize>
-    requires table { IsIndexed bytes.now positions.now }
-    requires zero_free { IsZeroFree string.now }
-    ensures found { IfOk result (λ place. Contains (strings_in bytes.now) string.now
-        × (place ≡ offset_of (strings_in bytes.now) string.now)) }
-    ensures absent { IfErr result (StandsAt bytes.now positions.now string.now) }
-{
-    if stands_at(bytes, near, string) {
-        return Ok(near);
-    }
-    match guesses.find(bytes, string, hash_of(string)) {
-        Some(place) => Ok(place),
-        None => search(bytes, positions, string).place,
     }
 }

@@ -8,14 +8,14 @@ ghost use Rattle.dwp_bytes.specs.StringOffsets.{header_size};
 ghost use Rattle.thorin_strings.specs.Known.{offset_read};
 ghost use Rattle.thorin_strings.specs.Written.{AreWritten};
 
-use crate::hashed::HashedStrings;
+use crate::table::PackageStringTable;
 use crate::words::{WordRange, word_at, write_word};
 
 /// How many bytes a string has at most, with the zero at its end, whose end is guessed: longer ones
 /// are looked for among those that are remembered.
 const SHORT: u64 = 512;
 
-impl HashedStrings {
+impl PackageStringTable {
     /// The offset of the string at an offset of its section, which is short and ends before the
     /// next one. None where it isn't that, where fewer bytes are left than a short string may have,
     /// which `last` tells, where its hash doesn't tell its place or four bytes don't hold it, and for
@@ -29,11 +29,12 @@ impl HashedStrings {
         ensures kept { take (length self.old) self.new ≡ self.old }
         ensures none { IsNone result → self.new ≡ self.old }
     {
-        if after <= named || after - named > SHORT || named > last {
+        let end = after.wrapping_sub(named).wrapping_sub(1);
+        if end >= SHORT || named > last {
             return None;
         }
         let rest = &debug_str[named as usize..];
-        let end = (after - named) as usize - 1;
+        let end = end as usize;
         if rest[end] != 0 {
             return None;
         }
@@ -43,9 +44,16 @@ impl HashedStrings {
 
     /// Rewrites the entries of a range from a number on, as far as each is told so and isn't the
     /// last, in the room that they have behind its header; the number of the next. `after` is where
-    /// the next string begins, if the offsets are in order, as those that compilers make are.
+    /// the next string begins, if the offsets are in order, as those that compilers make are. Where
+    /// `from` is less than `tried_from` none is rewritten.
     #[inline(never)]
-    pub fn write_told(&mut self, range: &WordRange<'_>, out: &mut [u8], from: usize) -> usize
+    pub(crate) fn write_told(
+        &mut self,
+        range: &WordRange<'_>,
+        out: &mut [u8],
+        from: usize,
+        tried_from: usize,
+    ) -> usize
         requires form { range.now.encoding.format ≡ Dwarf32 }
         requires here { header_size range.now.encoding + from * 4 + 4 ≤ length out.old }
         requires within { length out.old ≤ length range.now.debug_str_offsets.now }
@@ -66,7 +74,7 @@ impl HashedStrings {
         } = *range;
         let first = encoding.string_offsets_header_size();
         let last = (out.len() - first) / 4 - 1;
-        if (debug_str.len() as u64) < SHORT {
+        if from < tried_from || (debug_str.len() as u64) < SHORT {
             return from;
         }
         let last_named = debug_str.len() as u64 - SHORT;

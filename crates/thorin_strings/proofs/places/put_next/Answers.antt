@@ -3,8 +3,8 @@ use Rattle.thorin_strings.proofs.PlacesLemmas.{put_of, kept_of}
 use Rattle.thorin_strings.proofs.places.put_next.Goals as goal
 
 pub returns-clause-put : goal.returns-clause-put
-returns-clause-put c = λ _ size h n next none tag more.
-    put_of c.args.slots.now size h c.args.slot c.args.number next tag (omega arith) none
+returns-clause-put c = λ _ size n next none more.
+    put_of c.args.slots.now size c.args.slot c.args.number next (omega arith) none
     c.requires.some
     ∙ ap Some (omega (arith, more))
 

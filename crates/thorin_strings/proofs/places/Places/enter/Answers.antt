@@ -1,6 +1,6 @@
 use Rattle.std.proofs.Common.{◌∙◌, ap, arith, length, refl, sym}
 use Rattle.thorin_strings.specs.Places.{place_of}
-use Rattle.thorin_strings.proofs.PlacesLemmas.{taken, entered_kept}
+use Rattle.thorin_strings.proofs.PlacesLemmas.{taken}
 use Rattle.thorin_strings.proofs.places.Places.enter.Goals as goal
 
 pub returns-then-put_next-clause-entered : goal.returns-then-put_next-clause-entered
@@ -8,39 +8,15 @@ returns-then-put_next-clause-entered c = λ _.
     ap (λ l. place_of l c.args.self.now.size c.args.hash) (taken c.args.self.now.slots.items
     c.put_next.new.slots c.args.self.now.slots.len (c.put_next.ensures.long ∙ ap length
     c.deref_mut.ensures.value) (omega (arith, c.args.self.now.slots.ok.0)))
-    ∙ c.if-put_next.ensures.put refl _ _ c.args.place
+    ∙ c.if-put_next.ensures.put refl _ c.args.place
     (rw c.deref_mut.ensures.value (c.requires.next (rw c.deref_mut.ensures.value at
     (c.if-put_next.ensures.within refl))))
-    (rw c.deref_mut.ensures.value c.requires.none) c.tag.ensures (sym c.in-Some.ensures)
-
-pub returns-then-put_next-clause-kept : goal.returns-then-put_next-clause-kept
-returns-then-put_next-clause-kept c = λ known entered.
-    entered_kept _ _ _ _ _ _ entered (λ h n is.
-    ap (λ l. place_of l c.args.self.now.size h) (taken c.args.self.now.slots.items
-    c.put_next.new.slots c.args.self.now.slots.len (c.put_next.ensures.long ∙ ap length
-    c.deref_mut.ensures.value) (omega (arith, c.args.self.now.slots.ok.0)))
-    ∙ c.put_next.ensures.kept _ h n (rw c.deref_mut.ensures.value is))
-
-pub returns-then-saturating_sub-self-clause-kept : goal.returns-then-saturating_sub-self-clause-kept
-returns-then-saturating_sub-self-clause-kept c = λ known entered.
-    entered_kept _ _ _ _ _ _ entered (λ h n is.
-    ap (λ l. place_of l c.args.self.now.size h) (taken c.args.self.now.slots.items
-    c.put_next.new.slots c.args.self.now.slots.len (c.put_next.ensures.long ∙ ap length
-    c.deref_mut.ensures.value) (omega (arith, c.args.self.now.slots.ok.0)))
-    ∙ c.put_next.ensures.kept _ h n (rw c.deref_mut.ensures.value is))
+    (rw c.deref_mut.ensures.value c.requires.none) (sym c.in-Some.ensures.value)
 
 pub returns-clause-entered : goal.returns-clause-entered
 returns-clause-entered c = λ is.
-    c.enter_in_more-2.ensures.entered is c.args.place (sym c.in-Some.ensures)
-
-pub returns-clause-kept : goal.returns-clause-kept
-returns-clause-kept c = λ known entered.
-    c.enter_in_more-2.ensures.kept known (entered_kept _ _ _ _ _ _ entered (λ h n is.
-    ap (λ l. place_of l c.args.self.now.size h) (taken c.args.self.now.slots.items
-    c.put_next.new.slots c.args.self.now.slots.len (c.put_next.ensures.long ∙ ap length
-    c.deref_mut.ensures.value) (omega (arith, c.args.self.now.slots.ok.0)))
-    ∙ c.put_next.ensures.kept _ h n (rw c.deref_mut.ensures.value is)))
+    c.enter_in_more-2.ensures.entered is c.args.place (sym c.in-Some.ensures.value)
 
 pub returns-then-self-eq0-clause-entered : goal.returns-then-self-eq0-clause-entered
 returns-then-self-eq0-clause-entered c = λ is.
-    c.enter_in_more.ensures.entered is c.args.place (sym c.in-Some.ensures)
+    c.enter_in_more.ensures.entered is c.args.place (sym c.in-Some.ensures.value)

@@ -8,26 +8,26 @@ returns-then-known-limit-clause-meaning c =
     c.in-Some.ensures c.args.debug_str.now c.args.self.now c.requires.known
 
 pub returns-clause-meaning : goal.returns-clause-meaning
-returns-clause-meaning c = read_used c.args.debug_str.now c.args.named c.in_ok-offset.offset
-    c.args.self.now c.place_by_hash.new.self c.in_ok-string.string.now
-    c.in_ok-string.ensures.meaning (c.in_ok-offset.ensures.offset, c.in_ok-offset.ensures.placed)
+returns-clause-meaning c = read_used c.args.debug_str.now c.args.named c.in-Ok.place
+    c.args.self.now c.place.new.self c.in_ok-string.string.now
+    c.in_ok-string.ensures.meaning c.in-Ok.ensures.placed
 
 pub returns-clause-fits : goal.returns-clause-fits
 returns-clause-fits c =
     omega (
       arith,
-      c.in_ok-offset.ensures.offset,
+      c.in-Ok.ensures.placed.0,
       ap length c.data.ensures.whole,
       offset_within c.args.self.now c.in_ok-string.string.now,
     )
 
 pub returns-clause-known : goal.returns-clause-known
 returns-clause-known c =
-    c.enter-remembered.ensures c.args.debug_str.now c.place_by_hash.new.self
-    (are_known_later c.args.debug_str.now c.args.self.now c.place_by_hash.new.self _
-    c.place_by_hash.ensures.kept c.requires.known)
-    (known_read c.args.debug_str.now c.args.named c.in_ok-offset.offset c.args.self.now
-    c.place_by_hash.new.self (read_used c.args.debug_str.now c.args.named
-    c.in_ok-offset.offset c.args.self.now c.place_by_hash.new.self c.in_ok-string.string.now
+    c.enter-remembered.ensures c.args.debug_str.now c.place.new.self
+    (are_known_later c.args.debug_str.now c.args.self.now c.place.new.self _
+    c.place.ensures.kept c.requires.known)
+    (known_read c.args.debug_str.now c.args.named c.in-Ok.place c.args.self.now
+    c.place.new.self (read_used c.args.debug_str.now c.args.named
+    c.in-Ok.place c.args.self.now c.place.new.self c.in_ok-string.string.now
     c.in_ok-string.ensures.meaning
-    (c.in_ok-offset.ensures.offset, c.in_ok-offset.ensures.placed)))
+    c.in-Ok.ensures.placed))
