@@ -57,7 +57,7 @@ pub returns-then-slots-number-clause-others : goal.returns-then-slots-number-cla
 returns-then-slots-number-clause-others c = λ h other.
     others_of c.loop-number.slots c.args.size h _ c.loop-number.number (omega arith) refl
     c.if-slots-number-eq0.false (λ e. absurd (omega (arith, e))) (λ e.
-        other (e ∙ c.if-slots-number.true))
+    other (e ∙ c.if-slots-number.true))
     ∙ ap (λ l. place_of l c.args.size h) c.loop-number.invariant.same
 
 pub returns-clause-shared : goal.returns-clause-shared
@@ -65,7 +65,7 @@ returns-clause-shared c = λ n is.
     let none : place_of c.loop-number.slots c.args.size c.args.hash ≡ None =
     c.loop-number.invariant.looked ∙ ⊎_elim
     (λ near. at_free c.loop-number.slots c.loop-number.number _ c.args.hash
-        (ap (λ (s : Slot). s.behind)
+    (ap (λ (s : Slot). s.behind)
     (get_or_past c.loop-number.slots c.loop-number.number free
     (omega (arith, c.behind_last-last.ensures.far near)))))
     (λ far. ap (λ n. place_from c.loop-number.slots c.loop-number.number n c.args.hash) {y = 0}

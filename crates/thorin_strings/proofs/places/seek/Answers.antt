@@ -41,7 +41,7 @@ pub returns-clause-none : goal.returns-clause-none
 returns-clause-none c =
     c.loop-number.invariant.looked ∙ ⊎_elim
     (λ near. at_free c.args.slots.now c.loop-number.number _ c.args.hash
-        (ap (λ (s : Slot). s.behind)
+    (ap (λ (s : Slot). s.behind)
     (get_or_past c.args.slots.now c.loop-number.number free
     (omega (arith, c.behind_last-last.ensures.far near)))))
     (λ far. ap (λ n. place_from c.args.slots.now c.loop-number.number n c.args.hash) {y = 0}

@@ -10,7 +10,7 @@ returns-clause-table c =
     let e = c.keep_ordered.new.self in
     let table = c.keep_ordered.ensures.table in
     let has = ap (λ (p : Places). place_of p.slots.items p.size c.args.hash)
-        c.keep_ordered.ensures.places
+    c.keep_ordered.ensures.places
     ∙ c.requires.has in
     hashed_kept e _ table refl refl table.findable.indexed
     (λ g m begun. found_shared _ _ _ _ _ _ e.ordered e.ordered c.args.hash c.args.place g m

@@ -6,7 +6,7 @@ pub returns-then-begins_alike-clause-placed : goal.returns-then-begins_alike-cla
 returns-then-begins_alike-clause-placed c =
     let here = rw c.deref.ensures.value at (c.begins_alike.ensures c.if-begins_alike.true) in
     rw (← c.self.view_is) (used_there c.self.inside.entries.bytes.items
-        (front_string c.args.bytes.now)
+    (front_string c.args.bytes.now)
     c.self.inside.next c.self.invariant.findable.indexed.ended
     c.self.invariant.findable.indexed.distinct here)
 
@@ -15,6 +15,6 @@ returns-then-begins_alike-2-clause-placed c =
     let here = rw c.deref-in-Ok.ensures.value at (c.begins_alike-in-Ok.ensures
     c.if-begins_alike-2.true) in
     rw (← c.self.view_is) (used_there c.self.inside.entries.bytes.items
-        (front_string c.args.bytes.now)
+    (front_string c.args.bytes.now)
     c.in-Ok.place c.self.invariant.findable.indexed.ended
     c.self.invariant.findable.indexed.distinct here)
