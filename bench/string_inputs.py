@@ -4,14 +4,16 @@
 string_inputs.py FOLDER [NAME=COUNT..]: each object is FOLDER/NAME-COUNT.dwo. A NAME is one of
 
     random    distinct strings of 22 bytes, the first 14 of which are the same, in an order that is far from theirs
-    equal     distinct strings of 16 bytes, the first two of one hash in thorin's table, which finds all by their order
-              from then on, and the others of one hash by which it guesses places in that order
-    late      those of random, and then two of one hash, so that thorin's table orders all of them at the end
+    equal     distinct strings of 16 bytes and of one hash in thorin's table, which then finds them by their order
+    late      those of random, and then two of one hash
+    full      strings of 8 bytes, the first 200 of which have the same first slot in thorin's table, which then has no
+              room for the hash of one and finds all new strings by their order
     long      distinct strings of 1,008 bytes, the first 1,000 of which are the same
     suffixes  all ends of one string of COUNT letters; a package of them has COUNT * (COUNT + 3) / 2 bytes of strings
 
 time_packers.py measures packers over them.
 """
+import itertools
 import pathlib
 import struct
 import sys
@@ -51,21 +53,22 @@ def twins():
     return [b"a" * 8 + SECOND_HALF, b"b" * 8 + SECOND_HALF]
 
 
-def turned(state):
-    return (state << 23 | state >> 41) % 2 ** 64
-
-
 def equal(count):
-    yield from twins()
-    seed, left = 7, count - 2
-    while left > 0:
-        seed = (seed * 6_364_136_223_846_793_005 + 1_442_695_040_888_963_407) % 2 ** 64
-        first = seed | 0x0101_0101_0101_0101
-        second = turned((turned(16) ^ first) * 0x9E37_79B9_7F4A_7C15 % 2 ** 64) ^ 0x1234_5678_9ABC_DEF1
-        string = struct.pack("<QQ", first, second)
-        if 0 not in string:
-            left -= 1
-            yield string
+    for number in range(count):
+        yield b"".join(b"%c" % (97 + number // 16 ** at % 16) for at in range(8)) + SECOND_HALF
+
+
+def hash_of_eight(string):
+    """The lower half of std's FoldHasher of eight bytes."""
+    product = (0x243F_6A88_85A3_08D3 ^ int.from_bytes(string, "little")) * (0x9E37_79B9_7F4A_7C15 ^ 16)
+    return (product ^ product >> 64) % 2 ** 32
+
+
+def full(count):
+    strings = (b"%08d" % (number * 61_803_399 % 10 ** 8) for number in range(10 ** 8))
+    crowd = [it for it in itertools.islice(strings, 4_000_000) if hash_of_eight(it) >> 18 == 5][:200]
+    yield from crowd
+    yield from itertools.islice(strings, count - len(crowd))
 
 
 def late(count):
@@ -77,7 +80,7 @@ def long(count):
     return (b"x" * 1000 + b"%08d" % number for number in range(count))
 
 
-KINDS = {"random": random, "equal": equal, "late": late, "long": long}
+KINDS = {"random": random, "equal": equal, "late": late, "full": full, "long": long}
 
 
 def of_strings(strings):

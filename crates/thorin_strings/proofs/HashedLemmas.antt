@@ -55,11 +55,6 @@ related_push R xs ys xs' ys' x y long is_xs is_ys related last = λ k less.
     subst (λ n. R n (get_or ys' k 0)) (sym first) (subst (R x) (sym second) last))
     (cases_lt k (length xs))
 
--- lists that are related in another way too
-related_more : (R S : ℕ → ℕ → Type 0) (xs ys : List ℕ) → ((x y : ℕ) → R x y → S x y)
-    → AreRelated R xs ys → AreRelated S xs ys
-related_more R S xs ys more related = λ k less. more _ _ (related k less)
-
 -- no strings, whatever there is
 pub findable_none : (bytes : List ℕ) (slots : List Slot) (size : ℕ) (is_full : Bool)
     (ordered : List ℕ) → bytes ≡ [] → ordered ≡ [] → IsFindable bytes slots size is_full ordered
@@ -219,6 +214,39 @@ found_shared slots new size size' is_full is_full' ordered ordered' h p g n full
     ))
     found)
 
+-- and where the hash of none of them gets another place
+pub found_over : (slots new : List Slot) (size size' : ℕ) (is_full is_full' : Bool)
+    (ordered : List ℕ) (h p g n : ℕ) → is_full' ≡ is_full → place_of slots size h ≡ Some p
+    → p ≢ shared → n ≢ p → ((g : ℕ) → g ≢ h → place_of new size' g ≡ place_of slots size g)
+    → IsFound slots size is_full ordered g n → IsFound new size' is_full' ordered g n
+found_over slots new size size' is_full is_full' ordered h p g n full has own apart others found =
+    same_or _ g h
+    (λ same.
+    let has' : place_of slots size g ≡ Some p = ap (place_of slots size) same ∙ has in
+    ⊎_elim
+    (λ here.
+    let whole : Some n ≡ Some p = sym here.0 ∙ has' in
+    let is : n ≡ p = cc in
+    absurd (apart is))
+    (λ among. ⊎_elim
+    (λ common.
+    let whole : Some p ≡ Some shared = sym has' ∙ common in
+    let is : p ≡ shared = cc in
+    absurd (own is))
+    (λ late. let none : None ≡ Some p = sym late.1 ∙ has' in cc)
+    among.1)
+    found)
+    (λ other.
+    let kept = others g other in
+    ⊎_elim
+    (λ here. inl (kept ∙ here.0, here.1))
+    (λ among. inr (
+      among.0,
+      ⊎_elim (λ common. inl (kept ∙ common)) (λ late.
+          inr (full ∙ late.0, kept ∙ late.1)) among.1,
+    ))
+    found)
+
 -- a new string goes last
 pub found_push : (bytes s : List ℕ) (slots : List Slot) (size : ℕ) (is_full : Bool)
     (ordered : List ℕ) (h n : ℕ) → data_of (strings_in bytes) ≡ bytes → IsZeroFree s
@@ -240,26 +268,33 @@ found_push bytes s slots size is_full ordered h n ended free is_long is_hash fou
     found last
 
 -- each string is found where each was
-pub found_all : (bytes : List ℕ) (slots new : List Slot) (size size' : ℕ) (is_full is_full' : Bool)
-    (ordered ordered' : List ℕ)
-    → ((h n : ℕ) → IsFound slots size is_full ordered h n → IsFound new size' is_full' ordered' h n)
-    → AreFound bytes slots size is_full ordered → AreFound bytes new size' is_full' ordered'
-found_all bytes slots new size size' is_full is_full' ordered ordered' more found =
-    related_more (IsFound slots size is_full ordered) (IsFound new size' is_full' ordered') _ _ more
-    found
+found_each : (e new : Entries) → ((g m : ℕ) → Contains (offsets_from 0 (held e)) m
+    → IsFound e.places.slots.items e.places.size e.places.is_full e.ordered g m
+    → IsFound new.places.slots.items new.places.size new.places.is_full new.ordered g m)
+    → AreFound e.bytes.items e.places.slots.items e.places.size e.places.is_full e.ordered
+    → AreFound e.bytes.items new.places.slots.items new.places.size new.places.is_full new.ordered
+found_each e new more found = λ k less.
+    let offsets = offsets_from 0 (held e) in
+    let within : k < length offsets = omega (
+      arith,
+      less,
+      length-map (held e) hash,
+      length-offsets_from 0 (held e),
+    ) in
+    more _ _ (Contains-get_or offsets k 0 within) (found k less)
 
 -- a new string went last, and each is found
 pub hashed_push : (e new : Entries) (s : List ℕ) (h n : ℕ) → IsHashed e → IsZeroFree s
     → new.bytes.items ≡ e.bytes.items ++ terminated s → n ≡ length e.bytes.items → h ≡ hash s
     → new.count ≡ e.count + 1 → IsIndexed (e.bytes.items ++ terminated s) new.ordered
-    → ((g m : ℕ) → IsFound e.places.slots.items e.places.size e.places.is_full e.ordered g m
+    → ((g m : ℕ) → Contains (offsets_from 0 (held e)) m
+    → IsFound e.places.slots.items e.places.size e.places.is_full e.ordered g m
     → IsFound new.places.slots.items new.places.size new.places.is_full new.ordered g m)
     → IsFound new.places.slots.items new.places.size new.places.is_full new.ordered h n
     → IsHashed new
 hashed_push e new s h n table free is_new is_long is_hash is_count indexed more last =
     let bytes = e.bytes.items in
-    let found : AreFound bytes new.places.slots.items new.places.size new.places.is_full new.ordered
-    = found_all bytes _ _ _ _ _ _ _ _ more table.findable.found in
+    let found = found_each e new more table.findable.found in
     let push = strings_push bytes s table.findable.indexed.ended free in
     record {
       findable = subst (λ l. IsFindable l new.places.slots.items new.places.size new.places.is_full
@@ -286,16 +321,7 @@ pub hashed_kept : (e new : Entries) → IsHashed e → new.bytes.items ≡ e.byt
     → IsHashed new
 hashed_kept e new table is_new is_count indexed more =
     let bytes = e.bytes.items in
-    let offsets = offsets_from 0 (strings_in bytes) in
-    let found : AreFound bytes new.places.slots.items new.places.size new.places.is_full new.ordered
-    = λ k less.
-    let within : k < length offsets = omega (
-      arith,
-      less,
-      length-map (strings_in bytes) hash,
-      length-offsets_from 0 (strings_in bytes),
-    ) in
-    more _ _ (Contains-get_or offsets k 0 within) (table.findable.found k less) in
+    let found = found_each e new more table.findable.found in
     record {
       findable = subst (λ l. IsFindable l new.places.slots.items new.places.size new.places.is_full
           new.ordered) (sym is_new) (let t : IsFindable bytes new.places.slots.items

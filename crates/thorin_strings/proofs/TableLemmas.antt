@@ -1,7 +1,8 @@
 -- Some positions of a table's strings, in the strings' order.
 use Rattle.std.proofs.Common.{◌≡◌, ◌≢◌, ℕ, ◌+◌, ◌-◌, ◌<◌, ◌≤◌, ltb, List, [], ◌∷◌, ◌++◌}
 use Rattle.std.proofs.Common.{length, take, drop, get_or, map, filter, insert, All, AllPairs}
-use Rattle.std.proofs.Common.{Contains, Less, Equal, ap, sym, subst, refl, ◌∙◌, ⊎_elim, arith}
+use Rattle.std.proofs.Common.{length-append, Contains, Less, Equal, ap, sym, subst, refl, ◌∙◌}
+use Rattle.std.proofs.Common.{⊎_elim, arith}
 use Rattle.std.specs.Ordering.{nat_cmp}
 use Rattle.std.specs.Cmp.Lexicographic.{slice_cmp}
 use Rattle.std.proofs.lemmas.List.{append-nil, take-append-drop, get_or-map, get_or_default}
@@ -350,6 +351,29 @@ pub count_within : (bytes positions : List ℕ) (count : ℕ) → IsIndexed byte
     → IsWithinDigits count (length positions) → IsWithinDigits count (length (strings_in bytes))
 count_within bytes positions count table within = λ k few.
     within k (omega (arith, positions_few bytes positions table))
+
+data_of-none : (ss : List (List ℕ)) → length (data_of ss) ≡ 0 → ss ≡ []
+data_of-none [] none = refl
+data_of-none (s ∷ ss) none = absurd (omega (arith, length-data_of-cons s ss))
+
+-- nothing came after a mark of so many bytes
+pub nothing_after : (bytes : List ℕ) (strings : List (List ℕ)) (n m : ℕ)
+    → data_of (strings_in bytes) ≡ bytes → strings_in bytes ≡ strings
+    → m ≡ length (data_of (take n strings)) → length bytes ≤ m → strings ≡ take n strings
+nothing_after bytes strings n m ended is_strings is_mark long =
+    let parts = ap length (ap data_of (sym (take-append-drop n strings)) ∙ data_of-append
+    (take n strings) (drop n strings)) in
+    let whole = ap length (sym ended ∙ ap data_of is_strings) in
+    let none : length (data_of (drop n strings)) ≡ 0 =
+    omega (
+      arith,
+      parts,
+      whole,
+      length-append (data_of (take n strings))
+          (data_of (drop n strings)),
+    ) in
+    sym (take-append-drop n strings) ∙ ap (λ l. take n strings ++ l) (data_of-none (drop n strings)
+    none) ∙ append-nil (take n strings)
 
 pub strings_few : (ss : List (List ℕ)) → length ss ≤ length (data_of ss)
 strings_few [] = omega arith

@@ -1,12 +1,12 @@
 //! Strings behind one another, each of which is found by its hash, or else by its order.
 
-ghost use Rattle.std.specs.Prelude.{◌≡◌, ◌<◌, ◌≤◌, ◌^◌, [], length, take, OnOk, OnErr, IfOk};
+ghost use Rattle.std.specs.Prelude.{◌≡◌, ◌≢◌, ◌<◌, ◌≤◌, ◌^◌, [], length, take, OnOk, OnErr, IfOk};
 ghost use Rattle.std.specs.Prelude.{IfSome, IsNone, Contains};
 ghost use Rattle.std.specs.Prelude.{slice_index, None, Some, false};
 ghost use Rattle.dwp_bytes.specs.StringOffsets.{string_from};
 ghost use Rattle.thorin_strings.specs.Strings.{IsZeroFree, BeginsAt};
 ghost use Rattle.thorin_strings.specs.Hashed.{held, IsHashed, IsPlaced};
-ghost use Rattle.thorin_strings.specs.Places.{hash as hash_of, place_of, IsNext, IsOrdered};
+ghost use Rattle.thorin_strings.specs.Places.{hash as hash_of, place_of, shared, IsNext, IsOrdered};
 
 use crate::ends::ends_at;
 use crate::places::Places;
@@ -77,6 +77,42 @@ impl Entries {
         self.bytes.push(0).unwrap();
         self.count += 1;
         Ok(Some(place))
+    }
+
+    /// The same where the hash has a place already at which no string begins: strings that were there
+    /// were forgotten. None else, and where four bytes don't hold the new place; it has the old one then.
+    pub fn add_over(
+        &mut self,
+        string: &[u8],
+        hash: u32,
+        place: usize,
+    ) -> Result<Option<usize>, AllocError>
+        requires table { IsHashed self.old }
+        requires zero_free { IsZeroFree string.now }
+        requires hashed { hash ≡ hash_of string.now }
+        requires has { place_of self.old.places.slots.items self.old.places.size hash
+            ≡ Some place }
+        requires own { place ≢ shared }
+        ensures table { IsHashed self.new }
+        ensures placed { IfOk result (λ some. IfSome some (IsPlaced (held self.old) (held self.new)
+            string.now)) }
+        ensures none { IfOk result (λ some. IsNone some → (held self.new ≡ held self.old)
+            × (place_of self.new.places.slots.items self.new.places.size hash ≡ Some place)) }
+        ensures kept { take (length (held self.old)) (held self.new) ≡ held self.old }
+        ensures err { OnErr result (held self.new ≡ held self.old) }
+    {
+        if begins_at(self.bytes.as_slice(), place) {
+            return Ok(None);
+        }
+        let last = self.bytes.len();
+        self.bytes.reserve(string.len() + 1)?;
+        if !self.places.give(hash, last) {
+            return Ok(None);
+        }
+        self.bytes.extend_from_slice(string).unwrap();
+        self.bytes.push(0).unwrap();
+        self.count += 1;
+        Ok(Some(last))
     }
 
     /// The same of the string that some bytes begin with, of which one is zero, which is guessed to

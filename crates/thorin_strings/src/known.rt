@@ -67,8 +67,8 @@ fn short_string(debug_str: &[u8], offset: u64) -> Option<&[u8]>
 }
 
 impl PackageStringTable {
-    /// The offset of the string at an offset of its section, whose end is near, by its hash alone,
-    /// where no table's offset is past the limit. None else; the table is then as it was.
+    /// The offset of the string at an offset of its section, whose end is near, where no table's offset
+    /// is past the limit. None else, and for want of memory; the table is then as it was.
     #[inline(always)]
     fn short_offset(&mut self, debug_str: &[u8], named: u64, limit: u64) -> Option<u64>
         ensures meaning { IfSome result (λ offset.
@@ -87,7 +87,7 @@ impl PackageStringTable {
         Some(offset as u64)
     }
 
-    /// As `offset_by_hash`, where short strings aren't remembered.
+    /// As `offset_told`, where short strings aren't remembered.
     #[inline(never)]
     pub(crate) fn other_offset(
         &mut self,
@@ -109,15 +109,15 @@ impl PackageStringTable {
         }
         match self.short_offset(debug_str, named, limit) {
             Some(offset) => Some(offset),
-            None => self.offset_by_hash(repeats, debug_str, named, limit),
+            None => self.offset_told(repeats, debug_str, named, limit),
         }
     }
 
-    /// The offset of the string at an offset of its section, where that is remembered or its hash
-    /// tells it, and no table's offset is past the limit. None else, where it can't be read and for
-    /// want of memory; the table is then as it was.
+    /// The offset of the string at an offset of its section, which may be remembered, where no table's
+    /// offset is past the limit. None else, where it can't be read and for want of memory; the table is
+    /// then as it was.
     #[inline(always)]
-    fn offset_by_hash(
+    fn offset_told(
         &mut self,
         repeats: &mut Repeats,
         debug_str: &[u8],
@@ -147,11 +147,11 @@ impl PackageStringTable {
         Some(offset)
     }
 
-    /// The offset of the string that an entry names, where that is remembered or its hash tells it.
-    /// None else, where it can't be read and for want of memory; the table is then as it was.
+    /// The offset of the string that an entry names. None where it can't be read, where the table's
+    /// offsets may pass the limit, and for want of memory; the table is then as it was.
     #[inline(always)]
     #[tactic(auto, using(crate::proofs::KnownLemmas::entry_read))]
-    pub(crate) fn entry_by_hash(
+    pub(crate) fn entry_told(
         &mut self,
         repeats: &mut Repeats,
         debug_str: &[u8],
@@ -172,7 +172,7 @@ impl PackageStringTable {
     {
         let limit = offset_limit(encoding.format);
         let named = known_entry(debug_str_offsets, endian, encoding, index)?;
-        let offset = self.offset_by_hash(repeats, debug_str, named, limit)?;
+        let offset = self.offset_told(repeats, debug_str, named, limit)?;
         Some(offset)
     }
 }

@@ -309,7 +309,7 @@ impl PackageStringTable {
         out.reserve(debug_str_offsets.len())?;
         for index in 0..count {
             // (nearly every entry is told here, without room for an error)
-            let known = self.entry_by_hash(
+            let known = self.entry_told(
                 repeats,
                 debug_str,
                 debug_str_offsets,

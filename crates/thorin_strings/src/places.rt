@@ -1,6 +1,6 @@
 //! Places of strings by their hashes, none of which is lost.
 
-ghost use Rattle.std.specs.Prelude.{◌≡◌, ◌≢◌, ◌<◌, ◌≤◌, ◌+◌, ◌^◌, [], ℕ, length, Some, None, IfSome, IsTrue};
+ghost use Rattle.std.specs.Prelude.{◌≡◌, ◌≢◌, ◌<◌, ◌≤◌, ◌+◌, ◌-◌, ◌^◌, [], ℕ, length, Some, None, IfSome, IsTrue};
 ghost use Rattle.std.specs.Prelude.{OnErr, IfOk, IfErr, true, false};
 ghost use Rattle.thorin_strings.specs.Places.{place_from, place_of, home, shared, IsNext};
 
@@ -18,7 +18,8 @@ const SOME: u32 = 3 << 14;
 /// And then; three times as many after that, and from there on twice as many.
 const MANY: u32 = 1 << 18;
 
-/// A free slot. (Not all of its bytes are zero: so many are written 32 bytes at a time.)
+/// A free slot: `behind` alone tells that. (Not all of its bytes are zero: so many are written 16 bytes
+/// at a time.)
 const FREE: Slot = Slot { hash: 1, behind: 0 };
 
 /// The place of a hash that strings share, at which none of them is kept.
@@ -143,10 +144,11 @@ fn put_again(slots: &mut [Slot], size: u32, others: &[Slot]) -> Option<usize>
     Some(used)
 }
 
-/// Gives a hash that has a place the one of hashes that strings share.
-fn put_shared(slots: &mut [Slot], size: u32, hash: u32)
-    ensures shared { (n : ℕ) → place_of slots.old size hash ≡ Some n
-        → place_of slots.new size hash ≡ Some shared }
+/// Gives a hash that has a place another one, which is one less than `behind`.
+fn put_over(slots: &mut [Slot], size: u32, hash: u32, behind: u32)
+    requires some { behind ≢ 0 }
+    ensures given { (n : ℕ) → place_of slots.old size hash ≡ Some n
+        → place_of slots.new size hash ≡ Some (behind - 1) }
     ensures others { (h : ℕ) → h ≢ hash → place_of slots.new size h ≡ place_of slots.old size h }
     ensures long { length slots.new ≡ length slots.old }
 {
@@ -157,7 +159,7 @@ fn put_shared(slots: &mut [Slot], size: u32, hash: u32)
             return;
         }
         if slots[number].hash == hash {
-            slots[number].behind = u32::MAX;
+            slots[number].behind = behind;
             return;
         }
     }
@@ -249,8 +251,8 @@ impl Places {
         })
     }
 
-    /// Enters a slot among more slots, if the ones there are have no room for it though a quarter is
-    /// used; false where that can't be.
+    /// Enters a slot among more slots, where those that there are have no room for it and a quarter is
+    /// used (of fewer, such hashes were chosen); false where that can't be.
     #[inline(never)]
     fn enter_in_more(&mut self, slot: Slot) -> bool
         requires some { slot.behind ≢ 0 }
@@ -277,6 +279,7 @@ impl Places {
     /// can't be, and then no more are entered. At most five of eight slots are used, and where none
     /// is free for a hash there are made more, if a quarter is used.
     pub fn enter(&mut self, hash: u32, next: usize, place: usize) -> bool
+        requires open { self.old.is_full ≡ false }
         requires none { place_of self.old.slots.items self.old.size hash ≡ None }
         requires next { next < length self.old.slots.items
             → IsNext self.old.slots.items self.old.size hash next }
@@ -312,6 +315,25 @@ impl Places {
             ≡ place_of self.old.slots.items self.old.size h }
         ensures full { self.new.is_full ≡ self.old.is_full }
     {
-        put_shared(&mut self.slots, self.size, hash);
+        put_over(&mut self.slots, self.size, hash, u32::MAX);
+    }
+
+    /// Gives a hash that has a place another one; false where four bytes don't hold that.
+    pub fn give(&mut self, hash: u32, place: usize) -> bool
+        ensures given { IsTrue result → (n : ℕ)
+            → place_of self.old.slots.items self.old.size hash ≡ Some n
+            → place_of self.new.slots.items self.new.size hash ≡ Some place }
+        ensures fits { IsTrue result → place < shared }
+        ensures others { (h : ℕ) → h ≢ hash → place_of self.new.slots.items self.new.size h
+            ≡ place_of self.old.slots.items self.old.size h }
+        ensures full { self.new.is_full ≡ self.old.is_full }
+        ensures same { result ≡ false → self.new.slots.items ≡ self.old.slots.items }
+        ensures size { self.new.size ≡ self.old.size }
+    {
+        let Some(behind) = behind(place) else {
+            return false;
+        };
+        put_over(&mut self.slots, self.size, hash, behind);
+        true
     }
 }

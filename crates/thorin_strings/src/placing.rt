@@ -7,6 +7,7 @@ ghost use Rattle.thorin_strings.specs.Strings.{IsZeroFree};
 ghost use Rattle.thorin_strings.specs.Hashed.{IsPlaced};
 
 use crate::hash::{hash, hash_here};
+use crate::places::SHARED;
 use crate::search::{begins_alike, stands_at};
 use crate::table::PackageStringTable;
 use std::alloc::AllocError;
@@ -38,9 +39,13 @@ impl PackageStringTable {
         }
         let hash = hash(string);
         match self.entries.places.seek(hash) {
+            Ok(place) if place == SHARED => {}
             Ok(place) => {
                 if stands_at(&self.entries.bytes, place, string) {
                     self.next = behind(place, string.len());
+                    return Ok(place);
+                }
+                if let Some(place) = self.entries.add_over(string, hash, place)? {
                     return Ok(place);
                 }
                 self.entries.share(hash, place)?;

@@ -36,8 +36,8 @@ pub struct TableMark {
 /// order too, and found by that. So one string at most is compared with another, or as many as
 /// halving those in order takes.
 ///
-/// The place behind the string that was found last is looked at first, as long as that is right:
-/// inputs that share strings often use them in the same order.
+/// The place behind the string that was found last is looked at first: inputs that share strings
+/// often use them in the same order. In the loop over string offsets that is done while it is right.
 #[derive(Drop)]
 pub struct PackageStringTable {
     pub(crate) alloc: Global,
@@ -157,14 +157,17 @@ impl PackageStringTable {
         }
     }
 
-    /// Forgets every string that came after a mark. The place of its hash may stay there.
+    /// Forgets every string that came after a mark. The place of its hash stays, until a string of that
+    /// hash comes.
     pub fn truncate(&mut self, mark: TableMark)
         requires { mark ≡ mark_of (take mark.strings self.old) }
         ensures { self.new ≡ take mark.strings self.old }
     {
-        self.entries.bytes.truncate(mark.bytes);
-        self.entries.count = mark.strings;
-        self.entries.ordered.keep_below(mark.bytes as u64);
+        if mark.bytes < self.entries.bytes.len() {
+            self.entries.bytes.truncate(mark.bytes);
+            self.entries.count = mark.strings;
+            self.entries.ordered.keep_below(mark.bytes as u64);
+        }
     }
 
     /// The content of `.debug_str.dwo`.

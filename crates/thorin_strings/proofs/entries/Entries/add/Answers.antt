@@ -29,7 +29,7 @@ returns-clause-table c =
     (omega (arith, e.bytes.ok.0)) c.requires.hashed refl
     (indexed_push e.bytes.items e.ordered s c.requires.table.findable.indexed c.requires.zero_free
     absent)
-    (λ g m. found_kept _ _ _ _ _ _ e.ordered g m c.requires.open c.enter.ensures.kept)
+    (λ g m _. found_kept _ _ _ _ _ _ e.ordered g m c.requires.open c.enter.ensures.kept)
     (inl (c.if-not-enter.ensures.entered refl, c.if-not-enter.ensures.fits refl))
 
 pub returns-clause-placed : goal.returns-clause-placed

@@ -33,7 +33,7 @@ returns-clause-table c =
     hashed_push e _ s c.args.hash c.len-place.result c.requires.table free new
     (omega (arith, e.bytes.ok.0)) c.requires.hashed refl
     (indexed_push e.bytes.items e.ordered s c.requires.table.findable.indexed free absent)
-    (λ g m. found_kept _ _ _ _ _ _ e.ordered g m c.if-self.false c.enter.ensures.kept)
+    (λ g m _. found_kept _ _ _ _ _ _ e.ordered g m c.if-self.false c.enter.ensures.kept)
     (inl (c.if-not-enter.ensures.entered refl, c.if-not-enter.ensures.fits refl))
 
 pub returns-clause-placed : goal.returns-clause-placed

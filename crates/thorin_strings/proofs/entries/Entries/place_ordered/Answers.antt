@@ -56,7 +56,7 @@ returns-clause-table c =
     long c.requires.hashed refl
     (subst (IsIndexed (e.bytes.items ++ terminated s)) (sym inserted) (indexed_both e.bytes.items
     e.ordered s c.in-Err.rank c.requires.table.findable.indexed c.requires.zero_free stands absent))
-    (λ g m. found_among _ _ _ e.ordered c.insert.new.self g m (λ p there.
+    (λ g m _. found_among _ _ _ e.ordered c.insert.new.self g m (λ p there.
     subst (λ l. Contains l p) (sym inserted) (among_more e.ordered _ _ p there)))
     (inr (
       subst (λ l. Contains l c.len-place.result) (sym c.in_ok-insert.ensures.ok)

@@ -1,8 +1,9 @@
 use Rattle.thorin_strings.proofs.UsedLemmas.{used_there}
 use Rattle.thorin_strings.proofs.table.PackageStringTable.place.Goals as goal
-use Rattle.thorin_strings.proofs.table.PackageStringTable.place.Goals.{in-Ok+else-stands_at-2+in_ok-share-in-Ok}
+use Rattle.thorin_strings.proofs.table.PackageStringTable.place.Goals.{in-Ok}
+use Rattle.thorin_strings.proofs.table.PackageStringTable.place.Goals.{in-Ok-2+else-stands_at-2+in_ok-place-in-Ok-2+in_default+in_ok-share-in-Ok-2}
 use Rattle.thorin_strings.proofs.table.PackageStringTable.place.Goals.{in-Err}
-use Rattle.thorin_strings.proofs.table.PackageStringTable.place.Goals.{in-Err-2+in_ok-place-in-Err-2+in_default}
+use Rattle.thorin_strings.proofs.table.PackageStringTable.place.Goals.{in-Err-2+in_ok-place-in-Err-2+in_default-2}
 
 pub returns-then-stands_at-clause-placed : goal.returns-then-stands_at-clause-placed
 returns-then-stands_at-clause-placed c =
@@ -13,7 +14,7 @@ returns-then-stands_at-clause-placed c =
 
 pub returns-then-stands_at-2-clause-placed : goal.returns-then-stands_at-2-clause-placed
 returns-then-stands_at-2-clause-placed c =
-    let here = rw c.deref-in-Ok.ensures.value at (c.stands_at-in-Ok.ensures.0
+    let here = rw c.deref-in-Ok-2.ensures.value at (c.stands_at-in-Ok-2.ensures.0
     c.if-stands_at-2.true) in
     rw (← c.self.view_is) (used_there c.self.inside.entries.bytes.items c.args.string.now
     c.in-Ok.place c.self.invariant.findable.indexed.ended
@@ -21,7 +22,9 @@ returns-then-stands_at-2-clause-placed c =
 
 pub place_ordered-requires-clause-table : goal.place_ordered-requires-clause-table
 place_ordered-requires-clause-table c = elim c.match-seek.branch [
-  | in-Ok+else-stands_at-2+in_ok-share-in-Ok w ↦ rw w.self-inside-is w.share.ensures.table
+  | in-Ok w ↦ rw w.self-inside-is c.self.invariant
+  | in-Ok-2+else-stands_at-2+in_ok-place-in-Ok-2+in_default+in_ok-share-in-Ok-2 w ↦
+      rw w.self-inside-is w.share.ensures.table
   | in-Err w ↦ rw w.self-inside-is c.self.invariant
-  | in-Err-2+in_ok-place-in-Err-2+in_default w ↦ rw w.self-inside-is w.add.ensures.table
+  | in-Err-2+in_ok-place-in-Err-2+in_default-2 w ↦ rw w.self-inside-is w.add.ensures.table
 ]

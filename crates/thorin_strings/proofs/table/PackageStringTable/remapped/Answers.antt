@@ -39,7 +39,7 @@ loop-index-preserved c =
     ] in
     let kept : take (length c.loop-index.self) c.match-known.self ≡ c.loop-index.self =
     elim c.match-known.branch [
-      | in-Some w ↦ rw w.self-is c.entry_by_hash-known.ensures.kept
+      | in-Some w ↦ rw w.self-is c.entry_told-known.ensures.kept
       | in-None+in_ok-offset-in-None w ↦ rw w.self-is (rw w.in-None.ensures.none at
           w.remapped_entry.ensures.kept)
     ] in
@@ -53,7 +53,7 @@ loop-index-preserved c =
             c.loop-index.invariant.so_far.2 c.in_ok-push_offset.ensures,
       );
       known = elim c.match-known.branch [
-        | in-Some w ↦ rw (w.self-is, w.repeats-is) c.entry_by_hash-known.ensures.known
+        | in-Some w ↦ rw (w.self-is, w.repeats-is) c.entry_told-known.ensures.known
         | in-None+in_ok-offset-in-None w ↦ rw (w.self-is, w.repeats-is)
             w.remapped_entry.ensures.known
       ];

@@ -1,6 +1,6 @@
 use Rattle.std.proofs.Common.{◌≡◌, ◌≢◌, ◌<◌, ◌≤◌, ◌+◌, ◌-◌, ℕ, get_or}
 use Rattle.thorin_strings.specs.Places.{free, place_from, place_of}
-use Rattle.thorin_strings.proofs.places.put_shared.Given as goal
+use Rattle.thorin_strings.proofs.places.put_over.Given as goal
 
 abbrev pub invariant-loop-number : goal.invariant-loop-number
 invariant-loop-number l = record {

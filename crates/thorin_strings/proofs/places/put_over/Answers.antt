@@ -5,7 +5,7 @@ use Rattle.thorin_strings.specs.declared.places.Slot.{Slot}
 use Rattle.thorin_strings.specs.Places.{free, place_from, place_of}
 use Rattle.thorin_strings.proofs.PlacesLemmas.{begun, at_free, at_other, same_or, shared_of}
 use Rattle.thorin_strings.proofs.PlacesLemmas.{others_of}
-use Rattle.thorin_strings.proofs.places.put_shared.Goals as goal
+use Rattle.thorin_strings.proofs.places.put_over.Goals as goal
 
 pub loop-number-init : goal.loop-number-init
 loop-number-init c = record {
@@ -32,8 +32,8 @@ loop-number-preserved c = record {
   same = c.loop-number.invariant.same;
 }
 
-pub returns-then-slots-number-eq0-clause-shared : goal.returns-then-slots-number-eq0-clause-shared
-returns-then-slots-number-eq0-clause-shared c = λ n is.
+pub returns-then-slots-number-eq0-clause-given : goal.returns-then-slots-number-eq0-clause-given
+returns-then-slots-number-eq0-clause-given c = λ n is.
     let none : place_of c.loop-number.slots c.args.size c.args.hash ≡ None =
     c.loop-number.invariant.looked ∙ at_free c.loop-number.slots c.loop-number.number _ c.args.hash
     c.if-slots-number-eq0.true in
@@ -41,8 +41,8 @@ returns-then-slots-number-eq0-clause-shared c = λ n is.
     c.loop-number.invariant.same ∙ is in
     cc
 
-pub returns-then-slots-number-clause-shared : goal.returns-then-slots-number-clause-shared
-returns-then-slots-number-clause-shared c = λ n is.
+pub returns-then-slots-number-clause-given : goal.returns-then-slots-number-clause-given
+returns-then-slots-number-clause-given c = λ n is.
     shared_of c.loop-number.slots c.args.size c.args.hash _ c.loop-number.number (omega arith)
     (omega (arith, c.home-home.ensures.value))
     (omega (arith, c.home-home.ensures.value))
@@ -51,17 +51,17 @@ returns-then-slots-number-clause-shared c = λ n is.
       low,
       c.home-home.ensures.value,
     )) less)
-    (λ e. absurd (omega (arith, e))) c.if-slots-number.true
+    c.requires.some c.if-slots-number.true
 
 pub returns-then-slots-number-clause-others : goal.returns-then-slots-number-clause-others
 returns-then-slots-number-clause-others c = λ h other.
     others_of c.loop-number.slots c.args.size h _ c.loop-number.number (omega arith) refl
-    c.if-slots-number-eq0.false (λ e. absurd (omega (arith, e))) (λ e.
+    c.if-slots-number-eq0.false c.requires.some (λ e.
     other (e ∙ c.if-slots-number.true))
     ∙ ap (λ l. place_of l c.args.size h) c.loop-number.invariant.same
 
-pub returns-clause-shared : goal.returns-clause-shared
-returns-clause-shared c = λ n is.
+pub returns-clause-given : goal.returns-clause-given
+returns-clause-given c = λ n is.
     let none : place_of c.loop-number.slots c.args.size c.args.hash ≡ None =
     c.loop-number.invariant.looked ∙ ⊎_elim
     (λ near. at_free c.loop-number.slots c.loop-number.number _ c.args.hash
