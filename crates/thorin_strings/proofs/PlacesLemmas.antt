@@ -98,8 +98,10 @@ kept_from slots s k at (suc n) h p was is =
 
 -- the next slot for a hash
 pub next_for : (slots : List Slot) (size h at k : ℕ) → at ≡ home size h → at ≤ k → k < at + 128
-    → ((j : ℕ) → at ≤ j → j < k → (get_or slots j free).behind ≢ 0) → IsNext slots size h k
-next_for slots size h at k is_at low high used = record {
+    → ((j : ℕ) → at ≤ j → j < k → (get_or slots j free).behind ≢ 0)
+    → (get_or slots k free).behind ≡ 0 → IsNext slots size h k
+next_for slots size h at k is_at low high used none = record {
+  unused = none;
   from = subst (λ n. n ≤ k) is_at low;
   within = subst (λ n. k < n + 128) is_at high;
   used = λ j from less. used j (subst (λ n. n ≤ j) (sym is_at) from) less;

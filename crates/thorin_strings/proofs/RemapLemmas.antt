@@ -1,7 +1,7 @@
 -- Rewriting one entry after another.
 use Rattle.std.proofs.Common.{◌≡◌, ℕ, zero, suc, ◌+◌, ◌*◌, ◌<◌, ◌≤◌, false, eqb, ltb, List, [], ◌∷◌}
 use Rattle.std.proofs.Common.{◌++◌, length, take, Ok, Err, ap, ap₂, sym, subst, refl, ◌∙◌, ⊎_elim}
-use Rattle.std.proofs.Common.{arith, append_assoc, add-one, replicate, length-append, drop, ◌-◌}
+use Rattle.std.proofs.Common.{arith, append_assoc, add-one, length-append, drop, ◌-◌}
 use Rattle.std.proofs.Common.{◌/◌, ◌^◌}
 use Rattle.dwp_base.specs.declared.endian.Endianness.{Endianness}
 use Rattle.dwp_base.specs.declared.endian.Endianness.TheVariants.{Little}
@@ -13,7 +13,7 @@ use Rattle.dwp_bytes.specs.declared.encoding.Encoding.{Encoding}
 use Rattle.thorin_faults.specs.Fault.{Fault, OffsetAtIndex}
 use Rattle.thorin_faults.specs.Answers.{as_fault}
 use Rattle.std.proofs.lemmas.List.{take-take, append-nil, length-take, take_all, take_at}
-use Rattle.std.proofs.lemmas.List.{length-replicate}
+use Rattle.std.proofs.lemmas.List.{length-drop, length-take-le}
 use Rattle.std.proofs.lemmas.List.Concat.{flat_map-append}
 use Rattle.std.proofs.lemmas.Bool.{cases_eq, ne_eqb, le-ltb}
 use Rattle.dwp_bytes.specs.StringOffsets.{header_size, entry_count}
@@ -92,22 +92,30 @@ bytes_more order format first out out' before offset so_far more =
     (sym (append-nil (number_bytes order (offset_size format) offset)))
     ∙ sym (flat_map-append (number_bytes order (offset_size format)) before (offset ∷ [])))
 
--- what `resize` leaves
-pub room_made : (items new : List ℕ) (n m k : ℕ) → m ≡ length items → k ≡ length items
-    → new ≡ take (m + n) items ++ replicate ((m + n) - k) 0
-    → (length new ≡ m + n) × (take m new ≡ items)
-room_made items new n m k e f is =
-    let d : (m + n) - k ≡ n = omega arith in
-    let whole : new ≡ items ++ replicate n 0 =
-    is ∙ rw (d, take_all (m + n) items (omega arith)) refl in (
-      omega (
-        arith,
-        ap length whole,
-        length-append items (replicate n 0),
-        length-replicate {A = ℕ} n 0,
-      ),
-      ap (take m) whole ∙ take_at items (replicate n 0) m (sym e),
-    )
+-- a list behind which other bytes went
+pub room_made : (items new like : List ℕ) (m : ℕ) → m ≡ length items → new ≡ items ++ like
+    → (length new ≡ m + length like) × (take m new ≡ items)
+room_made items new like m e is = (
+  omega (arith, ap length is, length-append items like),
+  ap (take m) is ∙ take_at items like m (sym e),
+)
+
+-- the whole entries of four bytes are within the range
+pub entries_within : (encoding : Encoding) (count size first : ℕ) → encoding.format ≡ Dwarf32
+    → count ≡ entry_count encoding size → header_size encoding ≤ size
+    → first ≡ header_size encoding → first + count * 4 ≤ size
+entries_within encoding count size first form is_count within is_first =
+    let whole : count ≡ (size - header_size encoding) / 4 =
+    is_count ∙ ap (λ f. (size - header_size encoding) / offset_size f) form in
+    omega (arith, whole, within, is_first)
+
+-- a part of a list
+pub length_part : (xs : List ℕ) (at n : ℕ) → at + n ≤ length xs
+    → length (take ((at + n) - at) (drop at xs)) ≡ n
+length_part xs at n within =
+    let e : (at + n) - at ≡ n = omega arith in
+    ap (λ k. length (take k (drop at xs))) e
+    ∙ length-take-le n (drop at xs) (omega (arith, length-drop at xs))
 
 -- a list of bytes that others of its length took the place of
 pub same_room : (items new : List ℕ) (len : ℕ) → length new ≡ length items → len ≡ length items

@@ -39,8 +39,9 @@ place_of slots size h = place_from slots (home size h) 128 h
 abbrev pub shared : ℕ
 shared = 2 ^ 32 - 2
 
--- a slot is the next for a hash: one of its own, behind used ones
+-- a slot is the next for a hash: a free one of its own, behind used ones
 pub record IsNext (slots : List Slot) (size h number : ℕ) : Type 0 where
+  pub unused : (slice_index_or slots number free).behind ≡ 0
   pub from : home size h ≤ number
   pub within : number < home size h + 128
   pub used : (j : ℕ) → home size h ≤ j → j < number → (slice_index_or slots j free).behind ≢ 0

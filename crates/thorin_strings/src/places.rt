@@ -1,8 +1,8 @@
 //! Places of strings by their hashes, none of which is lost.
 
 ghost use Rattle.std.specs.Prelude.{◌≡◌, ◌≢◌, ◌<◌, ◌≤◌, ◌+◌, ◌-◌, ◌^◌, [], ℕ, length, Some, None, IfSome, IsTrue};
-ghost use Rattle.std.specs.Prelude.{OnErr, IfOk, IfErr, true, false};
-ghost use Rattle.thorin_strings.specs.Places.{place_from, place_of, home, shared, IsNext};
+ghost use Rattle.std.specs.Prelude.{OnErr, IfOk, IfErr, true, false, slice_index_or};
+ghost use Rattle.thorin_strings.specs.Places.{free, place_from, place_of, home, shared, IsNext};
 
 use std::alloc::Global;
 
@@ -91,8 +91,10 @@ fn seek(slots: &[Slot], size: u32, hash: u32) -> Result<usize, usize>
 }
 
 /// Puts a slot where it is next for its hash, if there is a free one.
+#[inline(always)]
 fn put_next(slots: &mut [Slot], number: usize, slot: Slot) -> bool
     requires some { slot.behind ≢ 0 }
+    requires free { number < length slots.old → (slice_index_or slots.old number free).behind ≡ 0 }
     ensures put { IsTrue result → (size n : ℕ) → IsNext slots.old size slot.hash number
         → place_of slots.old size slot.hash ≡ None → n + 1 ≡ slot.behind
         → place_of slots.new size slot.hash ≡ Some n }
@@ -102,7 +104,7 @@ fn put_next(slots: &mut [Slot], number: usize, slot: Slot) -> bool
     ensures same { result ≡ false → slots.new ≡ slots.old }
     ensures long { length slots.new ≡ length slots.old }
 {
-    if number >= slots.len() || slots[number].behind != 0 {
+    if number >= slots.len() {
         return false;
     }
     slots[number] = slot;

@@ -1,6 +1,6 @@
 //! String offsets of four bytes, the lowest first, each rewritten in its place: most are such.
 
-ghost use Rattle.std.specs.Prelude.{◌≡◌, ◌≤◌, ◌<◌, ◌+◌, ◌^◌, ◌++◌, ◌*◌, Ok, IfOk, length, take};
+ghost use Rattle.std.specs.Prelude.{◌≡◌, ◌≤◌, ◌<◌, ◌+◌, ◌^◌, ◌++◌, ◌*◌, Ok, OnOk, IfOk, length, take};
 ghost use Rattle.dwp_base.specs.declared.endian.Endianness.TheVariants.{Little};
 ghost use Rattle.dwp_base.specs.Numbers.{number_bytes};
 ghost use Rattle.dwp_bytes.specs.declared.encoding.Format.TheVariants.{Dwarf32};
@@ -14,6 +14,7 @@ use crate::repeats::Repeats;
 use crate::table::PackageStringTable;
 use dwp_base::Endianness;
 use dwp_bytes::Encoding;
+use std::alloc::AllocError;
 use thorin_faults::Error;
 
 /// A range of string offsets of four bytes: the section of the strings that its entries name, the
@@ -50,6 +51,27 @@ pub(crate) fn write_word(out: &mut [u8], at: usize, offset: u64)
     out[at + 1] = bytes[1];
     out[at + 2] = bytes[2];
     out[at + 3] = bytes[3];
+}
+
+/// How many bytes are copied together.
+const PIECE: usize = 1024;
+
+/// Appends bytes, some at a time: longer pieces are copied byte by byte on some processors.
+fn append_by_pieces(out: &mut Vec<u8>, bytes: &[u8]) -> Result<(), AllocError>
+    ensures { OnOk result (out.new.items ≡ out.old.items ++ bytes.now) }
+{
+    out.reserve(bytes.len())?;
+    let mut at = 0;
+    while at < bytes.len() {
+        let next = if bytes.len() - at < PIECE {
+            bytes.len()
+        } else {
+            at + PIECE
+        };
+        out.extend_from_slice(&bytes[at..next])?;
+        at = next;
+    }
+    Ok(())
 }
 
 /// How many entries are rewritten one by one where the first of them isn't told by a hash.
@@ -128,7 +150,8 @@ impl PackageStringTable {
         let count = encoding.string_offsets_count(section_size) as usize;
         let mut out = header(alloc, Endianness::Little, encoding, count as u64 * 4)?;
         let first = out.len();
-        out.resize(first + count * 4, 0)?;
+        // (room for each entry: the old ones)
+        append_by_pieces(&mut out, &debug_str_offsets[first..first + count * 4])?;
         let range = WordRange {
             debug_str,
             debug_str_offsets,

@@ -10,4 +10,4 @@ returns-clause-put c = λ _ size n next none more.
 
 pub returns-clause-kept : goal.returns-clause-kept
 returns-clause-kept c = λ size h n is.
-    kept_of c.args.slots.now size c.args.slot c.args.number h n (omega arith) is
+    kept_of c.args.slots.now size c.args.slot c.args.number h n (c.requires.free (omega arith)) is

@@ -30,6 +30,7 @@ pub returns-then-slot-eq0-clause-next : goal.returns-then-slot-eq0-clause-next
 returns-then-slot-eq0-clause-next c = λ _.
     next_for c.args.slots.now c.args.size c.args.hash c.home-home.result c.loop-number.number
     c.home-home.ensures.value (omega arith) (omega arith) c.loop-number.invariant.used
+    c.if-slot-eq0.true
 
 pub returns-then-slot-hash-clause-found : goal.returns-then-slot-hash-clause-found
 returns-then-slot-hash-clause-found c =

@@ -8,16 +8,27 @@ use Rattle.thorin_strings.proofs.KnownLemmas.{are_known_later}
 use Rattle.dwp_bytes.specs.StringOffsets.{header_size}
 use Rattle.thorin_strings.proofs.NamedBytes.{header_long}
 use Rattle.thorin_strings.proofs.RemapLemmas.{kept_more, remapped_refuses}
-use Rattle.thorin_strings.proofs.RemapLemmas.{room_made, same_room}
+use Rattle.thorin_strings.proofs.RemapLemmas.{room_made, same_room, length_part}
+use Rattle.thorin_strings.proofs.RemapLemmas.{entries_within}
 use Rattle.thorin_strings.proofs.WrittenLemmas.{none_written, one_written}
 use Rattle.thorin_strings.proofs.table.PackageStringTable.remapped_words.Goals as goal
 
+pub slice_bounds-append_by_pieces-end : goal.slice_bounds-append_by_pieces-end
+slice_bounds-append_by_pieces-end c =
+    let is_first : c.len-first.result ≡ header_size c.args.encoding =
+    (c.len-first.ensures ∙ c.in_ok-out.out.ok.0)
+    ∙ header_long Little c.args.encoding _ c.in_ok-out.out.items c.in_ok-out.ensures in
+    omega (
+      arith,
+      entries_within c.args.encoding c.string_offsets_count-count.result c.args.section_size _
+          c.requires.form c.string_offsets_count-count.ensures (omega arith) is_first,
+      c.requires.whole,
+    )
+
 pub loop-index-init : goal.loop-index-init
 loop-index-init c =
-    let room = room_made c.in_ok-out.out.items c.resize.new.self.items
-    (c.string_offsets_count-count.result * 4) c.len-first.result c.in_ok-out.out.len
-    (c.len-first.ensures ∙ c.in_ok-out.out.ok.0) c.in_ok-out.out.ok.0
-    c.in_ok-resize.ensures.items in
+    let room = room_made c.in_ok-out.out.items c.append_by_pieces.new.out.items _ c.len-first.result
+    (c.len-first.ensures ∙ c.in_ok-out.out.ok.0) c.in_ok-append_by_pieces.ensures in
     let is_first : c.len-first.result ≡ header_size c.args.encoding =
     (c.len-first.ensures ∙ c.in_ok-out.out.ok.0)
     ∙ header_long Little c.args.encoding _ c.in_ok-out.out.items c.in_ok-out.ensures in
@@ -26,7 +37,13 @@ loop-index-init c =
       first = is_first;
       kept = take_all _ c.args.self.now (omega arith);
       so_far = none_written _ _ _ _ _ _ is_first;
-      long = room.0;
+      long = room.0 ∙ ap (λ n. c.len-first.result + n) (length_part c.args.debug_str_offsets.now
+          c.len-first.result (c.string_offsets_count-count.result * 4) (omega (
+            arith,
+            entries_within c.args.encoding c.string_offsets_count-count.result c.args.section_size _
+                c.requires.form c.string_offsets_count-count.ensures (omega arith) is_first,
+            c.requires.whole,
+          )));
       known = c.requires.known;
     }
 
@@ -39,7 +56,7 @@ returns-in_err-offset-clause-meaning c =
     let p = err_from_is_err_and c.from_residual-in_err-offset.result
     c.from_residual-in_err-offset.ensures.1 in
     let told = c.write_told-index.ensures.told c.args.self.now
-    (take c.len-first.result c.resize.new.self.items)
+    (take c.len-first.result c.append_by_pieces.new.out.items)
     (rw c.deref_mut.ensures.value c.loop-index.invariant.so_far) in
     rw (p.1, p.2) (λ other. remapped_refuses Little c.args.encoding c.args.debug_str.now
     c.args.debug_str_offsets.now c.args.section_size c.string_offsets_count-count.result
@@ -60,7 +77,7 @@ loop-index-preserved c =
     let old = c.loop-index.out in
     let at = c.len-first.result + c.write_told-index.result * 4 in
     let told = c.write_told-index.ensures.told c.args.self.now
-    (take c.len-first.result c.resize.new.self.items)
+    (take c.len-first.result c.append_by_pieces.new.out.items)
     (rw c.deref_mut.ensures.value c.loop-index.invariant.so_far) in
     let long : length c.write_told-index.new.out ≡ length old.items =
     c.write_told-index.ensures.long ∙ ap length c.deref_mut.ensures.value in

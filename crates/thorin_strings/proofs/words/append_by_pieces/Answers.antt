@@ -1,0 +1,24 @@
+use Rattle.std.proofs.Common.{◌≤◌, ◌-◌, ◌++◌, ◌∙◌, take, drop, length, ap, sym, arith}
+use Rattle.std.proofs.Common.{append_assoc}
+use Rattle.std.proofs.Math.Seq.{take-add}
+use Rattle.thorin_strings.proofs.words.append_by_pieces.Goals as goal
+use Rattle.thorin_strings.proofs.words.append_by_pieces.Goals.{then-bytes-at-lt-PIECE}
+use Rattle.thorin_strings.proofs.words.append_by_pieces.Goals.{else-bytes-at-lt-PIECE}
+
+pub loop-at-preserved : goal.loop-at-preserved
+loop-at-preserved c =
+    let bytes = c.args.bytes.now in
+    let at = c.loop-at.at in
+    let next = c.if-bytes-at-lt-PIECE.next in
+    let bounds : (at ≤ next) × (next ≤ length bytes) = elim c.if-bytes-at-lt-PIECE.branch [
+      | then-bytes-at-lt-PIECE w ↦ (omega (arith, w.next-is), omega (arith, w.next-is))
+      | else-bytes-at-lt-PIECE w ↦ (omega (arith, w.next-is), omega (arith, w.next-is))
+    ] in
+    record {
+      within = bounds.1;
+      so_far = c.in_ok-extend_from_slice.ensures.items
+          ∙ ap (λ l. l ++ take (next - at) (drop at bytes)) c.loop-at.invariant.so_far
+          ∙ append_assoc c.reserve.new.self.items (take at bytes) (take (next - at) (drop at bytes))
+          ∙ ap (λ l. c.reserve.new.self.items ++ l) (sym (take-add at (next - at) bytes)
+          ∙ ap (λ n. take n bytes) (omega (arith, bounds.0)));
+    }
