@@ -52,12 +52,17 @@ first_of [] = None
 first_of (Ok unit ∷ rest) = Some unit
 first_of (Err e ∷ rest) = None
 
+-- the header of a unit of a package, where its own bytes have one
+abbrev pub header_in : Endianness → DwarfObject → FoundUnit → Option Unit
+header_in order object unit =
+    first_of (units (place_of object (range_in unit.row Types)) (section order unit.bytes))
+
 -- the unit DIE of a unit of a package, where it can be read
 unfoldable pub die_of : Endianness → DwarfObject → FoundUnit → Option DebugEntry
 die_of order object unit = option_and_then
     (λ u. option_flatten (result_ok
     (unit_die (section order (row_bytes unit.contents unit.row Abbrev)) u)))
-    (first_of (units (place_of object (range_in unit.row Types)) (section order unit.bytes)))
+    (header_in order object unit)
 
 -- the first attribute of a name, before the first fault
 abbrev pub named : ℕ → List (Result DebugAttribute ReadError) → Option DebugAttribute

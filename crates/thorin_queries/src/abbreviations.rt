@@ -1,17 +1,21 @@
 //! The identifiers that units' own bytes give. What was read is remembered: the abbreviations from
 //! unit to unit, and what units that share their bytes have.
 
-ghost use Rattle.std.specs.Prelude.{◌≡◌};
+ghost use Rattle.std.specs.Prelude.{◌≡◌, option_map};
+ghost use Rattle.std.specs.Result.{result_ok};
+ghost use Rattle.dwp_dwarf.specs.Units.{unit_of};
 ghost use Rattle.dwp_index.specs.Index.{range_in};
 ghost use Rattle.dwp_index.specs.Package.{place_of};
+ghost use Rattle.thorin_queries.specs.Names.{header_in};
 
+use dwp_bytes::Reader;
 use dwp_dwarf::{ReadError, SliceReader, UnitHeader, UnitHeaders, UnitSection};
 use dwp_elf::{Contribution, Endianness, SectionKind};
 use dwp_index::PackagedUnit;
 use dwp_table::DwarfObject;
 use std::alloc::{AllocError, Global};
 use std::collections::BTreeMap;
-use thorin_faults::Error;
+use std::fmt;
 use thorin_identity::RangeTables;
 
 /// What a unit's own bytes say of its identifier.
@@ -25,18 +29,9 @@ pub(crate) enum Own {
     Unread(String),
 }
 
-/// Where a unit's own bytes stand, whether these are in types, and where its abbreviations stand:
-/// what its bytes say depends on nothing else.
-type Place = (bool, (u64, u64), (u64, u64));
-
-/// Why a unit's own identifier can't be read.
-#[derive(Drop)]
-enum OwnFault {
-    // Its header can't be read.
-    Header(ReadError),
-    // What follows the header can't.
-    Identity(Error),
-}
+/// Whether a unit's own bytes are in types, where they begin and their size, and the same two numbers
+/// of its abbreviations: what its bytes say depends on nothing else.
+type Place = [u64; 5];
 
 /// What was read of the abbreviations of the units before. And what units say that share their
 /// bytes: these are read once.
@@ -96,54 +91,48 @@ impl<'a> Remembered<'a> {
 
     /// Reads what a unit's own bytes say of its identifier.
     fn read(&mut self, unit: &PackagedUnit<'a>, object: DwarfObject) -> Result<Own, AllocError> {
-        match own_identifier(unit, self, object) {
-            Ok(Some(own)) => Ok(Own::Is(own)),
-            Ok(None) => Ok(Own::Nameless),
-            Err(fault) => {
-                let cause = cause_text(self.alloc, &fault)?;
-                Ok(Own::Unread(cause))
-            }
+        match header_of(unit, object, self.order) {
+            Ok(header) => self.read_behind(unit, &header),
+            Err(fault) => unread(self.alloc, &fault),
         }
     }
 
-    /// The identifier that a unit with this header has by its abbreviations.
-    fn identifier(
+    /// The same of a unit with this header, by its abbreviations.
+    fn read_behind(
         &mut self,
         unit: &PackagedUnit<'a>,
         header: &UnitHeader<SliceReader<'a>>,
-    ) -> Result<Option<DwarfObject>, Error> {
+    ) -> Result<Own, AllocError> {
         let (start, size) = numbers_of(unit.range(SectionKind::Abbrev));
         let end = start.saturating_add(size);
-        self.tables.identifier(start as usize, end as usize, header)
+        match self.tables.identifier(start as usize, end as usize, header) {
+            Ok(Some(own)) => Ok(Own::Is(own)),
+            Ok(None) => Ok(Own::Nameless),
+            Err(fault) => unread(self.alloc, &fault),
+        }
     }
 }
 
-/// The identifier that a unit's own bytes give.
-fn own_identifier<'a>(
-    unit: &PackagedUnit<'a>,
-    abbreviations: &mut Remembered<'a>,
-    object: DwarfObject,
-) -> Result<Option<DwarfObject>, OwnFault> {
-    match header_of(unit, object, abbreviations.order) {
-        Ok(header) => match abbreviations.identifier(unit, &header) {
-            Ok(own) => Ok(own),
-            Err(fault) => Err(OwnFault::Identity(fault)),
-        },
-        Err(fault) => Err(OwnFault::Header(fault)),
-    }
+/// What is said of a unit's own identifier that can't be read.
+fn unread<D: fmt::Display>(alloc: Global, fault: &D) -> Result<Own, AllocError> {
+    let cause = format!(in alloc; "{fault}")?;
+    Ok(Own::Unread(cause))
 }
 
-/// The header of a unit.
-fn header_of<'a>(
+/// The header of a unit, as its own bytes have it.
+pub(crate) fn header_of<'a>(
     unit: &PackagedUnit<'a>,
     object: DwarfObject,
     order: Endianness,
-) -> Result<UnitHeader<SliceReader<'a>>, ReadError> {
+) -> Result<UnitHeader<SliceReader<'a>>, ReadError>
+    ensures { option_map (unit_of ⟦<SliceReader<'a> as Reader>⟧.input) (result_ok result)
+        ≡ header_in order object unit.now }
+{
     let reader = SliceReader::new(unit.bytes(), order);
     match UnitHeaders::new(reader, place_of(unit, object)).next() {
-        None => Err(ReadError::UnexpectedEof),
-        Some(Err(fault)) => Err(fault),
         Some(Ok(header)) => Ok(header),
+        Some(Err(fault)) => Err(fault),
+        None => Err(ReadError::UnexpectedEof),
     }
 }
 
@@ -160,24 +149,15 @@ pub(crate) fn place_of(unit: &PackagedUnit<'_>, object: DwarfObject) -> UnitSect
     }
 }
 
-fn cause_text(alloc: Global, fault: &OwnFault) -> Result<String, AllocError> {
-    match fault {
-        OwnFault::Header(cause) => format!(in alloc; "{cause}"),
-        OwnFault::Identity(cause) => format!(in alloc; "{cause}"),
-    }
-}
-
 /// Where a unit's own bytes and its abbreviations stand.
 fn place_in(unit: &PackagedUnit<'_>, object: DwarfObject) -> Place {
     let (in_types, kind) = match place_of(unit, object) {
-        UnitSection::Info => (false, SectionKind::Info),
-        UnitSection::Types => (true, SectionKind::Types),
+        UnitSection::Info => (0, SectionKind::Info),
+        UnitSection::Types => (1, SectionKind::Types),
     };
-    (
-        in_types,
-        numbers_of(unit.range(kind)),
-        numbers_of(unit.range(SectionKind::Abbrev)),
-    )
+    let own = numbers_of(unit.range(kind));
+    let abbreviations = numbers_of(unit.range(SectionKind::Abbrev));
+    [in_types, own.0, own.1, abbreviations.0, abbreviations.1]
 }
 
 /// Where a range begins, and its size; an absent one has no bytes.

@@ -356,8 +356,7 @@ fn put_names<'a>(
     ensures { OnOk result (string_bytes text.new
         ≡ string_bytes text.old ++ unit_names (view_by form strings.entry) object unit.now) }
 {
-    let source = strings.source_name(object, unit);
-    let name = strings.object_name(object, unit);
+    let (source, name) = strings.names_of(object, unit);
     put_named(source, name, form.json, text)
 }
 

@@ -6,17 +6,18 @@ ghost use Rattle.dwp_base.specs.Reading.{Answers};
 ghost use Rattle.dwp_bytes.specs.Input.{front};
 ghost use Rattle.dwp_dwarf.specs.Attributes.{attribute_of, attributes_left, entry_of, root_of};
 ghost use Rattle.dwp_dwarf.specs.Declarations.{table_of};
-ghost use Rattle.dwp_dwarf.specs.Units.{unit_of, units};
+ghost use Rattle.dwp_dwarf.specs.Units.{unit_of};
 ghost use Rattle.dwp_index.specs.Strings.{entry_in};
 ghost use Rattle.thorin_queries.specs.Names as spec;
-ghost use Rattle.thorin_queries.specs.Names.{table_at, entry_by, unit_die, first_of, die_of, named};
+ghost use Rattle.thorin_queries.specs.Names.{table_at, entry_by, unit_die, die_of, named};
 ghost use Rattle.thorin_queries.specs.Names.{short_string_at, string_number, numbered_string};
 ghost use Rattle.thorin_queries.specs.Names.{string_of, source_in, object_in};
+ghost use Rattle.thorin_queries.specs.Names.{source_name, object_name};
 
-use crate::abbreviations::place_of;
+use crate::abbreviations::header_of;
 use dwp_bytes::{Encoding, Format, ReadError, Reader, SliceReader, string_at};
 use dwp_dwarf::{
-    Abbreviations, Attribute, Attributes, RootEntry, UnitHeader, UnitHeaders, UnitSection,
+    Abbreviations, Attribute, Attributes, RootEntry, UnitHeader,
 };
 use dwp_elf::{Endianness, SectionKind};
 use dwp_index::PackagedUnit;
@@ -58,42 +59,44 @@ pub(crate) struct Strings<'a> {
 }
 
 impl<'a> Strings<'a> {
-    /// The name of a unit's source: `DW_AT_name` of its unit DIE.
-    #[tactic(auto, unfolding(crate::specs::Names::source_name))]
-    pub fn source_name(self, object: DwarfObject, unit: &PackagedUnit<'a>) -> Option<&'a [u8]>
-        ensures { option_copied result ≡ spec.source_name self.entry.order self.entry.bytes.now
-            object unit.now }
+    /// The names of a unit's source, `DW_AT_name` of its unit DIE, and of its object, `DW_AT_dwo_name`
+    /// or `DW_AT_GNU_dwo_name` there.
+    #[tactic(auto, unfolding(crate::specs::Names::source_name, crate::specs::Names::object_name))]
+    pub fn names_of(
+        self,
+        object: DwarfObject,
+        unit: &PackagedUnit<'a>,
+    ) -> (Option<&'a [u8]>, Option<&'a [u8]>)
+        ensures source { option_copied result.0 ≡ source_name self.entry.order
+            self.entry.bytes.now object unit.now }
+        ensures name { option_copied result.1 ≡ object_name self.entry.order
+            self.entry.bytes.now object unit.now }
     {
-        let die = die_of(self.order, object, unit)?;
-        let attribute = source_in(&die)?;
-        self.string_of(unit, &attribute)
+        match die_of(self.order, object, unit) {
+            Some(die) => (
+                self.string_of(unit, source_in(&die)),
+                self.string_of(unit, object_in(&die)),
+            ),
+            None => (None, None),
+        }
     }
 
-    /// The name of a unit's object: `DW_AT_dwo_name` of its unit DIE, or `DW_AT_GNU_dwo_name`.
-    #[tactic(auto, unfolding(crate::specs::Names::object_name))]
-    pub fn object_name(self, object: DwarfObject, unit: &PackagedUnit<'a>) -> Option<&'a [u8]>
-        ensures { option_copied result ≡ spec.object_name self.entry.order self.entry.bytes.now
-            object unit.now }
-    {
-        let die = die_of(self.order, object, unit)?;
-        let attribute = object_in(&die)?;
-        self.string_of(unit, &attribute)
-    }
-
-    /// The string of an attribute of a unit.
+    /// The string of an attribute of a unit, where there is one.
     #[tactic(auto, unfolding(crate::specs::Names::string_of))]
     fn string_of(
         self,
         unit: &PackagedUnit<'a>,
-        attribute: &Attribute<SliceReader<'a>>,
+        attribute: Option<Attribute<SliceReader<'a>>>,
     ) -> Option<&'a [u8]>
-        ensures { option_copied result ≡ string_of self.entry.order self.entry.bytes.now unit.now
-            (attribute_of ⟦<SliceReader<'a> as Reader>⟧.input attribute.now) }
+        ensures { option_copied result ≡ option_and_then
+            (string_of self.entry.order self.entry.bytes.now unit.now)
+            (option_map (attribute_of ⟦<SliceReader<'a> as Reader>⟧.input) attribute.entry) }
     {
+        let attribute = attribute?;
         if attribute.form == DW_FORM_STRING {
             return short_string_at(attribute.value.slice(), 0);
         }
-        let i = string_number(attribute)?;
+        let i = string_number(&attribute)?;
         self.numbered_string(unit, i)
     }
 
@@ -149,23 +152,11 @@ fn die_of<'a>(
 ) -> Option<RootEntry<SliceReader<'a>>>
     ensures { root_of ⟦<SliceReader<'a> as Reader>⟧.input result ≡ die_of order object unit.now }
 {
-    let place = place_of(unit, object);
-    let header = first_unit(place, SliceReader::new(unit.bytes(), order))?;
+    let header = header_of(unit, object, order).ok()?;
     let abbreviations = SliceReader::new(unit.section(SectionKind::Abbrev), order);
     match unit_die(abbreviations, &header) {
         Ok(die) => die,
         Err(_) => None,
-    }
-}
-
-/// The first unit in some bytes.
-fn first_unit<R: Reader>(place: UnitSection, bytes: R) -> Option<UnitHeader<R>>
-    ensures { option_map (unit_of R.input) result ≡ first_of (units place (R.input bytes)) }
-{
-    match UnitHeaders::new(bytes, place).next() {
-        Some(Ok(header)) => Some(header),
-        Some(Err(_)) => None,
-        None => None,
     }
 }
 
