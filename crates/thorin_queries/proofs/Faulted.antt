@@ -8,6 +8,8 @@ use Rattle.thorin_queries.specs.Ends.{fault_of}
 use Rattle.thorin_queries.specs.Finding.{string_count}
 use Rattle.thorin_queries.specs.Faults.{string_of}
 use Rattle.std.specs.Prelude.{Bool, true, false, ◌&&◌, Option, Some, None, is_none, Result, Ok, Err}
+use Rattle.std.specs.Prelude.{IfOk, String, string_bytes}
+use Rattle.std.specs.Global.{Global}
 use Rattle.std.specs.Fmt.{decimal}
 use Rattle.dwp_base.specs.declared.section.SectionKind.{SectionKind}
 use Rattle.dwp_base.specs.declared.section.SectionKind.TheVariants.{Abbrev}
@@ -15,9 +17,11 @@ use Rattle.dwp_bytes.specs.declared.fault.ReadError.{ReadError}
 use Rattle.dwp_index.specs.Index.{range_in}
 use Rattle.dwp_index.specs.Package.{Package, FoundUnit, found}
 use Rattle.dwp_index.specs.declared.fault.PackageError.{PackageError}
+use Rattle.dwp_index.specs.declared.fault.PackageError.TheVariants.{Range, Elf, Index, Unit}
 use Rattle.dwp_index.specs.declared.units.UnitEntry.{UnitEntry}
 use Rattle.dwp_table.specs.declared.object.DwarfObject.{DwarfObject}
-use Rattle.thorin_queries.specs.Faults.{fault_line, IsSomeFault, TellsOwn, TellsFound, string_text}
+use Rattle.thorin_queries.specs.Faults.{fault_line, TellsText, TellsOwn, TellsFound, string_text}
+use Rattle.thorin_queries.specs.Faults.{IsUnreadText}
 use Rattle.thorin_queries.specs.Faults.{TellsString, row_line, AreRows, broken_line, IsBroken}
 use Rattle.thorin_queries.specs.Faults.{TellsUnit, IsUnread, TellsStrings, TellsStringsOf}
 use Rattle.thorin_queries.specs.Faults.{TellsNumbered, TellsItself, TellsInRow, IsOwnText, is_bare}
@@ -30,36 +34,54 @@ use Rattle.thorin_queries.specs.declared.output.Failure.{Failure}
 use Rattle.thorin_queries.proofs.Told.{none_told, tells_as, rows_more, then_or}
 use Rattle.thorin_queries.proofs.Told.{told_then, for_each_more}
 
+unread_line : (object : DwarfObject) (cause : PackageError) (text : List ℕ)
+    → IsUnreadText cause text → (lines : List (List ℕ)) → IsLine (fault_line object text) lines
+    → IsUnread object cause lines
+unread_line object (Range kind) text is lines l =
+    subst (λ x. IsLine (fault_line object x) lines) is l
+unread_line object (Elf e) text is lines l = (text, l)
+unread_line object (Index e) text is lines l = (text, l)
+unread_line object (Unit e) text is lines l = (text, l)
+
 module _ (object : DwarfObject) (a : Option (List ℕ)) (held : List ℕ) (b : Option (List ℕ))
     (left : List ℕ) (result : Result ℕ Failure) where
-  pub some_fault : (text : List ℕ) → Tells (IsLine (fault_line object text)) a held b left result
-      → Tells (IsSomeFault object) a held b left result
-  some_fault text h = tells_as (IsLine (fault_line object text)) (IsSomeFault object) a held b left
-      result (λ lines e. (text, e)) h
+  -- a line with a text of which something holds
+  told_as : {E : Type 0} (P : List ℕ → Type 0) (Q : List (List ℕ) → Type 0)
+      (text : Result (String Global) E)
+      → ((told : List ℕ) → P told → (lines : List (List ℕ)) → IsLine (fault_line object told) lines
+      → Q lines)
+      → IfOk text (λ t. P (string_bytes t)) → TellsText object text a held b left result
+      → Tells Q a held b left result
+  told_as P Q (Ok t) goes is h = tells_as (IsLine (fault_line object (string_bytes t))) Q a held b
+      left result (goes (string_bytes t) is) h
+  told_as P Q (Err e) goes is h = subst (Tells Q a held b left) (sym h.0) (tt, h.1)
 
-  pub told_text : (text told : List ℕ) → text ≡ told
-      → Tells (IsLine (fault_line object text)) a held b left result
+  pub told_text : {E : Type 0} (told : List ℕ) (text : Result (String Global) E)
+      → IfOk text (λ t. string_bytes t ≡ told) → TellsText object text a held b left result
       → Tells (IsLine (fault_line object told)) a held b left result
-  told_text text told e h =
-      subst (λ t. Tells (IsLine (fault_line object t)) a held b left result) e h
+  told_text told text is h = told_as (λ t. t ≡ told) (IsLine (fault_line object told)) text
+      (λ t e lines l. subst (λ x. IsLine (fault_line object x) lines) e l) is h
 
-  pub own_fault : (text : List ℕ) → IsOwnText text
-      → Tells (IsLine (fault_line object text)) a held b left result
+  pub own_fault : {E : Type 0} (text : Result (String Global) E)
+      → IfOk text (λ t. IsOwnText (string_bytes t)) → TellsText object text a held b left result
       → Tells (TellsOwn object) a held b left result
-  own_fault text is h = tells_as (IsLine (fault_line object text)) (TellsOwn object) a held b left
-      result (λ lines l. inr (record { text = text; is_text = is; line = l })) h
+  own_fault text is h = told_as IsOwnText (TellsOwn object) text
+      (λ t own lines l. inr (record { text = t; is_text = own; line = l })) is h
 
-  pub nameless : Tells (IsLine (fault_line object (codes "it has no identifier of its own"))) a
-      held b left result
-      → Tells (TellsOwn object) a held b left result
-  nameless h = own_fault (codes "it has no identifier of its own") (inl refl) h
+  pub unread : {E : Type 0} (cause : PackageError) (text : Result (String Global) E)
+      → IfOk text (λ t. IsUnreadText cause (string_bytes t))
+      → TellsText object text a held b left result
+      → Tells (IsUnread object cause) a held b left result
+  unread cause text is h =
+      told_as (IsUnreadText cause) (IsUnread object cause) text (unread_line object cause) is h
 
-  pub told_string : (i : ℕ) (fault : ReadError) (text cause told : List ℕ) → text ≡ told
-      → told ≡ string_text i cause → Tells (IsLine (fault_line object text)) a held b left result
+  pub told_string : {E : Type 0} (i : ℕ) (fault : ReadError) (text : Result (String Global) E)
+      → IfOk text (λ t. (cause : List ℕ) × (string_bytes t ≡ string_text i cause))
+      → TellsText object text a held b left result
       → Tells (TellsString object i (Err fault)) a held b left result
-  told_string i fault text cause told e f h =
-      tells_as (IsLine (fault_line object (string_text i cause))) (TellsString object i (Err fault))
-      a held b left result (λ lines l. (cause, l)) (told_text text (string_text i cause) (e ∙ f) h)
+  told_string i fault text is h = told_as (λ t. (cause : List ℕ) × (t ≡ string_text i cause))
+      (TellsString object i (Err fault)) text
+      (λ t made lines l. (made.0, subst (λ x. IsLine (fault_line object x) lines) made.1 l)) is h
 
 pub own_none : (object : DwarfObject) (a : Option (List ℕ)) (held : List ℕ)
     → Told (TellsOwn object) a held a held 0
@@ -67,13 +89,16 @@ own_none object a held = none_told (TellsOwn object) (inl refl) a held
 
 module _ (pack : Package) (object : DwarfObject) (unit : FoundUnit) (a : Option (List ℕ))
     (held : List ℕ) (b : Option (List ℕ)) (left : List ℕ) (result : Result ℕ Failure) where
-  pub overlapped : (kind : SectionKind) (other : DwarfObject) → IsClash pack unit kind other
-      → Tells (IsLine (fault_line object (overlap_text kind other))) a held b left result
+  pub overlapped : {E : Type 0} (kind : SectionKind) (other : DwarfObject)
+      (text : Result (String Global) E) → IsClash pack unit kind other
+      → IfOk text (λ t. string_bytes t ≡ overlap_text kind other)
+      → TellsText object text a held b left result
       → Tells (TellsItself pack object unit) a held b left result
-  overlapped kind other clash h =
+  overlapped kind other text clash made h =
       tells_as (IsLine (fault_line object (overlap_text kind other))) (TellsItself pack object unit)
       a held b left result
-      (λ lines l. inl (record { kind = kind; other = other; clash = clash; line = l })) h
+      (λ lines l. inl (record { kind = kind; other = other; clash = clash; line = l }))
+      (told_text object a held b left result (overlap_text kind other) text made h)
 
   pub of_its_own : Tells (TellsOwn object) a held b left result
       → Tells (TellsItself pack object unit) a held b left result
@@ -106,13 +131,22 @@ module _ (pack : Package) (entry : UnitEntry) (unit : FoundUnit) (a : Option (Li
   in_whole_row has bare some is e row h =
       let so : false ≡ is_bare pack unit = cc in in_row false so row h
 
-  pub other_row : unit.number ≢ entry.row
-      → Tells (IsLine (fault_line entry.object (codes "found in row " ++ decimal unit.number))) a
-      held b left result
+  pub other_row : {E : Type 0} (text : Result (String Global) E) → unit.number ≢ entry.row
+      → IfOk text (λ t. string_bytes t ≡ codes "found in row " ++ decimal unit.number)
+      → TellsText entry.object text a held b left result
       → Tells (TellsFound pack entry unit) a held b left result
-  other_row e h =
+  other_row text e made h =
       tells_as (IsLine (fault_line entry.object (codes "found in row " ++ decimal unit.number)))
-      (TellsFound pack entry unit) a held b left result (λ lines l. inl (e, l)) h
+      (TellsFound pack entry unit) a held b left result (λ lines l. inl (e, l))
+      (told_text entry.object a held b left result (codes "found in row " ++ decimal unit.number)
+      text made h)
+
+-- what is said of an identifier of its own
+pub is_own_text : {E : Type 0} (text : Result (String Global) E) (rest : List ℕ)
+    → IfOk text (λ t. string_bytes t ≡ codes "its own identifier " ++ rest)
+    → IfOk text (λ t. IsOwnText (string_bytes t))
+is_own_text (Ok t) rest e = inr (rest, e)
+is_own_text (Err cause) rest e = tt
 
 -- ---- rows
 

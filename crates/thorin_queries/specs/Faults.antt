@@ -1,8 +1,9 @@
 -- The faults of a package that `check` tells of, each on a line.
 use Rattle.std.specs.Prelude.{◌≡◌, ◌≢◌, ◌⊎◌, ℕ, Bool, true, false, not, ◌&&◌, ◌==◌, List, [], ◌∷◌}
 use Rattle.std.specs.Prelude.{◌++◌, codes, map, length, Option, Some, None, is_none, Result, Ok}
-use Rattle.std.specs.Prelude.{Err}
+use Rattle.std.specs.Prelude.{Err, String, string_bytes}
 use Rattle.std.specs.Fmt.{decimal}
+use Rattle.std.specs.Global.{Global}
 use Rattle.std.specs.List.{flat_map, range_with_len}
 use Rattle.dwp_base.specs.Sections.{name_of}
 use Rattle.dwp_base.specs.declared.section.SectionKind.{SectionKind}
@@ -23,8 +24,9 @@ use Rattle.thorin_queries.specs.Lines.{hex16, line_end, short_kind}
 use Rattle.thorin_queries.specs.Overlaps.{IsClash, overlap_text}
 use Rattle.thorin_queries.specs.Shown.{shown}
 use Rattle.thorin_queries.specs.Telling.{Grows, IsOfPrinting, Told, IsNone, IsLine}
-use Rattle.thorin_queries.specs.Telling.{ForEach}
+use Rattle.thorin_queries.specs.Telling.{ForEach, Tells}
 use Rattle.thorin_queries.specs.declared.output.Failure.{Failure}
+use Rattle.thorin_queries.specs.declared.output.Failure.TheVariants as failures
 use Rattle.thorin_words.specs.Printed.{printed}
 
 -- ---- units
@@ -35,6 +37,15 @@ fault_line object text =
     short_kind object ++ (codes " 0x" ++ (hex16 (identifier_of object)
     ++ (codes ": " ++ (text ++ line_end))))
 
+-- such a line was told, with a text that was made; or there was no memory for that
+abbrev pub TellsText : {E : Type 0} → DwarfObject → Result (String Global) E
+    → (old : Option (List ℕ)) → (held : List ℕ) → (new : Option (List ℕ)) → (left : List ℕ)
+    → Result ℕ Failure → Type 0
+TellsText object (Ok text) old held new left result =
+    Tells (IsLine (fault_line object (string_bytes text))) old held new left result
+TellsText object (Err cause) old held new left result =
+    (result ≡ Err failures.Memory) × Grows old new
+
 -- such a line, with the text of an error
 abbrev pub IsSomeFault : DwarfObject → List (List ℕ) → Type 0
 IsSomeFault object lines = (text : List ℕ) × IsLine (fault_line object text) lines
@@ -44,6 +55,12 @@ abbrev pub IsUnread : DwarfObject → PackageError → List (List ℕ) → Type 
 IsUnread object (Range kind) lines = IsLine (fault_line object
     (codes "its range of " ++ (name_of kind ++ codes " is outside the section"))) lines
 IsUnread object _ lines = IsSomeFault object lines
+
+-- the same as a text
+abbrev pub IsUnreadText : PackageError → List ℕ → Type 0
+IsUnreadText (Range kind) text =
+    text ≡ codes "its range of " ++ (name_of kind ++ codes " is outside the section")
+IsUnreadText _ text = Unit {0}
 
 -- what may be wrong with the identifier that a unit's own bytes give: there is none, or it is
 -- another, or can't be read

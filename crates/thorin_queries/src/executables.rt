@@ -6,12 +6,12 @@ ghost use Rattle.thorin_executable.specs.Skeletons.{skeletons_by};
 ghost use Rattle.thorin_faults.specs.declared.fault.Error.TheVariants.{Memory};
 ghost use Rattle.thorin_queries.specs.Checking.{IsOfChecking, IsOfReading, TellsExecutables};
 ghost use Rattle.thorin_queries.specs.Checking.{TellsExecutable, TellsTaken};
-ghost use Rattle.thorin_queries.specs.Faults.{TellsListed, fault_line, missing_text};
+ghost use Rattle.thorin_queries.specs.Faults.{TellsListed, missing_text};
 ghost use Rattle.thorin_queries.specs.Faults.{missing_lines};
 ghost use Rattle.thorin_queries.specs.Faults.{broken_line, IsBroken};
 ghost use Rattle.thorin_queries.specs.Telling.{Tells, TellsOr, IsLine, Is};
 
-use crate::faults::{pass_on, tell, with_rest};
+use crate::faults::{pass_on, tell_text, with_rest};
 use crate::files::{FileReader, read_named};
 use crate::input::plain_of;
 use crate::output::Failure;
@@ -212,7 +212,6 @@ fn check_skeletons<O: Write>(
 
 /// A unit that an executable names is in the package; what a slot names and can't be read was told
 /// with its unit. Answers the number of faults.
-#[tactic(auto, using(crate::proofs::Skeletons::missing_none, crate::proofs::Skeletons::missing_some, crate::proofs::Skeletons::missing_unread))]
 fn check_skeleton<O: Write>(
     pack: &PackageFile<'_>,
     executable: &str,
@@ -226,31 +225,17 @@ fn check_skeleton<O: Write>(
         (string_bytes waiting.new) result }
 {
     match pack.find(object) {
-        Ok(None) => tell_missing(object, executable, path, waiting, out),
+        Ok(None) => {
+            let text = missing_text(*waiting.allocator(), executable, path);
+            tell_text(object, text, waiting, out)
+        }
         Ok(Some(_)) => Ok(0),
         Err(_) => Ok(0),
     }
 }
 
-/// Tells that the package lacks a unit that an executable names, and the path of its object.
-/// Answers the number of faults, 1.
-#[tactic(auto, using(crate::proofs::Faulted::told_text, crate::proofs::Told::none_grown))]
-fn tell_missing<O: Write>(
-    object: DwarfObject,
-    executable: &str,
-    path: &str,
-    waiting: &mut String,
-    out: &mut O,
-) -> Result<u64, Failure>
-    ensures { Tells (IsLine (fault_line object (missing_text executable.now path.now))) (O.contents out.old)
-        (string_bytes waiting.old) (O.contents out.new) (string_bytes waiting.new) result }
-{
-    match missing_text(*waiting.allocator(), executable, path) {
-        Ok(text) => tell(object, text.as_str(), waiting, out),
-        Err(_) => Err(Failure::Memory),
-    }
-}
-
+/// What is told of a unit that the package lacks: the executable that names it, and the path of its
+/// object.
 fn missing_text(alloc: Global, executable: &str, path: &str) -> Result<String, AllocError>
     ensures { IfOk result (λ text. string_bytes text ≡ missing_text executable.now path.now) }
 {

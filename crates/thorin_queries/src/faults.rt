@@ -2,7 +2,7 @@
 
 ghost use Rattle.std.specs.Prelude.{◌≡◌, ◌++◌, OnOk, string_bytes};
 ghost use Rattle.thorin_queries.specs.Telling.{Tells, Passes, PassesOne, IsLine, IsSum};
-ghost use Rattle.thorin_queries.specs.Faults.{fault_line};
+ghost use Rattle.thorin_queries.specs.Faults.{fault_line, TellsText};
 
 use crate::finding::short_kind;
 use crate::output::{Failure, print};
@@ -66,6 +66,22 @@ pub(crate) fn tell<O: Write>(
 {
     match put_fault(object, text, waiting) {
         Ok(()) => pass_on(waiting, out),
+        Err(_) => Err(Failure::Memory),
+    }
+}
+
+/// Tells a fault of a unit, where there is memory for its text. Answers the number of faults, 1.
+pub(crate) fn tell_text<O: Write>(
+    object: DwarfObject,
+    text: Result<String, AllocError>,
+    waiting: &mut String,
+    out: &mut O,
+) -> Result<u64, Failure>
+    ensures { TellsText object text (O.contents out.old) (string_bytes waiting.old)
+        (O.contents out.new) (string_bytes waiting.new) result }
+{
+    match text {
+        Ok(text) => tell(object, text.as_str(), waiting, out),
         Err(_) => Err(Failure::Memory),
     }
 }

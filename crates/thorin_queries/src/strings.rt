@@ -9,7 +9,7 @@ ghost use Rattle.thorin_queries.specs.Faults.{string_of, string_text};
 ghost use Rattle.thorin_queries.specs.Telling.{Tells, ForEach};
 
 use crate::ends::Ends;
-use crate::faults::tell;
+use crate::faults::tell_text;
 use crate::finding::string_count;
 use crate::output::Failure;
 use dwp_bytes::{Format, ReadError};
@@ -178,7 +178,7 @@ fn check_each_string<O: Write>(
 }
 
 /// Checks a string of a unit: it can be read. Answers the number of faults.
-#[tactic(auto, using(crate::proofs::Faulted::string_fine, crate::proofs::Faulted::string_faulty))]
+#[tactic(auto)]
 fn check_string<O: Write>(
     ends: Ends,
     object: DwarfObject,
@@ -193,25 +193,7 @@ fn check_string<O: Write>(
 {
     match ends.fault_of(unit, i) {
         None => Ok(0),
-        Some(fault) => tell_string(object, i, fault, waiting, out),
-    }
-}
-
-/// Tells that a string can't be read. Answers the number of faults, 1.
-#[tactic(auto, using(crate::proofs::Faulted::told_string, crate::proofs::Told::none_grown))]
-fn tell_string<O: Write>(
-    object: DwarfObject,
-    i: u64,
-    fault: ReadError,
-    waiting: &mut String,
-    out: &mut O,
-) -> Result<u64, Failure>
-    ensures { Tells (TellsString object i (Err fault)) (O.contents out.old)
-        (string_bytes waiting.old) (O.contents out.new) (string_bytes waiting.new) result }
-{
-    match string_text(i, fault, waiting) {
-        Ok(text) => tell(object, text.as_str(), waiting, out),
-        Err(_) => Err(Failure::Memory),
+        Some(fault) => tell_text(object, string_text(i, fault, waiting), waiting, out),
     }
 }
 

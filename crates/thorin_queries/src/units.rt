@@ -2,21 +2,19 @@
 
 ghost use Rattle.std.specs.Prelude.{◌≡◌, ◌++◌, ◌&&◌, codes, IfOk, IfSome, is_none, string_bytes};
 ghost use Rattle.std.specs.Fmt.{decimal};
-ghost use Rattle.dwp_base.specs.Sections.{name_of};
 ghost use Rattle.dwp_elf_read.specs.View.{elf};
 ghost use Rattle.dwp_index.specs.Index.{range_in};
-ghost use Rattle.dwp_index.specs.declared.fault.PackageError.TheVariants as faults;
 ghost use Rattle.thorin_queries.specs.Checking.{TellsUnits};
-ghost use Rattle.thorin_queries.specs.Faults.{TellsUnit, TellsFound, TellsOwn, IsUnread};
-ghost use Rattle.thorin_queries.specs.Faults.{IsSomeFault, fault_line, TellsItself, IsOwnText};
+ghost use Rattle.thorin_queries.specs.Faults.{TellsUnit, TellsFound, TellsOwn};
+ghost use Rattle.thorin_queries.specs.Faults.{TellsItself, IsOwnText, IsUnreadText};
 ghost use Rattle.thorin_queries.specs.Faults.{has_abbreviations};
 ghost use Rattle.thorin_queries.specs.Indexes.{HasIndexes};
 ghost use Rattle.thorin_queries.specs.Overlaps.{IsClash, overlap_text};
-ghost use Rattle.thorin_queries.specs.Telling.{Tells, ForEach, IsLine};
+ghost use Rattle.thorin_queries.specs.Telling.{Tells, ForEach};
 
 use crate::abbreviations::{Own, Remembered};
 use crate::ends::Ends;
-use crate::faults::{tell, with_rest};
+use crate::faults::{tell, tell_text, with_rest};
 use crate::finding::short_kind;
 use crate::input::{contents_of, strings_of};
 use crate::output::Failure;
@@ -65,23 +63,9 @@ fn check_all<O: Write>(
         (string_bytes waiting.old) (O.contents out.new) (string_bytes waiting.new) result }
 {
     let ends = Ends::of(strings_of(file));
-    let mut strings = Strings::new(
-        alloc,
-        ends,
-        contents_of(file, SectionKind::StrOffsets).len(),
-    );
-    let section = contents_of(file, SectionKind::Abbrev);
-    let mut abbreviations = Remembered::new(alloc, file.endianness(), section);
-    match check_each(
-        pack,
-        has_abbreviations(file),
-        &mut abbreviations,
-        entries,
-        overlaps,
-        &mut strings,
-        waiting,
-        out,
-    ) {
+    let size = contents_of(file, SectionKind::StrOffsets).len();
+    let mut strings = Strings::new(alloc, ends, size);
+    match check_own_bytes(pack, file, entries, overlaps, &mut strings, waiting, out) {
         Ok(of_units) => with_rest(
             of_units,
             check_strings(pack, ends, &mut strings.unread, waiting, out),
@@ -92,6 +76,35 @@ fn check_all<O: Write>(
 
 /// Checks each unit that a slot names, and gathers those whose strings are still to be checked.
 /// Answers the number of faults.
+fn check_own_bytes<O: Write>(
+    pack: &PackageFile<'_>,
+    file: &ElfFile<'_>,
+    entries: &[UnitEntry],
+    overlaps: &Overlaps,
+    strings: &mut Strings,
+    waiting: &mut String,
+    out: &mut O,
+) -> Result<u64, Failure>
+    requires { HasIndexes (elf file.now) pack.now }
+    ensures { Tells (ForEach (TellsUnit pack.now) entries.now) (O.contents out.old)
+        (string_bytes waiting.old) (O.contents out.new) (string_bytes waiting.new) result }
+{
+    let section = contents_of(file, SectionKind::Abbrev);
+    let mut abbreviations = Remembered::new(*waiting.allocator(), file.endianness(), section);
+    let has_any = has_abbreviations(file);
+    check_each(
+        pack,
+        has_any,
+        &mut abbreviations,
+        entries,
+        overlaps,
+        strings,
+        waiting,
+        out,
+    )
+}
+
+/// The same with what is remembered of their abbreviations.
 fn check_each<'a, O: Write>(
     pack: &PackageFile<'a>,
     has_any: bool,
@@ -127,7 +140,7 @@ fn check_each<'a, O: Write>(
 }
 
 /// Checks the unit that a slot names. Answers the number of faults.
-#[tactic(auto, using(crate::proofs::Faulted::unit_none, crate::proofs::Faulted::unit_some, crate::proofs::Faulted::unit_unread))]
+#[tactic(auto)]
 fn check_entry<'a, O: Write>(
     pack: &PackageFile<'a>,
     has_any: bool,
@@ -155,13 +168,16 @@ fn check_entry<'a, O: Write>(
             out,
         ),
         Ok(None) => tell(entry.object, "not found under its identifier", waiting, out),
-        Err(fault) => tell_unread(entry.object, fault, waiting, out),
+        Err(fault) => {
+            let text = unread_text(*waiting.allocator(), fault);
+            tell_text(entry.object, text, waiting, out)
+        }
     }
 }
 
 /// Checks the unit that is found under the identifier of a slot: it is that of the slot's row, and
 /// this row has abbreviations where the package has some. Answers the number of faults.
-#[tactic(auto, using(crate::proofs::Faulted::in_bare_row, crate::proofs::Faulted::in_whole_row, crate::proofs::Faulted::other_row))]
+#[tactic(auto)]
 fn check_found<'a, O: Write>(
     pack: &PackageFile<'a>,
     has_any: bool,
@@ -177,8 +193,10 @@ fn check_found<'a, O: Write>(
     ensures { Tells (TellsFound pack.now entry unit.now) (O.contents out.old)
         (string_bytes waiting.old) (O.contents out.new) (string_bytes waiting.new) result }
 {
-    if unit.row() != entry.row {
-        return tell_row(entry.object, unit.row(), waiting, out);
+    let row = unit.row();
+    if row != entry.row {
+        let text = row_text(*waiting.allocator(), row);
+        return tell_text(entry.object, text, waiting, out);
     }
     if is_bare(has_any, unit) {
         return tell(entry.object, "its row has no abbreviations", waiting, out);
@@ -204,7 +222,7 @@ fn is_bare(has_any: bool, unit: &PackagedUnit<'_>) -> bool
 
 /// Checks a unit by its ranges and its own bytes: none of its ranges overlaps that of another, and
 /// its own identifier is that of the slot. Answers the number of faults.
-#[tactic(auto, using(crate::proofs::Faulted::overlapped, crate::proofs::Faulted::of_its_own))]
+#[tactic(auto)]
 fn check_itself<'a, O: Write>(
     pack: &PackageFile<'a>,
     abbreviations: &mut Remembered<'a>,
@@ -219,7 +237,10 @@ fn check_itself<'a, O: Write>(
         (string_bytes waiting.old) (O.contents out.new) (string_bytes waiting.new) result }
 {
     match clash_of(pack, unit, shares.clash) {
-        Some((kind, other)) => tell_overlap(object, kind, other, waiting, out),
+        Some((kind, other)) => {
+            let text = overlap_text(*waiting.allocator(), kind, other);
+            tell_text(object, text, waiting, out)
+        }
         None => check_own(
             abbreviations,
             object,
@@ -252,7 +273,7 @@ fn clash_of(pack: &PackageFile<'_>, unit: &PackagedUnit<'_>, clash: Option<Clash
 
 /// Checks the identifier that a unit's own bytes give, and gathers the unit for the check of its
 /// strings where it is its own. Answers the number of faults.
-#[tactic(auto, using(crate::proofs::Faulted::own_none, crate::proofs::Faulted::nameless, crate::proofs::Told::none_grown))]
+#[tactic(auto)]
 fn check_own<'a, O: Write>(
     abbreviations: &mut Remembered<'a>,
     object: DwarfObject,
@@ -266,64 +287,36 @@ fn check_own<'a, O: Write>(
         (string_bytes waiting.new) result }
 {
     match abbreviations.own(unit, object, has_twin) {
-        Ok(Own::Is(own)) => {
-            if *own == object {
+        Ok(own) => {
+            if is_own(own, object) {
                 match strings.add(unit, object) {
                     Ok(()) => Ok(0),
                     Err(_) => Err(Failure::Memory),
                 }
             } else {
-                tell_other(object, *own, waiting, out)
+                tell_text(object, own_text(*waiting.allocator(), own), waiting, out)
             }
         }
-        Ok(Own::Nameless) => tell(object, "it has no identifier of its own", waiting, out),
-        Ok(Own::Unread(cause)) => tell_own_unread(object, cause.as_str(), waiting, out),
         Err(_) => Err(Failure::Memory),
     }
 }
 
-/// Tells that a unit is found in another row. Answers the number of faults, 1.
-#[tactic(auto, using(crate::proofs::Faulted::told_text, crate::proofs::Told::none_grown))]
-fn tell_row<O: Write>(
-    object: DwarfObject,
-    row: u32,
-    waiting: &mut String,
-    out: &mut O,
-) -> Result<u64, Failure>
-    ensures { Tells (IsLine (fault_line object (codes "found in row " ++ decimal row)))
-        (O.contents out.old) (string_bytes waiting.old) (O.contents out.new)
-        (string_bytes waiting.new) result }
-{
-    match row_text(*waiting.allocator(), row) {
-        Ok(text) => tell(object, text.as_str(), waiting, out),
-        Err(_) => Err(Failure::Memory),
+/// Whether a unit's own identifier is this one.
+fn is_own(own: &Own, object: DwarfObject) -> bool {
+    match own {
+        Own::Is(own) => *own == object,
+        _ => false,
     }
 }
 
+/// What is told of a unit that is found in another row.
 fn row_text(alloc: Global, row: u32) -> Result<String, AllocError>
     ensures { IfOk result (λ text. string_bytes text ≡ codes "found in row " ++ decimal row) }
 {
     format!(in alloc; "found in row {row}")
 }
 
-/// Tells that a unit's range of a section overlaps that of another. Answers the number of faults, 1.
-#[tactic(auto, using(crate::proofs::Faulted::told_text, crate::proofs::Told::none_grown))]
-fn tell_overlap<O: Write>(
-    object: DwarfObject,
-    kind: SectionKind,
-    other: DwarfObject,
-    waiting: &mut String,
-    out: &mut O,
-) -> Result<u64, Failure>
-    ensures { Tells (IsLine (fault_line object (overlap_text kind other))) (O.contents out.old)
-        (string_bytes waiting.old) (O.contents out.new) (string_bytes waiting.new) result }
-{
-    match overlap_text(*waiting.allocator(), kind, other) {
-        Ok(text) => tell(object, text.as_str(), waiting, out),
-        Err(_) => Err(Failure::Memory),
-    }
-}
-
+/// What is told of a unit whose range of a section overlaps that of another.
 #[tactic(auto, using(crate::proofs::Hex::hex16_written))]
 fn overlap_text(alloc: Global, kind: SectionKind, other: DwarfObject) -> Result<String, AllocError>
     ensures { IfOk result (λ text. string_bytes text ≡ overlap_text kind other) }
@@ -334,123 +327,30 @@ fn overlap_text(alloc: Global, kind: SectionKind, other: DwarfObject) -> Result<
     format!(in alloc; "its range of {name} overlaps that of {other_kind} 0x{id:016x}")
 }
 
-/// Tells that a unit has the identifier of another. Answers the number of faults, 1.
-#[tactic(auto, using(crate::proofs::Faulted::own_fault, crate::proofs::Told::none_grown))]
-fn tell_other<O: Write>(
-    object: DwarfObject,
-    own: DwarfObject,
-    waiting: &mut String,
-    out: &mut O,
-) -> Result<u64, Failure>
-    ensures { Tells (TellsOwn object) (O.contents out.old) (string_bytes waiting.old)
-        (O.contents out.new) (string_bytes waiting.new) result }
+/// What is told of a unit whose own identifier isn't the one that it is found under.
+fn own_text(alloc: Global, own: &Own) -> Result<String, AllocError>
+    ensures { IfOk result (λ text. IsOwnText (string_bytes text)) }
 {
-    match other_text(*waiting.allocator(), own) {
-        Ok(text) => tell(object, text.as_str(), waiting, out),
-        Err(_) => Err(Failure::Memory),
+    match own {
+        Own::Is(own) => {
+            let kind = short_kind(*own);
+            let id = own.index();
+            format!(in alloc; "its own identifier is {kind} 0x{id:016x}")
+        }
+        Own::Nameless => format!(in alloc; "it has no identifier of its own"),
+        Own::Unread(cause) => format!(in alloc; "its own identifier can't be read: {cause}"),
     }
 }
 
-fn other_text(alloc: Global, own: DwarfObject) -> Result<String, AllocError>
-    ensures { IfOk result (λ text. IsOwnText (string_bytes text)) }
-{
-    let kind = short_kind(own);
-    let id = own.index();
-    let rest = format!(in alloc; "is {kind} 0x{id:016x}")?;
-    own_text(alloc, rest.as_str())
-}
-
-/// Tells that a unit's own identifier can't be read. Answers the number of faults, 1.
-#[tactic(auto, using(crate::proofs::Faulted::own_fault, crate::proofs::Told::none_grown))]
-fn tell_own_unread<O: Write>(
-    object: DwarfObject,
-    cause: &str,
-    waiting: &mut String,
-    out: &mut O,
-) -> Result<u64, Failure>
-    ensures { Tells (TellsOwn object) (O.contents out.old) (string_bytes waiting.old)
-        (O.contents out.new) (string_bytes waiting.new) result }
-{
-    match unread_text(*waiting.allocator(), cause) {
-        Ok(text) => tell(object, text.as_str(), waiting, out),
-        Err(_) => Err(Failure::Memory),
-    }
-}
-
-fn unread_text(alloc: Global, cause: &str) -> Result<String, AllocError>
-    ensures { IfOk result (λ text. IsOwnText (string_bytes text)) }
-{
-    let rest = format!(in alloc; "can't be read: {cause}")?;
-    own_text(alloc, rest.as_str())
-}
-
-fn own_text(alloc: Global, rest: &str) -> Result<String, AllocError>
-    ensures { IfOk result (λ text. IsOwnText (string_bytes text)) }
-{
-    let text = format!(in alloc; "its own identifier {rest}")?;
-    Ok(text)
-}
-
-/// Tells that what the index says of a unit can't be read. Answers the number of faults, 1.
-fn tell_unread<O: Write>(
-    object: DwarfObject,
-    fault: PackageError,
-    waiting: &mut String,
-    out: &mut O,
-) -> Result<u64, Failure>
-    ensures { Tells (IsUnread object fault) (O.contents out.old) (string_bytes waiting.old)
-        (O.contents out.new) (string_bytes waiting.new) result }
+/// What is told where what the index says of a unit can't be read.
+fn unread_text(alloc: Global, fault: PackageError) -> Result<String, AllocError>
+    ensures { IfOk result (λ text. IsUnreadText fault (string_bytes text)) }
 {
     match fault {
-        PackageError::Range(kind) => tell_outside(object, kind, waiting, out),
-        PackageError::Elf(_) => tell_fault(object, fault, waiting, out),
-        PackageError::Index(_) => tell_fault(object, fault, waiting, out),
-        PackageError::Unit(_) => tell_fault(object, fault, waiting, out),
+        PackageError::Range(kind) => {
+            let name = kind.name();
+            format!(in alloc; "its range of {name} is outside the section")
+        }
+        _ => format!(in alloc; "{fault}"),
     }
-}
-
-/// Tells that a unit's range is outside its section. Answers the number of faults, 1.
-#[tactic(auto, using(crate::proofs::Faulted::told_text, crate::proofs::Told::none_grown))]
-fn tell_outside<O: Write>(
-    object: DwarfObject,
-    kind: SectionKind,
-    waiting: &mut String,
-    out: &mut O,
-) -> Result<u64, Failure>
-    ensures { Tells (IsUnread object (faults.Range kind)) (O.contents out.old)
-        (string_bytes waiting.old) (O.contents out.new) (string_bytes waiting.new) result }
-{
-    match outside_text(*waiting.allocator(), kind) {
-        Ok(text) => tell(object, text.as_str(), waiting, out),
-        Err(_) => Err(Failure::Memory),
-    }
-}
-
-fn outside_text(alloc: Global, kind: SectionKind) -> Result<String, AllocError>
-    ensures { IfOk result (λ text. string_bytes text
-        ≡ codes "its range of " ++ (name_of kind ++ codes " is outside the section")) }
-{
-    let name = kind.name();
-    format!(in alloc; "its range of {name} is outside the section")
-}
-
-/// Tells another error of the package reader. Answers the number of faults, 1.
-#[tactic(auto, using(crate::proofs::Faulted::some_fault, crate::proofs::Told::none_grown))]
-fn tell_fault<O: Write>(
-    object: DwarfObject,
-    fault: PackageError,
-    waiting: &mut String,
-    out: &mut O,
-) -> Result<u64, Failure>
-    ensures { Tells (IsSomeFault object) (O.contents out.old) (string_bytes waiting.old)
-        (O.contents out.new) (string_bytes waiting.new) result }
-{
-    match fault_text(*waiting.allocator(), fault) {
-        Ok(text) => tell(object, text.as_str(), waiting, out),
-        Err(_) => Err(Failure::Memory),
-    }
-}
-
-fn fault_text(alloc: Global, fault: PackageError) -> Result<String, AllocError> {
-    format!(in alloc; "{fault}")
 }

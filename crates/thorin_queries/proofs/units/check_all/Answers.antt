@@ -13,7 +13,7 @@ pub returns-in-Ok : goal.returns-in-Ok
 returns-in-Ok g c =
     in_turn_or (ForEach (TellsUnit c.args.pack.now) c.args.entries.now)
     (TellsSomeStrings c.args.pack.now) IsOfPrinting (g.O.Write.contents c.args.out.now)
-    (g.O.Write.contents c.check_each.new.out) (g.O.Write.contents c.check_strings.new.out)
-    (string_bytes c.args.waiting.now) (string_bytes c.check_each.new.waiting)
+    (g.O.Write.contents c.check_own_bytes.new.out) (g.O.Write.contents c.check_strings.new.out)
+    (string_bytes c.args.waiting.now) (string_bytes c.check_own_bytes.new.waiting)
     (string_bytes c.check_strings.new.waiting) c.in-Ok.of_units c.check_strings.result
     c.with_rest.result c.with_rest.ensures c.in-Ok.ensures c.check_strings.ensures

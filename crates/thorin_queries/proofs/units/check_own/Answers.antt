@@ -1,0 +1,6 @@
+use Rattle.std.specs.Prelude.{string_bytes}
+use Rattle.thorin_queries.proofs.Faulted.{own_none, own_fault}
+use Rattle.thorin_queries.proofs.units.check_own.Goals as goal
+
+pub returns-in-Ok-add : goal.returns-in-Ok-add
+returns-in-Ok-add g c = own_none c.args.object _ _
