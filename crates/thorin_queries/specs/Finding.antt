@@ -99,17 +99,20 @@ encoding_line object encoding =
     ++ (codes " format " ++ (decimal (width encoding.format)
     ++ (codes " address " ++ (decimal encoding.address_size ++ line_end))))))))
 
--- the line of a range: where it begins in its section, and its size
-abbrev pub range_line : SectionKind → Option Contribution → List ℕ
-range_line kind None = []
-range_line kind (Some range) =
+-- a range, where it begins in its section, and its size: on a line, or in JSON (RFC 8259) by the short
+-- name of its section
+abbrev pub range_text : (as_json : Bool) → SectionKind → Option Contribution → List ℕ
+range_text as_json kind None = []
+range_text false kind (Some range) =
     short_name kind ++ (codes " 0x" ++ (hex range.offset.0
     ++ (codes " 0x" ++ (hex range.size ++ line_end))))
+range_text true kind (Some range) = codes ",\"" ++ (short_name kind ++ (codes "\":{\"offset\":"
+    ++ (decimal range.offset.0 ++ (codes ",\"size\":" ++ (decimal range.size ++ codes "}")))))
 
--- the lines of a unit's ranges, in the order of columns
-unfoldable pub range_lines : FoundUnit → List ℕ
-range_lines unit =
-    flat_map (λ kind. range_line kind (range_in unit.row kind)) contribution_kinds
+-- a unit's ranges, in the order of columns
+unfoldable pub range_texts : (as_json : Bool) → FoundUnit → List ℕ
+range_texts as_json unit =
+    flat_map (λ kind. range_text as_json kind (range_in unit.row kind)) contribution_kinds
 
 -- how many strings a unit has, by its string offsets
 unfoldable pub string_count : FoundUnit → ℕ
@@ -120,21 +123,7 @@ unfoldable pub count_lines : (strings slots : ℕ) → List ℕ
 count_lines strings slots = (codes "strings " ++ (decimal strings ++ line_end))
     ++ (codes "slots " ++ (decimal slots ++ line_end))
 
--- all that is printed of a unit for which so many slots were looked at
-unfoldable pub unit_text : DwarfObject → FoundUnit → (slots : ℕ) → List ℕ
-unit_text object unit slots = encoding_line object unit.encoding ++ range_lines unit
-    ++ count_lines (string_count unit) slots
-
--- the same as a JSON object (RFC 8259): each range by the short name of its section
-abbrev pub json_range : SectionKind → Option Contribution → List ℕ
-json_range kind None = []
-json_range kind (Some range) = codes ",\"" ++ (short_name kind ++ (codes "\":{\"offset\":"
-    ++ (decimal range.offset.0 ++ (codes ",\"size\":" ++ (decimal range.size ++ codes "}")))))
-
-unfoldable pub json_ranges : FoundUnit → List ℕ
-json_ranges unit =
-    flat_map (λ kind. json_range kind (range_in unit.row kind)) contribution_kinds
-
+-- the beginning of a JSON object, up to the unit's encoding
 unfoldable pub json_encoding : DwarfObject → Encoding → List ℕ
 json_encoding object encoding =
     codes "{\"kind\":\"" ++ (short_kind object
@@ -147,13 +136,18 @@ unfoldable pub json_counts : (strings slots : ℕ) → List ℕ
 json_counts strings slots = codes ",\"strings\":" ++ (decimal strings
     ++ (codes ",\"slots\":" ++ (decimal slots ++ (codes "}" ++ line_end))))
 
-unfoldable pub json_text : DwarfObject → FoundUnit → (slots : ℕ) → List ℕ
-json_text object unit slots = json_encoding object unit.encoding ++ json_ranges unit
-    ++ json_counts (string_count unit) slots
+abbrev pub encoding_text : (as_json : Bool) → DwarfObject → Encoding → List ℕ
+encoding_text false = encoding_line
+encoding_text true = json_encoding
 
-abbrev pub all_text : (as_json : Bool) → DwarfObject → FoundUnit → (slots : ℕ) → List ℕ
-all_text false = unit_text
-all_text true = json_text
+abbrev pub counts_text : (as_json : Bool) → (strings slots : ℕ) → List ℕ
+counts_text false = count_lines
+counts_text true = json_counts
+
+-- all that is printed of a unit for which so many slots were looked at
+unfoldable pub all_text : (as_json : Bool) → DwarfObject → FoundUnit → (slots : ℕ) → List ℕ
+all_text as_json object unit slots = encoding_text as_json object unit.encoding
+    ++ range_texts as_json unit ++ counts_text as_json (string_count unit) slots
 
 -- the line of a string
 abbrev pub string_line : (as_json : Bool) → List ℕ → List ℕ

@@ -1,9 +1,8 @@
 //! What `thorin find` tells of a unit, plain and in JSON.
 
 ghost use Rattle.std.specs.Prelude.{◌≡◌, ◌++◌, OnOk, string_bytes};
-ghost use Rattle.thorin_queries.specs.Finding.{width, encoding_line, range_line, range_lines};
-ghost use Rattle.thorin_queries.specs.Finding.{count_lines, unit_text, json_encoding, json_range};
-ghost use Rattle.thorin_queries.specs.Finding.{json_ranges, json_counts, json_text};
+ghost use Rattle.thorin_queries.specs.Finding.{width, encoding_line, json_encoding, range_text};
+ghost use Rattle.thorin_queries.specs.Finding.{range_texts, counts_text, all_text};
 ghost use Rattle.thorin_queries.specs.Json.{json_unit, json_numbers};
 
 use crate::finding::{short_kind, short_name, string_count};
@@ -13,20 +12,25 @@ use dwp_index::PackagedUnit;
 use dwp_table::{Bucketable, CONTRIBUTION_KINDS, DwarfObject};
 use std::alloc::AllocError;
 
-/// Adds what is printed of a unit.
-#[tactic(auto, unfolding(crate::specs::Finding::unit_text))]
-pub(crate) fn put_unit(
+/// Adds all that is told of a unit: in lines, or as a JSON object.
+#[tactic(auto, unfolding(crate::specs::Finding::all_text))]
+pub(crate) fn put_all(
     object: DwarfObject,
     unit: &PackagedUnit<'_>,
     slots: u32,
+    as_json: bool,
     text: &mut String,
 ) -> Result<(), AllocError>
     ensures { OnOk result (string_bytes text.new
-        ≡ string_bytes text.old ++ unit_text object unit.now slots) }
+        ≡ string_bytes text.old ++ all_text as_json object unit.now slots) }
 {
-    put_encoding(object, unit.encoding(), text)?;
-    put_ranges(unit, text)?;
-    put_counts(string_count(unit), slots, text)
+    if as_json {
+        put_json_encoding(object, unit.encoding(), text)?;
+    } else {
+        put_encoding(object, unit.encoding(), text)?;
+    }
+    put_ranges(unit, as_json, text)?;
+    put_counts(string_count(unit), slots, as_json, text)
 }
 
 /// Adds the line of a unit's encoding.
@@ -58,62 +62,6 @@ fn width(format: Format) -> u8
         Format::Dwarf32 => 32,
         Format::Dwarf64 => 64,
     }
-}
-
-/// Adds a line for each range that a unit has of a section.
-#[tactic(auto, unfolding(crate::specs::Finding::range_lines))]
-fn put_ranges(unit: &PackagedUnit<'_>, text: &mut String) -> Result<(), AllocError>
-    ensures { OnOk result (string_bytes text.new
-        ≡ string_bytes text.old ++ range_lines unit.now) }
-{
-    for kind in &CONTRIBUTION_KINDS {
-        put_range(*kind, unit.range(*kind), text)?;
-    }
-    Ok(())
-}
-
-/// Adds the line of a range, where there is one.
-fn put_range(
-    kind: SectionKind,
-    range: Option<Contribution>,
-    text: &mut String,
-) -> Result<(), AllocError>
-    ensures { OnOk result (string_bytes text.new
-        ≡ string_bytes text.old ++ range_line kind range) }
-{
-    let Some(range) = range else {
-        return Ok(());
-    };
-    let name = short_name(kind);
-    let offset = range.offset.0;
-    let size = range.size;
-    writeln!(text, "{name} 0x{offset:x} 0x{size:x}")
-}
-
-/// Adds the lines of the numbers of a unit's strings, and of slots.
-#[tactic(auto, unfolding(crate::specs::Finding::count_lines))]
-fn put_counts(strings: u64, slots: u32, text: &mut String) -> Result<(), AllocError>
-    ensures { OnOk result (string_bytes text.new
-        ≡ string_bytes text.old ++ count_lines strings slots) }
-{
-    writeln!(text, "strings {strings}")?;
-    writeln!(text, "slots {slots}")
-}
-
-/// Adds what is printed of a unit as a JSON object.
-#[tactic(auto, unfolding(crate::specs::Finding::json_text))]
-pub(crate) fn put_json(
-    object: DwarfObject,
-    unit: &PackagedUnit<'_>,
-    slots: u32,
-    text: &mut String,
-) -> Result<(), AllocError>
-    ensures { OnOk result (string_bytes text.new
-        ≡ string_bytes text.old ++ json_text object unit.now slots) }
-{
-    put_json_encoding(object, unit.encoding(), text)?;
-    put_json_ranges(unit, text)?;
-    put_json_counts(string_count(unit), slots, text)
 }
 
 /// Adds the beginning of the object, up to the unit's encoding.
@@ -156,25 +104,30 @@ fn put_json_unit(object: DwarfObject, text: &mut String) -> Result<(), AllocErro
 }
 
 /// Adds each range that a unit has of a section.
-#[tactic(auto, unfolding(crate::specs::Finding::json_ranges))]
-fn put_json_ranges(unit: &PackagedUnit<'_>, text: &mut String) -> Result<(), AllocError>
+#[tactic(auto, unfolding(crate::specs::Finding::range_texts))]
+fn put_ranges(
+    unit: &PackagedUnit<'_>,
+    as_json: bool,
+    text: &mut String,
+) -> Result<(), AllocError>
     ensures { OnOk result (string_bytes text.new
-        ≡ string_bytes text.old ++ json_ranges unit.now) }
+        ≡ string_bytes text.old ++ range_texts as_json unit.now) }
 {
     for kind in &CONTRIBUTION_KINDS {
-        put_json_range(*kind, unit.range(*kind), text)?;
+        put_range(*kind, unit.range(*kind), as_json, text)?;
     }
     Ok(())
 }
 
 /// Adds a range, where there is one.
-fn put_json_range(
+fn put_range(
     kind: SectionKind,
     range: Option<Contribution>,
+    as_json: bool,
     text: &mut String,
 ) -> Result<(), AllocError>
     ensures { OnOk result (string_bytes text.new
-        ≡ string_bytes text.old ++ json_range kind range) }
+        ≡ string_bytes text.old ++ range_text as_json kind range) }
 {
     let Some(range) = range else {
         return Ok(());
@@ -182,14 +135,27 @@ fn put_json_range(
     let name = short_name(kind);
     let offset = range.offset.0;
     let size = range.size;
-    write!(text, ",\"{name}\":{{\"offset\":{offset},\"size\":{size}}}")
+    if as_json {
+        write!(text, ",\"{name}\":{{\"offset\":{offset},\"size\":{size}}}")
+    } else {
+        writeln!(text, "{name} 0x{offset:x} 0x{size:x}")
+    }
 }
 
-/// Adds the numbers of a unit's strings and of slots, and the end of the object.
-#[tactic(auto, unfolding(crate::specs::Finding::json_counts))]
-fn put_json_counts(strings: u64, slots: u32, text: &mut String) -> Result<(), AllocError>
+/// Adds the numbers of a unit's strings and of slots: in lines, or as the end of the object.
+#[tactic(auto, unfolding(crate::specs::Finding::count_lines, crate::specs::Finding::json_counts))]
+fn put_counts(
+    strings: u64,
+    slots: u32,
+    as_json: bool,
+    text: &mut String,
+) -> Result<(), AllocError>
     ensures { OnOk result (string_bytes text.new
-        ≡ string_bytes text.old ++ json_counts strings slots) }
+        ≡ string_bytes text.old ++ counts_text as_json strings slots) }
 {
-    writeln!(text, ",\"strings\":{strings},\"slots\":{slots}}}")
+    if as_json {
+        writeln!(text, ",\"strings\":{strings},\"slots\":{slots}}}")
+    } else {
+        writeln!(text, "strings {strings}\nslots {slots}")
+    }
 }

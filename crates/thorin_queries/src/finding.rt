@@ -4,14 +4,14 @@ ghost use Rattle.std.specs.Prelude.{◌≡◌, ◌++◌, [], IfOk, OnOk, MatchRe
 ghost use Rattle.std.specs.Option.{option_copied};
 ghost use Rattle.thorin_queries.specs.Answers.{anything, Reads, Comes, refused};
 ghost use Rattle.thorin_queries.specs.Faults.{string_of};
-ghost use Rattle.thorin_queries.specs.Finding.{Finds, FindsAsked, FindsWanted, all_text};
+ghost use Rattle.thorin_queries.specs.Finding.{Finds, FindsAsked, FindsWanted};
 ghost use Rattle.thorin_queries.specs.Finding.{string_count, string_line, string_answer};
 ghost use Rattle.thorin_queries.specs.Finding.{find_answer, found_answer, wanted_answer};
 ghost use Rattle.dwp_index.specs.Package.{found_counted};
 ghost use Rattle.thorin_queries.specs.Lines.{short_kind, short_name};
 ghost use Rattle.thorin_queries.specs.declared.wanted.Wanted.TheVariants.{Printed, Bytes};
 
-use crate::describing::{put_json, put_unit};
+use crate::describing::put_all;
 use crate::files::{FileReader, HostReader, read_named};
 use crate::output::{Failure, answer, answer_bytes};
 use crate::spelled::{put_spelled, put_spelled_or};
@@ -353,24 +353,6 @@ fn put_string_line(string: &[u8], as_json: bool, text: &mut String) -> Result<()
     text.push_str("{\"string\":")?;
     put_spelled_or(Some(string), true, text)?;
     text.push_str("}\n")
-}
-
-/// Adds all that is told of a unit.
-fn put_all(
-    object: DwarfObject,
-    unit: &PackagedUnit<'_>,
-    slots: u32,
-    as_json: bool,
-    text: &mut String,
-) -> Result<(), AllocError>
-    ensures { OnOk result (string_bytes text.new
-        ≡ string_bytes text.old ++ all_text as_json object unit.now slots) }
-{
-    if as_json {
-        put_json(object, unit, slots, text)
-    } else {
-        put_unit(object, unit, slots, text)
-    }
 }
 
 /// `cu` or `tu`.

@@ -57,21 +57,12 @@ impl Overlaps {
         entries: &[UnitEntry],
     ) -> Result<Overlaps, AllocError> {
         let mut overlaps = Overlaps {
-            twins: Vec::new(alloc),
+            twins: Vec::from_elem(alloc, false, entries.len())?,
             clashes: Vec::new(alloc),
         };
-        for _entry in entries {
-            overlaps.twins.push(false)?;
+        if overlaps.find_twins(alloc, file, entries)? {
+            overlaps.find_clashes(alloc, pack, file, entries)?;
         }
-        if !overlaps.find_twins(alloc, file, entries)? {
-            return Ok(overlaps);
-        }
-        let mut columns = columns_of(alloc, file)?;
-        for entry in 0..entries.len() {
-            overlaps.clashes.push(None)?;
-            gather_found(pack, entries[entry], entry, &mut columns)?;
-        }
-        overlaps.mark_clashes(&mut columns, entries)?;
         Ok(overlaps)
     }
 
@@ -103,9 +94,7 @@ impl Overlaps {
         for i in 0..columns.len() {
             if let Some(column) = columns.get_mut(i) {
                 sort(&mut column.ranges)?;
-                if self.mark_twins(column.kind, column.ranges.as_slice()) {
-                    overlap = true;
-                }
+                overlap |= self.mark_twins(column.kind, column.ranges.as_slice());
             }
         }
         Ok(overlap)
@@ -141,6 +130,23 @@ impl Overlaps {
                 *has_twin = true;
             }
         }
+    }
+
+    /// Marks each range of the units that are found in the row of their entry that seems to overlap
+    /// one of another.
+    fn find_clashes(
+        &mut self,
+        alloc: Global,
+        pack: &PackageFile<'_>,
+        file: &ElfFile<'_>,
+        entries: &[UnitEntry],
+    ) -> Result<(), AllocError> {
+        self.clashes.resize(entries.len(), None)?;
+        let mut columns = columns_of(alloc, file)?;
+        for entry in 0..entries.len() {
+            gather_found(pack, entries[entry], entry, &mut columns)?;
+        }
+        self.mark_clashes(&mut columns, entries)
     }
 
     /// Marks each range that another seems to overlap. Sorted by their places, a range overlaps one
@@ -245,10 +251,11 @@ fn gather_rows(
     let types = index_in(file, SectionKind::TuIndex);
     for entry in 0..entries.len() {
         let slot = entries[entry];
-        match slot.object {
-            DwarfObject::Compilation(_) => gather_row(&compilations, slot, entry, columns)?,
-            DwarfObject::TypeUnit(_) => gather_row(&types, slot, entry, columns)?,
-        }
+        let index = match slot.object {
+            DwarfObject::Compilation(_) => &compilations,
+            DwarfObject::TypeUnit(_) => &types,
+        };
+        gather_row(index, slot, entry, columns)?;
     }
     Ok(())
 }
