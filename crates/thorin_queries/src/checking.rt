@@ -1,7 +1,6 @@
 //! `thorin check`.
 
-ghost use Rattle.std.specs.Prelude.{◌≡◌, ◌++◌, Ok, Err, OnOk, string_bytes};
-ghost use Rattle.dwp_elf_read.specs.Elf.{elf_of};
+ghost use Rattle.std.specs.Prelude.{◌≡◌, ◌++◌, Err, OnOk, string_bytes};
 ghost use Rattle.dwp_elf_read.specs.View.{elf};
 ghost use Rattle.dwp_index.specs.Package.{package_of};
 ghost use Rattle.thorin_queries.specs.Answers.{anything};
@@ -109,27 +108,10 @@ fn check_bytes<F: FileReader, O: Write>(
         (package_of bytes.now) (O.contents out.old) (O.contents out.new) result }
 {
     match ElfFile::parse(bytes) {
-        Ok(file) => check_file(rt, files, bytes, &file, named, out),
-        Err(_) => Err(Failure::Malformed),
-    }
-}
-
-/// The same of bytes that are an ELF file.
-#[tactic(auto, using(crate::proofs::Checked::malformed, crate::proofs::Checked::a_package))]
-fn check_file<F: FileReader, O: Write>(
-    rt: &HostRuntime,
-    files: &F,
-    bytes: &[u8],
-    file: &ElfFile<'_>,
-    named: Named<'_, '_>,
-    out: &mut O,
-) -> Result<u8, Failure>
-    requires { elf_of bytes.now ≡ Ok (elf file.now) }
-    ensures { ChecksBytes (F.offer files.now) named.entry.reading named.entry.executables.now
-        (package_of bytes.now) (O.contents out.old) (O.contents out.new) result }
-{
-    match PackageFile::parse(bytes) {
-        Ok(pack) => check_package(rt, files, &pack, file, named, out),
+        Ok(file) => match PackageFile::parse(bytes) {
+            Ok(pack) => check_package(rt, files, &pack, &file, named, out),
+            Err(_) => Err(Failure::Malformed),
+        },
         Err(_) => Err(Failure::Malformed),
     }
 }
@@ -150,23 +132,6 @@ fn check_package<F: FileReader, O: Write>(
     if has_no_index(file) {
         return Err(Failure::NoIndex);
     }
-    check_indexed(rt, files, pack, file, named, out)
-}
-
-/// Checks a package that has an index.
-#[tactic(auto, using(crate::proofs::Checked::no_memory_left, crate::proofs::Listed::same_entries))]
-fn check_indexed<F: FileReader, O: Write>(
-    rt: &HostRuntime,
-    files: &F,
-    pack: &PackageFile<'_>,
-    file: &ElfFile<'_>,
-    named: Named<'_, '_>,
-    out: &mut O,
-) -> Result<u8, Failure>
-    requires { HasIndexes (elf file.now) pack.now }
-    ensures { ChecksIndexed (F.offer files.now) named.entry.reading named.entry.executables.now pack.now
-        (O.contents out.old) (O.contents out.new) result }
-{
     match entries_by_row(rt.alloc(), pack) {
         Ok(entries) => check_entries(rt, files, pack, file, entries.as_slice(), named, out),
         Err(_) => Err(Failure::Memory),

@@ -4,7 +4,7 @@ ghost use Rattle.std.specs.Prelude.{◌≡◌, ◌++◌, [], IfOk, OnOk, MatchRe
 ghost use Rattle.std.specs.Option.{option_copied};
 ghost use Rattle.thorin_queries.specs.Answers.{anything, Reads, Comes, refused};
 ghost use Rattle.thorin_queries.specs.Faults.{string_of};
-ghost use Rattle.thorin_queries.specs.Finding.{Finds, FindsAsked, FindsWanted};
+ghost use Rattle.thorin_queries.specs.Finding.{Finds, FindsAsked};
 ghost use Rattle.thorin_queries.specs.Finding.{string_count, string_line, string_answer};
 ghost use Rattle.thorin_queries.specs.Finding.{find_answer, found_answer, wanted_answer};
 ghost use Rattle.dwp_index.specs.Package.{found_counted};
@@ -82,26 +82,10 @@ fn find_asked<F: FileReader, O: Write>(
         (O.contents out.new) object wanted result }
 {
     match object {
-        Ok(object) => find_wanted(alloc, files, file, object, wanted, as_json, out),
-        Err(failure) => Err(failure),
-    }
-}
-
-/// The same of a unit.
-fn find_wanted<F: FileReader, O: Write>(
-    alloc: Global,
-    files: &F,
-    file: &str,
-    object: DwarfObject,
-    wanted: Result<Wanted, Failure>,
-    as_json: bool,
-    out: &mut O,
-) -> Result<u8, Failure>
-    ensures { FindsWanted (F.offer files.now) file.now as_json (O.contents out.old)
-        (O.contents out.new) object wanted result }
-{
-    match wanted {
-        Ok(wanted) => find_at(alloc, files, file, object, wanted, as_json, out),
+        Ok(object) => match wanted {
+            Ok(wanted) => find_at(alloc, files, file, object, wanted, as_json, out),
+            Err(failure) => Err(failure),
+        },
         Err(failure) => Err(failure),
     }
 }

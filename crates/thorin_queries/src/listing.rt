@@ -6,9 +6,9 @@ ghost use Rattle.dwp_index.specs.Entries.{entries_from};
 ghost use Rattle.dwp_index.specs.Package.{package_of, found};
 ghost use Rattle.thorin_queries.specs.Answers.{anything, OrNoMemory};
 ghost use Rattle.thorin_queries.specs.Listing.{place_by, AreByRow, range_size, range_sizes};
-ghost use Rattle.thorin_queries.specs.Listing.{unit_front, json_front, front_of, named_by};
+ghost use Rattle.thorin_queries.specs.Listing.{front_of, named_by};
 ghost use Rattle.thorin_queries.specs.Listing.{unit_names, end_of, view_of, view_by};
-ghost use Rattle.thorin_queries.specs.Listing.{unit_line, slot_line, AddsLine};
+ghost use Rattle.thorin_queries.specs.Listing.{unit_line, AddsLine};
 ghost use Rattle.thorin_queries.specs.Listing.{lines_of, IsListed, ListsPackage, ListsBytes};
 ghost use Rattle.thorin_queries.specs.Listing.{Lists};
 
@@ -188,8 +188,8 @@ fn put_lines<'a>(
     Ok(true)
 }
 
-/// Adds the line of a slot's unit, where its identifier leads to its row. Answers whether it could
-/// be looked up.
+/// Adds the line of the unit that is found for a slot, where it is that of the slot's row. Answers
+/// whether it could be looked up.
 fn put_slot<'a>(
     pack: &PackageFile<'a>,
     entry: UnitEntry,
@@ -202,35 +202,14 @@ fn put_slot<'a>(
         (string_bytes text.old) (string_bytes text.new)) }
 {
     match pack.find(entry.object) {
-        Ok(found) => {
-            put_line(entry, found, strings, form, sizes, text)?;
+        Ok(Some(unit)) => {
+            if unit.row() == entry.row {
+                put_unit(entry.object, &unit, strings, form, sizes, text)?;
+            }
             Ok(true)
         }
+        Ok(None) => Ok(true),
         Err(_) => Ok(false),
-    }
-}
-
-/// Adds the line of a unit that is found for a slot, where it is that of the slot's row.
-fn put_line<'a>(
-    entry: UnitEntry,
-    found: Option<PackagedUnit<'a>>,
-    strings: Strings<'a>,
-    form: ListForm,
-    sizes: &mut Sizes,
-    text: &mut String,
-) -> Result<(), AllocError>
-    ensures { OnOk result (string_bytes text.new
-        ≡ string_bytes text.old ++ slot_line (view_by form strings.entry) entry found.entry) }
-{
-    match found {
-        Some(unit) => {
-            if unit.row() == entry.row {
-                put_unit(entry.object, &unit, strings, form, sizes, text)
-            } else {
-                Ok(())
-            }
-        }
-        None => Ok(()),
     }
 }
 
@@ -292,7 +271,8 @@ fn put_unit<'a>(
     put_end(form.json, text)
 }
 
-/// Adds what a line begins with.
+/// Adds what a line begins with: a unit's kind, its identifier and its size.
+#[tactic(auto, using(crate::proofs::Hex::hex16_written), unfolding(crate::specs::Listing::unit_front, crate::specs::Listing::json_front))]
 fn put_front(
     object: DwarfObject,
     unit: &PackagedUnit<'_>,
@@ -302,46 +282,17 @@ fn put_front(
     ensures { OnOk result (string_bytes text.new
         ≡ string_bytes text.old ++ front_of as_json object unit.now) }
 {
+    let kind = short_kind(object);
+    let id = object.index();
+    let size = unit.bytes().len();
     if as_json {
-        put_json_front(object, unit, text)
+        write!(
+            text,
+            "{{\"kind\":\"{kind}\",\"id\":\"0x{id:016x}\",\"size\":{size}"
+        )
     } else {
-        put_plain_front(object, unit, text)
+        write!(text, "{kind} 0x{id:016x} {size}")
     }
-}
-
-/// Adds a unit's kind, its identifier and its size.
-#[tactic(auto, using(crate::proofs::Hex::hex16_written), unfolding(crate::specs::Listing::unit_front))]
-fn put_plain_front(
-    object: DwarfObject,
-    unit: &PackagedUnit<'_>,
-    text: &mut String,
-) -> Result<(), AllocError>
-    ensures { OnOk result (string_bytes text.new
-        ≡ string_bytes text.old ++ unit_front object unit.now) }
-{
-    let kind = short_kind(object);
-    let id = object.index();
-    let size = unit.bytes().len();
-    write!(text, "{kind} 0x{id:016x} {size}")
-}
-
-/// Adds the same as the beginning of a JSON object.
-#[tactic(auto, using(crate::proofs::Hex::hex16_written), unfolding(crate::specs::Listing::json_front))]
-fn put_json_front(
-    object: DwarfObject,
-    unit: &PackagedUnit<'_>,
-    text: &mut String,
-) -> Result<(), AllocError>
-    ensures { OnOk result (string_bytes text.new
-        ≡ string_bytes text.old ++ json_front object unit.now) }
-{
-    let kind = short_kind(object);
-    let id = object.index();
-    let size = unit.bytes().len();
-    write!(
-        text,
-        "{{\"kind\":\"{kind}\",\"id\":\"0x{id:016x}\",\"size\":{size}"
-    )
 }
 
 /// Adds the names of a unit's source and of its object.
