@@ -119,9 +119,12 @@ unfoldable pub string_count : FoundUnit → ℕ
 string_count unit =
     entry_count unit.encoding (length (row_bytes unit.contents unit.row StrOffsets))
 
-unfoldable pub count_lines : (strings slots : ℕ) → List ℕ
-count_lines strings slots = (codes "strings " ++ (decimal strings ++ line_end))
-    ++ (codes "slots " ++ (decimal slots ++ line_end))
+-- the numbers of a unit's strings and of slots: on lines, or as the end of an object
+abbrev pub counts_text : (as_json : Bool) → (strings slots : ℕ) → List ℕ
+counts_text false strings slots = codes "strings " ++ (decimal strings
+    ++ (codes "\nslots " ++ (decimal slots ++ line_end)))
+counts_text true strings slots = codes ",\"strings\":" ++ (decimal strings
+    ++ (codes ",\"slots\":" ++ (decimal slots ++ (codes "}" ++ line_end))))
 
 -- the beginning of a JSON object, up to the unit's encoding
 unfoldable pub json_encoding : DwarfObject → Encoding → List ℕ
@@ -132,17 +135,9 @@ json_encoding object encoding =
     ++ (codes ",\"format\":" ++ (decimal (width encoding.format)
     ++ (codes ",\"address\":" ++ decimal encoding.address_size))))))))
 
-unfoldable pub json_counts : (strings slots : ℕ) → List ℕ
-json_counts strings slots = codes ",\"strings\":" ++ (decimal strings
-    ++ (codes ",\"slots\":" ++ (decimal slots ++ (codes "}" ++ line_end))))
-
 abbrev pub encoding_text : (as_json : Bool) → DwarfObject → Encoding → List ℕ
 encoding_text false = encoding_line
 encoding_text true = json_encoding
-
-abbrev pub counts_text : (as_json : Bool) → (strings slots : ℕ) → List ℕ
-counts_text false = count_lines
-counts_text true = json_counts
 
 -- all that is printed of a unit for which so many slots were looked at
 unfoldable pub all_text : (as_json : Bool) → DwarfObject → FoundUnit → (slots : ℕ) → List ℕ

@@ -143,7 +143,6 @@ fn put_range(
 }
 
 /// Adds the numbers of a unit's strings and of slots: in lines, or as the end of the object.
-#[tactic(auto, unfolding(crate::specs::Finding::count_lines, crate::specs::Finding::json_counts))]
 fn put_counts(
     strings: u64,
     slots: u32,

@@ -16,7 +16,6 @@ use std::io::Write;
 
 /// A slot names each row of both indexes; `entries` are in the order of rows. Answers the number of
 /// faults.
-#[tactic(auto, using(crate::proofs::Told::in_turn_or))]
 pub(crate) fn check_indexes<O: Write>(
     file: &ElfFile<'_>,
     entries: &[UnitEntry],
@@ -40,7 +39,6 @@ pub(crate) fn check_indexes<O: Write>(
 }
 
 /// A slot names each row of an index. Answers the number of faults.
-#[tactic(auto, using(crate::proofs::Faulted::rows_or))]
 fn check_rows<O: Write>(
     kind: &str,
     entries: &[UnitEntry],

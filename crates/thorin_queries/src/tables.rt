@@ -46,7 +46,6 @@ pub(crate) fn lacks_strings(file: &ElfFile<'_>) -> bool
 
 /// The sections of abbreviations and of strings aren't lacking, and a slot names each row of both
 /// indexes. Answers the number of faults.
-#[tactic(auto, using(crate::proofs::Told::in_turn_or))]
 pub(crate) fn check_tables<O: Write>(
     file: &ElfFile<'_>,
     no_abbreviations: bool,
@@ -66,7 +65,6 @@ pub(crate) fn check_tables<O: Write>(
 
 /// Tells that the sections of abbreviations and of strings are lacking, where that is so. Answers
 /// the number of faults.
-#[tactic(auto, using(crate::proofs::Told::in_turn_or))]
 fn check_sections<O: Write>(
     no_abbreviations: bool,
     no_strings: bool,

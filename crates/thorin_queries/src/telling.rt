@@ -2,6 +2,7 @@
 
 use crate::input::{plain_of, read_file};
 use crate::output::{Failure, written};
+use dwp_bytes::Reader;
 use dwp_dwarf::{SliceReader, UnitHeaders, UnitSection};
 use dwp_elf::{ElfFile, Endianness, Section, SectionKind};
 use dwp_table::DebugTypeSignature;
@@ -71,7 +72,7 @@ fn count_in_section(section: &Section<'_>, order: Endianness) -> usize {
 }
 
 /// How many units begin in what a reader has left.
-fn count_headers(reader: SliceReader<'_>, kind: UnitSection) -> usize {
+fn count_headers<R: Reader>(reader: R, kind: UnitSection) -> usize {
     let mut units = 0usize;
     for _ in UnitHeaders::new(reader, kind) {
         units = units.saturating_add(1);
