@@ -99,8 +99,8 @@ encoding_line object encoding =
     ++ (codes " format " ++ (decimal (width encoding.format)
     ++ (codes " address " ++ (decimal encoding.address_size ++ line_end))))))))
 
--- a range, where it begins in its section, and its size: on a line, or in JSON (RFC 8259) by the short
--- name of its section
+-- a range, where it begins in its section, and its size: on a line, or in JSON (RFC 8259) by the
+-- short name of its section
 abbrev pub range_text : (as_json : Bool) → SectionKind → Option Contribution → List ℕ
 range_text as_json kind None = []
 range_text false kind (Some range) =

@@ -234,7 +234,6 @@ fn finish<O: Write>(
 }
 
 /// Prints the last text, to its end. Answers the status.
-#[tactic(auto, using(crate::proofs::Told::flushed, crate::proofs::Told::not_flushed))]
 fn print_last<O: Write>(faults: u64, text: &str, out: &mut O) -> Result<u8, Failure>
     ensures { PrintsLast faults text.now (O.contents out.old) (O.contents out.new) result }
 {

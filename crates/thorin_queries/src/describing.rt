@@ -105,11 +105,7 @@ fn put_json_unit(object: DwarfObject, text: &mut String) -> Result<(), AllocErro
 
 /// Adds each range that a unit has of a section.
 #[tactic(auto, unfolding(crate::specs::Finding::range_texts))]
-fn put_ranges(
-    unit: &PackagedUnit<'_>,
-    as_json: bool,
-    text: &mut String,
-) -> Result<(), AllocError>
+fn put_ranges(unit: &PackagedUnit<'_>, as_json: bool, text: &mut String) -> Result<(), AllocError>
     ensures { OnOk result (string_bytes text.new
         ≡ string_bytes text.old ++ range_texts as_json unit.now) }
 {
@@ -143,12 +139,7 @@ fn put_range(
 }
 
 /// Adds the numbers of a unit's strings and of slots: in lines, or as the end of the object.
-fn put_counts(
-    strings: u64,
-    slots: u32,
-    as_json: bool,
-    text: &mut String,
-) -> Result<(), AllocError>
+fn put_counts(strings: u64, slots: u32, as_json: bool, text: &mut String) -> Result<(), AllocError>
     ensures { OnOk result (string_bytes text.new
         ≡ string_bytes text.old ++ counts_text as_json strings slots) }
 {

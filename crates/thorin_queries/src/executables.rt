@@ -70,7 +70,6 @@ pub(crate) fn check_executables<F: FileReader, O: Write>(
 }
 
 /// Each split unit that an executable names is in the package. Answers the number of faults.
-#[tactic(auto, using(crate::proofs::Checked::executable_read, crate::proofs::Checked::executable_unread))]
 fn check_executable<F: FileReader, O: Write>(
     rt: &HostRuntime,
     files: &F,
@@ -247,7 +246,7 @@ fn missing_text(alloc: Global, executable: &str, path: &str) -> Result<String, A
 }
 
 /// Tells why an executable can't be read to its end. Answers the number of faults, 1.
-#[tactic(auto, using(crate::proofs::Faulted::broken, crate::proofs::Told::none_grown))]
+#[tactic(auto, using(crate::proofs::Told::none_grown))]
 fn tell_fault<O: Write>(
     executable: &str,
     fault: &Error,

@@ -129,7 +129,6 @@ fn find_in<O: Write>(
 }
 
 /// Prints a text of a unit of a package's bytes.
-#[tactic(auto, using(crate::proofs::Printed::nothing))]
 fn print_text<O: Write>(
     alloc: Global,
     bytes: &[u8],

@@ -16,9 +16,7 @@ ghost use Rattle.thorin_queries.specs.Names.{source_name, object_name};
 
 use crate::abbreviations::header_of;
 use dwp_bytes::{Encoding, Format, ReadError, Reader, SliceReader, string_at};
-use dwp_dwarf::{
-    Abbreviations, Attribute, Attributes, RootEntry, UnitHeader,
-};
+use dwp_dwarf::{Abbreviations, Attribute, Attributes, RootEntry, UnitHeader};
 use dwp_elf::{Endianness, SectionKind};
 use dwp_index::PackagedUnit;
 use dwp_table::DwarfObject;

@@ -10,5 +10,5 @@ returns-in-Ok g c =
     (g.O.Write.contents c.args.out.now) (g.O.Write.contents c.check_rows.new.out)
     (g.O.Write.contents c.check_rows-in-Ok.new.out) (string_bytes c.args.waiting.now)
     (string_bytes c.check_rows.new.waiting) (string_bytes c.check_rows-in-Ok.new.waiting)
-    c.in-Ok.compilations c.check_rows-in-Ok.result c.with_rest.result c.with_rest.ensures c.in-Ok.ensures
-    c.check_rows-in-Ok.ensures
+    c.in-Ok.compilations c.check_rows-in-Ok.result c.with_rest.result
+    c.with_rest.ensures c.in-Ok.ensures c.check_rows-in-Ok.ensures

@@ -12,5 +12,5 @@ returns-in-Ok g c =
     (g.O.Write.contents c.args.out.now) (g.O.Write.contents c.check_section.new.out)
     (g.O.Write.contents c.check_section-in-Ok.new.out) (string_bytes c.args.waiting.now)
     (string_bytes c.check_section.new.waiting) (string_bytes c.check_section-in-Ok.new.waiting)
-    c.in-Ok.of_abbreviations c.check_section-in-Ok.result c.with_rest.result c.with_rest.ensures c.in-Ok.ensures
-    c.check_section-in-Ok.ensures
+    c.in-Ok.of_abbreviations c.check_section-in-Ok.result c.with_rest.result
+    c.with_rest.ensures c.in-Ok.ensures c.check_section-in-Ok.ensures

@@ -10,5 +10,5 @@ returns-in-Ok g c =
     (g.O.Write.contents c.args.out.now) (g.O.Write.contents c.check_sections.new.out)
     (g.O.Write.contents c.check_indexes.new.out) (string_bytes c.args.waiting.now)
     (string_bytes c.check_sections.new.waiting) (string_bytes c.check_indexes.new.waiting)
-    c.in-Ok.of_sections c.check_indexes.result c.with_rest.result c.with_rest.ensures c.in-Ok.ensures
-    c.check_indexes.ensures
+    c.in-Ok.of_sections c.check_indexes.result c.with_rest.result c.with_rest.ensures
+    c.in-Ok.ensures c.check_indexes.ensures
