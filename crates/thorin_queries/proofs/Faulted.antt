@@ -1,5 +1,5 @@
 -- Faults that were told.
-use Rattle.std.proofs.Common.{◌≡◌, ◌∙◌, ◌≢◌, ℕ, List, [], ◌∷◌, ◌++◌, codes, map, refl, sym}
+use Rattle.std.proofs.Common.{◌≡◌, ◌≢◌, ℕ, List, [], ◌∷◌, ◌++◌, codes, map, refl, sym}
 use Rattle.std.proofs.Common.{subst}
 use Rattle.std.proofs.Common.{inl, inr, arith, min, ◌+◌, ◌-◌, ◌^◌}
 use Rattle.std.specs.List.{range_with_len}

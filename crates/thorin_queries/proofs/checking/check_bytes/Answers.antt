@@ -1,5 +1,5 @@
 use Rattle.dwp_elf_read.specs.View.{elf}
-use Rattle.thorin_queries.proofs.Checked.{no_elf, malformed, a_package}
+use Rattle.thorin_queries.proofs.Checked.{no_elf}
 use Rattle.thorin_queries.proofs.Indexed.{has_indexes}
 use Rattle.thorin_queries.proofs.checking.check_bytes.Goals as goal
 

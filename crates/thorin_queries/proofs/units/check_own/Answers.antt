@@ -1,5 +1,4 @@
-use Rattle.std.specs.Prelude.{string_bytes}
-use Rattle.thorin_queries.proofs.Faulted.{own_none, own_fault}
+use Rattle.thorin_queries.proofs.Faulted.{own_none}
 use Rattle.thorin_queries.proofs.units.check_own.Goals as goal
 
 pub returns-in-Ok-add : goal.returns-in-Ok-add
