@@ -66,7 +66,7 @@ def hash_of_eight(string):
 
 def full(count):
     strings = (b"%08d" % (number * 61_803_399 % 10 ** 8) for number in range(10 ** 8))
-    crowd = [it for it in itertools.islice(strings, 4_000_000) if hash_of_eight(it) >> 18 == 5][:200]
+    crowd = [it for it in itertools.islice(strings, 300_000) if hash_of_eight(it) >> 22 == 5][:200]
     yield from crowd
     yield from itertools.islice(strings, count - len(crowd))
 
@@ -107,6 +107,7 @@ def main():
         (folder / f"{name}-{count}.dwo").write_bytes(elf(sections))
 
 
-if len(sys.argv) < 2:
-    sys.exit(__doc__)
-main()
+if __name__ == "__main__":
+    if len(sys.argv) < 2:
+        sys.exit(__doc__)
+    main()

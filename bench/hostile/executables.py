@@ -41,14 +41,17 @@ def type_unit_of_dwarf_5(signature, place):
     return struct.pack("<IHBBIQIB", 21, 5, 6, 8, 0, signature, 24 + place, 1)
 
 
-def skeletons_of(names, n, in_the_unit):
-    """An executable of n units that name these objects by turns, by strings in the units or by strings of its own."""
+def skeletons_of(names, n, in_the_unit, first=()):
+    """An executable of n units that name these objects by turns, by strings in the units or by strings of its own, behind units
+    that name the first ones."""
     form = "08" if in_the_unit else "0e"
-    strings = b"".join(name.encode() + b"\0" for name in names)
-    fields = [name.encode() + b"\0" if in_the_unit else struct.pack("<I", strings.index(name.encode())) for name in names]
+    strings = b"".join(name.encode() + b"\0" for name in [*first, *names])
+    field = lambda name: name.encode() + b"\0" if in_the_unit else struct.pack("<I", strings.index(name.encode()))
+    before, fields = [field(name) for name in first], [field(name) for name in names]
     units = bytearray()
-    for id in range(1, n + 1):
-        body = struct.pack("<HIB", 4, 0, 8) + b"\1" + fields[id % len(fields)] + struct.pack("<Q", id)
+    for id in range(1, len(before) + n + 1):
+        named = before[id - 1] if id <= len(before) else fields[id % len(fields)]
+        body = struct.pack("<HIB", 4, 0, 8) + b"\1" + named + struct.pack("<Q", id)
         units += struct.pack("<I", len(body)) + body
     declared = bytes.fromhex("011100b042" + form + "b142070000" + "00")
     return elf([(".debug_abbrev", declared), (".debug_info", bytes(units)), (".debug_str", b"" if in_the_unit else strings)])
@@ -69,6 +72,15 @@ def skeletons_of_objects(n, folder, count, in_the_unit):
     for name in names:
         object_of_types(name, range(1, n + 1))
     return skeletons_of(names, n, in_the_unit)
+
+
+def skeletons_of_objects_behind_another(n, folder, other):
+    """An executable whose first unit names an object that has it, and n others two objects of a type by turns that lack them."""
+    names = [os.path.abspath(os.path.join(folder, name)) for name in ("first.dwo", "type_0.dwo", "type_1.dwo")]
+    write(names[0], other)
+    for name in names[1:]:
+        write(name, elf([(".debug_types.dwo", type_unit(17))]))
+    return skeletons_of(names[1:], n, False, names[:1])
 
 
 def skeletons_of_one_object_of_sections(n, folder):
