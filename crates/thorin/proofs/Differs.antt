@@ -41,7 +41,7 @@ use Rattle.thorin_join.specs.State.{abbreviations_test, with_unit_added, with_ne
 use Rattle.thorin_join.specs.State.{with_new_units, with_all, with_source}
 use Rattle.thorin_input.specs.Growing.{Contents, with_parts}
 use Rattle.thorin_input.specs.Parts.{parts_of}
-use Rattle.thorin_parts.specs.declared.entry.IndexEntry.{IndexEntry}
+use Rattle.thorin_index.specs.declared.entry.IndexEntry.{IndexEntry}
 use Rattle.thorin.proofs.RunTaken.{bind-was, begun-then}
 use Rattle.std.specs.List.{list_any}
 

@@ -9,8 +9,8 @@ ghost use Rattle.thorin_join.specs.Represents.{IsSoundBegun, units_in};
 use dwp_dwarf::laws::units_have_all_bytes;
 use dwp_index::laws::contents_are_read;
 use dwp_table::laws::look_up_finds_exactly;
+use thorin_index::laws::{written_index_has_the_entries, written_index_is_read};
 use thorin_packaged::laws::every_row_is_found_by_place;
-use thorin_parts::laws::{written_index_has_the_entries, written_index_is_read};
 
 /// The law of packing again: where each unit of a finished package has the encoding of the first
 /// that is read of its file, the written bytes, wherever they are taken as an input, mean just

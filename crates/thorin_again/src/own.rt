@@ -18,8 +18,8 @@ ghost use Rattle.thorin_again.specs.OwnUnits.{HoldsOwn};
 ghost use Rattle.thorin_join.specs.Represents.{IsSoundBegun};
 ghost use Rattle.thorin_join.specs.State.{InProgress};
 
+use thorin_index::laws::written_index_is_read;
 use thorin_join::inputs_are_joined;
-use thorin_parts::laws::written_index_is_read;
 
 /// The law of the one encoding: where the inputs of a builder have one, there are units, and all of
 /// them come from inputs of it; an input that is taken keeps that so. It does nothing.

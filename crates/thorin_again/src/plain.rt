@@ -24,9 +24,9 @@ use crate::again::written_packages_mean_their_units;
 use dwp_dwarf::laws::units_have_all_bytes;
 use dwp_index::laws::{contents_are_read, units_are_read_alone};
 use dwp_table::laws::look_up_finds_exactly;
+use thorin_index::laws::{written_index_has_the_entries, written_index_is_read};
 use thorin_join::{finished_packages_are_read, inputs_are_joined};
 use thorin_packaged::laws::{every_row_is_found_by_place, packaged_rows_are_read_alike};
-use thorin_parts::laws::{written_index_has_the_entries, written_index_is_read};
 use thorin_strings::laws::rewritten_offsets_name_the_same;
 
 /// The law of plain packages: where the inputs of a builder have one encoding, each section that

@@ -33,7 +33,7 @@ use Rattle.thorin_builder.proofs.OwnKept.{taken-as, after-none}
 use Rattle.dwp_table.specs.declared.object.DwarfObject.{DwarfObject}
 use Rattle.dwp_table.specs.declared.object.DwarfObject.TheVariants.{Compilation, TypeUnit}
 use Rattle.thorin_builder.specs.Taking.{with_target}
-use Rattle.thorin_parts.specs.declared.entry.IndexEntry.{IndexEntry}
+use Rattle.thorin_index.specs.declared.entry.IndexEntry.{IndexEntry}
 use Rattle.thorin_join.specs.Join.{Joins}
 use Rattle.thorin_join.specs.Meaning.{Meaning}
 use Rattle.thorin_join.specs.Represents.{units_begun, units_of, meaning_at}

@@ -1,9 +1,8 @@
 -- The names of units: what `==` says of them.
-use Rattle.std.proofs.Common.{◌≡◌, ◌∙◌, Bool, true, false, cond, List, [], ◌∷◌, refl, ap, map}
-use Rattle.std.proofs.Common.{Option, Some}
-use Rattle.std.specs.Prelude.{option_map, find}
+use Rattle.std.proofs.Common.{◌≡◌, ◌∙◌, Bool, true, false, cond, List, ◌∷◌, refl, ap}
+use Rattle.std.proofs.Common.{Some}
+use Rattle.std.specs.Prelude.{find}
 use Rattle.std.specs.List.{list_any}
-use Rattle.std.specs.Map.{lookup}
 use Rattle.dwp_table.specs.declared.object.DwarfObject.{DwarfObject}
 use Rattle.dwp_table.specs.declared.object.DwarfObject.TheVariants.{Compilation, TypeUnit}
 use Rattle.dwp_table.specs.contracts.object.DwarfObjectPartialEq.TheImpl as derived
@@ -18,19 +17,6 @@ same_name-at (TypeUnit a) (Compilation b) = refl
 -- `==` is the same name
 pub same_name-is : (a : DwarfObject) → derived.eq-value.it a ≡ same_name a
 same_name-is a = λ i b. same_name-at a b i
-
-lookup-here : {K X Y : Type 0} (f : X → Y) (e : K × X) (b : Bool) (found : Option X)
-    (other : Option Y) → other ≡ option_map f found
-    → cond b (Some (f e.1)) other ≡ option_map f (cond b (Some e.1) found)
-lookup-here f e true found other h = refl
-lookup-here f e false found other h = h
-
--- what is looked up among values, and what is made of them
-pub lookup-map : {K X Y : Type 0} (test : K → Bool) (f : X → Y) (es : List (K × X))
-    → lookup test (map (λ e. (e.0, f e.1)) es) ≡ option_map f (lookup test es)
-lookup-map test f [] = refl
-lookup-map test f (e ∷ es) = lookup-here f e (test e.0) (lookup test es)
-    (lookup test (map (λ d. (d.0, f d.1)) es)) (lookup-map test f es)
 
 -- a name is among others
 pub among-is : (a : DwarfObject) (names : List DwarfObject) → list_any (derived.eq-value.it a) names

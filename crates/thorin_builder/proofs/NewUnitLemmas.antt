@@ -1,37 +1,150 @@
--- What is kept for the name of a unit.
-use Rattle.std.proofs.Common.{◌≡◌, ◌∙◌, ℕ, List, Option, Some, None, ap, sym, refl, map, [], ◌∷◌}
+-- The units that an input adds: what is kept for the name of one, and one that is added last.
+use Rattle.std.proofs.Common.{◌≡◌, ◌∙◌, ℕ, suc, ◌<◌, ◌≤◌, Bool, true, false, cond, List}
+use Rattle.std.proofs.Common.{Option}
+use Rattle.std.proofs.Common.{Some, None, ap, sym, refl, map, take, min, length, get_or, [], ◌∷◌}
 use Rattle.std.proofs.Common.{◌++◌}
-use Rattle.std.proofs.lemmas.List.{map-append}
-use Rattle.std.specs.Prelude.{option_map}
+use Rattle.std.proofs.Common.{arith}
+use Rattle.std.proofs.lemmas.List.{get_or-take, length-take, map-append}
+use Rattle.std.proofs.lemmas.List.Elements.{All-push}
+use Rattle.std.proofs.lemmas.Option.{none-some, same_Some, get_or_from_slice_get, slice_get_within}
+use Rattle.std.specs.Prelude.{All, slice_get}
 use Rattle.std.specs.Map.{lookup}
-use Rattle.std.proofs.lemmas.Option.{none-some}
 use Rattle.dwp_table.specs.declared.object.DwarfObject.{DwarfObject}
+use Rattle.thorin_index.specs.declared.entry.IndexEntry.{IndexEntry}
+use Rattle.thorin_index.specs.Rows.{blank}
 use Rattle.thorin_input.specs.NewUnits.{NewUnit, or_held, kept_bytes}
 use Rattle.thorin_input.specs.Names.{same_name}
-use Rattle.thorin_builder.specs.declared.units.NewUnit.{NewUnit as CodeUnit}
+use Rattle.thorin_builder.specs.declared.new_units.NewUnit.{NewUnit as CodeUnit}
 use Rattle.thorin_builder.specs.UnitView.{new_unit}
-use Rattle.thorin_builder.proofs.Names.{lookup-map}
+
+-- the units with their rows
+abbrev pub with_rows : List IndexEntry → List (DwarfObject × CodeUnit)
+    → List (DwarfObject × NewUnit)
+with_rows rows units =
+    map {B = DwarfObject × NewUnit} (λ (e : DwarfObject × CodeUnit).
+    (e.0, new_unit rows e.0 e.1)) units
+
+-- a unit that is found by its name has its bytes
+pub added_bytes : (test : DwarfObject → Bool) (rows : List IndexEntry)
+    (units : List (DwarfObject × CodeUnit)) (unit : CodeUnit) (held : Option (List ℕ))
+    → lookup test units ≡ Some unit
+    → or_held (lookup test (with_rows rows units)) held ≡ Some unit.bytes.now
+added_bytes test rows [] unit held h = absurd (none-some unit h)
+added_bytes test rows (e ∷ es) unit held h = by (test e.0) h (added_bytes test rows es unit held)
+  where
+    by : (b : Bool) → cond b (Some e.1) (lookup test es) ≡ Some unit
+        → (lookup test es ≡ Some unit
+        → or_held (lookup test (with_rows rows es)) held ≡ Some unit.bytes.now)
+        → or_held (cond b (Some (new_unit rows e.0 e.1)) (lookup test (with_rows rows es))) held
+        ≡ Some unit.bytes.now
+    by true h rest = ap (λ (u : CodeUnit). Some u.bytes.now) (same_Some e.1 unit h)
+    by false h rest = rest h
+
+-- one that isn't isn't
+pub none_added : (test : DwarfObject → Bool) (rows : List IndexEntry)
+    (units : List (DwarfObject × CodeUnit)) → lookup test units ≡ None
+    → lookup test (with_rows rows units) ≡ None
+none_added test rows [] h = refl
+none_added test rows (e ∷ es) h = by (test e.0) h (none_added test rows es)
+  where
+    by : (b : Bool) → cond b (Some e.1) (lookup test es) ≡ None
+        → (lookup test es ≡ None → lookup test (with_rows rows es) ≡ None)
+        → cond b (Some (new_unit rows e.0 e.1)) (lookup test (with_rows rows es)) ≡ None
+    by true h rest = absurd (none-some e.1 (sym h))
+    by false h rest = rest h
+
+none_there : (test : DwarfObject → Bool) (rows : List IndexEntry)
+    (units : List (DwarfObject × CodeUnit)) → lookup test (with_rows rows units) ≡ None
+    → lookup test units ≡ None
+none_there test rows [] h = refl
+none_there test rows (e ∷ es) h = by (test e.0) h (none_there test rows es)
+  where
+    by : (b : Bool)
+        → cond b (Some (new_unit rows e.0 e.1)) (lookup test (with_rows rows es)) ≡ None
+        → (lookup test (with_rows rows es) ≡ None → lookup test es ≡ None)
+        → cond b (Some e.1) (lookup test es) ≡ None
+    by true h rest = absurd (none-some (new_unit rows e.0 e.1) (sym h))
+    by false h rest = rest h
 
 or_held-none : (a : Option NewUnit) (b : Option (List ℕ)) → or_held a b ≡ None → a ≡ None
 or_held-none None b h = refl
 or_held-none (Some u) b h = absurd (none-some _ (sym h))
 
-option_map-none : {X Y : Type 0} (f : X → Y) (a : Option X) → option_map f a ≡ None → a ≡ None
-option_map-none f None h = refl
-option_map-none f (Some x) h = absurd (none-some _ (sym h))
-
 -- nothing is kept for a name that isn't among the units that are added
-pub not_added : (held : List (DwarfObject × List ℕ)) (units : List (DwarfObject × CodeUnit))
-    (name : DwarfObject)
-    → kept_bytes held (map (λ e. (e.0, new_unit e.1)) units) name ≡ None
-    → lookup (same_name name) units ≡ None
-not_added held units name h = option_map-none new_unit _
-    (sym (lookup-map (same_name name) new_unit units) ∙ or_held-none _ _ h)
+pub not_added : (held : List (DwarfObject × List ℕ)) (rows : List IndexEntry)
+    (units : List (DwarfObject × CodeUnit)) (name : DwarfObject)
+    → kept_bytes held (with_rows rows units) name ≡ None → lookup (same_name name) units ≡ None
+not_added held rows units name h =
+    none_there (same_name name) rows units (or_held-none _ _ h)
+
+-- the number of each unit is one of the rows
+abbrev pub AreNumbered : List IndexEntry → List (DwarfObject × CodeUnit) → Type 0
+AreNumbered rows units = All (λ (e : DwarfObject × CodeUnit). e.1.row < length rows) units
+
+at_least : {A : Type 0} (front all : List A) → take (length front) all ≡ front
+    → length front ≤ length all
+at_least front all h =
+    let e : length front ≡ min (length front) (length all) =
+    ap length (sym h) ∙ length-take (length front) all in
+    omega arith
+
+-- where there are more rows, each unit has its number still, and the row of it
+pub numbered_still : (rows more : List IndexEntry) (units : List (DwarfObject × CodeUnit))
+    → take (length rows) more ≡ rows → AreNumbered rows units → AreNumbered more units
+numbered_still rows more units h numbered k d less =
+    let a = at_least rows more h in
+    let b = numbered k d less in
+    omega arith
+
+pub with_more_rows : (rows more : List IndexEntry) → take (length rows) more ≡ rows
+    → (units : List (DwarfObject × CodeUnit)) → AreNumbered rows units
+    → with_rows more units ≡ with_rows rows units
+with_more_rows rows more h [] numbered = refl
+with_more_rows rows more h (e ∷ es) numbered =
+    let row : get_or more e.1.row blank ≡ get_or rows e.1.row blank =
+    sym (get_or-take (length rows) more e.1.row blank (numbered 0 e (omega arith)))
+    ∙ ap (λ l. get_or l e.1.row blank) h in
+    let rest : with_rows more es ≡ with_rows rows es =
+    with_more_rows rows more h es (λ k d less. numbered (suc k) d (omega arith)) in
+    rw (row, rest) refl
 
 -- a unit that was added last
-pub added_last : (before now : List (DwarfObject × CodeUnit)) (e : DwarfObject × CodeUnit)
-    → now ≡ before ++ e ∷ []
-    → map {B = DwarfObject × NewUnit} (λ x. (x.0, new_unit x.1)) now ≡ map {B = DwarfObject
-    × NewUnit} (λ x. (x.0, new_unit x.1)) before ++ (e.0, new_unit e.1) ∷ []
-added_last before now e h = ap (map {B = DwarfObject × NewUnit} (λ x. (x.0, new_unit x.1))) h ∙
-    map-append _ before _
+pub numbered_last : (rows more : List IndexEntry) (before : List (DwarfObject × CodeUnit))
+    (e : DwarfObject × CodeUnit) (row : IndexEntry) → take (length rows) more ≡ rows
+    → AreNumbered rows before → slice_get more e.1.row ≡ Some row
+    → AreNumbered more (before ++ e ∷ [])
+numbered_last rows more before e row h numbered there =
+    All-push (λ (d : DwarfObject × CodeUnit). d.1.row < length more) before e
+    (numbered_still rows more before h numbered) (slice_get_within more e.1.row row there)
+
+pub added_last : (rows more : List IndexEntry) (before now : List (DwarfObject × CodeUnit))
+    (e : DwarfObject × CodeUnit) (nameless row : IndexEntry) → take (length rows) more ≡ rows
+    → AreNumbered rows before → slice_get more e.1.row ≡ Some nameless
+    → record nameless { id = e.0 } ≡ row → now ≡ before ++ e ∷ []
+    → with_rows more now ≡ with_rows rows before ++ (
+      e.0,
+      record { place = e.1.place; bytes = e.1.bytes.now; row = row },
+    ) ∷ []
+added_last rows more before now e nameless row h numbered there named is =
+    let found : get_or more e.1.row blank ≡ nameless =
+    get_or_from_slice_get more e.1.row nameless blank there in
+    let last : record (get_or more e.1.row blank) { id = e.0 } ≡ row =
+    ap (λ (r : IndexEntry). record r { id = e.0 }) found ∙ named in
+    ap (with_rows more) is
+    ∙ map-append {B = DwarfObject × NewUnit} (λ (d : DwarfObject × CodeUnit).
+    (d.0, new_unit more d.0 d.1)) before (e ∷ [])
+    ∙ rw (with_more_rows rows more h before numbered, last) refl
+
+-- a row that was left without its name, with it again
+pub named_again : (row : IndexEntry) (name other : DwarfObject) → row.id ≡ name
+    → record (record row { id = other }) { id = name } ≡ row
+named_again row name other h = ap (λ (n : DwarfObject). record row { id = n }) (sym h)
+
+-- of the first unit, and of the others
+pub first_of : (rows : List IndexEntry) (e : DwarfObject × CodeUnit)
+    (es : List (DwarfObject × CodeUnit)) → AreNumbered rows (e ∷ es) → e.1.row < length rows
+first_of rows e es numbered = numbered 0 e (omega arith)
+
+pub rest_of : (rows : List IndexEntry) (e : DwarfObject × CodeUnit)
+    (es : List (DwarfObject × CodeUnit)) → AreNumbered rows (e ∷ es) → AreNumbered rows es
+rest_of rows e es numbered k d less = numbered (suc k) d (omega arith)

@@ -8,7 +8,7 @@ abbrev pub in_progress_of : InProgressDwarfPackage → InProgress
 in_progress_of p = record {
   file = p.object;
   strings = p.strings;
-  rows = p.rows.items;
+  rows = p.rows;
   differing = map (λ s. s.0) p.differing.items;
 }
 

@@ -1,22 +1,30 @@
 -- What the units that an input adds, and what they are added to, stand for.
-use Rattle.std.specs.Prelude.{map}
-use Rattle.thorin_builder.specs.declared.units.NewUnit.{NewUnit}
-use Rattle.thorin_builder.specs.declared.units.NewUnits.{NewUnits}
+use Rattle.std.specs.Prelude.{List, map, get_or}
+use Rattle.thorin_builder.specs.declared.new_units.NewUnit.{NewUnit}
+use Rattle.thorin_builder.specs.declared.new_units.NewUnits.{NewUnits}
 use Rattle.thorin_builder.specs.declared.units.Adding.{Adding}
 use Rattle.thorin_builder.specs.declared.units.Met.{Met}
 use Rattle.dwp_bytes.specs.Input.{Input}
 use Rattle.dwp_bytes.specs.declared.slice.SliceReader.{SliceReader}
 use Rattle.thorin_input.specs.NewUnits as spec
 use Rattle.thorin_join.specs.State.{held_units}
+use Rattle.dwp_table.specs.declared.object.DwarfObject.{DwarfObject}
+use Rattle.thorin_index.specs.declared.entry.IndexEntry.{IndexEntry}
+use Rattle.thorin_index.specs.Rows.{blank}
 use Rattle.thorin_builder.specs.StateView.{in_progress_of}
 use Rattle.thorin_input.specs.View.{source}
 
-abbrev pub new_unit : NewUnit → spec.NewUnit
-new_unit u = record { place = u.place; bytes = u.bytes.now; row = u.row }
+-- a unit of a name, whose row is among these but for the name
+abbrev pub new_unit : List IndexEntry → DwarfObject → NewUnit → spec.NewUnit
+new_unit rows name u = record {
+  place = u.place;
+  bytes = u.bytes.now;
+  row = record (get_or rows u.row blank) { id = name };
+}
 
 abbrev pub new_of : NewUnits → spec.New
 new_of n = record {
-  units = map (λ e. (e.0, new_unit e.1)) n.units.entries;
+  units = map (λ e. (e.0, new_unit n.rows.items e.0 e.1)) n.units.entries;
   differing = map (λ s. s.0) n.differing.items;
 }
 

@@ -7,7 +7,7 @@ use dwp_table::{DebugTypeSignature, DwarfObject};
 use indexmap::IndexSet;
 use std::alloc::Global;
 use std::fmt;
-use thorin_parts::IndexEntry;
+use thorin_index::IndexRows;
 use thorin_strings::PackageStringTable;
 
 /// A package that an input has begun: the sections so far, the strings, and each unit's row.
@@ -18,9 +18,9 @@ pub struct InProgressDwarfPackage {
     pub(crate) strings: PackageStringTable,
     /// The names of the rows, in order.
     pub(crate) names: IndexSet<DwarfObject>,
-    pub(crate) rows: Vec<IndexEntry>,
+    pub(crate) rows: IndexRows,
     pub(crate) differing: Vec<DebugTypeSignature>,
-    ghost named: { names.keys ≡ map (λ row. row.id) rows.items },
+    ghost named: { names.keys ≡ map (λ row. row.id) rows },
 }
 
 impl fmt::Debug for InProgressDwarfPackage {

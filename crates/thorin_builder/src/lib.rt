@@ -6,6 +6,7 @@ mod adding;
 mod executables;
 mod in_progress;
 mod missing;
+mod new_units;
 mod package;
 mod reader;
 mod repeated;

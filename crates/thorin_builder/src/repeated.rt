@@ -10,8 +10,9 @@ ghost use Rattle.thorin_builder.specs.StateView.{in_progress_of};
 ghost use Rattle.thorin_join.specs.State as spec;
 
 use crate::in_progress::InProgressDwarfPackage;
+use crate::new_units::NewUnits;
 use crate::reader::Repetition;
-use crate::units::{Adding, NewUnits};
+use crate::units::Adding;
 use dwp_elf::WritableObject;
 use dwp_table::DebugTypeSignature;
 use std::alloc::Global;

@@ -5,8 +5,8 @@ ghost use Rattle.std.specs.Prelude.{IfErr, OnOk, OnErr, true};
 ghost use Rattle.std.specs.Map.{lookup};
 ghost use Rattle.dwp_index.specs.Package.{part_of};
 ghost use Rattle.thorin_faults.specs.Answers.{Gives};
-ghost use Rattle.thorin_parts.specs.EntryTests.{index_tests};
-ghost use Rattle.thorin_parts.specs.IndexText.{IsIndexOf};
+ghost use Rattle.thorin_index.specs.EntryTests.{index_tests};
+ghost use Rattle.thorin_index.specs.IndexText.{IsIndexOf};
 ghost use Rattle.thorin_strings.specs.Marks.{mark_of};
 ghost use Rattle.thorin_join.specs.Builder.{IsFinished, indexes_test, IdentifiersFit, rows_of};
 ghost use Rattle.thorin_input.specs.Encodings.{are_alike};
@@ -14,11 +14,12 @@ ghost use Rattle.thorin_input.specs.Names.{same_name, is_compilation};
 ghost use Rattle.thorin_again.specs.Own.{has_sections};
 ghost use Rattle.thorin_join.specs.State as spec;
 ghost use Rattle.thorin_builder.specs.StateView.{in_progress_of, mark_in};
-ghost use Rattle.thorin_builder.specs.UnitView.{new_unit, new_of};
+ghost use Rattle.thorin_builder.specs.UnitView.{new_of};
 ghost use Rattle.thorin_input.specs.View as view;
 
 use crate::in_progress::InProgressDwarfPackage;
-use crate::units::{Adding, NewUnit, NewUnits};
+use crate::new_units::NewUnits;
+use crate::units::Adding;
 use dwp_base::{Class, Contribution, Endianness, SectionKind};
 use dwp_dwarf::UnitSection;
 use dwp_elf::WritableObject;
@@ -26,8 +27,8 @@ use dwp_table::{Bucketable, DebugTypeSignature, DwarfObject};
 use indexmap::IndexSet;
 use std::alloc::Global;
 use thorin_faults::Error;
+use thorin_index::{IndexEntry, IndexRows, write_rows};
 use thorin_input::{Source, Whole, content, lengths, parts_of, put, put_moved, put_parts, restore};
-use thorin_parts::{IndexEntry, write_index};
 use thorin_strings::{PackageStringTable, TableMark};
 
 /// How much of a package there was, to go back to.
@@ -93,7 +94,7 @@ impl InProgressDwarfPackage {
             object: WritableObject::new(alloc, class, machine, order),
             strings: PackageStringTable::new(alloc),
             names: IndexSet::new(alloc),
-            rows: Vec::new(alloc),
+            rows: IndexRows::new(alloc),
             differing: Vec::new(alloc),
         }
     }
@@ -143,10 +144,7 @@ impl InProgressDwarfPackage {
         let Some(place) = self.names.get_index_of(&name) else {
             return None;
         };
-        match self.rows.get(place) {
-            Some(row) => Some(unit_bytes(&self.object, row)),
-            None => Some(&[]),
-        }
+        Some(unit_bytes(&self.object, &self.rows.entry(place)))
     }
 
     /// Adds the units of an input with all that belongs to them. Gives whether each of its units,
@@ -204,34 +202,41 @@ impl InProgressDwarfPackage {
             → spec.Extends before (in_progress_of self.new) }
     {
         for (name, unit) in new.units.iter() {
-            self.add_unit(*name, *unit)?;
+            let mut row = new.rows[unit.row];
+            row.id = *name;
+            self.add_unit(row, unit.place, unit.bytes)?;
         }
         Ok(())
     }
 
     /// Adds a unit whose name isn't there. It refuses for memory alone.
     #[tactic(auto, unfolding(thorin_join::specs::State::with_new_unit))]
-    fn add_unit(&mut self, name: DwarfObject, unit: NewUnit<'_>) -> Result<(), Error>
+    fn add_unit(&mut self, row: IndexEntry, place: UnitSection, bytes: &[u8]) -> Result<(), Error>
         ensures meaning { OnOk result (in_progress_of self.new
-            ≡ spec.with_new_unit (in_progress_of self.old) (name, new_unit unit.entry)) }
+            ≡ spec.with_new_unit (in_progress_of self.old)
+            (row.id, record { place = place; bytes = bytes.now; row = row })) }
         ensures refused { IfErr result (λ e. e ≡ Error.Memory) }
         ensures extends { (before : spec.InProgress) → spec.Extends before (in_progress_of self.old)
             → spec.Extends before (in_progress_of self.new) }
     {
-        if self.names.contains(&name) {
+        if self.names.contains(&row.id) {
             return Ok(());
         }
-        self.rows.reserve(1)?;
-        let range = put(&mut self.object, kind_at(unit.place), unit.bytes)?;
-        self.names.insert(name)?;
-        let mut row = unit.row;
-        row.id = name;
-        match unit.place {
+        let range = put(&mut self.object, kind_at(place), bytes)?;
+        let mut row = row;
+        match place {
             UnitSection::Info => row.debug_info = range,
             UnitSection::Types => row.debug_types = range,
         }
-        self.rows.push(row).unwrap();
-        Ok(())
+        let count = self.rows.len();
+        self.rows.push(&row)?;
+        match self.names.insert(row.id) {
+            Ok(_) => Ok(()),
+            Err(_) => {
+                self.rows.truncate(count);
+                Err(Error::Memory)
+            }
+        }
     }
 
     /// How much of the package there is. It refuses for memory alone.
@@ -266,7 +271,7 @@ impl InProgressDwarfPackage {
     pub(crate) fn finish(self) -> (Result<WritableObject, Error>, Vec<DebugTypeSignature>)
         ensures refusal { Gives (λ _. tt) result.0 (indexes_test (in_progress_of self)) }
         ensures finished { IfOk result.0 (IsFinished (in_progress_of self)) }
-        ensures identifiers { IdentifiersFit self.rows.items }
+        ensures identifiers { IdentifiersFit self.rows }
         ensures differing { result.1.items ≡ self.differing.items }
     {
         let InProgressDwarfPackage {
@@ -286,19 +291,19 @@ impl InProgressDwarfPackage {
 fn index_of(
     alloc: Global,
     order: Endianness,
-    rows: &[IndexEntry],
+    rows: &IndexRows,
     compilations: bool,
 ) -> Result<Vec<u8>, Error>
     ensures refusal { Gives (λ _. tt) result (index_tests (rows_of compilations rows.now)) }
     ensures written { IfOk result (λ bytes.
         IsIndexOf order (rows_of compilations rows.now) bytes.items) }
 {
-    // (mostly all units are of one kind: their rows are large, and aren't copied then)
+    // (mostly all units are of one kind: their rows aren't copied then)
     if are_all(rows, compilations) {
-        return write_index(alloc, order, rows);
+        return write_rows(alloc, order, rows);
     }
     let chosen = rows_of(alloc, rows, compilations)?;
-    write_index(alloc, order, &chosen)
+    write_rows(alloc, order, &chosen)
 }
 
 /// The sections with the strings and both indexes, each where it isn't empty. Refuses as
@@ -308,7 +313,7 @@ fn finished(
     alloc: Global,
     object: WritableObject,
     strings: PackageStringTable,
-    rows: &[IndexEntry],
+    rows: &IndexRows,
 ) -> Result<WritableObject, Error>
     ensures refusal { (differing : List ℕ) → Gives (λ _. tt) result (indexes_test
         (record { file = object; strings = strings; rows = rows.now; differing = differing })) }
@@ -340,11 +345,11 @@ fn is_compilation(name: DwarfObject) -> bool
 }
 
 /// Whether all rows are those of compilation units, or those of type units.
-fn are_all(rows: &[IndexEntry], compilations: bool) -> bool
+fn are_all(rows: &IndexRows, compilations: bool) -> bool
     ensures { result ≡ true → rows_of compilations rows.now ≡ rows.now }
 {
-    for row in rows {
-        if is_compilation(row.id) != compilations {
+    for place in 0..rows.len() {
+        if is_compilation(rows.entry(place).id) != compilations {
             return false;
         }
     }
@@ -352,14 +357,15 @@ fn are_all(rows: &[IndexEntry], compilations: bool) -> bool
 }
 
 /// The rows of compilation units, or those of type units.
-fn rows_of(alloc: Global, rows: &[IndexEntry], compilations: bool) -> Result<Vec<IndexEntry>, Error>
-    ensures rows { IfOk result (λ chosen. chosen.items ≡ rows_of compilations rows.now) }
+fn rows_of(alloc: Global, rows: &IndexRows, compilations: bool) -> Result<IndexRows, Error>
+    ensures rows { IfOk result (λ chosen. chosen ≡ rows_of compilations rows.now) }
     ensures refused { IfErr result (λ e. e ≡ Error.Memory) }
 {
-    let mut chosen = Vec::new(alloc);
-    for row in rows {
+    let mut chosen = IndexRows::new(alloc);
+    for place in 0..rows.len() {
+        let row = rows.entry(place);
         if is_compilation(row.id) == compilations {
-            chosen.push(*row)?;
+            chosen.push(&row)?;
         }
     }
     Ok(chosen)
@@ -367,10 +373,10 @@ fn rows_of(alloc: Global, rows: &[IndexEntry], compilations: bool) -> Result<Vec
 
 /// The identifiers of rows have 64 bits, as their type says: what the law of written indexes asks
 /// of numbers.
-fn identifiers_fit(rows: &[IndexEntry])
+fn identifiers_fit(rows: &IndexRows)
     ensures { IdentifiersFit rows.now }
 {
-    for row in rows {
-        let _identifier = row.index();
+    for place in 0..rows.len() {
+        let _identifier = rows.entry(place).index();
     }
 }

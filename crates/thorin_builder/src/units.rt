@@ -12,34 +12,17 @@ ghost use Rattle.thorin_input.specs.View.{tables_in};
 ghost use Rattle.thorin_input.specs.View as view;
 
 use crate::in_progress::InProgressDwarfPackage;
+use crate::new_units::{NewUnit, NewUnits};
 use dwp_base::SectionKind;
 use dwp_dwarf::{Encoding, ReadError, Reader, SliceReader, UnitHeader, UnitHeaders, UnitSection};
 use dwp_table::{Bucketable, DebugTypeSignature, DwarfObject};
 use indexmap::IndexMap;
 use std::alloc::Global;
 use thorin_faults::Error;
+use thorin_index::share;
 use thorin_input::{
     Places, Source, Tables, UsedSection, Whole, abbreviations_for, test_row, unit_row,
 };
-use thorin_parts::IndexEntry;
-
-/// A unit that is added: whether it goes to info or to types, its bytes, and its row but for them.
-#[derive(Clone, Copy)]
-pub(crate) struct NewUnit<'a> {
-    pub place: UnitSection,
-    pub bytes: &'a [u8],
-    pub row: IndexEntry,
-}
-
-/// What an input adds to the package: its units that aren't contained yet, in file order.
-#[derive(Drop)]
-pub(crate) struct NewUnits<'a> {
-    pub units: IndexMap<DwarfObject, NewUnit<'a>>,
-    /// The signatures of type units that were passed over and differ from those that are kept.
-    pub differing: Vec<DebugTypeSignature>,
-    /// Whether each unit of the input, one that was passed over too, has the input's encoding.
-    pub alike: bool,
-}
 
 /// What units are added to: an input, where the whole of its sections comes to lie, and the
 /// package.
@@ -137,6 +120,7 @@ impl<'a> NewUnits<'a> {
     {
         let mut new = NewUnits {
             units: IndexMap::new(alloc),
+            rows: Vec::new(alloc),
             differing: Vec::new(alloc),
             alike: true,
         };
@@ -327,7 +311,9 @@ impl<'a> NewUnits<'a> {
             return Err(Error::EmptyUnit(name.index()));
         }
         let number = test_row(&adding.source.indexes, places, section.kind, name, header)?;
-        let row = unit_row(&adding.source.indexes, &adding.whole, name, number)?;
+        let mut row = unit_row(&adding.source.indexes, &adding.whole, name, number)?;
+        row.id = DwarfObject::TypeUnit(DebugTypeSignature(0));
+        let row = share(&mut self.rows, &row)?;
         let place = place_for(name, section.kind);
         let bytes = header.bytes().slice();
         self.units.insert(name, NewUnit { place, bytes, row })?;

@@ -3,3 +3,4 @@ mod Loads
 mod Finds
 mod NamedSteps
 mod Places
+pub mod Ascending

@@ -5,7 +5,7 @@ use Rattle.dwp_elf_read.specs.Relocation.{relocations_of}
 use Rattle.dwp_bytes.specs.declared.relocation.RelocationEntry.{RelocationEntry}
 use Rattle.dwp_bytes.specs.Input.{section as input_section}
 use Rattle.dwp_bytes.specs.Relocation.{relocated_input}
-use Rattle.thorin_parts.specs.Relocations.{pair_of, with_relocations}
+use Rattle.thorin_executable.specs.Relocations.{pair_of, with_relocations}
 use Rattle.thorin_executable.specs.declared.loading.DebugSection.{DebugSection}
 use Rattle.thorin_executable.specs.Sections.{entry_of, debug_content, loaded}
 

@@ -4,3 +4,5 @@ pub mod Paths
 pub mod Places
 pub mod Skeletons
 pub mod View
+pub mod Flaws
+pub mod Relocations

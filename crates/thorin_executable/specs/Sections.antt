@@ -16,7 +16,7 @@ use Rattle.dwp_bytes.specs.Relocation.{relocated_input}
 use Rattle.dwp_dwarf.specs.Strings.{Strings}
 use Rattle.thorin_faults.specs.Fault.{Fault, ParseObjectFile, DecompressData, ObjectRead}
 use Rattle.thorin_faults.specs.Answers.{as_fault}
-use Rattle.thorin_parts.specs.Relocations.{with_relocations}
+use Rattle.thorin_executable.specs.Relocations.{with_relocations}
 use Rattle.thorin_executable.specs.declared.loading.DebugSection.{DebugSection}
 use Rattle.thorin_executable.specs.declared.loading.DebugSection.TheVariants.{Abbrev, Info, LineStr}
 use Rattle.thorin_executable.specs.declared.loading.DebugSection.TheVariants.{Str, StrOffsets}

@@ -8,7 +8,9 @@ mod listing;
 mod loading;
 mod paths;
 mod reader;
+mod relocations;
 mod roots;
 
 pub use lending::{NamedUnit, NamedUnits};
 pub use listing::{NamelessUnits, Skeleton, SkeletonList, SkeletonUnits, skeletons};
+pub use relocations::add_relocations;

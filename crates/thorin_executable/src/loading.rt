@@ -7,11 +7,11 @@ ghost use Rattle.thorin_executable.specs.Sections as spec;
 ghost use Rattle.thorin_executable.specs.View.{data_of};
 
 use crate::reader::SectionReader;
+use crate::relocations::add_relocations;
 use dwp_dwarf::{Reader, RelocationEntry, StringSections};
 use dwp_elf_read::{ElfFile, ReadError, Section};
 use std::alloc::Global;
 use thorin_faults::{Error, Session};
-use thorin_parts::add_relocations;
 
 /// A section of an executable that is read.
 #[derive(Clone, Copy)]

@@ -14,7 +14,7 @@ use Rattle.dwp_bytes.specs.declared.fault.ReadError.{ReadError}
 use Rattle.dwp_dwarf.specs.Units.{Unit, units}
 use Rattle.dwp_dwarf.specs.declared.unit.UnitSection.{UnitSection}
 use Rattle.dwp_dwarf.specs.declared.unit.UnitSection.TheVariants as places
-use Rattle.thorin_parts.specs.EntryTests.{same_encoding}
+use Rattle.thorin_index.specs.EntryTests.{same_encoding}
 use Rattle.thorin_faults.specs.Fault.{Fault, ParseUnitHeader, NoCompilationUnits}
 use Rattle.thorin_input.specs.Indexes.{Source}
 use Rattle.thorin_input.specs.NewUnits.{unit_section}

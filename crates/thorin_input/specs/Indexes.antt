@@ -15,7 +15,7 @@ use Rattle.dwp_table.specs.declared.object.DwarfObject.{DwarfObject}
 use Rattle.dwp_table.specs.declared.object.DwarfObject.TheVariants.{Compilation, TypeUnit}
 use Rattle.thorin_faults.specs.Fault.{Fault, ParseIndex, IncompatibleIndexVersion}
 use Rattle.thorin_faults.specs.Answers.{as_fault}
-pub use Rattle.thorin_parts.specs.Adjusting.{looked_up}
+pub use Rattle.thorin_input.specs.Adjusting.{looked_up}
 use Rattle.thorin_input.specs.Used.{InputFile, first}
 
 -- both indexes, those that there are

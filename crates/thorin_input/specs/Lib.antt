@@ -8,3 +8,5 @@ pub mod WholeFits
 pub mod Parts
 pub mod NewUnits
 pub mod Encodings
+pub mod Adjusting
+pub mod AdjustorFields

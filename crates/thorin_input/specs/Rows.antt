@@ -18,8 +18,8 @@ use Rattle.dwp_index.specs.Package.{part_of, is_outside}
 use Rattle.dwp_table.specs.Objects.{identifier_of}
 use Rattle.dwp_table.specs.declared.object.DwarfObject.{DwarfObject}
 use Rattle.dwp_table.specs.declared.object.DwarfObject.TheVariants.{Compilation}
-use Rattle.thorin_parts.specs.Adjusting.{adjusted}
-use Rattle.thorin_parts.specs.declared.entry.IndexEntry.{IndexEntry}
+use Rattle.thorin_input.specs.Adjusting.{adjusted}
+use Rattle.thorin_index.specs.declared.entry.IndexEntry.{IndexEntry}
 use Rattle.thorin_packaged.specs.RowPlaces.{row_by_place}
 use Rattle.thorin_faults.specs.Fault.{Fault, UnitNotInIndex, RowNotInIndex, BadContribution}
 use Rattle.thorin_faults.specs.Answers.{as_fault}

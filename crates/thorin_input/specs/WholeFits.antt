@@ -2,7 +2,7 @@
 use Rattle.std.specs.Prelude.{◌+◌, ◌<◌, ◌^◌, Option}
 use Rattle.std.specs.Option.{ForSome}
 use Rattle.dwp_base.specs.declared.section.Contribution.{Contribution}
-use Rattle.thorin_parts.specs.declared.entry.IndexEntry.{IndexEntry}
+use Rattle.thorin_index.specs.declared.entry.IndexEntry.{IndexEntry}
 
 abbrev pub EndFits : Option Contribution → Type 0
 EndFits part = ForSome part (λ c. c.offset.0 + c.size < 2 ^ 64)

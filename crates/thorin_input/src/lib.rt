@@ -1,6 +1,7 @@
 //! What an input is: its sections, indexes, parts, and the rows of its units.
 #![tactic(auto)]
 
+mod adjustor;
 mod encodings;
 mod growing;
 mod object;
@@ -10,6 +11,7 @@ mod source;
 mod tables;
 mod walk;
 
+pub use adjustor::ContributionAdjustor;
 pub use encodings::common;
 pub use growing::{content, lengths, put, put_moved, restore};
 pub use object::{InputObject, UsedSection, opened};

@@ -6,7 +6,7 @@ ghost use Rattle.dwp_dwarf.specs.Units.{unit_of};
 ghost use Rattle.dwp_index.specs.Package.{part_of, is_outside};
 ghost use Rattle.dwp_table.specs.Objects.{identifier_of};
 ghost use Rattle.thorin_faults.specs.Answers.{Gives};
-ghost use Rattle.thorin_parts.specs.Adjusting.{GivesExactly};
+ghost use Rattle.thorin_input.specs.Adjusting.{GivesExactly};
 ghost use Rattle.thorin_packaged.specs.RowPlaces.{row_by_place};
 ghost use Rattle.thorin_input.specs.Growing.{joined_parts, range_put};
 ghost use Rattle.thorin_input.specs.Indexes.{index_for, looked_up};
@@ -15,6 +15,7 @@ ghost use Rattle.thorin_input.specs.Used.{first};
 ghost use Rattle.thorin_input.specs.View as view;
 ghost use Rattle.thorin_input.specs.WholeFits.{EndFits, EndsFit};
 
+use crate::adjustor::ContributionAdjustor;
 use crate::growing::content;
 use crate::parts::Part;
 use crate::source::{Indexes, Source};
@@ -25,8 +26,8 @@ use dwp_index::{Row, UnitIndex};
 use dwp_table::{Bucketable, DwarfObject, DwoId};
 use std::alloc::Global;
 use thorin_faults::Error;
+use thorin_index::IndexEntry;
 use thorin_packaged::RowPlaces;
-use thorin_parts::{ContributionAdjustor, IndexEntry};
 
 /// Where the whole of each section that units share comes to lie, as the row of a unit that has all
 /// of it.
@@ -147,7 +148,7 @@ fn adjusted_part(
 ///
 /// # Errors
 /// Those of `ContributionAdjustor::adjust`, of the sections in the order of a row.
-#[tactic(auto, unfolding(crate::specs::Rows::unit_row, thorin_parts::specs::Adjusting::adjusted))]
+#[tactic(auto, unfolding(crate::specs::Rows::unit_row, crate::specs::Adjusting::adjusted))]
 pub fn unit_row(
     indexes: &Indexes<'_>,
     whole: &Whole,
@@ -156,8 +157,9 @@ pub fn unit_row(
 ) -> Result<IndexEntry, Error>
     requires number { number
         ≡ looked_up (index_for (view.indexes indexes.now) name) (identifier_of name) }
-    ensures { Gives (λ row. row) result
+    ensures meaning { Gives (λ row. row) result
         (spec.unit_row (view.indexes indexes.now) whole.now.row name) }
+    ensures name { IfOk result (λ row. row.id ≡ name) }
 {
     match (&indexes.compilations, &indexes.types) {
         (None, None) => {
@@ -174,8 +176,9 @@ pub fn unit_row(
 fn packaged_row(indexes: &Indexes<'_>, whole: &Whole, unit: Numbered) -> Result<IndexEntry, Error>
     requires number { unit.number
         ≡ looked_up (index_for (view.indexes indexes.now) unit.name) (identifier_of unit.name) }
-    ensures { Gives (λ row. row) result
+    ensures meaning { Gives (λ row. row) result
         (spec.unit_row (view.indexes indexes.now) whole.now.row unit.name) }
+    ensures name { IfOk result (λ row. row.id ≡ unit.name) }
 {
     let row = whole.row;
     let debug_abbrev = adjusted_part(indexes, unit, SectionKind::Abbrev, row.debug_abbrev)?;

@@ -15,9 +15,9 @@ use Rattle.dwp_bytes.specs.declared.encoding.Encoding.{Encoding}
 use Rattle.dwp_table.specs.Objects.{identifier_of}
 use Rattle.dwp_table.specs.declared.object.DwarfObject.{DwarfObject}
 use Rattle.thorin_strings.specs.Strings.{data_of}
-use Rattle.thorin_parts.specs.declared.entry.IndexEntry.{IndexEntry}
-use Rattle.thorin_parts.specs.EntryTests.{index_tests}
-use Rattle.thorin_parts.specs.IndexText.{IsIndexOf}
+use Rattle.thorin_index.specs.declared.entry.IndexEntry.{IndexEntry}
+use Rattle.thorin_index.specs.EntryTests.{index_tests}
+use Rattle.thorin_index.specs.IndexText.{IsIndexOf}
 use Rattle.thorin_faults.specs.Fault.{Fault, MixedInputEncodings, MissingReferencedUnit}
 use Rattle.thorin_faults.specs.Fault.{NoOutputObjectCreated}
 use Rattle.thorin_input.specs.Encodings.{encoding_of, own_encoding, common}

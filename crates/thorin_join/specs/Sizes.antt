@@ -8,8 +8,8 @@ use Rattle.dwp_base.specs.Reading.{◌>>=◌}
 use Rattle.dwp_base.specs.Sections.{same_kind}
 use Rattle.dwp_elf_read.specs.Elf.{Elf}
 use Rattle.dwp_table.specs.Table.{HasSlots}
-use Rattle.thorin_parts.specs.declared.entry.IndexEntry.{IndexEntry}
-use Rattle.thorin_parts.specs.IndexText.{used_sections}
+use Rattle.thorin_index.specs.declared.entry.IndexEntry.{IndexEntry}
+use Rattle.thorin_index.specs.IndexText.{used_sections}
 use Rattle.thorin_faults.specs.Fault.{Fault}
 use Rattle.thorin_input.specs.Growing.{Contents}
 use Rattle.thorin_input.specs.Used.{Used, opened, has_info, counts_once, input_file_of, first}

@@ -8,9 +8,9 @@ ghost use Rattle.thorin_join.specs.State.{InProgress};
 
 use dwp_dwarf::laws::units_have_all_bytes;
 use dwp_index::laws::units_are_read_alone;
-use thorin_packaged::laws::packaged_rows_are_read_alike;
-use thorin_parts::laws::{
-    joined_string_offsets_are_read_in_turn, rewritten_strings_are_read_alike,
+use thorin_packaged::laws::{
+    joined_string_offsets_are_read_in_turn, packaged_rows_are_read_alike,
+    rewritten_strings_are_read_alike,
 };
 use thorin_strings::laws::rewritten_offsets_name_the_same;
 

@@ -22,7 +22,7 @@ ghost use Rattle.thorin_join.specs.State.{InProgress};
 use dwp_dwarf::laws::units_have_all_bytes;
 use dwp_elf::laws::{written_contents_are_read_back, written_files_have_their_size};
 use dwp_index::laws::{contents_are_read, packages_find_exactly, units_are_named_once};
-use thorin_parts::laws::{written_index_has_the_entries, written_index_is_read};
+use thorin_index::laws::{written_index_has_the_entries, written_index_is_read};
 
 /// The law of written packages: a file that is written of contents of distinct kinds, and whose
 /// numbers fit its class, is read as the package of these contents, with the indexes that stand in

@@ -4,3 +4,5 @@ pub mod RangeSteps
 pub mod RewriteSteps
 pub mod RowRanges
 pub mod ReadAlike
+pub mod StringsAgain
+pub mod OffsetsJoined

@@ -17,7 +17,7 @@ use Rattle.thorin_faults.specs.Fault.{Fault}
 use Rattle.thorin_strings.specs.Rewritten.{NamesTheSame}
 use Rattle.thorin_strings.specs.StringOffsets.{remapped}
 use Rattle.thorin_strings.specs.Strings.{IsTable, data_of}
-use Rattle.thorin_parts.specs.ReadStrings.{ReadsAlike}
+use Rattle.thorin_packaged.specs.ReadStrings.{ReadsAlike}
 use Rattle.thorin_packaged.specs.PackagedOffsets.{offset_ranges, packaged_offsets, ranges_test}
 use Rattle.thorin_packaged.specs.PackagedOffsets.{rewritten_from}
 use Rattle.thorin_packaged.specs.PackagedReading.{PackageReadsAlike, RangeReadsAlike, range_bytes}
@@ -43,7 +43,8 @@ slice_length : (bytes : List ℕ) (a b : ℕ) → a ≤ b → b ≤ length bytes
 slice_length bytes a b less within = length-take-le (b - a) (drop a bytes)
     (omega (arith, length-drop a bytes))
 
-bind_ok : {A B : Type 0} (r : Result A Fault) (f : A → Result B Fault) (y : B) → (r >>= f) ≡ Ok y
+pub bind_ok : {A B : Type 0} (r : Result A Fault) (f : A → Result B Fault) (y : B)
+    → (r >>= f) ≡ Ok y
     → (x : A) × (r ≡ Ok x) × (f x ≡ Ok y)
 bind_ok (Ok x) f y e = (x, refl, e)
 bind_ok (Err d) f y e = absurd cc

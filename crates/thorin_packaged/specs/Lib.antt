@@ -3,3 +3,4 @@ pub mod RowPlaceFields
 pub mod PackagedOffsets
 pub mod PackagedReading
 pub mod RangeKeys
+pub mod ReadStrings

@@ -1,22 +1,11 @@
-//! The parts of a package builder: faults and sessions, strings, contributions, the table and the
-//! index, relocations of an executable.
-#![tactic(auto)]
+//! The parts of a package builder under one name: errors and sessions, strings, contributions, the
+//! hash table and the writing of an index, relocations of an executable.
 
-mod adjustor;
-mod buckets;
-mod entry;
-mod entry_tests;
-mod index_writer;
-pub mod laws;
-mod relocations;
-
-pub use adjustor::ContributionAdjustor;
-pub use buckets::{Buckets, bucket};
-pub use entry::IndexEntry;
-pub use index_writer::write_index;
-pub use relocations::add_relocations;
+pub use thorin_executable::add_relocations;
 pub use thorin_faults::{
     ArenaSession, Error, InputError, MemorySession, MissingReferencedObjectBehaviour, Result,
     Session,
 };
+pub use thorin_index::{Buckets, IndexEntry, bucket, write_index};
+pub use thorin_input::ContributionAdjustor;
 pub use thorin_strings::{PackageStringOffset, PackageStringTable};

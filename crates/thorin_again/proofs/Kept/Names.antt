@@ -18,8 +18,8 @@ use Rattle.dwp_elf.specs.Contents.{content_of}
 use Rattle.dwp_index.specs.Package.{part_of, place_of}
 use Rattle.dwp_table.specs.declared.object.DwarfObject.{DwarfObject}
 use Rattle.thorin_identity.specs.Identity.{identity}
-use Rattle.thorin_parts.specs.Entries.{contribution_to}
-use Rattle.thorin_parts.specs.declared.entry.IndexEntry.{IndexEntry}
+use Rattle.thorin_index.specs.Entries.{contribution_to}
+use Rattle.thorin_index.specs.declared.entry.IndexEntry.{IndexEntry}
 use Rattle.thorin_input.specs.Encodings.{section_has}
 use Rattle.thorin_input.specs.Growing.{Contents, with_bytes, with_parts, joined_parts, range_put}
 use Rattle.thorin_input.specs.Indexes.{Source, is_package}

@@ -15,7 +15,7 @@ use Rattle.dwp_bytes.specs.declared.encoding.Encoding.{Encoding}
 use Rattle.dwp_bytes.specs.declared.encoding.Format.{Format}
 use Rattle.dwp_bytes.specs.declared.encoding.Format.TheVariants.{Dwarf32, Dwarf64}
 use Rattle.dwp_table.specs.declared.object.DwarfObject.{DwarfObject}
-use Rattle.thorin_parts.specs.EntryTests.{same_encoding, same_format}
+use Rattle.thorin_index.specs.EntryTests.{same_encoding, same_format}
 use Rattle.thorin_faults.specs.Fault.{Fault}
 use Rattle.thorin_input.specs.Encodings.{encoding_of, own_encoding, file_encoding, common, is_plain}
 use Rattle.thorin_input.specs.Encodings.{section_has}

@@ -56,7 +56,7 @@ use Rattle.thorin_join.specs.Represents.{IsSound, IsSoundBegun, Owns, AreRowsOf,
 use Rattle.thorin_join.specs.Represents.{units_of, units_in, units_begun}
 use Rattle.thorin_join.specs.StandApart.{EachRow}
 use Rattle.thorin_join.specs.State.{InProgress, with_source, adding, abbreviations_test, unit_bytes}
-use Rattle.thorin_parts.specs.declared.entry.IndexEntry.{IndexEntry}
+use Rattle.thorin_index.specs.declared.entry.IndexEntry.{IndexEntry}
 use Rattle.thorin_again.proofs.Lists.HeadersEncoded.{AreEncoded, IsEncoded, MeantAre, Meant}
 use Rattle.thorin_again.proofs.Lists.HeadersEncoded.{source-fine}
 use Rattle.thorin_again.proofs.Lists.HeadersEncoded.{joined-fine}

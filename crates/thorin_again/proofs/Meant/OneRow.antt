@@ -27,11 +27,11 @@ use Rattle.thorin_faults.specs.Fault.{NotSplitUnit}
 use Rattle.thorin_faults.specs.Answers.{as_fault}
 use Rattle.thorin_identity.specs.Identity.{identity}
 use Rattle.thorin_packaged.specs.RowPlaces.{row_by_place, IsFirstWith}
-use Rattle.thorin_parts.specs.Adjusting.{row_found, row_of}
-use Rattle.thorin_parts.specs.Entries.{contribution_to}
-use Rattle.thorin_parts.specs.IndexText.{entry_ids}
-use Rattle.thorin_parts.specs.ReadRows.{HasEntries, HasParts}
-use Rattle.thorin_parts.specs.declared.entry.IndexEntry.{IndexEntry}
+use Rattle.thorin_input.specs.Adjusting.{row_found, row_of}
+use Rattle.thorin_index.specs.Entries.{contribution_to}
+use Rattle.thorin_index.specs.IndexText.{entry_ids}
+use Rattle.thorin_index.specs.ReadRows.{HasEntries, HasParts}
+use Rattle.thorin_index.specs.declared.entry.IndexEntry.{IndexEntry}
 use Rattle.thorin_strings.specs.Strings.{data_of}
 use Rattle.thorin_join.specs.Builder.{is_chosen, rows_of}
 use Rattle.thorin_input.specs.Growing.{Contents}

@@ -17,7 +17,7 @@ use Rattle.dwp_elf.specs.FileText.{Object as File}
 use Rattle.dwp_index.specs.Package.{index_in_section, part_of}
 use Rattle.dwp_index.specs.Strings.{string_in}
 use Rattle.dwp_table.specs.declared.object.DwarfObject.{DwarfObject}
-use Rattle.thorin_parts.specs.declared.entry.IndexEntry.{IndexEntry}
+use Rattle.thorin_index.specs.declared.entry.IndexEntry.{IndexEntry}
 use Rattle.thorin_strings.specs.Strings.{IsTable, data_of}
 use Rattle.thorin_join.specs.Builder.{State, IdentifiersFit, IsFinished, rows_of}
 use Rattle.thorin_input.specs.Growing.{Contents, with_bytes}

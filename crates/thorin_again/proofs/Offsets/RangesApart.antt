@@ -39,9 +39,9 @@ use Rattle.thorin_packaged.specs.PackagedOffsets.{is_whole_range, ranges_test, r
 use Rattle.thorin_packaged.specs.PackagedOffsets.{packaged_offsets}
 use Rattle.thorin_packaged.specs.PackagedReading.{range_bytes}
 use Rattle.thorin_packaged.specs.RowPlaces.{range_of_row, ranges_of}
-use Rattle.thorin_parts.specs.Entries.{contribution_to}
-use Rattle.thorin_parts.specs.ReadRows.{HasEntries}
-use Rattle.thorin_parts.specs.declared.entry.IndexEntry.{IndexEntry}
+use Rattle.thorin_index.specs.Entries.{contribution_to}
+use Rattle.thorin_index.specs.ReadRows.{HasEntries}
+use Rattle.thorin_index.specs.declared.entry.IndexEntry.{IndexEntry}
 use Rattle.thorin_strings.specs.StringOffsets.{header_of, offset_at, named_at, offset_limit}
 use Rattle.thorin_strings.specs.StringOffsets.{fitting_offset, remapped_entry, remapped_entries}
 use Rattle.thorin_strings.specs.StringOffsets.{remapped, entry_bytes}

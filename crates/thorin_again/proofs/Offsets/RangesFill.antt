@@ -20,9 +20,9 @@ use Rattle.dwp_index.specs.Index.{Index, range_in}
 use Rattle.thorin_packaged.specs.PackagedOffsets.{place_cmp, with_ranges, with_rows, offset_ranges}
 use Rattle.thorin_packaged.specs.PackagedOffsets.{ranges_test, rewritten_from, packaged_offsets}
 use Rattle.thorin_packaged.specs.RowPlaces.{range_of_row, ranges_of}
-use Rattle.thorin_parts.specs.Entries.{contribution_to}
-use Rattle.thorin_parts.specs.ReadRows.{non_empty, HasEntries}
-use Rattle.thorin_parts.specs.declared.entry.IndexEntry.{IndexEntry}
+use Rattle.thorin_index.specs.Entries.{contribution_to}
+use Rattle.thorin_index.specs.ReadRows.{non_empty, HasEntries}
+use Rattle.thorin_index.specs.declared.entry.IndexEntry.{IndexEntry}
 use Rattle.thorin_join.specs.Builder.{is_chosen, rows_of}
 use Rattle.thorin_input.specs.Names.{is_compilation}
 use Rattle.thorin_again.specs.Plain.{Tile, IsAmong, HasOneOf, IsOfSome}

@@ -12,8 +12,8 @@ use Rattle.dwp_bytes.specs.StringOffsets.{entry_count}
 use Rattle.dwp_bytes.specs.declared.encoding.Encoding.{Encoding}
 use Rattle.dwp_elf.specs.Contents.{content_of}
 use Rattle.dwp_table.specs.declared.object.DwarfObject.{DwarfObject}
-use Rattle.thorin_parts.specs.Entries.{contribution_to}
-use Rattle.thorin_parts.specs.declared.entry.IndexEntry.{IndexEntry}
+use Rattle.thorin_index.specs.Entries.{contribution_to}
+use Rattle.thorin_index.specs.declared.entry.IndexEntry.{IndexEntry}
 use Rattle.thorin_strings.specs.StringOffsets.{remapped}
 use Rattle.thorin_packaged.specs.PackagedReading.{range_bytes}
 use Rattle.thorin_strings.specs.Strings.{IsTable, data_of}

@@ -11,8 +11,8 @@ use Rattle.dwp_dwarf.specs.declared.unit.UnitSection.TheVariants as places
 use Rattle.dwp_elf.specs.Contents.{KindsDiffer, content_of}
 use Rattle.dwp_elf.specs.FileText.{Object as File}
 use Rattle.dwp_index.specs.Package.{part_of, place_of}
-use Rattle.thorin_parts.specs.Entries.{contribution_to}
-use Rattle.thorin_parts.specs.declared.entry.IndexEntry.{IndexEntry}
+use Rattle.thorin_index.specs.Entries.{contribution_to}
+use Rattle.thorin_index.specs.declared.entry.IndexEntry.{IndexEntry}
 use Rattle.thorin_join.specs.Builder.{IsFinished}
 use Rattle.thorin_input.specs.Encodings.{first_encoding, encoding_of}
 use Rattle.thorin_input.specs.Growing.{Contents}

@@ -14,11 +14,11 @@ use Rattle.dwp_bytes.specs.declared.encoding.Encoding.{Encoding}
 use Rattle.dwp_dwarf.specs.declared.unit.UnitSection.{UnitSection}
 use Rattle.dwp_table.specs.Columns.{column_of, contribution_kinds}
 use Rattle.thorin_faults.specs.Fault.{Fault, SectionOutsideFormat}
-use Rattle.thorin_parts.specs.Entries.{contribution_to}
-use Rattle.thorin_parts.specs.EntryTests.{each, count_test, encoding_test, format_test, parts_test}
-use Rattle.thorin_parts.specs.EntryTests.{tests_under, index_tests}
-use Rattle.thorin_parts.specs.IndexText.{is_used}
-use Rattle.thorin_parts.specs.declared.entry.IndexEntry.{IndexEntry}
+use Rattle.thorin_index.specs.Entries.{contribution_to}
+use Rattle.thorin_index.specs.EntryTests.{each, count_test, encoding_test, format_test, parts_test}
+use Rattle.thorin_index.specs.EntryTests.{tests_under, index_tests}
+use Rattle.thorin_index.specs.IndexText.{is_used}
+use Rattle.thorin_index.specs.declared.entry.IndexEntry.{IndexEntry}
 use Rattle.thorin_join.specs.Builder.{rows_of}
 use Rattle.thorin_join.specs.Laid.{Lie, is_at, rows_at}
 use Rattle.thorin_input.specs.Parts.{is_in_format}

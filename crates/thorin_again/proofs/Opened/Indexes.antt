@@ -20,10 +20,10 @@ use Rattle.dwp_elf.specs.Written.{written_elf}
 use Rattle.dwp_elf_read.specs.Elf.{Elf}
 use Rattle.dwp_index.specs.Index.{Index}
 use Rattle.dwp_index.specs.IndexBytes.{index_of, version_of}
-use Rattle.thorin_parts.specs.declared.entry.IndexEntry.{IndexEntry}
-use Rattle.thorin_parts.specs.EntryTests.{index_tests}
-use Rattle.thorin_parts.specs.IndexText.{IsIndexOf, entry_ids, used_sections}
-use Rattle.thorin_parts.specs.ReadBack.{index_with}
+use Rattle.thorin_index.specs.declared.entry.IndexEntry.{IndexEntry}
+use Rattle.thorin_index.specs.EntryTests.{index_tests}
+use Rattle.thorin_index.specs.IndexText.{IsIndexOf, entry_ids, used_sections}
+use Rattle.thorin_index.specs.ReadBack.{index_with}
 use Rattle.thorin_faults.specs.Fault.{Fault, ParseIndex, IncompatibleIndexVersion}
 use Rattle.thorin_faults.specs.Fault.{MixedInputEncodings}
 use Rattle.thorin_faults.specs.Answers.{as_fault}

@@ -13,8 +13,8 @@ use Rattle.dwp_dwarf.specs.declared.unit.UnitSection.{UnitSection}
 use Rattle.dwp_dwarf.specs.declared.unit.UnitSection.TheVariants as places
 use Rattle.dwp_elf.specs.Contents.{content_of}
 use Rattle.dwp_elf.specs.FileText.{Object as File}
-use Rattle.thorin_parts.specs.IndexText.{is_used}
-use Rattle.thorin_parts.specs.declared.entry.IndexEntry.{IndexEntry}
+use Rattle.thorin_index.specs.IndexText.{is_used}
+use Rattle.thorin_index.specs.declared.entry.IndexEntry.{IndexEntry}
 use Rattle.thorin_strings.specs.Strings.{IsTable}
 use Rattle.thorin_join.specs.Builder.{State}
 use Rattle.thorin_input.specs.Growing.{Contents, joined_parts}

@@ -4,7 +4,7 @@ use Rattle.std.proofs.Common.{refl, sym, ap, subst, Option, Some, None, arith, t
 use Rattle.std.specs.Map.{lookup}
 use Rattle.std.proofs.lemmas.Option.{none-some}
 use Rattle.dwp_table.specs.declared.object.DwarfObject.{DwarfObject}
-use Rattle.thorin_parts.specs.declared.entry.IndexEntry.{IndexEntry}
+use Rattle.thorin_index.specs.declared.entry.IndexEntry.{IndexEntry}
 use Rattle.thorin_input.specs.Names.{same_name}
 use Rattle.thorin_input.specs.NewUnits.{New, NewUnit}
 use Rattle.thorin_join.specs.Represents.{AreApart}

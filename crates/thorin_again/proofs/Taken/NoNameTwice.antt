@@ -23,9 +23,9 @@ use Rattle.dwp_table.specs.declared.object.DwarfObject.{DwarfObject}
 use Rattle.dwp_table.specs.Objects.{identifier_of}
 use Rattle.thorin_faults.specs.Fault.{Fault, EmptyUnit}
 use Rattle.thorin_identity.specs.Identity.{identity}
-use Rattle.thorin_parts.specs.Entries.{contribution_to}
-use Rattle.thorin_parts.specs.IndexText.{is_used}
-use Rattle.thorin_parts.specs.declared.entry.IndexEntry.{IndexEntry}
+use Rattle.thorin_index.specs.Entries.{contribution_to}
+use Rattle.thorin_index.specs.IndexText.{is_used}
+use Rattle.thorin_index.specs.declared.entry.IndexEntry.{IndexEntry}
 use Rattle.thorin_input.specs.Growing.{Contents, range_put}
 use Rattle.thorin_input.specs.Indexes.{Source}
 use Rattle.thorin_join.specs.Laid.{type_signature, name_signature, Heads, Lie, HaveOneRange, is_at}

@@ -16,11 +16,11 @@ use Rattle.dwp_table.specs.Objects.{identifier_of}
 use Rattle.dwp_table.specs.declared.object.DwarfObject.{DwarfObject}
 use Rattle.dwp_table.specs.declared.object.DwarfObject.TheVariants.{Compilation, TypeUnit}
 use Rattle.thorin_faults.specs.Fault.{Fault, BadContribution}
-use Rattle.thorin_parts.specs.Adjusting.{Adjustor, own_index, other_index, row_of, has_column_for}
-use Rattle.thorin_parts.specs.Adjusting.{moved, moved_range, without_column, part_by_row, adjusted}
-use Rattle.thorin_parts.specs.Entries.{contribution_to}
-use Rattle.thorin_parts.specs.IndexText.{is_used}
-use Rattle.thorin_parts.specs.declared.entry.IndexEntry.{IndexEntry}
+use Rattle.thorin_input.specs.Adjusting.{Adjustor, own_index, other_index, row_of, has_column_for}
+use Rattle.thorin_input.specs.Adjusting.{moved, moved_range, without_column, part_by_row, adjusted}
+use Rattle.thorin_index.specs.Entries.{contribution_to}
+use Rattle.thorin_index.specs.IndexText.{is_used}
+use Rattle.thorin_index.specs.declared.entry.IndexEntry.{IndexEntry}
 use Rattle.thorin_join.specs.Builder.{is_chosen, rows_of}
 use Rattle.thorin_input.specs.Growing.{Contents, range_put}
 use Rattle.thorin_input.specs.Indexes.{Indexes, is_package, index_for}

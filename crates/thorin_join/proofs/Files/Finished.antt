@@ -15,9 +15,9 @@ use Rattle.dwp_index.specs.Index.{Index}
 use Rattle.dwp_index.specs.Naming.{IsIndexOfIds, entries_of}
 use Rattle.dwp_index.specs.Package.{Package as Pack, index_in_section}
 use Rattle.thorin_strings.specs.Strings.{data_of}
-use Rattle.thorin_parts.specs.declared.entry.IndexEntry.{IndexEntry}
-use Rattle.thorin_parts.specs.EntryTests.{index_tests}
-use Rattle.thorin_parts.specs.IndexText.{entry_ids}
+use Rattle.thorin_index.specs.declared.entry.IndexEntry.{IndexEntry}
+use Rattle.thorin_index.specs.EntryTests.{index_tests}
+use Rattle.thorin_index.specs.IndexText.{entry_ids}
 use Rattle.thorin_faults.specs.Fault.{NoOutputObjectCreated}
 use Rattle.thorin_join.specs.Builder.{State, IdentifiersFit, IsFinished, IsFinishedState}
 use Rattle.thorin_join.specs.Builder.{finish_test, targets_test, indexes_test, names_in, rows_of}

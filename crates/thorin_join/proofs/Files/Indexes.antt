@@ -11,11 +11,11 @@ use Rattle.dwp_table.specs.Table.{AreDistinct}
 use Rattle.dwp_index.specs.Index.{Index}
 use Rattle.dwp_index.specs.IndexBytes.{index_of, version_of}
 use Rattle.dwp_index.specs.Package.{index_in_section}
-use Rattle.thorin_parts.specs.declared.entry.IndexEntry.{IndexEntry}
-use Rattle.thorin_parts.specs.EntryTests.{tests_under, index_tests}
-use Rattle.thorin_parts.specs.IndexText.{IsIndexText, IsIndexOf, entry_ids, used_sections}
-use Rattle.thorin_parts.specs.ReadBack.{index_with}
-use Rattle.thorin_parts.specs.ReadRows.{HasEntries}
+use Rattle.thorin_index.specs.declared.entry.IndexEntry.{IndexEntry}
+use Rattle.thorin_index.specs.EntryTests.{tests_under, index_tests}
+use Rattle.thorin_index.specs.IndexText.{IsIndexText, IsIndexOf, entry_ids, used_sections}
+use Rattle.thorin_index.specs.ReadBack.{index_with}
+use Rattle.thorin_index.specs.ReadRows.{HasEntries}
 use Rattle.thorin_join.specs.Builder.{IdentifiersFit, rows_of, is_chosen}
 use Rattle.thorin_join.proofs.Steps.{err-ok}
 

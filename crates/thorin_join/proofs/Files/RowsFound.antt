@@ -11,8 +11,8 @@ use Rattle.dwp_table.specs.Objects.{identifier_of}
 use Rattle.dwp_table.specs.declared.object.DwarfObject.{DwarfObject}
 use Rattle.dwp_table.specs.declared.object.DwarfObject.TheVariants.{Compilation, TypeUnit}
 use Rattle.dwp_index.specs.Finding.{IsNotNamed}
-use Rattle.thorin_parts.specs.declared.entry.IndexEntry.{IndexEntry}
-use Rattle.thorin_parts.specs.IndexText.{entry_ids}
+use Rattle.thorin_index.specs.declared.entry.IndexEntry.{IndexEntry}
+use Rattle.thorin_index.specs.IndexText.{entry_ids}
 use Rattle.thorin_join.specs.Builder.{is_chosen, rows_of}
 use Rattle.thorin_input.specs.Growing.{Contents}
 use Rattle.thorin_join.specs.Join.{same_sort, identifiers, signatures}

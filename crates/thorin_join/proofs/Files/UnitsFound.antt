@@ -26,10 +26,10 @@ use Rattle.dwp_index.specs.Package.{Package, part_of, place_of, kind_of, row_byt
 use Rattle.dwp_index.specs.Package.{index_for}
 use Rattle.dwp_index.specs.Strings.{string_in}
 use Rattle.thorin_strings.specs.Strings.{IsTable, data_of}
-use Rattle.thorin_parts.specs.Entries.{contribution_to}
-use Rattle.thorin_parts.specs.declared.entry.IndexEntry.{IndexEntry}
-use Rattle.thorin_parts.specs.IndexText.{entry_ids}
-use Rattle.thorin_parts.specs.ReadRows.{HasEntries, HasParts, non_empty}
+use Rattle.thorin_index.specs.Entries.{contribution_to}
+use Rattle.thorin_index.specs.declared.entry.IndexEntry.{IndexEntry}
+use Rattle.thorin_index.specs.IndexText.{entry_ids}
+use Rattle.thorin_index.specs.ReadRows.{HasEntries, HasParts, non_empty}
 use Rattle.thorin_join.specs.Builder.{rows_of}
 use Rattle.thorin_input.specs.Growing.{Contents}
 use Rattle.thorin_join.specs.Join.{IsUnit, GivesUnit, GivesNone, look_limit, limit_of, same_sort}

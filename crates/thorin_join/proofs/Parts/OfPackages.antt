@@ -11,7 +11,7 @@ use Rattle.dwp_base.specs.declared.section.Contribution.{Contribution}
 use Rattle.dwp_base.specs.Sections.{same_kind}
 use Rattle.dwp_index.specs.Index.{Index, Ranges, row_in, range_in}
 use Rattle.thorin_packaged.specs.PackagedReading.{PackageReadsAlike, RowsReadAlike, range_bytes}
-use Rattle.thorin_parts.specs.ReadStrings.{ReadsAlike}
+use Rattle.thorin_packaged.specs.ReadStrings.{ReadsAlike}
 use Rattle.thorin_strings.specs.Strings.{IsTable, data_of}
 use Rattle.thorin_input.specs.Growing.{Contents, joined_parts}
 use Rattle.thorin_input.specs.Indexes.{Indexes, Source, is_package}

@@ -6,7 +6,7 @@ use Rattle.dwp_bytes.specs.Encoding.{offset_size}
 use Rattle.dwp_bytes.specs.declared.encoding.Encoding.{Encoding}
 use Rattle.dwp_index.specs.Index.{Index}
 use Rattle.dwp_index.specs.Strings.{string_in}
-use Rattle.thorin_parts.specs.ReadStrings.{ReadsAlike}
+use Rattle.thorin_packaged.specs.ReadStrings.{ReadsAlike}
 use Rattle.thorin_strings.specs.Rewritten.{NamesTheSame}
 use Rattle.thorin_strings.specs.Strings.{IsTable, data_of}
 use Rattle.thorin_strings.specs.StringOffsets.{remapped}

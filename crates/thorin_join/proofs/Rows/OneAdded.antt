@@ -21,8 +21,8 @@ use Rattle.dwp_index.specs.Strings.{string_in}
 use Rattle.dwp_table.specs.declared.object.DwarfObject.{DwarfObject}
 use Rattle.dwp_table.specs.declared.object.DwarfObject.TheVariants.{Compilation, TypeUnit}
 use Rattle.thorin_strings.specs.Strings.{data_of}
-use Rattle.thorin_parts.specs.Entries.{contribution_to}
-use Rattle.thorin_parts.specs.declared.entry.IndexEntry.{IndexEntry}
+use Rattle.thorin_index.specs.Entries.{contribution_to}
+use Rattle.thorin_index.specs.declared.entry.IndexEntry.{IndexEntry}
 use Rattle.thorin_input.specs.Growing.{Contents, with_bytes, range_put}
 use Rattle.thorin_join.specs.Meaning.{Meaning}
 use Rattle.thorin_input.specs.Parts.{is_copied}

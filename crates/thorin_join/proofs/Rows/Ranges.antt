@@ -15,7 +15,7 @@ use Rattle.dwp_index.specs.Package.{part_of, is_outside}
 use Rattle.dwp_bytes.specs.declared.fault.ReadError.{ReadError}
 use Rattle.thorin_faults.specs.Fault.{Fault, BadContribution}
 use Rattle.thorin_packaged.specs.PackagedReading.{range_bytes}
-use Rattle.thorin_parts.specs.Adjusting.{moved, moved_range, without_column}
+use Rattle.thorin_input.specs.Adjusting.{moved, moved_range, without_column}
 use Rattle.thorin_join.proofs.Parts.Appended.{no-bytes}
 use Rattle.thorin_join.proofs.Steps.{ok-eq}
 

@@ -15,9 +15,9 @@ use Rattle.dwp_index.specs.Package.{part_of}
 use Rattle.dwp_table.specs.Objects.{identifier_of}
 use Rattle.dwp_table.specs.declared.object.DwarfObject.{DwarfObject}
 use Rattle.thorin_packaged.specs.PackagedReading.{range_bytes}
-use Rattle.thorin_parts.specs.Entries.{contribution_to}
-use Rattle.thorin_parts.specs.ReadStrings.{ReadsAlike}
-use Rattle.thorin_parts.specs.declared.entry.IndexEntry.{IndexEntry}
+use Rattle.thorin_index.specs.Entries.{contribution_to}
+use Rattle.thorin_packaged.specs.ReadStrings.{ReadsAlike}
+use Rattle.thorin_index.specs.declared.entry.IndexEntry.{IndexEntry}
 use Rattle.thorin_strings.specs.Strings.{IsTable, data_of}
 use Rattle.thorin_input.specs.Growing.{Contents, with_parts, joined_parts}
 use Rattle.thorin_input.specs.Indexes.{Source, is_package, index_for}

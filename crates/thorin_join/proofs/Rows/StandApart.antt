@@ -22,10 +22,10 @@ use Rattle.dwp_index.specs.Index.{range_in}
 use Rattle.dwp_table.specs.Objects.{identifier_of}
 use Rattle.dwp_table.specs.declared.object.DwarfObject.{DwarfObject}
 use Rattle.thorin_faults.specs.Fault.{Fault, BadContribution}
-use Rattle.thorin_parts.specs.Adjusting.{Adjustor, own_index, other_index, row_of, has_column_for}
-use Rattle.thorin_parts.specs.Adjusting.{moved, moved_range, without_column, part_by_row, adjusted}
-use Rattle.thorin_parts.specs.Entries.{contribution_to}
-use Rattle.thorin_parts.specs.declared.entry.IndexEntry.{IndexEntry}
+use Rattle.thorin_input.specs.Adjusting.{Adjustor, own_index, other_index, row_of, has_column_for}
+use Rattle.thorin_input.specs.Adjusting.{moved, moved_range, without_column, part_by_row, adjusted}
+use Rattle.thorin_index.specs.Entries.{contribution_to}
+use Rattle.thorin_index.specs.declared.entry.IndexEntry.{IndexEntry}
 use Rattle.thorin_join.specs.Builder.{package_or_new, order_test, with_source_or_new, with_units}
 use Rattle.thorin_join.specs.Builder.{with_input}
 use Rattle.thorin_input.specs.Encodings.{encoding_of}

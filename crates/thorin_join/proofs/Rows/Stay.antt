@@ -17,8 +17,8 @@ use Rattle.dwp_index.specs.Strings.{string_in}
 use Rattle.thorin_strings.specs.Strings.{data_of}
 use Rattle.thorin_join.specs.State.{kind_at}
 use Rattle.dwp_table.specs.declared.object.DwarfObject.{DwarfObject}
-use Rattle.thorin_parts.specs.Entries.{contribution_to}
-use Rattle.thorin_parts.specs.declared.entry.IndexEntry.{IndexEntry}
+use Rattle.thorin_index.specs.Entries.{contribution_to}
+use Rattle.thorin_index.specs.declared.entry.IndexEntry.{IndexEntry}
 use Rattle.thorin_input.specs.Growing.{Contents, HasFront, with_bytes}
 use Rattle.thorin_join.specs.Meaning.{Meaning}
 use Rattle.thorin_join.specs.Represents.{LieInside, Shares, Owns, IsRowOf, AreRowsOf}

@@ -15,11 +15,11 @@ use Rattle.dwp_bytes.specs.Encoding.{index_version_of}
 use Rattle.dwp_elf.specs.FileText.{Object as File}
 use Rattle.dwp_table.specs.Table.{HasSlots, signature_of}
 use Rattle.thorin_strings.specs.Strings.{terminated, data_of}
-use Rattle.thorin_parts.specs.declared.entry.IndexEntry.{IndexEntry}
-use Rattle.thorin_parts.specs.Entries.{offset_or_0, size_or_0}
-use Rattle.thorin_parts.specs.IndexText.{numbers_bytes, version_bytes, used_sections}
-use Rattle.thorin_parts.specs.IndexText.{column_numbers, row_numbers, rows_bytes, signatures_bytes}
-use Rattle.thorin_parts.specs.IndexText.{entry_ids, index_bytes, IsIndexText, IsIndexOf}
+use Rattle.thorin_index.specs.declared.entry.IndexEntry.{IndexEntry}
+use Rattle.thorin_index.specs.Entries.{offset_or_0, size_or_0}
+use Rattle.thorin_index.specs.IndexText.{numbers_bytes, version_bytes, used_sections}
+use Rattle.thorin_index.specs.IndexText.{column_numbers, row_numbers, rows_bytes, signatures_bytes}
+use Rattle.thorin_index.specs.IndexText.{entry_ids, index_bytes, IsIndexText, IsIndexOf}
 use Rattle.thorin_input.specs.Growing.{with_bytes}
 use Rattle.thorin_join.specs.Builder.{IsFinished}
 use Rattle.thorin_join.specs.Sizes.{bytes_of_contents, bytes_of_strings, bytes_of_index}

@@ -11,8 +11,8 @@ use Rattle.dwp_elf.specs.Contents.{content_of}
 use Rattle.dwp_index.specs.Package.{part_of, place_of}
 use Rattle.dwp_table.specs.declared.object.DwarfObject.{DwarfObject}
 use Rattle.thorin_strings.specs.Strings.{IsTable, data_of}
-use Rattle.thorin_parts.specs.Entries.{contribution_to}
-use Rattle.thorin_parts.specs.declared.entry.IndexEntry.{IndexEntry}
+use Rattle.thorin_index.specs.Entries.{contribution_to}
+use Rattle.thorin_index.specs.declared.entry.IndexEntry.{IndexEntry}
 use Rattle.thorin_input.specs.Growing.{Contents}
 use Rattle.thorin_join.specs.Meaning.{Meaning, Members, pieces_by, keys}
 use Rattle.thorin_join.specs.Represents.{IsRowOf, AreRowsOf, Represents, meaning_at, units_of}

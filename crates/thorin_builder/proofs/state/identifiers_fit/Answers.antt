@@ -1,8 +1,8 @@
 use Rattle.std.proofs.Common.{◌∙◌, ℕ, add-one, ◌+◌, ◌++◌, ◌∷◌, ◌<◌, ◌^◌, [], List, length, take}
-use Rattle.std.proofs.Common.{get_or, ap, sym, subst}
+use Rattle.std.proofs.Common.{get_or, ap, sym, subst, arith}
 use Rattle.std.proofs.Math.Seq.{take-suc}
 use Rattle.dwp_table.specs.Objects.{identifier_of}
-use Rattle.thorin_parts.specs.declared.entry.IndexEntry.{IndexEntry}
+use Rattle.thorin_index.specs.declared.entry.IndexEntry.{IndexEntry}
 use Rattle.thorin_join.specs.Builder.{IdentifiersFit}
 use Rattle.thorin_builder.proofs.state.identifiers_fit.Goals as goal
 
@@ -17,7 +17,10 @@ fits-next : (rows : List IndexEntry) (i : ℕ) (d : IndexEntry) → i < length r
 fits-next rows i d h fit k = subst IdentifiersFit (sym (ap (λ n. take n rows) (add-one i) ∙ take-suc
     rows i d h)) (fits-more (take i rows) (get_or rows i d) fit k)
 
-pub loop-row-preserved : goal.loop-row-preserved
-loop-row-preserved c =
-    let fit = subst (λ n. n < 2 ^ 64) c.index-identifier.ensures c.index-identifier.type_inv in
-    fits-next c.args.rows.now c.loop-row.row-index _ c.loop-row-test.true c.loop-row.invariant fit
+pub loop-place-preserved : goal.loop-place-preserved
+loop-place-preserved c =
+    let fit = subst (λ n. n < 2 ^ 64)
+    (c.index-identifier.ensures ∙ ap (λ (row : IndexEntry). identifier_of row.id) c.entry.ensures)
+    c.index-identifier.type_inv in
+    fits-next c.args.rows.now c.loop-place.place c.entry.result
+    (omega (arith, c.loop-place-test.true, c.len-place-end.ensures)) c.loop-place.invariant fit

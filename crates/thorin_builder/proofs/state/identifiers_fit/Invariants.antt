@@ -3,5 +3,5 @@ use Rattle.thorin_join.specs.Builder.{IdentifiersFit}
 use Rattle.thorin_builder.proofs.state.identifiers_fit.Given as goal
 
 -- those of the rows so far
-abbrev pub invariant-loop-row : goal.invariant-loop-row
-invariant-loop-row l = IdentifiersFit (take l.row-index l.rows)
+abbrev pub invariant-loop-place : goal.invariant-loop-place
+invariant-loop-place l = IdentifiersFit (take l.place l.rows)

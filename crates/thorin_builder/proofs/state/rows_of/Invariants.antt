@@ -3,6 +3,6 @@ use Rattle.thorin_join.specs.Builder.{rows_of}
 use Rattle.thorin_builder.proofs.state.rows_of.Given as goal
 
 -- those chosen so far, and those chosen of the rows that are left, are those of all
-abbrev pub invariant-loop-row : goal.invariant-loop-row
-invariant-loop-row l = l.chosen.items ++ rows_of l.compilations (drop l.row-index l.rows) ≡ rows_of
+abbrev pub invariant-loop-place : goal.invariant-loop-place
+invariant-loop-place l = l.chosen ++ rows_of l.compilations (drop l.place l.rows) ≡ rows_of
     l.compilations l.rows

@@ -1,21 +1,24 @@
-use Rattle.thorin_builder.proofs.Extending.{front-either}
+use Rattle.std.proofs.Math.Seq.{take-append_seam}
+use Rattle.thorin_builder.proofs.Extending.{front-append}
 use Rattle.thorin_builder.proofs.in_progress.InProgressDwarfPackage.add_unit.Goals as goal
 
-pub returns-in_err-insert-clause-extends : goal.returns-in_err-insert-clause-extends
-returns-in_err-insert-clause-extends c before h =
-    record {
-      file = c.put.ensures.grown before.file h.file;
-      strings = h.strings;
-      rows = rw c.in_ok-reserve.ensures.items h.rows;
-      differing = h.differing;
-    }
+pub returns-in-Ok-clause-extends : goal.returns-in-Ok-clause-extends
+returns-in-Ok-clause-extends c before h = record {
+  file = c.put.ensures.grown before.file h.file;
+  strings = h.strings;
+  rows = rw c.in_ok-push.ensures.pushed (front-append before.rows c.args.self.now.rows _ h.rows);
+  differing = h.differing;
+}
 
-pub returns-clause-extends : goal.returns-clause-extends
-returns-clause-extends c before h =
-    record {
-      file = c.put.ensures.grown before.file h.file;
-      strings = h.strings;
-      rows = rw (c.push.ensures.items, c.in_ok-reserve.ensures.items) (front-either before.rows
-          c.args.self.now.rows.items _ _ h.rows);
-      differing = h.differing;
-    }
+pub returns-in-Err-clause-extends : goal.returns-in-Err-clause-extends
+returns-in-Err-clause-extends c before h = record {
+  file = c.put.ensures.grown before.file h.file;
+  strings = h.strings;
+  rows = rw (
+    c.truncate.ensures,
+    c.in_ok-push.ensures.pushed,
+    c.len-count.ensures,
+    take-append_seam c.args.self.now.rows _,
+  ) h.rows;
+  differing = h.differing;
+}

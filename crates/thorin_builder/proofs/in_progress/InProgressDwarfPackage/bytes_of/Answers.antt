@@ -1,8 +1,10 @@
-use Rattle.std.proofs.Common.{◌≡◌, ◌∙◌, Some, None, ap, sym, refl, rules}
-use Rattle.std.proofs.lemmas.Option.{slice_get_read}
-use Rattle.std.specs.Prelude.{slice_get, position}
+use Rattle.std.proofs.Common.{◌≡◌, ◌∙◌, ◌<◌, Some, None, ap, sym, subst, map, length, rules}
+use Rattle.std.proofs.lemmas.List.{length-map}
+use Rattle.std.proofs.lemmas.List.Quantifiers.{position-Some}
+use Rattle.std.proofs.lemmas.Option.{slice_get-get_or}
+use Rattle.thorin_index.specs.declared.entry.IndexEntry.{IndexEntry}
+use Rattle.std.specs.Prelude.{position, slice_get}
 use Rattle.thorin_input.specs.Names.{same_name}
-use Rattle.thorin_join.specs.State.{unit_bytes}
 use Rattle.thorin_builder.specs.StateView.{in_progress_of}
 use Rattle.thorin_builder.proofs.Names.{same_name-is}
 use Rattle.thorin_builder.proofs.HeldLemmas.{held-none, held-some}
@@ -17,17 +19,18 @@ returns-in_default c =
     sym (held-none c.args.name (in_progress_of c.args.self.now)
     (ap (position (same_name c.args.name)) (sym c.args.self.now.named) ∙ at))
 
-pub returns-in-Some-get : goal.returns-in-Some-get
-returns-in-Some-get c =
-    let at : position (same_name c.args.name) c.args.self.now.names.keys ≡ Some c.in-Some.place =
-    ap (λ f. position f c.args.self.now.names.keys) (sym (same_name-is c.args.name)) ∙ sym
-    c.in-Some.ensures.index in
-    let row : slice_get c.args.self.now.rows.items c.in-Some.place ≡ Some c.in-Some-get.row.now =
-    ap (λ l. slice_get l c.in-Some.place) (sym c.deref.ensures.value) ∙ slice_get_read
-    c.deref.result.now _ c.in-Some.place _ refl c.in-Some-get.ensures.lookup.3.0
-    c.in-Some-get.ensures.lookup.1 in
-    let bytes : c.unit_bytes.result.now ≡ unit_bytes c.args.self.now.object.contents
-    c.in-Some-get.row.now = c.unit_bytes.ensures in
-    ap Some bytes ∙ sym (held-some c.args.name (in_progress_of c.args.self.now) c.in-Some.place
-    c.in-Some-get.row.now (ap (position (same_name c.args.name))
-    (sym c.args.self.now.named) ∙ at) row)
+pub returns : goal.returns
+returns c =
+    let keys = c.args.self.now.names.keys in
+    let rows = c.args.self.now.rows in
+    let place = c.in-Some.place in
+    let at : position (same_name c.args.name) keys ≡ Some place =
+    ap (λ f. position f keys) (sym (same_name-is c.args.name)) ∙ sym c.in-Some.ensures.index in
+    let named : place < length (map (λ (row : IndexEntry). row.id) rows) =
+    subst (λ names. place < length names) c.args.self.now.named
+    (position-Some (same_name c.args.name) keys place c.args.name at).0 in
+    let within : place < length rows = subst (λ n. place < n) (length-map _ _) named in
+    let row : slice_get rows place ≡ Some c.entry.result =
+    slice_get-get_or rows place c.entry.result within ∙ ap Some (sym c.entry.ensures) in
+    ap Some c.unit_bytes.ensures ∙ sym (held-some c.args.name (in_progress_of c.args.self.now) place
+    c.entry.result (ap (position (same_name c.args.name)) (sym c.args.self.now.named) ∙ at) row)

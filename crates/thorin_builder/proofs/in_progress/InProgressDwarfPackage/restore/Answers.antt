@@ -1,7 +1,7 @@
 use Rattle.std.proofs.Common.{◌∙◌, ℕ, ap, sym, map, take, length}
 use Rattle.std.specs.List.{take-map}
 use Rattle.dwp_table.specs.declared.object.DebugTypeSignature.{DebugTypeSignature}
-use Rattle.thorin_parts.specs.declared.entry.IndexEntry.{IndexEntry}
+use Rattle.thorin_index.specs.declared.entry.IndexEntry.{IndexEntry}
 use Rattle.dwp_table.specs.declared.object.DwarfObject.{DwarfObject}
 use Rattle.thorin_builder.proofs.in_progress.InProgressDwarfPackage.restore.Goals as goal
 
@@ -11,8 +11,8 @@ invariant_of-self c = record {
       c.truncate-4.ensures.keys
       ∙ ap (take c.args.mark.now.rows) c.args.self.now.named
       ∙ take-map {X = IndexEntry} {Y = DwarfObject} (λ row. row.id) c.args.mark.now.rows
-      c.args.self.now.rows.items
-      ∙ ap (map (λ row. row.id)) (sym c.truncate-2.ensures.items);
+      c.args.self.now.rows
+      ∙ ap (map (λ row. row.id)) (sym c.truncate-2.ensures);
 }
 
 pub returns : goal.returns
@@ -21,7 +21,7 @@ returns c before h m =
     a.lengths) m) in
     let strings = c.truncate.ensures ∙ ap (λ n. take n c.args.self.now.strings)
     (ap (λ a. a.strings) m) ∙ h.strings in
-    let rows = c.truncate-2.ensures.items ∙ ap (λ n. take n c.args.self.now.rows.items)
+    let rows = c.truncate-2.ensures ∙ ap (λ n. take n c.args.self.now.rows)
     (ap (λ a. a.rows) m) ∙ h.rows in
     let differing = ap (map (λ s. s.0)) (c.truncate-3.ensures.items ∙ ap (λ n.
     take n c.args.self.now.differing.items) (ap (λ a. a.differing) m)) ∙ sym

@@ -1,0 +1,36 @@
+use Rattle.std.proofs.Common.{◌≡◌, ◌∙◌, ap, sym, subst, get_or}
+use Rattle.std.proofs.lemmas.List.{get_or_default}
+use Rattle.thorin_index.specs.declared.entry.IndexEntry.{IndexEntry}
+use Rattle.thorin_index.specs.Rows.{blank}
+use Rattle.thorin_join.specs.State.{InProgress, with_new_unit, with_new_units}
+use Rattle.thorin_builder.specs.StateView.{in_progress_of}
+use Rattle.thorin_builder.proofs.NewUnitLemmas.{AreNumbered, first_of, rest_of, with_rows}
+use Rattle.thorin_builder.proofs.in_progress.InProgressDwarfPackage.add_units.Goals as goal
+
+pub loop-name-preserved : goal.loop-name-preserved
+unfolding with_new_units
+loop-name-preserved c =
+    let rows = c.args.new.now.rows.items in
+    let steps = c.in-Some.ensures.steps in
+    let numbered = subst (AreNumbered rows) steps c.loop-name.invariant.numbered in
+    let row : c.index-row.result.now ≡ get_or rows c.in-Some.unit.now.row blank =
+    c.index-row.ensures ∙ get_or_default rows c.in-Some.unit.now.row _ blank
+    (first_of rows _ _ numbered) in
+    let added = c.in_ok-add_unit.ensures.meaning
+    ∙ ap (λ (r : IndexEntry). with_new_unit (in_progress_of c.loop-name.self) (
+      c.in-Some.name.now,
+      record {
+        place = c.in-Some.unit.now.place;
+        bytes = c.in-Some.unit.now.bytes.now;
+        row = record r { id = c.in-Some.name.now };
+      },
+    )) row in
+    record {
+      units = ap (λ (made : InProgress). with_new_units made (with_rows rows c.next.new.self)) added
+          ∙ sym (ap (λ units. with_new_units (in_progress_of c.loop-name.self)
+          (with_rows rows units)) steps)
+          ∙ c.loop-name.invariant.units;
+      numbered = rest_of rows _ _ numbered;
+      extends = λ before h. c.add_unit.ensures.extends before
+          (c.loop-name.invariant.extends before h);
+    }

@@ -1,0 +1,40 @@
+use Rattle.std.proofs.Common.{◌≡◌, ◌∙◌, ◌+◌, ◌<◌, ℕ, List, [], ◌∷◌, map, drop, get_or, length, Err}
+use Rattle.std.proofs.Common.{ap, sym, refl}
+use Rattle.std.proofs.lemmas.List.{drop_more}
+use Rattle.std.proofs.lemmas.Result.{err_from_is_err_and}
+use Rattle.thorin_faults.specs.Fault.{Fault}
+use Rattle.thorin_input.specs.declared.object.UsedSection.{UsedSection}
+use Rattle.thorin_input.specs.NewUnits.{Met, New, none_met, new_units, with_section}
+use Rattle.thorin_input.specs.NewUnits.{with_each_section}
+use Rattle.thorin_input.specs.View.{used}
+use Rattle.thorin_builder.specs.declared.units.Adding.{Adding}
+use Rattle.thorin_builder.specs.UnitView.{adding_of}
+use Rattle.thorin_builder.proofs.new_units.NewUnits.read.Goals as goal
+
+-- the first fault of a section is that of all
+stopped : (adding : Adding) (sections : List UsedSection) (i : ℕ) (d : UsedSection)
+    (before : Met × New) (fault : Fault) → sections ≡ adding.source.now.object.sections.items
+    → i < length sections → with_each_section (adding_of adding) before
+    (map used (drop i adding.source.now.object.sections.items))
+    ≡ with_each_section (adding_of adding) (none_met, record { units = []; differing = [] })
+    (map used adding.source.now.object.sections.items)
+    → with_section (adding_of adding) before (used (get_or sections i d)) ≡ Err fault
+    → new_units (adding_of adding) ≡ Err fault
+unfolding new_units with_each_section
+stopped adding sections i d before fault all inside left first =
+    let more : drop i adding.source.now.object.sections.items
+    ≡ get_or sections i d ∷ drop (i + 1) sections =
+    ap (drop i) (sym all) ∙ drop_more sections i d inside in
+    let met : with_each_section (adding_of adding) (
+      none_met,
+      record { units = []; differing = [] },
+    ) (map used adding.source.now.object.sections.items) ≡ Err fault =
+    sym left ∙ rw (more, first) refl in
+    rw met refl
+
+pub returns-in_err-add_section-clause-meaning : goal.returns-in_err-add_section-clause-meaning
+returns-in_err-add_section-clause-meaning c =
+    let p = err_from_is_err_and c.from_residual.result c.from_residual.ensures.1 in
+    rw (p.1, p.2) (λ other. stopped c.args.adding.now c.deref-section-items.result.now
+    c.loop-section.section-index _ _ _ c.deref-section-items.ensures.value c.loop-section-test.true
+    c.loop-section.invariant.0 (c.in_err-add_section.ensures.meaning other))

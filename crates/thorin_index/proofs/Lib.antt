@@ -1,0 +1,10 @@
+pub mod Again
+pub mod Columns
+pub mod Each
+pub mod Looks
+pub mod ReadAgain
+pub mod Readable
+pub mod SameEntry
+pub mod Signatures
+pub mod RowLemmas
+pub mod RowsAgain

@@ -1,0 +1,11 @@
+use Rattle.std.proofs.Common.{map, take}
+use Rattle.dwp_table.specs.Table.{IsHashTable}
+use Rattle.thorin_index.specs.Buckets.{IsLooked}
+use Rattle.thorin_index.proofs.buckets.place_units.Given as goal
+
+-- the units so far stand in the table
+abbrev pub invariant-loop-i : goal.invariant-loop-i
+invariant-loop-i g l = record {
+  table : IsHashTable (map g.B.Bucketable.identifier (take l.i l.units)) l.slots;
+  looked : IsLooked (map g.B.Bucketable.identifier (take l.i l.units)) l.slots l.looked.items;
+}

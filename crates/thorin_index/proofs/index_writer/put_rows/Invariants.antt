@@ -1,0 +1,8 @@
+use Rattle.std.proofs.Common.{◌≡◌, ◌++◌, take}
+use Rattle.thorin_index.specs.IndexText.{rows_bytes}
+use Rattle.thorin_index.specs.Measures.{measure_of}
+use Rattle.thorin_index.proofs.index_writer.put_rows.Given as goal
+
+abbrev pub invariant-loop-place : goal.invariant-loop-place
+invariant-loop-place l = l.out.items ≡ l.initial.out.items ++ rows_bytes l.order
+    (measure_of l.measure) l.columns (take l.place l.rows)

@@ -1,0 +1,34 @@
+-- What a unit's entry has for each section (DWARF 5, 7.3.5.3; the GNU page DebugFissionDWP).
+use Rattle.std.specs.Prelude.{ℕ, Option, Some, None}
+use Rattle.dwp_base.specs.declared.section.SectionKind.{SectionKind}
+use Rattle.dwp_base.specs.declared.section.SectionKind.TheVariants.{Info, Types, Abbrev, Line, Loc}
+use Rattle.dwp_base.specs.declared.section.SectionKind.TheVariants.{Loclists, Rnglists, StrOffsets}
+use Rattle.dwp_base.specs.declared.section.SectionKind.TheVariants.{Macinfo, Macro, Str, CuIndex}
+use Rattle.dwp_base.specs.declared.section.SectionKind.TheVariants.{TuIndex}
+use Rattle.dwp_base.specs.declared.section.Contribution.{Contribution}
+use Rattle.thorin_index.specs.declared.entry.IndexEntry.{IndexEntry}
+
+-- the entry's part of a section
+abbrev pub contribution_to : SectionKind → IndexEntry → Option Contribution
+contribution_to Info entry = entry.debug_info
+contribution_to Types entry = entry.debug_types
+contribution_to Abbrev entry = entry.debug_abbrev
+contribution_to Line entry = entry.debug_line
+contribution_to Loc entry = entry.debug_loc
+contribution_to Loclists entry = entry.debug_loclists
+contribution_to Rnglists entry = entry.debug_rnglists
+contribution_to StrOffsets entry = entry.debug_str_offsets
+contribution_to Macinfo entry = entry.debug_macinfo
+contribution_to Macro entry = entry.debug_macro
+contribution_to Str entry = None
+contribution_to CuIndex entry = None
+contribution_to TuIndex entry = None
+
+-- where a part begins and how much it has; an absent one has 0 for both
+abbrev pub offset_or_0 : Option Contribution → ℕ
+offset_or_0 None = 0
+offset_or_0 (Some c) = c.offset.0
+
+abbrev pub size_or_0 : Option Contribution → ℕ
+size_or_0 None = 0
+size_or_0 (Some c) = c.size

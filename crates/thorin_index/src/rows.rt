@@ -1,0 +1,213 @@
+//! The rows of an index, each held in few bytes: what rows in turn share is held once.
+
+ghost use Rattle.std.specs.Prelude.{◌≡◌, ◌<◌, ◌++◌, [], ◌∷◌, Some, get_or, length, slice_get, take};
+ghost use Rattle.std.specs.Prelude.{IfOk, OnOk, OnErr, IsTrue};
+ghost use Rattle.dwp_table.specs.Table.{HasSlots, IsHashTable};
+ghost use Rattle.thorin_faults.specs.Answers.{Gives};
+ghost use Rattle.thorin_index.specs.EntryTests.{count_test};
+ghost use Rattle.thorin_index.specs.IndexText.{entry_ids};
+ghost use Rattle.thorin_index.specs.Rows.{with_own};
+
+use crate::buckets::bucket;
+use crate::entry::IndexEntry;
+use dwp_base::Contribution;
+use dwp_bytes::Encoding;
+use dwp_table::{Bucketable, CONTRIBUTION_KINDS, DebugTypeSignature, DwarfObject};
+use std::alloc::{AllocError, Global};
+use std::marker::Model;
+use thorin_faults::Error;
+
+/// The contribution of a unit to the section that it stands in, which it shares with no other.
+#[derive(Clone, Copy)]
+enum Own {
+    /// It has none.
+    Nothing,
+    /// To `.debug_info.dwo`.
+    Info(Contribution),
+    /// To `.debug_types.dwo`.
+    Types(Contribution),
+}
+
+/// A row but for what it may share with others, of which it has the number.
+#[derive(Clone, Copy)]
+struct Row {
+    id: DwarfObject,
+    own: Own,
+    shared: usize,
+}
+
+impl Bucketable for Row {
+    ghost use Rattle.dwp_table.specs.Objects.{identifier_of};
+
+    ghost identifier = { λ row. identifier_of row.id };
+
+    fn index(&self) -> u64 {
+        self.id.index()
+    }
+}
+
+/// An entry but for its unit, and for the contribution to the section that the unit stands in.
+fn split(entry: &IndexEntry) -> (Own, IndexEntry)
+    ensures { with_own entry.now.id result.0 result.1 ≡ entry.now }
+{
+    let mut shared = *entry;
+    shared.id = DwarfObject::TypeUnit(DebugTypeSignature(0));
+    match (entry.debug_info, entry.debug_types) {
+        (Some(range), _) => {
+            shared.debug_info = None;
+            (Own::Info(range), shared)
+        }
+        (None, Some(range)) => {
+            shared.debug_types = None;
+            (Own::Types(range), shared)
+        }
+        (None, None) => (Own::Nothing, shared),
+    }
+}
+
+/// Whether two encodings are the same.
+fn same_encoding(a: Encoding, b: Encoding) -> bool
+    ensures { IsTrue result → a ≡ b }
+{
+    a == b
+}
+
+/// Whether two units are the same.
+fn same_unit(a: DwarfObject, b: DwarfObject) -> bool
+    ensures { IsTrue result → a ≡ b }
+{
+    a == b
+}
+
+/// Whether two contributions are the same.
+fn same_contribution(a: Option<Contribution>, b: Option<Contribution>) -> bool
+    ensures { IsTrue result → a ≡ b }
+{
+    a == b
+}
+
+/// Whether two entries are the same.
+fn same_entry(a: &IndexEntry, b: &IndexEntry) -> bool
+    ensures { IsTrue result → a.now ≡ b.now }
+{
+    for kind in &CONTRIBUTION_KINDS {
+        if !same_contribution(a.contribution(*kind), b.contribution(*kind)) {
+            return false;
+        }
+    }
+    same_encoding(a.encoding, b.encoding) && same_unit(a.id, b.id)
+}
+
+/// The number of an entry among others: that of the last, where it is the same, else of a new last
+/// one.
+///
+/// # Errors
+/// `AllocError` where there is no memory; then nothing is added.
+pub fn share(entries: &mut Vec<IndexEntry>, entry: &IndexEntry) -> Result<usize, AllocError>
+    ensures there { IfOk result (λ number. slice_get entries.new.items number ≡ Some entry.now) }
+    ensures kept { take (length entries.old.items) entries.new.items ≡ entries.old.items }
+{
+    let count = entries.len();
+    if count > 0 && same_entry(&entries[count - 1], entry) {
+        return Ok(count - 1);
+    }
+    entries.push(*entry)?;
+    Ok(count)
+}
+
+/// The rows of an index. In clauses they are the list of their entries.
+///
+/// The units of an object share their contributions to all sections but the one that they stand in:
+/// a row in a row of such rows takes 48 bytes, where an entry takes 264.
+#[derive(Drop)]
+pub struct IndexRows {
+    rows: Vec<Row>,
+    // What rows share: entries whose unit, and whose contribution to its section, say nothing.
+    shared: Vec<IndexEntry>,
+}
+
+impl Model for IndexRows {
+    ghost use Rattle.std.specs.Prelude.{◌<◌, All, List, length, map};
+    ghost use Rattle.thorin_index.specs.declared.entry.IndexEntry.{IndexEntry};
+    ghost use Rattle.thorin_index.specs.Rows.{row_of};
+
+    ghost Value = { List IndexEntry };
+
+    ghost view = { λ r. map (row_of r.shared.items) r.rows.items };
+
+    ghost invariant = { λ r. All (λ row. row.shared < length r.shared.items) r.rows.items };
+}
+
+impl IndexRows {
+    /// No rows, which take no memory.
+    pub fn new(alloc: Global) -> IndexRows
+        ensures { result ≡ [] }
+    {
+        IndexRows {
+            rows: Vec::new(alloc),
+            shared: Vec::new(alloc),
+        }
+    }
+
+    /// How many rows there are.
+    pub fn len(&self) -> usize
+        ensures { result ≡ length self.now }
+    {
+        self.rows.len()
+    }
+
+    /// The entry of a row.
+    pub fn entry(&self, place: usize) -> IndexEntry
+        requires { place < length self.now }
+        ensures { result ≡ get_or self.now place result }
+    {
+        let row = self.rows[place];
+        let mut entry = self.shared[row.shared];
+        entry.id = row.id;
+        match row.own {
+            Own::Nothing => {}
+            Own::Info(range) => entry.debug_info = Some(range),
+            Own::Types(range) => entry.debug_types = Some(range),
+        }
+        entry
+    }
+
+    /// Adds a row.
+    ///
+    /// # Errors
+    /// `AllocError` where there is no memory; then the rows are as they were.
+    pub fn push(&mut self, entry: &IndexEntry) -> Result<(), AllocError>
+        ensures pushed { OnOk result (self.new ≡ self.old ++ entry.now ∷ []) }
+        ensures err { OnErr result (self.new ≡ self.old) }
+    {
+        let (own, rest) = split(entry);
+        let shared = share(&mut self.shared, &rest)?;
+        let row = Row {
+            id: entry.id,
+            own,
+            shared,
+        };
+        self.rows.push(row)?;
+        Ok(())
+    }
+
+    /// The slots of a hash table of the rows' units.
+    ///
+    /// # Errors
+    /// Those of `bucket`.
+    pub(crate) fn slots(&self, alloc: Global) -> Result<Vec<u32>, Error>
+        ensures refusal { Gives (λ _. tt) result (count_test (length self.now)) }
+        ensures table { IfOk result (λ slots. IsHashTable (entry_ids self.now) slots.items) }
+        ensures slots { IfOk result (λ slots. HasSlots (length self.now) (length slots.items)) }
+    {
+        let table = bucket(alloc, &self.rows)?;
+        Ok(table.slots)
+    }
+
+    /// Forgets the rows behind so many.
+    pub fn truncate(&mut self, count: usize)
+        ensures { self.new ≡ take count self.old }
+    {
+        self.rows.truncate(count);
+    }
+}

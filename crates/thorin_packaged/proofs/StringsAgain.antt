@@ -1,0 +1,78 @@
+-- A rewritten range of string offsets reads as it read before.
+use Rattle.std.proofs.Common.{◌≡◌, ℕ, ◌+◌, ◌*◌, ◌<◌, ◌≤◌, Bool, true, false, cond, ltb, List}
+use Rattle.std.proofs.Common.{length, take, drop, Some, None, Result, Ok, Err, sym, refl, ◌∙◌}
+use Rattle.std.proofs.Common.{⊎_elim, arith}
+use Rattle.std.proofs.lemmas.Bool.{cases_lt, lt-ltb, le-ltb}
+use Rattle.dwp_base.specs.declared.endian.Endianness.{Endianness}
+use Rattle.dwp_base.specs.Numbers.{number}
+use Rattle.dwp_bytes.specs.declared.encoding.Encoding.{Encoding}
+use Rattle.dwp_bytes.specs.declared.encoding.Format.{Format}
+use Rattle.dwp_bytes.specs.declared.fault.ReadError.TheVariants.{UnexpectedEof}
+use Rattle.dwp_bytes.specs.Encoding.{offset_size}
+use Rattle.dwp_bytes.specs.StringOffsets.{header_size, entry_count, string_at}
+use Rattle.dwp_index.specs.Strings.{entry_in, string_in}
+use Rattle.thorin_faults.specs.Fault.{Fault}
+use Rattle.thorin_faults.specs.Answers.{as_fault}
+use Rattle.thorin_strings.specs.Strings.{data_of, IsTable}
+use Rattle.thorin_strings.specs.StringOffsets.{offset_at, named_at}
+use Rattle.thorin_strings.specs.Rewritten.{NamesTheSame}
+use Rattle.thorin_packaged.proofs.ReadAlike.{bind_ok}
+use Rattle.thorin_packaged.specs.ReadStrings.{ReadsAlike}
+
+-- ---- the string of an entry
+as_fault_ok : {A E : Type 0} (f : E → Fault) (r : Result A E) (x : A)
+    → as_fault f r ≡ Ok x → r ≡ Ok x
+as_fault_ok f (Ok y) x h = cc
+as_fault_ok f (Err e) x h = absurd cc
+
+read_by : (b : Bool) (n m : ℕ) → cond b (Err UnexpectedEof) (Ok n) ≡ Ok m → n ≡ m
+read_by true n m h = absurd cc
+read_by false n m h = cc
+
+offset_is : (order : Endianness) (format : Format) (bytes : List ℕ) (at offset : ℕ)
+    → offset_at order format bytes at ≡ Ok offset → number order (offset_size format)
+    (drop at bytes) ≡ offset
+unfolding offset_at
+offset_is order format bytes at offset h = read_by _ _ offset h
+
+-- an entry that names a string is read as that string
+named_read : (order : Endianness) (encoding : Encoding) (section bytes : List ℕ) (i : ℕ)
+    (string : List ℕ) → i < entry_count encoding (length bytes) → named_at order encoding section
+    bytes i ≡ Ok string → string_in order encoding section bytes i ≡ Ok (Some string)
+unfolding string_in entry_in named_at
+named_read order encoding section bytes i string less h =
+    let width = offset_size encoding.format in
+    let offset = bind_ok (as_fault _ (offset_at order encoding.format bytes (header_size encoding +
+    i * width))) _ string h in
+    let there : ltb i (entry_count encoding (length bytes)) ≡ true = lt-ltb i _ less in
+    let number_is : number order width (drop (header_size encoding + i * width) bytes) ≡ offset.0 =
+    offset_is order encoding.format bytes (header_size encoding + i * width) offset.0
+    (as_fault_ok _ _ offset.0 offset.1) in
+    let read : string_at section offset.0 ≡ Ok string = as_fault_ok _ (string_at section offset.0)
+    string offset.2 in
+    rw (there, number_is, read) refl
+
+-- past the last there is none
+past_read : (order : Endianness) (encoding : Encoding) (section bytes : List ℕ) (i : ℕ)
+    → entry_count encoding (length bytes) ≤ i → string_in order encoding section bytes i ≡ Ok None
+unfolding string_in entry_in
+past_read order encoding section bytes i past =
+    let none : ltb i (entry_count encoding (length bytes)) ≡ false = le-ltb i _ past in
+    rw none refl
+
+pub strings_again : (order : Endianness) (encoding : Encoding) (section bytes : List ℕ)
+    (before : List (List ℕ)) (rewritten : List ℕ) (after final : List (List ℕ)) → NamesTheSame order
+    encoding section bytes (length bytes) before rewritten after → IsTable final
+    → take (length after) final ≡ after → (i : ℕ) → ReadsAlike order encoding section bytes
+    (data_of final) rewritten i
+strings_again order encoding section bytes before rewritten after final names final_table kept i =
+    ⊎_elim
+    (λ less. let one = names.named i less in
+    let old = named_read order encoding section bytes i one.string less one.old in
+    let new = named_read order encoding (data_of final) rewritten i one.string
+    (omega (arith, names.count)) (one.new final final_table kept) in
+    record { readable = rw old refl; same = new ∙ sym old })
+    (λ past. let old = past_read order encoding section bytes i past in
+    let new = past_read order encoding (data_of final) rewritten i (omega (arith, names.count)) in
+    record { readable = rw old refl; same = new ∙ sym old })
+    (cases_lt i (entry_count encoding (length bytes)))

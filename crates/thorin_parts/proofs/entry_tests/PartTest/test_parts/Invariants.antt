@@ -1,9 +1,0 @@
-use Rattle.std.proofs.Common.{◌≡◌, drop}
-use Rattle.thorin_parts.specs.EntryTests.{each_part}
-use Rattle.thorin_parts.specs.PartTests.{test_of}
-use Rattle.thorin_parts.proofs.entry_tests.PartTest.test_parts.Given as goal
-
--- what is left has the first fault of all
-abbrev pub invariant-loop-kind : goal.invariant-loop-kind
-invariant-loop-kind l = each_part (test_of l.self) (drop l.kind-index l.kinds) l.entry ≡ each_part
-    (test_of l.self) l.kinds l.entry

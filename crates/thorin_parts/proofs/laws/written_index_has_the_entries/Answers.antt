@@ -1,5 +1,0 @@
-use Rattle.thorin_parts.proofs.RowsAgain.{written_rows}
-use Rattle.thorin_parts.proofs.laws.written_index_has_the_entries.Goals as goal
-
-pub returns : goal.returns
-returns c = written_rows

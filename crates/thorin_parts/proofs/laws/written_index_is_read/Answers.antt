@@ -1,5 +1,0 @@
-use Rattle.thorin_parts.proofs.Readable.{index_is_read}
-use Rattle.thorin_parts.proofs.laws.written_index_is_read.Goals as goal
-
-pub returns : goal.returns
-returns c = index_is_read
