@@ -21,11 +21,12 @@ use Rattle.thorin_queries.specs.Checking.{IsOfChecking, IsTaken, Finishes}
 use Rattle.thorin_queries.specs.Checking.{ChecksIndexed, ChecksPackage, ChecksBytes, Checks}
 use Rattle.thorin_queries.specs.Faults.{TellsListed}
 use Rattle.thorin_queries.specs.Listing.{AreByRow}
-use Rattle.thorin_queries.specs.Telling.{IsOfPrinting, Grows, Told, TellsOr, Tells}
+use Rattle.thorin_queries.specs.Telling.{IsOfPrinting, Grows, fault_count, counted_on, Progress}
+use Rattle.thorin_queries.specs.Telling.{Outcome, Told, TellsOr, Tells}
 use Rattle.thorin_queries.specs.declared.executables.Reading.{Reading}
 use Rattle.thorin_queries.specs.declared.output.Failure.{Failure}
 use Rattle.thorin_queries.specs.declared.output.Failure.TheVariants as failures
-use Rattle.thorin_queries.proofs.Told.{told_as, tells_as, grown, none_grown}
+use Rattle.thorin_queries.proofs.Told.{told_as, tells_as, grown, none_grown, all_counted}
 
 module _ (offer : List ℕ → Result (List ℕ) IoError → Type 0) where
   -- ---- failures
@@ -140,16 +141,15 @@ module _ (offer : List ℕ → Result (List ℕ) IoError → Type 0) where
 
   -- ---- an executable
 
-  module _ (reading : Reading) (pack : Package) (executable : List ℕ) (a : Option (List ℕ))
-      (held : List ℕ) (b : Option (List ℕ)) (left : List ℕ) where
-    pub executable_read : (result : Result ℕ Failure) (bytes lent : List ℕ)
+  module _ (reading : Reading) (pack : Package) (executable : List ℕ) (a b : Progress) where
+    pub executable_read : (result : Outcome) (bytes lent : List ℕ)
         → offer executable (Ok bytes) → lent ≡ bytes
-        → Tells (TellsTaken reading pack executable lent) a held b left result
+        → Tells (TellsTaken reading pack executable lent) a b result
         → TellsOr (IsOfReading offer executable)
-        (TellsExecutable offer reading pack executable) a held b left result
-    executable_read (Ok count) bytes lent read same t =
+        (TellsExecutable offer reading pack executable) a b result
+    executable_read (Ok done) bytes lent read same t =
         told_as (TellsTaken reading pack executable lent)
-        (TellsExecutable offer reading pack executable) a held b left count
+        (TellsExecutable offer reading pack executable) a b
         (λ lines k. record {
           bytes = bytes;
           read = read;
@@ -164,50 +164,54 @@ is_itself : (decompresses : Bool) (bytes : List ℕ) → IsTaken decompresses by
 is_itself false bytes = refl
 is_itself true bytes = tt
 
-module _ (reading : Reading) (pack : Package) (executable bytes : List ℕ)
-    (a : Option (List ℕ)) (held : List ℕ) (b : Option (List ℕ)) (left : List ℕ)
-    (result : Result ℕ Failure) where
-  pub taken_as_it_is : Tells (TellsListed pack executable (skeletons_by reading.nameless bytes)) a
-      held b left result
-      → Tells (TellsTaken reading pack executable bytes) a held b left result
+module _ (reading : Reading) (pack : Package) (executable bytes : List ℕ) (a b : Progress)
+    (result : Outcome) where
+  pub taken_as_it_is : Tells (TellsListed pack executable (skeletons_by reading.nameless bytes)) a b
+      result
+      → Tells (TellsTaken reading pack executable bytes) a b result
   taken_as_it_is h = tells_as (TellsListed pack executable (skeletons_by reading.nameless bytes))
-      (TellsTaken reading pack executable bytes) a held b left result
+      (TellsTaken reading pack executable bytes) a b result
       (λ lines k.
       record { taken = bytes; is_taken = is_itself reading.decompresses bytes; listed = k }) h
 
   pub taken_plain : (plain : List ℕ) → reading.decompresses ≡ true
-      → Tells (TellsListed pack executable (skeletons_by reading.nameless plain)) a
-      held b left result
-      → Tells (TellsTaken reading pack executable bytes) a held b left result
+      → Tells (TellsListed pack executable (skeletons_by reading.nameless plain)) a b result
+      → Tells (TellsTaken reading pack executable bytes) a b result
   taken_plain plain e h =
       tells_as (TellsListed pack executable (skeletons_by reading.nameless plain))
-      (TellsTaken reading pack executable bytes) a held b left result
+      (TellsTaken reading pack executable bytes) a b result
       (λ lines k. record { taken = plain; is_taken = rw e tt; listed = k }) h
 
 -- ---- a package
 
 module _ (offer : List ℕ → Result (List ℕ) IoError → Type 0) (reading : Reading)
     (executables : List (Bor (List ℕ))) (pack : Package) (entries : List UnitEntry) where
-  pub checked : (a b c : Option (List ℕ)) (held left : List ℕ) (faults : ℕ)
-      (result : Result ℕ Failure) → AreByRow pack entries → held ≡ []
-      → Told (TellsPackage offer reading pack entries executables) a held b left faults
-      → Finishes (length entries) faults b left c result
-      → ChecksIndexed offer reading executables pack a c result
-  checked a b c held left faults (Ok status) by_row none t f = record {
-    entries = entries;
-    by_row = by_row;
-    lines = t.lines;
-    told = t.are;
-    printed = subst (Appends a c)
-        (sym (append_assoc t.handed left (counts_line (length entries) faults))
-        ∙ ap (λ l. l ++ counts_line (length entries) faults)
-        (sym t.split ∙ ap (λ l. l ++ concat t.lines) none)
-        ∙ ap (λ n. concat t.lines ++ counts_line (length entries) n) t.counted)
-        (Appends-trans a b c t.handed (left ++ counts_line (length entries) faults) t.added f.0);
-    status_is = f.1 ∙ ap status_of t.counted;
-  }
-  checked a b c held left faults (Err failure) by_row none t f =
-      (of_printing offer executables failure f.0, grown a b c (t.handed, t.added) f.1)
+  pub checked : (a b : Progress) (c : Option (List ℕ)) (result : Result ℕ Failure)
+      → AreByRow pack entries → a.waiting ≡ [] → a.count ≡ 0
+      → Told (TellsPackage offer reading pack entries executables) a b
+      → Finishes (length entries) b.count b.written b.waiting c result
+      → ChecksIndexed offer reading executables pack a.written c result
+  checked a b c (Ok status) by_row none begun t f =
+      let all : b.count ≡ fault_count t.lines =
+      t.counted ∙ ap (λ n. counted_on n t.lines) begun ∙ all_counted t.lines in record {
+        entries = entries;
+        by_row = by_row;
+        lines = t.lines;
+        told = t.are;
+        printed = subst (Appends a.written c)
+            (sym (append_assoc t.handed b.waiting (counts_line (length entries) b.count))
+            ∙ ap (λ l. l ++ counts_line (length entries) b.count)
+            (sym t.split ∙ ap (λ l. l ++ concat t.lines) none)
+            ∙ ap (λ n. concat t.lines ++ counts_line (length entries) n) all)
+            (Appends-trans a.written b.written c t.handed
+            (b.waiting ++ counts_line (length entries) b.count) t.added f.0);
+        status_is = f.1 ∙ ap status_of all;
+      }
+  checked a b c (Err failure) by_row none begun t f = (
+    of_printing offer executables failure f.0,
+    grown a.written b.written c
+        (t.handed, t.added) f.1,
+  )
 
 pub gave_up : (offer : List ℕ → Result (List ℕ) IoError → Type 0) (reading : Reading)
     (executables : List (Bor (List ℕ))) (pack : Package) (a b c : Option (List ℕ))

@@ -1,5 +1,5 @@
 -- What was printed, or begun.
-use Rattle.std.proofs.Common.{◌≡◌, ℕ, List, length, take, sym, ◌∙◌, ap}
+use Rattle.std.proofs.Common.{◌≡◌, ℕ, Bool, List, length, take, sym, ◌∙◌, ap}
 use Rattle.std.proofs.Common.{subst}
 use Rattle.std.proofs.Common.{arith, refl}
 use Rattle.std.specs.Prelude.{Option, Some, None, Result, Ok, Err, OnErr}
@@ -12,8 +12,11 @@ use Rattle.std.proofs.Math.Seq.{take-append_seam}
 use Rattle.std.proofs.lemmas.List.{append-nil}
 use Rattle.dwp_elf.proofs.SoFar.{SoFar, Keeps-from_none}
 use Rattle.thorin_queries.specs.Answers.{Answer, HasBeginning, Comes, Reads, FailsToRead}
+use Rattle.thorin_queries.specs.Finding.{Seeks, FindsAsked}
 use Rattle.thorin_queries.specs.declared.output.Failure.{Failure}
 use Rattle.thorin_queries.specs.declared.output.Failure.TheVariants as failures
+use Rattle.thorin_queries.specs.declared.wanted.Wanted.{Wanted}
+use Rattle.dwp_table.specs.declared.object.DwarfObject.{DwarfObject}
 
 -- all of it is a beginning
 pub whole : (old new : Option (List ℕ)) (bytes : List ℕ) → Appends old new bytes
@@ -107,3 +110,15 @@ module _ (offer : List ℕ → Result (List ℕ) IoError → Type 0) (path : Lis
       → Reads offer path meant a a (Err failure)
   unfolding Reads
   unread a failure h = inr (h, Keeps-refl a)
+
+-- the words ask for no unit, or for nothing of it: nothing was handed over
+pub not_sought : (offer : List ℕ → Result (List ℕ) IoError → Type 0) (path : List ℕ)
+    (as_json : Bool) (a : Option (List ℕ)) (object : Result DwarfObject Failure)
+    (wanted : Result Wanted Failure) (failure : Failure)
+    → Seeks as_json object wanted (Err failure)
+    → FindsAsked offer path as_json a a object wanted (Err failure)
+not_sought offer path as_json a (Ok object) (Ok wanted) failure h = absurd cc
+not_sought offer path as_json a (Ok object) (Err cause) failure h =
+    let same : failure ≡ cause = cc in (ap Err same, Keeps-refl a)
+not_sought offer path as_json a (Err cause) wanted failure h =
+    let same : failure ≡ cause = cc in (ap Err same, Keeps-refl a)

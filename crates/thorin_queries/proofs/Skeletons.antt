@@ -13,32 +13,23 @@ use Rattle.thorin_faults.specs.declared.fault.Error.{Error}
 use Rattle.thorin_faults.specs.declared.fault.Error.TheVariants.{Memory}
 use Rattle.thorin_queries.specs.Faults.{fault_line, missing_text, missing_lines, IsBroken}
 use Rattle.thorin_queries.specs.Faults.{TellsListed}
-use Rattle.thorin_queries.specs.Telling.{Told, Tells, Is, IsLine, IsSum}
-use Rattle.thorin_queries.specs.Telling.{IsOfPrinting}
-use Rattle.thorin_queries.specs.declared.output.Failure.{Failure}
-use Rattle.thorin_queries.proofs.Told.{none_told, then_or, tells_as}
-use Rattle.thorin_queries.proofs.Told.{stopped_behind}
+use Rattle.thorin_queries.specs.Telling.{Outcome, Progress, Told, Tells, Is}
+use Rattle.thorin_queries.proofs.Told.{told_then, tells_as, stopped_behind}
 
-module _ (executable : List ℕ) (named : Named) (looked : Result (Option FoundUnit) PackageError)
-    (a : Option (List ℕ)) (held : List ℕ) where
+module _ (executable : List ℕ) (named : Named)
+    (looked : Result (Option FoundUnit) PackageError) where
   pub missing_some : (unit : FoundUnit) → looked ≡ Ok (Some unit)
-      → Told (Is (missing_lines executable named looked)) a held a held 0
-  missing_some unit e =
-      subst (λ r. Told (Is (missing_lines executable named r)) a held a held 0) (sym e)
-      (none_told (Is (missing_lines executable named (Ok (Some unit)))) refl a held)
+      → [] ≡ missing_lines executable named looked
+  missing_some unit e = rw e refl
 
   pub missing_unread : (cause : PackageError) → looked ≡ Err cause
-      → Told (Is (missing_lines executable named looked)) a held a held 0
-  missing_unread cause e =
-      subst (λ r. Told (Is (missing_lines executable named r)) a held a held 0) (sym e)
-      (none_told (Is (missing_lines executable named (Err cause))) refl a held)
+      → [] ≡ missing_lines executable named looked
+  missing_unread cause e = rw e refl
 
-  pub missing_none : (b : Option (List ℕ)) (left : List ℕ) (result : Result ℕ Failure)
-      → looked ≡ Ok None
-      → Tells (IsLine (fault_line named.0 (missing_text executable named.1))) a held b left result
-      → Tells (Is (missing_lines executable named looked)) a held b left result
-  missing_none b left result e h =
-      subst (λ r. Tells (Is (missing_lines executable named r)) a held b left result) (sym e) h
+  pub missing_none : looked ≡ Ok None → (text : List ℕ)
+      → text ≡ missing_text executable named.1
+      → fault_line named.0 text ∷ [] ≡ missing_lines executable named looked
+  missing_none e text is = rw e (ap (λ x. fault_line named.0 x ∷ []) is)
 
 module _ (pack : Package) (executable : List ℕ) (all : Listed) where
   -- what is told of those that are left makes, behind these lines, what is told of all
@@ -82,46 +73,38 @@ module _ (pack : Package) (executable : List ℕ) (all : Listed) where
 
 -- a list that begins with its fault
 pub only_broken : (pack : Package) (executable : List ℕ) (listed : Listed) (fault : Fault)
-    (a : Option (List ℕ)) (held : List ℕ) (b : Option (List ℕ)) (left : List ℕ)
-    (result : Result ℕ Failure) → listed ≡ ([], Some fault)
-    → Tells (IsBroken executable) a held b left result
-    → Tells (TellsListed pack executable listed) a held b left result
-only_broken pack executable listed fault a held b left result e h =
-    tells_as (IsBroken executable) (TellsListed pack executable listed) a held b left result
+    (a b : Progress) (result : Outcome) → listed ≡ ([], Some fault)
+    → Tells (IsBroken executable) a b result → Tells (TellsListed pack executable listed) a b result
+only_broken pack executable listed fault a b result e h =
+    tells_as (IsBroken executable) (TellsListed pack executable listed) a b result
     (λ lines k. subst (λ l. TellsListed pack executable l lines) (sym e)
     (record { ended = lines; end = k; all = refl })) h
 
-module _ (pack : Package) (executable : List ℕ) (listed : Listed) (a : Option (List ℕ))
-    (held : List ℕ) (b : Option (List ℕ)) (left : List ℕ) where
+module _ (pack : Package) (executable : List ℕ) (listed : Listed) (a b : Progress) where
   -- the fault that a list begins with was told
-  pub read_broken : (error : Error) (result : Result ℕ Failure)
+  pub read_broken : (error : Error) (result : Outcome)
       → MemoryAside error (listed ≡ ([], Some (fault_of error)))
-      → OnOk result (error ≢ Memory)
-      → Tells (IsBroken executable) a held b left result
-      → Tells (TellsListed pack executable listed) a held b left result
-  read_broken error (Ok count) aside known h =
-      only_broken pack executable listed (fault_of error) a held b left (Ok count) (aside known) h
+      → OnOk result (error ≢ Memory) → Tells (IsBroken executable) a b result
+      → Tells (TellsListed pack executable listed) a b result
+  read_broken error (Ok done) aside known h =
+      only_broken pack executable listed (fault_of error) a b (Ok done) (aside known) h
   read_broken error (Err failure) aside known h = h
 
-  pub opened : (result : Result ℕ Failure) (began : Listed) → listed ≡ began
-      → Tells (TellsListed pack executable began) a held b left result
-      → Tells (TellsListed pack executable listed) a held b left result
+  pub opened : (result : Outcome) (began : Listed) → listed ≡ began
+      → Tells (TellsListed pack executable began) a b result
+      → Tells (TellsListed pack executable listed) a b result
   opened result began e h =
-      subst (λ l. Tells (TellsListed pack executable l) a held b left result) (sym e) h
+      subst (λ l. Tells (TellsListed pack executable l) a b result) (sym e) h
 
 -- the fault that ends a list was told
-pub end_broken : (pack : Package) (executable : List ℕ) (all before : Listed)
-    (a b c : Option (List ℕ)) (held mid left : List ℕ) (m : ℕ) (error : Error)
-    (rest result : Result ℕ Failure) → IsSum m rest result
-    → MemoryAside error (before ≡ ([], Some (fault_of error))) → OnOk rest (error ≢ Memory)
-    → Told (GoesOn pack executable all before) a held b mid m
-    → Tells (IsBroken executable) b mid c left rest
-    → Tells (TellsListed pack executable all) a held c left result
-end_broken pack executable all before a b c held mid left m error (Ok n) result e aside known p q =
-    then_or (GoesOn pack executable all before) (IsBroken executable)
-    (TellsListed pack executable all) IsOfPrinting a b c held mid left m
-    (on_broken pack executable all before (fault_of error) (aside known)) (Ok n) result e p q
-end_broken pack executable all before a b c held mid left m error (Err failure) result e aside
-    known p q =
-    subst (Tells (TellsListed pack executable all) a held c left) (sym e)
-    (q.0, stopped_behind c p q.1)
+pub end_broken : (pack : Package) (executable : List ℕ) (all before : Listed) (a b c : Progress)
+    (error : Error) (result : Outcome)
+    → MemoryAside error (before ≡ ([], Some (fault_of error))) → OnOk result (error ≢ Memory)
+    → Told (GoesOn pack executable all before) a b → Tells (IsBroken executable) b c result
+    → Tells (TellsListed pack executable all) a c result
+end_broken pack executable all before a b c error (Ok done) aside known p q =
+    told_then (GoesOn pack executable all before) (IsBroken executable)
+    (TellsListed pack executable all)
+    (on_broken pack executable all before (fault_of error) (aside known)) p q
+end_broken pack executable all before a b c error (Err failure) aside known p q =
+    (q.0, stopped_behind c.written p q.1)

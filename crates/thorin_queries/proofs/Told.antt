@@ -2,16 +2,15 @@
 use Rattle.std.proofs.Common.{◌≡◌, ◌∙◌, ℕ, ◌+◌, ◌-◌, ◌^◌, ◌<◌, ◌≤◌, List, [], ◌∷◌, ◌++◌, length}
 use Rattle.std.proofs.Common.{map, min, refl}
 use Rattle.std.proofs.Common.{sym, ap, subst, arith, append_assoc, take, get_or}
-use Rattle.std.proofs.Common.{length-append}
-use Rattle.std.specs.Prelude.{Option, Result, Ok, Err}
+use Rattle.std.specs.Prelude.{Option, Result, Ok, Err, OnOk}
 use Rattle.std.specs.List.{concat}
 use Rattle.std.specs.Io.KnownBytes.{Appends, Keeps}
 use Rattle.std.proofs.KnownBytes.{Appends-nil, Appends-trans, Appends-kept}
 use Rattle.std.proofs.lemmas.List.{append-nil, map-append, take_more, take_all}
 use Rattle.thorin_queries.specs.Answers.{HasBeginning}
-use Rattle.thorin_queries.specs.Telling.{Grows, fault_count, Told, TellsOr, Tells}
-use Rattle.thorin_queries.specs.Telling.{IsNone, IsLine, PassesOne, InTurn, ForEach}
-use Rattle.thorin_queries.specs.Telling.{IsSum}
+use Rattle.thorin_queries.specs.Telling.{Grows, fault_count, counted_on, Progress, Told, TellsOr}
+use Rattle.thorin_queries.specs.Telling.{Tells, IsLine, Prints, HandsOver, PassedOn, PassesOn}
+use Rattle.thorin_queries.specs.Telling.{Outcome, InTurn, ForEach}
 use Rattle.thorin_queries.specs.declared.output.Failure.{Failure}
 
 pub concat-append : (xs ys : List (List ℕ)) → concat (xs ++ ys) ≡ concat xs ++ concat ys
@@ -32,25 +31,43 @@ none_grown a = ([], Appends-nil a)
 pub grown : (a b c : Option (List ℕ)) → Grows a b → Grows b c → Grows a c
 grown a b c p q = (p.0 ++ q.0, Appends-trans a b c p.0 q.0 p.1 q.1)
 
+-- ---- how many
+
+counted-append : (n : ℕ) (xs ys : List (List ℕ))
+    → counted_on n (xs ++ ys) ≡ counted_on (counted_on n xs) ys
+counted-append n [] ys = refl
+counted-append n (x ∷ xs) ys = counted-append (min (n + 1) (2 ^ 64 - 1)) xs ys
+
+counted_from : (n : ℕ) (lines : List (List ℕ)) → n ≤ 2 ^ 64 - 1
+    → counted_on n lines ≡ min (n + length lines) (2 ^ 64 - 1)
+counted_from n [] fits = omega arith
+counted_from n (line ∷ lines) fits =
+    counted_from (min (n + 1) (2 ^ 64 - 1)) lines (omega arith) ∙ omega arith
+
+-- from none on
+pub all_counted : (lines : List (List ℕ)) → counted_on 0 lines ≡ fault_count lines
+all_counted lines =
+    let from : counted_on 0 lines ≡ min (0 + length lines) (2 ^ 64 - 1) =
+    counted_from 0 lines (omega arith) in
+    omega (arith, from)
+
 -- ---- lines
 
 module _ (P : List (List ℕ) → Type 0) where
   -- none, where nothing was done
-  pub none_told : P [] → (a : Option (List ℕ)) (held : List ℕ) → Told P a held a held 0
-  none_told none a held = record {
+  pub none_told : P [] → (a : Progress) → Told P a a
+  none_told none a = record {
     lines = [];
     are = none;
     handed = [];
-    added = Appends-nil a;
-    split = append-nil held;
-    counted = omega arith;
+    added = Appends-nil a.written;
+    split = append-nil a.waiting;
+    counted = refl;
   }
 
-  pub told_as : (Q : List (List ℕ) → Type 0) (a : Option (List ℕ)) (held : List ℕ)
-      (b : Option (List ℕ)) (left : List ℕ) (count : ℕ)
-      → ((lines : List (List ℕ)) → P lines → Q lines)
-      → Told P a held b left count → Told Q a held b left count
-  told_as Q a held b left count goes t = record {
+  pub told_as : (Q : List (List ℕ) → Type 0) (a b : Progress)
+      → ((lines : List (List ℕ)) → P lines → Q lines) → Told P a b → Told Q a b
+  told_as Q a b goes t = record {
     lines = t.lines;
     are = goes t.lines t.are;
     handed = t.handed;
@@ -59,51 +76,26 @@ module _ (P : List (List ℕ) → Type 0) where
     counted = t.counted;
   }
 
-  pub told_grows : (a : Option (List ℕ)) (held : List ℕ) (b : Option (List ℕ)) (left : List ℕ)
-      (count : ℕ) → Told P a held b left count → Grows a b
-  told_grows a held b left count t = (t.handed, t.added)
-
--- what waited was handed over whole
-pub handed_over : (a b : Option (List ℕ)) (held left : List ℕ) → left ≡ [] → Appends a b held
-    → Told IsNone a held b left 0
-handed_over a b held left none h = record {
-  lines = [];
-  are = refl;
-  handed = held;
-  added = h;
-  split = ap (λ l. held ++ l) (sym none);
-  counted = omega arith;
-}
-
--- nothing was done
-pub none_waits : (a : Option (List ℕ)) (held : List ℕ) → Told IsNone a held a held 0
-none_waits a held = none_told IsNone refl a held
-
-counts : (xs ys : List (List ℕ)) (m n : ℕ) → m ≡ fault_count xs → n ≡ fault_count ys
-    → min (m + n) (2 ^ 64 - 1) ≡ fault_count (xs ++ ys)
-counts xs ys m n p q = omega (arith, p, q, length-append xs ys)
-
 split_on : (held one two handed handed' mid left : List ℕ) → held ++ one ≡ handed ++ mid
     → mid ++ two ≡ handed' ++ left → held ++ (one ++ two) ≡ (handed ++ handed') ++ left
 split_on held one two handed handed' mid left p q =
     sym (append_assoc held one two) ∙ ap (λ l. l ++ two) p ∙ append_assoc handed mid two
     ∙ ap (λ l. handed ++ l) q ∙ sym (append_assoc handed handed' left)
 
-module _ (P Q R : List (List ℕ) → Type 0) {a b c : Option (List ℕ)} {held mid left : List ℕ}
-    {m n : ℕ} where
+module _ (P Q R : List (List ℕ) → Type 0) {a b c : Progress} where
   -- lines of one kind, and behind them those of another
-  pub told_then : ((xs ys : List (List ℕ)) → P xs → Q ys → R (xs ++ ys)) → (count : ℕ)
-      → count ≡ min (m + n) (2 ^ 64 - 1) → Told P a held b mid m → Told Q b mid c left n
-      → Told R a held c left count
-  told_then joins count e p q = record {
+  pub told_then : ((xs ys : List (List ℕ)) → P xs → Q ys → R (xs ++ ys)) → Told P a b
+      → Told Q b c → Told R a c
+  told_then joins p q = record {
     lines = p.lines ++ q.lines;
     are = joins p.lines q.lines p.are q.are;
     handed = p.handed ++ q.handed;
-    added = Appends-trans a b c p.handed q.handed p.added q.added;
-    split = ap (λ l. held ++ l) (concat-append p.lines q.lines)
-        ∙ split_on held (concat p.lines) (concat q.lines) p.handed q.handed mid left
-        p.split q.split;
-    counted = e ∙ counts p.lines q.lines m n p.counted q.counted;
+    added = Appends-trans a.written b.written c.written p.handed q.handed p.added q.added;
+    split = ap (λ l. a.waiting ++ l) (concat-append p.lines q.lines)
+        ∙ split_on a.waiting (concat p.lines) (concat q.lines) p.handed q.handed b.waiting
+        c.waiting p.split q.split;
+    counted = q.counted ∙ ap (λ n. counted_on n q.lines) p.counted
+        ∙ sym (counted-append a.count p.lines q.lines);
   }
 
 in_turn : (P Q : List (List ℕ) → Type 0) (xs ys : List (List ℕ)) → P xs → Q ys
@@ -111,68 +103,67 @@ in_turn : (P Q : List (List ℕ) → Type 0) (xs ys : List (List ℕ)) → P xs 
 in_turn P Q xs ys p q =
     record { first = xs; rest = ys; is_first = p; is_rest = q; all = refl }
 
-pub told_in_turn : {P Q : List (List ℕ) → Type 0} {a b c : Option (List ℕ)}
-    {held mid left : List ℕ} {m n : ℕ} (count : ℕ) → count ≡ min (m + n) (2 ^ 64 - 1)
-    → Told P a held b mid m → Told Q b mid c left n → Told (InTurn P Q) a held c left count
-told_in_turn {P = P} {Q = Q} count e p q =
-    told_then P Q (InTurn P Q) (in_turn P Q) count e p q
-
 -- what comes next stopped
-pub stopped_behind : {P : List (List ℕ) → Type 0} {a b : Option (List ℕ)} {held mid : List ℕ}
-    {m : ℕ} (c : Option (List ℕ)) → Told P a held b mid m → Grows b c → Grows a c
-stopped_behind {a = a} {b = b} c p q = grown a b c (p.handed, p.added) q
+pub stopped_behind : {P : List (List ℕ) → Type 0} {a b : Progress} (c : Option (List ℕ))
+    → Told P a b → Grows b.written c → Grows a.written c
+stopped_behind {a = a} {b = b} c p q = grown a.written b.written c (p.handed, p.added) q
 
-module _ (P Q R : List (List ℕ) → Type 0) (Stops : Failure → Type 0) (a b c : Option (List ℕ))
-    (held mid left : List ℕ) (m : ℕ) where
+module _ (P Q R : List (List ℕ) → Type 0) (Stops : Failure → Type 0) (a b c : Progress) where
   -- lines, and what was told behind them or stopped
   pub then_or : ((xs ys : List (List ℕ)) → P xs → Q ys → R (xs ++ ys))
-      → (rest result : Result ℕ Failure) → IsSum m rest result → Told P a held b mid m
-      → TellsOr Stops Q b mid c left rest → TellsOr Stops R a held c left result
-  then_or joins (Ok n) result e p q =
-      subst (TellsOr Stops R a held c left) (sym e) (told_then P Q R joins _ refl p q)
-  then_or joins (Err failure) result e p q =
-      subst (TellsOr Stops R a held c left) (sym e) (q.0, stopped_behind c p q.1)
+      → (result : Outcome) → Told P a b → TellsOr Stops Q b c result
+      → TellsOr Stops R a c result
+  then_or joins (Ok done) p q = told_then P Q R joins p q
+  then_or joins (Err failure) p q = (q.0, stopped_behind c.written p q.1)
 
-module _ (P Q : List (List ℕ) → Type 0) (Stops : Failure → Type 0) (a b c : Option (List ℕ))
-    (held mid left : List ℕ) (m : ℕ) where
-  pub in_turn_or : (rest result : Result ℕ Failure) → IsSum m rest result → Told P a held b mid m
-      → TellsOr Stops Q b mid c left rest → TellsOr Stops (InTurn P Q) a held c left result
-  in_turn_or rest result e p q =
-      then_or P Q (InTurn P Q) Stops a b c held mid left m (in_turn P Q) rest result e p q
+module _ (P Q : List (List ℕ) → Type 0) (Stops : Failure → Type 0) (a b c : Progress) where
+  pub in_turn_or : (result : Outcome) → Told P a b → TellsOr Stops Q b c result
+      → TellsOr Stops (InTurn P Q) a c result
+  in_turn_or result p q = then_or P Q (InTurn P Q) Stops a b c (in_turn P Q) result p q
+
+-- what waited was handed over, and then nothing waited
+pub handed_over : (a b : Option (List ℕ)) (held lent left : List ℕ)
+    (result : Outcome) → lent ≡ held → left ≡ [] → Prints lent a b result
+    → HandsOver a held b left result
+handed_over a b held lent left (Ok done) same none p = (rw same at p, none)
+handed_over a b held lent left (Err failure) same none p = p
+
+-- what a text with a property tells
+pub tells_as : (P Q : List (List ℕ) → Type 0) (a b : Progress) (result : Outcome)
+    → ((lines : List (List ℕ)) → P lines → Q lines) → Tells P a b result → Tells Q a b result
+tells_as P Q a b (Ok done) goes t = told_as P Q a b goes t
+tells_as P Q a b (Err failure) goes t = t
 
 -- ---- one line
 
-module _ (line : List ℕ) (a b : Option (List ℕ)) (held more left : List ℕ) where
-  line_split : (t : Told IsNone a more b left 0) → more ≡ held ++ line
-      → held ++ concat (line ∷ []) ≡ t.handed ++ left
-  line_split t e =
-      ap (λ l. held ++ l) (append-nil line) ∙ sym e ∙ sym (append-nil more)
-      ∙ ap (λ l. more ++ concat l) (sym t.are) ∙ t.split
+module _ (line : List ℕ) (written : Option (List ℕ)) (held more : List ℕ) (count : ℕ)
+    (new : Progress) where
+  line_split : (handed : List ℕ) → more ≡ held ++ line → more ≡ handed ++ new.waiting
+      → held ++ concat (line ∷ []) ≡ handed ++ new.waiting
+  line_split handed e split = ap (λ l. held ++ l) (append-nil line) ∙ sym e ∙ split
 
-  pub line_told : (count : ℕ) → count ≡ 1 → more ≡ held ++ line → Told IsNone a more b left 0
-      → Told (IsLine line) a held b left count
-  line_told count one e t = record {
+  line_told : more ≡ held ++ line
+      → PassedOn (record { written = written; waiting = more; count = count }) new
+      → Told (IsLine line) (record { written = written; waiting = held; count = count }) new
+  line_told e p = record {
     lines = line ∷ [];
     are = refl;
-    handed = t.handed;
-    added = t.added;
-    split = line_split t e;
-    counted = one ∙ omega arith;
+    handed = p.handed;
+    added = p.added;
+    split = line_split p.handed e p.split;
+    counted = p.counted;
   }
 
-  -- a line that waits was passed on
-  pub passed : (result : Result ℕ Failure) → more ≡ held ++ line → PassesOne a more b left result
-      → Tells (IsLine line) a held b left result
-  passed (Ok count) e h = line_told count h.1 e h.0
-  passed (Err failure) e h = h
-
--- what a text with a property tells
-pub tells_as : (P Q : List (List ℕ) → Type 0) (a : Option (List ℕ)) (held : List ℕ)
-    (b : Option (List ℕ)) (left : List ℕ) (result : Result ℕ Failure)
-    → ((lines : List (List ℕ)) → P lines → Q lines)
-    → Tells P a held b left result → Tells Q a held b left result
-tells_as P Q a held b left (Ok count) goes t = told_as P Q a held b left count goes t
-tells_as P Q a held b left (Err failure) goes t = t
+  -- a line that was added was passed on
+  pub passed : {E : Type 0} (put : Result (Unit {0}) E) (result : Outcome)
+      → OnOk put (more ≡ held ++ line)
+      → PassesOn put (record { written = written; waiting = more; count = count }) new result
+      → Tells (IsLine line) (record { written = written; waiting = held; count = count }) new result
+  passed (Ok done) (Ok also) e p = line_told e p
+  passed (Ok done) (Err failure) e p = p
+  passed (Err cause) result e p =
+      subst (Tells (IsLine line) (record { written = written; waiting = held; count = count }) new)
+      (sym p.0) (tt, p.1)
 
 -- ---- lines for each of a list
 
@@ -197,22 +188,19 @@ module _ {X : Type 0} (P : X → List (List ℕ) → Type 0) where
       }
 
   -- those of one more
-  pub told_next : (xs : List X) (i : ℕ) (d : X) {a b c : Option (List ℕ)}
-      {held mid left : List ℕ} {m n : ℕ} (count : ℕ) → i < length xs
-      → count ≡ min (m + n) (2 ^ 64 - 1) → Told (ForEach P (take i xs)) a held b mid m
-      → Told (P (get_or xs i d)) b mid c left n
-      → Told (ForEach P (take (i + 1) xs)) a held c left count
-  told_next xs i d count lt e p q =
+  pub told_next : (xs : List X) (i : ℕ) (d : X) {a b c : Progress} → i < length xs
+      → Told (ForEach P (take i xs)) a b → Told (P (get_or xs i d)) b c
+      → Told (ForEach P (take (i + 1) xs)) a c
+  told_next xs i d lt p q =
       told_then (ForEach P (take i xs)) (P (get_or xs i d)) (ForEach P (take (i + 1) xs))
       (λ ls ms h k. subst (λ l. ForEach P l (ls ++ ms)) (sym (take_more xs i d lt))
-      (for_each_more (take i xs) (get_or xs i d) ls ms h k)) count e p q
+      (for_each_more (take i xs) (get_or xs i d) ls ms h k)) p q
 
   -- all of them
-  pub told_all : (xs : List X) (i : ℕ) {a b : Option (List ℕ)} {held left : List ℕ} {count : ℕ}
-      → length xs ≤ i → Told (ForEach P (take i xs)) a held b left count
-      → Told (ForEach P xs) a held b left count
-  told_all xs i {a = a} {b = b} {held = held} {left = left} {count = count} h t =
-      subst (λ l. Told (ForEach P l) a held b left count) (take_all i xs h) t
+  pub told_all : (xs : List X) (i : ℕ) {a b : Progress} → length xs ≤ i
+      → Told (ForEach P (take i xs)) a b → Told (ForEach P xs) a b
+  told_all xs i {a = a} {b = b} h t =
+      subst (λ l. Told (ForEach P l) a b) (take_all i xs h) t
 
 -- ---- lines of a property that goes on
 

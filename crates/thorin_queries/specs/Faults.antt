@@ -23,9 +23,8 @@ use Rattle.thorin_queries.specs.Finding.{string_count}
 use Rattle.thorin_queries.specs.Lines.{hex16, line_end, short_kind}
 use Rattle.thorin_queries.specs.Overlaps.{IsClash, overlap_text}
 use Rattle.thorin_queries.specs.Shown.{shown}
-use Rattle.thorin_queries.specs.Telling.{Grows, IsOfPrinting, Told, IsNone, IsLine}
-use Rattle.thorin_queries.specs.Telling.{ForEach, Tells}
-use Rattle.thorin_queries.specs.declared.output.Failure.{Failure}
+use Rattle.thorin_queries.specs.Telling.{Outcome, Progress, Grows, Is, IsNone, IsLine, ForEach}
+use Rattle.thorin_queries.specs.Telling.{Tells}
 use Rattle.thorin_queries.specs.declared.output.Failure.TheVariants as failures
 use Rattle.thorin_words.specs.Printed.{printed}
 
@@ -37,14 +36,29 @@ fault_line object text =
     short_kind object ++ (codes " 0x" ++ (hex16 (identifier_of object)
     ++ (codes ": " ++ (text ++ line_end))))
 
+-- the line of a fault of a unit, where there is a text
+abbrev pub fault_lines : DwarfObject → Option (String Global) → List (List ℕ)
+fault_lines object None = []
+fault_lines object (Some text) = fault_line object (string_bytes text) ∷ []
+
 -- such a line was told, with a text that was made; or there was no memory for that
-abbrev pub TellsText : {E : Type 0} → DwarfObject → Result (String Global) E
-    → (old : Option (List ℕ)) → (held : List ℕ) → (new : Option (List ℕ)) → (left : List ℕ)
-    → Result ℕ Failure → Type 0
-TellsText object (Ok text) old held new left result =
-    Tells (IsLine (fault_line object (string_bytes text))) old held new left result
-TellsText object (Err cause) old held new left result =
-    (result ≡ Err failures.Memory) × Grows old new
+abbrev pub TellsText : {E : Type 0} → DwarfObject → Result (Option (String Global)) E
+    → (old new : Progress) → Outcome → Type 0
+TellsText object (Ok text) old new result = Tells (Is (fault_lines object text)) old new result
+TellsText object (Err cause) old new result =
+    (result ≡ Err failures.Memory) × Grows old.written new.written
+
+-- a text, or none, of a fault of a unit of which something holds
+abbrev pub IsTextOf : {E : Type 0} → (List (List ℕ) → Type 0) → DwarfObject
+    → Result (Option (String Global)) E → Type 0
+IsTextOf P object (Ok text) = P (fault_lines object text)
+IsTextOf P object (Err cause) = Unit {0}
+
+-- a text that there is, where it could be made
+abbrev pub IsSomeText : {E : Type 0} → Result (String Global) E
+    → Result (Option (String Global)) E → Type 0
+IsSomeText (Ok text) result = result ≡ Ok (Some text)
+IsSomeText (Err cause) result = result ≡ Err cause
 
 -- such a line, with the text of an error
 abbrev pub IsSomeFault : DwarfObject → List (List ℕ) → Type 0
@@ -167,12 +181,6 @@ row_line kind row = kind ++
 -- lines of rows
 abbrev pub AreRows : (kind : List ℕ) → List (List ℕ) → Type 0
 AreRows kind lines = (rows : List ℕ) × (lines ≡ map (row_line kind) rows)
-
--- the same, with the row to go on with
-abbrev pub TellsGap : (kind : List ℕ) → (old : Option (List ℕ)) → (held : List ℕ)
-    → (new : Option (List ℕ)) → (left : List ℕ) → Result (ℕ × ℕ) Failure → Type 0
-TellsGap kind old held new left (Ok found) = Told (AreRows kind) old held new left found.0
-TellsGap kind old held new left (Err failure) = IsOfPrinting failure × Grows old new
 
 -- ---- executables
 

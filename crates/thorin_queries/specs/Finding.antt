@@ -26,6 +26,7 @@ use Rattle.thorin_words.specs.Identifiers.{IsIdentifier}
 use Rattle.thorin_queries.specs.Answers.{Answer, refused, Reads}
 use Rattle.thorin_queries.specs.Lines.{hex, hex16, line_end, short_kind, short_name}
 use Rattle.thorin_queries.specs.Spelled.{spelled, spelled_or}
+use Rattle.thorin_queries.specs.declared.wanted.Sought.{Sought}
 use Rattle.thorin_queries.specs.declared.wanted.Wanted.{Wanted}
 use Rattle.thorin_queries.specs.declared.wanted.Wanted.TheVariants.{Printed, Bytes}
 use Rattle.thorin_queries.specs.declared.wanted.Printing.TheVariants.{AllOf, StringOf}
@@ -208,6 +209,14 @@ FindsAsked offer path as_json old new (Ok object) wanted result =
     FindsWanted offer path as_json old new object wanted result
 FindsAsked offer path as_json old new (Err failure) wanted result =
     (result ≡ Err failure) × Keeps old new
+
+-- what words ask for: the unit's are tested first
+abbrev pub Seeks : (as_json : Bool) → Result DwarfObject Failure → Result Wanted Failure
+    → Result Sought Failure → Type 0
+Seeks as_json (Ok object) (Ok wanted) result =
+    result ≡ Ok (record { object = object; wanted = wanted; as_json = as_json })
+Seeks as_json (Ok object) (Err failure) result = result ≡ Err failure
+Seeks as_json (Err failure) wanted result = result ≡ Err failure
 
 -- `find`: the words ask for a unit, and for something of it, and the file at the path is read for
 -- it; or they ask for none, the unit's words tested first, and nothing is printed

@@ -1,11 +1,15 @@
 -- Lines of faults that are told one after the other, and how many these are.
 use Rattle.std.specs.Prelude.{◌≡◌, ℕ, ◌+◌, ◌-◌, ◌^◌, min, List, [], ◌∷◌, ◌++◌, length, Option}
-use Rattle.std.specs.Prelude.{Result, Ok}
-use Rattle.std.specs.Prelude.{Err}
+use Rattle.std.specs.Prelude.{Result, Ok, Err, string_bytes}
 use Rattle.std.specs.List.{concat}
 use Rattle.std.specs.Io.KnownBytes.{Appends}
+use Rattle.thorin_queries.specs.declared.faults.Faults.{Faults}
 use Rattle.thorin_queries.specs.declared.output.Failure.{Failure}
 use Rattle.thorin_queries.specs.declared.output.Failure.TheVariants as failures
+
+-- what comes of telling: it is done, or failed
+abbrev pub Outcome : Type 0
+Outcome = Result (Unit {0}) Failure
 
 -- where a writer's bytes are known, some were added
 abbrev pub Grows : Option (List ℕ) → Option (List ℕ) → Type 0
@@ -18,7 +22,7 @@ IsOfPrinting failures.Memory = Unit {0}
 IsOfPrinting _ = ⊥
 
 -- a text was printed, or something of it or nothing
-abbrev pub Prints : (text : List ℕ) → (old new : Option (List ℕ)) → Result (Unit {0}) Failure
+abbrev pub Prints : (text : List ℕ) → (old new : Option (List ℕ)) → Outcome
     → Type 0
 Prints text old new (Ok done) = Appends old new text
 Prints text old new (Err failure) = IsOfPrinting failure × Grows old new
@@ -27,25 +31,43 @@ Prints text old new (Err failure) = IsOfPrinting failure × Grows old new
 abbrev pub fault_count : List (List ℕ) → ℕ
 fault_count lines = min (length lines) (2 ^ 64 - 1)
 
+-- a number of faults, and those that lines behind them tell, as far as 64 bits go
+abbrev pub counted_on : ℕ → List (List ℕ) → ℕ
+counted_on n [] = n
+counted_on n (line ∷ lines) = counted_on (min (n + 1) (2 ^ 64 - 1)) lines
+
+-- how far the telling of faults has come: what went to a writer, where its bytes are known, what
+-- waits to go there, and how many faults were told
+pub record Progress : Type 0 where
+  pub written : Option (List ℕ)
+  pub waiting : List ℕ
+  pub count : ℕ
+
+abbrev pub progress : Option (List ℕ) → Faults → Progress
+progress written faults = record {
+  written = written;
+  waiting = string_bytes faults.waiting;
+  count = faults.count;
+}
+
 -- lines of which something holds were told: they went to a writer, or wait behind what waited
--- before; and so many faults were counted
-pub record Told (P : List (List ℕ) → Type 0) (old : Option (List ℕ)) (held : List ℕ)
-    (new : Option (List ℕ)) (left : List ℕ) (count : ℕ) : Type 0 where
+-- before; and each was counted
+pub record Told (P : List (List ℕ) → Type 0) (old new : Progress) : Type 0 where
   pub lines : List (List ℕ)
   pub are : P lines
   pub handed : List ℕ
-  pub added : Appends old new handed
-  pub split : held ++ concat lines ≡ handed ++ left
-  pub counted : count ≡ fault_count lines
+  pub added : Appends old.written new.written handed
+  pub split : old.waiting ++ concat lines ≡ handed ++ new.waiting
+  pub counted : new.count ≡ counted_on old.count lines
 
 -- the same; or it stopped by a failure of some kind, and something was printed or nothing
-abbrev pub TellsOr : (Failure → Type 0) → (List (List ℕ) → Type 0) → (old : Option (List ℕ))
-    → (held : List ℕ) → (new : Option (List ℕ)) → (left : List ℕ) → Result ℕ Failure → Type 0
-TellsOr Stops P old held new left (Ok count) = Told P old held new left count
-TellsOr Stops P old held new left (Err failure) = Stops failure × Grows old new
+abbrev pub TellsOr : (Failure → Type 0) → (List (List ℕ) → Type 0) → (old new : Progress)
+    → Outcome → Type 0
+TellsOr Stops P old new (Ok done) = Told P old new
+TellsOr Stops P old new (Err failure) = Stops failure × Grows old.written new.written
 
-abbrev pub Tells : (List (List ℕ) → Type 0) → (old : Option (List ℕ)) → (held : List ℕ)
-    → (new : Option (List ℕ)) → (left : List ℕ) → Result ℕ Failure → Type 0
+abbrev pub Tells : (List (List ℕ) → Type 0) → (old new : Progress) → Outcome
+    → Type 0
 Tells = TellsOr IsOfPrinting
 
 -- these lines
@@ -60,22 +82,29 @@ IsNone lines = lines ≡ []
 abbrev pub IsLine : List ℕ → List (List ℕ) → Type 0
 IsLine line lines = lines ≡ line ∷ []
 
--- what waits went to a writer, all or none of it
-abbrev pub Passes : (old : Option (List ℕ)) → (held : List ℕ) → (new : Option (List ℕ))
-    → (left : List ℕ) → Result (Unit {0}) Failure → Type 0
-Passes old held new left (Ok done) = Told IsNone old held new left 0
-Passes old held new left (Err failure) = IsOfPrinting failure × Grows old new
+-- what waits went to a writer, and nothing waits; or none of it is left, though it didn't all go
+abbrev pub HandsOver : (old : Option (List ℕ)) → (held : List ℕ) → (new : Option (List ℕ))
+    → (left : List ℕ) → Outcome → Type 0
+HandsOver old held new left (Ok done) = Appends old new held × (left ≡ [])
+HandsOver old held new left (Err failure) = IsOfPrinting failure × Grows old new
 
--- the same, behind the line of a fault
-abbrev pub PassesOne : (old : Option (List ℕ)) → (held : List ℕ) → (new : Option (List ℕ))
-    → (left : List ℕ) → Result ℕ Failure → Type 0
-PassesOne old held new left (Ok count) = Told IsNone old held new left 0 × (count ≡ 1)
-PassesOne old held new left (Err failure) = IsOfPrinting failure × Grows old new
+-- a line that was added to what waits was counted, and what waits went to a writer or waits on
+pub record PassedOn (old new : Progress) : Type 0 where
+  pub handed : List ℕ
+  pub added : Appends old.written new.written handed
+  pub split : old.waiting ≡ handed ++ new.waiting
+  pub counted : new.count ≡ min (old.count + 1) (2 ^ 64 - 1)
 
--- a number of faults, and those behind them
-abbrev pub IsSum : ℕ → (rest result : Result ℕ Failure) → Type 0
-IsSum m (Ok n) result = result ≡ Ok (min (m + n) (2 ^ 64 - 1))
-IsSum m (Err failure) result = result ≡ Err failure
+abbrev pub PassesLine : (old new : Progress) → Outcome → Type 0
+PassesLine old new (Ok done) = PassedOn old new
+PassesLine old new (Err failure) = IsOfPrinting failure × Grows old.written new.written
+
+-- the same, where a line was added; or there was no memory for that
+abbrev pub PassesOn : {E : Type 0} → Result (Unit {0}) E → (old new : Progress)
+    → Outcome → Type 0
+PassesOn (Ok done) old new result = PassesLine old new result
+PassesOn (Err cause) old new result =
+    (result ≡ Err failures.Memory) × Grows old.written new.written
 
 -- lines of one kind, and behind them those of another
 pub record InTurn (P Q : List (List ℕ) → Type 0) (lines : List (List ℕ)) : Type 0 where

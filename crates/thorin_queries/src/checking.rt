@@ -5,22 +5,21 @@ ghost use Rattle.dwp_elf_read.specs.View.{elf};
 ghost use Rattle.dwp_index.specs.Package.{package_of};
 ghost use Rattle.thorin_queries.specs.Answers.{anything};
 ghost use Rattle.thorin_queries.specs.Checking.{count_text, counts_line, status_of, has_no_index};
-ghost use Rattle.thorin_queries.specs.Checking.{TellsTables, TellsExecutables, TellsPackage};
-ghost use Rattle.thorin_queries.specs.Checking.{lacks_abbreviations, lacks_strings};
+ghost use Rattle.thorin_queries.specs.Checking.{TellsPackage};
 ghost use Rattle.thorin_queries.specs.Checking.{IsOfChecking, Finishes, PrintsLast};
 ghost use Rattle.thorin_queries.specs.Checking.{ChecksIndexed, ChecksPackage, ChecksBytes, Checks};
 ghost use Rattle.thorin_queries.specs.Indexes.{HasIndexes};
 ghost use Rattle.thorin_queries.specs.Listing.{AreByRow};
-ghost use Rattle.thorin_queries.specs.Telling.{Grows, InTurn, TellsOr};
+ghost use Rattle.thorin_queries.specs.Telling.{progress, Grows, TellsOr};
 
 use crate::executables::{Named, Reading, check_executables};
-use crate::faults::with_rest;
+use crate::faults::Faults;
 use crate::files::{FileReader, HostReader, read_named};
 use crate::input::has_no_index;
 use crate::json_lines::JsonLines;
 use crate::listing::entries_by_row;
 use crate::output::{Failure, flush, print};
-use crate::tables::{check_tables, lacks_abbreviations, lacks_strings};
+use crate::tables::check_tables;
 use crate::units::check_units;
 use dwp_elf::ElfFile;
 use dwp_index::{PackageFile, UnitEntry};
@@ -116,6 +115,17 @@ fn check_bytes<F: FileReader, O: Write>(
     }
 }
 
+/// A package that is checked.
+#[derive(Clone, Copy)]
+pub(crate) struct Opened<'m, 'a> {
+    /// The package.
+    pub pack: &'m PackageFile<'a>,
+    /// The file that it stands in.
+    pub file: &'m ElfFile<'a>,
+    /// The units that its slots name, by row.
+    pub entries: &'m [UnitEntry],
+}
+
 /// Checks a package, unless it has no index.
 fn check_package<F: FileReader, O: Write>(
     rt: &HostRuntime,
@@ -133,7 +143,14 @@ fn check_package<F: FileReader, O: Write>(
         return Err(Failure::NoIndex);
     }
     match entries_by_row(rt.alloc(), pack) {
-        Ok(entries) => check_entries(rt, files, pack, file, entries.as_slice(), named, out),
+        Ok(entries) => {
+            let opened = Opened {
+                pack,
+                file,
+                entries: entries.as_slice(),
+            };
+            check_entries(rt, files, opened, named, out)
+        }
         Err(_) => Err(Failure::Memory),
     }
 }
@@ -142,93 +159,56 @@ fn check_package<F: FileReader, O: Write>(
 fn check_entries<F: FileReader, O: Write>(
     rt: &HostRuntime,
     files: &F,
-    pack: &PackageFile<'_>,
-    file: &ElfFile<'_>,
-    entries: &[UnitEntry],
+    opened: Opened<'_, '_>,
     named: Named<'_, '_>,
     out: &mut O,
 ) -> Result<u8, Failure>
-    requires by_row { AreByRow pack.now entries.now }
-    requires indexes { HasIndexes (elf file.now) pack.now }
-    ensures { ChecksIndexed (F.offer files.now) named.entry.reading named.entry.executables.now pack.now
-        (O.contents out.old) (O.contents out.new) result }
+    requires by_row { AreByRow opened.pack.now opened.entries.now }
+    requires indexes { HasIndexes (elf opened.file.now) opened.pack.now }
+    ensures { ChecksIndexed (F.offer files.now) named.entry.reading named.entry.executables.now
+        opened.entry.pack.now (O.contents out.old) (O.contents out.new) result }
 {
-    let mut waiting = String::new(rt.alloc());
-    match check_all(rt, files, pack, file, entries, named, &mut waiting, out) {
-        Ok(faults) => finish(entries.len(), faults, &mut waiting, out),
-        Err(failure) => give_up(failure, waiting.as_str(), out),
+    let mut faults = Faults::none(rt.alloc());
+    match check_all(rt, files, opened, named, &mut faults, out) {
+        Ok(()) => finish(opened.entries.len(), &mut faults, out),
+        Err(failure) => give_up(failure, faults.waiting.as_str(), out),
     }
 }
 
-/// Checks the units, the sections that units need, the rows and the executables. Answers the number
-/// of faults.
+/// Checks the units, the sections that units need, the rows and the executables.
 fn check_all<F: FileReader, O: Write>(
     rt: &HostRuntime,
     files: &F,
-    pack: &PackageFile<'_>,
-    file: &ElfFile<'_>,
-    entries: &[UnitEntry],
+    opened: Opened<'_, '_>,
     named: Named<'_, '_>,
-    waiting: &mut String,
+    faults: &mut Faults,
     out: &mut O,
-) -> Result<u64, Failure>
-    requires { HasIndexes (elf file.now) pack.now }
+) -> Result<(), Failure>
+    requires { HasIndexes (elf opened.file.now) opened.pack.now }
     ensures { TellsOr (IsOfChecking (F.offer files.now) named.entry.executables.now)
-        (TellsPackage (F.offer files.now) named.entry.reading pack.now entries.now
-        named.entry.executables.now) (O.contents out.old) (string_bytes waiting.old)
-        (O.contents out.new) (string_bytes waiting.new) result }
+        (TellsPackage (F.offer files.now) named.entry.reading opened.entry.pack.now
+        opened.entry.entries.now named.entry.executables.now)
+        (progress (O.contents out.old) faults.old) (progress (O.contents out.new) faults.new)
+        result }
 {
-    match check_units(rt.alloc(), pack, file, entries, waiting, out) {
-        Ok(of_units) => with_rest(
-            of_units,
-            check_rest(rt, files, pack, file, entries, named, waiting, out),
-        ),
-        Err(failure) => Err(failure),
-    }
-}
-
-/// Checks the sections that units need, the rows and the executables. Answers the number of faults.
-fn check_rest<F: FileReader, O: Write>(
-    rt: &HostRuntime,
-    files: &F,
-    pack: &PackageFile<'_>,
-    file: &ElfFile<'_>,
-    entries: &[UnitEntry],
-    named: Named<'_, '_>,
-    waiting: &mut String,
-    out: &mut O,
-) -> Result<u64, Failure>
-    requires { HasIndexes (elf file.now) pack.now }
-    ensures { TellsOr (IsOfChecking (F.offer files.now) named.entry.executables.now)
-        (InTurn (TellsTables (lacks_abbreviations pack.now entries.now) (lacks_strings pack.now))
-        (TellsExecutables (F.offer files.now) named.entry.reading pack.now
-        named.entry.executables.now)) (O.contents out.old) (string_bytes waiting.old)
-        (O.contents out.new) (string_bytes waiting.new) result }
-{
-    let no_abbreviations = lacks_abbreviations(file, entries);
-    let no_strings = lacks_strings(file);
-    match check_tables(file, no_abbreviations, no_strings, entries, waiting, out) {
-        Ok(of_tables) => with_rest(
-            of_tables,
-            check_executables(rt, files, pack, named, waiting, out),
-        ),
+    match check_units(opened, faults, out) {
+        Ok(()) => match check_tables(opened, faults, out) {
+            Ok(()) => check_executables(rt, files, opened.pack, named, faults, out),
+            Err(failure) => Err(failure),
+        },
         Err(failure) => Err(failure),
     }
 }
 
 /// Prints what waits and how many units and faults there are. Answers the status.
 #[tactic(auto, using(crate::proofs::Told::none_grown))]
-fn finish<O: Write>(
-    units: usize,
-    faults: u64,
-    waiting: &mut String,
-    out: &mut O,
-) -> Result<u8, Failure>
-    ensures { Finishes units faults (O.contents out.old) (string_bytes waiting.old)
+fn finish<O: Write>(units: usize, faults: &mut Faults, out: &mut O) -> Result<u8, Failure>
+    ensures { Finishes units faults.old.count (O.contents out.old) (string_bytes faults.old.waiting)
         (O.contents out.new) result }
 {
-    match put_counts(units as u64, faults, waiting) {
-        Ok(()) => print_last(faults, waiting.as_str(), out),
+    let count = faults.count;
+    match put_counts(units as u64, count, &mut faults.waiting) {
+        Ok(()) => print_last(count, faults.waiting.as_str(), out),
         Err(_) => Err(Failure::Memory),
     }
 }

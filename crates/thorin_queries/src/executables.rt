@@ -7,11 +7,11 @@ ghost use Rattle.thorin_faults.specs.declared.fault.Error.TheVariants.{Memory};
 ghost use Rattle.thorin_queries.specs.Checking.{IsOfChecking, IsOfReading, TellsExecutables};
 ghost use Rattle.thorin_queries.specs.Checking.{TellsExecutable, TellsTaken};
 ghost use Rattle.thorin_queries.specs.Faults.{TellsListed, missing_text};
-ghost use Rattle.thorin_queries.specs.Faults.{missing_lines};
+ghost use Rattle.thorin_queries.specs.Faults.{missing_lines, IsTextOf};
 ghost use Rattle.thorin_queries.specs.Faults.{broken_line, IsBroken};
-ghost use Rattle.thorin_queries.specs.Telling.{Tells, TellsOr, IsLine, Is};
+ghost use Rattle.thorin_queries.specs.Telling.{progress, Tells, TellsOr, Is};
 
-use crate::faults::{pass_on, tell_text, with_rest};
+use crate::faults::{Faults, pass_on, some, tell};
 use crate::files::{FileReader, read_named};
 use crate::input::plain_of;
 use crate::output::Failure;
@@ -44,88 +44,79 @@ pub(crate) struct Named<'m, 'a> {
     pub reading: Reading,
 }
 
-/// Each split unit that executables name is in the package. Answers the number of faults.
+/// An executable whose units are to be in a package.
+#[derive(Clone, Copy)]
+struct Naming<'m, 'a> {
+    /// The package.
+    pack: &'m PackageFile<'a>,
+    /// The executable's path.
+    executable: &'m str,
+}
+
+/// Each split unit that executables name is in the package.
 pub(crate) fn check_executables<F: FileReader, O: Write>(
     rt: &HostRuntime,
     files: &F,
     pack: &PackageFile<'_>,
     named: Named<'_, '_>,
-    waiting: &mut String,
+    faults: &mut Faults,
     out: &mut O,
-) -> Result<u64, Failure>
+) -> Result<(), Failure>
     ensures { TellsOr (IsOfChecking (F.offer files.now) named.entry.executables.now)
         (TellsExecutables (F.offer files.now) named.entry.reading pack.now named.entry.executables.now)
-        (O.contents out.old) (string_bytes waiting.old) (O.contents out.new)
-        (string_bytes waiting.new) result }
+        (progress (O.contents out.old) faults.old) (progress (O.contents out.new) faults.new)
+        result }
 {
-    let mut faults = 0u64;
     for i in 0..named.executables.len() {
-        let executable = named.executables[i];
-        match check_executable(rt, files, pack, executable, named.reading, waiting, out) {
-            Ok(found) => faults = faults.saturating_add(found),
+        let naming = Naming {
+            pack,
+            executable: named.executables[i],
+        };
+        match check_executable(rt, files, naming, named.reading, faults, out) {
+            Ok(()) => {}
             Err(failure) => return Err(failure),
         }
     }
-    Ok(faults)
+    Ok(())
 }
 
-/// Each split unit that an executable names is in the package. Answers the number of faults.
+/// Each split unit that an executable names is in the package.
 fn check_executable<F: FileReader, O: Write>(
     rt: &HostRuntime,
     files: &F,
-    pack: &PackageFile<'_>,
-    executable: &str,
+    naming: Naming<'_, '_>,
     reading: Reading,
-    waiting: &mut String,
+    faults: &mut Faults,
     out: &mut O,
-) -> Result<u64, Failure>
-    ensures { TellsOr (IsOfReading (F.offer files.now) executable.now)
-        (TellsExecutable (F.offer files.now) reading pack.now executable.now)
-        (O.contents out.old) (string_bytes waiting.old) (O.contents out.new)
-        (string_bytes waiting.new) result }
+) -> Result<(), Failure>
+    ensures { TellsOr (IsOfReading (F.offer files.now) naming.entry.executable.now)
+        (TellsExecutable (F.offer files.now) reading naming.entry.pack.now naming.entry.executable.now)
+        (progress (O.contents out.old) faults.old) (progress (O.contents out.new) faults.new)
+        result }
 {
-    match read_named(files, executable) {
-        Ok(bytes) => check_read(
-            rt,
-            pack,
-            executable,
-            bytes.as_slice(),
-            reading,
-            waiting,
-            out,
-        ),
+    match read_named(files, naming.executable) {
+        Ok(bytes) => check_read(rt, naming, bytes.as_slice(), reading, faults, out),
         Err(failure) => Err(failure),
     }
 }
 
 /// The same of the bytes of an executable, decompressed where that is asked for.
-#[tactic(auto, using(crate::proofs::Checked::taken_as_it_is, crate::proofs::Checked::taken_plain, crate::proofs::Told::none_grown))]
 fn check_read<O: Write>(
     rt: &HostRuntime,
-    pack: &PackageFile<'_>,
-    executable: &str,
+    naming: Naming<'_, '_>,
     bytes: &[u8],
     reading: Reading,
-    waiting: &mut String,
+    faults: &mut Faults,
     out: &mut O,
-) -> Result<u64, Failure>
-    ensures { Tells (TellsTaken reading pack.now executable.now bytes.now)
-        (O.contents out.old) (string_bytes waiting.old) (O.contents out.new)
-        (string_bytes waiting.new) result }
+) -> Result<(), Failure>
+    ensures { Tells (TellsTaken reading naming.entry.pack.now naming.entry.executable.now bytes.now)
+        (progress (O.contents out.old) faults.old) (progress (O.contents out.new) faults.new)
+        result }
 {
-    let nameless = reading.nameless;
     match plain_of(rt.alloc(), bytes, reading.decompresses) {
-        Ok(None) => check_taken(rt, pack, executable, bytes, nameless, waiting, out),
+        Ok(None) => check_taken(rt, naming, bytes, reading.nameless, faults, out),
         Ok(Some(plain)) => {
-            check_taken(
-                rt,
-                pack,
-                executable,
-                plain.as_slice(),
-                nameless,
-                waiting,
-                out,
-            )
+            check_taken(rt, naming, plain.as_slice(), reading.nameless, faults, out)
         }
         Err(_) => Err(Failure::Memory),
     }
@@ -134,102 +125,82 @@ fn check_read<O: Write>(
 /// The same of the bytes that are taken for it.
 fn check_taken<O: Write>(
     rt: &HostRuntime,
-    pack: &PackageFile<'_>,
-    executable: &str,
+    naming: Naming<'_, '_>,
     bytes: &[u8],
     nameless: NamelessUnits,
-    waiting: &mut String,
+    faults: &mut Faults,
     out: &mut O,
-) -> Result<u64, Failure>
-    ensures { Tells (TellsListed pack.now executable.now (skeletons_by nameless bytes.now))
-        (O.contents out.old) (string_bytes waiting.old) (O.contents out.new)
-        (string_bytes waiting.new) result }
+) -> Result<(), Failure>
+    ensures { Tells (TellsListed naming.entry.pack.now naming.entry.executable.now
+        (skeletons_by nameless bytes.now)) (progress (O.contents out.old) faults.old)
+        (progress (O.contents out.new) faults.new) result }
 {
     let bump = Bump::new(rt.alloc());
     let session = ArenaSession::new(rt, &bump);
-    check_named(
-        rt.alloc(),
-        &session,
-        pack,
-        executable,
-        bytes,
-        nameless,
-        waiting,
-        out,
-    )
+    check_named(&session, naming, bytes, nameless, faults, out)
 }
 
 /// The same, with a session that holds what is made of them.
-#[tactic(auto, using(crate::proofs::Skeletons::read_broken, crate::proofs::Skeletons::opened))]
 fn check_named<'s, Sess: Session<RelocationEntry>, O: Write>(
-    alloc: Global,
     session: &'s Sess,
-    pack: &PackageFile<'_>,
-    executable: &str,
+    naming: Naming<'_, '_>,
     bytes: &'s [u8],
     nameless: NamelessUnits,
-    waiting: &mut String,
+    faults: &mut Faults,
     out: &mut O,
-) -> Result<u64, Failure>
-    ensures { Tells (TellsListed pack.now executable.now (skeletons_by nameless bytes.now))
-        (O.contents out.old) (string_bytes waiting.old) (O.contents out.new)
-        (string_bytes waiting.new) result }
+) -> Result<(), Failure>
+    ensures { Tells (TellsListed naming.entry.pack.now naming.entry.executable.now
+        (skeletons_by nameless bytes.now)) (progress (O.contents out.old) faults.old)
+        (progress (O.contents out.new) faults.new) result }
 {
+    let alloc = *faults.waiting.allocator();
     match NamedUnits::read_by(alloc, session, bytes, nameless) {
-        Ok(mut units) => check_skeletons(pack, executable, &mut units, waiting, out),
-        Err(fault) => tell_fault(executable, &fault, waiting, out),
+        Ok(mut units) => check_skeletons(naming, &mut units, faults, out),
+        Err(fault) => tell_fault(naming.executable, &fault, faults, out),
     }
 }
 
 /// The same of the units that are left of those that an executable names.
 fn check_skeletons<O: Write>(
-    pack: &PackageFile<'_>,
-    executable: &str,
+    naming: Naming<'_, '_>,
     units: &mut NamedUnits<'_>,
-    waiting: &mut String,
+    faults: &mut Faults,
     out: &mut O,
-) -> Result<u64, Failure>
-    ensures { Tells (TellsListed pack.now executable.now units.old.listed) (O.contents out.old)
-        (string_bytes waiting.old) (O.contents out.new) (string_bytes waiting.new) result }
+) -> Result<(), Failure>
+    ensures { Tells (TellsListed naming.entry.pack.now naming.entry.executable.now units.old.listed)
+        (progress (O.contents out.old) faults.old) (progress (O.contents out.new) faults.new)
+        result }
 {
-    let mut faults = 0u64;
     loop {
         match units.next() {
             Ok(Some(unit)) => {
-                match check_skeleton(pack, executable, unit.target, units.path(), waiting, out) {
-                    Ok(found) => faults = faults.saturating_add(found),
+                let text = skeleton_text(naming, unit.target, units.path(), &faults.waiting);
+                match tell(unit.target, text, faults, out) {
+                    Ok(()) => {}
                     Err(failure) => return Err(failure),
                 }
             }
-            Ok(None) => return Ok(faults),
-            Err(fault) => {
-                return with_rest(faults, tell_fault(executable, &fault, waiting, out));
-            }
+            Ok(None) => return Ok(()),
+            Err(fault) => return tell_fault(naming.executable, &fault, faults, out),
         }
     }
 }
 
-/// A unit that an executable names is in the package; what a slot names and can't be read was told
-/// with its unit. Answers the number of faults.
-fn check_skeleton<O: Write>(
-    pack: &PackageFile<'_>,
-    executable: &str,
+/// What is told of a unit that an executable names, where it isn't in the package; what a slot names
+/// and can't be read was told with its unit.
+fn skeleton_text(
+    naming: Naming<'_, '_>,
     object: DwarfObject,
     path: &str,
-    waiting: &mut String,
-    out: &mut O,
-) -> Result<u64, Failure>
-    ensures { Tells (Is (missing_lines executable.now (object, path.now) (found pack.now object)))
-        (O.contents out.old) (string_bytes waiting.old) (O.contents out.new)
-        (string_bytes waiting.new) result }
+    near: &String,
+) -> Result<Option<String>, AllocError>
+    ensures { IsTextOf (Is (missing_lines naming.entry.executable.now (object, path.now)
+        (found naming.entry.pack.now object))) object result }
 {
-    match pack.find(object) {
-        Ok(None) => {
-            let text = missing_text(*waiting.allocator(), executable, path);
-            tell_text(object, text, waiting, out)
-        }
-        Ok(Some(_)) => Ok(0),
-        Err(_) => Ok(0),
+    match naming.pack.find(object) {
+        Ok(None) => some(missing_text(*near.allocator(), naming.executable, path)),
+        Ok(Some(_)) => Ok(None),
+        Err(_) => Ok(None),
     }
 }
 
@@ -245,46 +216,31 @@ fn missing_text(alloc: Global, executable: &str, path: &str) -> Result<String, A
     format!(in alloc; "not in the package, {executable} names {path}")
 }
 
-/// Tells why an executable can't be read to its end. Answers the number of faults, 1.
-#[tactic(auto, using(crate::proofs::Told::none_grown))]
+/// Tells why an executable can't be read to its end.
 fn tell_fault<O: Write>(
     executable: &str,
     fault: &Error,
-    waiting: &mut String,
+    faults: &mut Faults,
     out: &mut O,
-) -> Result<u64, Failure>
-    ensures told { Tells (IsBroken executable.now) (O.contents out.old)
-        (string_bytes waiting.old) (O.contents out.new) (string_bytes waiting.new) result }
+) -> Result<(), Failure>
+    ensures told { Tells (IsBroken executable.now) (progress (O.contents out.old) faults.old)
+        (progress (O.contents out.new) faults.new) result }
     ensures known { OnOk result (fault.now ≢ Memory) }
 {
     if matches!(fault, Error::Memory) {
         return Err(Failure::Memory);
     }
-    match fault_text(*waiting.allocator(), fault) {
-        Ok(text) => tell_broken(executable, text.as_str(), waiting, out),
+    match fault_text(*faults.waiting.allocator(), fault) {
+        Ok(text) => {
+            let put = put_broken(executable, text.as_str(), &mut faults.waiting);
+            pass_on(put, faults, out)
+        }
         Err(_) => Err(Failure::Memory),
     }
 }
 
 fn fault_text(alloc: Global, fault: &Error) -> Result<String, AllocError> {
     format!(in alloc; "{fault}")
-}
-
-/// Tells that an executable can't be read to its end. Answers the number of faults, 1.
-#[tactic(auto, using(crate::proofs::Told::passed, crate::proofs::Told::none_grown))]
-fn tell_broken<O: Write>(
-    executable: &str,
-    text: &str,
-    waiting: &mut String,
-    out: &mut O,
-) -> Result<u64, Failure>
-    ensures { Tells (IsLine (broken_line executable.now text.now)) (O.contents out.old)
-        (string_bytes waiting.old) (O.contents out.new) (string_bytes waiting.new) result }
-{
-    match put_broken(executable, text, waiting) {
-        Ok(()) => pass_on(waiting, out),
-        Err(_) => Err(Failure::Memory),
-    }
 }
 
 /// Adds the line of an executable that can't be read to its end.

@@ -1,88 +1,108 @@
 //! Lines that tell of faults. They wait until they are many, and then go to a writer.
 
-ghost use Rattle.std.specs.Prelude.{◌≡◌, ◌++◌, OnOk, string_bytes};
-ghost use Rattle.thorin_queries.specs.Telling.{Tells, Passes, PassesOne, IsLine, IsSum};
-ghost use Rattle.thorin_queries.specs.Faults.{fault_line, TellsText};
+ghost use Rattle.std.specs.Prelude.{◌≡◌, ◌++◌, [], OnOk, string_bytes};
+ghost use Rattle.thorin_queries.specs.Telling.{progress, HandsOver, PassesOn};
+ghost use Rattle.thorin_queries.specs.Faults.{fault_line, TellsText, IsSomeText};
 
 use crate::finding::short_kind;
 use crate::output::{Failure, print};
 use dwp_table::{Bucketable, DwarfObject};
-use std::alloc::AllocError;
+use std::alloc::{AllocError, Global};
 use std::io::Write;
 
 /// How many bytes wait before they are handed over.
 const MANY: usize = 8192;
 
+/// The faults that were told.
+#[derive(Drop)]
+pub(crate) struct Faults {
+    /// The lines that wait for the writer.
+    pub waiting: String,
+    /// How many faults there are, as far as 64 bits go.
+    pub count: u64,
+}
+
+impl Faults {
+    /// None.
+    pub(crate) fn none(alloc: Global) -> Faults
+        ensures waiting { string_bytes result.waiting ≡ [] }
+        ensures count { result.count ≡ 0 }
+    {
+        Faults {
+            waiting: String::new(alloc),
+            count: 0,
+        }
+    }
+}
+
 /// Hands what waits to the writer: then nothing waits.
 ///
 /// # Errors
 /// `Line` where the writer doesn't take all.
-#[tactic(auto, using(crate::proofs::Told::handed_over))]
 fn hand_over<O: Write>(waiting: &mut String, out: &mut O) -> Result<(), Failure>
-    ensures { Passes (O.contents out.old) (string_bytes waiting.old) (O.contents out.new)
+    ensures { HandsOver (O.contents out.old) (string_bytes waiting.old) (O.contents out.new)
         (string_bytes waiting.new) result }
 {
-    match print(waiting.as_str(), out) {
-        Ok(()) => {
-            waiting.clear();
-            Ok(())
-        }
-        Err(failure) => {
-            waiting.clear();
-            Err(failure)
-        }
-    }
+    let printed = print(waiting.as_str(), out);
+    waiting.clear();
+    printed
 }
 
-/// Hands what waits to the writer, where it is much. Answers the number of faults that the last
-/// line tells, 1.
+/// Counts a fault whose line was put behind what waits, and hands that to the writer where it is
+/// much.
 ///
 /// # Errors
-/// Those of `hand_over`.
-#[tactic(auto, using(crate::proofs::Told::none_waits))]
-pub(crate) fn pass_on<O: Write>(waiting: &mut String, out: &mut O) -> Result<u64, Failure>
-    ensures { PassesOne (O.contents out.old) (string_bytes waiting.old) (O.contents out.new)
-        (string_bytes waiting.new) result }
+/// `Memory` where the line couldn't be put there, and those of `hand_over`.
+pub(crate) fn pass_on<O: Write>(
+    put: Result<(), AllocError>,
+    faults: &mut Faults,
+    out: &mut O,
+) -> Result<(), Failure>
+    ensures { PassesOn put (progress (O.contents out.old) faults.old)
+        (progress (O.contents out.new) faults.new) result }
 {
-    if waiting.len() < MANY {
-        return Ok(1);
-    }
-    match hand_over(waiting, out) {
-        Ok(()) => Ok(1),
-        Err(failure) => Err(failure),
+    match put {
+        Ok(()) => {
+            faults.count = faults.count.saturating_add(1);
+            if faults.waiting.len() < MANY {
+                return Ok(());
+            }
+            hand_over(&mut faults.waiting, out)
+        }
+        Err(_) => Err(Failure::Memory),
     }
 }
 
-/// Tells a fault of a unit. Answers the number of faults, 1.
-#[tactic(auto, using(crate::proofs::Told::passed, crate::proofs::Told::none_grown))]
+/// Tells a fault of a unit, where there is one: then it has a text.
+///
+/// # Errors
+/// `Memory` where there was none for the text, and those of `pass_on`.
 pub(crate) fn tell<O: Write>(
     object: DwarfObject,
-    text: &str,
-    waiting: &mut String,
+    text: Result<Option<String>, AllocError>,
+    faults: &mut Faults,
     out: &mut O,
-) -> Result<u64, Failure>
-    ensures { Tells (IsLine (fault_line object text.now)) (O.contents out.old)
-        (string_bytes waiting.old) (O.contents out.new) (string_bytes waiting.new) result }
+) -> Result<(), Failure>
+    ensures { TellsText object text (progress (O.contents out.old) faults.old)
+        (progress (O.contents out.new) faults.new) result }
 {
-    match put_fault(object, text, waiting) {
-        Ok(()) => pass_on(waiting, out),
+    match text {
+        Ok(Some(text)) => {
+            let put = put_fault(object, text.as_str(), &mut faults.waiting);
+            pass_on(put, faults, out)
+        }
+        Ok(None) => Ok(()),
         Err(_) => Err(Failure::Memory),
     }
 }
 
-/// Tells a fault of a unit, where there is memory for its text. Answers the number of faults, 1.
-pub(crate) fn tell_text<O: Write>(
-    object: DwarfObject,
-    text: Result<String, AllocError>,
-    waiting: &mut String,
-    out: &mut O,
-) -> Result<u64, Failure>
-    ensures { TellsText object text (O.contents out.old) (string_bytes waiting.old)
-        (O.contents out.new) (string_bytes waiting.new) result }
+/// A text that there is.
+pub(crate) fn some(text: Result<String, AllocError>) -> Result<Option<String>, AllocError>
+    ensures { IsSomeText text result }
 {
     match text {
-        Ok(text) => tell(object, text.as_str(), waiting, out),
-        Err(_) => Err(Failure::Memory),
+        Ok(text) => Ok(Some(text)),
+        Err(cause) => Err(cause),
     }
 }
 
@@ -95,14 +115,4 @@ fn put_fault(object: DwarfObject, text: &str, waiting: &mut String) -> Result<()
     let kind = short_kind(object);
     let id = object.index();
     writeln!(waiting, "{kind} 0x{id:016x}: {text}")
-}
-
-/// A number of faults, and those that are told behind them.
-pub(crate) fn with_rest(first: u64, rest: Result<u64, Failure>) -> Result<u64, Failure>
-    ensures { IsSum first rest result }
-{
-    match rest {
-        Ok(rest) => Ok(first.saturating_add(rest)),
-        Err(failure) => Err(failure),
-    }
 }

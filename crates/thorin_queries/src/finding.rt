@@ -4,7 +4,7 @@ ghost use Rattle.std.specs.Prelude.{◌≡◌, ◌++◌, [], IfOk, OnOk, MatchRe
 ghost use Rattle.std.specs.Option.{option_copied};
 ghost use Rattle.thorin_queries.specs.Answers.{anything, Reads, Comes, refused};
 ghost use Rattle.thorin_queries.specs.Faults.{string_of};
-ghost use Rattle.thorin_queries.specs.Finding.{Finds, FindsAsked};
+ghost use Rattle.thorin_queries.specs.Finding.{Finds, Seeks};
 ghost use Rattle.thorin_queries.specs.Finding.{string_count, string_line, string_answer};
 ghost use Rattle.thorin_queries.specs.Finding.{find_answer, found_answer, wanted_answer};
 ghost use Rattle.dwp_index.specs.Package.{found_counted};
@@ -15,7 +15,7 @@ use crate::describing::put_all;
 use crate::files::{FileReader, HostReader, read_named};
 use crate::output::{Failure, answer, answer_bytes};
 use crate::spelled::{put_spelled, put_spelled_or};
-use crate::wanted::{FindForm, Printing, Wanted, object, wanted_of};
+use crate::wanted::{FindForm, FindWords, Printing, Sought, Wanted, object, wanted_of};
 use dwp_base::SectionKind;
 use dwp_index::{PackageFile, PackagedUnit};
 use dwp_table::{Bucketable, DwarfObject};
@@ -43,7 +43,13 @@ pub fn find<O: Write>(
         (option_copied form.entry.section) form.entry.json (O.contents out.old)
         (O.contents out.new) result }
 {
-    find_by(rt.alloc(), &HostReader::new(rt), file, kind, id, form, out)
+    find_by(
+        rt.alloc(),
+        &HostReader::new(rt),
+        file,
+        FindWords { kind, id, form },
+        out,
+    )
 }
 
 /// The same of a file that a reader reads.
@@ -54,36 +60,36 @@ pub fn find_by<F: FileReader, O: Write>(
     alloc: Global,
     files: &F,
     file: &str,
-    kind: &str,
-    id: &str,
-    form: FindForm<'_>,
+    asked: FindWords<'_>,
     out: &mut O,
 ) -> Result<u8, Failure>
-    ensures { Finds (F.offer files.now) file.now kind.now id.now (option_copied form.entry.string)
-        (option_copied form.entry.section) form.entry.json (O.contents out.old)
-        (O.contents out.new) result }
+    ensures { Finds (F.offer files.now) file.now asked.entry.kind.now asked.entry.id.now
+        (option_copied asked.entry.form.string) (option_copied asked.entry.form.section)
+        asked.entry.form.json (O.contents out.old) (O.contents out.new) result }
 {
-    let object = object(kind, id);
-    let wanted = wanted_of(form.string, form.section);
-    find_asked(alloc, files, file, object, wanted, form.json, out)
+    let object = object(asked.kind, asked.id);
+    let wanted = wanted_of(asked.form.string, asked.form.section);
+    match sought(object, wanted, asked.form.json) {
+        Ok(sought) => find_at(alloc, files, file, sought, out),
+        Err(failure) => Err(failure),
+    }
 }
 
-/// The same of what the words ask for.
-fn find_asked<F: FileReader, O: Write>(
-    alloc: Global,
-    files: &F,
-    file: &str,
+/// What the words ask for.
+fn sought(
     object: Result<DwarfObject, Failure>,
     wanted: Result<Wanted, Failure>,
     as_json: bool,
-    out: &mut O,
-) -> Result<u8, Failure>
-    ensures { FindsAsked (F.offer files.now) file.now as_json (O.contents out.old)
-        (O.contents out.new) object wanted result }
+) -> Result<Sought, Failure>
+    ensures { Seeks as_json object wanted result }
 {
     match object {
         Ok(object) => match wanted {
-            Ok(wanted) => find_at(alloc, files, file, object, wanted, as_json, out),
+            Ok(wanted) => Ok(Sought {
+                object,
+                wanted,
+                as_json,
+            }),
             Err(failure) => Err(failure),
         },
         Err(failure) => Err(failure),
@@ -96,16 +102,15 @@ fn find_at<F: FileReader, O: Write>(
     alloc: Global,
     files: &F,
     file: &str,
-    object: DwarfObject,
-    wanted: Wanted,
-    as_json: bool,
+    sought: Sought,
     out: &mut O,
 ) -> Result<u8, Failure>
-    ensures { Reads (F.offer files.now) file.now (find_answer as_json wanted object)
-        (O.contents out.old) (O.contents out.new) result }
+    ensures { Reads (F.offer files.now) file.now
+        (find_answer sought.as_json sought.wanted sought.object) (O.contents out.old)
+        (O.contents out.new) result }
 {
     match read_named(files, file) {
-        Ok(bytes) => find_in(alloc, bytes.as_slice(), object, wanted, as_json, out),
+        Ok(bytes) => find_in(alloc, bytes.as_slice(), sought, out),
         Err(failure) => Err(failure),
     }
 }
@@ -114,15 +119,15 @@ fn find_at<F: FileReader, O: Write>(
 fn find_in<O: Write>(
     alloc: Global,
     bytes: &[u8],
-    object: DwarfObject,
-    wanted: Wanted,
-    as_json: bool,
+    sought: Sought,
     out: &mut O,
 ) -> Result<u8, Failure>
-    ensures { Comes result (find_answer as_json wanted object bytes.now) (O.contents out.old)
-        (O.contents out.new) }
+    ensures { Comes result (find_answer sought.as_json sought.wanted sought.object bytes.now)
+        (O.contents out.old) (O.contents out.new) }
 {
-    match wanted {
+    let object = sought.object;
+    let as_json = sought.as_json;
+    match sought.wanted {
         Wanted::Printed(printing) => print_text(alloc, bytes, object, printing, as_json, out),
         Wanted::Bytes(kind) => print_section(bytes, object, kind, as_json, out),
     }

@@ -36,4 +36,4 @@ pub use listing::{ListForm, list, list_by};
 pub use output::{Failure, buffer, flush, report, show};
 pub use showing::shown;
 pub use telling::{tell_refused, tell_taken, unit_count, warn_differing};
-pub use wanted::FindForm;
+pub use wanted::{FindForm, FindWords};

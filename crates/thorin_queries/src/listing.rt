@@ -76,6 +76,19 @@ pub fn list_by<F: FileReader, O: Write>(
     }
 }
 
+/// A package that is listed.
+#[derive(Clone, Copy)]
+struct Listed<'m, 'a> {
+    /// The package.
+    pack: &'m PackageFile<'a>,
+    /// The bytes of its file.
+    bytes: &'m [u8],
+    /// Its strings.
+    strings: Strings<'a>,
+    /// What its lines are to have.
+    form: ListForm,
+}
+
 /// Lists a package's bytes.
 #[tactic(auto, using(crate::proofs::Listed::bytes_listed, crate::proofs::Listed::bytes_malformed))]
 fn list_bytes<O: Write>(
@@ -88,49 +101,47 @@ fn list_bytes<O: Write>(
         (O.contents out.new) result) (O.contents out.old) (O.contents out.new) result }
 {
     match PackageFile::parse(bytes) {
-        Ok(package) => list_package(alloc, &package, bytes, strings_in(bytes), form, out),
+        Ok(package) => {
+            let listed = Listed {
+                pack: &package,
+                bytes,
+                strings: strings_in(bytes),
+                form,
+            };
+            list_package(alloc, listed, out)
+        }
         Err(_) => Err(Failure::Malformed),
     }
 }
 
 /// Lists a package.
 #[tactic(auto, using(crate::proofs::Listed::same_entries, crate::proofs::Listed::no_memory))]
-fn list_package<'a, O: Write>(
-    alloc: Global,
-    pack: &PackageFile<'a>,
-    bytes: &[u8],
-    strings: Strings<'a>,
-    form: ListForm,
-    out: &mut O,
-) -> Result<u8, Failure>
-    requires { view_by form strings ≡ view_of form pack.now }
-    ensures { OrNoMemory (ListsPackage form pack.now (O.contents out.old)
+fn list_package<O: Write>(alloc: Global, listed: Listed<'_, '_>, out: &mut O) -> Result<u8, Failure>
+    requires { view_by listed.form listed.strings ≡ view_of listed.form listed.pack.now }
+    ensures { OrNoMemory (ListsPackage listed.entry.form listed.entry.pack.now (O.contents out.old)
         (O.contents out.new) result) (O.contents out.old) (O.contents out.new) result }
 {
-    match entries_by_row(alloc, pack) {
-        Ok(entries) => list_entries(alloc, pack, entries.as_slice(), bytes, strings, form, out),
+    match entries_by_row(alloc, listed.pack) {
+        Ok(entries) => list_entries(alloc, listed, entries.as_slice(), out),
         Err(_) => Err(Failure::Memory),
     }
 }
 
 /// Lists the units of a package.
 #[tactic(auto, using(crate::proofs::Listed::no_memory))]
-fn list_entries<'a, O: Write>(
+fn list_entries<O: Write>(
     alloc: Global,
-    pack: &PackageFile<'a>,
+    listed: Listed<'_, '_>,
     entries: &[UnitEntry],
-    bytes: &[u8],
-    strings: Strings<'a>,
-    form: ListForm,
     out: &mut O,
 ) -> Result<u8, Failure>
-    requires view { view_by form strings ≡ view_of form pack.now }
-    requires by_row { AreByRow pack.now entries.now }
-    ensures { OrNoMemory (ListsPackage form pack.now (O.contents out.old)
+    requires view { view_by listed.form listed.strings ≡ view_of listed.form listed.pack.now }
+    requires by_row { AreByRow listed.pack.now entries.now }
+    ensures { OrNoMemory (ListsPackage listed.entry.form listed.entry.pack.now (O.contents out.old)
         (O.contents out.new) result) (O.contents out.old) (O.contents out.new) result }
 {
     let mut text = String::new(alloc);
-    match put_listing(alloc, pack, entries, bytes, strings, form, &mut text) {
+    match put_listing(listed, entries, &mut text) {
         Ok(given) => answer(text.as_str(), given, out),
         Err(_) => Err(Failure::Memory),
     }
@@ -139,48 +150,44 @@ fn list_entries<'a, O: Write>(
 /// Makes the text of a list, and of totals where sizes are asked for. Answers what is to be
 /// answered.
 #[tactic(auto, using(crate::proofs::Listed::listed_part, crate::proofs::Listed::listed_plain, crate::proofs::Listed::listed_sized))]
-fn put_listing<'a>(
-    alloc: Global,
-    pack: &PackageFile<'a>,
+fn put_listing(
+    listed: Listed<'_, '_>,
     entries: &[UnitEntry],
-    bytes: &[u8],
-    strings: Strings<'a>,
-    form: ListForm,
     text: &mut String,
 ) -> Result<Result<u8, Failure>, AllocError>
     requires { string_bytes text.old ≡ [] }
-    ensures { IfOk result (λ given. IsListed form
-        (lines_of (view_by form strings.entry) pack.now entries.now)
+    ensures { IfOk result (λ given. IsListed listed.entry.form
+        (lines_of (view_by listed.entry.form listed.entry.strings) listed.entry.pack.now entries.now)
         (record { printed = string_bytes text.new; answer = given })) }
 {
-    let mut sizes = Sizes::new(alloc);
-    let is_all = put_lines(pack, entries, strings, form, &mut sizes, text)?;
+    let mut sizes = Sizes::new(*text.allocator());
+    let is_all = put_lines(listed, entries, &mut sizes, text)?;
     if !is_all {
         return Ok(Err(Failure::Malformed));
     }
-    if !form.sizes {
+    if !listed.form.sizes {
         return Ok(Ok(0));
     }
-    sizes.put(bytes, form.json, text)?;
+    sizes.put(listed.bytes, listed.form.json, text)?;
     Ok(Ok(0))
 }
 
 /// Adds the lines of units, up to one that can't be looked up: then it answers false.
-fn put_lines<'a>(
-    pack: &PackageFile<'a>,
+fn put_lines(
+    listed: Listed<'_, '_>,
     entries: &[UnitEntry],
-    strings: Strings<'a>,
-    form: ListForm,
     sizes: &mut Sizes,
     text: &mut String,
 ) -> Result<bool, AllocError>
     ensures lines { OnOk result (string_bytes text.new ≡ string_bytes text.old
-        ++ (lines_of (view_by form strings.entry) pack.now entries.now).printed) }
-    ensures all { IfOk result (λ is_all.
-        is_all ≡ (lines_of (view_by form strings.entry) pack.now entries.now).is_all) }
+        ++ (lines_of (view_by listed.entry.form listed.entry.strings) listed.entry.pack.now
+        entries.now).printed) }
+    ensures all { IfOk result (λ is_all. is_all
+        ≡ (lines_of (view_by listed.entry.form listed.entry.strings) listed.entry.pack.now
+        entries.now).is_all) }
 {
     for entry in entries {
-        let is_found = put_slot(pack, *entry, strings, form, sizes, text)?;
+        let is_found = put_slot(listed, *entry, sizes, text)?;
         if !is_found {
             return Ok(false);
         }
@@ -190,21 +197,20 @@ fn put_lines<'a>(
 
 /// Adds the line of the unit that is found for a slot, where it is that of the slot's row. Answers
 /// whether it could be looked up.
-fn put_slot<'a>(
-    pack: &PackageFile<'a>,
+fn put_slot(
+    listed: Listed<'_, '_>,
     entry: UnitEntry,
-    strings: Strings<'a>,
-    form: ListForm,
     sizes: &mut Sizes,
     text: &mut String,
 ) -> Result<bool, AllocError>
-    ensures { IfOk result (AddsLine (view_by form strings.entry) entry (found pack.now entry.object)
-        (string_bytes text.old) (string_bytes text.new)) }
+    ensures { IfOk result (AddsLine (view_by listed.entry.form listed.entry.strings) entry
+        (found listed.entry.pack.now entry.object) (string_bytes text.old)
+        (string_bytes text.new)) }
 {
-    match pack.find(entry.object) {
+    match listed.pack.find(entry.object) {
         Ok(Some(unit)) => {
             if unit.row() == entry.row {
-                put_unit(entry.object, &unit, strings, form, sizes, text)?;
+                put_unit(listed, entry.object, &unit, sizes, text)?;
             }
             Ok(true)
         }
@@ -251,22 +257,22 @@ pub(crate) fn is_type(object: DwarfObject) -> bool {
 /// Adds the line of a unit, with its sizes and names where these are asked for.
 #[tactic(auto, unfolding(crate::specs::Listing::unit_line))]
 fn put_unit<'a>(
+    listed: Listed<'_, 'a>,
     object: DwarfObject,
     unit: &PackagedUnit<'a>,
-    strings: Strings<'a>,
-    form: ListForm,
     sizes: &mut Sizes,
     text: &mut String,
 ) -> Result<(), AllocError>
-    ensures { OnOk result (string_bytes text.new
-        ≡ string_bytes text.old ++ unit_line (view_by form strings.entry) object unit.now) }
+    ensures { OnOk result (string_bytes text.new ≡ string_bytes text.old
+        ++ unit_line (view_by listed.entry.form listed.entry.strings) object unit.now) }
 {
+    let form = listed.form;
     put_front(object, unit, form.json, text)?;
     if form.sizes {
         put_sizes(unit, form.json, sizes, text)?;
     }
     if form.names {
-        put_names(object, unit, strings, form, text)?;
+        put_names(object, unit, listed.strings, form, text)?;
     }
     put_end(form.json, text)
 }

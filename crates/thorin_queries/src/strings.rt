@@ -1,15 +1,16 @@
 //! The strings of a package's units, in `thorin check`.
 
-ghost use Rattle.std.specs.Prelude.{◌≡◌, ℕ, List, Err, IfOk, string_bytes, true};
+ghost use Rattle.std.specs.Prelude.{◌≡◌, ℕ, List, IfOk, string_bytes, true};
 ghost use Rattle.dwp_index.specs.Package.{found};
 ghost use Rattle.thorin_queries.specs.Checking.{TellsSomeStrings};
 ghost use Rattle.thorin_queries.specs.Ends.{HasEnds, AllEnd};
 ghost use Rattle.thorin_queries.specs.Faults.{TellsStringsOf, TellsStrings, TellsString};
-ghost use Rattle.thorin_queries.specs.Faults.{string_of, string_text};
-ghost use Rattle.thorin_queries.specs.Telling.{Tells, ForEach};
+ghost use Rattle.thorin_queries.specs.Faults.{string_of, string_text, IsTextOf};
+ghost use Rattle.thorin_queries.specs.Telling.{progress, Tells, ForEach};
+ghost use Rattle.dwp_table.specs.declared.object.DwarfObject.{DwarfObject};
 
 use crate::ends::Ends;
-use crate::faults::tell_text;
+use crate::faults::{Faults, some, tell};
 use crate::finding::string_count;
 use crate::output::Failure;
 use dwp_bytes::{Format, ReadError};
@@ -91,114 +92,110 @@ fn string_range(unit: &PackagedUnit<'_>) -> Option<StringRange> {
     ))
 }
 
-/// Checks the strings of a unit of each range. Answers the number of faults.
-#[tactic(auto, using(crate::proofs::Faulted::some_strings, crate::proofs::Told::none_grown))]
+/// Checks the strings of a unit of each range.
+#[tactic(auto, using(crate::proofs::Told::none_grown))]
 pub(crate) fn check_strings<O: Write>(
     pack: &PackageFile<'_>,
     ends: Ends,
     strings: &mut Vec<(StringRange, DwarfObject)>,
-    waiting: &mut String,
+    faults: &mut Faults,
     out: &mut O,
-) -> Result<u64, Failure>
+) -> Result<(), Failure>
     requires { HasEnds ends pack.now.order pack.now.contents.strings }
-    ensures { Tells (TellsSomeStrings pack.now) (O.contents out.old) (string_bytes waiting.old)
-        (O.contents out.new) (string_bytes waiting.new) result }
+    ensures { Tells (TellsSomeStrings pack.now) (progress (O.contents out.old) faults.old)
+        (progress (O.contents out.new) faults.new) result }
 {
     match strings.sort_by_key(|(range, _)| *range) {
         Ok(()) => {}
         Err(_) => return Err(Failure::Memory),
     }
     strings.dedup_by_key(|(range, _)| *range);
-    check_distinct(pack, ends, strings.as_slice(), waiting, out)
+    check_distinct(pack, ends, strings.as_slice(), faults, out)
 }
 
-/// Checks the strings of these units. Answers the number of faults.
+/// Checks the strings of these units.
 fn check_distinct<O: Write>(
     pack: &PackageFile<'_>,
     ends: Ends,
     strings: &[(StringRange, DwarfObject)],
-    waiting: &mut String,
+    faults: &mut Faults,
     out: &mut O,
-) -> Result<u64, Failure>
+) -> Result<(), Failure>
     requires { HasEnds ends pack.now.order pack.now.contents.strings }
     ensures { Tells (ForEach (λ s. TellsStringsOf s.1 (found pack.now s.1)) strings.now)
-        (O.contents out.old) (string_bytes waiting.old) (O.contents out.new)
-        (string_bytes waiting.new) result }
+        (progress (O.contents out.old) faults.old) (progress (O.contents out.new) faults.new)
+        result }
 {
-    let mut faults = 0u64;
     for i in 0..strings.len() {
-        match check_strings_of(pack, ends, strings[i].1, waiting, out) {
-            Ok(found) => faults = faults.saturating_add(found),
+        match check_strings_of(pack, ends, strings[i].1, faults, out) {
+            Ok(()) => {}
             Err(failure) => return Err(failure),
         }
     }
-    Ok(faults)
+    Ok(())
 }
 
-/// Checks the strings of a unit. Answers the number of faults.
-#[tactic(auto, using(crate::proofs::Faulted::strings_none, crate::proofs::Faulted::strings_unread, crate::proofs::Faulted::strings_some))]
+/// Checks the strings of a unit.
 fn check_strings_of<O: Write>(
     pack: &PackageFile<'_>,
     ends: Ends,
     object: DwarfObject,
-    waiting: &mut String,
+    faults: &mut Faults,
     out: &mut O,
-) -> Result<u64, Failure>
+) -> Result<(), Failure>
     requires { HasEnds ends pack.now.order pack.now.contents.strings }
-    ensures { Tells (TellsStringsOf object (found pack.now object)) (O.contents out.old)
-        (string_bytes waiting.old) (O.contents out.new) (string_bytes waiting.new) result }
+    ensures { Tells (TellsStringsOf object (found pack.now object))
+        (progress (O.contents out.old) faults.old) (progress (O.contents out.new) faults.new)
+        result }
 {
     match pack.find(object) {
-        Ok(Some(unit)) => check_each_string(ends, object, &unit, waiting, out),
-        Ok(None) => Ok(0),
-        Err(_) => Ok(0),
+        Ok(Some(unit)) => check_each_string(ends, object, &unit, faults, out),
+        Ok(None) => Ok(()),
+        Err(_) => Ok(()),
     }
 }
 
-/// Checks each string of a unit. Answers the number of faults.
+/// Checks each string of a unit.
 fn check_each_string<O: Write>(
     ends: Ends,
     object: DwarfObject,
     unit: &PackagedUnit<'_>,
-    waiting: &mut String,
+    faults: &mut Faults,
     out: &mut O,
-) -> Result<u64, Failure>
+) -> Result<(), Failure>
     requires { HasEnds ends unit.now.order unit.now.contents.strings }
-    ensures { Tells (TellsStrings object unit.now) (O.contents out.old)
-        (string_bytes waiting.old) (O.contents out.new) (string_bytes waiting.new) result }
+    ensures { Tells (TellsStrings object unit.now) (progress (O.contents out.old) faults.old)
+        (progress (O.contents out.new) faults.new) result }
 {
-    let mut faults = 0u64;
     for i in 0..string_count(unit) {
-        match check_string(ends, object, unit, i, waiting, out) {
-            Ok(found) => faults = faults.saturating_add(found),
+        let text = string_text(ends, unit, i, &faults.waiting);
+        match tell(object, text, faults, out) {
+            Ok(()) => {}
             Err(failure) => return Err(failure),
         }
     }
-    Ok(faults)
+    Ok(())
 }
 
-/// Checks a string of a unit: it can be read. Answers the number of faults.
-#[tactic(auto)]
-fn check_string<O: Write>(
+/// What is told of a string of a unit, where it can't be read.
+fn string_text(
     ends: Ends,
-    object: DwarfObject,
     unit: &PackagedUnit<'_>,
     i: u64,
-    waiting: &mut String,
-    out: &mut O,
-) -> Result<u64, Failure>
+    near: &String,
+) -> Result<Option<String>, AllocError>
     requires { HasEnds ends unit.now.order unit.now.contents.strings }
-    ensures { Tells (TellsString object i (string_of unit.now i)) (O.contents out.old)
-        (string_bytes waiting.old) (O.contents out.new) (string_bytes waiting.new) result }
+    ensures { (object : DwarfObject) → IsTextOf (TellsString object i (string_of unit.now i)) object
+        result }
 {
     match ends.fault_of(unit, i) {
-        None => Ok(0),
-        Some(fault) => tell_text(object, string_text(i, fault, waiting), waiting, out),
+        None => Ok(None),
+        Some(fault) => some(unread_text(i, fault, near)),
     }
 }
 
 /// What is told of a string that can't be read.
-fn string_text(i: u64, fault: ReadError, near: &String) -> Result<String, AllocError>
+fn unread_text(i: u64, fault: ReadError, near: &String) -> Result<String, AllocError>
     ensures { IfOk result (λ text. (cause : List ℕ) × (string_bytes text ≡ string_text i cause)) }
 {
     let cause = format!(in *near.allocator(); "{fault}")?;

@@ -4,12 +4,13 @@ ghost use Rattle.std.specs.Prelude.{◌≡◌, ◌++◌, OnOk, string_bytes};
 ghost use Rattle.dwp_elf_read.specs.View.{elf};
 ghost use Rattle.dwp_index.specs.Package.{Package};
 ghost use Rattle.thorin_queries.specs.Checking.{lacks_abbreviations, lacks_strings, lacking_line};
-ghost use Rattle.thorin_queries.specs.Checking.{lacking_lines, TellsSections, TellsTables};
+ghost use Rattle.thorin_queries.specs.Checking.{lacking_lines, TellsTables};
 ghost use Rattle.thorin_queries.specs.Faults.{has_abbreviations};
 ghost use Rattle.thorin_queries.specs.Indexes.{HasIndexes};
-ghost use Rattle.thorin_queries.specs.Telling.{Tells, Is, IsLine};
+ghost use Rattle.thorin_queries.specs.Telling.{progress, Tells, Is};
 
-use crate::faults::{pass_on, with_rest};
+use crate::checking::Opened;
+use crate::faults::{Faults, pass_on};
 use crate::input::contents_of;
 use crate::output::Failure;
 use crate::rows::check_indexes;
@@ -45,76 +46,43 @@ pub(crate) fn lacks_strings(file: &ElfFile<'_>) -> bool
 }
 
 /// The sections of abbreviations and of strings aren't lacking, and a slot names each row of both
-/// indexes. Answers the number of faults.
+/// indexes.
 pub(crate) fn check_tables<O: Write>(
-    file: &ElfFile<'_>,
-    no_abbreviations: bool,
-    no_strings: bool,
-    entries: &[UnitEntry],
-    waiting: &mut String,
+    opened: Opened<'_, '_>,
+    faults: &mut Faults,
     out: &mut O,
-) -> Result<u64, Failure>
-    ensures { Tells (TellsTables no_abbreviations no_strings) (O.contents out.old)
-        (string_bytes waiting.old) (O.contents out.new) (string_bytes waiting.new) result }
+) -> Result<(), Failure>
+    requires { HasIndexes (elf opened.file.now) opened.pack.now }
+    ensures { Tells (TellsTables (lacks_abbreviations opened.entry.pack.now opened.entry.entries.now)
+        (lacks_strings opened.entry.pack.now)) (progress (O.contents out.old) faults.old)
+        (progress (O.contents out.new) faults.new) result }
 {
-    match check_sections(no_abbreviations, no_strings, waiting, out) {
-        Ok(of_sections) => with_rest(of_sections, check_indexes(file, entries, waiting, out)),
+    let no_abbreviations = lacks_abbreviations(opened.file, opened.entries);
+    let no_strings = lacks_strings(opened.file);
+    match check_section(SectionKind::Abbrev, no_abbreviations, faults, out) {
+        Ok(()) => match check_section(SectionKind::Str, no_strings, faults, out) {
+            Ok(()) => check_indexes(opened.file, opened.entries, faults, out),
+            Err(failure) => Err(failure),
+        },
         Err(failure) => Err(failure),
     }
 }
 
-/// Tells that the sections of abbreviations and of strings are lacking, where that is so. Answers
-/// the number of faults.
-fn check_sections<O: Write>(
-    no_abbreviations: bool,
-    no_strings: bool,
-    waiting: &mut String,
-    out: &mut O,
-) -> Result<u64, Failure>
-    ensures { Tells (TellsSections no_abbreviations no_strings) (O.contents out.old)
-        (string_bytes waiting.old) (O.contents out.new) (string_bytes waiting.new) result }
-{
-    match check_section(SectionKind::Abbrev, no_abbreviations, waiting, out) {
-        Ok(of_abbreviations) => with_rest(
-            of_abbreviations,
-            check_section(SectionKind::Str, no_strings, waiting, out),
-        ),
-        Err(failure) => Err(failure),
-    }
-}
-
-/// Tells that a section is lacking, where it is. Answers the number of faults.
-#[tactic(auto, using(crate::proofs::Told::none_told))]
+/// Tells that a section is lacking, where it is.
 fn check_section<O: Write>(
     kind: SectionKind,
     lacks: bool,
-    waiting: &mut String,
+    faults: &mut Faults,
     out: &mut O,
-) -> Result<u64, Failure>
-    ensures { Tells (Is (lacking_lines kind lacks)) (O.contents out.old) (string_bytes waiting.old)
-        (O.contents out.new) (string_bytes waiting.new) result }
+) -> Result<(), Failure>
+    ensures { Tells (Is (lacking_lines kind lacks)) (progress (O.contents out.old) faults.old)
+        (progress (O.contents out.new) faults.new) result }
 {
-    if lacks {
-        tell_lacking(kind, waiting, out)
-    } else {
-        Ok(0)
+    if !lacks {
+        return Ok(());
     }
-}
-
-/// Tells that a section is lacking. Answers the number of faults, 1.
-#[tactic(auto, using(crate::proofs::Told::passed, crate::proofs::Told::none_grown))]
-fn tell_lacking<O: Write>(
-    kind: SectionKind,
-    waiting: &mut String,
-    out: &mut O,
-) -> Result<u64, Failure>
-    ensures { Tells (IsLine (lacking_line kind)) (O.contents out.old) (string_bytes waiting.old)
-        (O.contents out.new) (string_bytes waiting.new) result }
-{
-    match put_lacking(kind, waiting) {
-        Ok(()) => pass_on(waiting, out),
-        Err(_) => Err(Failure::Memory),
-    }
+    let put = put_lacking(kind, &mut faults.waiting);
+    pass_on(put, faults, out)
 }
 
 /// Adds the line of a package that lacks a section.

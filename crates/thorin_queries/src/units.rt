@@ -6,15 +6,16 @@ ghost use Rattle.dwp_elf_read.specs.View.{elf};
 ghost use Rattle.dwp_index.specs.Index.{range_in};
 ghost use Rattle.thorin_queries.specs.Checking.{TellsUnits};
 ghost use Rattle.thorin_queries.specs.Faults.{TellsUnit, TellsFound, TellsOwn};
-ghost use Rattle.thorin_queries.specs.Faults.{TellsItself, IsOwnText, IsUnreadText};
+ghost use Rattle.thorin_queries.specs.Faults.{TellsItself, IsOwnText, IsUnreadText, IsTextOf};
 ghost use Rattle.thorin_queries.specs.Faults.{has_abbreviations};
 ghost use Rattle.thorin_queries.specs.Indexes.{HasIndexes};
 ghost use Rattle.thorin_queries.specs.Overlaps.{IsClash, overlap_text};
-ghost use Rattle.thorin_queries.specs.Telling.{Tells, ForEach};
+ghost use Rattle.thorin_queries.specs.Telling.{progress, Tells, ForEach};
 
 use crate::abbreviations::{Own, Remembered};
+use crate::checking::Opened;
 use crate::ends::Ends;
-use crate::faults::{tell, tell_text, with_rest};
+use crate::faults::{Faults, some, tell};
 use crate::finding::short_kind;
 use crate::input::{contents_of, strings_of};
 use crate::output::Failure;
@@ -27,190 +28,140 @@ use dwp_table::{Bucketable, DwarfObject};
 use std::alloc::{AllocError, Global};
 use std::io::Write;
 
-/// Checks each unit that a slot names, then the strings of each range of string offsets. Answers
-/// the number of faults.
-#[tactic(auto, using(crate::proofs::Told::none_grown))]
-pub(crate) fn check_units<O: Write>(
+/// The package that units are looked up in.
+#[derive(Clone, Copy)]
+struct Units<'m, 'a> {
+    pack: &'m PackageFile<'a>,
+    /// Whether it has abbreviations.
+    has_abbreviations: bool,
+}
+
+/// What is remembered from unit to unit.
+#[derive(Drop)]
+struct Seen<'a> {
     alloc: Global,
-    pack: &PackageFile<'_>,
-    file: &ElfFile<'_>,
-    entries: &[UnitEntry],
-    waiting: &mut String,
+    /// What was read of abbreviations, and of identifiers.
+    abbreviations: Remembered<'a>,
+    /// The units whose strings are still to be checked.
+    strings: Strings,
+}
+
+impl<'a> Seen<'a> {
+    /// Nothing, of a package's file whose strings end so.
+    fn nothing(alloc: Global, file: &ElfFile<'a>, ends: Ends) -> Seen<'a> {
+        let section = contents_of(file, SectionKind::Abbrev);
+        let size = contents_of(file, SectionKind::StrOffsets).len();
+        Seen {
+            alloc,
+            abbreviations: Remembered::new(alloc, file.endianness(), section),
+            strings: Strings::new(alloc, ends, size),
+        }
+    }
+}
+
+/// Checks each unit that a slot names, then the strings of each range of string offsets.
+pub(crate) fn check_units<O: Write>(
+    opened: Opened<'_, '_>,
+    faults: &mut Faults,
     out: &mut O,
-) -> Result<u64, Failure>
-    requires { HasIndexes (elf file.now) pack.now }
-    ensures { Tells (TellsUnits pack.now entries.now) (O.contents out.old)
-        (string_bytes waiting.old) (O.contents out.new) (string_bytes waiting.new) result }
+) -> Result<(), Failure>
+    requires { HasIndexes (elf opened.file.now) opened.pack.now }
+    ensures { Tells (TellsUnits opened.entry.pack.now opened.entry.entries.now)
+        (progress (O.contents out.old) faults.old) (progress (O.contents out.new) faults.new)
+        result }
 {
-    match Overlaps::find(alloc, pack, file, entries) {
-        Ok(overlaps) => check_all(alloc, pack, file, entries, &overlaps, waiting, out),
+    let alloc = *faults.waiting.allocator();
+    match Overlaps::find(alloc, opened.pack, opened.file, opened.entries) {
+        Ok(overlaps) => check_all(opened, &overlaps, faults, out),
         Err(_) => Err(Failure::Memory),
     }
 }
 
 /// The same with what is known of overlaps.
 fn check_all<O: Write>(
-    alloc: Global,
-    pack: &PackageFile<'_>,
-    file: &ElfFile<'_>,
-    entries: &[UnitEntry],
+    opened: Opened<'_, '_>,
     overlaps: &Overlaps,
-    waiting: &mut String,
+    faults: &mut Faults,
     out: &mut O,
-) -> Result<u64, Failure>
-    requires { HasIndexes (elf file.now) pack.now }
-    ensures { Tells (TellsUnits pack.now entries.now) (O.contents out.old)
-        (string_bytes waiting.old) (O.contents out.new) (string_bytes waiting.new) result }
+) -> Result<(), Failure>
+    requires { HasIndexes (elf opened.file.now) opened.pack.now }
+    ensures { Tells (TellsUnits opened.entry.pack.now opened.entry.entries.now)
+        (progress (O.contents out.old) faults.old) (progress (O.contents out.new) faults.new)
+        result }
 {
-    let ends = Ends::of(strings_of(file));
-    let size = contents_of(file, SectionKind::StrOffsets).len();
-    let mut strings = Strings::new(alloc, ends, size);
-    match check_own_bytes(pack, file, entries, overlaps, &mut strings, waiting, out) {
-        Ok(of_units) => with_rest(
-            of_units,
-            check_strings(pack, ends, &mut strings.unread, waiting, out),
-        ),
+    let ends = Ends::of(strings_of(opened.file));
+    let mut seen = Seen::nothing(*faults.waiting.allocator(), opened.file, ends);
+    let units = Units {
+        pack: opened.pack,
+        has_abbreviations: has_abbreviations(opened.file),
+    };
+    match check_each(units, opened.entries, overlaps, &mut seen, faults, out) {
+        Ok(()) => check_strings(opened.pack, ends, &mut seen.strings.unread, faults, out),
         Err(failure) => Err(failure),
     }
 }
 
 /// Checks each unit that a slot names, and gathers those whose strings are still to be checked.
-/// Answers the number of faults.
-fn check_own_bytes<O: Write>(
-    pack: &PackageFile<'_>,
-    file: &ElfFile<'_>,
-    entries: &[UnitEntry],
-    overlaps: &Overlaps,
-    strings: &mut Strings,
-    waiting: &mut String,
-    out: &mut O,
-) -> Result<u64, Failure>
-    requires { HasIndexes (elf file.now) pack.now }
-    ensures { Tells (ForEach (TellsUnit pack.now) entries.now) (O.contents out.old)
-        (string_bytes waiting.old) (O.contents out.new) (string_bytes waiting.new) result }
-{
-    let section = contents_of(file, SectionKind::Abbrev);
-    let mut abbreviations = Remembered::new(*waiting.allocator(), file.endianness(), section);
-    let has_any = has_abbreviations(file);
-    check_each(
-        pack,
-        has_any,
-        &mut abbreviations,
-        entries,
-        overlaps,
-        strings,
-        waiting,
-        out,
-    )
-}
-
-/// The same with what is remembered of their abbreviations.
 fn check_each<'a, O: Write>(
-    pack: &PackageFile<'a>,
-    has_any: bool,
-    abbreviations: &mut Remembered<'a>,
+    units: Units<'_, 'a>,
     entries: &[UnitEntry],
     overlaps: &Overlaps,
-    strings: &mut Strings,
-    waiting: &mut String,
+    seen: &mut Seen<'a>,
+    faults: &mut Faults,
     out: &mut O,
-) -> Result<u64, Failure>
-    requires { has_any ≡ has_abbreviations pack.now }
-    ensures { Tells (ForEach (TellsUnit pack.now) entries.now) (O.contents out.old)
-        (string_bytes waiting.old) (O.contents out.new) (string_bytes waiting.new) result }
+) -> Result<(), Failure>
+    requires { units.has_abbreviations ≡ has_abbreviations units.pack.now }
+    ensures { Tells (ForEach (TellsUnit units.entry.pack.now) entries.now)
+        (progress (O.contents out.old) faults.old) (progress (O.contents out.new) faults.new)
+        result }
 {
-    let mut faults = 0u64;
     for i in 0..entries.len() {
-        let shares = overlaps.of(i);
-        match check_entry(
-            pack,
-            has_any,
-            abbreviations,
-            entries[i],
-            shares,
-            strings,
-            waiting,
-            out,
-        ) {
-            Ok(found) => faults = faults.saturating_add(found),
+        let text = text_of(units, entries[i], overlaps.of(i), seen);
+        match tell(entries[i].object, text, faults, out) {
+            Ok(()) => {}
             Err(failure) => return Err(failure),
         }
     }
-    Ok(faults)
+    Ok(())
 }
 
-/// Checks the unit that a slot names. Answers the number of faults.
-#[tactic(auto)]
-fn check_entry<'a, O: Write>(
-    pack: &PackageFile<'a>,
-    has_any: bool,
-    abbreviations: &mut Remembered<'a>,
+/// What is told of the unit that a slot names, if anything.
+fn text_of<'a>(
+    units: Units<'_, 'a>,
     entry: UnitEntry,
     shares: Shares,
-    strings: &mut Strings,
-    waiting: &mut String,
-    out: &mut O,
-) -> Result<u64, Failure>
-    requires { has_any ≡ has_abbreviations pack.now }
-    ensures { Tells (TellsUnit pack.now entry) (O.contents out.old)
-        (string_bytes waiting.old) (O.contents out.new) (string_bytes waiting.new) result }
+    seen: &mut Seen<'a>,
+) -> Result<Option<String>, AllocError>
+    requires { units.has_abbreviations ≡ has_abbreviations units.pack.now }
+    ensures { IsTextOf (TellsUnit units.entry.pack.now entry) entry.object result }
 {
-    match pack.find(entry.object) {
-        Ok(Some(unit)) => check_found(
-            pack,
-            has_any,
-            abbreviations,
-            entry,
-            &unit,
-            shares,
-            strings,
-            waiting,
-            out,
-        ),
-        Ok(None) => tell(entry.object, "not found under its identifier", waiting, out),
-        Err(fault) => {
-            let text = unread_text(*waiting.allocator(), fault);
-            tell_text(entry.object, text, waiting, out)
-        }
+    match units.pack.find(entry.object) {
+        Ok(Some(unit)) => text_of_found(units, entry, &unit, shares, seen),
+        Ok(None) => some(format!(in seen.alloc; "not found under its identifier")),
+        Err(fault) => some(unread_text(seen.alloc, fault)),
     }
 }
 
-/// Checks the unit that is found under the identifier of a slot: it is that of the slot's row, and
-/// this row has abbreviations where the package has some. Answers the number of faults.
-#[tactic(auto)]
-fn check_found<'a, O: Write>(
-    pack: &PackageFile<'a>,
-    has_any: bool,
-    abbreviations: &mut Remembered<'a>,
+/// What is told of the unit that is found under the identifier of a slot, if anything: it is to be
+/// that of the slot's row, and this row is to have abbreviations where the package has some.
+fn text_of_found<'a>(
+    units: Units<'_, 'a>,
     entry: UnitEntry,
     unit: &PackagedUnit<'a>,
     shares: Shares,
-    strings: &mut Strings,
-    waiting: &mut String,
-    out: &mut O,
-) -> Result<u64, Failure>
-    requires { has_any ≡ has_abbreviations pack.now }
-    ensures { Tells (TellsFound pack.now entry unit.now) (O.contents out.old)
-        (string_bytes waiting.old) (O.contents out.new) (string_bytes waiting.new) result }
+    seen: &mut Seen<'a>,
+) -> Result<Option<String>, AllocError>
+    requires { units.has_abbreviations ≡ has_abbreviations units.pack.now }
+    ensures { IsTextOf (TellsFound units.entry.pack.now entry unit.now) entry.object result }
 {
     let row = unit.row();
     if row != entry.row {
-        let text = row_text(*waiting.allocator(), row);
-        return tell_text(entry.object, text, waiting, out);
+        return some(row_text(seen.alloc, row));
     }
-    if is_bare(has_any, unit) {
-        return tell(entry.object, "its row has no abbreviations", waiting, out);
+    if is_bare(units.has_abbreviations, unit) {
+        return some(format!(in seen.alloc; "its row has no abbreviations"));
     }
-    check_itself(
-        pack,
-        abbreviations,
-        entry.object,
-        unit,
-        shares,
-        strings,
-        waiting,
-        out,
-    )
+    text_of_itself(units.pack, entry.object, unit, shares, seen)
 }
 
 /// Whether the row of a unit of a package that may have abbreviations has none, where it has some.
@@ -220,36 +171,20 @@ fn is_bare(has_any: bool, unit: &PackagedUnit<'_>) -> bool
     has_any && unit.range(SectionKind::Abbrev).is_none()
 }
 
-/// Checks a unit by its ranges and its own bytes: none of its ranges overlaps that of another, and
-/// its own identifier is that of the slot. Answers the number of faults.
-#[tactic(auto)]
-fn check_itself<'a, O: Write>(
+/// What is told of a unit by its ranges and its own bytes, if anything: none of its ranges is to
+/// overlap that of another, and its own identifier is to be that of the slot.
+fn text_of_itself<'a>(
     pack: &PackageFile<'a>,
-    abbreviations: &mut Remembered<'a>,
     object: DwarfObject,
     unit: &PackagedUnit<'a>,
     shares: Shares,
-    strings: &mut Strings,
-    waiting: &mut String,
-    out: &mut O,
-) -> Result<u64, Failure>
-    ensures { Tells (TellsItself pack.now object unit.now) (O.contents out.old)
-        (string_bytes waiting.old) (O.contents out.new) (string_bytes waiting.new) result }
+    seen: &mut Seen<'a>,
+) -> Result<Option<String>, AllocError>
+    ensures { IsTextOf (TellsItself pack.now object unit.now) object result }
 {
     match clash_of(pack, unit, shares.clash) {
-        Some((kind, other)) => {
-            let text = overlap_text(*waiting.allocator(), kind, other);
-            tell_text(object, text, waiting, out)
-        }
-        None => check_own(
-            abbreviations,
-            object,
-            unit,
-            shares.has_twin,
-            strings,
-            waiting,
-            out,
-        ),
+        Some((kind, other)) => some(overlap_text(seen.alloc, kind, other)),
+        None => text_of_own(object, unit, shares.has_twin, seen),
     }
 }
 
@@ -271,33 +206,27 @@ fn clash_of(pack: &PackageFile<'_>, unit: &PackagedUnit<'_>, clash: Option<Clash
     }
 }
 
-/// Checks the identifier that a unit's own bytes give, and gathers the unit for the check of its
-/// strings where it is its own. Answers the number of faults.
-#[tactic(auto)]
-fn check_own<'a, O: Write>(
-    abbreviations: &mut Remembered<'a>,
+/// What is told of a unit by the identifier that its own bytes give. Where that is its own, the unit
+/// is gathered for the check of its strings.
+fn text_of_own<'a>(
     object: DwarfObject,
     unit: &PackagedUnit<'a>,
     has_twin: bool,
-    strings: &mut Strings,
-    waiting: &mut String,
-    out: &mut O,
-) -> Result<u64, Failure>
-    ensures { Tells (TellsOwn object) (O.contents out.old) (string_bytes waiting.old) (O.contents out.new)
-        (string_bytes waiting.new) result }
+    seen: &mut Seen<'a>,
+) -> Result<Option<String>, AllocError>
+    ensures { IsTextOf (TellsOwn object) object result }
 {
-    match abbreviations.own(unit, object, has_twin) {
+    match seen.abbreviations.own(unit, object, has_twin) {
         Ok(own) => {
-            if is_own(own, object) {
-                match strings.add(unit, object) {
-                    Ok(()) => Ok(0),
-                    Err(_) => Err(Failure::Memory),
-                }
-            } else {
-                tell_text(object, own_text(*waiting.allocator(), own), waiting, out)
+            if !is_own(own, object) {
+                return some(own_text(seen.alloc, own));
+            }
+            match seen.strings.add(unit, object) {
+                Ok(()) => Ok(None),
+                Err(cause) => Err(cause),
             }
         }
-        Err(_) => Err(Failure::Memory),
+        Err(cause) => Err(cause),
     }
 }
 

@@ -22,6 +22,25 @@ pub struct FindForm<'a> {
     pub json: bool,
 }
 
+/// The words that ask for a unit, and what is wanted of it.
+#[derive(Clone, Copy)]
+pub struct FindWords<'a> {
+    /// Its kind: `cu` or `tu`.
+    pub kind: &'a str,
+    /// Its identifier.
+    pub id: &'a str,
+    /// What is wanted of it, and how it is printed.
+    pub form: FindForm<'a>,
+}
+
+/// The unit that is asked for, what is wanted of it, and whether a JSON object is printed.
+#[derive(Clone, Copy)]
+pub(crate) struct Sought {
+    pub object: DwarfObject,
+    pub wanted: Wanted,
+    pub as_json: bool,
+}
+
 /// What is wanted of a unit.
 #[derive(Clone, Copy)]
 pub(crate) enum Wanted {

@@ -6,18 +6,18 @@ use Rattle.thorin_queries.proofs.Told.{none_told, told_next, told_all, stopped_b
 use Rattle.thorin_queries.proofs.executables.check_executables.Goals as goal
 
 pub loop-i-init : goal.loop-i-init
-loop-i-init g c = none_told _ refl _ _
+loop-i-init g c = none_told _ refl _
 
 pub loop-i-preserved : goal.loop-i-preserved
 loop-i-preserved g c =
     told_next (λ (e : Bor (List ℕ)). TellsExecutable (g.F.FileReader.offer c.args.files.now)
-    c.args.named.reading c.args.pack.now e.now) c.args.named.executables.now c.loop-i.i _ _
-    c.loop-i-test.true c.saturating_add-faults.ensures c.loop-i.invariant c.in-Ok.ensures
+    c.args.named.reading c.args.pack.now e.now) c.args.named.executables.now c.loop-i.i _
+    c.loop-i-test.true c.loop-i.invariant c.in-Ok.ensures
 
 pub returns-in-Err : goal.returns-in-Err
 returns-in-Err g c = (
   reading_one (g.F.FileReader.offer c.args.files.now) c.args.named.executables.now c.loop-i.i _
-      c.in-Err.failure c.loop-i-test.true c.in-Err.ensures.0,
+      _ c.loop-i-test.true c.in-Err.ensures.0,
   stopped_behind _ c.loop-i.invariant c.in-Err.ensures.1,
 )
 

@@ -1,8 +1,7 @@
 use Rattle.std.proofs.Common.{ℕ, List, take}
 use Rattle.std.specs.Borrow.{Bor}
-use Rattle.std.specs.Prelude.{string_bytes}
 use Rattle.thorin_queries.specs.Checking.{TellsExecutable}
-use Rattle.thorin_queries.specs.Telling.{Told, ForEach}
+use Rattle.thorin_queries.specs.Telling.{progress, Told, ForEach}
 use Rattle.thorin_queries.proofs.executables.check_executables.Given as goal
 
 -- the faults of the executables so far
@@ -11,5 +10,5 @@ invariant-loop-i g l = Told
     (ForEach (λ (e : Bor (List ℕ)). TellsExecutable (g.F.FileReader.offer l.files)
     l.named.reading l.pack e.now)
     (take l.i l.named.executables.now))
-    (g.O.Write.contents l.initial.out) (string_bytes l.initial.waiting)
-    (g.O.Write.contents l.out) (string_bytes l.waiting) l.faults
+    (progress (g.O.Write.contents l.initial.out) l.initial.faults)
+    (progress (g.O.Write.contents l.out) l.faults)

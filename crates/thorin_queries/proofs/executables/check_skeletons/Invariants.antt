@@ -1,6 +1,5 @@
 use Rattle.std.proofs.Common.{length}
-use Rattle.std.specs.Prelude.{string_bytes}
-use Rattle.thorin_queries.specs.Telling.{Told}
+use Rattle.thorin_queries.specs.Telling.{progress, Told}
 use Rattle.thorin_queries.proofs.Skeletons.{GoesOn}
 use Rattle.thorin_queries.proofs.executables.check_skeletons.Given as goal
 
@@ -9,6 +8,7 @@ decreases-loop-unit g l = length l.units.listed.0
 
 -- what was told so far, and what is left to tell
 abbrev pub invariant-loop-unit : goal.invariant-loop-unit
-invariant-loop-unit g l = Told (GoesOn l.pack l.executable l.initial.units.listed l.units.listed)
-    (g.O.Write.contents l.initial.out) (string_bytes l.initial.waiting)
-    (g.O.Write.contents l.out) (string_bytes l.waiting) l.faults
+invariant-loop-unit g l = Told
+    (GoesOn l.naming.pack.now l.naming.executable.now l.initial.units.listed l.units.listed)
+    (progress (g.O.Write.contents l.initial.out) l.initial.faults)
+    (progress (g.O.Write.contents l.out) l.faults)

@@ -12,7 +12,8 @@ loop-entry-preserved c =
     let entries = c.args.entries.now in
     let i = c.loop-entry.entry-index in
     let none : UnitEntry = record { object = Compilation (record { 0 = 0 }); row = 0 } in
-    so_far_next (view_by c.args.form c.args.strings) c.args.pack.now entries (get_or entries i none)
+    so_far_next (view_by c.args.listed.form c.args.listed.strings) c.args.listed.pack.now entries
+    (get_or entries i none)
     (drop (i + 1) entries) (string_bytes c.args.text.now) (string_bytes c.loop-entry.text)
     (string_bytes c.put_slot.new.text) (drop i entries) c.in_ok-is_found.is_found
     c.if-not-is_found.false c.in_ok-is_found.ensures

@@ -6,5 +6,6 @@ use Rattle.thorin_queries.proofs.listing.put_lines.Given as goal
 
 -- the lines of the slots so far
 abbrev pub invariant-loop-entry : goal.invariant-loop-entry
-invariant-loop-entry l = LinesSoFar (view_by l.form l.strings) l.pack l.entries
+invariant-loop-entry l = LinesSoFar (view_by l.listed.form l.listed.strings)
+    l.listed.pack.now l.entries
     (drop l.entry-index l.entries) (string_bytes l.initial.text) (string_bytes l.text)

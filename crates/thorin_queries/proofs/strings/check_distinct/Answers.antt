@@ -6,17 +6,19 @@ use Rattle.thorin_queries.proofs.Told.{none_told, told_next, told_all, stopped_b
 use Rattle.thorin_queries.proofs.strings.check_distinct.Goals as goal
 
 pub loop-i-init : goal.loop-i-init
-loop-i-init g c = none_told _ refl _ _
+loop-i-init g c = none_told _ refl _
 
 pub loop-i-preserved : goal.loop-i-preserved
 loop-i-preserved g c =
     told_next (λ (s : (ℕ × ℕ × ℕ × Bool) × DwarfObject).
     TellsStringsOf s.1 (found c.args.pack.now s.1)) c.args.strings.now c.loop-i.i _
-    _ c.loop-i-test.true c.saturating_add-faults.ensures c.loop-i.invariant c.in-Ok.ensures
+    c.loop-i-test.true c.loop-i.invariant c.in-Ok.ensures
 
 pub returns-in-Err : goal.returns-in-Err
-returns-in-Err g c =
-    (c.in-Err.ensures.0, stopped_behind _ c.loop-i.invariant c.in-Err.ensures.1)
+returns-in-Err g c = (
+  c.in-Err.ensures.0,
+  stopped_behind _ c.loop-i.invariant c.in-Err.ensures.1,
+)
 
 pub returns : goal.returns
 returns g c = told_all (λ (s : (ℕ × ℕ × ℕ × Bool) × DwarfObject).
