@@ -261,3 +261,21 @@ pub answers_bytes : (offer : Offer) (bytes : Bor (List ℕ)) (old new : State) (
     → Took offer (inputs.Bytes bytes) old r new → OnOk r (TookBytes offer bytes.now old new)
 answers_bytes offer bytes old new (Ok x) took = record { bytes = bytes; is = refl; took = took }
 answers_bytes offer bytes old new (Err e) took = tt
+
+-- what a call gave that was settled
+pub settled : {E : Type 0} (P : Type 0) (r : Result (Unit {0}) E) (outcome : Outcome)
+    → OnOk r (outcome ≡ Ok tt) → OnOk outcome P → OnOk r P
+settled P (Ok x) outcome is gave = subst (λ (o : Outcome). OnOk o P) is gave
+settled P (Err e) outcome is gave = tt
+
+took_when : (offer : Offer) (input : Input) (old new : State) (outcome : Outcome)
+    → Took offer input old outcome new → OnOk outcome (Took offer input old (Ok tt) new)
+took_when offer input old new (Ok x) took = took
+took_when offer input old new (Err e) took = tt
+
+pub settled_took : {E : Type 0} (r : Result (Unit {0}) E) (offer : Offer) (input : Input)
+    (old new : State) (outcome : Outcome) → OnOk r (outcome ≡ Ok tt)
+    → Took offer input old outcome new → OnOk r (Took offer input old (Ok tt) new)
+settled_took r offer input old new outcome is took =
+    settled (Took offer input old (Ok tt) new) r outcome is
+    (took_when offer input old new outcome took)

@@ -12,15 +12,13 @@ use Rattle.dwp_elf_read.specs.declared.fault.WriteError.TheVariants.{NumberTooLa
 use Rattle.dwp_elf.specs.FileText.{Object, file_text}
 use Rattle.dwp_elf.specs.Refusals.{RefusesWriter}
 use Rattle.dwp_elf.specs.FileText.{Object as File}
-use Rattle.thorin_faults.specs.declared.fault.Error.{Error}
 use Rattle.thorin.specs.declared.packing.Input.{Input}
 use Rattle.thorin_queries.specs.declared.output.Failure.{Failure}
 use Rattle.thorin_commands.specs.Files.{HasBeginning, Begun, Adds, IsOfWriting, PutIn, BeginsIn}
 use Rattle.thorin_commands.specs.Files.{Put, Begins}
 use Rattle.thorin_commands.specs.Packing.{asked, asks, out_of, IsPackedFrom, IsPackageFor}
 use Rattle.thorin_commands.specs.Packing.{Packs}
-use Rattle.thorin_commands.specs.Packing.{paths_in, reads, through}
-use Rattle.thorin_commands.specs.Plain.{taken_from, last_from}
+use Rattle.thorin_commands.specs.Packing.{paths_in, reads}
 use Rattle.thorin_commands.specs.Packing.{Comes}
 use Rattle.thorin_commands.specs.Packing.{Fails}
 use Rattle.thorin_commands.specs.declared.output.Refusal.{Refusal}
@@ -98,61 +96,28 @@ module _ {F O : Type 0} (begins : F → Option (List Begun)) (contents : O → O
 -- ---- what came of packing
 
 module _ {X : Type 0} (offers : X → List ℕ → Result (List ℕ) IoError → Type 0) (x y : X)
-    (packing : Packing) (last b : Bool) (words objects executables : List (Bor (List ℕ))) where
-  -- what reads as a command asks, part by part
-  alike : (P : (List ℕ → Result (List ℕ) IoError → Type 0) → Type 0) → x ≡ y
-      → last ≡ packing.keeps_last_macros → b ≡ packing.decompresses
-      → words ≡ paths_in packing.prefix_maps
-      → objects ≡ paths_in packing.inputs → executables ≡ paths_in packing.executables
-      → P (last_from last (taken_from b (through words objects executables (offers x))))
-      → P (reads packing (offers y))
-  alike P f l d w o e h =
-      let first = subst (λ z. P (last_from last (taken_from b
-      (through words objects executables (offers z))))) f h in
-      let kept = subst (λ z. P (last_from z (taken_from b
-      (through words objects executables (offers y))))) l first in
-      let second = subst (λ z. P (last_from packing.keeps_last_macros (taken_from z
-      (through words objects executables (offers y))))) d kept in
-      let third = subst (λ z. P (last_from packing.keeps_last_macros
-      (taken_from packing.decompresses (through z objects executables (offers y))))) w
-      second in
-      let fourth = subst (λ z. P (last_from packing.keeps_last_macros
-      (taken_from packing.decompresses (through (paths_in packing.prefix_maps) z executables
-      (offers y))))) o third in
-      subst (λ z. P (last_from packing.keeps_last_macros (taken_from packing.decompresses
-      (through (paths_in packing.prefix_maps) (paths_in packing.inputs) z (offers y))))) e
-      fourth
-
-  pub for_packing : (opens : Bool) (list : List Input) (object : File) → x ≡ y
-      → last ≡ packing.keeps_last_macros → b ≡ packing.decompresses
-      → words ≡ paths_in packing.prefix_maps
-      → objects ≡ paths_in packing.inputs → executables ≡ paths_in packing.executables
-      → opens ≡ packing.opens_archives → map asked list ≡ asks packing
-      → IsPackedFrom packing.partial opens b (last_from last (taken_from b
-      (through words objects executables (offers x)))) list object
+    (reading packing : Packing) where
+  pub for_packing : (list : List Input) (object : File) → x ≡ y → reading ≡ packing
+      → map asked list ≡ asks packing
+      → IsPackedFrom packing.partial reading.opens_archives reading.decompresses
+      (reads reading (offers x)) list object
       → IsPackageFor (reads packing (offers y)) packing object
-  for_packing opens list object f l d w o e opened are packed =
-      record {
-        list = list;
-        are = inl are;
-        packed = alike (λ offer. IsPackedFrom packing.partial packing.opens_archives
-            packing.decompresses offer list object) f l d w o e
-            (subst (λ z. IsPackedFrom packing.partial packing.opens_archives z (last_from last
-            (taken_from b (through words objects executables (offers x)))) list object) d
-            (subst (λ z. IsPackedFrom packing.partial z b (last_from last (taken_from b
-            (through words objects executables (offers x)))) list object) opened packed));
-      }
+  for_packing list object f p are packed = record {
+    list = list;
+    are = inl are;
+    packed = subst (λ (q : Packing). IsPackedFrom packing.partial q.opens_archives q.decompresses
+        (reads q (offers y)) list object) p
+        (subst (λ (z : X). IsPackedFrom packing.partial reading.opens_archives
+        reading.decompresses (reads reading (offers z)) list object) f packed);
+  }
 
   -- a package is one of what is taken, however that is written
-  pub packed_alike : (object : File) → x ≡ y
-      → last ≡ packing.keeps_last_macros → b ≡ packing.decompresses
-      → words ≡ paths_in packing.prefix_maps
-      → objects ≡ paths_in packing.inputs → executables ≡ paths_in packing.executables
-      → IsPackageFor (last_from last (taken_from b (through words objects executables (offers x))))
-      packing object
+  pub packed_alike : (object : File) → x ≡ y → reading ≡ packing
+      → IsPackageFor (reads reading (offers x)) packing object
       → IsPackageFor (reads packing (offers y)) packing object
-  packed_alike object f l d w o e h =
-      alike (λ offer. IsPackageFor offer packing object) f l d w o e h
+  packed_alike object f p h =
+      subst (λ (q : Packing). IsPackageFor (reads q (offers y)) packing object) p
+      (subst (λ (z : X). IsPackageFor (reads reading (offers z)) packing object) f h)
 
 -- the same with the first executable as an object behind them
 pub for_unsplit : (offer : List ℕ → Result (List ℕ) IoError → Type 0) (packing : Packing)
@@ -216,7 +181,7 @@ module _ (N B D : Type 0) where
   -- where nothing was written, any refusal says so
   pub stopped : (refusal : Refusal) → N → Comes (Err refusal) N B D
   unfolding Comes Fails
-  stopped (refusals.Package fault) n = n
+  stopped refusals.Empty n = n
   stopped refusals.Told n = n
   stopped (refusals.Command failure) n = inl n
 
@@ -224,9 +189,9 @@ module _ (N B D : Type 0) where
   unfolding Comes
   when_done x h = h
 
-  pub when_refused : (fault : Error) → Comes (Err (refusals.Package fault)) N B D → N
+  pub when_empty : Comes (Err refusals.Empty) N B D → N
   unfolding Comes
-  when_refused fault h = h
+  when_empty h = h
 
   pub when_told : Comes (Err refusals.Told) N B D → N
   unfolding Comes

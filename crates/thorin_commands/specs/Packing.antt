@@ -165,6 +165,6 @@ Fails failure nothing begun = nothing ⊎ (IsOfWriting failure × begun)
 -- what came of it: all was done; the package was refused, and nothing was written; or a step failed
 unfoldable pub Comes : Result (Unit {0}) Refusal → (nothing begun done : Type 0) → Type 0
 Comes (Ok x) nothing begun done = done
-Comes (Err (refusals.Package fault)) nothing begun done = nothing
+Comes (Err refusals.Empty) nothing begun done = nothing
 Comes (Err refusals.Told) nothing begun done = nothing
 Comes (Err (refusals.Command failure)) nothing begun done = Fails failure nothing begun

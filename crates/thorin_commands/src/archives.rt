@@ -7,11 +7,12 @@ ghost use Rattle.dwp_archive.specs.View as view;
 ghost use Rattle.thorin_commands.specs.Archives.{is_split, split_contents};
 ghost use Rattle.thorin_commands.specs.Opened.{TookAll, TookEach, TookMembers, TookBytes};
 
-use crate::notes::place_of_member;
+use crate::notes::{note_alone, note_reason, place_of_member};
 use crate::origins::{Source, place_of_unit};
 use crate::output::Refusal;
 use crate::reading::Inputs;
-use crate::telling::{Before, Refused, Telling, note_place, refusal, tell_fault, told, warn_of};
+use crate::taking::{Tried, settle};
+use crate::telling::{Before, Refused, Telling, note_place, tell_error, tell_refused, warn_of};
 use dwp_archive::{ArchiveError, Member, members};
 use dwp_bytes::RelocationEntry;
 use dwp_elf::ElfFile;
@@ -19,7 +20,7 @@ use std::alloc::{AllocError, Global};
 use std::io::Write;
 use std::path::{AsPath, Path};
 use thorin::{DwarfPackage, Input, take_input};
-use thorin_faults::{Error, InputError, Session};
+use thorin_faults::{Error, Session};
 use thorin_queries::{Failure, shown, tell_taken};
 
 /// Whether bytes are those of an archive, plain or thin.
@@ -44,7 +45,6 @@ fn is_split(bytes: &[u8]) -> bool
 /// Takes the file at a path: an object, or where it is an archive its members that have split
 /// units. Tells what came of it where that is asked for.
 pub(crate) fn take_opened<'o, 's: 'o, Sess: Session<RelocationEntry>, I: Inputs, E: Write>(
-    alloc: Global,
     files: &I,
     builder: &mut DwarfPackage<'o, 's, Sess>,
     room: &mut Vec<u8>,
@@ -56,95 +56,65 @@ pub(crate) fn take_opened<'o, 's: 'o, Sess: Session<RelocationEntry>, I: Inputs,
     ensures { OnOk result (TookAll (I.opens files.now) (I.plain files.now) (I.offer files.now)
         (Object path.entry) builder.old.state builder.new.state) }
 {
-    let input = Input::Object(path);
-    files.begin(input);
+    files.begin(Input::Object(path));
     match files.read_into(path, room) {
-        Ok(bytes) => take_read(alloc, files, builder, path, bytes, telling, err),
+        Ok(bytes) => {
+            let place = Place { path, telling };
+            take_read(files, builder, bytes, place, err)
+        }
         Err(e) => {
+            let fault = Error::from(e);
             let refused = Refused {
-                input,
+                input: Input::Object(path),
                 room: &[],
                 before: None,
-                fault: fault_of(e),
+                fault: &fault,
             };
-            Err(refusal(alloc, files, refused, telling, err))
+            tell_refused(files, refused, telling, err);
+            Err(Refusal::Told)
         }
     }
 }
 
 /// Takes what was read at a path.
 fn take_read<'o, 's: 'o, Sess: Session<RelocationEntry>, I: Inputs, E: Write>(
-    alloc: Global,
     files: &I,
     builder: &mut DwarfPackage<'o, 's, Sess>,
-    path: Path<'_>,
     bytes: &[u8],
-    telling: Telling,
+    place: Place<'_>,
     err: &mut E,
 ) -> Result<(), Refusal>
     requires opens { I.opens files.now ≡ true }
-    requires offered { I.offer files.now (path_bytes path) (Ok bytes.now) }
+    requires offered { I.offer files.now (path_bytes place.path) (Ok bytes.now) }
     ensures { OnOk result (TookAll (I.opens files.now) (I.plain files.now) (I.offer files.now)
-        (Object path.entry) builder.old.state builder.new.state) }
+        (Object place.entry.path) builder.old.state builder.new.state) }
 {
     if is_archive(bytes) {
-        let place = Place {
-            alloc,
-            path,
-            telling,
-        };
         take_members(files, builder, bytes, place, err)
     } else {
-        take_object(alloc, files, builder, path, bytes, telling, err)
-    }
-}
-
-/// The error of a read that failed.
-fn fault_of(cause: InputError) -> Error {
-    match cause {
-        InputError::Io(cause) => Error::ReadInput(cause),
-        InputError::Memory => Error::Memory,
+        take_object(files, builder, bytes, place, err)
     }
 }
 
 /// Takes an object that was read at a path.
 fn take_object<'o, 's: 'o, Sess: Session<RelocationEntry>, I: Inputs, E: Write>(
-    alloc: Global,
     files: &I,
     builder: &mut DwarfPackage<'o, 's, Sess>,
-    path: Path<'_>,
     bytes: &[u8],
-    telling: Telling,
+    place: Place<'_>,
     err: &mut E,
 ) -> Result<(), Refusal>
     ensures { OnOk result
         (TookBytes (I.offer files.now) bytes.now builder.old.state builder.new.state) }
 {
-    let input = Input::Object(path);
     let before = builder.contained_units().len();
-    match take_bytes(alloc, files, builder, bytes) {
-        Ok(()) => {}
-        Err(fault) => {
-            let refused = Refused {
-                input,
-                room: bytes,
-                before: place_of_unit(builder, &fault),
-                fault,
-            };
-            return Err(refusal(alloc, files, refused, telling, err));
-        }
-    }
-    let after = builder.contained_units().len();
-    files.keep_taken(Source::Object(path.path_text()), after);
-    told(
-        alloc,
-        files,
-        input,
-        after.saturating_sub(before),
-        telling,
-        err,
-    )?;
-    Ok(())
+    let outcome = take_bytes(place.telling.alloc, files, builder, bytes);
+    let tried = Tried {
+        input: Input::Object(place.path),
+        room: bytes,
+        before,
+    };
+    settle(files, builder, tried, outcome, place.telling, err)
 }
 
 /// Takes an object's bytes.
@@ -172,7 +142,7 @@ fn take_members<'o, 's: 'o, Sess: Session<RelocationEntry>, I: Inputs, E: Write>
     ensures { OnOk result (TookMembers (I.plain files.now) (I.offer files.now) bytes.now
         builder.old.state builder.new.state) }
 {
-    match members(place.alloc, bytes) {
+    match members(place.telling.alloc, bytes) {
         Ok(members) => take_listed(files, builder, members.as_slice(), place, err),
         Err(fault) => Err(malformed(place, fault, err)),
     }
@@ -193,8 +163,10 @@ fn take_listed<'o, 's: 'o, Sess: Session<RelocationEntry>, I: Inputs, E: Write>(
     let before = builder.contained_units().len();
     let count = take_each(files, builder, members, place, err)?;
     let added = builder.contained_units().len().saturating_sub(before);
-    tell_members(place, count, added, err)?;
-    Ok(())
+    match tell_members(place, count, added, err) {
+        Ok(()) => Ok(()),
+        Err(failure) => Err(Refusal::Command(failure)),
+    }
 }
 
 /// Tells of an archive how many units were added, or warns that no member has any.
@@ -208,15 +180,14 @@ fn tell_members<E: Write>(
         tell_taken(err, place.path.path_text(), added, None)?;
     }
     if place.telling.notes && count == 0 {
-        warn_of(place.alloc, place.path, err)?;
+        return warn_of(place.telling.alloc, place.path, err);
     }
     Ok(())
 }
 
-/// The archive whose members are taken, and what is told of them.
+/// Where an object or an archive was read, and what is told of it.
 #[derive(Clone, Copy)]
 struct Place<'p> {
-    alloc: Global,
     path: Path<'p>,
     telling: Telling,
 }
@@ -256,17 +227,22 @@ fn take_split<'o, 's: 'o, Sess: Session<RelocationEntry>, I: Inputs, E: Write>(
     if !is_split(content) {
         return Ok(false);
     }
-    match take_content(place.alloc, files, builder, content) {
+    match take_content(place.telling.alloc, files, builder, content) {
         Ok(()) => {
-            let source = Source::Member(place.path.path_text(), member.name());
-            files.keep_taken(source, builder.contained_units().len());
+            keep_member(files, builder.contained_units().len(), member, place);
             Ok(true)
         }
         Err(fault) => {
-            let before = place_of_unit(builder, &fault);
-            Err(member_refused(files, member.name(), place, before, fault, err))
+            refuse_member(files, builder, &fault, member, place, err);
+            Err(Refusal::Told)
         }
     }
+}
+
+/// Keeps for notes a member that was taken.
+fn keep_member<I: Inputs>(files: &I, count: usize, member: Member<'_>, place: Place<'_>) {
+    let source = Source::Member(place.path.path_text(), member.name());
+    files.keep_taken(source, count);
 }
 
 /// Takes what is taken for the content of a member.
@@ -293,48 +269,46 @@ fn malformed<E: Write>(place: Place<'_>, fault: ArchiveError, err: &mut E) -> Re
     }
     let _ = writeln!(err, "error: {fault}");
     if place.telling.notes {
-        if let Ok(archive) = shown(place.alloc, place.path.path_text()) {
-            let _ = writeln!(err, "note: {archive}");
+        if let Ok(archive) = shown(place.telling.alloc, place.path.path_text()) {
+            note_alone(archive.as_str(), err);
         }
     }
     Refusal::Told
 }
 
-/// What becomes of a refused member: it is told here where more is to be said than the error, else
-/// left to be told.
-fn member_refused<I: Inputs, E: Write>(
+/// Tells why a member was refused, and where that is asked for which.
+fn refuse_member<'o, 's: 'o, Sess: Session<RelocationEntry>, I: Inputs, E: Write>(
     files: &I,
-    name: &[u8],
+    builder: &DwarfPackage<'o, 's, Sess>,
+    fault: &Error,
+    member: Member<'_>,
     place: Place<'_>,
-    before: Option<usize>,
-    fault: Error,
     err: &mut E,
-) -> Refusal {
-    let growth = files.found_growth();
-    match growth {
-        Some(growth) => {
-            let error = growth.error();
-            let _ = writeln!(err, "error: {error}");
-        }
-        None if place.telling.notes => {
-            let _ = tell_fault(place.alloc, err, &fault);
-        }
-        None => return Refusal::Package(fault),
-    }
+) {
+    tell_error(place.telling.alloc, fault, files.found_growth(), err);
     if place.telling.notes {
-        if let Ok(text) = place_of_member(place.alloc, place.path.path_text(), name) {
-            let text = text.as_str();
-            if let Some(growth) = growth {
-                let note = growth.note();
-                let _ = writeln!(err, "note: {text}: {note}");
-            } else {
-                let before = Before {
-                    place: before,
-                    executable: None,
-                };
-                note_place(place.alloc, files, &fault, text, before, err);
-            }
+        let before = Before {
+            place: place_of_unit(builder, fault),
+            executable: None,
+        };
+        note_member(files, fault, member, before, place, err);
+    }
+}
+
+/// Prints the note on a member that was refused.
+fn note_member<I: Inputs, E: Write>(
+    files: &I,
+    fault: &Error,
+    member: Member<'_>,
+    before: Before<'_>,
+    place: Place<'_>,
+    err: &mut E,
+) {
+    let alloc = place.telling.alloc;
+    if let Ok(text) = place_of_member(alloc, place.path.path_text(), member.name()) {
+        match files.found_growth() {
+            Some(growth) => note_reason(text.as_str(), growth.note(), err),
+            None => note_place(alloc, files, fault, text.as_str(), before, err),
         }
     }
-    Refusal::Told
 }

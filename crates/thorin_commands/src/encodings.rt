@@ -36,14 +36,12 @@ impl Encodings {
     /// Looks at a file of an input, which may be named by another. Where there is no memory to keep
     /// what is found, nothing is kept any more.
     pub(crate) fn look_at(&self, file: &[u8], own: &str, named: Option<&str>) {
-        let Some(found) = self.found.replace(None) else {
-            return;
-        };
-        let kept = match encoding_of(file) {
-            Some((encoding, order)) => with_first(self.alloc, found, encoding, order, own, named),
-            None => Ok(found),
-        };
-        self.found.set(kept.ok());
+        if let Some(mut found) = self.found.replace(None) {
+            let of_file = encoding_of(file);
+            if add_new(self.alloc, &mut found, of_file, own, named).is_ok() {
+                self.found.set(Some(found));
+            }
+        }
     }
 
     /// A line `note: ` for each encoding with its first input, where there are several.
@@ -58,19 +56,19 @@ impl Encodings {
     }
 }
 
-/// What was found, and an encoding where it is new.
-fn with_first(
+/// Adds the encoding of a file, if it has one that is new, to what was found.
+fn add_new(
     alloc: Global,
-    mut found: Vec<First>,
-    encoding: Encoding,
-    order: Endianness,
+    found: &mut Vec<First>,
+    of_file: Option<(Encoding, Endianness)>,
     own: &str,
     named: Option<&str>,
-) -> Result<Vec<First>, AllocError> {
-    for first in &found {
-        if first.encoding == encoding && first.order == order {
-            return Ok(found);
-        }
+) -> Result<(), AllocError> {
+    let Some((encoding, order)) = of_file else {
+        return Ok(());
+    };
+    if has(found, encoding, order) {
+        return Ok(());
     }
     let place = place_of(alloc, own, named)?;
     found.push(First {
@@ -78,7 +76,17 @@ fn with_first(
         order,
         place,
     })?;
-    Ok(found)
+    Ok(())
+}
+
+/// Whether an encoding was found.
+fn has(found: &[First], encoding: Encoding, order: Endianness) -> bool {
+    for first in found {
+        if first.encoding == encoding && first.order == order {
+            return true;
+        }
+    }
+    false
 }
 
 /// The encoding and the byte order of an object or a package, which are those of its first unit;
@@ -99,21 +107,27 @@ fn encoding_of(file: &[u8]) -> Option<(Encoding, Endianness)> {
 fn lines_of(alloc: Global, found: &[First]) -> Result<String, AllocError> {
     let mut lines = String::new(alloc);
     for first in found {
-        let place = first.place.as_str();
-        let version = first.encoding.version;
-        let bits = match first.encoding.format {
-            Format::Dwarf32 => 32,
-            Format::Dwarf64 => 64,
-        };
-        let size = first.encoding.address_size;
-        let order = match first.order {
-            Endianness::Little => "little-endian",
-            Endianness::Big => "big-endian",
-        };
-        writeln!(
-            lines,
-            "note: {place}: DWARF {version}, {bits}-bit, {size}-byte addresses, {order}"
-        )?;
+        put_line(first, &mut lines)?;
     }
     Ok(lines)
+}
+
+/// Adds the line of an encoding.
+fn put_line(first: &First, lines: &mut String) -> Result<(), AllocError> {
+    let place = first.place.as_str();
+    let version = first.encoding.version;
+    let bits = match first.encoding.format {
+        Format::Dwarf32 => 32,
+        Format::Dwarf64 => 64,
+    };
+    let size = first.encoding.address_size;
+    let order = match first.order {
+        Endianness::Little => "little-endian",
+        Endianness::Big => "big-endian",
+    };
+    writeln!(
+        lines,
+        "note: {place}: DWARF {version}, {bits}-bit, {size}-byte addresses, {order}"
+    )?;
+    Ok(())
 }

@@ -1,6 +1,7 @@
 //! Small files that could ask for a package of any size.
 
-use dwp_elf::{ElfFile, SectionKind};
+use crate::used::Used;
+use dwp_elf::ElfFile;
 use std::alloc::Global;
 use std::cell::Cell;
 use std::collections::BTreeMap;
@@ -42,20 +43,13 @@ impl Growth {
     }
 }
 
-/// A file, by its device and its number there. Its size too: not every file system numbers them.
-#[derive(Clone, Copy, PartialEq, Eq, PartialOrd, Ord)]
-struct FileIdentity {
-    device: u64,
-    number: u64,
-    size: usize,
-}
-
 /// What the objects that an input names add once more, beside how many bytes of it were read.
 #[derive(Drop)]
 pub(crate) struct Repetitions {
     alloc: Global,
-    /// The objects that were read, as far as there was memory for them.
-    files: Cell<Option<BTreeMap<FileIdentity, ()>>>,
+    /// The objects that were read, as far as there was memory for them: the device and the number
+    /// of each there, and its size, since not every file system numbers its files.
+    files: Cell<BTreeMap<(u64, u64, usize), ()>>,
     read: Cell<usize>,
     added: Cell<usize>,
 }
@@ -65,7 +59,7 @@ impl Repetitions {
     pub(crate) fn new(alloc: Global) -> Repetitions {
         Repetitions {
             alloc,
-            files: Cell::new(None),
+            files: Cell::new(BTreeMap::new(alloc)),
             read: Cell::new(0),
             added: Cell::new(0),
         }
@@ -73,7 +67,7 @@ impl Repetitions {
 
     /// Begins an input.
     pub(crate) fn begin(&self) {
-        self.files.set(None);
+        self.files.set(BTreeMap::new(self.alloc));
         self.read.set(0);
         self.added.set(0);
     }
@@ -111,44 +105,10 @@ impl Repetitions {
         let Some((device, number)) = identity else {
             return false;
         };
-        let file = FileIdentity {
-            device,
-            number,
-            size,
-        };
-        let mut files = match self.files.replace(None) {
-            Some(files) => files,
-            None => BTreeMap::new(self.alloc),
-        };
-        let is_again = files.contains_key(&file);
-        if !is_again {
-            let _remembered = files.insert(file, ());
-        }
-        self.files.set(Some(files));
+        let mut files = self.files.replace(BTreeMap::new(self.alloc));
+        let is_again = matches!(files.insert((device, number, size), ()), Ok(Some(_)));
+        self.files.set(files);
         is_again
-    }
-}
-
-/// The kinds of which only the first section counts.
-#[derive(Clone, Copy)]
-struct Seen {
-    strings: bool,
-    cu_index: bool,
-    tu_index: bool,
-}
-
-impl Seen {
-    /// Whether a section of a kind counts: of those kinds the first alone.
-    fn counts(&mut self, kind: SectionKind) -> bool {
-        let seen = match kind {
-            SectionKind::Str => &mut self.strings,
-            SectionKind::CuIndex => &mut self.cu_index,
-            SectionKind::TuIndex => &mut self.tu_index,
-            _ => return true,
-        };
-        let counts = !*seen;
-        *seen = true;
-        counts
     }
 }
 
@@ -160,23 +120,8 @@ pub(crate) fn has_overlap(bytes: &[u8]) -> bool {
 /// How many bytes the sections of an object or a package have that are used. None is used where
 /// there is none of units.
 fn used_size(bytes: &[u8]) -> u64 {
-    let Ok(file) = ElfFile::parse(bytes) else {
-        return 0;
-    };
-    let mut seen = Seen {
-        strings: false,
-        cu_index: false,
-        tu_index: false,
-    };
-    let mut size = 0u64;
-    let mut has_units = false;
-    for section in file.sections() {
-        if let Some(kind) = section.section_kind() {
-            has_units = has_units || matches!(kind, SectionKind::Info);
-            if !section.is_empty() && seen.counts(kind) {
-                size = size.saturating_add(section.size());
-            }
-        }
+    match ElfFile::parse(bytes) {
+        Ok(file) => Used::of(&file).size(),
+        Err(_) => 0,
     }
-    if has_units { size } else { 0 }
 }

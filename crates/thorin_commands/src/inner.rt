@@ -2,10 +2,10 @@
 //! one long string.
 
 use crate::growth::LEAST_ROOM;
+use crate::used::{Used, content};
 use dwp_bytes::string_at;
-use dwp_elf::{ElfFile, Endianness, Section, SectionKind};
+use dwp_elf::{ElfFile, Endianness, SectionKind};
 use std::alloc::{AllocError, Global};
-use thorin::UnitIndex;
 
 /// How many bytes an offset of a string has at least. A longer one is a word with its lower half,
 /// and another that is zero.
@@ -28,64 +28,6 @@ struct InnerStrings<'a> {
     most: usize,
 }
 
-/// The sections of a file that tell of its strings: of each kind the first that isn't empty, nothing
-/// where there is none, it is compressed, or it can't be read.
-#[derive(Clone, Copy)]
-struct Found<'a> {
-    strings: Option<&'a [u8]>,
-    compilations: Option<&'a [u8]>,
-    types: Option<&'a [u8]>,
-    has_units: bool,
-}
-
-impl<'a> Found<'a> {
-    /// Those of a file.
-    fn of(file: &ElfFile<'a>) -> Found<'a> {
-        let mut found = Found {
-            strings: None,
-            compilations: None,
-            types: None,
-            has_units: false,
-        };
-        for section in file.sections() {
-            if let Some(kind) = section.section_kind() {
-                found.add(kind, &section);
-            }
-        }
-        found
-    }
-
-    /// Adds a section of a kind.
-    fn add(&mut self, kind: SectionKind, section: &Section<'a>) {
-        let first = match kind {
-            SectionKind::Info => {
-                self.has_units = true;
-                return;
-            }
-            SectionKind::Str => &mut self.strings,
-            SectionKind::CuIndex => &mut self.compilations,
-            SectionKind::TuIndex => &mut self.types,
-            _ => return,
-        };
-        if first.is_none() && !section.is_empty() {
-            *first = Some(content(section));
-        }
-    }
-
-    /// Whether no unit of a package has string offsets that begin between words of their section.
-    fn has_aligned_offsets(&self, order: Endianness) -> bool {
-        are_aligned(self.compilations, order) && are_aligned(self.types, order)
-    }
-}
-
-/// The plain content of a section; nothing where it is compressed, or can't be read.
-fn content<'a>(section: &Section<'a>) -> &'a [u8] {
-    if section.is_compressed() {
-        return &[];
-    }
-    section.data().unwrap_or(&[])
-}
-
 /// Whether an object's or a package's strings that begin inside others have more than 16 times the
 /// bytes of the file, and more than `LEAST_ROOM`. All words of its string offsets are looked at,
 /// those of headers too.
@@ -96,8 +38,8 @@ pub(crate) fn has_inner_strings(alloc: Global, bytes: &[u8]) -> Result<bool, All
     let Ok(file) = ElfFile::parse(bytes) else {
         return Ok(false);
     };
-    let found = Found::of(&file);
-    let (true, Some(strings)) = (found.has_units, found.strings) else {
+    let used = Used::of(&file);
+    let (true, Some(strings)) = (used.has_units, used.strings) else {
         return Ok(false);
     };
     let mut inner = InnerStrings {
@@ -108,7 +50,7 @@ pub(crate) fn has_inner_strings(alloc: Global, bytes: &[u8]) -> Result<bool, All
         most: bytes.len().saturating_mul(FILES).max(LEAST_ROOM),
     };
     let order = file.endianness();
-    let step = if found.has_aligned_offsets(order) {
+    let step = if used.has_aligned_offsets(order) {
         WORD
     } else {
         1
@@ -175,30 +117,6 @@ impl InnerStrings<'_> {
         }
         Ok(())
     }
-}
-
-/// Whether no unit of an index, if it is one, has string offsets that begin between words.
-fn are_aligned(index: Option<&[u8]>, order: Endianness) -> bool {
-    let Some(bytes) = index else {
-        return true;
-    };
-    let Ok(index) = UnitIndex::parse(bytes, order) else {
-        return true;
-    };
-    if !index.has_column(SectionKind::StrOffsets) {
-        return true;
-    }
-    for number in 0..index.unit_count() {
-        let range = match index.row(number.saturating_add(1)) {
-            Ok(row) => row.range(SectionKind::StrOffsets),
-            Err(_) => None,
-        };
-        match range {
-            Some(range) if range.offset.0 % 4 != 0 => return false,
-            _ => {}
-        }
-    }
-    true
 }
 
 /// The word at a place; None where fewer bytes are left.

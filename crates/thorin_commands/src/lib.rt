@@ -21,6 +21,7 @@ mod prefixes;
 mod reading;
 mod taking;
 mod telling;
+mod used;
 mod warnings;
 
 pub use files::{FileSystem, HostFiles};

@@ -21,13 +21,12 @@ use std::io::Write;
 use std::path::{AsPath, Path};
 use thorin::{BytesSession, DwarfPackage, Input, MissingTargets, NamelessUnits};
 use thorin_executable::NamedUnits;
-use thorin_faults::{Error, InputError, MissingReferencedObjectBehaviour, Session};
+use thorin_faults::{Error, MissingReferencedObjectBehaviour, Session};
 use thorin_queries::{Failure, buffer, shown};
 
 /// Where that is asked for, leaves out units that executables refer to and that aren't there: each
 /// is told.
 pub(crate) fn leave_out<'o, 's: 'o, Sess: Session<RelocationEntry>, I: Inputs, E: Write>(
-    alloc: Global,
     files: &I,
     builder: &mut DwarfPackage<'o, 's, Sess>,
     inputs: &[Input<'_>],
@@ -37,7 +36,7 @@ pub(crate) fn leave_out<'o, 's: 'o, Sess: Session<RelocationEntry>, I: Inputs, E
     ensures { OnOk result (builder.new.state ≡ left telling.partial builder.old.state) }
 {
     if telling.partial {
-        tell_missing(alloc, files, builder, inputs, err)?;
+        tell_missing(telling.alloc, files, builder, inputs, err)?;
         builder.forget_targets();
     }
     Ok(())
@@ -53,16 +52,9 @@ fn tell_missing<'o, 's: 'o, Sess: Session<RelocationEntry>, I: Inputs, E: Write>
 ) -> Result<(), Failure> {
     let mut left = Left::new(alloc, builder.missing_targets());
     for input in inputs {
-        tell_those_of(alloc, files, *input, &mut left, err)?;
+        tell_those_of(files, *input, &mut left, err)?;
     }
-    let Left { first, others, .. } = left;
-    if let Some(target) = first {
-        warn(target, "not found", err)?;
-    }
-    for target in others {
-        warn(target, "not found", err)?;
-    }
-    Ok(())
+    left.tell(err)
 }
 
 /// Warns of a unit that the package lacks.
@@ -82,6 +74,7 @@ const MOST_LOOKED_FOR: usize = 1 << 20;
 /// that executable are remembered, until they are many.
 #[derive(Drop)]
 struct Left<'b> {
+    alloc: Global,
     first: Option<DwarfObject>,
     others: MissingTargets<'b>,
     named: Option<String>,
@@ -93,6 +86,7 @@ struct Left<'b> {
 impl<'b> Left<'b> {
     fn new(alloc: Global, mut units: MissingTargets<'b>) -> Left<'b> {
         Left {
+            alloc,
             first: units.next(),
             others: units,
             named: None,
@@ -103,9 +97,9 @@ impl<'b> Left<'b> {
     }
 
     /// Forgets what was looked for.
-    fn forget(&mut self, alloc: Global) {
+    fn forget(&mut self) {
         self.named = None;
-        self.looked_for = BTreeMap::new(alloc);
+        self.looked_for = BTreeMap::new(self.alloc);
         self.size = 0;
     }
 
@@ -114,27 +108,34 @@ impl<'b> Left<'b> {
         self.first = self.others.next();
     }
 
+    /// Warns of all, which no executable names any more.
+    fn tell<E: Write>(self, err: &mut E) -> Result<(), Failure> {
+        let Left { first, others, .. } = self;
+        if let Some(target) = first {
+            warn(target, "not found", err)?;
+        }
+        for target in others {
+            warn(target, "not found", err)?;
+        }
+        Ok(())
+    }
+
     /// Looks for the object at a path, unless it was looked for before: keeps why it isn't there.
     fn look_for<I: Inputs>(
         &mut self,
-        alloc: Global,
         files: &I,
         executable: &str,
         named: &str,
     ) -> Result<(), AllocError> {
-        let is_same = match &self.named {
-            Some(last) => last.as_str() == named,
-            None => false,
-        };
-        if is_same {
+        if self.is_last(named) {
             return Ok(());
         }
-        let path = String::from_str(alloc, named)?;
+        let path = String::from_str(self.alloc, named)?;
         self.why = match self.looked_for.get(&path) {
-            Some(why) => String::from_str(alloc, why.as_str())?,
+            Some(why) => String::from_str(self.alloc, why.as_str())?,
             None => {
-                let why = reason_of(alloc, files, executable, named)?;
-                self.remember(alloc, named, why.as_str())?;
+                let why = reason_of(self.alloc, files, executable, named)?;
+                self.remember(named, why.as_str())?;
                 why
             }
         };
@@ -142,16 +143,24 @@ impl<'b> Left<'b> {
         Ok(())
     }
 
+    /// Whether a path is the one that was looked for last.
+    fn is_last(&self, named: &str) -> bool {
+        match &self.named {
+            Some(last) => last.as_str() == named,
+            None => false,
+        }
+    }
+
     /// Remembers why an object isn't there.
-    fn remember(&mut self, alloc: Global, named: &str, why: &str) -> Result<(), AllocError> {
+    fn remember(&mut self, named: &str, why: &str) -> Result<(), AllocError> {
         let more = named.len().saturating_add(why.len());
         self.size = self.size.saturating_add(more);
         if self.size > MOST_LOOKED_FOR {
-            self.looked_for = BTreeMap::new(alloc);
+            self.looked_for = BTreeMap::new(self.alloc);
             self.size = more;
         }
-        let path = String::from_str(alloc, named)?;
-        let why = String::from_str(alloc, why)?;
+        let path = String::from_str(self.alloc, named)?;
+        let why = String::from_str(self.alloc, why)?;
         match self.looked_for.insert(path, why) {
             Ok(_before) => Ok(()),
             Err(e) => Err(AllocError::from(e)),
@@ -176,49 +185,76 @@ fn reason_of<I: Inputs>(
 
 /// Warns of those of an input that is an executable, which is read a second time.
 fn tell_those_of<I: Inputs, E: Write>(
-    alloc: Global,
     files: &I,
     input: Input<'_>,
     left: &mut Left<'_>,
     err: &mut E,
 ) -> Result<(), Failure> {
-    let Some(path) = executable_of(input) else {
-        return Ok(());
-    };
-    if left.first.is_none() {
-        return Ok(());
+    match executable_of(input) {
+        Some(path) if left.first.is_some() => {
+            let mut room = Vec::new(left.alloc);
+            files.begin_again(input);
+            match files.read_into(path, &mut room) {
+                Ok(bytes) => {
+                    tell_read(
+                        files,
+                        path.path_text(),
+                        bytes,
+                        nameless_in(input),
+                        left,
+                        err,
+                    )
+                }
+                Err(_) => Ok(()),
+            }
+        }
+        _ => Ok(()),
     }
-    let mut room = Vec::new(alloc);
-    files.begin_again(input);
-    let Ok(bytes) = files.read_into(path, &mut room) else {
-        return Ok(());
-    };
-    let bump = Bump::new(alloc);
+}
+
+/// Warns of those that the bytes of an executable name.
+fn tell_read<I: Inputs, E: Write>(
+    files: &I,
+    executable: &str,
+    bytes: &[u8],
+    nameless: NamelessUnits,
+    left: &mut Left<'_>,
+    err: &mut E,
+) -> Result<(), Failure> {
+    let bump = Bump::new(left.alloc);
     let session = BytesSession::new(&bump);
-    let nameless = nameless_in(input);
-    let Ok(mut units) = NamedUnits::read_by(alloc, &session, bytes, nameless) else {
-        return Ok(());
-    };
-    tell_each(alloc, files, path.path_text(), &mut units, left, err)
+    match named_units(left.alloc, &session, bytes, nameless) {
+        Ok(mut units) => tell_each(files, executable, &mut units, left, err),
+        Err(_) => Ok(()),
+    }
+}
+
+/// The units that the bytes of an executable name.
+pub(crate) fn named_units<'b>(
+    alloc: Global,
+    session: &'b BytesSession<'_>,
+    bytes: &'b [u8],
+    nameless: NamelessUnits,
+) -> Result<NamedUnits<'b>, Error> {
+    NamedUnits::read_by(alloc, session, bytes, nameless)
 }
 
 /// Warns of those of the units that are left of those that an executable names.
 fn tell_each<I: Inputs, E: Write>(
-    alloc: Global,
     files: &I,
     executable: &str,
     units: &mut NamedUnits<'_>,
     left: &mut Left<'_>,
     err: &mut E,
 ) -> Result<(), Failure> {
-    left.forget(alloc);
+    left.forget();
     // Whether the path of the unit that came last is the one that was looked for last.
     let mut is_known = false;
     while let Ok(Some(unit)) = units.next() {
         is_known = is_known && unit.is_repeated;
         if left.first == Some(unit.target) {
             if !is_known {
-                left.look_for(alloc, files, executable, units.path())?;
+                left.look_for(files, executable, units.path())?;
                 is_known = true;
             }
             warn(unit.target, left.why.as_str(), err)?;
@@ -254,9 +290,32 @@ pub fn list_missing<F: FileSystem, O: Write, E: Write>(
     match listed {
         Ok(false) => Ok(0),
         Ok(true) => Ok(1),
-        Err(Refusal::Package(fault)) => Ok(tell_fault(alloc, err, &fault)),
-        Err(Refusal::Told) => Ok(1),
-        Err(Refusal::Command(failure)) => Err(failure),
+        Err(Unlisted::Refused(fault)) => {
+            tell_fault(alloc, &fault, err);
+            Ok(1)
+        }
+        Err(Unlisted::Failed(failure)) => Err(failure),
+    }
+}
+
+/// Why no more is listed.
+#[derive(Drop)]
+enum Unlisted {
+    /// An executable is refused.
+    Refused(Error),
+    /// What the command was given can't be done.
+    Failed(Failure),
+}
+
+impl From<Error> for Unlisted {
+    fn from(fault: Error) -> Unlisted {
+        Unlisted::Refused(fault)
+    }
+}
+
+impl From<Failure> for Unlisted {
+    fn from(failure: Failure) -> Unlisted {
+        Unlisted::Failed(failure)
     }
 }
 
@@ -267,7 +326,7 @@ fn list_all<I: Inputs, W: Write>(
     executables: &[&str],
     nameless: NamelessUnits,
     lines: &mut W,
-) -> Result<bool, Refusal> {
+) -> Result<bool, Unlisted> {
     let mut seen = HashSet::new(alloc);
     let mut is_one_missing = false;
     for executable in executables {
@@ -286,19 +345,31 @@ fn list_of<I: Inputs, W: Write>(
     nameless: NamelessUnits,
     seen: &mut HashSet<String>,
     lines: &mut W,
-) -> Result<bool, Refusal> {
+) -> Result<bool, Unlisted> {
     let path = Path::new(executable);
     let mut room = Vec::new(alloc);
     files.begin(Input::Executable(path, MissingReferencedObjectBehaviour::Skip));
-    let bytes = match files.read_into(path, &mut room) {
-        Ok(bytes) => bytes,
-        Err(InputError::Io(cause)) => return Err(Refusal::Package(Error::ReadInput(cause))),
-        Err(InputError::Memory) => return Err(Refusal::Package(Error::Memory)),
-    };
+    match files.read_into(path, &mut room) {
+        Ok(bytes) => list_read(alloc, files, bytes, nameless, seen, lines),
+        Err(e) => Err(Unlisted::Refused(Error::from(e))),
+    }
+}
+
+/// The same of the bytes of an executable.
+fn list_read<I: Inputs, W: Write>(
+    alloc: Global,
+    files: &I,
+    bytes: &[u8],
+    nameless: NamelessUnits,
+    seen: &mut HashSet<String>,
+    lines: &mut W,
+) -> Result<bool, Unlisted> {
     let bump = Bump::new(alloc);
     let session = BytesSession::new(&bump);
-    let mut units = NamedUnits::read_by(alloc, &session, bytes, nameless)?;
-    list_each(alloc, files, &mut units, seen, lines)
+    match named_units(alloc, &session, bytes, nameless) {
+        Ok(mut units) => list_each(alloc, files, &mut units, seen, lines),
+        Err(fault) => Err(Unlisted::Refused(fault)),
+    }
 }
 
 /// Prints those of the units that are left of those that an executable names.
@@ -308,7 +379,7 @@ fn list_each<I: Inputs, W: Write>(
     units: &mut NamedUnits<'_>,
     seen: &mut HashSet<String>,
     lines: &mut W,
-) -> Result<bool, Refusal> {
+) -> Result<bool, Unlisted> {
     let mut is_one_missing = false;
     while let Some(unit) = units.next()? {
         if !unit.is_repeated && list_path(alloc, files, units.path(), seen, lines)? {
@@ -326,18 +397,31 @@ fn list_path<I: Inputs, W: Write>(
     named: &str,
     seen: &mut HashSet<String>,
     lines: &mut W,
-) -> Result<bool, Refusal> {
+) -> Result<bool, Failure> {
     let path = files.mapped(named)?;
     let told = shown(alloc, path.as_str())?;
     if seen.contains(&told) {
         return Ok(false);
     }
-    let is_missing = files.unreadable(path.as_str())?.is_some();
-    if is_missing {
-        put_path(told.as_str(), lines)?;
-    }
+    let is_missing = put_missing(files, path.as_str(), told.as_str(), lines)?;
     keep(seen, told)?;
     Ok(is_missing)
+}
+
+/// Prints a path as it is told, where the object there can't be read.
+fn put_missing<I: Inputs, W: Write>(
+    files: &I,
+    path: &str,
+    told: &str,
+    lines: &mut W,
+) -> Result<bool, Failure> {
+    if files.unreadable(path)?.is_none() {
+        return Ok(false);
+    }
+    match writeln!(lines, "{told}") {
+        Ok(()) => Ok(true),
+        Err(_) => Err(Failure::Line),
+    }
 }
 
 /// Keeps a path that was looked for, as it is told.
@@ -345,13 +429,5 @@ fn keep(seen: &mut HashSet<String>, path: String) -> Result<(), AllocError> {
     match seen.insert(path) {
         Ok(_) => Ok(()),
         Err(e) => Err(AllocError::from(e)),
-    }
-}
-
-/// Prints a path.
-fn put_path<W: Write>(path: &str, lines: &mut W) -> Result<(), Failure> {
-    match writeln!(lines, "{path}") {
-        Ok(()) => Ok(()),
-        Err(_) => Err(Failure::Line),
     }
 }

@@ -50,9 +50,14 @@ pub(crate) fn place_of_member(
     name: &[u8],
 ) -> Result<String, AllocError> {
     let archive = shown(alloc, archive)?;
-    let name = String::from_utf8_lossy(alloc, name)?;
-    let name = shown(alloc, name.as_str())?;
+    let name = shown_bytes(alloc, name)?;
     format!(in alloc; "{archive}({name})")
+}
+
+/// A name of bytes, as it is printed.
+fn shown_bytes(alloc: Global, name: &[u8]) -> Result<String, AllocError> {
+    let name = String::from_utf8_lossy(alloc, name)?;
+    shown(alloc, name.as_str())
 }
 
 /// Why a file can't be read or written, in the system's words without its number for them.
@@ -70,14 +75,26 @@ pub fn reason(alloc: Global, cause: &io::Error) -> Result<String, AllocError> {
     }
 }
 
+/// Prints a note of a place alone.
+pub(crate) fn note_alone<E: Write>(place: &str, err: &mut E) {
+    let _ = writeln!(err, "note: {place}");
+}
+
+/// Prints a note of a place, and what is the matter with it.
+pub(crate) fn note_reason<E: Write>(place: &str, reason: &str, err: &mut E) {
+    let _ = writeln!(err, "note: {place}: {reason}");
+}
+
 /// Prints the note on a read that failed.
 pub(crate) fn note_unread<E: Write>(unread: &Unread, err: &mut E) {
     let place = unread.place.as_str();
     let reason = unread.reason.as_str();
-    let _ = match unread.more {
-        0 => writeln!(err, "note: {place}: {reason}"),
-        more => writeln!(err, "note: {place}: {reason} (and {more} more)"),
-    };
+    match unread.more {
+        0 => note_reason(place, reason, err),
+        more => {
+            let _ = writeln!(err, "note: {place}: {reason} (and {more} more)");
+        }
+    }
 }
 
 /// Prints the note on an input, or an object that it names, that was read and refused.
@@ -88,15 +105,17 @@ pub(crate) fn note_refused<E: Write>(place: &str, fault: &Error, decompresses: b
 }
 
 /// Prints the note on an input that has a unit which the package has already, and on what brought
-/// that: another input, or none where the unit stands twice in this one.
-pub(crate) fn note_duplicate<E: Write>(unit: u64, place: &str, before: Option<&str>, err: &mut E) {
-    let _ = match before {
-        Some(before) => writeln!(
-            err,
-            "note: unit 0x{unit:08x}: {place}, and before it {before}"
-        ),
-        None => writeln!(err, "note: unit 0x{unit:08x}: twice in {place}"),
-    };
+/// that.
+pub(crate) fn note_before<E: Write>(unit: u64, place: &str, before: &str, err: &mut E) {
+    let _ = writeln!(
+        err,
+        "note: unit 0x{unit:08x}: {place}, and before it {before}"
+    );
+}
+
+/// Prints the note on an input that has a unit twice.
+pub(crate) fn note_twice_in<E: Write>(unit: u64, place: &str, err: &mut E) {
+    let _ = writeln!(err, "note: unit 0x{unit:08x}: twice in {place}");
 }
 
 /// What can be done about a fault, if anything.

@@ -50,9 +50,10 @@ impl Origins {
     /// Keeps what was taken, and how many units the package has now. Where there is no memory for
     /// it, nothing is kept any more.
     pub(crate) fn keep(&self, source: Source<'_>, count: usize) {
-        if let Some(taken) = self.taken.replace(None) {
-            self.taken
-                .set(with_source(self.alloc, taken, source, count).ok());
+        if let Some(mut taken) = self.taken.replace(None) {
+            if add_source(self.alloc, &mut taken, source, count).is_ok() {
+                self.taken.set(Some(taken));
+            }
         }
     }
 
@@ -69,20 +70,27 @@ impl Origins {
     }
 }
 
-/// What was taken, and what is taken now.
-fn with_source(
+/// Adds what is taken now to what was taken.
+fn add_source(
     alloc: Global,
-    mut taken: Vec<(usize, Origin)>,
+    taken: &mut Vec<(usize, Origin)>,
     source: Source<'_>,
     count: usize,
-) -> Result<Vec<(usize, Origin)>, AllocError> {
-    let origin = match source {
-        Source::Object(path) => Origin::Place(place_of(alloc, path, None)?),
-        Source::Executable(path) => Origin::Executable(String::from_str(alloc, path)?),
-        Source::Member(archive, name) => Origin::Place(place_of_member(alloc, archive, name)?),
-    };
+) -> Result<(), AllocError> {
+    let origin = origin_of(alloc, source)?;
     taken.push((count, origin))?;
-    Ok(taken)
+    Ok(())
+}
+
+/// What was taken, as it is kept.
+fn origin_of(alloc: Global, source: Source<'_>) -> Result<Origin, AllocError> {
+    match source {
+        Source::Object(path) => Ok(Origin::Place(place_of(alloc, path, None)?)),
+        Source::Executable(path) => Ok(Origin::Executable(String::from_str(alloc, path)?)),
+        Source::Member(archive, name) => {
+            Ok(Origin::Place(place_of_member(alloc, archive, name)?))
+        }
+    }
 }
 
 /// Where among the package's units the one stands that an input has too, of which a fault tells.

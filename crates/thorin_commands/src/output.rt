@@ -4,33 +4,24 @@ ghost use Rattle.std.specs.Prelude.{◌≡◌, OnOk, OnErr, IfErr};
 ghost use Rattle.std.specs.Io.KnownBytes.{Appends, Keeps};
 ghost use Rattle.dwp_elf.specs.FileText.{file_text};
 ghost use Rattle.thorin_commands.specs.Files.{HasBeginning, IsOfWriting, Put, Begins};
-ghost use Rattle.thorin_commands.specs.declared.output.Refusal.TheVariants.{Package, Command};
+ghost use Rattle.thorin_commands.specs.declared.output.Refusal.TheVariants.{Command};
 ghost use Rattle.thorin_queries.specs.declared.output.Failure.TheVariants.{Memory};
 
 use crate::files::FileSystem;
 use dwp_elf::WritableObject;
 use std::alloc::AllocError;
 use std::io::{self, Write};
-use thorin_faults::Error;
 use thorin_queries::Failure;
 
 /// Why nothing was packed.
-#[derive(Drop)]
+#[derive(Clone, Copy)]
 pub(crate) enum Refusal {
-    /// The package can't be made.
-    Package(Error),
+    /// No input began a package, which isn't told yet.
+    Empty,
     /// An input was refused, or the package could not be finished, and that was told.
     Told,
     /// What the command was given can't be done.
     Command(Failure),
-}
-
-impl From<Error> for Refusal {
-    ghost from_gives = { λ fault refusal. refusal ≡ Package fault };
-
-    fn from(fault: Error) -> Refusal {
-        Refusal::Package(fault)
-    }
 }
 
 impl From<Failure> for Refusal {

@@ -133,7 +133,7 @@ pub fn verify<O: Write>(
 /// `Output` where the package's file can't be written, `Overwrites` where it is an input;
 /// `BadCommand` where there is no name for it; `Line` or `Memory`; `Input` where an input can't be
 /// read a second time for a line that tells of it.
-#[tactic(auto, using(crate::proofs::Puts::when_done, crate::proofs::Puts::when_refused, crate::proofs::Puts::when_told, crate::proofs::Puts::when_failed))]
+#[tactic(auto, using(crate::proofs::Puts::when_done, crate::proofs::Puts::when_empty, crate::proofs::Puts::when_told, crate::proofs::Puts::when_failed))]
 pub fn pack<F: FileSystem, O: Write, E: Write>(
     alloc: Global,
     files: &mut F,
@@ -151,13 +151,16 @@ pub fn pack<F: FileSystem, O: Write, E: Write>(
 {
     match pack_all(alloc, files, packing, out, err) {
         Ok(()) => Ok(0),
-        Err(Refusal::Package(fault)) => Ok(tell_fault(alloc, err, &fault)),
+        Err(Refusal::Empty) => {
+            tell_fault(alloc, &Error::NoOutputObjectCreated, err);
+            Ok(1)
+        }
         Err(Refusal::Told) => Ok(1),
         Err(Refusal::Command(failure)) => Err(failure),
     }
 }
 
-/// The same, but for the line that says why an input is refused.
+/// The same, but for the line that says that no input began a package.
 #[tactic(auto, using(crate::proofs::Puts::stopped))]
 fn pack_all<F: FileSystem, O: Write, E: Write>(
     alloc: Global,
@@ -201,11 +204,12 @@ fn pack_as<F: FileSystem, O: Write, E: Write>(
     match packed(alloc, files, packing, err) {
         Ok((object, differing, lines)) => {
             let warned = Warned {
+                alloc,
                 lines: lines.as_str(),
                 differing: differing.as_slice(),
                 warnings: packing.warnings,
             };
-            match write_and_warn(alloc, files, &object, warned, output, out, err) {
+            match write_and_warn(files, &object, warned, output, out, err) {
                 Ok(()) => Ok(()),
                 Err(failure) => Err(Refusal::Command(failure)),
             }
@@ -217,7 +221,6 @@ fn pack_as<F: FileSystem, O: Write, E: Write>(
 /// Writes the package, and then prints the warnings.
 #[tactic(auto, using(crate::proofs::Puts::early, crate::proofs::Puts::late))]
 fn write_and_warn<F: FileSystem, O: Write, E: Write>(
-    alloc: Global,
     files: &mut F,
     object: &WritableObject,
     warned: Warned<'_>,
@@ -231,9 +234,9 @@ fn write_and_warn<F: FileSystem, O: Write, E: Write>(
         ((files.new ≡ files.old) × (out.new ≡ out.old)) (Begins F.begun O.contents files.old
         files.new out.old out.new output.now (file_text object.now))) }
 {
-    match buffer(alloc, err) {
+    match buffer(warned.alloc, err) {
         Ok(mut lines) => {
-            match write_then_warn(alloc, files, object, warned, output, out, &mut lines) {
+            match write_then_warn(files, object, warned, output, out, &mut lines) {
                 Ok(()) => Ok(()),
                 Err(failure) => Err(failure),
             }
@@ -245,7 +248,6 @@ fn write_and_warn<F: FileSystem, O: Write, E: Write>(
 /// The same, where the warnings go to a buffer.
 #[tactic(auto, using(crate::proofs::Puts::put_begins))]
 fn write_then_warn<F: FileSystem, O: Write, W: Write>(
-    alloc: Global,
     files: &mut F,
     object: &WritableObject,
     warned: Warned<'_>,
@@ -260,7 +262,7 @@ fn write_then_warn<F: FileSystem, O: Write, W: Write>(
     ensures cause { IfErr result IsOfWriting }
 {
     match write_package(files, object, output, out) {
-        Ok(()) => match warn(alloc, warned, lines) {
+        Ok(()) => match warn(warned, lines) {
             Ok(()) => Ok(()),
             Err(failure) => Err(failure),
         },
@@ -291,13 +293,14 @@ fn packed<F: FileSystem, E: Write>(
     )?;
     let files = InputFiles::new(alloc, files, packing);
     let telling = Telling {
+        alloc,
         verbose: packing.verbose,
         notes: packing.notes,
         partial: packing.partial,
     };
-    match packed_inputs(alloc, &files, inputs.as_slice(), telling, err) {
+    match packed_inputs(&files, inputs.as_slice(), telling, err) {
         Ok((object, differing)) => Ok((object, differing, files.warnings())),
-        Err(Refusal::Package(Error::NoOutputObjectCreated)) if packing.lets_empty => {
+        Err(Refusal::Empty) if packing.lets_empty => {
             let (object, differing) = packed_unsplit(alloc, &files, packing, err)?;
             Ok((object, differing, String::new(alloc)))
         }
@@ -322,10 +325,10 @@ fn packed_unsplit<I: Inputs, E: Write>(
     let objects = paths_in(packing.inputs);
     let executables = paths_in(packing.executables);
     let Some(executable) = executables.first() else {
-        return Err(Refusal::Package(Error::NoOutputObjectCreated));
+        return Err(Refusal::Empty);
     };
     if files.unit_count(executable)? != Some(0) {
-        return Err(Refusal::Package(Error::NoOutputObjectCreated));
+        return Err(Refusal::Empty);
     }
     let inputs = inputs_with(
         alloc,
@@ -336,11 +339,12 @@ fn packed_unsplit<I: Inputs, E: Write>(
         *executable,
     )?;
     let telling = Telling {
+        alloc,
         verbose: false,
         notes: false,
         partial: packing.partial,
     };
-    packed_inputs(alloc, files, inputs.as_slice(), telling, err)
+    packed_inputs(files, inputs.as_slice(), telling, err)
 }
 
 /// The paths of a list, none where there is no list.
@@ -355,7 +359,6 @@ pub(crate) fn paths_in<'m, 'a>(list: Option<&'m [&'a str]>) -> &'m [&'a str]
 
 /// The object to be written for these inputs, and those signatures.
 fn packed_inputs<I: Inputs, E: Write>(
-    alloc: Global,
     files: &I,
     inputs: &[Input<'_>],
     telling: Telling,
@@ -364,14 +367,13 @@ fn packed_inputs<I: Inputs, E: Write>(
     ensures { IfOk result (λ made. IsPackedFrom telling.partial (I.opens files.now)
         (I.plain files.now) (I.offer files.now) inputs.now made.0) }
 {
-    let bump = Bump::new(alloc);
+    let bump = Bump::new(telling.alloc);
     let session = BytesSession::new(&bump);
-    packed_over(alloc, &session, files, inputs, telling, err)
+    packed_over(&session, files, inputs, telling, err)
 }
 
 /// The same, over a session that holds what is read.
 fn packed_over<'s, Sess: Session<RelocationEntry>, I: Inputs, E: Write>(
-    alloc: Global,
     session: &'s Sess,
     files: &I,
     inputs: &[Input<'_>],
@@ -382,16 +384,19 @@ fn packed_over<'s, Sess: Session<RelocationEntry>, I: Inputs, E: Write>(
         (I.plain files.now) (I.offer files.now) inputs.now made.0) }
 {
     runs_go_on(files);
-    let mut builder = DwarfPackage::new(alloc, session);
-    take_all(alloc, files, &mut builder, inputs, telling, err)?;
-    leave_out(alloc, files, &mut builder, inputs, telling, err)?;
-    let made = completed_or_told(alloc, files, builder, telling, err)?;
-    Ok(made)
+    let mut builder = DwarfPackage::new(telling.alloc, session);
+    match take_all(files, &mut builder, inputs, telling, err) {
+        Ok(()) => match leave_out(files, &mut builder, inputs, telling, err) {
+            Ok(()) => finished(files, builder, telling, err),
+            Err(refusal) => Err(refusal),
+        },
+        Err(refusal) => Err(refusal),
+    }
 }
 
-/// The object of the package, and those signatures. Where it can't be finished, that is printed.
-fn completed_or_told<'o, 's: 'o, Sess: Session<RelocationEntry>, I: Inputs, E: Write>(
-    alloc: Global,
+/// The object of the package, which can be written, and those signatures. Where it can't be
+/// finished, that is printed.
+fn finished<'o, 's: 'o, Sess: Session<RelocationEntry>, I: Inputs, E: Write>(
     files: &I,
     builder: DwarfPackage<'o, 's, Sess>,
     telling: Telling,
@@ -401,44 +406,30 @@ fn completed_or_told<'o, 's: 'o, Sess: Session<RelocationEntry>, I: Inputs, E: W
     ensures packaged { IfOk result (λ made.
         IsPackageOf (units_in builder.entry.state) (file_text made.0)) }
 {
-    match completed(alloc, builder) {
-        Ok(made) => Ok(made),
-        Err(Refusal::Package(Error::NoOutputObjectCreated)) => {
-            Err(Refusal::Package(Error::NoOutputObjectCreated))
-        }
-        Err(Refusal::Package(fault)) => {
-            tell_unfinished(alloc, files, telling, &fault, err);
-            Err(Refusal::Told)
-        }
-        Err(refusal) => Err(refusal),
+    let (finished, differing) = builder.finish_with_differing();
+    match finished {
+        Ok(object) => match can_be_written(&object) {
+            Ok(()) => Ok((object, differing)),
+            Err(fault) => Err(unfinished(files, &fault, telling, err)),
+        },
+        Err(fault) => Err(unfinished(files, &fault, telling, err)),
     }
 }
 
-/// The object of the package, and those signatures.
-fn completed<'o, 's: 'o, Sess: Session<RelocationEntry>>(
-    alloc: Global,
-    builder: DwarfPackage<'o, 's, Sess>,
-) -> Result<(WritableObject, Vec<DebugTypeSignature>), Refusal>
-    ensures finished { IfOk result (λ made. IsFinishedState builder.entry.state made.0) }
-    ensures packaged { IfOk result (λ made.
-        IsPackageOf (units_in builder.entry.state) (file_text made.0)) }
-{
-    let differing = builder.differing_types().to_vec(alloc)?;
-    let object = finished(builder)?;
-    Ok((object, differing))
-}
-
-/// The object of the package, which can be written.
-fn finished<'o, 's: 'o, Sess: Session<RelocationEntry>>(
-    builder: DwarfPackage<'o, 's, Sess>,
-) -> Result<WritableObject, Refusal>
-    ensures finished { IfOk result (IsFinishedState builder.entry.state) }
-    ensures packaged { IfOk result (λ object.
-        IsPackageOf (units_in builder.entry.state) (file_text object)) }
-{
-    let object = builder.finish()?;
-    can_be_written(&object)?;
-    Ok(object)
+/// What becomes of a package that can't be finished: it is told here, unless no input began it.
+fn unfinished<I: Inputs, E: Write>(
+    files: &I,
+    fault: &Error,
+    telling: Telling,
+    err: &mut E,
+) -> Refusal {
+    match fault {
+        Error::NoOutputObjectCreated => Refusal::Empty,
+        _ => {
+            tell_unfinished(files, fault, telling, err);
+            Refusal::Told
+        }
+    }
 }
 
 /// Tests the size of an object's file.

@@ -4,8 +4,8 @@ ghost use Rattle.std.specs.Prelude.{◌≡◌, ◌⊎◌, IsTrue, IfOk, IfErr};
 ghost use Rattle.std.specs.Prelude.{string_bytes};
 ghost use Rattle.std.specs.Path.{path_bytes};
 ghost use Rattle.thorin_faults.specs.Sessions.{IsNoWantOfMemory};
-ghost use Rattle.thorin_commands.specs.Packing.{IsAmong, paths_in, through};
-ghost use Rattle.thorin_commands.specs.Plain.{IsReadOver, taken_from, last_from};
+ghost use Rattle.thorin_commands.specs.Packing.{IsAmong, paths_in, through, reads};
+ghost use Rattle.thorin_commands.specs.Plain.{IsReadOver, taken_from};
 ghost use Rattle.thorin_commands.specs.Prefixes.{mapped as mapped_path};
 
 use crate::asked::executable_of;
@@ -35,18 +35,12 @@ use thorin_queries::Failure;
 pub(crate) struct InputFiles<'f, F> {
     alloc: Global,
     files: &'f F,
-    decompresses: bool,
-    /// Words `FROM=TO`, by which prefixes of paths that executables name are replaced.
-    prefix_maps: &'f [&'f str],
-    /// The paths that the command line names, and the place at which the next one is looked for.
-    objects: &'f [&'f str],
-    executables: &'f [&'f str],
+    /// How they are read.
+    packing: &'f Packing<'f, 'f>,
+    /// The place among the objects of the command line at which the next path is looked for.
     next: Cell<usize>,
-    /// Whether of an object's sections of macros only the last counts, and what is warned else.
-    keeps_last_macros: bool,
+    /// What is warned of where not only the last of an object's sections of macros counts.
     macros: MacroWarnings,
-    /// Whether archives are opened.
-    opens_archives: bool,
     /// Whether the next read is that of an input's own path.
     begins: Cell<bool>,
     /// Whether it is the second of that path.
@@ -58,8 +52,6 @@ pub(crate) struct InputFiles<'f, F> {
     /// What was taken so far, and the encodings of what was read, where notes are printed.
     origins: Origins,
     encodings: Encodings,
-    /// Whether the package may be larger than the files: their sections may overlap.
-    allows_overlap: bool,
     /// Whether the input is an executable.
     is_executable: Cell<bool>,
     /// What objects of the input add once more, and why the input was refused that would make the
@@ -70,27 +62,21 @@ pub(crate) struct InputFiles<'f, F> {
 
 impl<'f, F: FileSystem> InputFiles<'f, F> {
     /// These files, as a command reads them.
-    pub(crate) fn new(alloc: Global, files: &'f F, packing: &Packing<'f, 'f>) -> InputFiles<'f, F>
+    pub(crate) fn new(
+        alloc: Global,
+        files: &'f F,
+        packing: &'f Packing<'f, 'f>,
+    ) -> InputFiles<'f, F>
         ensures files { result.files.now ≡ files.now }
-        ensures decompresses { result.decompresses ≡ packing.now.decompresses }
-        ensures prefix_maps { result.prefix_maps.now ≡ paths_in packing.now.prefix_maps }
-        ensures objects { result.objects.now ≡ paths_in packing.now.inputs }
-        ensures executables { result.executables.now ≡ paths_in packing.now.executables }
-        ensures macros { result.keeps_last_macros ≡ packing.now.keeps_last_macros }
-        ensures opens { result.opens_archives ≡ packing.now.opens_archives }
+        ensures packing { result.packing.now ≡ packing.now }
     {
         let warns = !packing.keeps_last_macros && !matches!(packing.warnings, Warnings::Never);
         InputFiles {
             alloc,
             files,
-            decompresses: packing.decompresses,
-            prefix_maps: paths_in(packing.prefix_maps),
-            objects: paths_in(packing.inputs),
-            executables: paths_in(packing.executables),
+            packing,
             next: Cell::new(0),
-            keeps_last_macros: packing.keeps_last_macros,
             macros: MacroWarnings::new(alloc, warns),
-            opens_archives: packing.opens_archives,
             begins: Cell::new(false),
             again: Cell::new(false),
             own: Cell::new(None),
@@ -98,7 +84,6 @@ impl<'f, F: FileSystem> InputFiles<'f, F> {
             unread: Cell::new(None),
             origins: Origins::new(alloc, packing.notes),
             encodings: Encodings::new(alloc, packing.notes),
-            allows_overlap: packing.allows_overlap,
             is_executable: Cell::new(false),
             repetitions: Repetitions::new(alloc),
             growth: Cell::new(None),
@@ -107,16 +92,15 @@ impl<'f, F: FileSystem> InputFiles<'f, F> {
 
     /// Whether the command line names a path; the next one is looked for behind it.
     fn is_given(&self, path: &str) -> bool
-        ensures { IsTrue result → IsAmong self.now.objects.now path.now
-            ⊎ IsAmong self.now.executables.now path.now }
+        ensures { IsTrue result → IsAmong (paths_in self.now.packing.now.inputs) path.now
+            ⊎ IsAmong (paths_in self.now.packing.now.executables) path.now }
     {
-        let next = self.next.get();
-        match place_among(self.objects, next, path) {
+        match place_among(paths_in(self.packing.inputs), self.next.get(), path) {
             Some(place) => {
                 self.next.set(place.saturating_add(1));
                 true
             }
-            None => match place_among(self.executables, 0, path) {
+            None => match place_among(paths_in(self.packing.executables), 0, path) {
                 Some(_place) => true,
                 None => false,
             },
@@ -126,12 +110,12 @@ impl<'f, F: FileSystem> InputFiles<'f, F> {
     /// Reads the file of a path that the input has, or that it names.
     #[tactic(auto, using(crate::proofs::Taken::through_none, crate::proofs::Taken::through_given, crate::proofs::Taken::through_mapped))]
     fn read(&self, is_own: bool, path: Path<'_>, room: &mut Vec<u8>) -> Result<(), InputError>
-        ensures offered { IsReadOver (through self.now.prefix_maps.now self.now.objects.now
-            self.now.executables.now (F.offer self.now.files.now) (path_bytes path.entry))
-            room.new.items result }
+        ensures offered { IsReadOver (through (paths_in self.now.packing.now.prefix_maps)
+            (paths_in self.now.packing.now.inputs) (paths_in self.now.packing.now.executables)
+            (F.offer self.now.files.now) (path_bytes path.entry)) room.new.items result }
         ensures memory { IfErr result IsNoWantOfMemory }
     {
-        if self.prefix_maps.is_empty() {
+        if paths_in(self.packing.prefix_maps).is_empty() {
             return self.read_at(is_own, path, room);
         }
         if is_own && self.is_given(path.path_text()) {
@@ -164,7 +148,7 @@ impl<'f, F: FileSystem> InputFiles<'f, F> {
     /// Whether a file that was read may be added: an object of an executable may be one that was
     /// read before by another path.
     fn admits_file(&self, is_own: bool, path: &str, file: &[u8]) -> bool {
-        if is_own || self.allows_overlap {
+        if is_own || self.packing.allows_overlap {
             self.repetitions.count_read(file.len());
             return true;
         }
@@ -179,15 +163,16 @@ impl<'f, F: FileSystem> InputFiles<'f, F> {
     /// A path that an executable names, with its prefix replaced.
     fn mapped(&self, path: &str) -> Result<String, AllocError>
         ensures { IfOk result (λ mapped.
-            string_bytes mapped ≡ mapped_path self.now.prefix_maps.now path.now) }
+            string_bytes mapped
+            ≡ mapped_path (paths_in self.now.packing.now.prefix_maps) path.now) }
     {
-        mapped(self.alloc, self.prefix_maps, path)
+        mapped(self.alloc, paths_in(self.packing.prefix_maps), path)
     }
 
     /// Whether a file that was read is refused since its sections overlap, which is kept. An
     /// executable isn't: of each name it uses one section alone.
     fn overlaps(&self, is_own: bool, file: &[u8]) -> bool {
-        if self.allows_overlap || is_own && self.is_executable.get() {
+        if self.packing.allows_overlap || is_own && self.is_executable.get() {
             return false;
         }
         let found = has_overlap(file);
@@ -202,7 +187,7 @@ impl<'f, F: FileSystem> InputFiles<'f, F> {
     /// # Errors
     /// `Memory`, also where they overlap.
     fn test_strings(&self, is_own: bool, file: &[u8]) -> Result<(), AllocError> {
-        if self.allows_overlap || is_own && self.is_executable.get() {
+        if self.packing.allows_overlap || is_own && self.is_executable.get() {
             return Ok(());
         }
         if has_inner_strings(self.alloc, file)? {
@@ -259,9 +244,10 @@ impl<F: FileSystem> InputFiles<'_, F> {
     /// Reads a file, decompressed where that is asked for.
     #[tactic(auto, using(crate::proofs::Taken::taken_plain, crate::proofs::Taken::taken_as_it_is, crate::proofs::Taken::taken_failed))]
     fn read_plain(&self, path: Path<'_>, room: &mut Vec<u8>) -> Result<(), InputError>
-        ensures offered { IsReadOver (taken_from self.now.decompresses (through
-            self.now.prefix_maps.now self.now.objects.now self.now.executables.now
-            (F.offer self.now.files.now)) (path_bytes path.entry)) room.new.items result }
+        ensures offered { IsReadOver (taken_from self.now.packing.now.decompresses (through
+            (paths_in self.now.packing.now.prefix_maps) (paths_in self.now.packing.now.inputs)
+            (paths_in self.now.packing.now.executables) (F.offer self.now.files.now))
+            (path_bytes path.entry)) room.new.items result }
         ensures memory { IfErr result IsNoWantOfMemory }
     {
         let is_own = self.begins.replace(false);
@@ -274,7 +260,7 @@ impl<F: FileSystem> InputFiles<'_, F> {
         if self.overlaps(is_own, room) {
             return Err(InputError::Memory);
         }
-        if !self.decompresses {
+        if !self.packing.decompresses {
             return Ok(());
         }
         match decompress(self.alloc, room) {
@@ -283,38 +269,31 @@ impl<F: FileSystem> InputFiles<'_, F> {
         }
     }
 
-    /// Looks at the encoding of the file at a path, for notes.
-    fn look_at_encoding(&self, path: &str, file: &[u8]) {
+    /// Looks at the file at a path: at its encoding, for notes, and for several sections of macros,
+    /// where that is to be warned of.
+    fn look_at(&self, path: &str, file: &[u8]) -> Result<(), AllocError> {
         let own = self.own.replace(None);
-        match &own {
-            Some(own) if own.as_str() != path => {
-                self.encodings.look_at(file, own.as_str(), Some(path));
-            }
-            _ => self.encodings.look_at(file, path, None),
-        }
+        let looked = match &own {
+            Some(own) if own.as_str() != path => self.look_by(own.as_str(), Some(path), file),
+            _ => self.look_by(path, None, file),
+        };
         self.own.set(own);
+        looked
     }
 
-    /// The same of a member of the input, which is told of by the input's path.
+    /// The same of a file of an input, which may be named by another.
+    fn look_by(&self, own: &str, named: Option<&str>, file: &[u8]) -> Result<(), AllocError> {
+        self.encodings.look_at(file, own, named);
+        self.macros.look_at(file, own, named)
+    }
+
+    /// Looks at the encoding of a member of the input, which is told of by the input's path.
     fn look_at_member(&self, content: &[u8]) {
         let own = self.own.replace(None);
         if let Some(own) = &own {
             self.encodings.look_at(content, own.as_str(), None);
         }
         self.own.set(own);
-    }
-
-    /// Looks for several sections of macros in the file at a path, where that is to be warned of.
-    fn look_for_macros(&self, path: &str, file: &[u8]) -> Result<(), AllocError> {
-        let own = self.own.replace(None);
-        let looked = match &own {
-            Some(own) if own.as_str() != path => {
-                self.macros.look_at(file, own.as_str(), Some(path))
-            }
-            _ => self.macros.look_at(file, path, None),
-        };
-        self.own.set(own);
-        looked
     }
 
     /// The warnings of sections of macros.
@@ -324,9 +303,7 @@ impl<F: FileSystem> InputFiles<'_, F> {
 }
 
 impl<F: FileSystem> InputReader for InputFiles<'_, F> {
-    ghost offer = { λ inputs. last_from inputs.keeps_last_macros (taken_from inputs.decompresses
-        (through inputs.prefix_maps.now inputs.objects.now inputs.executables.now
-        (F.offer inputs.files.now))) };
+    ghost offer = { λ inputs. reads inputs.packing.now (F.offer inputs.files.now) };
 
     #[tactic(auto, using(crate::proofs::Taken::with_last, crate::proofs::Taken::with_all, crate::proofs::Taken::with_none))]
     fn read_into<'b>(
@@ -344,12 +321,12 @@ impl<F: FileSystem> InputReader for InputFiles<'_, F> {
             Ok(()) => {}
             Err(AllocError) => return Err(InputError::Memory),
         }
-        self.look_at_encoding(path.path_text(), room);
-        if !self.keeps_last_macros {
-            return match self.look_for_macros(path.path_text(), room) {
-                Ok(()) => Ok(room.as_slice()),
-                Err(AllocError) => Err(InputError::Memory),
-            };
+        match self.look_at(path.path_text(), room) {
+            Ok(()) => {}
+            Err(AllocError) => return Err(InputError::Memory),
+        }
+        if !self.packing.keeps_last_macros {
+            return Ok(room.as_slice());
         }
         match keep_last_macros(self.alloc, room) {
             Ok(()) => Ok(room.as_slice()),
@@ -362,7 +339,7 @@ impl<F: FileSystem> InputReader for InputFiles<'_, F> {
     }
 
     fn admits(&self, repetition: Repetition<'_>) -> bool {
-        if self.allows_overlap || self.repetitions.admits(repetition) {
+        if self.packing.allows_overlap || self.repetitions.admits(repetition) {
             return true;
         }
         self.growth.set(Some(Growth::Repetition));
@@ -373,12 +350,12 @@ impl<F: FileSystem> InputReader for InputFiles<'_, F> {
 }
 
 impl<F: FileSystem> Inputs for InputFiles<'_, F> {
-    ghost opens = { λ inputs. inputs.opens_archives };
+    ghost opens = { λ inputs. inputs.packing.now.opens_archives };
 
-    ghost plain = { λ inputs. inputs.decompresses };
+    ghost plain = { λ inputs. inputs.packing.now.decompresses };
 
     fn opens_archives(&self) -> bool {
-        self.opens_archives
+        self.packing.opens_archives
     }
 
     #[tactic(auto, unfolding(crate::specs::Archives::IsTakenFor, crate::specs::Plain::IsPlainOf))]
@@ -387,7 +364,7 @@ impl<F: FileSystem> Inputs for InputFiles<'_, F> {
             return Err(AllocError);
         }
         self.look_at_member(content);
-        let plain = if self.decompresses {
+        let plain = if self.packing.decompresses {
             plain_of(self.alloc, content)?
         } else {
             None
@@ -415,11 +392,11 @@ impl<F: FileSystem> Inputs for InputFiles<'_, F> {
     }
 
     fn decompresses(&self) -> bool {
-        self.decompresses
+        self.packing.decompresses
     }
 
     fn unit_count(&self, name: &str) -> Result<Option<usize>, Failure> {
-        self.files.unit_count(name, self.decompresses)
+        self.files.unit_count(name, self.packing.decompresses)
     }
 
     fn last_named(&self) -> Option<String> {

@@ -8,17 +8,16 @@ use crate::archives::take_opened;
 use crate::origins::{Source, place_of_unit};
 use crate::output::Refusal;
 use crate::reading::Inputs;
-use crate::telling::{Refused, Telling, refusal, told};
+use crate::telling::{Refused, Telling, tell_refused, told};
 use dwp_bytes::RelocationEntry;
-use std::alloc::Global;
 use std::io::Write;
 use std::path::AsPath;
 use thorin::{DwarfPackage, Input, take_input};
-use thorin_faults::Session;
+use thorin_faults::{Error, Session};
+use thorin_queries::Failure;
 
 /// Takes the inputs in order, up to the first that is refused.
 pub(crate) fn take_all<'o, 's: 'o, Sess: Session<RelocationEntry>, I: Inputs, E: Write>(
-    alloc: Global,
     files: &I,
     builder: &mut DwarfPackage<'o, 's, Sess>,
     inputs: &[Input<'_>],
@@ -28,16 +27,15 @@ pub(crate) fn take_all<'o, 's: 'o, Sess: Session<RelocationEntry>, I: Inputs, E:
     ensures { OnOk result (TookInputs (I.opens files.now) (I.plain files.now)
         (I.offer files.now) inputs.now builder.old.state builder.new.state) }
 {
-    let mut room = Vec::new(alloc);
+    let mut room = Vec::new(telling.alloc);
     for input in inputs {
-        take(alloc, files, builder, &mut room, *input, telling, err)?;
+        take(files, builder, &mut room, *input, telling, err)?;
     }
     Ok(())
 }
 
 /// Takes an input, or where it is an archive that is to be opened the members of it.
 fn take<'o, 's: 'o, Sess: Session<RelocationEntry>, I: Inputs, E: Write>(
-    alloc: Global,
     files: &I,
     builder: &mut DwarfPackage<'o, 's, Sess>,
     room: &mut Vec<u8>,
@@ -50,15 +48,14 @@ fn take<'o, 's: 'o, Sess: Session<RelocationEntry>, I: Inputs, E: Write>(
 {
     match input {
         Input::Object(path) if files.opens_archives() => {
-            take_opened(alloc, files, builder, room, path, telling, err)
+            take_opened(files, builder, room, path, telling, err)
         }
-        _ => take_alone(alloc, files, builder, room, input, telling, err),
+        _ => take_alone(files, builder, room, input, telling, err),
     }
 }
 
-/// Takes an input that is no archive, and tells what came of it where that is asked for.
+/// Takes an input that is no archive, and tells what came of it.
 fn take_alone<'o, 's: 'o, Sess: Session<RelocationEntry>, I: Inputs, E: Write>(
-    alloc: Global,
     files: &I,
     builder: &mut DwarfPackage<'o, 's, Sess>,
     room: &mut Vec<u8>,
@@ -72,19 +69,66 @@ fn take_alone<'o, 's: 'o, Sess: Session<RelocationEntry>, I: Inputs, E: Write>(
     let before = builder.contained_units().len();
     files.begin(input);
     let outcome = take_input(builder, files, room, input);
-    let added = builder.contained_units().len().saturating_sub(before);
-    if let Err(fault) = outcome {
-        let refused = Refused {
-            input,
-            room: room.as_slice(),
-            before: place_of_unit(builder, &fault),
-            fault,
-        };
-        return Err(refusal(alloc, files, refused, telling, err));
+    let tried = Tried {
+        input,
+        room: room.as_slice(),
+        before,
+    };
+    settle(files, builder, tried, outcome, telling, err)
+}
+
+/// An input that was taken or refused.
+#[derive(Clone, Copy)]
+pub(crate) struct Tried<'a> {
+    pub(crate) input: Input<'a>,
+    /// What was read last.
+    pub(crate) room: &'a [u8],
+    /// How many units the package had before.
+    pub(crate) before: usize,
+}
+
+/// Tells of an input by its outcome: how many units were added, where that is asked for, or why it
+/// was refused.
+pub(crate) fn settle<'o, 's: 'o, Sess: Session<RelocationEntry>, I: Inputs, E: Write>(
+    files: &I,
+    builder: &DwarfPackage<'o, 's, Sess>,
+    tried: Tried<'_>,
+    outcome: Result<(), Error>,
+    telling: Telling,
+    err: &mut E,
+) -> Result<(), Refusal>
+    ensures { OnOk result (outcome ≡ Ok tt) }
+{
+    match outcome {
+        Ok(()) => match accept(files, builder.contained_units().len(), tried, telling, err) {
+            Ok(()) => Ok(()),
+            Err(failure) => Err(Refusal::Command(failure)),
+        },
+        Err(fault) => {
+            let refused = Refused {
+                input: tried.input,
+                room: tried.room,
+                before: place_of_unit(builder, &fault),
+                fault: &fault,
+            };
+            tell_refused(files, refused, telling, err);
+            Err(Refusal::Told)
+        }
     }
-    keep_taken(files, input, builder.contained_units().len());
-    told(alloc, files, input, added, telling, err)?;
-    Ok(())
+}
+
+/// Keeps and tells, where that is asked for, that an input was taken, and how many units the package
+/// has now.
+fn accept<I: Inputs, E: Write>(
+    files: &I,
+    count: usize,
+    tried: Tried<'_>,
+    telling: Telling,
+    err: &mut E,
+) -> Result<(), Failure> {
+    keep_taken(files, tried.input, count);
+    let added = count.saturating_sub(tried.before);
+    told(files, tried.input, added, telling, err)
 }
 
 /// Keeps for notes an input that was taken.

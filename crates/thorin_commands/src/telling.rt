@@ -1,12 +1,12 @@
 //! What `pack` tells of its inputs.
 
-ghost use Rattle.std.specs.Prelude.{◌≡◌};
-
 use crate::asked::{executable_of, nameless_in};
 use crate::growth::Growth;
-use crate::notes::{note_duplicate, note_refused, note_unread, place_of};
+use crate::missing::named_units;
+use crate::notes::{
+    note_alone, note_before, note_reason, note_refused, note_twice_in, note_unread, place_of,
+};
 use crate::origins::Origin;
-use crate::output::Refusal;
 use crate::reading::Inputs;
 use bumpalo::Bump;
 use dwp_table::{DwarfObject, DwoId};
@@ -19,9 +19,10 @@ use thorin_faults::{Error, MissingReferencedObjectBehaviour};
 use thorin_queries::{Failure, shown, tell_taken};
 use thorin_words::printed;
 
-/// What is told while inputs are taken.
+/// What is told while inputs are taken, and where its texts are made.
 #[derive(Clone, Copy)]
 pub(crate) struct Telling {
+    pub(crate) alloc: Global,
     /// Whether a line tells of each input that was taken.
     pub(crate) verbose: bool,
     /// Whether a second line says what a refusal is about.
@@ -32,7 +33,6 @@ pub(crate) struct Telling {
 
 /// Tells what came of an input that was taken, where that is asked for.
 pub(crate) fn told<I: Inputs, E: Write>(
-    alloc: Global,
     inputs: &I,
     input: Input<'_>,
     added: usize,
@@ -43,7 +43,7 @@ pub(crate) fn told<I: Inputs, E: Write>(
         tell(inputs, input, added, err)?;
     }
     if telling.notes && added == 0 {
-        warn_unsplit(alloc, inputs, input, err)?;
+        return warn_unsplit(telling.alloc, inputs, input, err);
     }
     Ok(())
 }
@@ -55,12 +55,16 @@ fn tell<I: Inputs, E: Write>(
     added: usize,
     err: &mut E,
 ) -> Result<(), Failure> {
-    let (path, all) = match input {
-        Input::Bytes(_) => return Ok(()),
-        Input::Object(path) => (path, inputs.unit_count(path.path_text())?),
-        Input::Executable(path, _) | Input::ExecutableSkippingNameless(path, _) => (path, None),
-    };
-    tell_taken(err, path.path_text(), added, all)
+    match input {
+        Input::Bytes(_) => Ok(()),
+        Input::Object(path) => match inputs.unit_count(path.path_text()) {
+            Ok(all) => tell_taken(err, path.path_text(), added, all),
+            Err(failure) => Err(failure),
+        },
+        Input::Executable(path, _) | Input::ExecutableSkippingNameless(path, _) => {
+            tell_taken(err, path.path_text(), added, None)
+        }
+    }
 }
 
 /// Warns of an input that was taken and has nothing that is split.
@@ -70,25 +74,30 @@ fn warn_unsplit<I: Inputs, E: Write>(
     input: Input<'_>,
     err: &mut E,
 ) -> Result<(), Failure> {
-    let (path, is_split) = match input {
-        Input::Bytes(_) => return Ok(()),
-        Input::Object(path) => (path, inputs.unit_count(path.path_text())? != Some(0)),
+    match input {
+        Input::Bytes(_) => Ok(()),
+        Input::Object(path) => match inputs.unit_count(path.path_text()) {
+            Ok(Some(0)) => warn_of(alloc, path, err),
+            Ok(_) => Ok(()),
+            Err(failure) => Err(failure),
+        },
         Input::Executable(path, _) | Input::ExecutableSkippingNameless(path, _) => {
-            (path, names_units(alloc, inputs, input, path))
+            if names_units(alloc, inputs, input, path) {
+                return Ok(());
+            }
+            warn_of(alloc, path, err)
         }
-    };
-    if is_split {
-        return Ok(());
     }
-    warn_of(alloc, path, err)
 }
 
 /// Warns of a file that has nothing that is split.
 pub(crate) fn warn_of<E: Write>(alloc: Global, path: Path<'_>, err: &mut E) -> Result<(), Failure> {
-    let name = shown(alloc, path.path_text())?;
-    match writeln!(err, "warning: {name}: no split units") {
-        Ok(()) => Ok(()),
-        Err(_) => Err(Failure::Line),
+    match shown(alloc, path.path_text()) {
+        Ok(name) => match writeln!(err, "warning: {name}: no split units") {
+            Ok(()) => Ok(()),
+            Err(_) => Err(Failure::Line),
+        },
+        Err(AllocError) => Err(Failure::Memory),
     }
 }
 
@@ -97,94 +106,77 @@ fn names_units<I: Inputs>(alloc: Global, inputs: &I, input: Input<'_>, path: Pat
     let mut room = Vec::new(alloc);
     inputs.begin_again(input);
     match inputs.read_into(path, &mut room) {
-        Ok(bytes) => has_units(alloc, bytes, nameless_in(input)),
-        Err(_) => true,
-    }
-}
-
-/// Whether the bytes of an executable name a split unit, or can't be read.
-fn has_units(alloc: Global, bytes: &[u8], nameless: NamelessUnits) -> bool {
-    let bump = Bump::new(alloc);
-    let session = BytesSession::new(&bump);
-    match NamedUnits::read_by(alloc, &session, bytes, nameless) {
-        Ok(mut units) => !matches!(units.next(), Ok(None)),
+        Ok(bytes) => !matches!(first_path(alloc, bytes, nameless_in(input), None), Ok(None)),
         Err(_) => true,
     }
 }
 
 /// An input that was refused.
-#[derive(Drop)]
+#[derive(Clone, Copy)]
 pub(crate) struct Refused<'a> {
     pub(crate) input: Input<'a>,
     /// What was read last.
     pub(crate) room: &'a [u8],
     /// Where among the package's units the one stands that the input has too, if that is the fault.
     pub(crate) before: Option<usize>,
-    pub(crate) fault: Error,
+    pub(crate) fault: &'a Error,
 }
 
-/// What becomes of a refused input: it is told here where more is to be said than the error, else
-/// left to be told.
-pub(crate) fn refusal<I: Inputs, E: Write>(
-    alloc: Global,
+/// Prints why an input was refused, and where that is asked for what it is about.
+pub(crate) fn tell_refused<I: Inputs, E: Write>(
     inputs: &I,
     refused: Refused<'_>,
     telling: Telling,
     err: &mut E,
-) -> Refusal {
-    if let Some(growth) = inputs.found_growth() {
-        tell_growth(alloc, inputs, refused.input, growth, telling, err);
-        return Refusal::Told;
-    }
-    if telling.notes {
-        tell_refused(alloc, inputs, &refused, err);
-        return Refusal::Told;
-    }
-    Refusal::Package(refused.fault)
-}
-
-/// Prints how an input would make the package larger than its files, and where that is asked for
-/// which file.
-fn tell_growth<I: Inputs, E: Write>(
-    alloc: Global,
-    inputs: &I,
-    input: Input<'_>,
-    growth: Growth,
-    telling: Telling,
-    err: &mut E,
 ) {
-    let error = growth.error();
-    let _ = writeln!(err, "error: {error}");
-    if telling.notes {
-        if let Ok(Some(place)) = place_in(alloc, input, inputs.last_named()) {
-            let note = growth.note();
-            let _ = writeln!(err, "note: {place}: {note}");
-        }
-    }
-}
-
-/// Prints why an input was refused, and what it is about.
-fn tell_refused<I: Inputs, E: Write>(
-    alloc: Global,
-    inputs: &I,
-    refused: &Refused<'_>,
-    err: &mut E,
-) {
-    let fault = &refused.fault;
-    let _ = tell_fault(alloc, err, fault);
-    if let Error::ReadInput(_) = fault {
-        if let Some(unread) = inputs.first_unread() {
-            note_unread(&unread, err);
-        }
+    let growth = inputs.found_growth();
+    tell_error(telling.alloc, refused.fault, growth, err);
+    if !telling.notes {
         return;
     }
-    let place = place_of_refused(alloc, inputs, refused.input, refused.room, fault);
-    if let Ok(Some(place)) = place {
+    match growth {
+        Some(growth) => {
+            if let Ok(Some(place)) = place_in(telling.alloc, refused.input, inputs.last_named()) {
+                note_reason(place.as_str(), growth.note(), err);
+            }
+        }
+        None => note_input(telling.alloc, inputs, refused, err),
+    }
+}
+
+/// Prints why an input or a member of one was refused: by its fault, or since it would make the
+/// package larger than its files.
+pub(crate) fn tell_error<E: Write>(
+    alloc: Global,
+    fault: &Error,
+    growth: Option<Growth>,
+    err: &mut E,
+) {
+    match growth {
+        Some(growth) => put_error(growth.error(), err),
+        None => tell_fault(alloc, fault, err),
+    }
+}
+
+/// Prints the note on an input that was refused.
+fn note_input<I: Inputs, E: Write>(alloc: Global, inputs: &I, refused: Refused<'_>, err: &mut E) {
+    if let Error::ReadInput(_) = refused.fault {
+        note_first_unread(inputs, err);
+        return;
+    }
+    if let Ok(Some(place)) = place_of_refused(alloc, inputs, refused) {
         let before = Before {
             place: refused.before,
             executable: executable_of(refused.input),
         };
-        note_place(alloc, inputs, fault, place.as_str(), before, err);
+        note_place(alloc, inputs, refused.fault, place.as_str(), before, err);
+    }
+}
+
+/// Prints the note on the first of the reads that failed, if there is one.
+fn note_first_unread<I: Inputs, E: Write>(inputs: &I, err: &mut E) {
+    if let Some(unread) = inputs.first_unread() {
+        note_unread(&unread, err);
     }
 }
 
@@ -222,62 +214,81 @@ fn note_twice<I: Inputs, E: Write>(
     before: Before<'_>,
     err: &mut E,
 ) {
-    let Some(first) = before.place else {
-        note_duplicate(unit, place, None, err);
-        return;
-    };
-    let first = match inputs.origin_of(first) {
-        Some(Origin::Place(first)) => Ok(Some(first)),
+    if before.place.is_none() {
+        return note_twice_in(unit, place, err);
+    }
+    match first_with(alloc, inputs, unit, before) {
+        Some(first) => note_before(unit, place, first.as_str(), err),
+        None => note_alone(place, err),
+    }
+}
+
+/// What brought a unit that the package has, as it is printed; none where that isn't known.
+fn first_with<I: Inputs>(
+    alloc: Global,
+    inputs: &I,
+    unit: u64,
+    before: Before<'_>,
+) -> Option<String> {
+    match inputs.origin_of(before.place?) {
+        Some(Origin::Place(first)) => Some(first),
         Some(Origin::Executable(path)) => named_with(alloc, inputs, path.as_str(), unit),
-        None => match before.executable {
-            Some(path) => named_with(alloc, inputs, path.path_text(), unit),
-            None => Ok(None),
-        },
-    };
-    if let Ok(Some(first)) = first {
-        note_duplicate(unit, place, Some(first.as_str()), err);
-    } else {
-        let _ = writeln!(err, "note: {place}");
+        None => named_with(alloc, inputs, before.executable?.path_text(), unit),
     }
 }
 
 /// The object of an executable that was taken for a compilation unit: the first that it names for
 /// it. The executable is read a second time for that.
-fn named_with<I: Inputs>(
-    alloc: Global,
-    inputs: &I,
-    executable: &str,
-    unit: u64,
-) -> Result<Option<String>, AllocError> {
+fn named_with<I: Inputs>(alloc: Global, inputs: &I, executable: &str, unit: u64) -> Option<String> {
     let path = Path::new(executable);
     let mut room = Vec::new(alloc);
     inputs.begin_again(Input::Executable(path, MissingReferencedObjectBehaviour::Skip));
     let named = match inputs.read_into(path, &mut room) {
-        Ok(bytes) => path_for(alloc, bytes, unit),
+        Ok(bytes) => {
+            let unit = DwarfObject::Compilation(DwoId(unit));
+            first_path(alloc, bytes, NamelessUnits::PassedOver, Some(unit)).unwrap_or(None)
+        }
         Err(_) => None,
     };
-    let place = match &named {
+    match named {
         Some(named) => {
-            let mapped = inputs.mapped(named.as_str())?;
-            place_of(alloc, executable, Some(mapped.as_str()))
+            let mapped = inputs.mapped(named.as_str()).ok()?;
+            place_of(alloc, executable, Some(mapped.as_str())).ok()
         }
-        None => place_of(alloc, executable, None),
-    };
-    Ok(Some(place?))
+        None => place_of(alloc, executable, None).ok(),
+    }
 }
 
-/// The path that an executable's bytes name first for a compilation unit.
-fn path_for(alloc: Global, executable: &[u8], unit: u64) -> Option<String> {
+/// The path that an executable's bytes name first, for one unit where one is asked for.
+///
+/// # Errors
+/// Those of the bytes, and `Memory`.
+fn first_path(
+    alloc: Global,
+    executable: &[u8],
+    nameless: NamelessUnits,
+    unit: Option<DwarfObject>,
+) -> Result<Option<String>, Error> {
     let bump = Bump::new(alloc);
     let session = BytesSession::new(&bump);
-    let nameless = NamelessUnits::PassedOver;
-    let mut units = NamedUnits::read_by(alloc, &session, executable, nameless).ok()?;
-    while let Ok(Some(named)) = units.next() {
-        if named.target == DwarfObject::Compilation(DwoId(unit)) {
-            return String::from_str(alloc, units.path()).ok();
+    match named_units(alloc, &session, executable, nameless) {
+        Ok(mut units) => first_of(alloc, &mut units, unit),
+        Err(fault) => Err(fault),
+    }
+}
+
+/// The same of the units that are left.
+fn first_of(
+    alloc: Global,
+    units: &mut NamedUnits<'_>,
+    unit: Option<DwarfObject>,
+) -> Result<Option<String>, Error> {
+    while let Some(named) = units.next()? {
+        if unit.is_none() || unit == Some(named.target) {
+            return Ok(Some(String::from_str(alloc, units.path())?));
         }
     }
-    None
+    Ok(None)
 }
 
 /// Prints a note for each encoding of the inputs, with the first input of each; of a place alone
@@ -287,9 +298,7 @@ fn note_encodings<I: Inputs, E: Write>(inputs: &I, place: Option<&str>, err: &mu
         (Ok(Some(lines)), _) => {
             let _ = err.write_all(lines.as_bytes());
         }
-        (_, Some(place)) => {
-            let _ = writeln!(err, "note: {place}");
-        }
+        (_, Some(place)) => note_alone(place, err),
         _ => {}
     }
 }
@@ -298,15 +307,13 @@ fn note_encodings<I: Inputs, E: Write>(inputs: &I, place: Option<&str>, err: &mu
 fn place_of_refused<I: Inputs>(
     alloc: Global,
     inputs: &I,
-    input: Input<'_>,
-    room: &[u8],
-    fault: &Error,
+    refused: Refused<'_>,
 ) -> Result<Option<String>, AllocError> {
     let named = match inputs.last_named() {
-        Some(named) if is_of_object(alloc, fault, room) => Some(named),
+        Some(named) if is_of_object(alloc, refused.fault, refused.room) => Some(named),
         _ => None,
     };
-    place_in(alloc, input, named)
+    place_in(alloc, refused.input, named)
 }
 
 /// An input, or the object of these that it names; none where no path names it.
@@ -345,41 +352,40 @@ fn is_of_object(alloc: Global, fault: &Error, object: &[u8]) -> bool {
 /// Prints why the package can't be finished, and where that is asked for which object couldn't be
 /// read, or which encodings the inputs have.
 pub(crate) fn tell_unfinished<I: Inputs, E: Write>(
-    alloc: Global,
     inputs: &I,
-    telling: Telling,
     fault: &Error,
+    telling: Telling,
     err: &mut E,
 ) {
-    let _ = tell_fault(alloc, err, fault);
+    tell_fault(telling.alloc, fault, err);
     if !telling.notes {
         return;
     }
     match fault {
-        Error::MissingReferencedUnit(_) => {
-            if let Some(unread) = inputs.first_unread() {
-                note_unread(&unread, err);
-            }
-        }
+        Error::MissingReferencedUnit(_) => note_first_unread(inputs, err),
         Error::MixedInputEncodings => note_encodings(inputs, None, err),
         _ => {}
     }
 }
 
-/// Prints why an input was refused, and answers the status.
-pub(crate) fn tell_fault<E: Write>(alloc: Global, err: &mut E, fault: &Error) -> u8
-    ensures { result ≡ 1 }
-{
-    let _ = match fault {
+/// Prints why an input was refused.
+pub(crate) fn tell_fault<E: Write>(alloc: Global, fault: &Error, err: &mut E) {
+    match fault {
         Error::RelocationWithInvalidSymbol(_, _)
         | Error::MultipleRelocations(_, _)
         | Error::UnsupportedRelocation(_, _) => match printed_fault(alloc, fault) {
-            Ok(text) => writeln!(err, "error: {text}"),
-            Err(AllocError) => writeln!(err, "error: Out of memory"),
+            Ok(text) => put_error(text.as_str(), err),
+            Err(AllocError) => put_error("Out of memory", err),
         },
-        _ => writeln!(err, "error: {fault}"),
-    };
-    1
+        _ => {
+            let _ = writeln!(err, "error: {fault}");
+        }
+    }
+}
+
+/// Prints the text of an error.
+fn put_error<E: Write>(text: &str, err: &mut E) {
+    let _ = writeln!(err, "error: {text}");
 }
 
 /// The text of a fault that has a name out of a file, without control characters.

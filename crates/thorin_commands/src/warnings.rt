@@ -42,6 +42,7 @@ impl Warnings {
 /// What is warned of.
 #[derive(Clone, Copy)]
 pub(crate) struct Warned<'d> {
+    pub(crate) alloc: Global,
     /// Lines that are printed as they are.
     pub(crate) lines: &'d str,
     /// The type units that differ from the ones kept.
@@ -51,44 +52,37 @@ pub(crate) struct Warned<'d> {
 }
 
 /// Prints the warnings, and hands them over.
-pub(crate) fn warn<W: Write>(
-    alloc: Global,
-    warned: Warned<'_>,
-    lines: &mut W,
-) -> Result<(), Failure>
+pub(crate) fn warn<W: Write>(warned: Warned<'_>, lines: &mut W) -> Result<(), Failure>
     ensures { IfErr result IsOfWriting }
 {
-    match print_all(alloc, warned, lines) {
+    match print_all(warned, lines) {
         Ok(()) => flush(lines),
         Err(failure) => Err(failure),
     }
 }
 
 /// Prints the lines, and then those of type units.
-fn print_all<W: Write>(alloc: Global, warned: Warned<'_>, lines: &mut W) -> Result<(), Failure>
+fn print_all<W: Write>(warned: Warned<'_>, lines: &mut W) -> Result<(), Failure>
     ensures { IfErr result IsOfWriting }
 {
     match lines.write_all(warned.lines.as_bytes()) {
-        Ok(()) => print_warnings(alloc, warned.warnings, warned.differing, lines),
+        Ok(()) => print_warnings(warned, lines),
         Err(_) => Err(Failure::Line),
     }
 }
 
 /// Prints what is asked for of them.
-fn print_warnings<W: Write>(
-    alloc: Global,
-    warnings: Warnings,
-    differing: &[DebugTypeSignature],
-    lines: &mut W,
-) -> Result<(), Failure>
+fn print_warnings<W: Write>(warned: Warned<'_>, lines: &mut W) -> Result<(), Failure>
     ensures { IfErr result IsOfWriting }
 {
-    match warnings {
-        Warnings::Each => match warn_differing(lines, differing) {
+    match warned.warnings {
+        Warnings::Each => match warn_differing(lines, warned.differing) {
             Ok(()) => Ok(()),
             Err(_) => Err(Failure::Line),
         },
-        Warnings::Once if !differing.is_empty() => warn_once(alloc, differing, lines),
+        Warnings::Once if !warned.differing.is_empty() => {
+            warn_once(warned.alloc, warned.differing, lines)
+        }
         _ => Ok(()),
     }
 }

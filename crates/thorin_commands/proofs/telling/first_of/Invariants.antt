@@ -1,5 +1,5 @@
 use Rattle.std.proofs.Common.{length}
-use Rattle.thorin_commands.proofs.telling.path_for.Given as goal
+use Rattle.thorin_commands.proofs.telling.first_of.Given as goal
 
 -- the units that are left
 abbrev pub decreases-loop-named : goal.decreases-loop-named
