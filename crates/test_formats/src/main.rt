@@ -1,8 +1,9 @@
 //! Answers the rows of its data files: each is a call of the crates of formats, `dwp_base` to
-//! `dwp_index`, with its arguments, and is printed with what it answers. For the gate alone.
+//! `dwp_decompress`, with its arguments, and is printed with what it answers. For the gate alone.
 #![tactic(auto)]
 
 mod archived;
+mod decompressed;
 mod dwarf;
 mod elf;
 mod elf_read;
@@ -15,7 +16,7 @@ use std::io;
 use test_rows::{Calls, Row, Said, print_files};
 
 /// The files of rows, one for each crate.
-const FILES: [&str; 9] = [
+const FILES: [&str; 10] = [
     "base.rows",
     "bytes.rows",
     "elf.rows",
@@ -25,6 +26,7 @@ const FILES: [&str; 9] = [
     "index.rows",
     "inflate.rows",
     "archive.rows",
+    "decompress.rows",
 ];
 
 /// The calls of the crates of formats.

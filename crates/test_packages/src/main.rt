@@ -1,26 +1,22 @@
 //! Runs the lines of the scripts of `data/` and prints each line that asks something with what it
 //! answers: packing, packages as inputs, packages cut or damaged, packing in groups, and the same of
-//! what a seed damages. A script makes its inputs byte for byte (`table`, `objects`), packs them
-//! (`packing`, `building`, `large`), reads what came of it (`reading`, `cutting`), and damages samples
-//! by chance (`random`). For the gate; with `random`, by hand too.
+//! what a seed damages. A script makes its inputs byte for byte (`objects`), packs them (`packing`,
+//! `builders`, `large`), reads what came of it (`reading`, `cutting`), and damages samples by chance
+//! (`random`). For the gate; with `random`, by hand too.
 #![tactic(auto)]
 
-mod building;
+mod builders;
 mod cutting;
 mod large;
-mod mistake;
 mod objects;
 mod packing;
 mod random;
 mod reading;
-mod table;
-mod text;
+mod tally;
 
-use crate::mistake::{Mistake, halves};
-use crate::table::Table;
-use crate::text::Text;
-use std::alloc::{AllocError, Global};
+use std::alloc::Global;
 use std::{fs, io};
+use test_rows::{Said, Table, split};
 
 /// The script that names the parts that every other one may use.
 const COMMON: &str = "common";
@@ -51,99 +47,110 @@ fn main(rt: HostRuntime) -> io::Result<()> {
 /// Runs the lines of the script that names parts, and then those of another, and prints what they
 /// answer.
 fn run_named(rt: &HostRuntime, script: &str) -> io::Result<()> {
-    let mut text = Text::new(rt.alloc());
+    let mut said = Said::new(rt.alloc());
+    let common = text_of(rt, COMMON, &mut said);
+    let lines = text_of(rt, script, &mut said);
     let mut table = Table::new(rt.alloc());
-    run_script(rt, &mut table, COMMON, &mut text);
-    run_script(rt, &mut table, script, &mut text);
-    print!(rt; "== {script}\n{}", text.as_str())
+    run_script(rt, &mut table, &common, &mut said);
+    run_script(rt, &mut table, &lines, &mut said);
+    let answers = said.finish()?;
+    print!(rt; "== {script}\n{answers}")
+}
+
+/// The text of a file.
+fn text_of(rt: &HostRuntime, file: &str, said: &mut Said) -> String {
+    match fs::read_to_string(rt, file) {
+        Ok(text) => text,
+        Err(_fault) => {
+            said.wrong("file", file);
+            String::new(rt.alloc())
+        }
+    }
 }
 
 /// Runs the lines of a script.
-fn run_script(rt: &HostRuntime, table: &mut Table, script: &str, text: &mut Text) {
-    match fs::read_to_string(rt, script) {
-        Ok(script) => {
-            for line in script.lines() {
-                run_line(rt, table, halves(line, "#").0, text);
-            }
+fn run_script<'n>(rt: &HostRuntime, table: &mut Table<'n>, script: &'n str, said: &mut Said) {
+    for line in script.lines() {
+        let line = split(line, "#").0;
+        let words = line.split_whitespace().collect(rt.alloc());
+        let words: Vec<&str> = said.made(words, Vec::new(rt.alloc()));
+        if let [command, words @ ..] = words.as_slice() {
+            run_words(rt, table, line, command, words, said);
         }
-        Err(_fault) => text.wrong(Mistake::Name),
     }
-    text.end_line(script);
-}
-
-/// Runs a line, which may be empty.
-fn run_line(rt: &HostRuntime, table: &mut Table, line: &str, text: &mut Text) {
-    let words: Result<Vec<&str>, AllocError> = line.split_whitespace().collect(rt.alloc());
-    match words {
-        Ok(words) => {
-            if let [command, words @ ..] = words.as_slice() {
-                run_words(rt, table, line, command, words, text);
-            }
-        }
-        Err(AllocError) => text.wrong(Mistake::Memory),
-    }
-    text.end_line(line);
 }
 
 /// Runs a line that only names bytes, or writes a line that asks something with its answer.
-fn run_words(
+fn run_words<'n>(
     rt: &HostRuntime,
-    table: &mut Table,
+    table: &mut Table<'n>,
     line: &str,
     command: &str,
-    words: &[&str],
-    text: &mut Text,
+    words: &[&'n str],
+    said: &mut Said,
 ) {
     match command {
-        "file" => keep_file(rt, table, words, text),
-        "bytes" => table.define(words, text),
-        "patch" => table.patch(words, text),
-        "replace" => table.replace(words, text),
-        "object" => objects::object(rt.alloc(), table, words, text),
-        "numbers" => large::numbers(rt.alloc(), table, words, text),
+        "file" => keep_files(rt, table, words, said),
+        "bytes" => table.define(words, said),
+        "patch" => table.patch(words, said),
+        "replace" => table.replace(words, said),
+        "object" => objects::object(rt.alloc(), table, words, said),
+        "numbers" => large::numbers(rt.alloc(), table, words, said),
         _ => {
-            text.put("$ ");
-            text.put(line.trim_ascii());
-            text.put("\n");
-            ask(rt.alloc(), table, command, words, text);
+            said.add("$ ");
+            said.add(line.trim_ascii());
+            said.add("\n");
+            ask(rt.alloc(), table, command, words, said);
         }
     }
 }
 
-/// `file NAME`: the bytes of a file, under its name.
-fn keep_file(rt: &HostRuntime, table: &mut Table, words: &[&str], text: &mut Text) {
+/// `file NAME..`: the bytes of files, each under its name.
+fn keep_files<'n>(rt: &HostRuntime, table: &mut Table<'n>, words: &[&'n str], said: &mut Said) {
     for i in 0..words.len() {
         match fs::read(rt, words[i]) {
-            Ok(bytes) => table.keep(words[i], bytes, text),
-            Err(_fault) => text.wrong(Mistake::Name),
+            Ok(bytes) => table.keep(words[i], bytes, said),
+            Err(_fault) => said.wrong("file", words[i]),
         }
     }
 }
 
-/// Adds to a text what a line answers that asks something.
-fn ask(alloc: Global, table: &mut Table, command: &str, words: &[&str], text: &mut Text) {
+/// Says what a line answers that asks something.
+fn ask<'n>(
+    alloc: Global,
+    table: &mut Table<'n>,
+    command: &str,
+    words: &[&'n str],
+    said: &mut Said,
+) {
     match command {
-        "show" => table.show(true, words, text),
-        "size" => table.show(false, words, text),
-        "same" => table.same(words, text),
-        "unit" => reading::unit(table, words, text),
-        "units" => reading::units(table, words, text),
-        "text" => packing::text(alloc, table, words, text),
-        "many" => large::many(alloc, table, words, text),
-        _ => ask_packing(alloc, table, command, words, text),
+        "show" => table.show(true, words, said),
+        "size" => table.show(false, words, said),
+        "same" => table.same(words, said),
+        "unit" => reading::unit(table, words, said),
+        "units" => reading::units(table, words, said),
+        "text" => packing::text(alloc, table, words, said),
+        "many" => large::many(alloc, table, words, said),
+        _ => ask_packing(alloc, table, command, words, said),
     }
 }
 
 /// The same of lines that pack, or damage files.
-fn ask_packing(alloc: Global, table: &mut Table, command: &str, words: &[&str], text: &mut Text) {
+fn ask_packing<'n>(
+    alloc: Global,
+    table: &mut Table<'n>,
+    command: &str,
+    words: &[&'n str],
+    said: &mut Said,
+) {
     match command {
-        "pack" => packing::pack_named(alloc, table, words, text),
-        "groups" => packing::pack_grouped(alloc, table, words, text),
-        "builder" => building::build(alloc, table, words, text),
-        "damage" => cutting::damage(alloc, table, words, text),
-        "every_cut" => cutting::every_cut(alloc, table, words, text),
-        "random" => random::random(alloc, table, false, words, text),
-        "random_counted" => random::random(alloc, table, true, words, text),
-        _ => text.wrong(Mistake::Command),
+        "pack" => packing::pack_named(alloc, table, words, said),
+        "groups" => packing::pack_grouped(alloc, table, words, said),
+        "builder" => builders::build(alloc, table, words, said),
+        "damage" => cutting::damage(alloc, table, words, said),
+        "every_cut" => cutting::every_cut(alloc, table, words, said),
+        "random" => random::random(alloc, table, false, words, said),
+        "random_counted" => random::random(alloc, table, true, words, said),
+        _ => said.wrong("command", command),
     }
 }

@@ -1,63 +1,58 @@
 //! The objects of a script.
 
-use crate::mistake::{Mistake, halves};
-use crate::table::{Table, number};
-use crate::text::Text;
 use std::alloc::Global;
-use thorin::{Class, Endianness, SectionKind, WritableObject};
+use test_rows::{Said, Table, order, place, split};
+use thorin::{Class, SectionKind, WritableObject};
 
 /// `object NAME CLASS ORDER MACHINE SECTION=WORD..`: an ELF file with these sections, as `info=x`,
 /// in the order in which they first come; a section that comes again gets more bytes.
-pub fn object(alloc: Global, table: &mut Table, words: &[&str], text: &mut Text) {
-    if let [name, class, order, machine, sections @ ..] = words {
+pub fn object<'n>(alloc: Global, table: &mut Table<'n>, words: &[&'n str], said: &mut Said) {
+    if let [name, class, order_of, machine, sections @ ..] = words {
         let class = if *class == "elf32" {
             Class::Elf32
         } else {
             Class::Elf64
         };
-        let order = if *order == "big" {
-            Endianness::Big
-        } else {
-            Endianness::Little
-        };
-        let machine = (number(machine, text) % 0x1_0000) as u16;
-        let mut file = WritableObject::new(alloc, class, machine, order);
+        let machine = (place(machine) % 0x1_0000) as u16;
+        let mut file = WritableObject::new(alloc, class, machine, order(order_of));
         for i in 0..sections.len() {
-            append(alloc, table, &mut file, sections[i], text);
+            append(alloc, table, &mut file, sections[i], said);
         }
-        keep(table, name, &file, text);
+        keep(table, name, &file, said);
     } else {
-        text.wrong(Mistake::Words);
+        said.wrong("line", "object");
     }
 }
 
-fn keep(table: &mut Table, name: &str, file: &WritableObject, text: &mut Text) {
+fn keep<'n>(table: &mut Table<'n>, name: &'n str, file: &WritableObject, said: &mut Said) {
     match file.write() {
-        Ok(bytes) => table.keep(name, bytes, text),
-        Err(_fault) => text.wrong(Mistake::Object),
+        Ok(bytes) => table.keep(name, bytes, said),
+        Err(_fault) => said.wrong("object", name),
     }
 }
 
 /// Appends a section to a file.
-fn append(alloc: Global, table: &Table, file: &mut WritableObject, section: &str, text: &mut Text) {
-    let (kind, word) = halves(section, "=");
-    let bytes = table.joined(&[word], text);
+fn append(
+    alloc: Global,
+    table: &Table<'_>,
+    file: &mut WritableObject,
+    section: &str,
+    said: &mut Said,
+) {
+    let (kind, word) = split(section, "=");
+    let bytes = table.joined(&[word], said);
     match kind_of(alloc, kind) {
-        Some(kind) => {
-            if file.append(kind, &bytes).is_err() {
-                text.wrong(Mistake::Object);
-            }
-        }
-        None => text.wrong(Mistake::Words),
+        Some(kind) if file.append(kind, &bytes).is_ok() => {}
+        _ => said.wrong("section", section),
     }
 }
 
 /// The kind of the section `.debug_NAME.dwo`, or of the index `.debug_NAME`.
 fn kind_of(alloc: Global, name: &str) -> Option<SectionKind> {
-    let mut section = Text::new(alloc);
-    section.put(".debug_");
-    section.put(name);
+    let mut section = Said::new(alloc);
+    section.add(".debug_");
+    section.add(name);
     let index = SectionKind::of_name(section.as_str());
-    section.put(".dwo");
+    section.add(".dwo");
     SectionKind::of_name(section.as_str()).or(index)
 }

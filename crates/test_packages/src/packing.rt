@@ -3,21 +3,34 @@
 
 ghost use Rattle.std.specs.Prelude.{◌≤◌};
 
-use crate::mistake::{Mistake, halves};
-use crate::table::Table;
-use crate::text::Text;
 use std::alloc::Global;
+use test_rows::{Said, Table, split};
 use thorin::{Bump, BytesSession, Error, Input, Packed, pack, pack_groups};
 
-/// What packing these inputs gives.
-pub fn packed(alloc: Global, inputs: &[&[u8]]) -> Result<Packed, Error> {
+/// What packing these inputs gives; no outcome where memory ran out.
+pub fn packed(alloc: Global, inputs: &[&[u8]]) -> Packed {
     let arena = Bump::new(alloc);
     let session = BytesSession::new(&arena);
     let mut list = Vec::new(alloc);
     for i in 0..inputs.len() {
         let _ = list.push(Input::Bytes(inputs[i]));
     }
-    pack(alloc, &session, &list)
+    pack(alloc, &session, &list).unwrap_or(Packed {
+        outcomes: Vec::new(alloc),
+        file: Err(Error::Memory),
+        differing: Vec::new(alloc),
+    })
+}
+
+/// How many inputs were accepted.
+pub fn accepted(packed: &Packed) -> usize {
+    let mut accepted: usize = 0;
+    for i in 0..packed.outcomes.len() {
+        if packed.outcomes[i].is_ok() {
+            accepted = accepted.saturating_add(1);
+        }
+    }
+    accepted
 }
 
 /// What packing these inputs in groups gives, where each group begins at one of these numbers.
@@ -50,114 +63,102 @@ fn start_of(last: usize, starts: &[usize], number: usize) -> usize
 
 /// `pack FILE INPUT..`: what each input answers, the type units that differ, and the file, which is
 /// kept.
-pub fn pack_named(alloc: Global, table: &mut Table, words: &[&str], text: &mut Text) {
+pub fn pack_named<'n>(alloc: Global, table: &mut Table<'n>, words: &[&'n str], said: &mut Said) {
     if let [file, names @ ..] = words {
-        let packed = packed(alloc, &table.all(names, text));
-        match &packed {
-            Ok(packed) => {
-                tell_packed(names, packed, text);
-                keep(table, file, &packed.file, text);
-            }
-            Err(_fault) => text.wrong(Mistake::Memory),
-        }
-    } else {
-        text.wrong(Mistake::Words);
+        let packed = packed(alloc, &table.all(names, said));
+        tell_packed(names, &packed, said);
+        keep(table, file, &packed.file, said);
     }
 }
 
-fn tell_packed(names: &[&str], packed: &Packed, text: &mut Text) {
+fn tell_packed(names: &[&str], packed: &Packed, said: &mut Said) {
     for i in 0..packed.outcomes.len() {
-        let name = names.get(i).copied().unwrap_or("?");
-        tell_answer(text, name, &packed.outcomes[i]);
+        tell_answer(names, i, &packed.outcomes[i], said);
     }
     for i in 0..packed.differing.len() {
-        text.debug(&packed.differing[i]);
-        text.put(" differs\n");
+        said.debug(&packed.differing[i]);
+        said.add(" differs\n");
     }
 }
 
-/// Adds what packing one input answers of it: as it is shown, or its text.
-pub fn tell_alone(packed: &Result<Packed, Error>, as_text: bool, text: &mut Text) {
-    match packed {
-        Ok(packed) => {
-            for i in 0..packed.outcomes.len() {
-                match &packed.outcomes[i] {
-                    Err(fault) if as_text => text.display(fault),
-                    Ok(()) if as_text => text.put("Ok"),
-                    outcome => text.debug(outcome),
-                }
-            }
+/// Says the name of an input, by its number, with its answer.
+pub fn tell_answer(names: &[&str], number: usize, answer: &Result<(), Error>, said: &mut Said) {
+    said.add(names.get(number).copied().unwrap_or("?"));
+    match answer {
+        Ok(()) => said.add(": Ok\n"),
+        Err(fault) => tell_fault(fault, said),
+    }
+}
+
+fn tell_fault(fault: &Error, said: &mut Said) {
+    said.add(": ");
+    said.debug(fault);
+    said.add("\n");
+}
+
+/// Says what packing one input answers of it: as it is shown, or its text.
+pub fn tell_alone(packed: &Packed, as_text: bool, said: &mut Said) {
+    for i in 0..packed.outcomes.len() {
+        match &packed.outcomes[i] {
+            Err(fault) if as_text => said.display(fault),
+            Ok(()) if as_text => said.add("Ok"),
+            outcome => said.debug(outcome),
         }
-        Err(_fault) => text.wrong(Mistake::Memory),
     }
 }
 
 /// `text INPUT`: the text of what packing one input answers of it.
-pub fn text(alloc: Global, table: &Table, words: &[&str], text: &mut Text) {
-    let input = table.joined(words, text);
-    tell_alone(&packed(alloc, &[&input]), true, text);
-    text.put("\n");
+pub fn text(alloc: Global, table: &Table<'_>, words: &[&str], said: &mut Said) {
+    let input = table.joined(words, said);
+    tell_alone(&packed(alloc, &[&input]), true, said);
+    said.add("\n");
 }
 
-/// Adds a line of an input with its answer to a text.
-pub fn tell_answer(text: &mut Text, name: &str, answer: &Result<(), Error>) {
-    text.put(name);
-    match answer {
-        Ok(()) => text.put(": Ok\n"),
-        Err(fault) => {
-            text.put(": ");
-            text.debug(fault);
-            text.put("\n");
-        }
-    }
-}
-
-/// Keeps a file under a name, and adds a line of its length or its fault to a text.
-pub fn keep(table: &mut Table, name: &str, file: &Result<Vec<u8>, Error>, text: &mut Text) {
-    text.put(name);
+/// Keeps a file under a name, and says its length or its fault.
+pub fn keep<'n>(
+    table: &mut Table<'n>,
+    name: &'n str,
+    file: &Result<Vec<u8>, Error>,
+    said: &mut Said,
+) {
+    said.add(name);
     match file {
         Ok(bytes) => {
-            text.number(": ", bytes.len() as u64);
-            text.put(" bytes\n");
-            table.keep_copy(name, bytes, text);
+            said.number(": ", bytes.len() as u64);
+            said.add(" bytes\n");
+            table.keep_copy(name, bytes, said);
         }
-        Err(fault) => {
-            text.put(": ");
-            text.debug(fault);
-            text.put("\n");
-        }
+        Err(fault) => tell_fault(fault, said),
     }
 }
 
 /// `groups FILE [INPUT..] [INPUT..] ..`: the package of the packages of these groups.
-pub fn pack_grouped(alloc: Global, table: &mut Table, words: &[&str], text: &mut Text) {
+pub fn pack_grouped<'n>(alloc: Global, table: &mut Table<'n>, words: &[&'n str], said: &mut Said) {
     if let [file, words @ ..] = words {
-        let bytes = grouped_words(alloc, table, words, text);
-        keep(table, file, &bytes, text);
-    } else {
-        text.wrong(Mistake::Words);
+        let bytes = grouped_words(alloc, table, words, said);
+        keep(table, file, &bytes, said);
     }
 }
 
 /// The same of the words of inputs: the first of a group begins with `[`, the last ends with `]`.
 fn grouped_words(
     alloc: Global,
-    table: &Table,
+    table: &Table<'_>,
     words: &[&str],
-    text: &mut Text,
+    said: &mut Said,
 ) -> Result<Vec<u8>, Error> {
     let mut inputs = Vec::new(alloc);
     let mut starts = Vec::new(alloc);
     for i in 0..words.len() {
-        let (front, input) = halves(words[i], "[");
+        let (front, input) = split(words[i], "[");
         let word = if front.is_empty() { input } else { front };
         if front.is_empty() {
-            text.note(starts.push(inputs.len()).is_ok());
+            said.note_that(starts.push(inputs.len()).is_ok());
         }
-        let (name, _end) = halves(word, "]");
+        let (name, _end) = split(word, "]");
         if !name.is_empty() {
-            let input = table.get(name, text);
-            text.note(inputs.push(input).is_ok());
+            let input = table.get(name, said);
+            said.note_that(inputs.push(input).is_ok());
         }
     }
     grouped(alloc, &inputs, &starts)

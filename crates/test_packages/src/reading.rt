@@ -1,17 +1,15 @@
 //! What the reader of packages says of a file.
 
-use crate::mistake::Mistake;
-use crate::table::{Table, number};
-use crate::text::Text;
+use test_rows::{Said, Table, number};
 use thorin::{
     DebugTypeSignature, DwarfObject, DwoId, PackageError, PackageFile, PackagedUnit, SectionKind,
 };
 
-/// Adds a unit's name to a text.
-pub fn tell_name(text: &mut Text, unit: DwarfObject) {
+/// Says a unit's name.
+pub fn tell_name(said: &mut Said, unit: DwarfObject) {
     match unit {
-        DwarfObject::Compilation(id) => text.number(" cu ", id.0),
-        DwarfObject::TypeUnit(signature) => text.number(" tu ", signature.0),
+        DwarfObject::Compilation(id) => said.number(" cu ", id.0),
+        DwarfObject::TypeUnit(signature) => said.number(" tu ", signature.0),
     }
 }
 
@@ -28,128 +26,126 @@ pub fn found<'a>(
 
 /// `unit FILE KIND ID [FIRST]`: all that the file says of a unit, with its strings from a number
 /// on, or that it is absent, or the fault.
-pub fn unit(table: &Table, words: &[&str], text: &mut Text) {
+pub fn unit(table: &Table<'_>, words: &[&str], said: &mut Said) {
     if let [file, kind, id, rest @ ..] = words {
-        let id = number(id, text) as u64;
+        let id = number(id);
         let name = if *kind == "cu" {
             DwarfObject::Compilation(DwoId(id))
         } else {
             DwarfObject::TypeUnit(DebugTypeSignature(id))
         };
         let first = match rest {
-            [first] => number(first, text) as u64,
+            [first] => number(first),
             _ => 0,
         };
-        tell_unit(&found(table.get(file, text), name), first, text);
+        tell_unit(&found(table.get(file, said), name), first, said);
     } else {
-        text.wrong(Mistake::Words);
+        said.wrong("line", "unit");
     }
 }
 
 fn tell_unit(
     found: &Result<(Option<PackagedUnit<'_>>, u32), PackageError>,
     first: u64,
-    text: &mut Text,
+    said: &mut Said,
 ) {
     match found {
         Err(fault) => {
-            text.debug(fault);
-            text.put("\n");
+            said.debug(fault);
+            said.add("\n");
         }
         Ok((None, slots)) => {
-            text.number("absent, slots ", *slots as u64);
-            text.put("\n");
+            said.number("absent, slots ", *slots as u64);
+            said.add("\n");
         }
         Ok((Some(unit), slots)) => {
-            tell_head(text, unit, *slots);
-            tell_ranges(text, unit);
-            tell_strings(text, unit, first);
+            tell_head(said, unit, *slots);
+            tell_ranges(said, unit);
+            tell_strings(said, unit, first);
         }
     }
 }
 
-fn tell_head(text: &mut Text, unit: &PackagedUnit<'_>, slots: u32) {
+fn tell_head(said: &mut Said, unit: &PackagedUnit<'_>, slots: u32) {
     let encoding = unit.encoding();
-    text.number("version ", encoding.version as u64);
-    text.put(" ");
-    text.debug(&encoding.format);
-    text.number(" address ", encoding.address_size as u64);
-    text.number(" row ", unit.row() as u64);
-    text.number(" slots ", slots as u64);
-    text.put("\nunit ");
-    text.bytes(unit.bytes());
-    text.put("\n");
+    said.number("version ", encoding.version as u64);
+    said.add(" ");
+    said.debug(&encoding.format);
+    said.number(" address ", encoding.address_size as u64);
+    said.number(" row ", unit.row() as u64);
+    said.number(" slots ", slots as u64);
+    said.add("\nunit ");
+    said.hexadecimal(unit.bytes());
+    said.add("\n");
 }
 
 /// Each contribution: its place, its size and its bytes, of many bytes the first 64.
-fn tell_ranges(text: &mut Text, unit: &PackagedUnit<'_>) {
+fn tell_ranges(said: &mut Said, unit: &PackagedUnit<'_>) {
     for kind in SectionKind::ALL {
         if let Some(range) = unit.range(kind) {
-            text.debug(&kind);
-            text.hexadecimal(range.offset.0);
-            text.hexadecimal(range.size);
-            text.put(" ");
-            tell_front(text, unit.section(kind));
+            said.debug(&kind);
+            said.in_hexadecimal(range.offset.0);
+            said.in_hexadecimal(range.size);
+            said.add(" ");
+            tell_front(said, unit.section(kind));
         }
     }
 }
 
-fn tell_front(text: &mut Text, bytes: &[u8]) {
+fn tell_front(said: &mut Said, bytes: &[u8]) {
     match bytes.get(..64) {
         Some(front) => {
-            text.bytes(front);
-            text.put("..\n");
+            said.hexadecimal(front);
+            said.add("..\n");
         }
         None => {
-            text.bytes(bytes);
-            text.put("\n");
+            said.hexadecimal(bytes);
+            said.add("\n");
         }
     }
 }
 
 /// Strings from a number on, or why one can't be read, up to the one that isn't there, or eight.
-fn tell_strings(text: &mut Text, unit: &PackagedUnit<'_>, first: u64) {
-    text.put("strings");
+fn tell_strings(said: &mut Said, unit: &PackagedUnit<'_>, first: u64) {
+    said.add("strings");
     for i in first..first.saturating_add(8) {
-        text.put(" ");
+        said.add(" ");
         match unit.string(i) {
             Ok(Some(string)) => {
-                text.put("\"");
-                text.display(&string.escape_ascii());
-                text.put("\"");
+                said.add("\"");
+                said.display(&string.escape_ascii());
+                said.add("\"");
             }
             Ok(None) => {
-                text.put("none\n");
+                said.add("none\n");
                 return;
             }
-            Err(fault) => text.debug(&fault),
+            Err(fault) => said.debug(&fault),
         }
     }
-    text.put(" ..\n");
+    said.add(" ..\n");
 }
 
 /// `units FILE`: the units that the slots of both indexes name.
-pub fn units(table: &Table, words: &[&str], text: &mut Text) {
+pub fn units(table: &Table<'_>, words: &[&str], said: &mut Said) {
     if let [file] = words {
-        tell_units(table.get(file, text), text);
-    } else {
-        text.wrong(Mistake::Words);
+        tell_units(table.get(file, said), said);
     }
 }
 
-fn tell_units(file: &[u8], text: &mut Text) {
+fn tell_units(file: &[u8], said: &mut Said) {
     match PackageFile::parse(file) {
         Err(fault) => {
-            text.put(" ");
-            text.debug(&fault);
+            said.add(" ");
+            said.debug(&fault);
         }
         Ok(package) => {
             for entry in package.units() {
-                tell_name(text, entry.object);
-                text.number(" row ", entry.row as u64);
-                text.put(",");
+                tell_name(said, entry.object);
+                said.number(" row ", entry.row as u64);
+                said.add(",");
             }
         }
     }
-    text.put("\n");
+    said.add("\n");
 }

@@ -243,6 +243,11 @@ impl Said {
         }
     }
 
+    /// What was said.
+    pub fn as_str(&self) -> &str {
+        self.text.as_str()
+    }
+
     /// The answers.
     pub fn finish(self) -> Result<String, AllocError> {
         if self.is_refused {
@@ -258,9 +263,50 @@ impl Said {
         }
     }
 
-    fn add(&mut self, text: &str) {
+    /// Adds a text as it stands.
+    pub fn add(&mut self, text: &str) {
         let is_done = self.text.push_str(text).is_ok();
         self.note_that(is_done);
+    }
+
+    /// Adds what a value shows by Debug, as it stands.
+    pub fn debug<T: Debug>(&mut self, value: &T) {
+        let is_done = write!(self.text, "{value:?}").is_ok();
+        self.note_that(is_done);
+    }
+
+    /// Adds what a value displays, as it stands.
+    pub fn display<T: Display>(&mut self, value: &T) {
+        let is_done = write!(self.text, "{value}").is_ok();
+        self.note_that(is_done);
+    }
+
+    /// Adds a text and a number.
+    pub fn number(&mut self, text: &str, number: u64) {
+        self.add(text);
+        self.display(&number);
+    }
+
+    /// Adds a number in hexadecimal, behind ` 0x`.
+    pub fn in_hexadecimal(&mut self, number: u64) {
+        let is_done = write!(self.text, " {number:#x}").is_ok();
+        self.note_that(is_done);
+    }
+
+    /// Adds bytes in hexadecimal, in one line.
+    pub fn hexadecimal(&mut self, bytes: &[u8]) {
+        for byte in bytes {
+            self.debug(&Hex(&[*byte]));
+        }
+    }
+
+    /// Adds that something is wrong with a script.
+    pub fn wrong(&mut self, what: &str, word: &str) {
+        self.add("wrong ");
+        self.add(what);
+        self.add(": ");
+        self.add(word);
+        self.add("\n");
     }
 
     /// Begins with the answers of a row.
@@ -281,22 +327,21 @@ impl Said {
     /// Adds an answer, behind `; ` where there is one before it.
     pub fn put<T: Debug>(&mut self, answer: &T) {
         self.separate("; ");
-        let is_done = write!(self.text, "{answer:?}").is_ok();
-        self.note_that(is_done);
+        self.debug(answer);
     }
 
     /// Adds the answer of a call that may be refused and isn't.
     pub fn ok<T: Debug>(&mut self, answer: &T) {
-        self.separate("; ");
-        let is_done = write!(self.text, "Ok({answer:?})").is_ok();
-        self.note_that(is_done);
+        self.word("Ok(");
+        self.debug(answer);
+        self.add(")");
     }
 
     /// Adds why such a call is refused.
     pub fn err<T: Debug>(&mut self, fault: &T) {
-        self.separate("; ");
-        let is_done = write!(self.text, "Err({fault:?})").is_ok();
-        self.note_that(is_done);
+        self.word("Err(");
+        self.debug(fault);
+        self.add(")");
     }
 
     /// Adds a word in place of an answer.
@@ -308,8 +353,9 @@ impl Said {
     /// Adds a fault and its text, in a line of their own behind the first.
     pub fn fault<T: Debug + Display>(&mut self, fault: &T) {
         self.separate("\n    ");
-        let is_done = write!(self.text, "{fault:?}: {fault}").is_ok();
-        self.note_that(is_done);
+        self.debug(fault);
+        self.add(": ");
+        self.display(fault);
     }
 
     /// Adds bytes, or why there are none.

@@ -29,9 +29,11 @@ impl Seen {
     }
 }
 
-/// Asserts that all held.
-pub fn all_held(rt: &impl Abort, seen: &Seen) {
-    says(rt, seen.wrong, "");
+/// Asserts that all held in a case.
+pub fn all_held(rt: &impl Abort, case: &str, seen: &Seen) {
+    if !seen.wrong.is_empty() {
+        says(rt, case, seen.wrong);
+    }
 }
 
 /// Asserts that a text is the one that is wanted.

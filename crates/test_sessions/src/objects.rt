@@ -64,19 +64,22 @@ pub enum Kind {
 
 /// The object of a kind with the compilation unit of an identifier; no bytes where it is refused.
 fn object_of(alloc: Global, kind: Kind, id: u8) -> Vec<u8> {
-    let unit = unit(id);
-    let info = (SectionKind::Info, unit.as_slice());
-    let abbreviations = (SectionKind::Abbrev, ABBREVIATIONS.as_slice());
-    let strings = (SectionKind::Str, b"a\0b\0".as_slice());
-    let offsets = (SectionKind::StrOffsets, [2, 0, 0, 0, 0, 0, 0, 0].as_slice());
-    let types = (SectionKind::Types, TYPE_UNIT.as_slice());
-    let longer = (SectionKind::Types, LONGER_TYPE_UNIT.as_slice());
-    match kind {
-        Kind::Plain => object(alloc, &[info, abbreviations]),
-        Kind::Strings => object(alloc, &[info, abbreviations, strings, offsets]),
-        Kind::Types => object(alloc, &[info, types, abbreviations]),
-        Kind::LongerTypes => object(alloc, &[info, longer, abbreviations]),
-    }
+    let (types, strings, offsets): (&[u8], &[u8], &[u8]) = match kind {
+        Kind::Plain => (&[], &[], &[]),
+        Kind::Strings => (&[], b"a\0b\0", &[2, 0, 0, 0, 0, 0, 0, 0]),
+        Kind::Types => (&TYPE_UNIT, &[], &[]),
+        Kind::LongerTypes => (&LONGER_TYPE_UNIT, &[], &[]),
+    };
+    object(
+        alloc,
+        &[
+            (SectionKind::Info, unit(id).as_slice()),
+            (SectionKind::Types, types),
+            (SectionKind::Abbrev, ABBREVIATIONS.as_slice()),
+            (SectionKind::Str, strings),
+            (SectionKind::StrOffsets, offsets),
+        ],
+    )
 }
 
 /// The same, by a second try where the first was refused.
@@ -145,25 +148,31 @@ pub enum Naming {
 
 /// That executable; no bytes where it is refused.
 pub fn executable(alloc: Global, naming: Naming) -> Vec<u8> {
-    let five = naming_unit(5, 0x61, 0);
-    match naming {
-        Naming::Unit(id) => with_units(alloc, &NAMING_ONE, [&naming_unit(id, 0x61, 0), &[], &[]]),
-        Naming::Whole(id) => with_units(alloc, &NAMING, [&naming_unit(id, 0x61, 0), &[], &[]]),
-        Naming::Twice => with_units(alloc, &NAMING_ONE, [&five, &five, &[]]),
-        Naming::Relocated => relocated(alloc),
-        Naming::WithType => with_units(alloc, &NAMING, [&NAMELESS_TYPE, &five, &[]]),
-        Naming::WithNameless => with_units(alloc, &NAMING, [&NAMELESS, &five, &[]]),
-        Naming::Three => with_three(alloc),
-    }
+    let (id, place) = match naming {
+        Naming::Unit(id) | Naming::Whole(id) => (id, 0),
+        Naming::Relocated => (5, 0x77),
+        Naming::Three => (1, 0),
+        Naming::Twice | Naming::WithType | Naming::WithNameless => (5, 0),
+    };
+    let unit = naming_unit(id, 0x61, place);
+    let (two, three) = (naming_unit(2, 0x62, 0), naming_unit(3, 0x63, 0));
+    let (before, behind): (&[u8], [&[u8]; 2]) = match naming {
+        Naming::WithType => (&NAMELESS_TYPE, [&[], &[]]),
+        Naming::WithNameless => (&NAMELESS, [&[], &[]]),
+        Naming::Twice => (&[], [&unit, &[]]),
+        Naming::Three => (&[], [&two, &three]),
+        Naming::Unit(_) | Naming::Whole(_) | Naming::Relocated => (&[], [&[], &[]]),
+    };
+    made(alloc, naming, [before, &unit, behind[0], behind[1]])
 }
 
-fn with_three(alloc: Global) -> Vec<u8> {
-    let (one, two) = (naming_unit(1, 0x61, 0), naming_unit(2, 0x62, 0));
-    with_units(alloc, &NAMING, [&one, &two, &naming_unit(3, 0x63, 0)])
-}
-
-/// The executable with these abbreviations and units.
-fn with_units(alloc: Global, abbreviations: &[u8], units: [&[u8]; 3]) -> Vec<u8> {
+/// The executable of these units. The names of its sections lose their end `.dwo`.
+fn made(alloc: Global, naming: Naming, units: [&[u8]; 4]) -> Vec<u8> {
+    let (abbreviations, relocation): (&[u8], &[u8]) = match naming {
+        Naming::Unit(_) | Naming::Twice => (&NAMING_ONE, &[]),
+        Naming::Relocated => (&NAMING, &RELOCATION),
+        _ => (&NAMING, &[]),
+    };
     let mut file = object(
         alloc,
         &[
@@ -171,33 +180,18 @@ fn with_units(alloc: Global, abbreviations: &[u8], units: [&[u8]; 3]) -> Vec<u8>
             (SectionKind::Info, units[0]),
             (SectionKind::Info, units[1]),
             (SectionKind::Info, units[2]),
+            (SectionKind::Info, units[3]),
+            (SectionKind::Line, relocation),
         ],
     );
-    put_names(&mut file);
-    file
-}
-
-/// The names of its sections lose their end `.dwo`.
-fn put_names(file: &mut Vec<u8>) {
-    put_name(file, b".debug_abbrev.dwo", b".debug_abbrev\0");
-    put_name(file, b".debug_info.dwo", b".debug_info\0");
-}
-
-fn relocated(alloc: Global) -> Vec<u8> {
-    let unit = naming_unit(5, 0x61, 0x77);
-    let mut file = object(
-        alloc,
-        &[
-            (SectionKind::Abbrev, NAMING.as_slice()),
-            (SectionKind::Info, unit.as_slice()),
-            (SectionKind::Line, RELOCATION.as_slice()),
-        ],
-    );
-    put_names(&mut file);
-    // Contents and names end at 197, so the section headers stand at 200. The third one becomes a
-    // RELA section (ELF gABI, sh_type 4) of the second one (sh_info).
-    put(&mut file, 396, &[4]);
-    put(&mut file, 436, &[2]);
+    put_name(&mut file, b".debug_abbrev.dwo", b".debug_abbrev\0");
+    put_name(&mut file, b".debug_info.dwo", b".debug_info\0");
+    if !relocation.is_empty() {
+        // Contents and names end at 197, so the section headers stand at 200. The third one becomes a
+        // RELA section (ELF gABI, sh_type 4) of the second one (sh_info).
+        put(&mut file, 396, &[4]);
+        put(&mut file, 436, &[2]);
+    }
     file
 }
 

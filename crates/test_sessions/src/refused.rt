@@ -13,7 +13,6 @@ use dwp_index::{PackageFile, PackagedUnit};
 use dwp_table::{DebugTypeSignature, DwarfObject, DwoId};
 use std::alloc::Global;
 use std::collections::BTreeMap;
-use std::process::Abort;
 use thorin::{DwarfPackage, Packed};
 use thorin_faults::{Error, MemorySession, MissingReferencedObjectBehaviour, Session};
 
@@ -35,7 +34,7 @@ struct Case {
 }
 
 /// How objects are given.
-#[derive(Clone, Copy, PartialEq)]
+#[derive(Clone, Copy)]
 enum Given {
     /// One after the other.
     Each,
@@ -43,6 +42,10 @@ enum Given {
     Packed,
     /// By an executable that names the first.
     Named,
+    /// One after the other, and none is given again that was refused.
+    Once,
+    /// At once, where each refusal is told.
+    Told,
 }
 
 const FIVE: DwarfObject = DwarfObject::Compilation(DwoId(5));
@@ -118,61 +121,106 @@ const EXECUTABLE: Case = Case {
     ..NEW
 };
 
-/// Adds an input. What was refused has added no unit and no type unit that differs, and is added by
-/// a second try: want of memory is never passed over.
-fn add_surely<'o, 's: 'o, S: Session<RelocationEntry>>(
+const ONCE: Case = Case {
+    objects: &[(Kind::Plain, 6), (Kind::Strings, 5)],
+    given: Given::Once,
+    units: &[SIX, FIVE],
+    ..EXECUTABLE
+};
+
+const TOLD: Case = Case {
+    given: Given::Told,
+    ..TWO
+};
+
+/// The cases, each with what it is called where it fails.
+const CASES: [(&'static str, Case); 9] = [
+    ("a new package", NEW),
+    ("a package", TWO),
+    ("strings", STRINGS),
+    ("type units", TYPES),
+    ("a package as input", PACKAGE),
+    ("differing type units", DIFFERING),
+    ("an executable", EXECUTABLE),
+    ("an object that is refused", ONCE),
+    ("packing at once", TOLD),
+];
+
+/// Adds an input; whether it is added. What was refused has added no unit and no type unit that
+/// differs, and is added by a second try where there may be one: want of memory is never passed over.
+fn is_added<'o, 's: 'o, S: Session<RelocationEntry>>(
     builder: &mut DwarfPackage<'o, 's, S>,
     step: Step<'_>,
+    case: &Case,
     seen: &mut Seen,
-) {
-    let (units, differing) = counts(builder, seen);
-    let answer = add(builder, step);
+) -> bool {
+    let before = counts(builder, seen);
+    let mut answer = add(builder, step);
     if answer != "Ok" {
         seen.expect(MEMORY, answer == "Memory");
         let now = counts(builder, seen);
-        seen.expect("no unit is added", now.0 == units);
-        seen.expect("no type unit differs more", now.1 == differing);
-        seen.expect(SECOND, add(builder, step) == "Ok");
+        seen.expect("no unit is added", now.0 == before.0);
+        seen.expect("no type unit differs more", now.1 == before.1);
+        if !matches!(case.given, Given::Once) {
+            answer = add(builder, step);
+            seen.expect(SECOND, answer == "Ok");
+        }
     }
+    answer == "Ok"
 }
 
-/// The file of a package, by the calls of a builder: it has the units of a case and no others.
+/// The file of a package, by the calls of a builder, and how many inputs it has, up to the first that
+/// was refused: where it has all, it has the units of a case and no others.
 fn added<'s, S: Session<RelocationEntry>>(
     alloc: Global,
     session: &'s S,
     steps: &[Step<'_>],
     case: &Case,
     seen: &mut Seen,
-) -> Vec<u8> {
+) -> (Vec<u8>, usize) {
     let mut builder = DwarfPackage::new(alloc, session);
+    let mut count = 0usize;
     for i in 0..steps.len() {
-        add_surely(&mut builder, steps[i], seen);
+        if is_added(&mut builder, steps[i], case, seen) && count == i {
+            count = i + 1;
+        }
     }
-    let (units, differing) = counts(&builder, seen);
+    if count == steps.len() {
+        hold_units(&builder, case, seen);
+    }
+    (file_of(alloc, &builder.finish(), seen), count)
+}
+
+fn hold_units<'o, 's: 'o, S: Session<RelocationEntry>>(
+    builder: &DwarfPackage<'o, 's, S>,
+    case: &Case,
+    seen: &mut Seen,
+) {
+    let (units, differing) = counts(builder, seen);
     seen.expect("there are so many units", units == case.units.len());
     seen.expect("so many type units differ", differing == case.differing);
     for i in 0..case.units.len() {
         let is_there = builder.contained_units().contains(&case.units[i]);
         seen.expect("each unit is there", is_there);
     }
-    file_of(alloc, &builder.finish(), seen)
 }
 
-/// The same, and all of it by a second try where it was refused to finish it.
+/// The same, and all of it by a second try where it was refused to finish it, or where the first
+/// input was refused.
 fn added_surely(
     alloc: Global,
     files: &Files,
     steps: &[Step<'_>],
     case: &Case,
     seen: &mut Seen,
-) -> Vec<u8> {
+) -> (Vec<u8>, usize) {
     let bump = Bump::new(alloc);
     let session = MemorySession::new(&bump, files);
-    let mut file = added(alloc, &session, steps, case, seen);
-    if file.is_empty() {
-        file = added(alloc, &session, steps, case, seen);
+    let mut made = added(alloc, &session, steps, case, seen);
+    if made.0.is_empty() || made.1 == 0 {
+        made = added(alloc, &session, steps, case, seen);
     }
-    file
+    made
 }
 
 /// An object of a case; no bytes where it has no such one.
@@ -185,20 +233,20 @@ fn object(alloc: Global, case: &Case, number: usize) -> Vec<u8> {
 
 fn hold_case(alloc: Global, case: &Case, seen: &mut Seen) {
     let (one, two) = (object(alloc, case, 0), object(alloc, case, 1));
-    if case.given == Given::Packed {
-        hold_objects(alloc, &[&sure_whole(alloc, &[&one])], case, seen);
-    } else if two.is_empty() {
-        hold_objects(alloc, &[&one], case, seen);
-    } else {
-        hold_objects(alloc, &[&one, &two], case, seen);
+    match case.given {
+        Given::Packed => hold_objects(alloc, &[&sure_whole(alloc, &[&one])], case, seen),
+        Given::Named => hold_objects(alloc, &[&one], case, seen),
+        Given::Told => tell(alloc, &[&one, &two], seen),
+        Given::Each if two.is_empty() => hold_objects(alloc, &[&one], case, seen),
+        Given::Each | Given::Once => hold_objects(alloc, &[&one, &two], case, seen),
     }
 }
 
-/// Whether a builder gives the file that packing gives where no memory is refused, and what is in
-/// it.
+/// Whether a builder gives the file that packing what it took gives where no memory is refused, and
+/// what is in it.
 fn hold_objects(alloc: Global, objects: &[&[u8]], case: &Case, seen: &mut Seen) {
     let mut steps = [Step::Named(MissingReferencedObjectBehaviour::Skip); 2];
-    if case.given != Given::Named {
+    if !matches!(case.given, Given::Named) {
         for i in 0..2 {
             if i < objects.len() {
                 steps[i] = Step::Bytes(objects[i]);
@@ -206,8 +254,8 @@ fn hold_objects(alloc: Global, objects: &[&[u8]], case: &Case, seen: &mut Seen) 
         }
     }
     let steps = steps.get(..objects.len()).unwrap_or(&[]);
-    let file = added_surely(alloc, &files_of(alloc, case), steps, case, seen);
-    let whole = sure_whole(alloc, objects);
+    let (file, count) = added_surely(alloc, &files_of(alloc, case), steps, case, seen);
+    let whole = sure_whole(alloc, objects.get(..count).unwrap_or(&[]));
     seen.expect("there is a file", !file.is_empty());
     seen.expect(
         "packing gives the same",
@@ -255,7 +303,7 @@ fn has_string(unit: &PackagedUnit<'_>, string: Option<&[u8]>) -> bool {
 /// The files of a session: of a case that has one the executable, and the object that it names.
 fn files_of(alloc: Global, case: &Case) -> Files {
     let mut files = BTreeMap::new(alloc);
-    if case.given == Given::Named && !put_named(alloc, &mut files) {
+    if matches!(case.given, Given::Named) && !put_named(alloc, &mut files) {
         put_named(alloc, &mut files);
     }
     files
@@ -266,99 +314,15 @@ fn put_named(alloc: Global, files: &mut Files) -> bool {
     put_file(alloc, files, "/e", executable) && put_object(alloc, files, "/b/a.dwo", 5)
 }
 
-/// The test of a case.
-fn hold(rt: &impl Abort, alloc: Global, case: &Case) {
-    let mut seen = Seen::new();
-    hold_case(alloc, case, &mut seen);
-    all_held(rt, &seen);
-}
-
+/// What is given is in the file, and nothing else is.
 #[test]
-fn a_refused_allocation_leaves_a_new_package(rt: HostRuntime) {
-    hold(&rt, rt.alloc(), &NEW);
-}
-
-#[test]
-fn a_refused_allocation_leaves_a_package(rt: HostRuntime) {
-    hold(&rt, rt.alloc(), &TWO);
-}
-
-#[test]
-fn a_refused_allocation_leaves_the_strings(rt: HostRuntime) {
-    hold(&rt, rt.alloc(), &STRINGS);
-}
-
-#[test]
-fn a_refused_allocation_leaves_the_type_units(rt: HostRuntime) {
-    hold(&rt, rt.alloc(), &TYPES);
-}
-
-#[test]
-fn a_refused_allocation_leaves_a_package_as_input(rt: HostRuntime) {
-    hold(&rt, rt.alloc(), &PACKAGE);
-}
-
-#[test]
-fn a_refused_allocation_leaves_the_differing_types(rt: HostRuntime) {
-    hold(&rt, rt.alloc(), &DIFFERING);
-}
-
-#[test]
-fn a_refused_allocation_leaves_an_executable(rt: HostRuntime) {
-    hold(&rt, rt.alloc(), &EXECUTABLE);
-}
-
-/// The file of a package of an object and, where it isn't refused, of a second one; and whether that
-/// one was added. No bytes where the first one was refused, or the package.
-fn added_once<'s, S: Session<RelocationEntry>>(
-    alloc: Global,
-    session: &'s S,
-    objects: [&[u8]; 2],
-    seen: &mut Seen,
-) -> (Vec<u8>, bool) {
-    let mut builder = DwarfPackage::new(alloc, session);
-    let one = add(&mut builder, Step::Bytes(objects[0]));
-    let two = add(&mut builder, Step::Bytes(objects[1]));
-    seen.expect(MEMORY, one == "Ok" || one == "Memory");
-    seen.expect(MEMORY, two == "Ok" || two == "Memory");
-    let file = file_of(alloc, &builder.finish(), seen);
-    if one == "Ok" {
-        (file, two == "Ok")
-    } else {
-        (Vec::new(alloc), false)
+fn a_refused_allocation_leaves_the_rest(rt: HostRuntime) {
+    for i in 0..CASES.len() {
+        let (name, case) = &CASES[i];
+        let mut seen = Seen::new();
+        hold_case(rt.alloc(), case, &mut seen);
+        all_held(&rt, name, &seen);
     }
-}
-
-fn added_once_surely(alloc: Global, objects: [&[u8]; 2], seen: &mut Seen) -> (Vec<u8>, bool) {
-    let bump = Bump::new(alloc);
-    let files = BTreeMap::new(alloc);
-    let session = MemorySession::new(&bump, &files);
-    let mut made = added_once(alloc, &session, objects, seen);
-    if made.0.is_empty() {
-        made = added_once(alloc, &session, objects, seen);
-    }
-    made
-}
-
-/// The file is that of both objects, or of the first where the second was refused.
-fn hold_once(alloc: Global, objects: [&[u8]; 2], seen: &mut Seen) {
-    let (file, is_added) = added_once_surely(alloc, objects, seen);
-    let count = if is_added { 2 } else { 1 };
-    let whole = sure_whole(alloc, objects.get(..count).unwrap_or(&[]));
-    seen.expect("there is a file", !file.is_empty());
-    seen.expect(
-        "packing gives the same",
-        file.as_slice() == whole.as_slice(),
-    );
-}
-
-#[test]
-fn a_refused_object_is_not_in_the_file(rt: HostRuntime) {
-    let mut seen = Seen::new();
-    let six = sure(rt.alloc(), Kind::Plain, 6);
-    let strings = sure(rt.alloc(), Kind::Strings, 5);
-    hold_once(rt.alloc(), [&six, &strings], &mut seen);
-    all_held(&rt, &seen);
 }
 
 /// Tells each refusal of packing two objects: of the whole call, of an object, of the file, whose
@@ -394,13 +358,4 @@ fn tell_packed(packed: &Packed, seen: &mut Seen) {
             seen.expect(MEMORY, matches!(fault, Error::Memory));
         }
     }
-}
-
-#[test]
-fn a_refused_allocation_of_packing_is_told(rt: HostRuntime) {
-    let mut seen = Seen::new();
-    let five = sure(rt.alloc(), Kind::Plain, 5);
-    let six = sure(rt.alloc(), Kind::Plain, 6);
-    tell(rt.alloc(), &[&five, &six], &mut seen);
-    all_held(&rt, &seen);
 }

@@ -5,14 +5,13 @@ use crate::building::{Step, add, file_of, name_of, whole};
 use crate::counting::{CountingSession, Refusal};
 use crate::objects::{Files, Kind, Naming, executable, put_file, put_object, sure};
 use bumpalo::Bump;
-use dwp_bytes::RelocationEntry;
 use dwp_elf::WritableObject;
 use dwp_table::DwarfObject;
 use std::alloc::Global;
 use std::collections::BTreeMap;
 use std::path::{AsPath, Path};
 use thorin::{Bucketable, DwarfPackage, Input, Packed, pack};
-use thorin_faults::{Error, Session};
+use thorin_faults::Error;
 
 /// Which objects there are.
 #[derive(Clone, Copy)]
@@ -69,46 +68,34 @@ pub fn told(
     put_all(alloc, naming, objects, &mut files);
     let bump = Bump::new(alloc);
     let session = CountingSession::new(&bump, &files, refusal);
-    let ran = run_all(alloc, &session, steps);
+    let mut text = String::new(alloc);
+    let file = run_all(alloc, &session, steps, &mut text);
     let packing = CountingSession::new(&bump, &files, refusal);
-    let is_alike = is_packed_so(alloc, &packing, steps, &ran);
-    text_of(alloc, &ran, &session, is_alike)
-}
-
-/// What came of inputs: what was answered of each, the units, those that are missing, and the file
-/// or why there is none.
-#[derive(Drop)]
-struct Ran {
-    answers: String,
-    has: Vec<DwarfObject>,
-    lacks: Vec<DwarfObject>,
-    file: Vec<u8>,
-    fault: String,
-}
-
-fn run_all<'s, S: Session<RelocationEntry>>(
-    alloc: Global,
-    session: &'s S,
-    steps: &[Step<'_>],
-) -> Ran {
-    let mut builder = DwarfPackage::new(alloc, session);
-    let mut answers = String::new(alloc);
-    for i in 0..steps.len() {
-        put(&mut answers, add(&mut builder, steps[i]));
-        put(&mut answers, " ");
+    if !is_packed_so(alloc, &packing, steps, text.as_str(), &file) {
+        put(&mut text, ", packed it is another");
     }
+    text
+}
+
+/// The file of inputs, by a builder; no bytes where there is none. Tells what came of them.
+fn run_all<'s>(
+    alloc: Global,
+    session: &'s CountingSession<'s>,
+    steps: &[Step<'_>],
+    text: &mut String,
+) -> Vec<u8> {
+    let mut builder = DwarfPackage::new(alloc, session);
+    for i in 0..steps.len() {
+        put(text, add(&mut builder, steps[i]));
+        put(text, " ");
+    }
+    put_calls(text, session);
     let has = builder.contained_units().iter().copied().collect(alloc);
     let lacks = builder.missing_targets().collect(alloc);
-    let object = builder.finish();
-    let mut fault = String::new(alloc);
-    put_fault(&mut fault, &object);
-    Ran {
-        answers,
-        has: has.unwrap_or(Vec::new(alloc)),
-        lacks: lacks.unwrap_or(Vec::new(alloc)),
-        file: file_of(alloc, &object, &mut Seen::new()),
-        fault,
-    }
+    let has = has.unwrap_or(Vec::new(alloc));
+    put_units(text, ", has", &has);
+    put_units(text, ", lacks", &lacks.unwrap_or(Vec::new(alloc)));
+    put_file_of(alloc, text, &builder.finish(), &has)
 }
 
 /// Writes a word behind a text. Where memory runs out, the text is another than the row's.
@@ -120,19 +107,53 @@ fn put_number(text: &mut String, number: u64) {
     let _ = write!(text, "{number}");
 }
 
-/// Writes why there is no package.
-fn put_fault(text: &mut String, object: &Result<WritableObject, Error>) {
-    if let Err(fault) = object {
-        let _ = write!(text, "{fault}");
+/// Writes how many reads there were, and whether a placing was refused.
+fn put_calls(text: &mut String, session: &CountingSession<'_>) {
+    put_number(text, session.reads() as u64);
+    if session.has_refused_placing() {
+        put(text, " refused");
     }
 }
 
-/// Whether packing the inputs at once answers the same, and gives the same file.
-fn is_packed_so<'s, S: Session<RelocationEntry>>(
+/// Writes the numbers of units behind a text.
+fn put_units(text: &mut String, word: &str, units: &[DwarfObject]) {
+    put(text, word);
+    for i in 0..units.len() {
+        put(text, " ");
+        put_number(text, units[i].index());
+    }
+}
+
+/// The file; writes its size, and whether it is that of these units, or why there is none.
+fn put_file_of(
     alloc: Global,
-    session: &'s S,
+    text: &mut String,
+    object: &Result<WritableObject, Error>,
+    units: &[DwarfObject],
+) -> Vec<u8> {
+    put(text, ": ");
+    let file = file_of(alloc, object, &mut Seen::new());
+    match object {
+        Err(fault) => {
+            let _ = write!(text, "{fault}");
+        }
+        Ok(_object) => {
+            put_number(text, file.len() as u64);
+            put(text, " bytes, ");
+            let is_theirs = is_made_of(alloc, &file, units);
+            put(text, if is_theirs { "theirs" } else { "another file" });
+        }
+    }
+    file
+}
+
+/// Whether packing the inputs at once answers the same, as the text begins, and gives the same file.
+fn is_packed_so<'s>(
+    alloc: Global,
+    session: &'s CountingSession<'s>,
     steps: &[Step<'static>],
-    ran: &Ran,
+    text: &str,
+    file: &[u8],
 ) -> bool {
     let mut inputs = Vec::new(alloc);
     for i in 0..steps.len() {
@@ -146,64 +167,19 @@ fn is_packed_so<'s, S: Session<RelocationEntry>>(
         });
     }
     match pack(alloc, session, &inputs) {
-        Ok(packed) => is_so(alloc, packed, ran),
+        Ok(packed) => packed.outcomes.len() == steps.len() && is_so(alloc, packed, text, file),
         Err(_) => false,
     }
 }
 
-fn is_so(alloc: Global, packed: Packed, ran: &Ran) -> bool {
-    let mut text = String::new(alloc);
+fn is_so(alloc: Global, packed: Packed, text: &str, file: &[u8]) -> bool {
+    let mut answers = String::new(alloc);
     for i in 0..packed.outcomes.len() {
-        put(&mut text, name_of(&packed.outcomes[i]));
-        put(&mut text, " ");
+        put(&mut answers, name_of(&packed.outcomes[i]));
+        put(&mut answers, " ");
     }
-    let file = packed.file.unwrap_or(Vec::new(alloc));
-    text.as_str() == ran.answers.as_str() && file.as_slice() == ran.file.as_slice()
-}
-
-fn text_of(alloc: Global, ran: &Ran, session: &CountingSession<'_>, is_alike: bool) -> String {
-    let mut text = String::new(alloc);
-    put(&mut text, ran.answers.as_str());
-    put_number(&mut text, session.reads() as u64);
-    if session.has_refused_placing() {
-        put(&mut text, " refused");
-    }
-    put(&mut text, ", has");
-    put_units(&mut text, &ran.has);
-    put(&mut text, ", lacks");
-    put_units(&mut text, &ran.lacks);
-    put(&mut text, ": ");
-    put_file_of(alloc, &mut text, ran);
-    if !is_alike {
-        put(&mut text, ", packed it is another");
-    }
-    text
-}
-
-/// Writes the numbers of units behind a text.
-fn put_units(text: &mut String, units: &[DwarfObject]) {
-    for i in 0..units.len() {
-        put(text, " ");
-        put_number(text, units[i].index());
-    }
-}
-
-/// Writes the size of the file of these units, or why there is none.
-fn put_file_of(alloc: Global, text: &mut String, ran: &Ran) {
-    if ran.file.is_empty() {
-        put(text, ran.fault.as_str());
-    } else {
-        put_number(text, ran.file.len() as u64);
-        let is_theirs = is_made_of(alloc, &ran.file, &ran.has);
-        put(
-            text,
-            if is_theirs {
-                " bytes, theirs"
-            } else {
-                " bytes, another file"
-            },
-        );
-    }
+    let packed = packed.file.unwrap_or(Vec::new(alloc));
+    text.starts_with(answers.as_str()) && packed.as_slice() == file
 }
 
 /// Whether the file is that of the plain objects of these units, in order.

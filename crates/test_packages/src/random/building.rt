@@ -1,20 +1,19 @@
 //! Damaged inputs for the builder: objects and packages.
 
-use crate::packing::{grouped, packed};
-use crate::random::builders::{Built, Fault, build_by};
-use crate::random::damage::damage;
-use crate::random::generator::Generator;
+use crate::builders::{Built, build_bytes};
+use crate::packing::{accepted, grouped, packed};
 use crate::random::reading::read_packaged;
-use crate::random::tally::{self, Tally};
+use crate::tally::{self, Tally};
 use std::alloc::Global;
-use thorin::{Bump, BytesSession, DwarfObject, Error, PackageFile, Packed};
+use test_rows::{Generator, Said};
+use thorin::{DwarfObject, Error, PackageFile};
 
 /// Gives a few samples, some of them damaged, to the builder, to `pack` and to `pack_groups`, and
 /// holds what they answer against one another.
 pub fn build(alloc: Global, generator: &mut Generator, samples: &[&[u8]], tally: &mut Tally) {
     let mut few = Vec::new(alloc);
     for _ in 0..generator.below(5) + 1 {
-        let input = maybe_damaged(alloc, generator, samples);
+        let input = generator.one_of(alloc, samples, false);
         tally.expect(few.push(input).is_ok());
     }
     let mut inputs = Vec::new(alloc);
@@ -37,56 +36,25 @@ fn compare(alloc: Global, inputs: &[&[u8]], tally: &mut Tally) {
     compare_groups(alloc, &built, tally);
 }
 
-/// One of the samples; no bytes where there are none, or no memory.
-pub fn sample(alloc: Global, generator: &mut Generator, samples: &[&[u8]]) -> Vec<u8> {
-    let sample = generator.one_of(samples);
-    sample.to_vec(alloc).unwrap_or(Vec::new(alloc))
-}
-
-/// One of the samples, as it is or damaged; about half of them are.
-pub fn maybe_damaged(alloc: Global, generator: &mut Generator, samples: &[&[u8]]) -> Vec<u8> {
-    let mut bytes = sample(alloc, generator, samples);
-    if generator.below(2) == 0 {
-        damage(generator, &mut bytes);
-    }
-    bytes
-}
-
 fn build_each<'i>(alloc: Global, inputs: &[&'i [u8]], tally: &mut Tally) -> Built<'i> {
-    let arena = Bump::new(alloc);
-    let session = BytesSession::new(&arena);
-    build_by(alloc, &session, inputs, None, tally)
+    build_bytes(alloc, (&[], inputs), tally, &mut Said::new(alloc))
 }
 
 /// Packs inputs at once: as many are accepted as the builder accepts, and the file is that of the
 /// builder.
 fn pack_all(alloc: Global, inputs: &[&[u8]], built: &Built<'_>, tally: &mut Tally) {
-    match &packed(alloc, inputs) {
-        Ok(packed) => {
-            tally.expect(packed.outcomes.len() == inputs.len());
-            let accepted = accepted_count(packed, tally);
-            tally.expect(accepted == built.accepted.len());
-            tally.expect(is_file(&packed.file, &built.file));
-        }
-        Err(_fault) => tally.expect(false),
-    }
-}
-
-/// How many inputs were accepted.
-fn accepted_count(packed: &Packed, tally: &mut Tally) -> usize {
-    let mut count = 0usize;
+    let packed = packed(alloc, inputs);
+    let accepted = accepted(&packed);
     for i in 0..packed.outcomes.len() {
-        let is_accepted = packed.outcomes[i].is_ok();
-        tally.note(tally::PACKED, is_accepted);
-        if is_accepted {
-            count = count.saturating_add(1);
-        }
+        tally.note(tally::PACKED, i < accepted);
     }
-    count
+    tally.expect(packed.outcomes.len() == inputs.len());
+    tally.expect(accepted == built.accepted.len());
+    tally.expect(is_file(&packed.file, &built.file));
 }
 
 /// Whether the packed file is this one, or there is none.
-fn is_file(packed: &Result<Vec<u8>, Error>, file: &Result<Vec<u8>, Fault>) -> bool {
+fn is_file(packed: &Result<Vec<u8>, Error>, file: &Result<Vec<u8>, Error>) -> bool {
     match (packed, file) {
         (Ok(packed), Ok(file)) => packed.as_slice() == file.as_slice(),
         (Err(_), Err(_)) => true,
@@ -114,9 +82,10 @@ pub fn read_back(file: &[u8], units: &[DwarfObject], tally: &mut Tally) {
 /// section is in no row of it.
 fn pack_again(alloc: Global, file: &[u8], units: &[DwarfObject], tally: &mut Tally) {
     let again = build_each(alloc, &[file], tally);
-    tally.expect(match again.fault {
-        None => again.file.is_ok(),
-        Some(fault) => matches!(fault, Fault::SectionNotInRow),
+    tally.expect(if again.accepted.is_empty() {
+        again.is_outside
+    } else {
+        again.file.is_ok()
     });
     if let Ok(file) = &again.file {
         read_back(file, units, tally);

@@ -1,13 +1,14 @@
 //! Damaged inputs for the builder: executables, and the objects that they name.
 
-use crate::random::builders::{EXECUTABLE, Fault, build_by};
-use crate::random::building::{maybe_damaged, read_back};
-use crate::random::generator::Generator;
-use crate::random::tally::{self, Tally};
+use crate::builders::{EXECUTABLE, build_by};
+use crate::random::building::read_back;
+use crate::tally::{self, Tally};
 use std::alloc::Global;
 use std::collections::BTreeMap;
+use test_rows::{Generator, Said};
 use thorin::{
-    Bump, BytesSession, MemorySession, MissingReferencedObjectBehaviour, SkeletonList, skeletons,
+    Bump, BytesSession, Error, MemorySession, MissingReferencedObjectBehaviour, SkeletonList,
+    skeletons,
 };
 
 /// The files of a session, by their paths.
@@ -27,12 +28,12 @@ pub fn refer(
     } else {
         MissingReferencedObjectBehaviour::Error
     };
-    let first = maybe_damaged(alloc, generator, samples);
+    let first = generator.one_of(alloc, samples, false);
     let mut files = BTreeMap::new(alloc);
-    let executable = maybe_damaged(alloc, generator, &[executable]);
+    let executable = generator.one_of(alloc, &[executable], false);
     let list = listed(alloc, &executable, tally);
     for i in 0..list.units.len() {
-        let object = maybe_damaged(alloc, generator, samples);
+        let object = generator.one_of(alloc, samples, false);
         tally.expect(put(alloc, &mut files, list.units[i].path.as_str(), object));
     }
     tally.expect(put(alloc, &mut files, EXECUTABLE, executable));
@@ -66,9 +67,11 @@ fn give(
 ) {
     let arena = Bump::new(alloc);
     let session = MemorySession::new(&arena, files);
-    let built = build_by(alloc, &session, &[first], Some(missing), tally);
-    let is_missing = matches!(built.file, Err(Fault::MissingUnit));
-    tally.expect(is_missing != built.end.missing.is_empty());
+    let inputs: (&[&str], &[&[u8]]) = (&[], &[first]);
+    let mut said = Said::new(alloc);
+    let built = build_by(alloc, &session, inputs, Some(missing), tally, &mut said);
+    let is_missing = matches!(built.file, Err(Error::MissingReferencedUnit(_)));
+    tally.expect(is_missing == built.end.lacks_units);
     if let Ok(file) = &built.file {
         read_back(file, &built.end.units, tally);
     }

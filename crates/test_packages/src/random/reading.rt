@@ -2,7 +2,7 @@
 
 ghost use Rattle.std.specs.Prelude.{◌≡◌};
 
-use crate::random::tally::{self, Tally};
+use crate::tally::{self, Tally};
 use dwp_base::{Endianness, SectionKind};
 use dwp_dwarf::{
     Abbreviation, AbbreviationCache, Abbreviations, Attribute, Format, ReadError, Reader, Relocate,

@@ -1,6 +1,6 @@
 //! What an executable names.
 
-use crate::asserting::{MEMORY, SECOND, Seen, all_held};
+use crate::asserting::{MEMORY, SECOND, Seen};
 use crate::objects::{Naming, executable};
 use bumpalo::Bump;
 use std::alloc::Global;
@@ -27,13 +27,10 @@ fn is_listed(alloc: Global, bytes: &[u8], seen: &mut Seen) -> bool {
 }
 
 /// Where memory is refused, all is listed again.
-#[test]
-fn a_refused_allocation_is_want_of_memory(rt: HostRuntime) {
-    let mut seen = Seen::new();
-    let bytes = executable(rt.alloc(), Naming::Twice);
-    if !bytes.is_empty() && !is_listed(rt.alloc(), &bytes, &mut seen) {
-        let is_done = is_listed(rt.alloc(), &bytes, &mut seen);
+pub fn hold(alloc: Global, seen: &mut Seen) {
+    let bytes = executable(alloc, Naming::Twice);
+    if !bytes.is_empty() && !is_listed(alloc, &bytes, seen) {
+        let is_done = is_listed(alloc, &bytes, seen);
         seen.expect(SECOND, is_done);
     }
-    all_held(&rt, &seen);
 }

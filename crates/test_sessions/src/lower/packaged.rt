@@ -1,6 +1,6 @@
 //! Rows by place, and string offsets of a package.
 
-use crate::asserting::{MEMORY, Seen, all_held};
+use crate::asserting::{MEMORY, Seen};
 use dwp_base::{Contribution, ContributionOffset, Endianness, SectionKind};
 use dwp_bytes::{Encoding, Format};
 use dwp_index::{DwarfObject, DwoId, UnitIndex};
@@ -113,12 +113,10 @@ fn hold_index(alloc: Global, index: &[u8], seen: &mut Seen) {
     }
 }
 
-#[test]
-fn a_refused_allocation_is_want_of_memory(rt: HostRuntime) {
-    let mut seen = Seen::new();
-    match index(rt.alloc()) {
-        Ok(index) => hold_index(rt.alloc(), &index, &mut seen),
+/// Writes an index, and asks for a row and for strings by it.
+pub fn hold(alloc: Global, seen: &mut Seen) {
+    match index(alloc) {
+        Ok(index) => hold_index(alloc, &index, seen),
         Err(fault) => seen.expect(MEMORY, matches!(fault, Error::Memory)),
     }
-    all_held(&rt, &seen);
 }

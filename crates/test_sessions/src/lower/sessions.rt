@@ -1,6 +1,6 @@
 //! What sessions read and place.
 
-use crate::asserting::{MEMORY, Seen, all_held};
+use crate::asserting::{MEMORY, Seen};
 use bumpalo::Bump;
 use std::alloc::{AllocError, Global};
 use std::borrow::CowSlice;
@@ -41,7 +41,8 @@ fn has_bytes<R: Files>(
 
 const BYTES: &[u8] = b"a few bytes";
 
-fn place(alloc: Global, seen: &mut Seen) {
+/// Places numbers and bytes.
+pub fn place(alloc: Global, seen: &mut Seen) {
     let bump = Bump::new(alloc);
     let files = BTreeMap::new(alloc);
     let session = MemorySession::new(&bump, &files);
@@ -77,18 +78,15 @@ fn is_found<R: Files>(files: &R, alloc: Global, path: Path<'_>) -> bool {
     matches!(found, Ok(true))
 }
 
-fn read(rt: &HostRuntime) -> io::Result<bool> {
-    let path = path_of(rt)?;
-    is_read(rt, path.as_path())
-}
-
-#[test]
-fn a_refused_allocation_is_want_of_memory(rt: HostRuntime) {
-    let mut seen = Seen::new();
-    place(rt.alloc(), &mut seen);
-    match read(&rt) {
+/// Reads a file of the system.
+pub fn read(rt: &HostRuntime, seen: &mut Seen) {
+    match is_read_there(rt) {
         Ok(is_read) => seen.expect("the file has its bytes", is_read),
         Err(fault) => seen.expect(MEMORY, fault.kind() == io::ErrorKind::OutOfMemory),
     }
-    all_held(&rt, &seen);
+}
+
+fn is_read_there(rt: &HostRuntime) -> io::Result<bool> {
+    let path = path_of(rt)?;
+    is_read(rt, path.as_path())
 }

@@ -1,8 +1,50 @@
-//! Damage to bytes.
+//! Numbers that a seed determines, and damage to bytes by them.
 
 ghost use Rattle.std.specs.Prelude.{◌<◌, ◌≤◌, IfSome, length};
 
-use crate::random::generator::Generator;
+use std::alloc::Global;
+
+/// A stream of numbers that its seed determines: SplitMix64.
+#[derive(Drop)]
+pub struct Generator {
+    state: u64,
+}
+
+impl Generator {
+    pub fn new(seed: u64) -> Generator {
+        Generator { state: seed }
+    }
+
+    /// Any number.
+    fn next(&mut self) -> u64 {
+        self.state = self.state.wrapping_add(0x9e37_79b9_7f4a_7c15);
+        let mixed = (self.state ^ (self.state >> 30)).wrapping_mul(0xbf58_476d_1ce4_e5b9);
+        let mixed = (mixed ^ (mixed >> 27)).wrapping_mul(0x94d0_49bb_1331_11eb);
+        mixed ^ (mixed >> 31)
+    }
+
+    /// A number below `n`.
+    pub fn below(&mut self, n: usize) -> usize
+        requires { 0 < n }
+        ensures { result < n }
+    {
+        (self.next() % n as u64) as usize
+    }
+
+    /// One of these, as it is or damaged by half the chance; no bytes where there are none, or no
+    /// memory.
+    pub fn one_of(&mut self, alloc: Global, all: &[&[u8]], is_always_damaged: bool) -> Vec<u8> {
+        if all.is_empty() {
+            return Vec::new(alloc);
+        }
+        let chosen = all[self.below(all.len())];
+        let mut bytes = chosen.to_vec(alloc).unwrap_or(Vec::new(alloc));
+        if is_always_damaged || self.below(2) == 0 {
+            damage(self, &mut bytes);
+        }
+        bytes
+    }
+}
 
 /// Numbers at which formats have their limits.
 const LIMITS: [u32; 8] = [
@@ -17,7 +59,7 @@ const LIMITS: [u32; 8] = [
 ];
 
 /// Damages bytes in one to four places.
-pub fn damage(generator: &mut Generator, bytes: &mut Vec<u8>) {
+fn damage(generator: &mut Generator, bytes: &mut Vec<u8>) {
     for _ in 0..generator.below(4) + 1 {
         if !bytes.is_empty() {
             damage_once(generator, bytes);
@@ -27,20 +69,12 @@ pub fn damage(generator: &mut Generator, bytes: &mut Vec<u8>) {
 
 fn damage_once(generator: &mut Generator, bytes: &mut Vec<u8>) {
     match generator.below(8) {
-        0 => change(generator, bytes),
-        1 => cut(generator, bytes),
-        2 => raise(generator, bytes),
-        3 => copy_over(generator, bytes),
-        kind => damage_further(kind, generator, bytes),
-    }
-}
-
-fn damage_further(kind: usize, generator: &mut Generator, bytes: &mut Vec<u8>) {
-    match kind {
-        4 => repeat(generator, bytes),
-        5 => count_up(generator, bytes),
-        6 => swap_headers(generator, bytes),
-        _ => flip(generator, bytes),
+        0 => cut(generator, bytes),
+        1 => raise(generator, bytes),
+        2 => copy_over(generator, bytes),
+        3 => repeat(generator, bytes),
+        4 => swap_headers(generator, bytes),
+        kind => change(kind, generator, bytes),
     }
 }
 
@@ -54,27 +88,15 @@ fn place(generator: &mut Generator, length: usize) -> Option<usize>
     Some(generator.below(length))
 }
 
-/// A byte becomes another.
-fn change(generator: &mut Generator, bytes: &mut Vec<u8>) {
-    let byte = generator.byte();
+/// A byte becomes another, or is raised by one to four, as a count of entries, or has a bit turned.
+fn change(kind: usize, generator: &mut Generator, bytes: &mut Vec<u8>) {
+    let by = generator.below(256) as u8;
     if let Some(at) = place(generator, bytes.len()) {
-        bytes[at] = byte;
-    }
-}
-
-/// A bit of a byte is turned.
-fn flip(generator: &mut Generator, bytes: &mut Vec<u8>) {
-    let bit = generator.below(8) as u32;
-    if let Some(at) = place(generator, bytes.len()) {
-        bytes[at] ^= 1u8 << bit;
-    }
-}
-
-/// A byte is raised by one to four, as a count of entries.
-fn count_up(generator: &mut Generator, bytes: &mut Vec<u8>) {
-    let more = generator.below(4) as u8 + 1;
-    if let Some(at) = place(generator, bytes.len()) {
-        bytes[at] = bytes[at].wrapping_add(more);
+        bytes[at] = match kind {
+            5 => by,
+            6 => bytes[at].wrapping_add(by % 4 + 1),
+            _ => bytes[at] ^ (1u8 << (by % 8)),
+        };
     }
 }
 

@@ -1,14 +1,9 @@
 //! What the calls answered, counted.
 
-/// How often a call answered, and how often it named a fault.
-#[derive(Clone, Copy, Default)]
-struct Count {
-    answers: u64,
-    faults: u64,
-}
+use test_rows::Said;
 
 /// The names of the calls, and the number of each.
-pub const CALLS: [&str; 22] = [
+const CALLS: [&str; 22] = [
     "FileKind::parse",
     "ElfFile::parse",
     "Section::name",
@@ -80,36 +75,18 @@ pub const GROUPS: usize = 21;
 /// What the calls did.
 #[derive(Drop)]
 pub struct Tally {
-    counts: [Count; 22],
+    /// Of each call how often it answered, and how often it named a fault.
+    answers: [u64; 22],
+    faults: [u64; 22],
     /// How often two calls that say the same said something else, or memory ran out.
     pub contradictions: u64,
-}
-
-impl Count {
-    /// Counts a call.
-    fn note(&mut self, answered: bool) {
-        if answered {
-            self.answers = self.answers.saturating_add(1);
-        } else {
-            self.faults = self.faults.saturating_add(1);
-        }
-    }
-
-    /// Which kinds of outcome there were.
-    fn outcomes(&self) -> &'static str {
-        match (self.answers, self.faults) {
-            (0, 0) => "no call",
-            (_, 0) => "answers alone",
-            (0, _) => "faults alone",
-            _ => "answers and faults",
-        }
-    }
 }
 
 impl Tally {
     pub fn new() -> Tally {
         Tally {
-            counts: [Count::default(); 22],
+            answers: [0; 22],
+            faults: [0; 22],
             contradictions: 0,
         }
     }
@@ -117,34 +94,41 @@ impl Tally {
     /// Counts a call by its number.
     pub fn note(&mut self, call: usize, answered: bool) {
         if call < 22 {
-            self.counts[call].note(answered);
+            if answered {
+                self.answers[call] = self.answers[call].saturating_add(1);
+            } else {
+                self.faults[call] = self.faults[call].saturating_add(1);
+            }
         }
-    }
-
-    /// Which kinds of outcome a call had.
-    pub fn outcomes(&self, call: usize) -> &'static str {
-        if call < 22 {
-            self.counts[call].outcomes()
-        } else {
-            "no call"
-        }
-    }
-
-    /// How many calls there were of all.
-    pub fn calls(&self) -> u64 {
-        let mut calls: u64 = 0;
-        for i in 0..22 {
-            calls = calls
-                .saturating_add(self.counts[i].answers)
-                .saturating_add(self.counts[i].faults);
-        }
-        calls
     }
 
     /// Counts a contradiction where something doesn't hold.
     pub fn expect(&mut self, holds: bool) {
         if !holds {
             self.contradictions = self.contradictions.saturating_add(1);
+        }
+    }
+
+    /// Says which kinds of outcome each call had, the contradictions, and where it is asked how many
+    /// calls there were.
+    pub fn tell(&self, counts: bool, said: &mut Said) {
+        let mut calls: u64 = 0;
+        for call in 0..22 {
+            let (answers, faults) = (self.answers[call], self.faults[call]);
+            calls = calls.saturating_add(answers).saturating_add(faults);
+            said.add(CALLS[call]);
+            said.add(match (answers, faults) {
+                (0, 0) => ": no call\n",
+                (_, 0) => ": answers alone\n",
+                (0, _) => ": faults alone\n",
+                _ => ": answers and faults\n",
+            });
+        }
+        said.number("contradictions: ", self.contradictions);
+        said.add("\n");
+        if counts {
+            said.number("calls: ", calls);
+            said.add("\n");
         }
     }
 }

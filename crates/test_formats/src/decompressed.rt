@@ -1,0 +1,37 @@
+//! Calls of `dwp_decompress`: files with compressed sections, and each fault of them.
+
+use dwp_decompress::decompressed;
+use dwp_elf_read::{ElfFile, Section};
+use test_rows::{Hex, Row, Said, Text};
+
+/// The row's name and a file: each section of the file that is made, or its fault.
+pub fn call(row: Row<'_>, said: &mut Said) {
+    match decompressed(row.alloc, row.bytes(2)) {
+        Ok(Some(file)) => put_file(&file, said),
+        Ok(None) => said.word("as it is"),
+        Err(fault) => said.fault(&fault),
+    }
+}
+
+fn put_file(bytes: &[u8], said: &mut Said) {
+    match ElfFile::parse(bytes) {
+        Ok(file) => {
+            for section in file.sections() {
+                put_section(&section, said);
+            }
+        }
+        Err(fault) => said.err(&fault),
+    }
+}
+
+/// A section's name, its type, flags, link and size, and its content.
+fn put_section(section: &Section<'_>, said: &mut Said) {
+    said.put(&(
+        Text(section.name().unwrap_or("?").as_bytes()),
+        section.kind(),
+        section.flags(),
+        section.link(),
+        section.size(),
+        Hex(section.data().unwrap_or(b"outside".as_slice())),
+    ));
+}
