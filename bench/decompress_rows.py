@@ -1,8 +1,10 @@
 #!/usr/bin/env python3
-"""Makes the rows of test_decompress and what they are to print, without thorin: by Python's zlib, objcopy and gcc.
+"""Makes the rows of test_formats for dwp_decompress and what they are to print, without thorin: by Python's zlib, objcopy
+and gcc.
 
-decompress_rows.py FOLDER: FOLDER/data/rows and FOLDER/stdout. Files of both classes and byte orders are put together here,
-their streams by zlib; two are gcc's, and what objcopy --decompress-debug-sections makes of these is what must be printed.
+decompress_rows.py FOLDER: the rows, FOLDER/decompress.rows, and what must be printed for them, FOLDER/told, which is the end
+of crates/test_formats/stdout. Files of both classes and byte orders are put together here, their streams by zlib; two are
+gcc's, and what objcopy --decompress-debug-sections makes of these is what must be printed.
 
 decompress_rows.py compress FILE OUT [TYPE]: an ELF file of 64 bits, little endian, with its debug sections compressed by
 zlib, and said to be of a type of compression (1 is zlib, 2 zstd); TYPE older gives them the older names and headers.
@@ -73,8 +75,11 @@ def read(data):
 
 
 def line(name, kind, flags, link, content, size=None):
-    size = len(content) if size is None else size
-    return f"  {name} kind {kind} flags {flags} link {link} size {size} {content.hex()}"
+    """A section as test_formats prints it; more than 48 bytes stand in lines of their own."""
+    size, digits = len(content) if size is None else size, content.hex()
+    if len(content) > 48:
+        digits = "".join(f"\n    {digits[at:at + 96]}" for at in range(0, len(digits), 96))
+    return f'("{name}", {kind}, {flags}, {link}, {size}, {digits})'
 
 
 def plain(elf, contents):
@@ -136,7 +141,7 @@ def taken():
     elf = Elf().add(".outside", b"", size=2 ** 40, place=2 ** 41)
     elf.add(".debug_info", elf.chdr(info), flags=COMPRESSED)
     told = plain(elf, {".debug_info": info})
-    told[1] = f"  .outside kind 1 flags 0 link 0 size {2 ** 40} {b'outside'.hex()}"
+    told[1] = line(".outside", 1, 0, 0, b"outside", 2 ** 40)
     yield "another_section_outside", elf.file(), told
     for level in (0, 1):
         elf = Elf()
@@ -201,15 +206,15 @@ def main():
     if len(sys.argv) != 2:
         sys.exit(__doc__)
     folder = pathlib.Path(sys.argv[1]).resolve()
-    rows, told = ["# a name, and a file's bytes; made by bench/decompress_rows.py"], []
+    rows, told = ["# a name and a file's bytes, made by bench/decompress_rows.py: each section of the file that is made, or its fault"], []
     with tempfile.TemporaryDirectory() as place:
         made = [("gcc_gz", *made_by_gcc(pathlib.Path(place), "-gz")),
                 ("gcc_gz_gnu", *made_by_gcc(pathlib.Path(place), "-gz=zlib-gnu"))]
     for name, data, lines in [*taken(), *made, *refused()]:
-        rows.append(f"{name} {data.hex()}")
-        told += [name, *([f"  {lines}"] if isinstance(lines, str) else lines)]
-    (folder / "data/rows").write_text("\n".join(rows) + "\n")
-    (folder / "stdout").write_text("\n".join(told) + "\n")
+        rows.append(f"decompressed {name} {data.hex()}")
+        told += [rows[-1], "    " + (lines if isinstance(lines, str) else "; ".join(lines))]
+    (folder / "decompress.rows").write_text("\n".join(rows) + "\n")
+    (folder / "told").write_text("\n".join(["decompress.rows", *told]) + "\n")
 
 
 if __name__ == "__main__":

@@ -50,7 +50,7 @@ LEAST = {"instructions": 1_000_000, "seconds": 0.05}
 # well below n log n: those of its smaller one aren't counted, since valgrind takes half a second to begin.
 CHEAP = 100
 # How many bytes may be held for each byte that is read, put into the package or printed, and beside them. A unit of 20 bytes
-# has two rows of ten ranges, 640 bytes.
+# has some 150 in rows and names, and up to 530 more where it shares its row with none.
 BYTES_HELD = 40
 BYTES_BESIDE = 8 << 20
 
