@@ -89,13 +89,15 @@ fn run_all<'s>(
         put(text, add(&mut builder, steps[i]));
         put(text, " ");
     }
-    put_calls(text, session);
     let has = builder.contained_units().iter().copied().collect(alloc);
     let lacks = builder.missing_targets().collect(alloc);
+    let object = builder.finish();
+    // (what finishing may have read or been refused counts too)
+    put_calls(text, session);
     let has = has.unwrap_or(Vec::new(alloc));
     put_units(text, ", has", &has);
     put_units(text, ", lacks", &lacks.unwrap_or(Vec::new(alloc)));
-    put_file_of(alloc, text, &builder.finish(), &has)
+    put_file_of(alloc, text, &object, &has)
 }
 
 /// Writes a word behind a text. Where memory runs out, the text is another than the row's.
