@@ -168,14 +168,7 @@ impl<R: Reader> AbbreviationCache<R> {
             chains.number(first, abbreviation, encoding, values, name)
         } else if is_known && self.tables.is_at_hand(offset) {
             let at_hand = &mut self.tables.at_hand;
-            at_hand.number(
-                self.tables.alloc,
-                code,
-                abbreviation,
-                encoding,
-                values,
-                name,
-            )
+            at_hand.number(code, abbreviation, encoding, values, name)
         } else {
             number_read(abbreviation.entry(encoding, values), name)
         };
@@ -216,7 +209,7 @@ impl<R: Reader> AbbreviationCache<R> {
             chains.split(first, declared, encoding, values)
         } else if is_known && self.tables.is_at_hand(offset) {
             let at_hand = &mut self.tables.at_hand;
-            at_hand.split(self.tables.alloc, code, declared, encoding, values)
+            at_hand.split(code, declared, encoding, values)
         } else {
             split_read(declared.entry(encoding, values), encoding.format)
         };

@@ -29,6 +29,7 @@ use std::collections::BTreeMap;
 /// What was read of a table.
 #[derive(Drop)]
 pub(crate) struct ReadTable<R: Reader> {
+    alloc: Global,
     // The first declaration of each code.
     pub(crate) known: BTreeMap<u64, Abbreviation<R>>,
     // What is left of the table.
@@ -50,6 +51,7 @@ impl<R: Reader> ReadTable<R> {
         ensures lists { result.lists.entries ≡ [] }
     {
         ReadTable {
+            alloc,
             known: BTreeMap::new(alloc),
             rest: start,
             lists: BTreeMap::new(alloc),
@@ -100,7 +102,7 @@ impl<R: Reader> ReadTable<R> {
 
     /// Lists the attributes that are needed of the declaration of a code, where there is memory for
     /// it.
-    fn list(&mut self, alloc: Global, code: u64, abbreviation: Abbreviation<R>)
+    fn list(&mut self, code: u64, abbreviation: Abbreviation<R>)
         ensures lists { (table : Input)
             → declaration code table ≡ Ok (Some (declaration_of R.input abbreviation))
             → HasLists table self.old.lists → HasLists table self.new.lists }
@@ -110,7 +112,7 @@ impl<R: Reader> ReadTable<R> {
         if self.lists.contains_key(&code) {
             return;
         }
-        if let Some(list) = list_needed(alloc, abbreviation.specifications) {
+        if let Some(list) = list_needed(self.alloc, abbreviation.specifications) {
             let length = list.len();
             if self.lists.insert(code, list).is_ok() {
                 self.listed = self.listed.saturating_add(length);
@@ -122,7 +124,6 @@ impl<R: Reader> ReadTable<R> {
     /// there.
     pub(crate) fn number(
         &mut self,
-        alloc: Global,
         code: u64,
         abbreviation: Abbreviation<R>,
         encoding: Encoding,
@@ -139,7 +140,7 @@ impl<R: Reader> ReadTable<R> {
         ensures known { self.new.known ≡ self.old.known }
         ensures rest { self.new.rest ≡ self.old.rest }
     {
-        self.list(alloc, code, abbreviation);
+        self.list(code, abbreviation);
         match self.lists.get(&code) {
             Some(list) => number_listed(list, encoding, values, name),
             None => number_read(abbreviation.entry(encoding, values), name),
@@ -150,7 +151,6 @@ impl<R: Reader> ReadTable<R> {
     /// there.
     pub(crate) fn split(
         &mut self,
-        alloc: Global,
         code: u64,
         abbreviation: Abbreviation<R>,
         encoding: Encoding,
@@ -167,7 +167,7 @@ impl<R: Reader> ReadTable<R> {
         ensures known { self.new.known ≡ self.old.known }
         ensures rest { self.new.rest ≡ self.old.rest }
     {
-        self.list(alloc, code, abbreviation);
+        self.list(code, abbreviation);
         match self.lists.get(&code) {
             Some(list) => split_listed(list, encoding, values),
             None => split_read(abbreviation.entry(encoding, values), encoding.format),
