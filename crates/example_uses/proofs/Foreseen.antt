@@ -1,9 +1,9 @@
 -- What an own package can be refused with, as a builder's call answers it.
 use Rattle.std.proofs.Common.{◌≡◌, List, ℕ, subst, Result, Ok, Err}
 use Rattle.std.specs.Prelude.{IfErr}
-use Rattle.thorin_faults.specs.Answers.{Gives, MemoryAside}
-use Rattle.thorin_faults.specs.Fault.{Fault, fault_of}
-use Rattle.thorin_faults.specs.declared.fault.Error.{Error}
+use Rattle.thorin_errors.specs.Answers.{Gives, MemoryAside}
+use Rattle.thorin_errors.specs.Fault.{Fault, fault_of}
+use Rattle.thorin_errors.specs.declared.error.Error.{Error}
 use Rattle.thorin_join.specs.Builder.{State}
 use Rattle.thorin_again.specs.OwnRefusals.{IsForeseen, UnlessForeseen}
 

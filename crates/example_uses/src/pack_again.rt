@@ -2,8 +2,8 @@
 
 ghost use Rattle.std.specs.Prelude.{◌≡◌, OnErr, OnOk, IfErr};
 ghost use Rattle.dwp_elf.specs.FileText.{Object, file_text};
-ghost use Rattle.thorin_faults.specs.Answers.{Gives, MemoryAside};
-ghost use Rattle.thorin_faults.specs.Fault.{fault_of};
+ghost use Rattle.thorin_errors.specs.Answers.{Gives, MemoryAside};
+ghost use Rattle.thorin_errors.specs.Fault.{fault_of};
 ghost use Rattle.thorin_join.specs.Builder.{order_of, taken};
 ghost use Rattle.thorin_join.specs.Join.{Joins};
 ghost use Rattle.thorin_join.specs.Represents.{units_in};

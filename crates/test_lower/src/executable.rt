@@ -7,7 +7,8 @@ use std::collections::BTreeMap;
 use std::path::Path;
 use test_rows::{Row, Said, change, number, split};
 use thorin_executable::{NamelessUnits, Skeleton, SkeletonList, SkeletonUnits, skeletons};
-use thorin_faults::{ArenaSession, Error, InputError, MemorySession, Session};
+use thorin_errors::{Error, InputError};
+use thorin_sessions::{ArenaSession, MemorySession, Session};
 
 /// Makes the call of a row.
 pub fn call(row: Row<'_>, said: &mut Said) {

@@ -1,11 +1,11 @@
-//! Calls of `thorin_faults`: the texts of faults.
+//! Calls of `thorin_errors`: the texts of faults.
 
 use dwp_bytes::{ReadError as DwarfReadError, WriteError as DwarfWriteError};
 use dwp_elf_read::{ReadError as ElfReadError, WriteError as ElfWriteError};
 use std::alloc::AllocError;
 use std::io;
 use test_rows::{Row, Said};
-use thorin_faults::{Error, InputError, MissingReferencedObjectBehaviour};
+use thorin_errors::{Error, InputError, MissingReferencedObjectBehaviour};
 
 /// Makes the call of a row.
 pub fn call(row: Row<'_>, said: &mut Said) {

@@ -1,4 +1,4 @@
-//! Answers the rows of its data files: each is a call of the parts of packaging, `thorin_faults` to
+//! Answers the rows of its data files: each is a call of the parts of packaging, `thorin_errors` to
 //! `thorin_executable`, with its arguments, and is printed with what it answers. For the gate alone.
 #![tactic(auto)]
 

@@ -5,7 +5,7 @@ use dwp_base::{Contribution, Endianness, SectionKind};
 use dwp_bytes::ReadError;
 use dwp_index::UnitIndex;
 use test_rows::{Hex, Row, Said, Text, encoding};
-use thorin_faults::Error;
+use thorin_errors::Error;
 use thorin_packaged::laws::{
     every_row_is_found_by_place, packaged_rows_are_read_alike, rows_are_found_by_place,
 };

@@ -6,7 +6,7 @@ use dwp_elf_read::{ElfFile, Section};
 use dwp_index::{DwarfObject, DwoId, UnitIndex};
 use std::alloc::{AllocError, Global};
 use test_rows::{Row, Said, encoding, number, place, split};
-use thorin_faults::Error;
+use thorin_errors::Error;
 use thorin_parts::{
     Buckets, ContributionAdjustor, IndexEntry, add_relocations, bucket, write_index,
 };

@@ -1,4 +1,4 @@
-//! Calls of the sessions of `thorin_faults`: what they read and place.
+//! Calls of the sessions of `thorin_errors`: what they read and place.
 
 use bumpalo::Bump;
 use std::borrow::CowSlice;
@@ -8,7 +8,8 @@ use std::io::Read;
 use std::path::Path;
 use std::rt::Files;
 use test_rows::{Row, Said, Text};
-use thorin_faults::{ArenaSession, BytesSession, InputError, MemorySession, Session, read_into};
+use thorin_errors::InputError;
+use thorin_sessions::{ArenaSession, BytesSession, MemorySession, Session, read_into};
 
 /// Makes the call of a row.
 pub fn call(row: Row<'_>, said: &mut Said) {

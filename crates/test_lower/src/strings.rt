@@ -6,7 +6,7 @@ use Endianness::Little;
 use dwp_base::Endianness;
 use dwp_bytes::{Encoding, string_at};
 use test_rows::{Row, Said, Text, encoding, number, order, split};
-use thorin_faults::Error;
+use thorin_errors::Error;
 use thorin_strings::{PackageStringOffset, PackageStringTable, Repeats};
 
 /// Makes the call of a row.

@@ -10,7 +10,8 @@ use std::collections::BTreeMap;
 use std::io;
 use std::path::{AsPath, Path};
 use thorin::{DwarfPackage, Input, Packed, pack};
-use thorin_faults::{Error, MemorySession, MissingReferencedObjectBehaviour, Session};
+use thorin_errors::{Error, MissingReferencedObjectBehaviour};
+use thorin_sessions::{MemorySession, Session};
 
 /// An input.
 #[derive(Clone, Copy)]

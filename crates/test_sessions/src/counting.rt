@@ -1,7 +1,7 @@
 //! A session that counts its calls and refuses one of them.
 
 ghost use Rattle.std.specs.Prelude.{IfErr, IfOk};
-ghost use Rattle.thorin_faults.specs.Sessions.{IsNoWantOfMemory, IsOffered};
+ghost use Rattle.thorin_sessions.specs.Sessions.{IsNoWantOfMemory, IsOffered};
 
 use crate::objects::Files;
 use bumpalo::Bump;
@@ -10,7 +10,8 @@ use std::alloc::{AllocError, Global};
 use std::cell::Cell;
 use std::io;
 use std::path::Path;
-use thorin_faults::{InputError, MemorySession, Session};
+use thorin_errors::InputError;
+use thorin_sessions::{MemorySession, Session};
 
 /// Which call a session refuses, by its number among those of its sort, from 0 on.
 #[derive(Clone, Copy)]

@@ -14,7 +14,8 @@ use dwp_table::{DebugTypeSignature, DwarfObject, DwoId};
 use std::alloc::Global;
 use std::collections::BTreeMap;
 use thorin::{DwarfPackage, Packed};
-use thorin_faults::{Error, MemorySession, MissingReferencedObjectBehaviour, Session};
+use thorin_errors::{Error, MissingReferencedObjectBehaviour};
+use thorin_sessions::{MemorySession, Session};
 
 /// What a builder is given, and what then is in the package.
 #[derive(Clone, Copy)]

@@ -13,7 +13,7 @@ use std::alloc::Global;
 use std::collections::BTreeMap;
 use std::process::Abort;
 use thorin::pack_groups;
-use thorin_faults::MissingReferencedObjectBehaviour;
+use thorin_errors::MissingReferencedObjectBehaviour;
 
 const SKIP: Step<'static> = Step::Named(MissingReferencedObjectBehaviour::Skip);
 

@@ -11,7 +11,7 @@ use std::alloc::Global;
 use std::collections::BTreeMap;
 use std::path::{AsPath, Path};
 use thorin::{Bucketable, DwarfPackage, Input, Packed, pack};
-use thorin_faults::Error;
+use thorin_errors::Error;
 
 /// Which objects there are.
 #[derive(Clone, Copy)]

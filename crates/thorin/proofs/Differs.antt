@@ -15,8 +15,8 @@ use Rattle.dwp_elf_read.specs.Elf.{Elf}
 use Rattle.dwp_table.specs.Objects.{identifier_of}
 use Rattle.dwp_table.specs.declared.object.DwarfObject.{DwarfObject}
 use Rattle.dwp_table.specs.declared.object.DwarfObject.TheVariants.{Compilation, TypeUnit}
-use Rattle.thorin_faults.specs.Answers.{as_fault}
-use Rattle.thorin_faults.specs.Fault.{Fault, ParseUnitHeader, EmptyUnit}
+use Rattle.thorin_errors.specs.Answers.{as_fault}
+use Rattle.thorin_errors.specs.Fault.{Fault, ParseUnitHeader, EmptyUnit}
 use Rattle.thorin_input.specs.Encodings.{encoding_of}
 use Rattle.thorin_input.specs.Indexes.{Source, indexes_of}
 use Rattle.thorin_input.specs.Names.{same_name}

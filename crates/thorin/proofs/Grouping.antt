@@ -4,8 +4,8 @@ use Rattle.std.proofs.Common.{get_or, map, refl, sym, ap, Result, Ok, Err, inr, 
 use Rattle.std.specs.Prelude.{IfOk}
 use Rattle.std.proofs.lemmas.List.{map-append, take-append-drop}
 use Rattle.dwp_base.specs.Reading.{◌>>=◌}
-use Rattle.thorin_faults.specs.Fault.{Fault}
-use Rattle.thorin_faults.specs.declared.fault.Error.{Error}
+use Rattle.thorin_errors.specs.Fault.{Fault}
+use Rattle.thorin_errors.specs.declared.error.Error.{Error}
 use Rattle.thorin_join.specs.Builder.{State, start, taken}
 use Rattle.thorin_join.specs.Join.{JoinAll, IsPackageOf}
 use Rattle.thorin_join.specs.Represents.{units_in}

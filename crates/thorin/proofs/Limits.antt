@@ -13,7 +13,7 @@ use Rattle.dwp_elf_read.specs.declared.fault.WriteError.{WriteError}
 use Rattle.dwp_elf.specs.FileText.{Object, headers_place}
 use Rattle.dwp_elf.specs.Numbers.{Fits}
 use Rattle.dwp_elf.specs.Refusals.{RefusesFile, RefusesWriter}
-use Rattle.thorin_faults.specs.Fault.{NumberTooLarge}
+use Rattle.thorin_errors.specs.Fault.{NumberTooLarge}
 use Rattle.thorin_index.specs.declared.entry.IndexEntry.{IndexEntry}
 use Rattle.thorin_index.specs.EntryTests.{tests_under, index_tests}
 use Rattle.thorin_strings.specs.StringOffsets.{named_at, offset_limit, fitting_offset}

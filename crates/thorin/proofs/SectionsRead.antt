@@ -15,8 +15,8 @@ use Rattle.dwp_base.specs.declared.section.SectionKind.TheVariants.{TuIndex}
 use Rattle.dwp_elf_read.specs.Elf.{SectionMeaning}
 use Rattle.dwp_index.specs.Contents as reader
 use Rattle.dwp_index.specs.Contents.{has_name, is_of_kind, content_among}
-use Rattle.thorin_faults.specs.Fault.{Fault}
-use Rattle.thorin_faults.specs.Answers.{as_fault}
+use Rattle.thorin_errors.specs.Fault.{Fault}
+use Rattle.thorin_errors.specs.Answers.{as_fault}
 use Rattle.thorin_input.specs.Used.{Used, used_kind, counts_once, used_bytes, has_kind, with_used}
 use Rattle.thorin_input.specs.Used.{used_from, bytes_of, first}
 use Rattle.thorin.proofs.RunTaken.{bind-was}

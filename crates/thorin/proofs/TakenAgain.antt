@@ -10,8 +10,8 @@ use Rattle.dwp_bytes.specs.declared.encoding.Encoding.{Encoding}
 use Rattle.dwp_elf.specs.FileText.{Object as File, file_text}
 use Rattle.dwp_elf.specs.Written.{written_elf}
 use Rattle.dwp_elf_read.specs.Elf.{Elf, elf_of}
-use Rattle.thorin_faults.specs.Fault.{Fault}
-use Rattle.thorin_faults.specs.declared.fault.Error.{Error}
+use Rattle.thorin_errors.specs.Fault.{Fault}
+use Rattle.thorin_errors.specs.declared.error.Error.{Error}
 use Rattle.thorin_again.specs.Again.{HaveEncodingOf}
 use Rattle.thorin_join.specs.Builder.{State, start, taken, order_of, finish_test, IsFinishedState}
 use Rattle.thorin_again.specs.OneEncoding.{IsOfOneEncoding, IsOfEncoding, AnswersAs}

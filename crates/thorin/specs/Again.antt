@@ -5,7 +5,7 @@ use Rattle.dwp_base.specs.declared.endian.Endianness.{Endianness}
 use Rattle.dwp_bytes.specs.declared.encoding.Encoding.{Encoding}
 use Rattle.dwp_elf.specs.FileText.{Object as File, file_text}
 use Rattle.dwp_table.specs.declared.object.DwarfObject.{DwarfObject}
-use Rattle.thorin_faults.specs.Fault.{Fault}
+use Rattle.thorin_errors.specs.Fault.{Fault}
 use Rattle.thorin_again.specs.Again.{all_meant}
 use Rattle.thorin_join.specs.Join.{IsPackageOf}
 use Rattle.thorin_join.specs.Meaning.{Meaning, Members, input_meaning}

@@ -7,9 +7,9 @@ use Rattle.std.specs.List.{flat_map}
 use Rattle.std.specs.Map.{lookup}
 use Rattle.dwp_base.specs.Reading.{◌>>=◌}
 use Rattle.dwp_table.specs.declared.object.DwarfObject.{DwarfObject}
-use Rattle.thorin_faults.specs.declared.fault.Error.{Error}
-use Rattle.thorin_faults.specs.Fault.{Fault, fault_of}
-use Rattle.thorin_faults.specs.Answers.{MemoryAside}
+use Rattle.thorin_errors.specs.declared.error.Error.{Error}
+use Rattle.thorin_errors.specs.Fault.{Fault, fault_of}
+use Rattle.thorin_errors.specs.Answers.{MemoryAside}
 use Rattle.thorin_again.specs.Again.{HaveEncodingOf}
 use Rattle.thorin_join.specs.Builder.{State, start, taken}
 use Rattle.thorin_join.specs.Join.{JoinAll, IsPackageOf}

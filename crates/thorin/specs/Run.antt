@@ -8,9 +8,9 @@ use Rattle.dwp_elf.specs.Numbers.{Fits}
 use Rattle.dwp_elf.specs.Written.{written_elf}
 use Rattle.dwp_elf_read.specs.Elf.{elf_of}
 use Rattle.dwp_elf_read.specs.declared.fault.WriteError.TheVariants as writer
-use Rattle.thorin_faults.specs.declared.fault.Error.{Error}
-use Rattle.thorin_faults.specs.Fault.{Fault, fault_of, ObjectWrite}
-use Rattle.thorin_faults.specs.Answers.{MemoryAside}
+use Rattle.thorin_errors.specs.declared.error.Error.{Error}
+use Rattle.thorin_errors.specs.Fault.{Fault, fault_of, ObjectWrite}
+use Rattle.thorin_errors.specs.Answers.{MemoryAside}
 use Rattle.thorin.specs.declared.packing.Input.{Input}
 use Rattle.thorin.specs.declared.packing.Input.TheVariants as inputs
 use Rattle.thorin_join.specs.Builder.{State, finish_test, IsFinishedState}

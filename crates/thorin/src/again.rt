@@ -4,7 +4,7 @@ ghost use Rattle.std.specs.Prelude.{◌≡◌, ℕ, true, List, [], Option, Ok, 
 ghost use Rattle.dwp_base.specs.declared.endian.Endianness.{Endianness};
 ghost use Rattle.dwp_index.specs.Package.{Package, package_of};
 ghost use Rattle.dwp_table.specs.declared.object.DwarfObject.{DwarfObject};
-ghost use Rattle.thorin_faults.specs.Fault.{Fault};
+ghost use Rattle.thorin_errors.specs.Fault.{Fault};
 ghost use Rattle.thorin_again.specs.Again.{HaveEncodingOf};
 ghost use Rattle.thorin_join.specs.Builder.{State, start, taken};
 ghost use Rattle.thorin_join.specs.Meaning.{Meaning, input_meaning};
@@ -32,7 +32,7 @@ use thorin_again::{
     written_packages_mean_their_units,
 };
 use thorin_builder::InputReader;
-use thorin_faults::Session;
+use thorin_sessions::Session;
 use thorin_join::{finished_packages_are_read, inputs_are_joined};
 
 /// The law of accepted inputs: those of a run were taken one after another. So the laws of

@@ -10,7 +10,8 @@ use crate::packing::written;
 use dwp_bytes::RelocationEntry;
 use std::alloc::Global;
 use thorin_builder::DwarfPackage;
-use thorin_faults::{Error, Session};
+use thorin_errors::Error;
+use thorin_sessions::Session;
 
 /// Packs each group of inputs, given by their bytes, into a package of its own, and then these
 /// packages, in order, into one, whose bytes are the answer (DWARF 5, 7.3.5). The session holds the

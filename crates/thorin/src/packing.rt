@@ -12,7 +12,8 @@ use dwp_table::DebugTypeSignature;
 use std::alloc::Global;
 use std::path::Path;
 use thorin_builder::{DwarfPackage, InputReader};
-use thorin_faults::{Error, MissingReferencedObjectBehaviour, Session};
+use thorin_errors::{Error, MissingReferencedObjectBehaviour};
+use thorin_sessions::Session;
 
 /// What a package is made of.
 #[derive(Clone, Copy)]

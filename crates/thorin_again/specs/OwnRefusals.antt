@@ -1,6 +1,6 @@
 -- What an own package can still be refused with (DWARF 5, 7.26 and 7.3.5).
 use Rattle.std.specs.Prelude.{◌≡◌, ◌⊎◌, ℕ, codes, Result, Ok, Err}
-use Rattle.thorin_faults.specs.Fault.{Fault, NumberTooLarge, DuplicateUnit}
+use Rattle.thorin_errors.specs.Fault.{Fault, NumberTooLarge, DuplicateUnit}
 
 -- the offset of a string doesn't fit the format
 abbrev pub IsStringOffset : Fault → Type 0

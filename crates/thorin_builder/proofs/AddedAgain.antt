@@ -4,7 +4,7 @@ use Rattle.std.proofs.Common.{ap, subst, inl, inr, true≢false, arith}
 use Rattle.std.specs.Prelude.{is_some}
 use Rattle.std.proofs.Common.{Result, Ok, Err, Option, Some, None, map}
 use Rattle.std.specs.Prelude.{IfOk, IfSome}
-use Rattle.thorin_faults.specs.declared.fault.Error.{Error}
+use Rattle.thorin_errors.specs.declared.error.Error.{Error}
 use Rattle.std.proofs.lemmas.List.{append-nil, append_assoc, map-append, take-append-drop}
 use Rattle.std.proofs.lemmas.Option.{none-some, same_Some}
 use Rattle.std.proofs.lemmas.Slice.Eq.{bytes_eq-Decides}

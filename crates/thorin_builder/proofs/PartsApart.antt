@@ -15,8 +15,8 @@ use Rattle.dwp_index.specs.Package.{part_of, place_of}
 use Rattle.dwp_table.specs.declared.object.DwarfObject.{DwarfObject}
 use Rattle.thorin_index.specs.Entries.{contribution_to}
 use Rattle.thorin_index.specs.declared.entry.IndexEntry.{IndexEntry}
-use Rattle.thorin_faults.specs.Fault.{Fault, MissingRequiredSection, RepeatedSection}
-use Rattle.thorin_faults.specs.Fault.{SectionOutsideFormat}
+use Rattle.thorin_errors.specs.Fault.{Fault, MissingRequiredSection, RepeatedSection}
+use Rattle.thorin_errors.specs.Fault.{SectionOutsideFormat}
 use Rattle.thorin_input.specs.Growing.{Contents, with_bytes, with_parts}
 use Rattle.thorin_input.specs.Indexes.{Source}
 use Rattle.thorin_input.specs.Parts.{Parts, is_in_format, is_copied, has_part, stands_once}

@@ -7,13 +7,13 @@ use Rattle.std.specs.declared.io.Error.{Error as IoError}
 use Rattle.dwp_table.specs.declared.object.DwarfObject.{DwarfObject}
 use Rattle.dwp_table.specs.declared.object.DwoId.{DwoId}
 use Rattle.dwp_table.specs.declared.object.DwarfObject.TheVariants.{Compilation}
-use Rattle.thorin_faults.specs.Fault.{Fault, fault_of, Memory}
-use Rattle.thorin_faults.specs.declared.fault.Error.{Error}
-use Rattle.thorin_faults.specs.declared.fault.Error.TheVariants as error
-use Rattle.thorin_faults.specs.declared.fault.InputError.TheVariants as input_error
-use Rattle.thorin_faults.specs.declared.fault.MissingReferencedObjectBehaviour.{MissingReferencedObjectBehaviour}
-use Rattle.thorin_faults.specs.declared.fault.MissingReferencedObjectBehaviour.TheVariants as behaviour
-use Rattle.thorin_faults.specs.Answers.{MemoryAside}
+use Rattle.thorin_errors.specs.Fault.{Fault, fault_of, Memory}
+use Rattle.thorin_errors.specs.declared.error.Error.{Error}
+use Rattle.thorin_errors.specs.declared.error.Error.TheVariants as error
+use Rattle.thorin_errors.specs.declared.error.InputError.TheVariants as input_error
+use Rattle.thorin_errors.specs.declared.error.MissingReferencedObjectBehaviour.{MissingReferencedObjectBehaviour}
+use Rattle.thorin_errors.specs.declared.error.MissingReferencedObjectBehaviour.TheVariants as behaviour
+use Rattle.thorin_errors.specs.Answers.{MemoryAside}
 use Rattle.thorin_executable.specs.Skeletons.{Listed}
 use Rattle.std.specs.List.{list_any}
 use Rattle.thorin_join.specs.Builder.{State, names_in}

@@ -18,8 +18,8 @@ use Rattle.dwp_bytes.specs.declared.encoding.Format.{Format}
 use Rattle.dwp_bytes.specs.Encoding.{offset_size}
 use Rattle.dwp_bytes.specs.StringOffsets.{header_size, entry_count}
 use Rattle.dwp_index.specs.Index.{Index}
-use Rattle.thorin_faults.specs.Fault.{Fault, BadStringOffsets, MissingRequiredSection}
-use Rattle.thorin_faults.specs.Fault.{RepeatedSection, SectionOutsideFormat}
+use Rattle.thorin_errors.specs.Fault.{Fault, BadStringOffsets, MissingRequiredSection}
+use Rattle.thorin_errors.specs.Fault.{RepeatedSection, SectionOutsideFormat}
 use Rattle.thorin_strings.specs.Strings.{offset_of, with_string}
 use Rattle.thorin_strings.specs.StringOffsets.{header_of, named_at, fitting_offset, entry_bytes}
 use Rattle.thorin_strings.specs.StringOffsets.{remapped_entry, remapped_entries, remapped}

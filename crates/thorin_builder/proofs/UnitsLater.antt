@@ -13,8 +13,8 @@ use Rattle.dwp_table.specs.Objects.{identifier_of}
 use Rattle.dwp_table.specs.declared.object.DwarfObject.{DwarfObject}
 use Rattle.dwp_table.specs.declared.object.DwarfObject.TheVariants.{Compilation, TypeUnit}
 use Rattle.thorin_index.specs.declared.entry.IndexEntry.{IndexEntry}
-use Rattle.thorin_faults.specs.Fault.{Fault, ParseUnitHeader, EmptyUnit}
-use Rattle.thorin_faults.specs.Answers.{as_fault}
+use Rattle.thorin_errors.specs.Fault.{Fault, ParseUnitHeader, EmptyUnit}
+use Rattle.thorin_errors.specs.Answers.{as_fault}
 use Rattle.thorin_input.specs.Indexes.{Source}
 use Rattle.thorin_input.specs.Names.{same_name}
 use Rattle.thorin_input.specs.NewUnits.{New, NewUnit, Adding, Met, or_held, kept_bytes, place_for}

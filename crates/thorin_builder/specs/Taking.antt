@@ -3,18 +3,18 @@ use Rattle.std.specs.Prelude.{◌≡◌, ◌≢◌, ℕ, Bool, true, false, List
 use Rattle.std.specs.Prelude.{Option, Some, None, Result, Ok, Err, OnOk, OnErr, ◌⊎◌, IsTrue}
 use Rattle.std.specs.List.{list_any}
 use Rattle.std.specs.declared.io.Error.{Error as IoError}
-use Rattle.thorin_faults.specs.declared.fault.Error.{Error}
-use Rattle.thorin_faults.specs.declared.fault.Error.TheVariants as error
-use Rattle.thorin_faults.specs.declared.fault.InputError.{InputError}
-use Rattle.thorin_faults.specs.declared.fault.InputError.TheVariants as input_error
-use Rattle.thorin_faults.specs.Fault.{Fault, fault_of, Memory}
-use Rattle.thorin_faults.specs.declared.fault.MissingReferencedObjectBehaviour.{MissingReferencedObjectBehaviour}
-use Rattle.thorin_faults.specs.declared.fault.MissingReferencedObjectBehaviour.TheVariants as behaviour
+use Rattle.thorin_errors.specs.declared.error.Error.{Error}
+use Rattle.thorin_errors.specs.declared.error.Error.TheVariants as error
+use Rattle.thorin_errors.specs.declared.error.InputError.{InputError}
+use Rattle.thorin_errors.specs.declared.error.InputError.TheVariants as input_error
+use Rattle.thorin_errors.specs.Fault.{Fault, fault_of, Memory}
+use Rattle.thorin_errors.specs.declared.error.MissingReferencedObjectBehaviour.{MissingReferencedObjectBehaviour}
+use Rattle.thorin_errors.specs.declared.error.MissingReferencedObjectBehaviour.TheVariants as behaviour
 use Rattle.thorin_executable.specs.Skeletons.{Listed, skeletons_of, named_skeletons_of}
 use Rattle.dwp_table.specs.declared.object.DwarfObject.{DwarfObject}
 use Rattle.dwp_table.specs.declared.object.DwarfObject.TheVariants.{Compilation, TypeUnit}
-use Rattle.thorin_faults.specs.Answers.{Gives}
-use Rattle.thorin_faults.specs.Sessions.{input_fault}
+use Rattle.thorin_errors.specs.Answers.{Gives}
+use Rattle.thorin_errors.specs.Inputs.{input_fault}
 use Rattle.thorin_join.specs.Builder.{State, names_in, taken}
 use Rattle.thorin_join.specs.Join.{Joins}
 use Rattle.thorin_input.specs.Names.{same_name, with_name}

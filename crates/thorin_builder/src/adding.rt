@@ -2,7 +2,7 @@
 
 ghost use Rattle.std.specs.Prelude.{◌≡◌, Ok, OnErr, OnOk, IfOk};
 ghost use Rattle.dwp_elf_read.specs.View.{elf};
-ghost use Rattle.thorin_faults.specs.Answers.{Gives};
+ghost use Rattle.thorin_errors.specs.Answers.{Gives};
 ghost use Rattle.thorin_join.specs.Builder as spec;
 ghost use Rattle.thorin_input.specs.Encodings.{file_encoding, own_encoding, are_alike};
 ghost use Rattle.thorin_builder.specs.Repeated.{ExtendsBegun};
@@ -15,7 +15,7 @@ use dwp_base::Endianness;
 use dwp_dwarf::Encoding;
 use dwp_elf_read::ElfFile;
 use std::alloc::Global;
-use thorin_faults::Error;
+use thorin_errors::Error;
 use thorin_input::{Indexes, InputObject, Source, Walked, opened};
 
 /// A package of the class, machine and byte order of its first input.

@@ -18,7 +18,8 @@ use indexmap::IndexMap;
 use std::alloc::Global;
 use std::path::Path;
 use thorin_executable::{NamedUnit, NamedUnits, NamelessUnits};
-use thorin_faults::{Error, InputError, MissingReferencedObjectBehaviour, Session};
+use thorin_errors::{Error, InputError, MissingReferencedObjectBehaviour};
+use thorin_sessions::Session;
 
 /// Whether what was known of the path of the unit before is known of a unit's path.
 fn is_still(was_known: bool, unit: NamedUnit) -> bool

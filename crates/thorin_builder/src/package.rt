@@ -2,7 +2,7 @@
 
 ghost use Rattle.std.specs.Prelude.{◌≡◌, ℕ, List, map, filter, length, IsTrue, IfOk, IfErr, OnOk};
 ghost use Rattle.std.specs.Prelude.{OnErr, IfSome};
-ghost use Rattle.thorin_faults.specs.Answers.{Gives};
+ghost use Rattle.thorin_errors.specs.Answers.{Gives};
 ghost use Rattle.std.specs.Path.{path_bytes};
 ghost use Rattle.thorin_join.specs.Builder as spec;
 ghost use Rattle.thorin_join.specs.Builder.{IsFinishedState};
@@ -37,7 +37,8 @@ use thorin_again::{
     one_encoding_is_kept, own_packages_are_accepted, own_packages_are_accepted_by_a_new_one,
     plain_packages_are_kept,
 };
-use thorin_faults::{Error, InputError, Session};
+use thorin_errors::{Error, InputError};
+use thorin_sessions::Session;
 use thorin_input::common;
 use thorin_join::{finished_packages_are_read, inputs_are_joined};
 

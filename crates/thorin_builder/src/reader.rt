@@ -3,11 +3,12 @@
 ghost use Rattle.std.specs.Prelude.{ℕ, List, Result, IfErr};
 ghost use Rattle.std.specs.Path.{path_bytes};
 ghost use Rattle.std.specs.declared.io.Error.{Error as IoError};
-ghost use Rattle.thorin_faults.specs.Sessions.{IsOffered, IsNoWantOfMemory};
+ghost use Rattle.thorin_sessions.specs.Sessions.{IsOffered, IsNoWantOfMemory};
 
 use dwp_bytes::RelocationEntry;
 use std::path::Path;
-use thorin_faults::{InputError, Session};
+use thorin_errors::InputError;
+use thorin_sessions::Session;
 
 /// What an object adds once more, which lacks the units that name it and adds no unit: it is read
 /// once, and added for each of them.

@@ -17,7 +17,7 @@ use dwp_elf::WritableObject;
 use dwp_table::DebugTypeSignature;
 use std::alloc::Global;
 use std::path::Path;
-use thorin_faults::Error;
+use thorin_errors::Error;
 use thorin_input::{Indexes, Part, PartBytes, Source, Walked, Whole, opened, parts_of, put};
 
 /// What an input adds to a package each time that it is taken, where that is no unit and no string:

@@ -4,7 +4,7 @@ ghost use Rattle.std.specs.Prelude.{◌≡◌, ℕ, List, [], map, length, take,
 ghost use Rattle.std.specs.Prelude.{IfErr, OnOk, OnErr, true};
 ghost use Rattle.std.specs.Map.{lookup};
 ghost use Rattle.dwp_index.specs.Package.{part_of};
-ghost use Rattle.thorin_faults.specs.Answers.{Gives};
+ghost use Rattle.thorin_errors.specs.Answers.{Gives};
 ghost use Rattle.thorin_index.specs.EntryTests.{index_tests};
 ghost use Rattle.thorin_index.specs.IndexText.{IsIndexOf};
 ghost use Rattle.thorin_strings.specs.Marks.{mark_of};
@@ -26,7 +26,7 @@ use dwp_elf::WritableObject;
 use dwp_table::{Bucketable, DebugTypeSignature, DwarfObject};
 use indexmap::IndexSet;
 use std::alloc::Global;
-use thorin_faults::Error;
+use thorin_errors::Error;
 use thorin_index::{IndexEntry, IndexRows, write_rows};
 use thorin_input::{Source, Whole, content, lengths, parts_of, put, put_moved, put_parts, restore};
 use thorin_strings::{PackageStringTable, TableMark};

@@ -2,7 +2,7 @@
 
 ghost use Rattle.std.specs.Prelude.{◌≡◌, ◌&&◌, [], option_map, Ok, Some, IfOk, IfErr, OnOk};
 ghost use Rattle.dwp_dwarf.specs.Units.{unit_of, unit_seen};
-ghost use Rattle.thorin_faults.specs.Answers.{Gives};
+ghost use Rattle.thorin_errors.specs.Answers.{Gives};
 ghost use Rattle.thorin_input.specs.Encodings.{has_encoding, all_have, section_has, are_alike};
 ghost use Rattle.thorin_input.specs.NewUnits as spec;
 ghost use Rattle.thorin_join.specs.State.{held_units};
@@ -18,7 +18,7 @@ use dwp_dwarf::{Encoding, ReadError, Reader, SliceReader, UnitHeader, UnitHeader
 use dwp_table::{Bucketable, DebugTypeSignature, DwarfObject};
 use indexmap::IndexMap;
 use std::alloc::Global;
-use thorin_faults::Error;
+use thorin_errors::Error;
 use thorin_index::share;
 use thorin_input::{
     Places, Source, Tables, UsedSection, Whole, abbreviations_for, test_row, unit_row,

@@ -7,7 +7,7 @@ use Rattle.thorin_executable.specs.Skeletons.{Named}
 use Rattle.thorin_executable.specs.View.{named, listed, UnlessMemory}
 use Rattle.thorin_executable.specs.declared.listing.Skeleton.{Skeleton}
 use Rattle.thorin_executable.specs.declared.listing.SkeletonList.{SkeletonList}
-use Rattle.thorin_faults.specs.declared.fault.Error.{Error}
+use Rattle.thorin_errors.specs.declared.error.Error.{Error}
 use Rattle.thorin_c.specs.Skeletons.{paths_of, skeleton_of, skeleton_named}
 use Rattle.thorin_c.specs.Packing.{TellsOfFault}
 use Rattle.thorin_c.specs.Skeletons.{ListsUnits, TellsOfEnd}

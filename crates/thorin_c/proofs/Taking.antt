@@ -5,10 +5,10 @@ use Rattle.std.proofs.Common.{Ok, Err, ◌<◌, if◌then◌else◌, inl, length
 use Rattle.std.proofs.lemmas.List.{take_more, map-append, length-map}
 use Rattle.std.proofs.Math.Seq.{take-append_seam}
 use Rattle.dwp_base.specs.Reading.{◌>>=◌}
-use Rattle.thorin_faults.specs.Fault.{Fault, fault_of, NoOutputObjectCreated}
-use Rattle.thorin_faults.specs.Answers.{MemoryAside}
-use Rattle.thorin_faults.specs.declared.fault.Error.{Error}
-use Rattle.thorin_faults.specs.declared.fault.Error.TheVariants as error
+use Rattle.thorin_errors.specs.Fault.{Fault, fault_of, NoOutputObjectCreated}
+use Rattle.thorin_errors.specs.Answers.{MemoryAside}
+use Rattle.thorin_errors.specs.declared.error.Error.{Error}
+use Rattle.thorin_errors.specs.declared.error.Error.TheVariants as error
 use Rattle.thorin.specs.Run.{IsWritten, RefusesToWrite}
 use Rattle.dwp_table.specs.declared.object.DebugTypeSignature.{DebugTypeSignature}
 use Rattle.thorin_c.specs.Listing.{written_over}

@@ -1,22 +1,22 @@
 -- How the exports name a fault of packing.
 use Rattle.std.specs.Prelude.{◌≡◌, ◌<◌, ℕ, take, slice_index, IfSome}
 use Rattle.std.specs.Fmt.Cut.{IsTextOrCut}
-use Rattle.thorin_faults.specs.Fault.{Fault, ReadInput, ParseFileKind, ParseObjectFile}
-use Rattle.thorin_faults.specs.Fault.{InvalidInputKind, DecompressData, NamelessSection}
-use Rattle.thorin_faults.specs.Fault.{RelocationWithInvalidSymbol, MultipleRelocations}
-use Rattle.thorin_faults.specs.Fault.{UnsupportedRelocation, MissingDwoName, NoCompilationUnits}
-use Rattle.thorin_faults.specs.Fault.{NoDie, TopLevelDieNotUnit, MissingRequiredSection}
-use Rattle.thorin_faults.specs.Fault.{ParseUnitAbbreviations, ParseUnitHeader, ParseUnit}
-use Rattle.thorin_faults.specs.Fault.{IncompatibleIndexVersion, OffsetAtIndex, StrAtOffset}
-use Rattle.thorin_faults.specs.Fault.{ParseIndex, UnitNotInIndex, RowNotInIndex, SectionNotInRow}
-use Rattle.thorin_faults.specs.Fault.{EmptyUnit, MultipleDebugInfoSection}
-use Rattle.thorin_faults.specs.Fault.{MultipleDebugTypesSection, NotSplitUnit, DuplicateUnit}
-use Rattle.thorin_faults.specs.Fault.{MissingReferencedUnit, NoOutputObjectCreated}
-use Rattle.thorin_faults.specs.Fault.{MixedInputEncodings, Io, ObjectRead, ObjectWrite, GimliRead}
-use Rattle.thorin_faults.specs.Fault.{GimliWrite, Memory, NumberTooLarge, BadContribution}
-use Rattle.thorin_faults.specs.Fault.{SectionOutsideFormat, RepeatedSection, BadStringOffsets}
-use Rattle.thorin_faults.specs.Fault.{OverlappingStringOffsets}
-use Rattle.thorin_faults.specs.Text.{fault_text}
+use Rattle.thorin_errors.specs.Fault.{Fault, ReadInput, ParseFileKind, ParseObjectFile}
+use Rattle.thorin_errors.specs.Fault.{InvalidInputKind, DecompressData, NamelessSection}
+use Rattle.thorin_errors.specs.Fault.{RelocationWithInvalidSymbol, MultipleRelocations}
+use Rattle.thorin_errors.specs.Fault.{UnsupportedRelocation, MissingDwoName, NoCompilationUnits}
+use Rattle.thorin_errors.specs.Fault.{NoDie, TopLevelDieNotUnit, MissingRequiredSection}
+use Rattle.thorin_errors.specs.Fault.{ParseUnitAbbreviations, ParseUnitHeader, ParseUnit}
+use Rattle.thorin_errors.specs.Fault.{IncompatibleIndexVersion, OffsetAtIndex, StrAtOffset}
+use Rattle.thorin_errors.specs.Fault.{ParseIndex, UnitNotInIndex, RowNotInIndex, SectionNotInRow}
+use Rattle.thorin_errors.specs.Fault.{EmptyUnit, MultipleDebugInfoSection}
+use Rattle.thorin_errors.specs.Fault.{MultipleDebugTypesSection, NotSplitUnit, DuplicateUnit}
+use Rattle.thorin_errors.specs.Fault.{MissingReferencedUnit, NoOutputObjectCreated}
+use Rattle.thorin_errors.specs.Fault.{MixedInputEncodings, Io, ObjectRead, ObjectWrite, GimliRead}
+use Rattle.thorin_errors.specs.Fault.{GimliWrite, Memory, NumberTooLarge, BadContribution}
+use Rattle.thorin_errors.specs.Fault.{SectionOutsideFormat, RepeatedSection, BadStringOffsets}
+use Rattle.thorin_errors.specs.Fault.{OverlappingStringOffsets}
+use Rattle.thorin_errors.specs.Text.{fault_text}
 use Rattle.thorin_c.specs.declared.types.ThorinReport.{ThorinReport}
 
 -- from 1 on

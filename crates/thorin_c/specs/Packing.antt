@@ -3,10 +3,10 @@ use Rattle.std.specs.Prelude.{◌≡◌, ◌≢◌, ℕ, ℤ, pos, ◌<◌, ◌�
 use Rattle.std.specs.Prelude.{take, drop, length, Result, Ok, Err, ◌⊎◌}
 use Rattle.std.specs.List.{HoldsAt}
 use Rattle.dwp_base.specs.Reading.{◌>>=◌}
-use Rattle.thorin_faults.specs.Answers.{MemoryAside}
-use Rattle.thorin_faults.specs.Fault.{Fault, fault_of}
-use Rattle.thorin_faults.specs.declared.fault.Error.{Error}
-use Rattle.thorin_faults.specs.declared.fault.Error.TheVariants as error
+use Rattle.thorin_errors.specs.Answers.{MemoryAside}
+use Rattle.thorin_errors.specs.Fault.{Fault, fault_of}
+use Rattle.thorin_errors.specs.declared.error.Error.{Error}
+use Rattle.thorin_errors.specs.declared.error.Error.TheVariants as error
 use Rattle.thorin_join.specs.Builder.{State, start, taken, differing_in}
 use Rattle.thorin_join.specs.Join.{JoinAll, IsPackageOf}
 use Rattle.thorin_join.specs.Meaning.{Members}

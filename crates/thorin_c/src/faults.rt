@@ -1,13 +1,13 @@
 //! The numbers of the faults of packing.
 
 ghost use Rattle.std.specs.Prelude.{◌≡◌};
-ghost use Rattle.thorin_faults.specs.Fault.{fault_of};
+ghost use Rattle.thorin_errors.specs.Fault.{fault_of};
 ghost use Rattle.thorin_c.specs.Faults.{number_of, Tells};
 ghost use Rattle.thorin_c.specs.Packing.{TellsOfFault};
 
 use crate::types::ThorinReport;
 use std::fmt::InlineText;
-use thorin_faults::Error;
+use thorin_errors::Error;
 
 /// Writes a fault's number and text, with a zero byte behind it.
 pub(crate) fn tell(fault: Error, report: &mut ThorinReport)

@@ -22,7 +22,7 @@ use dwp_table::DebugTypeSignature;
 use std::alloc::Global;
 use thorin::DwarfPackage;
 use thorin::again::written_packages_are_taken_again;
-use thorin_faults::Error;
+use thorin_errors::Error;
 
 /// A package's bytes, how many type units were passed over that differ from those kept, and whether
 /// it is sure to be taken as an input again.

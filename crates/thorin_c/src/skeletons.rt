@@ -14,7 +14,7 @@ use dwp_table::DwarfObject;
 use std::alloc::{AllocError, Global};
 use thorin::{Bump, BytesSession, skeletons};
 use thorin_executable::{Skeleton, SkeletonList};
-use thorin_faults::Error;
+use thorin_errors::Error;
 
 /// Lists the split units that an executable names, and the paths of their objects, each with a zero
 /// byte behind it, as far as there is room: 0, how many units there are in `count`, and how many

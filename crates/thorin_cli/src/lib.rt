@@ -26,7 +26,7 @@ use thorin_commands::{
     FindForm, HostFiles, ListForm, NamelessUnits, Packing, Reading, Warnings, check, check_as_json,
     find, lacks_index, list, list_missing, pack, report, show, verify,
 };
-use thorin_faults::MissingReferencedObjectBehaviour;
+use thorin_errors::MissingReferencedObjectBehaviour;
 use thorin_words::{ResponseError, expanded, printed};
 
 /// Does what a command line asks for: `words` are the program's name and its arguments, where

@@ -8,7 +8,7 @@ use std::io::{self, Write};
 use std::path::Path;
 use std::time::Instant;
 use thorin_commands::{Failure, FileSystem, HostFiles};
-use thorin_faults::InputError;
+use thorin_errors::InputError;
 
 /// Standard error, with a line that tells how far packing is.
 #[derive(Drop)]

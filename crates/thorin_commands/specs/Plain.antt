@@ -7,8 +7,8 @@ use Rattle.dwp_elf_read.specs.declared.fault.ReadError.{ReadError}
 use Rattle.dwp_decompress.specs.declared.fault.DecompressError.{DecompressError}
 use Rattle.dwp_decompress.specs.Result.{decompressed_of}
 use Rattle.dwp_macros.specs.Last.{last_macros_of}
-use Rattle.thorin_faults.specs.declared.fault.InputError.{InputError}
-use Rattle.thorin_faults.specs.declared.fault.InputError.TheVariants as input
+use Rattle.thorin_errors.specs.declared.error.InputError.{InputError}
+use Rattle.thorin_errors.specs.declared.error.InputError.TheVariants as input
 
 -- what a read of the file at a path may answer
 abbrev pub Offer : Type 1

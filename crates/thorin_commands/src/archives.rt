@@ -20,7 +20,8 @@ use std::alloc::{AllocError, Global};
 use std::io::Write;
 use std::path::{AsPath, Path};
 use thorin::{DwarfPackage, Input, take_input};
-use thorin_faults::{Error, Session};
+use thorin_errors::Error;
+use thorin_sessions::Session;
 use thorin_queries::{Failure, shown, tell_taken};
 
 /// Whether bytes are those of an archive, plain or thin.

@@ -6,7 +6,7 @@ ghost use Rattle.thorin_commands.specs.Packing.{asked, object_asked, executable_
 use std::alloc::{AllocError, Global};
 use std::path::Path;
 use thorin::{Input, NamelessUnits};
-use thorin_faults::MissingReferencedObjectBehaviour;
+use thorin_errors::MissingReferencedObjectBehaviour;
 
 /// The executable at a path as an input.
 fn executable_input(

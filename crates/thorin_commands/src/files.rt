@@ -4,7 +4,7 @@ ghost use Rattle.std.specs.Prelude.{ℕ, List, Result, Option, Some, None, OnOk,
 ghost use Rattle.std.specs.Path.{path_bytes};
 ghost use Rattle.std.specs.declared.io.Error.{Error as IoError};
 ghost use Rattle.dwp_elf.specs.FileText.{file_text};
-ghost use Rattle.thorin_faults.specs.Sessions.{IsNoWantOfMemory};
+ghost use Rattle.thorin_sessions.specs.Sessions.{IsNoWantOfMemory};
 ghost use Rattle.thorin_commands.specs.Files.{Begun, Adds, IsOfWriting};
 ghost use Rattle.thorin_commands.specs.Packing.{anything};
 ghost use Rattle.thorin_commands.specs.Plain.{IsReadOver};
@@ -13,7 +13,7 @@ use crate::output::hand_over;
 use dwp_elf::WritableObject;
 use std::io::Write;
 use std::path::Path;
-use thorin_faults::InputError;
+use thorin_errors::InputError;
 use thorin_files::{Contents, WriteError};
 use thorin_queries::{Failure, unit_count};
 

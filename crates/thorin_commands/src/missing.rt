@@ -21,7 +21,8 @@ use std::io::Write;
 use std::path::{AsPath, Path};
 use thorin::{BytesSession, DwarfPackage, Input, MissingTargets, NamelessUnits};
 use thorin_executable::NamedUnits;
-use thorin_faults::{Error, MissingReferencedObjectBehaviour, Session};
+use thorin_errors::{Error, MissingReferencedObjectBehaviour};
+use thorin_sessions::Session;
 use thorin_queries::{Failure, buffer, shown};
 
 /// Where that is asked for, leaves out units that executables refer to and that aren't there: each

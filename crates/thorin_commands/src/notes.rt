@@ -3,7 +3,7 @@
 use std::alloc::{AllocError, Global};
 use std::fmt;
 use std::io::{self, Write};
-use thorin_faults::Error;
+use thorin_errors::Error;
 use thorin_queries::shown;
 
 /// A read that failed.

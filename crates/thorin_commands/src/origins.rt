@@ -6,7 +6,8 @@ use dwp_table::{DwarfObject, DwoId};
 use std::alloc::{AllocError, Global};
 use std::cell::Cell;
 use thorin::DwarfPackage;
-use thorin_faults::{Error, Session};
+use thorin_errors::Error;
+use thorin_sessions::Session;
 
 /// What was taken.
 #[derive(Clone, Copy)]

@@ -28,7 +28,8 @@ use std::alloc::Global;
 use std::io::Write;
 use thorin::laws::runs_go_on;
 use thorin::{BytesSession, DwarfPackage, Input, NamelessUnits};
-use thorin_faults::{Error, MissingReferencedObjectBehaviour, Session};
+use thorin_errors::{Error, MissingReferencedObjectBehaviour};
+use thorin_sessions::Session;
 use thorin_queries::{Failure, Reading, buffer, check};
 
 /// What is to be packed, and where to.

@@ -3,7 +3,7 @@
 ghost use Rattle.std.specs.Prelude.{◌≡◌, ◌⊎◌, IsTrue, IfOk, IfErr};
 ghost use Rattle.std.specs.Prelude.{string_bytes};
 ghost use Rattle.std.specs.Path.{path_bytes};
-ghost use Rattle.thorin_faults.specs.Sessions.{IsNoWantOfMemory};
+ghost use Rattle.thorin_sessions.specs.Sessions.{IsNoWantOfMemory};
 ghost use Rattle.thorin_commands.specs.Packing.{IsAmong, paths_in, through, reads};
 ghost use Rattle.thorin_commands.specs.Plain.{IsReadOver, taken_from};
 ghost use Rattle.thorin_commands.specs.Prefixes.{mapped as mapped_path};
@@ -27,7 +27,7 @@ use std::cell::Cell;
 use std::io;
 use std::path::{AsPath, Path};
 use thorin::{Input, InputReader, Repetition};
-use thorin_faults::InputError;
+use thorin_errors::InputError;
 use thorin_queries::Failure;
 
 /// Files as inputs.

@@ -13,7 +13,8 @@ use dwp_bytes::RelocationEntry;
 use std::io::Write;
 use std::path::AsPath;
 use thorin::{DwarfPackage, Input, take_input};
-use thorin_faults::{Error, Session};
+use thorin_errors::Error;
+use thorin_sessions::Session;
 use thorin_queries::Failure;
 
 /// Takes the inputs in order, up to the first that is refused.

@@ -4,8 +4,8 @@ use Rattle.std.proofs.Common.{append_assoc, length, map, take}
 use Rattle.std.proofs.lemmas.List.{append-nil}
 use Rattle.dwp_bytes.specs.declared.fault.ReadError.{ReadError}
 use Rattle.dwp_dwarf.specs.Units.{Unit as UnitMeaning}
-use Rattle.thorin_faults.specs.Fault.{Fault}
-use Rattle.thorin_faults.specs.declared.fault.Error.{Error}
+use Rattle.thorin_errors.specs.Fault.{Fault}
+use Rattle.thorin_errors.specs.declared.error.Error.{Error}
 use Rattle.thorin_executable.specs.Sections.{DebugData}
 use Rattle.thorin_executable.specs.Skeletons.{Named, Listed, with_first, skeleton_read}
 use Rattle.thorin_executable.specs.Skeletons.{skeletons_from}

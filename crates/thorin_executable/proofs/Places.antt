@@ -5,7 +5,7 @@ use Rattle.dwp_bytes.specs.declared.encoding.Format.{Format}
 use Rattle.dwp_dwarf.specs.Entries.{DebugAttribute}
 use Rattle.dwp_dwarf.specs.Split.{SplitAttributes}
 use Rattle.dwp_dwarf.specs.Strings.{Strings}
-use Rattle.thorin_faults.specs.Fault.{Fault}
+use Rattle.thorin_errors.specs.Fault.{Fault}
 use Rattle.thorin_executable.specs.Paths.{base_of, object_path}
 use Rattle.thorin_executable.specs.Places.{IsStringAt, IsPathAt, IsKept, path_at}
 use Rattle.thorin_executable.specs.declared.last.StringIndex.{StringIndex}

@@ -5,7 +5,7 @@ use Rattle.std.proofs.lemmas.Bool.{false_from_ne_true}
 use Rattle.std.proofs.lemmas.Str.{IsUtf8-from_is_utf8, is_utf8-from_IsUtf8}
 use Rattle.dwp_bytes.specs.Input.{Input}
 use Rattle.dwp_bytes.specs.declared.fault.ReadError.TheVariants.{BadUtf8}
-use Rattle.thorin_faults.specs.Fault.{Fault, GimliRead}
+use Rattle.thorin_errors.specs.Fault.{Fault, GimliRead}
 use Rattle.thorin_executable.specs.Paths.{text_of}
 
 text_by : List ℕ → Bool → Result (List ℕ) Fault

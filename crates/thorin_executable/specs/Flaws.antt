@@ -1,7 +1,7 @@
 -- The faults of a relocation, by their names in the code.
 use Rattle.std.specs.Prelude.{ℕ, List}
-use Rattle.thorin_faults.specs.Fault.{Fault, UnsupportedRelocation, RelocationWithInvalidSymbol}
-use Rattle.thorin_faults.specs.Fault.{MultipleRelocations}
+use Rattle.thorin_errors.specs.Fault.{Fault, UnsupportedRelocation, RelocationWithInvalidSymbol}
+use Rattle.thorin_errors.specs.Fault.{MultipleRelocations}
 use Rattle.thorin_executable.specs.declared.relocations.Flaw.{Flaw}
 use Rattle.thorin_executable.specs.declared.relocations.Flaw.TheVariants.{Unsupported}
 use Rattle.thorin_executable.specs.declared.relocations.Flaw.TheVariants.{InvalidSymbol}

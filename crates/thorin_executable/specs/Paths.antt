@@ -13,8 +13,8 @@ use Rattle.dwp_bytes.specs.declared.fault.ReadError.TheVariants.{BadUtf8}
 use Rattle.dwp_dwarf.specs.Entries.{DebugAttribute}
 use Rattle.dwp_dwarf.specs.Split.{SplitAttributes}
 use Rattle.dwp_dwarf.specs.Strings.{Strings, string_of}
-use Rattle.thorin_faults.specs.Fault.{Fault, GimliRead}
-use Rattle.thorin_faults.specs.Answers.{as_fault}
+use Rattle.thorin_errors.specs.Fault.{Fault, GimliRead}
+use Rattle.thorin_errors.specs.Answers.{as_fault}
 
 -- `/`
 abbrev pub slash : List ℕ

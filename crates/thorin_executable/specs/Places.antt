@@ -10,8 +10,8 @@ use Rattle.dwp_bytes.specs.declared.fault.ReadError.{ReadError}
 use Rattle.dwp_dwarf.specs.Entries.{DebugAttribute}
 use Rattle.dwp_dwarf.specs.Split.{SplitAttributes}
 use Rattle.dwp_dwarf.specs.Strings.{Strings, string_at, indexed_at, string_of}
-use Rattle.thorin_faults.specs.Fault.{Fault, GimliRead}
-use Rattle.thorin_faults.specs.Answers.{as_fault}
+use Rattle.thorin_errors.specs.Fault.{Fault, GimliRead}
+use Rattle.thorin_errors.specs.Answers.{as_fault}
 use Rattle.thorin_executable.specs.Paths.{text_of, text_if, path_in, object_path}
 use Rattle.thorin_executable.specs.declared.last.StringPlace.{StringPlace}
 use Rattle.thorin_executable.specs.declared.last.StringPlace.TheVariants.{Str, LineStr, Indexed}

@@ -14,8 +14,8 @@ use Rattle.dwp_elf_read.specs.Elf.{Elf}
 use Rattle.dwp_elf_read.specs.Symbol.{symbol_value_of}
 use Rattle.dwp_bytes.specs.declared.relocation.Relocation.{Relocation}
 use Rattle.dwp_bytes.specs.declared.relocation.RelocationEntry.{RelocationEntry}
-use Rattle.thorin_faults.specs.Fault.{Fault, NamelessSection, UnsupportedRelocation}
-use Rattle.thorin_faults.specs.Fault.{RelocationWithInvalidSymbol, MultipleRelocations, ObjectRead}
+use Rattle.thorin_errors.specs.Fault.{Fault, NamelessSection, UnsupportedRelocation}
+use Rattle.thorin_errors.specs.Fault.{RelocationWithInvalidSymbol, MultipleRelocations, ObjectRead}
 
 -- machines, and their relocations that store a symbol's value plus an addend (the processor
 -- supplements of the ELF specification)

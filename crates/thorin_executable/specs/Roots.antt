@@ -9,8 +9,8 @@ use Rattle.dwp_dwarf.specs.Entries.{root_code_at}
 use Rattle.dwp_dwarf.specs.Offsets.{from_at}
 use Rattle.dwp_dwarf.specs.Split.{SplitAttributes, split_at}
 use Rattle.dwp_dwarf.specs.Units.{Unit}
-use Rattle.thorin_faults.specs.Fault.{Fault, NoDie, ParseUnit}
-use Rattle.thorin_faults.specs.Answers.{as_fault}
+use Rattle.thorin_errors.specs.Fault.{Fault, NoDie, ParseUnit}
+use Rattle.thorin_errors.specs.Answers.{as_fault}
 
 -- the attributes of a unit's root entry that name its split object; its abbreviations stand in that
 -- section

@@ -14,8 +14,8 @@ use Rattle.dwp_bytes.specs.declared.relocation.RelocationEntry.{RelocationEntry}
 use Rattle.dwp_bytes.specs.Input.{Input, section}
 use Rattle.dwp_bytes.specs.Relocation.{relocated_input}
 use Rattle.dwp_dwarf.specs.Strings.{Strings}
-use Rattle.thorin_faults.specs.Fault.{Fault, ParseObjectFile, DecompressData, ObjectRead}
-use Rattle.thorin_faults.specs.Answers.{as_fault}
+use Rattle.thorin_errors.specs.Fault.{Fault, ParseObjectFile, DecompressData, ObjectRead}
+use Rattle.thorin_errors.specs.Answers.{as_fault}
 use Rattle.thorin_executable.specs.Relocations.{with_relocations}
 use Rattle.thorin_executable.specs.declared.loading.DebugSection.{DebugSection}
 use Rattle.thorin_executable.specs.declared.loading.DebugSection.TheVariants.{Abbrev, Info, LineStr}

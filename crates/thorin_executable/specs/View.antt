@@ -4,9 +4,9 @@ use Rattle.std.specs.Prelude.{Result, Ok}
 use Rattle.std.specs.Prelude.{Err, option_map, string_bytes}
 use Rattle.dwp_bytes.specs.Input.{Input}
 use Rattle.dwp_dwarf.specs.Sections.{strings_of}
-use Rattle.thorin_faults.specs.declared.fault.Error.{Error}
-use Rattle.thorin_faults.specs.Answers.{MemoryAside}
-use Rattle.thorin_faults.specs.Fault.{fault_of}
+use Rattle.thorin_errors.specs.declared.error.Error.{Error}
+use Rattle.thorin_errors.specs.Answers.{MemoryAside}
+use Rattle.thorin_errors.specs.Fault.{fault_of}
 use Rattle.thorin_executable.specs.declared.loading.DebugData.{DebugData as Data}
 use Rattle.thorin_executable.specs.declared.lending.NamedUnit.{NamedUnit}
 use Rattle.thorin_executable.specs.declared.listing.Skeleton.{Skeleton}

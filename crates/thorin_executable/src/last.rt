@@ -5,7 +5,7 @@ ghost use Rattle.std.specs.Prelude.{string_bytes};
 ghost use Rattle.dwp_dwarf.specs.Attributes.{attribute_of};
 ghost use Rattle.dwp_dwarf.specs.Sections.{strings_of};
 ghost use Rattle.dwp_dwarf.specs.Split.{attributes_of};
-ghost use Rattle.thorin_faults.specs.Answers.{Gives};
+ghost use Rattle.thorin_errors.specs.Answers.{Gives};
 ghost use Rattle.thorin_executable.specs.Paths as spec;
 ghost use Rattle.thorin_executable.specs.Places.{IsStringAt, IsPathAt, IsKept};
 
@@ -13,7 +13,7 @@ use crate::paths::object_path;
 use dwp_dwarf::{Attribute, Format, Reader, SplitAttributes, StringSections};
 use std::alloc::Global;
 use std::mem::replace;
-use thorin_faults::Error;
+use thorin_errors::Error;
 
 const DW_FORM_STRP: u64 = 0x0e;
 

@@ -11,7 +11,8 @@ use dwp_dwarf::RelocationEntry;
 use dwp_table::DwarfObject;
 use std::alloc::Global;
 use std::marker::Model;
-use thorin_faults::{Error, Session};
+use thorin_errors::Error;
+use thorin_sessions::Session;
 
 /// A split unit that an executable names, without the path of its object.
 #[derive(Clone, Copy, Debug)]

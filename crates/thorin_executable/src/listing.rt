@@ -3,7 +3,7 @@
 ghost use Rattle.std.specs.Prelude.{◌≡◌, [], None, Ok, map, option_map, OnErr, string_bytes};
 ghost use Rattle.dwp_dwarf.specs.Sections.{strings_of};
 ghost use Rattle.dwp_dwarf.specs.Units.{unit_of, unit_seen, units_left};
-ghost use Rattle.thorin_faults.specs.Answers.{Gives};
+ghost use Rattle.thorin_errors.specs.Answers.{Gives};
 ghost use Rattle.thorin_executable.specs.Skeletons as spec;
 ghost use Rattle.thorin_executable.specs.Places.{IsKept};
 ghost use Rattle.thorin_executable.specs.View.{data_of, listed, IsFront, UnlessMemory};
@@ -21,7 +21,8 @@ use dwp_dwarf::{
 use dwp_table::DwarfObject;
 use std::alloc::Global;
 use std::marker::Model;
-use thorin_faults::{Error, Session};
+use thorin_errors::Error;
+use thorin_sessions::Session;
 use thorin_identity::dwo_identifier_remembering;
 
 /// A split unit that an executable names, and the path of its object.

@@ -2,7 +2,7 @@
 
 ghost use Rattle.std.specs.Prelude.{◌≡◌, find, option_map, IfSome};
 ghost use Rattle.dwp_elf_read.specs.View.{elf, file as file_of, section as meaning};
-ghost use Rattle.thorin_faults.specs.Answers.{Gives};
+ghost use Rattle.thorin_errors.specs.Answers.{Gives};
 ghost use Rattle.thorin_executable.specs.Sections as spec;
 ghost use Rattle.thorin_executable.specs.View.{data_of};
 
@@ -11,7 +11,8 @@ use crate::relocations::add_relocations;
 use dwp_dwarf::{Reader, RelocationEntry, StringSections};
 use dwp_elf_read::{ElfFile, ReadError, Section};
 use std::alloc::Global;
-use thorin_faults::{Error, Session};
+use thorin_errors::Error;
+use thorin_sessions::Session;
 
 /// A section of an executable that is read.
 #[derive(Clone, Copy)]

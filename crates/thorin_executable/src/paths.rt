@@ -4,14 +4,14 @@ ghost use Rattle.std.specs.Prelude.{◌≡◌, option_map, string_bytes, IfOk};
 ghost use Rattle.dwp_dwarf.specs.Attributes.{attribute_of};
 ghost use Rattle.dwp_dwarf.specs.Sections.{strings_of};
 ghost use Rattle.dwp_dwarf.specs.Split.{attributes_of};
-ghost use Rattle.thorin_faults.specs.Answers.{Gives};
+ghost use Rattle.thorin_errors.specs.Answers.{Gives};
 ghost use Rattle.thorin_executable.specs.Paths as spec;
 
 use dwp_dwarf::{
     Attribute, Format, ReadError, Reader, SplitAttributes, StringSections, attr_string,
 };
 use std::alloc::{AllocError, Global};
-use thorin_faults::Error;
+use thorin_errors::Error;
 
 /// The path of a name in a directory; a name from the root on replaces it.
 #[tactic(auto, unfolding(crate::specs::Paths::path_in))]

@@ -4,8 +4,8 @@ ghost use Rattle.std.specs.Prelude.{◌≡◌, [], map, IfOk, IsTrue};
 ghost use Rattle.dwp_elf_read.specs.Relocation.{relocations_of};
 ghost use Rattle.dwp_elf_read.specs.View.{elf, file, section};
 ghost use Rattle.dwp_bytes.specs.Relocation.{ascends};
-ghost use Rattle.thorin_faults.specs.Answers.{Gives, MemoryAside};
-ghost use Rattle.thorin_faults.specs.Fault.{fault_of};
+ghost use Rattle.thorin_errors.specs.Answers.{Gives, MemoryAside};
+ghost use Rattle.thorin_errors.specs.Fault.{fault_of};
 ghost use Rattle.thorin_executable.specs.Relocations.{at_place, is_absolute, pair_of, relocation_of};
 ghost use Rattle.thorin_executable.specs.Relocations.{with_relocation, with_relocations};
 ghost use Rattle.thorin_executable.specs.Flaws.{flaw_fault};
@@ -14,7 +14,7 @@ use dwp_bytes::{Relocation, RelocationEntry};
 use dwp_elf_read::{ElfFile, RawRelocation, Section};
 use std::alloc::{AllocError, Global};
 use std::collections::BTreeMap;
-use thorin_faults::Error;
+use thorin_errors::Error;
 
 /// `e_machine` of i386, x86-64 and AArch64.
 const EM_386: u16 = 3;

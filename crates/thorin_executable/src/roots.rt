@@ -1,13 +1,13 @@
 //! What the root entry of a unit says of its split object.
 
 ghost use Rattle.std.specs.Prelude.{◌≡◌};
-ghost use Rattle.thorin_faults.specs.Answers.{Gives};
+ghost use Rattle.thorin_errors.specs.Answers.{Gives};
 ghost use Rattle.dwp_dwarf.specs.Split.{attributes_of};
 ghost use Rattle.dwp_dwarf.specs.Units.{unit_of};
 ghost use Rattle.thorin_executable.specs.Roots as spec;
 
 use dwp_dwarf::{AbbreviationCache, ReadError, Reader, SplitAttributes, UnitHeader};
-use thorin_faults::Error;
+use thorin_errors::Error;
 
 /// The attributes of a unit's root entry that name its split object.
 ///

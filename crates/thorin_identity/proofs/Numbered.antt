@@ -13,8 +13,8 @@ use Rattle.dwp_dwarf.specs.Numbers.{first_number, number_or, numbered, numbered_
 use Rattle.dwp_dwarf.specs.Offsets.{from_at}
 use Rattle.dwp_dwarf.specs.Units.{Unit}
 use Rattle.dwp_table.specs.declared.object.DwarfObject.{DwarfObject}
-use Rattle.thorin_faults.specs.Fault.{Fault, GimliRead, ParseUnitAbbreviations}
-use Rattle.thorin_faults.specs.Answers.{as_fault}
+use Rattle.thorin_errors.specs.Fault.{Fault, GimliRead, ParseUnitAbbreviations}
+use Rattle.thorin_errors.specs.Answers.{as_fault}
 use Rattle.thorin_identity.specs.Identity.{compilation, DW_AT_GNU_dwo_id, identifier_in, found_or}
 use Rattle.thorin_identity.specs.Identity.{first_identifier, entry_identity, numbered_identity}
 use Rattle.thorin_identity.specs.Identity.{root_identity}

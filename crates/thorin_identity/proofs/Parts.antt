@@ -13,8 +13,8 @@ use Rattle.dwp_dwarf.specs.Entries.{entry, root_code_at}
 use Rattle.dwp_dwarf.specs.Offsets.{from_at}
 use Rattle.dwp_dwarf.specs.Units.{Unit}
 use Rattle.dwp_table.specs.declared.object.DwarfObject.{DwarfObject}
-use Rattle.thorin_faults.specs.Fault.{Fault, NoDie, GimliRead, ParseUnitAbbreviations}
-use Rattle.thorin_faults.specs.Answers.{as_fault}
+use Rattle.thorin_errors.specs.Fault.{Fault, NoDie, GimliRead, ParseUnitAbbreviations}
+use Rattle.thorin_errors.specs.Answers.{as_fault}
 use Rattle.thorin_identity.specs.Identity.{entry_identity, root_identity, part_between}
 use Rattle.thorin_identity.specs.Identity.{with_offset}
 use Rattle.thorin_identity.proofs.Anywhere.{declared_anywhere}

@@ -15,9 +15,9 @@ use Rattle.dwp_dwarf.specs.Entries.{DebugAttribute, DebugEntry, entry, root_code
 use Rattle.dwp_dwarf.specs.Offsets.{from_at}
 use Rattle.dwp_table.specs.declared.object.DwarfObject.{DwarfObject}
 use Rattle.dwp_table.specs.declared.object.DwarfObject.TheVariants.{Compilation, TypeUnit}
-use Rattle.thorin_faults.specs.Fault.{Fault, NoDie, TopLevelDieNotUnit, ParseUnitAbbreviations}
-use Rattle.thorin_faults.specs.Fault.{GimliRead}
-use Rattle.thorin_faults.specs.Answers.{as_fault}
+use Rattle.thorin_errors.specs.Fault.{Fault, NoDie, TopLevelDieNotUnit, ParseUnitAbbreviations}
+use Rattle.thorin_errors.specs.Fault.{GimliRead}
+use Rattle.thorin_errors.specs.Answers.{as_fault}
 
 -- the compilation unit of an identifier, the type unit of a signature
 abbrev pub compilation : ℕ → DwarfObject

@@ -2,7 +2,7 @@
 
 ghost use Rattle.std.specs.Prelude.{◌≡◌, ◌≢◌, Ok, IfErr, IfSome, drop, take};
 ghost use Rattle.dwp_bytes.specs.Input.{Input};
-ghost use Rattle.thorin_faults.specs.Answers.{Gives};
+ghost use Rattle.thorin_errors.specs.Answers.{Gives};
 ghost use Rattle.dwp_dwarf.specs.Units.{Unit, unit_of};
 ghost use Rattle.dwp_dwarf.specs.Attributes.{entry_of};
 ghost use Rattle.dwp_dwarf.specs.Numbers.{numbered_of};
@@ -15,7 +15,7 @@ use dwp_dwarf::{
     UnitType,
 };
 use dwp_table::{DebugTypeSignature, DwarfObject, DwoId};
-use thorin_faults::Error;
+use thorin_errors::Error;
 
 const DW_TAG_COMPILE_UNIT: u64 = 0x11;
 

@@ -3,7 +3,7 @@
 ghost use Rattle.std.specs.Prelude.{◌≡◌, ◌≢◌, ◌≤◌, IfErr, length, take, drop, true, false};
 ghost use Rattle.dwp_bytes.specs.Input.{section};
 ghost use Rattle.dwp_dwarf.specs.Units.{unit_of};
-ghost use Rattle.thorin_faults.specs.Answers.{Gives};
+ghost use Rattle.thorin_errors.specs.Answers.{Gives};
 ghost use Rattle.thorin_identity.specs.Identity.{identity};
 
 use crate::identity::{dwo_identifier_in_range, dwo_identifier_remembering, header_identifier};
@@ -12,7 +12,7 @@ use dwp_dwarf::{AbbreviationCache, Reader, SliceReader, UnitHeader, UnitType};
 use dwp_table::DwarfObject;
 use std::alloc::Global;
 use std::marker::Model;
-use thorin_faults::Error;
+use thorin_errors::Error;
 
 /// A section of abbreviations whose units have ranges of it (DWARF 5, 7.3.5), and what was read of
 /// tables in it. Compile units of one range, one after the other, share what was read of that range.

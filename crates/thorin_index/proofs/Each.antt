@@ -11,7 +11,7 @@ use Rattle.dwp_base.specs.declared.section.SectionKind.TheVariants.{Loclists, Rn
 use Rattle.dwp_base.specs.declared.section.SectionKind.TheVariants.{Macinfo, Macro, Str, CuIndex}
 use Rattle.dwp_base.specs.declared.section.SectionKind.TheVariants.{TuIndex}
 use Rattle.dwp_base.specs.declared.section.Contribution.{Contribution}
-use Rattle.thorin_faults.specs.Fault.{Fault}
+use Rattle.thorin_errors.specs.Fault.{Fault}
 use Rattle.thorin_index.specs.declared.entry.IndexEntry.{IndexEntry}
 use Rattle.dwp_table.specs.Columns.{contribution_kinds}
 use Rattle.thorin_index.specs.Entries.{contribution_to}

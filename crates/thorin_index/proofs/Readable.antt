@@ -21,7 +21,7 @@ use Rattle.dwp_table.specs.Objects.{identifier_of}
 use Rattle.dwp_table.specs.Columns.{contribution_kinds}
 use Rattle.dwp_table.specs.Table.{signature_of}
 use Rattle.dwp_index.specs.IndexBytes.{is_slot_count, index_of}
-use Rattle.thorin_faults.specs.Fault.{Fault}
+use Rattle.thorin_errors.specs.Fault.{Fault}
 use Rattle.thorin_index.specs.declared.entry.IndexEntry.{IndexEntry}
 use Rattle.thorin_index.specs.Entries.{contribution_to, offset_or_0, size_or_0}
 use Rattle.thorin_index.specs.EntryTests.{each, count_test, encoding_test, format_test, offset_test}

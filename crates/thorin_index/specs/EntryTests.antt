@@ -11,8 +11,8 @@ use Rattle.dwp_base.specs.Sections.{name_of}
 use Rattle.dwp_bytes.specs.declared.encoding.Encoding.{Encoding}
 use Rattle.dwp_bytes.specs.declared.encoding.Format.{Format}
 use Rattle.dwp_bytes.specs.declared.encoding.Format.TheVariants.{Dwarf32, Dwarf64}
-use Rattle.thorin_faults.specs.Fault.{Fault, NumberTooLarge, MixedInputEncodings}
-use Rattle.thorin_faults.specs.Fault.{SectionOutsideFormat}
+use Rattle.thorin_errors.specs.Fault.{Fault, NumberTooLarge, MixedInputEncodings}
+use Rattle.thorin_errors.specs.Fault.{SectionOutsideFormat}
 use Rattle.thorin_index.specs.declared.entry.IndexEntry.{IndexEntry}
 use Rattle.dwp_table.specs.Columns.{column_of, contribution_kinds}
 use Rattle.dwp_bytes.specs.Encoding.{index_version_of}

@@ -2,7 +2,7 @@
 use Rattle.std.specs.Prelude.{Option, Result}
 use Rattle.dwp_base.specs.declared.section.SectionKind.{SectionKind}
 use Rattle.dwp_base.specs.declared.section.Contribution.{Contribution}
-use Rattle.thorin_faults.specs.Fault.{Fault}
+use Rattle.thorin_errors.specs.Fault.{Fault}
 use Rattle.thorin_index.specs.declared.entry_tests.PartTest.{PartTest}
 use Rattle.thorin_index.specs.declared.entry_tests.PartTest.TheVariants.{Format, Offset, Size}
 use Rattle.thorin_index.specs.EntryTests.{format_test, offset_test, size_test}

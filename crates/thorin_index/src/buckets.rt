@@ -2,7 +2,7 @@
 
 ghost use Rattle.std.specs.Prelude.{◌≡◌, ◌<◌, [], length, map, IfOk, OnOk};
 ghost use Rattle.dwp_table.specs.Table.{HasSlots, IsHashTable};
-ghost use Rattle.thorin_faults.specs.Answers.{Gives};
+ghost use Rattle.thorin_errors.specs.Answers.{Gives};
 ghost use Rattle.thorin_index.specs.Buckets.{IsLooked};
 ghost use Rattle.thorin_index.specs.EntryTests.{count_test};
 
@@ -10,7 +10,7 @@ use crate::entry_tests::test_count;
 use dwp_table::laws::unused_slots_are_a_table;
 use dwp_table::{Bucketable, place_row, slot_count};
 use std::alloc::{AllocError, Global};
-use thorin_faults::Error;
+use thorin_errors::Error;
 
 /// The slots of a hash table of units (DWARF 5, 7.3.5.3).
 #[derive(Debug, Drop)]

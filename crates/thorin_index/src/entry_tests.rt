@@ -3,7 +3,7 @@
 ghost use Rattle.std.specs.Prelude.{◌≡◌, ◌≤◌, length, All, Ok, OnOk};
 ghost use Rattle.thorin_index.specs.Entries.{offset_or_0, size_or_0};
 ghost use Rattle.thorin_index.specs.IndexText.{FitsRow};
-ghost use Rattle.thorin_faults.specs.Answers.{Gives};
+ghost use Rattle.thorin_errors.specs.Answers.{Gives};
 ghost use Rattle.thorin_index.specs.EntryTests.{count_test, each, each_part, encoding_test};
 ghost use Rattle.thorin_index.specs.EntryTests.{number_test, parts_test, tests_under};
 ghost use Rattle.thorin_index.specs.PartTests.{test_of};
@@ -13,7 +13,7 @@ use crate::rows::IndexRows;
 use dwp_base::{Contribution, SectionKind};
 use dwp_bytes::Encoding;
 use dwp_table::{CONTRIBUTION_KINDS, column_of};
-use thorin_faults::Error;
+use thorin_errors::Error;
 
 /// The greatest number of units that an index can name: with it, three times the number still fits
 /// 32 bits, and so does the number of slots.

@@ -5,7 +5,7 @@ ghost use Rattle.std.specs.Prelude.{IfOk, OnOk, vec_len};
 ghost use Rattle.std.specs.List.{flat_map};
 ghost use Rattle.dwp_base.specs.Numbers.{number_bytes};
 ghost use Rattle.dwp_table.specs.Table.{signature_of};
-ghost use Rattle.thorin_faults.specs.Answers.{Gives};
+ghost use Rattle.thorin_errors.specs.Answers.{Gives};
 ghost use Rattle.thorin_index.specs.Entries.{offset_or_0, size_or_0};
 ghost use Rattle.thorin_index.specs.EntryTests.{index_tests};
 ghost use Rattle.thorin_index.specs.IndexText.{
@@ -30,7 +30,7 @@ use crate::rows::IndexRows;
 use dwp_base::{Contribution, Endianness, SectionKind};
 use dwp_table::{Bucketable, CONTRIBUTION_KINDS, column_of};
 use std::alloc::{AllocError, Global};
-use thorin_faults::Error;
+use thorin_errors::Error;
 
 /// The bytes of an index that has a row for each entry, in their order (DWARF 5, 7.3.5.3; the GNU
 /// page DebugFissionDWP); no bytes where there are no entries. Where no two entries have one

@@ -3,7 +3,7 @@
 ghost use Rattle.std.specs.Prelude.{◌≡◌, ◌<◌, ◌++◌, [], ◌∷◌, Some, get_or, length, slice_get, take};
 ghost use Rattle.std.specs.Prelude.{IfOk, OnOk, OnErr, IsTrue};
 ghost use Rattle.dwp_table.specs.Table.{HasSlots, IsHashTable};
-ghost use Rattle.thorin_faults.specs.Answers.{Gives};
+ghost use Rattle.thorin_errors.specs.Answers.{Gives};
 ghost use Rattle.thorin_index.specs.EntryTests.{count_test};
 ghost use Rattle.thorin_index.specs.IndexText.{entry_ids};
 ghost use Rattle.thorin_index.specs.Rows.{with_own};
@@ -15,7 +15,7 @@ use dwp_bytes::Encoding;
 use dwp_table::{Bucketable, CONTRIBUTION_KINDS, DebugTypeSignature, DwarfObject};
 use std::alloc::{AllocError, Global};
 use std::marker::Model;
-use thorin_faults::Error;
+use thorin_errors::Error;
 
 /// The contribution of a unit to the section that it stands in, which it shares with no other.
 #[derive(Clone, Copy)]

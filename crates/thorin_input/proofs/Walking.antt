@@ -16,9 +16,9 @@ use Rattle.dwp_elf_read.specs.Elf.{Elf, SectionMeaning, SHT_NOBITS, name_is, has
 use Rattle.dwp_elf_read.specs.View.{Placed}
 use Rattle.dwp_index.specs.Contents as contents
 use Rattle.dwp_index.specs.Contents.{has_name, has_older_name, is_of_kind}
-use Rattle.thorin_faults.specs.Fault.{Fault, fault_of, DecompressData, ObjectRead}
-use Rattle.thorin_faults.specs.Answers.{Gives, MemoryAside, as_fault}
-use Rattle.thorin_faults.specs.declared.fault.Error.{Error}
+use Rattle.thorin_errors.specs.Fault.{Fault, fault_of, DecompressData, ObjectRead}
+use Rattle.thorin_errors.specs.Answers.{Gives, MemoryAside, as_fault}
+use Rattle.thorin_errors.specs.declared.error.Error.{Error}
 use Rattle.thorin_input.specs.Encodings.{is_index, is_plain}
 use Rattle.thorin_input.specs.Used.{Used, InputFile, is_present, used_kind, unusable, used_bytes}
 use Rattle.thorin_input.specs.Used.{has_kind, with_used, used_from, input_file_of}

@@ -11,10 +11,10 @@ use Rattle.dwp_table.specs.declared.object.DwarfObject.TheVariants.{Compilation,
 use Rattle.dwp_table.specs.Objects.{identifier_of}
 use Rattle.dwp_table.specs.Probing.{found_row}
 use Rattle.dwp_index.specs.Index.{Index, Ranges, row_in, column_place, range_in}
-use Rattle.thorin_faults.specs.Fault.{Fault, fault_of, UnitNotInIndex, RowNotInIndex}
-use Rattle.thorin_faults.specs.Fault.{SectionNotInRow, BadContribution}
-use Rattle.thorin_faults.specs.Answers.{as_fault}
-use Rattle.thorin_faults.specs.declared.fault.Error.{Error}
+use Rattle.thorin_errors.specs.Fault.{Fault, fault_of, UnitNotInIndex, RowNotInIndex}
+use Rattle.thorin_errors.specs.Fault.{SectionNotInRow, BadContribution}
+use Rattle.thorin_errors.specs.Answers.{as_fault}
+use Rattle.thorin_errors.specs.declared.error.Error.{Error}
 
 -- the indexes of an input, those that it has, and one of its sections
 pub record Adjustor : Type 0 where

@@ -15,7 +15,7 @@ use Rattle.dwp_dwarf.specs.Units.{Unit, units}
 use Rattle.dwp_dwarf.specs.declared.unit.UnitSection.{UnitSection}
 use Rattle.dwp_dwarf.specs.declared.unit.UnitSection.TheVariants as places
 use Rattle.thorin_index.specs.EntryTests.{same_encoding}
-use Rattle.thorin_faults.specs.Fault.{Fault, ParseUnitHeader, NoCompilationUnits}
+use Rattle.thorin_errors.specs.Fault.{Fault, ParseUnitHeader, NoCompilationUnits}
 use Rattle.thorin_input.specs.Indexes.{Source}
 use Rattle.thorin_input.specs.NewUnits.{unit_section}
 use Rattle.thorin_input.specs.Used.{Used, InputFile, opened, has_info, input_file_of, first}

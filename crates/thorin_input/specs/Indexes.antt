@@ -13,8 +13,8 @@ use Rattle.dwp_index.specs.Index.{Index}
 use Rattle.dwp_index.specs.IndexBytes.{index_of}
 use Rattle.dwp_table.specs.declared.object.DwarfObject.{DwarfObject}
 use Rattle.dwp_table.specs.declared.object.DwarfObject.TheVariants.{Compilation, TypeUnit}
-use Rattle.thorin_faults.specs.Fault.{Fault, ParseIndex, IncompatibleIndexVersion}
-use Rattle.thorin_faults.specs.Answers.{as_fault}
+use Rattle.thorin_errors.specs.Fault.{Fault, ParseIndex, IncompatibleIndexVersion}
+use Rattle.thorin_errors.specs.Answers.{as_fault}
 pub use Rattle.thorin_input.specs.Adjusting.{looked_up}
 use Rattle.thorin_input.specs.Used.{InputFile, first}
 

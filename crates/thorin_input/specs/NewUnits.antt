@@ -16,10 +16,10 @@ use Rattle.dwp_table.specs.Objects.{identifier_of}
 use Rattle.dwp_table.specs.declared.object.DwarfObject.{DwarfObject}
 use Rattle.dwp_table.specs.declared.object.DwarfObject.TheVariants.{Compilation, TypeUnit}
 use Rattle.thorin_index.specs.declared.entry.IndexEntry.{IndexEntry}
-use Rattle.thorin_faults.specs.Fault.{Fault, ParseUnitHeader, NotSplitUnit, DuplicateUnit}
-use Rattle.thorin_faults.specs.Fault.{EmptyUnit, MultipleDebugInfoSection}
-use Rattle.thorin_faults.specs.Fault.{MultipleDebugTypesSection}
-use Rattle.thorin_faults.specs.Answers.{as_fault}
+use Rattle.thorin_errors.specs.Fault.{Fault, ParseUnitHeader, NotSplitUnit, DuplicateUnit}
+use Rattle.thorin_errors.specs.Fault.{EmptyUnit, MultipleDebugInfoSection}
+use Rattle.thorin_errors.specs.Fault.{MultipleDebugTypesSection}
+use Rattle.thorin_errors.specs.Answers.{as_fault}
 use Rattle.thorin_identity.specs.Identity.{identity}
 use Rattle.thorin_input.specs.Indexes.{Source, is_package}
 use Rattle.thorin_input.specs.Names.{same_name}

@@ -12,8 +12,8 @@ use Rattle.dwp_base.specs.Sections.{name_of, same_kind}
 use Rattle.dwp_bytes.specs.declared.encoding.Encoding.{Encoding}
 use Rattle.thorin_strings.specs.StringOffsets.{remapped}
 use Rattle.thorin_packaged.specs.PackagedOffsets.{packaged_offsets}
-use Rattle.thorin_faults.specs.Fault.{Fault, MissingRequiredSection, RepeatedSection}
-use Rattle.thorin_faults.specs.Fault.{SectionOutsideFormat}
+use Rattle.thorin_errors.specs.Fault.{Fault, MissingRequiredSection, RepeatedSection}
+use Rattle.thorin_errors.specs.Fault.{SectionOutsideFormat}
 use Rattle.thorin_input.specs.Growing.{Contents}
 use Rattle.thorin_input.specs.Indexes.{Source, is_package}
 use Rattle.thorin_input.specs.Used.{Used, first}

@@ -21,8 +21,8 @@ use Rattle.dwp_table.specs.declared.object.DwarfObject.TheVariants.{Compilation}
 use Rattle.thorin_input.specs.Adjusting.{adjusted}
 use Rattle.thorin_index.specs.declared.entry.IndexEntry.{IndexEntry}
 use Rattle.thorin_packaged.specs.RowPlaces.{row_by_place}
-use Rattle.thorin_faults.specs.Fault.{Fault, UnitNotInIndex, RowNotInIndex, BadContribution}
-use Rattle.thorin_faults.specs.Answers.{as_fault}
+use Rattle.thorin_errors.specs.Fault.{Fault, UnitNotInIndex, RowNotInIndex, BadContribution}
+use Rattle.thorin_errors.specs.Answers.{as_fault}
 use Rattle.thorin_input.specs.Growing.{Contents, joined_parts, range_put}
 use Rattle.thorin_input.specs.Indexes.{Indexes, Source, is_package, index_for, looked_up}
 use Rattle.thorin_input.specs.Used.{first}

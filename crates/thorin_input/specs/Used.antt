@@ -18,9 +18,9 @@ use Rattle.dwp_elf_read.specs.Elf.{Elf, SectionMeaning, elf_of}
 use Rattle.dwp_elf_read.specs.Identification as identification
 use Rattle.dwp_index.specs.Contents as contents
 use Rattle.dwp_index.specs.Contents.{has_name, is_of_kind}
-use Rattle.thorin_faults.specs.Fault.{Fault, ParseFileKind, InvalidInputKind, ParseObjectFile}
-use Rattle.thorin_faults.specs.Fault.{DecompressData, ObjectRead}
-use Rattle.thorin_faults.specs.Answers.{as_fault}
+use Rattle.thorin_errors.specs.Fault.{Fault, ParseFileKind, InvalidInputKind, ParseObjectFile}
+use Rattle.thorin_errors.specs.Fault.{DecompressData, ObjectRead}
+use Rattle.thorin_errors.specs.Answers.{as_fault}
 
 -- a section that is used: its kind, its content and its address
 pub record Used : Type 0 where

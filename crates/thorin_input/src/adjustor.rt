@@ -18,7 +18,7 @@ ghost use Rattle.thorin_input.specs.Adjusting.{
 use dwp_base::{Contribution, ContributionOffset, SectionKind};
 use dwp_index::{Bucketable, DwarfObject, Row, UnitIndex};
 use std::marker::Model;
-use thorin_faults::Error;
+use thorin_errors::Error;
 
 /// Tells where a unit's part of one section of an input comes to lie in the output. In an input
 /// without an index that part is the whole section; else it is the range of the unit's row (DWARF

@@ -1,14 +1,14 @@
 //! The encoding of an input, and the one encoding of all its units.
 
 ghost use Rattle.std.specs.Prelude.{◌≡◌, ◌&&◌, Some, None, if◌then◌else◌};
-ghost use Rattle.thorin_faults.specs.Answers.{Gives};
+ghost use Rattle.thorin_errors.specs.Answers.{Gives};
 ghost use Rattle.thorin_input.specs.Encodings as spec;
 ghost use Rattle.thorin_input.specs.View.{object};
 
 use crate::object::InputObject;
 use dwp_base::SectionKind;
 use dwp_dwarf::{Encoding, Reader, SliceReader, UnitHeaders, UnitSection};
-use thorin_faults::Error;
+use thorin_errors::Error;
 
 impl<'a> InputObject<'a> {
     /// The encoding of the input: that of its first unit.

@@ -9,7 +9,7 @@ ghost use Rattle.thorin_input.specs.Growing.{IsGrown};
 use dwp_base::{Contribution, SectionKind};
 use dwp_elf::WritableObject;
 use std::alloc::{AllocError, Global};
-use thorin_faults::Error;
+use thorin_errors::Error;
 
 /// The content of a section; no bytes where there is none.
 pub fn content(file: &WritableObject, kind: SectionKind) -> &[u8]

@@ -5,12 +5,12 @@ ghost use Rattle.std.specs.List.{list_any};
 ghost use Rattle.dwp_base.specs.Sections.{same_kind};
 ghost use Rattle.dwp_base.specs.declared.section.SectionKind.TheVariants as kinds;
 ghost use Rattle.dwp_elf_read.specs.View.{elf};
-ghost use Rattle.thorin_faults.specs.Answers.{Gives};
+ghost use Rattle.thorin_errors.specs.Answers.{Gives};
 ghost use Rattle.thorin_input.specs.Used as spec;
 
 use dwp_base::{Endianness, SectionKind};
 use dwp_elf_read::{ElfFile, FileKind};
-use thorin_faults::Error;
+use thorin_errors::Error;
 
 /// A section of an input that is used: its kind, its content, and the address in its header.
 #[derive(Clone, Copy)]

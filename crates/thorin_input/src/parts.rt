@@ -3,7 +3,7 @@
 ghost use Rattle.std.specs.Prelude.{◌≡◌, length, take, map, OnOk, OnErr, IfErr};
 ghost use Rattle.dwp_base.specs.declared.section.SectionKind.TheVariants.{Str};
 ghost use Rattle.dwp_elf.specs.FileText.{Object};
-ghost use Rattle.thorin_faults.specs.Answers.{Gives};
+ghost use Rattle.thorin_errors.specs.Answers.{Gives};
 ghost use Rattle.thorin_strings.specs.Known.{AreKnown};
 ghost use Rattle.thorin_input.specs.Growing.{IsGrown, with_bytes, with_parts};
 ghost use Rattle.thorin_input.specs.Parts as spec;
@@ -17,7 +17,7 @@ use dwp_base::SectionKind;
 use dwp_dwarf::Encoding;
 use dwp_elf::WritableObject;
 use std::alloc::Global;
-use thorin_faults::Error;
+use thorin_errors::Error;
 use thorin_packaged::remap_packaged_offsets;
 use thorin_strings::{PackageStringTable, Repeats};
 

@@ -5,7 +5,7 @@ ghost use Rattle.dwp_base.specs.declared.section.SectionKind.TheVariants.{Abbrev
 ghost use Rattle.dwp_dwarf.specs.Units.{unit_of};
 ghost use Rattle.dwp_index.specs.Package.{part_of, is_outside};
 ghost use Rattle.dwp_table.specs.Objects.{identifier_of};
-ghost use Rattle.thorin_faults.specs.Answers.{Gives};
+ghost use Rattle.thorin_errors.specs.Answers.{Gives};
 ghost use Rattle.thorin_input.specs.Adjusting.{GivesExactly};
 ghost use Rattle.thorin_packaged.specs.RowPlaces.{row_by_place};
 ghost use Rattle.thorin_input.specs.Growing.{joined_parts, range_put};
@@ -25,7 +25,7 @@ use dwp_elf::WritableObject;
 use dwp_index::{Row, UnitIndex};
 use dwp_table::{Bucketable, DwarfObject, DwoId};
 use std::alloc::Global;
-use thorin_faults::Error;
+use thorin_errors::Error;
 use thorin_index::IndexEntry;
 use thorin_packaged::RowPlaces;
 

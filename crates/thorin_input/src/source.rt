@@ -2,7 +2,7 @@
 
 ghost use Rattle.std.specs.Prelude.{◌≡◌};
 ghost use Rattle.dwp_table.specs.Objects.{identifier_of};
-ghost use Rattle.thorin_faults.specs.Answers.{Gives};
+ghost use Rattle.thorin_errors.specs.Answers.{Gives};
 ghost use Rattle.thorin_input.specs.Indexes as spec;
 ghost use Rattle.thorin_input.specs.Used.{first};
 ghost use Rattle.thorin_input.specs.View as view;
@@ -12,7 +12,7 @@ use dwp_base::SectionKind;
 use dwp_dwarf::Encoding;
 use dwp_index::UnitIndex;
 use dwp_table::{Bucketable, DwarfObject};
-use thorin_faults::Error;
+use thorin_errors::Error;
 
 /// The indexes of an input: of a finished package at least one, of a plain object none.
 #[derive(Drop)]

@@ -4,7 +4,7 @@ ghost use Rattle.std.specs.Prelude.{◌≡◌, take, drop, false};
 ghost use Rattle.dwp_bytes.specs.Input.{section};
 ghost use Rattle.dwp_dwarf.specs.Units.{unit_of};
 ghost use Rattle.dwp_index.specs.Package.{part_of, is_outside};
-ghost use Rattle.thorin_faults.specs.Answers.{Gives};
+ghost use Rattle.thorin_errors.specs.Answers.{Gives};
 ghost use Rattle.thorin_identity.specs.Identity.{identity};
 ghost use Rattle.thorin_input.specs.View.{tables_in};
 ghost use Rattle.thorin_input.specs.View as view;
@@ -15,7 +15,7 @@ use dwp_dwarf::{Reader, SliceReader, UnitHeader};
 use dwp_table::DwarfObject;
 use std::alloc::Global;
 use std::marker::Model;
-use thorin_faults::Error;
+use thorin_errors::Error;
 use thorin_identity::RangeTables;
 
 /// The first section of abbreviations of an input, and what was read of tables in it.

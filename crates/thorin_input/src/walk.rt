@@ -6,7 +6,7 @@ ghost use Rattle.dwp_base.specs.Sections.{name_of, compressed_name_of};
 ghost use Rattle.dwp_base.specs.declared.section.SectionKind.TheVariants as kinds;
 ghost use Rattle.dwp_elf_read.specs.Elf.{is_named, has_compressed_flag};
 ghost use Rattle.dwp_elf_read.specs.View.{elf, section as meaning};
-ghost use Rattle.thorin_faults.specs.Answers.{Gives};
+ghost use Rattle.thorin_errors.specs.Answers.{Gives};
 ghost use Rattle.thorin_input.specs.Used as spec;
 ghost use Rattle.thorin_input.specs.View as view;
 
@@ -14,7 +14,7 @@ use crate::object::{InputObject, UsedSection};
 use dwp_base::{Endianness, SectionKind};
 use dwp_elf_read::{ElfFile, ReadError, Section};
 use std::alloc::Global;
-use thorin_faults::Error;
+use thorin_errors::Error;
 
 /// What one walk over the sections of an input gives.
 #[derive(Drop)]

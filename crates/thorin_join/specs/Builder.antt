@@ -18,8 +18,8 @@ use Rattle.thorin_strings.specs.Strings.{data_of}
 use Rattle.thorin_index.specs.declared.entry.IndexEntry.{IndexEntry}
 use Rattle.thorin_index.specs.EntryTests.{index_tests}
 use Rattle.thorin_index.specs.IndexText.{IsIndexOf}
-use Rattle.thorin_faults.specs.Fault.{Fault, MixedInputEncodings, MissingReferencedUnit}
-use Rattle.thorin_faults.specs.Fault.{NoOutputObjectCreated}
+use Rattle.thorin_errors.specs.Fault.{Fault, MixedInputEncodings, MissingReferencedUnit}
+use Rattle.thorin_errors.specs.Fault.{NoOutputObjectCreated}
 use Rattle.thorin_input.specs.Encodings.{encoding_of, own_encoding, common}
 use Rattle.thorin_input.specs.Growing.{with_bytes}
 use Rattle.thorin_input.specs.Indexes.{Source, indexes_of}

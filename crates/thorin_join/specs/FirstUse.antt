@@ -8,7 +8,7 @@ use Rattle.dwp_base.specs.declared.section.SectionKind.TheVariants.{Str, StrOffs
 use Rattle.dwp_base.specs.Sections.{same_kind}
 use Rattle.dwp_base.specs.Reading.{◌>>=◌}
 use Rattle.dwp_elf_read.specs.Elf.{Elf}
-use Rattle.thorin_faults.specs.Fault.{Fault}
+use Rattle.thorin_errors.specs.Fault.{Fault}
 use Rattle.thorin_packaged.specs.PackagedOffsets.{offset_ranges}
 use Rattle.thorin_packaged.specs.PackagedReading.{range_bytes}
 use Rattle.thorin_strings.specs.Strings.{with_string}

@@ -23,8 +23,8 @@ use Rattle.dwp_index.specs.Index.{Index, Ranges, row_in, range_in}
 use Rattle.dwp_index.specs.Package.{part_of, is_outside}
 use Rattle.dwp_table.specs.declared.object.DwarfObject.{DwarfObject}
 use Rattle.thorin_packaged.specs.RowPlaces.{row_by_place}
-use Rattle.thorin_faults.specs.Fault.{Fault, ParseUnitHeader}
-use Rattle.thorin_faults.specs.Answers.{as_fault}
+use Rattle.thorin_errors.specs.Fault.{Fault, ParseUnitHeader}
+use Rattle.thorin_errors.specs.Answers.{as_fault}
 use Rattle.thorin_input.specs.Encodings.{encoding_of}
 use Rattle.thorin_input.specs.Indexes.{Source, is_package, index_for, indexes_of}
 use Rattle.thorin_input.specs.Names.{same_name, is_compilation}

@@ -10,7 +10,7 @@ use Rattle.dwp_elf_read.specs.Elf.{Elf}
 use Rattle.dwp_table.specs.Table.{HasSlots}
 use Rattle.thorin_index.specs.declared.entry.IndexEntry.{IndexEntry}
 use Rattle.thorin_index.specs.IndexText.{used_sections}
-use Rattle.thorin_faults.specs.Fault.{Fault}
+use Rattle.thorin_errors.specs.Fault.{Fault}
 use Rattle.thorin_input.specs.Growing.{Contents}
 use Rattle.thorin_input.specs.Used.{Used, opened, has_info, counts_once, input_file_of, first}
 use Rattle.thorin_join.specs.Builder.{with_input, compilations, type_units}

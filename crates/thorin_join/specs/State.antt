@@ -17,7 +17,7 @@ use Rattle.dwp_index.specs.Package.{part_of, place_of}
 use Rattle.dwp_table.specs.declared.object.DwarfObject.{DwarfObject}
 use Rattle.thorin_index.specs.Entries.{contribution_to}
 use Rattle.thorin_index.specs.declared.entry.IndexEntry.{IndexEntry}
-use Rattle.thorin_faults.specs.Fault.{Fault, MissingRequiredSection}
+use Rattle.thorin_errors.specs.Fault.{Fault, MissingRequiredSection}
 use Rattle.thorin_input.specs.Growing.{Contents, IsGrown, lengths, with_bytes, range_put}
 use Rattle.thorin_input.specs.Growing.{with_parts}
 use Rattle.thorin_input.specs.Indexes.{Source}

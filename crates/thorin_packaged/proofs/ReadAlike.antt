@@ -13,7 +13,7 @@ use Rattle.dwp_bytes.specs.declared.encoding.Encoding.{Encoding}
 use Rattle.dwp_bytes.specs.Encoding.{offset_size}
 use Rattle.dwp_bytes.specs.StringOffsets.{header_size}
 use Rattle.dwp_index.specs.Index.{Index}
-use Rattle.thorin_faults.specs.Fault.{Fault}
+use Rattle.thorin_errors.specs.Fault.{Fault}
 use Rattle.thorin_strings.specs.Rewritten.{NamesTheSame}
 use Rattle.thorin_strings.specs.StringOffsets.{remapped}
 use Rattle.thorin_strings.specs.Strings.{IsTable, data_of}

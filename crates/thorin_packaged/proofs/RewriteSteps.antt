@@ -11,7 +11,7 @@ use Rattle.dwp_base.specs.Reading.{◌>>=◌}
 use Rattle.dwp_bytes.specs.declared.encoding.Encoding.{Encoding}
 use Rattle.dwp_bytes.specs.Encoding.{offset_size}
 use Rattle.dwp_bytes.specs.StringOffsets.{header_size}
-use Rattle.thorin_faults.specs.Fault.{Fault}
+use Rattle.thorin_errors.specs.Fault.{Fault}
 use Rattle.thorin_strings.specs.StringOffsets.{remapped}
 use Rattle.thorin_packaged.specs.PackagedOffsets.{is_whole_range, ranges_test, rewritten_from}
 

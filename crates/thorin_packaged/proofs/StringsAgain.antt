@@ -11,8 +11,8 @@ use Rattle.dwp_bytes.specs.declared.fault.ReadError.TheVariants.{UnexpectedEof}
 use Rattle.dwp_bytes.specs.Encoding.{offset_size}
 use Rattle.dwp_bytes.specs.StringOffsets.{header_size, entry_count, string_at}
 use Rattle.dwp_index.specs.Strings.{entry_in, string_in}
-use Rattle.thorin_faults.specs.Fault.{Fault}
-use Rattle.thorin_faults.specs.Answers.{as_fault}
+use Rattle.thorin_errors.specs.Fault.{Fault}
+use Rattle.thorin_errors.specs.Answers.{as_fault}
 use Rattle.thorin_strings.specs.Strings.{data_of, IsTable}
 use Rattle.thorin_strings.specs.StringOffsets.{offset_at, named_at}
 use Rattle.thorin_strings.specs.Rewritten.{NamesTheSame}

@@ -2,7 +2,7 @@
 
 ghost use Rattle.std.specs.Prelude.{◌≡◌, ◌≢◌, [], map, OnOk, IfOk, IfErr};
 ghost use Rattle.std.specs.Option.{option_copied};
-ghost use Rattle.thorin_faults.specs.Answers.{Gives, MemoryAside};
+ghost use Rattle.thorin_errors.specs.Answers.{Gives, MemoryAside};
 ghost use Rattle.thorin_packaged.specs.PackagedOffsets.{is_whole_range, offset_ranges, ranges_test};
 ghost use Rattle.thorin_packaged.specs.PackagedOffsets.{with_rows};
 ghost use Rattle.thorin_packaged.specs.RangeKeys.{range_at};
@@ -13,7 +13,7 @@ use dwp_bytes::Encoding;
 use dwp_index::UnitIndex;
 use std::alloc::{AllocError, Global};
 use std::collections::BTreeSet;
-use thorin_faults::Error;
+use thorin_errors::Error;
 
 /// The ranges of both indexes' rows in order of place, then of size, none twice.
 #[tactic(auto, unfolding(crate::specs::PackagedOffsets::offset_ranges))]

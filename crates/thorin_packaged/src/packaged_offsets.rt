@@ -2,7 +2,7 @@
 
 ghost use Rattle.std.specs.Prelude.{◌≡◌, length, take};
 ghost use Rattle.std.specs.Option.{option_copied};
-ghost use Rattle.thorin_faults.specs.Answers.{Gives};
+ghost use Rattle.thorin_errors.specs.Answers.{Gives};
 ghost use Rattle.thorin_packaged.specs.PackagedOffsets.{packaged_offsets, ranges_test};
 ghost use Rattle.thorin_packaged.specs.PackagedOffsets.{rewritten_from};
 
@@ -11,7 +11,7 @@ use dwp_base::{Contribution, Endianness};
 use dwp_bytes::Encoding;
 use dwp_index::UnitIndex;
 use std::alloc::Global;
-use thorin_faults::Error;
+use thorin_errors::Error;
 use thorin_strings::{PackageStringTable, Repeats};
 
 /// The string offsets of a package with these indexes, rewritten to the same strings in a table:

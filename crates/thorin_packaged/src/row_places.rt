@@ -9,7 +9,7 @@ use dwp_index::UnitIndex;
 use std::alloc::Global;
 use std::collections::BTreeMap;
 use std::marker::Model;
-use thorin_faults::Error;
+use thorin_errors::Error;
 
 /// Finds rows of an index by the range that they have in one section, without a look at all rows
 /// for each.

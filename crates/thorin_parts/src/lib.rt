@@ -2,10 +2,8 @@
 //! hash table and the writing of an index, relocations of an executable.
 
 pub use thorin_executable::add_relocations;
-pub use thorin_faults::{
-    ArenaSession, Error, InputError, MemorySession, MissingReferencedObjectBehaviour, Result,
-    Session,
-};
+pub use thorin_errors::{Error, InputError, MissingReferencedObjectBehaviour, Result};
+pub use thorin_sessions::{ArenaSession, MemorySession, Session};
 pub use thorin_index::{Buckets, IndexEntry, bucket, write_index};
 pub use thorin_input::ContributionAdjustor;
 pub use thorin_strings::{PackageStringOffset, PackageStringTable};

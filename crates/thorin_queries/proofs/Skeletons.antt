@@ -7,10 +7,10 @@ use Rattle.std.specs.List.{flat_map}
 use Rattle.dwp_index.specs.Package.{Package, FoundUnit, found}
 use Rattle.dwp_index.specs.declared.fault.PackageError.{PackageError}
 use Rattle.thorin_executable.specs.Skeletons.{Named, Listed}
-use Rattle.thorin_faults.specs.Answers.{MemoryAside}
-use Rattle.thorin_faults.specs.Fault.{Fault, fault_of}
-use Rattle.thorin_faults.specs.declared.fault.Error.{Error}
-use Rattle.thorin_faults.specs.declared.fault.Error.TheVariants.{Memory}
+use Rattle.thorin_errors.specs.Answers.{MemoryAside}
+use Rattle.thorin_errors.specs.Fault.{Fault, fault_of}
+use Rattle.thorin_errors.specs.declared.error.Error.{Error}
+use Rattle.thorin_errors.specs.declared.error.Error.TheVariants.{Memory}
 use Rattle.thorin_queries.specs.Faults.{fault_line, missing_text, missing_lines, IsBroken}
 use Rattle.thorin_queries.specs.Faults.{TellsListed}
 use Rattle.thorin_queries.specs.Telling.{Outcome, Progress, Told, Tells, Is}

@@ -18,7 +18,7 @@ use Rattle.dwp_index.specs.declared.units.UnitEntry.{UnitEntry}
 use Rattle.dwp_table.specs.Objects.{identifier_of}
 use Rattle.dwp_table.specs.declared.object.DwarfObject.{DwarfObject}
 use Rattle.thorin_executable.specs.Skeletons.{Named, Listed}
-use Rattle.thorin_faults.specs.Fault.{Fault}
+use Rattle.thorin_errors.specs.Fault.{Fault}
 use Rattle.thorin_queries.specs.Finding.{string_count}
 use Rattle.thorin_queries.specs.Lines.{hex16, line_end, short_kind}
 use Rattle.thorin_queries.specs.Overlaps.{IsClash, overlap_text}

@@ -3,7 +3,7 @@
 ghost use Rattle.std.specs.Prelude.{◌≡◌, ◌≢◌, ◌++◌, IfOk, OnOk, string_bytes};
 ghost use Rattle.dwp_index.specs.Package.{found};
 ghost use Rattle.thorin_executable.specs.Skeletons.{skeletons_by};
-ghost use Rattle.thorin_faults.specs.declared.fault.Error.TheVariants.{Memory};
+ghost use Rattle.thorin_errors.specs.declared.error.Error.TheVariants.{Memory};
 ghost use Rattle.thorin_queries.specs.Checking.{IsOfChecking, IsOfReading, TellsExecutables};
 ghost use Rattle.thorin_queries.specs.Checking.{TellsExecutable, TellsTaken};
 ghost use Rattle.thorin_queries.specs.Faults.{TellsListed, missing_text};
@@ -23,7 +23,8 @@ use dwp_table::DwarfObject;
 use std::alloc::{AllocError, Global};
 use std::io::Write;
 use thorin_executable::{NamedUnits, NamelessUnits};
-use thorin_faults::{ArenaSession, Error, Session};
+use thorin_errors::Error;
+use thorin_sessions::{ArenaSession, Session};
 use thorin_words::printed;
 
 /// How the executables are read whose units are to be in a package.

@@ -9,7 +9,7 @@ use dwp_table::DebugTypeSignature;
 use std::alloc::{AllocError, Global};
 use std::fmt;
 use std::io::Write;
-use thorin_faults::Error;
+use thorin_errors::Error;
 use thorin_words::printed;
 
 /// Tells how many units of an input were added, and how many were passed over, where that is known.

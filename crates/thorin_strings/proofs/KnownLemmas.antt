@@ -8,7 +8,7 @@ use Rattle.std.proofs.lemmas.Bool.{cond-true, lt-ltb}
 use Rattle.dwp_base.specs.declared.endian.Endianness.{Endianness}
 use Rattle.dwp_base.specs.Reading.{◌>>=◌}
 use Rattle.dwp_bytes.specs.declared.encoding.Encoding.{Encoding}
-use Rattle.thorin_faults.specs.Fault.{Fault, NumberTooLarge}
+use Rattle.thorin_errors.specs.Fault.{Fault, NumberTooLarge}
 use Rattle.std.specs.Str.{bytes_eq}
 use Rattle.thorin_strings.specs.Strings.{data_of, offset_of, with_string}
 use Rattle.thorin_strings.specs.StringOffsets.{offset_limit, entry_at, string_read, named_at}

@@ -17,7 +17,7 @@ use Rattle.dwp_bytes.specs.declared.encoding.Encoding.{Encoding}
 use Rattle.dwp_bytes.specs.declared.encoding.Format.{Format}
 use Rattle.dwp_bytes.specs.declared.encoding.Format.TheVariants.{Dwarf32, Dwarf64}
 use Rattle.dwp_bytes.specs.Encoding.{offset_size}
-use Rattle.thorin_faults.specs.Fault.{Fault}
+use Rattle.thorin_errors.specs.Fault.{Fault}
 use Rattle.thorin_strings.specs.Strings.{IsTable}
 use Rattle.dwp_bytes.specs.StringOffsets.{length_size, header_size, entry_count}
 use Rattle.thorin_strings.specs.StringOffsets.{offset_limit, initial_length, header_of, offset_at}

@@ -10,8 +10,8 @@ use Rattle.dwp_bytes.specs.declared.encoding.Encoding.{Encoding}
 use Rattle.dwp_bytes.specs.declared.encoding.Format.{Format}
 use Rattle.dwp_bytes.specs.declared.fault.ReadError.TheVariants.{OffsetOutOfRange, NoTerminator}
 use Rattle.dwp_bytes.specs.Encoding.{offset_size}
-use Rattle.thorin_faults.specs.Fault.{Fault}
-use Rattle.thorin_faults.specs.Answers.{as_fault}
+use Rattle.thorin_errors.specs.Fault.{Fault}
+use Rattle.thorin_errors.specs.Answers.{as_fault}
 use Rattle.dwp_bytes.specs.StringOffsets.{header_size, string_from, string_at}
 use Rattle.thorin_strings.specs.Strings.{offset_of, with_string, IsZeroFree, IsTable}
 use Rattle.thorin_strings.specs.StringOffsets.{offset_limit, offset_at, named_at, fitting_offset}

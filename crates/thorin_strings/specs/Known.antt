@@ -1,7 +1,7 @@
 -- What is remembered of strings that were read: where each begins in its section, and its offset.
 use Rattle.std.specs.Prelude.{◌≡◌, ℕ, List, All, Result, Ok}
 use Rattle.dwp_base.specs.Reading.{◌>>=◌}
-use Rattle.thorin_faults.specs.Fault.{Fault}
+use Rattle.thorin_errors.specs.Fault.{Fault}
 use Rattle.thorin_strings.specs.Strings.{offset_of, with_string}
 use Rattle.thorin_strings.specs.StringOffsets.{string_read}
 

@@ -12,9 +12,9 @@ use Rattle.dwp_bytes.specs.declared.fault.ReadError.{ReadError}
 use Rattle.dwp_bytes.specs.declared.fault.ReadError.TheVariants.{UnexpectedEof}
 use Rattle.dwp_bytes.specs.Encoding.{offset_size}
 use Rattle.dwp_bytes.specs.StringOffsets.{header_size, entry_count, string_at}
-use Rattle.thorin_faults.specs.Fault.{Fault, OffsetAtIndex, StrAtOffset, NumberTooLarge}
-use Rattle.thorin_faults.specs.Fault.{BadStringOffsets}
-use Rattle.thorin_faults.specs.Answers.{as_fault}
+use Rattle.thorin_errors.specs.Fault.{Fault, OffsetAtIndex, StrAtOffset, NumberTooLarge}
+use Rattle.thorin_errors.specs.Fault.{BadStringOffsets}
+use Rattle.thorin_errors.specs.Answers.{as_fault}
 use Rattle.thorin_strings.specs.Strings.{offset_of, with_string}
 
 -- the largest length that an initial length of the format holds, and the largest offset (7.4)

@@ -6,7 +6,7 @@ ghost use Rattle.dwp_base.specs.Numbers.{number_bytes};
 ghost use Rattle.dwp_base.specs.Reading.{Answers};
 ghost use Rattle.dwp_bytes.specs.declared.encoding.Format.TheVariants.{Dwarf32};
 ghost use Rattle.dwp_bytes.specs.Encoding.{offset_size};
-ghost use Rattle.thorin_faults.specs.Answers.{Gives};
+ghost use Rattle.thorin_errors.specs.Answers.{Gives};
 ghost use Rattle.dwp_bytes.specs.StringOffsets.{header_size};
 ghost use Rattle.thorin_strings.specs.StringOffsets.{length_limit, offset_limit, header_of};
 ghost use Rattle.thorin_strings.specs.StringOffsets.{offset_at, entry_at, string_read};
@@ -19,7 +19,7 @@ use crate::table::PackageStringTable;
 use dwp_base::Endianness;
 use dwp_bytes::{Encoding, Format, ReadError, string_at};
 use std::alloc::{AllocError, Global};
-use thorin_faults::Error;
+use thorin_errors::Error;
 
 /// The largest length that an initial length of the format holds (DWARF 5, 7.4).
 fn length_limit(format: Format) -> u64

@@ -13,7 +13,7 @@ use crate::search::{search, stands_at};
 use memchr::memchr;
 use std::alloc::Global;
 use std::marker::Model;
-use thorin_faults::Error;
+use thorin_errors::Error;
 
 /// Where a string begins in `.debug_str.dwo` of the package.
 #[derive(Clone, Copy, Debug, PartialEq, Eq, Hash)]

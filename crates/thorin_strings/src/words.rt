@@ -4,7 +4,7 @@ ghost use Rattle.std.specs.Prelude.{◌≡◌, ◌≤◌, ◌<◌, ◌+◌, ◌^
 ghost use Rattle.dwp_base.specs.declared.endian.Endianness.TheVariants.{Little};
 ghost use Rattle.dwp_base.specs.Numbers.{number_bytes};
 ghost use Rattle.dwp_bytes.specs.declared.encoding.Format.TheVariants.{Dwarf32};
-ghost use Rattle.thorin_faults.specs.Answers.{Gives};
+ghost use Rattle.thorin_errors.specs.Answers.{Gives};
 ghost use Rattle.dwp_bytes.specs.StringOffsets.{header_size};
 ghost use Rattle.thorin_strings.specs.StringOffsets.{entry_at, remapped_entry, remapped};
 ghost use Rattle.thorin_strings.specs.Known.{AreKnown};
@@ -15,7 +15,7 @@ use crate::table::PackageStringTable;
 use dwp_base::Endianness;
 use dwp_bytes::Encoding;
 use std::alloc::AllocError;
-use thorin_faults::Error;
+use thorin_errors::Error;
 
 /// A range of string offsets of four bytes: the section of the strings that its entries name, the
 /// bytes that have its header and entries, and its form.

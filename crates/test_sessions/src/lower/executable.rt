@@ -6,7 +6,8 @@ use bumpalo::Bump;
 use std::alloc::Global;
 use std::collections::BTreeMap;
 use thorin_executable::skeletons;
-use thorin_faults::{Error, MemorySession};
+use thorin_errors::Error;
+use thorin_sessions::MemorySession;
 
 /// Whether a file of two units is listed; memory may be refused.
 fn is_listed(alloc: Global, bytes: &[u8], seen: &mut Seen) -> bool {

@@ -5,7 +5,7 @@ use dwp_base::{Contribution, ContributionOffset, Endianness, SectionKind};
 use dwp_bytes::{Encoding, Format};
 use dwp_index::{DwarfObject, DwoId, UnitIndex};
 use std::alloc::Global;
-use thorin_faults::Error;
+use thorin_errors::Error;
 use thorin_packaged::{RowPlaces, remap_packaged_offsets};
 use thorin_parts::{IndexEntry, write_index};
 use thorin_strings::PackageStringTable;

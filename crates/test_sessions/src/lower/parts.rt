@@ -7,7 +7,7 @@ use dwp_elf_read::ElfFile;
 use dwp_index::{DwarfObject, DwoId};
 use std::alloc::Global;
 use thorin::{IndexEntry, add_relocations, bucket, write_index};
-use thorin_faults::Error;
+use thorin_errors::Error;
 
 /// A call.
 #[derive(Clone, Copy)]

@@ -8,7 +8,8 @@ use std::collections::BTreeMap;
 use std::path::{AsPath, Path, PathBuf};
 use std::rt::Files;
 use std::{env, fs, io, process};
-use thorin_faults::{ArenaSession, InputError, MemorySession, Session};
+use thorin_errors::InputError;
+use thorin_sessions::{ArenaSession, MemorySession, Session};
 
 /// The numbers that are placed, where they are. The first time memory may be refused.
 fn numbers_placed<S: Session<u64>>(session: &S) -> Option<usize> {

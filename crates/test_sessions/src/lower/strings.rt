@@ -6,7 +6,7 @@ use dwp_base::Endianness;
 use dwp_bytes::{Encoding, Format};
 use std::alloc::Global;
 use thorin::PackageStringTable;
-use thorin_faults::Error;
+use thorin_errors::Error;
 
 const GNU: Encoding = Encoding {
     version: 4,

@@ -14,7 +14,7 @@ use Rattle.std.proofs.lemmas.List.Sums.{sum_by-cons}
 use Rattle.std.proofs.lemmas.Map.Keys.{IsDistinct-IsPermutation}
 use Rattle.indexmap.proofs.MapLemmas.{lookup_permutation}
 use Rattle.dwp_table.specs.declared.object.DwarfObject.{DwarfObject}
-use Rattle.thorin_faults.specs.Fault.{Fault}
+use Rattle.thorin_errors.specs.Fault.{Fault}
 use Rattle.thorin_again.specs.Again.{all_meant}
 use Rattle.thorin_join.specs.Builder.{State, start, with_input, taken}
 use Rattle.thorin_input.specs.Encodings.{own_encoding}

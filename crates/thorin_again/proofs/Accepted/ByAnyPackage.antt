@@ -17,7 +17,7 @@ use Rattle.dwp_elf.specs.Contents.{KindsDiffer, content_of}
 use Rattle.dwp_elf.specs.FileText.{Object as File, file_text}
 use Rattle.dwp_elf.specs.Written.{written_elf}
 use Rattle.dwp_elf_read.specs.Elf.{elf_of}
-use Rattle.thorin_faults.specs.Fault.{Fault, MissingRequiredSection}
+use Rattle.thorin_errors.specs.Fault.{Fault, MissingRequiredSection}
 use Rattle.thorin_index.specs.IndexText.{is_used}
 use Rattle.thorin_strings.specs.Strings.{IsTable, data_of}
 use Rattle.thorin_join.specs.Builder.{State, IsFinished, IsFinishedState, finish_test, order_of}

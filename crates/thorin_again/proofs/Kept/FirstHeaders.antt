@@ -22,7 +22,7 @@ use Rattle.dwp_dwarf.specs.declared.unit.UnitSection.TheVariants as places
 use Rattle.dwp_dwarf.specs.declared.unit.UnitType.{UnitType}
 use Rattle.dwp_dwarf.specs.declared.unit.UnitType.TheVariants as unit_types
 use Rattle.dwp_table.specs.declared.object.DwarfObject.{DwarfObject}
-use Rattle.thorin_faults.specs.Fault.{Fault, ParseUnitHeader, NotSplitUnit, NoCompilationUnits}
+use Rattle.thorin_errors.specs.Fault.{Fault, ParseUnitHeader, NotSplitUnit, NoCompilationUnits}
 use Rattle.thorin_identity.specs.Identity.{identity}
 use Rattle.thorin_input.specs.Encodings.{first_encoding}
 use Rattle.thorin_input.specs.Indexes.{Source}

@@ -20,8 +20,8 @@ use Rattle.dwp_dwarf.specs.declared.unit.UnitSection.TheVariants as places
 use Rattle.dwp_elf.specs.Contents.{content_of}
 use Rattle.dwp_table.specs.declared.object.DwarfObject.{DwarfObject}
 use Rattle.dwp_table.specs.declared.object.DwarfObject.TheVariants.{Compilation, TypeUnit}
-use Rattle.thorin_faults.specs.Answers.{as_fault}
-use Rattle.thorin_faults.specs.Fault.{Fault, ParseUnitHeader, RepeatedSection, SectionOutsideFormat}
+use Rattle.thorin_errors.specs.Answers.{as_fault}
+use Rattle.thorin_errors.specs.Fault.{Fault, ParseUnitHeader, RepeatedSection, SectionOutsideFormat}
 use Rattle.thorin_index.specs.declared.entry.IndexEntry.{IndexEntry}
 use Rattle.thorin_input.specs.Encodings.{encoding_of}
 use Rattle.thorin_input.specs.Growing.{joined_parts}

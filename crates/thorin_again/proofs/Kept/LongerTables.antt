@@ -24,8 +24,8 @@ use Rattle.dwp_dwarf.specs.Units.{Unit as Header}
 use Rattle.dwp_dwarf.specs.declared.unit.UnitType.{UnitType}
 use Rattle.dwp_dwarf.specs.declared.unit.UnitType.TheVariants as unit_types
 use Rattle.dwp_table.specs.declared.object.DwarfObject.{DwarfObject}
-use Rattle.thorin_faults.specs.Fault.{Fault, NoDie, ParseUnitAbbreviations, GimliRead}
-use Rattle.thorin_faults.specs.Answers.{as_fault}
+use Rattle.thorin_errors.specs.Fault.{Fault, NoDie, ParseUnitAbbreviations, GimliRead}
+use Rattle.thorin_errors.specs.Answers.{as_fault}
 use Rattle.thorin_identity.specs.Identity.{root_identity, identity_by, identity}
 use Rattle.thorin_join.proofs.Steps.{err-ok, ok-eq, bind-ok, bind-inv}
 

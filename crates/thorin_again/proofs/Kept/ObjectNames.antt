@@ -14,8 +14,8 @@ use Rattle.dwp_dwarf.specs.declared.unit.UnitSection.{UnitSection}
 use Rattle.dwp_dwarf.specs.declared.unit.UnitSection.TheVariants as places
 use Rattle.dwp_table.specs.declared.object.DwarfObject.{DwarfObject}
 use Rattle.dwp_table.specs.declared.object.DwarfObject.TheVariants.{Compilation, TypeUnit}
-use Rattle.thorin_faults.specs.Fault.{Fault, ParseUnitHeader, NotSplitUnit}
-use Rattle.thorin_faults.specs.Answers.{as_fault}
+use Rattle.thorin_errors.specs.Fault.{Fault, ParseUnitHeader, NotSplitUnit}
+use Rattle.thorin_errors.specs.Answers.{as_fault}
 use Rattle.thorin_identity.specs.Identity.{identity}
 use Rattle.thorin_input.specs.Encodings.{has_encoding, all_have, section_has}
 use Rattle.thorin_input.specs.Indexes.{Source, is_package}

@@ -17,7 +17,7 @@ use Rattle.dwp_bytes.specs.declared.fault.ReadError.{ReadError}
 use Rattle.dwp_index.specs.Index.{Ranges}
 use Rattle.dwp_table.specs.declared.object.DwarfObject.{DwarfObject}
 use Rattle.thorin_index.specs.EntryTests.{same_encoding, same_format}
-use Rattle.thorin_faults.specs.Fault.{Fault}
+use Rattle.thorin_errors.specs.Fault.{Fault}
 use Rattle.thorin_join.specs.Builder.{State, start, taken, with_input, with_own, own_after}
 use Rattle.thorin_join.specs.Builder.{names_in}
 use Rattle.thorin_input.specs.Encodings.{encoding_of, one_encoding, file_encoding, own_encoding}

@@ -14,7 +14,7 @@ use Rattle.dwp_base.specs.Sections.{same_kind}
 use Rattle.dwp_elf_read.specs.Elf.{Elf}
 use Rattle.dwp_bytes.specs.declared.encoding.Encoding.{Encoding}
 use Rattle.dwp_index.specs.Index.{Index}
-use Rattle.thorin_faults.specs.Fault.{Fault}
+use Rattle.thorin_errors.specs.Fault.{Fault}
 use Rattle.thorin_join.specs.Builder.{State, package_or_new, order_test, with_source_or_new}
 use Rattle.thorin_join.specs.Builder.{with_units, with_input, names_in, with_own, own_after, taken}
 use Rattle.thorin_input.specs.Encodings.{encoding_of, is_index, is_plain, section_has}

@@ -24,8 +24,8 @@ use Rattle.dwp_dwarf.specs.declared.unit.UnitSection.{UnitSection}
 use Rattle.dwp_index.specs.Index.{Ranges}
 use Rattle.dwp_index.specs.Package.{encoding_in}
 use Rattle.dwp_table.specs.declared.object.DwarfObject.{DwarfObject}
-use Rattle.thorin_faults.specs.Answers.{as_fault}
-use Rattle.thorin_faults.specs.Fault.{Fault, ParseUnitHeader}
+use Rattle.thorin_errors.specs.Answers.{as_fault}
+use Rattle.thorin_errors.specs.Fault.{Fault, ParseUnitHeader}
 use Rattle.thorin_input.specs.Encodings.{has_encoding, all_have, section_has}
 use Rattle.thorin_input.specs.Indexes.{Source, is_package, index_for}
 use Rattle.thorin_input.specs.Names.{same_name}

@@ -16,7 +16,7 @@ use Rattle.dwp_bytes.specs.declared.encoding.Format.{Format}
 use Rattle.dwp_bytes.specs.declared.encoding.Format.TheVariants.{Dwarf32, Dwarf64}
 use Rattle.dwp_table.specs.declared.object.DwarfObject.{DwarfObject}
 use Rattle.thorin_index.specs.EntryTests.{same_encoding, same_format}
-use Rattle.thorin_faults.specs.Fault.{Fault}
+use Rattle.thorin_errors.specs.Fault.{Fault}
 use Rattle.thorin_input.specs.Encodings.{encoding_of, own_encoding, file_encoding, common, is_plain}
 use Rattle.thorin_input.specs.Encodings.{section_has}
 use Rattle.thorin_input.specs.Used.{InputFile, opened, has_info, input_file_of}

@@ -22,9 +22,9 @@ use Rattle.dwp_index.specs.Package.{part_of, is_outside, place_of}
 use Rattle.dwp_table.specs.Objects.{identifier_of}
 use Rattle.dwp_table.specs.Probing.{found_row}
 use Rattle.dwp_table.specs.declared.object.DwarfObject.{DwarfObject}
-use Rattle.thorin_faults.specs.Fault.{Fault, UnitNotInIndex, RowNotInIndex, BadContribution}
-use Rattle.thorin_faults.specs.Fault.{NotSplitUnit}
-use Rattle.thorin_faults.specs.Answers.{as_fault}
+use Rattle.thorin_errors.specs.Fault.{Fault, UnitNotInIndex, RowNotInIndex, BadContribution}
+use Rattle.thorin_errors.specs.Fault.{NotSplitUnit}
+use Rattle.thorin_errors.specs.Answers.{as_fault}
 use Rattle.thorin_identity.specs.Identity.{identity}
 use Rattle.thorin_packaged.specs.RowPlaces.{row_by_place, IsFirstWith}
 use Rattle.thorin_input.specs.Adjusting.{row_found, row_of}

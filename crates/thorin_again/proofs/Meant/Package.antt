@@ -31,8 +31,8 @@ use Rattle.dwp_index.specs.Package.{index_in_section, place_of}
 use Rattle.dwp_index.specs.Package as reader
 use Rattle.dwp_index.specs.declared.fault.PackageError.TheVariants as faults
 use Rattle.dwp_table.specs.declared.object.DwarfObject.{DwarfObject}
-use Rattle.thorin_faults.specs.Fault.{Fault, ParseFileKind, ParseIndex, NoCompilationUnits}
-use Rattle.thorin_faults.specs.Answers.{as_fault}
+use Rattle.thorin_errors.specs.Fault.{Fault, ParseFileKind, ParseIndex, NoCompilationUnits}
+use Rattle.thorin_errors.specs.Answers.{as_fault}
 use Rattle.thorin_index.specs.declared.entry.IndexEntry.{IndexEntry}
 use Rattle.thorin_again.specs.Again.{input_encoding, HaveEncodingOf, all_meant, MeansWhereTaken}
 use Rattle.thorin_again.specs.Again.{MeansOnceWritten}

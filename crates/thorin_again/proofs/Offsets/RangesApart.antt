@@ -31,9 +31,9 @@ use Rattle.dwp_bytes.specs.declared.fault.ReadError.{ReadError}
 use Rattle.dwp_bytes.specs.declared.fault.ReadError.TheVariants.{UnexpectedEof, RowOutOfRange}
 use Rattle.dwp_index.specs.Index.{Index, Ranges, row_in, range_in}
 use Rattle.dwp_index.specs.Strings.{entry_in, string_for, string_in}
-use Rattle.thorin_faults.specs.Answers.{as_fault}
-use Rattle.thorin_faults.specs.Fault.{Fault, OffsetAtIndex, StrAtOffset, NumberTooLarge}
-use Rattle.thorin_faults.specs.Fault.{BadStringOffsets, OverlappingStringOffsets}
+use Rattle.thorin_errors.specs.Answers.{as_fault}
+use Rattle.thorin_errors.specs.Fault.{Fault, OffsetAtIndex, StrAtOffset, NumberTooLarge}
+use Rattle.thorin_errors.specs.Fault.{BadStringOffsets, OverlappingStringOffsets}
 use Rattle.thorin_packaged.specs.PackagedOffsets.{place_cmp, with_ranges, with_rows, offset_ranges}
 use Rattle.thorin_packaged.specs.PackagedOffsets.{is_whole_range, ranges_test, rewritten_from}
 use Rattle.thorin_packaged.specs.PackagedOffsets.{packaged_offsets}

@@ -18,8 +18,8 @@ use Rattle.dwp_bytes.specs.StringOffsets.{header_size, entry_count, string_at}
 use Rattle.dwp_bytes.specs.declared.encoding.Encoding.{Encoding}
 use Rattle.dwp_bytes.specs.declared.fault.ReadError.{ReadError}
 use Rattle.dwp_bytes.specs.declared.fault.ReadError.TheVariants.{UnexpectedEof}
-use Rattle.thorin_faults.specs.Answers.{as_fault}
-use Rattle.thorin_faults.specs.Fault.{Fault, OffsetAtIndex, StrAtOffset, BadStringOffsets}
+use Rattle.thorin_errors.specs.Answers.{as_fault}
+use Rattle.thorin_errors.specs.Fault.{Fault, OffsetAtIndex, StrAtOffset, BadStringOffsets}
 use Rattle.thorin_packaged.specs.PackagedOffsets.{rewritten_from}
 use Rattle.thorin_packaged.specs.PackagedReading.{range_bytes}
 use Rattle.thorin_strings.specs.StringOffsets.{header_of, offset_at, named_at, fitting_offset}

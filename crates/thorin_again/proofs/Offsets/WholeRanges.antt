@@ -13,7 +13,7 @@ use Rattle.dwp_bytes.specs.StringOffsets.{header_size, entry_count}
 use Rattle.dwp_bytes.specs.declared.encoding.Encoding.{Encoding}
 use Rattle.dwp_bytes.specs.declared.encoding.Format.{Format}
 use Rattle.dwp_bytes.specs.declared.encoding.Format.TheVariants.{Dwarf32, Dwarf64}
-use Rattle.thorin_faults.specs.Fault.{Fault, NumberTooLarge, BadStringOffsets}
+use Rattle.thorin_errors.specs.Fault.{Fault, NumberTooLarge, BadStringOffsets}
 use Rattle.thorin_strings.specs.StringOffsets.{header_of, length_limit, initial_length}
 use Rattle.thorin_strings.specs.StringOffsets.{remapped_entries, remapped, entry_bytes}
 use Rattle.thorin_strings.specs.Strings.{IsTable, data_of}

@@ -13,7 +13,7 @@ use Rattle.dwp_bytes.specs.Encoding.{index_version_of}
 use Rattle.dwp_bytes.specs.declared.encoding.Encoding.{Encoding}
 use Rattle.dwp_dwarf.specs.declared.unit.UnitSection.{UnitSection}
 use Rattle.dwp_table.specs.Columns.{column_of, contribution_kinds}
-use Rattle.thorin_faults.specs.Fault.{Fault, SectionOutsideFormat}
+use Rattle.thorin_errors.specs.Fault.{Fault, SectionOutsideFormat}
 use Rattle.thorin_index.specs.Entries.{contribution_to}
 use Rattle.thorin_index.specs.EntryTests.{each, count_test, encoding_test, format_test, parts_test}
 use Rattle.thorin_index.specs.EntryTests.{tests_under, index_tests}

@@ -24,9 +24,9 @@ use Rattle.thorin_index.specs.declared.entry.IndexEntry.{IndexEntry}
 use Rattle.thorin_index.specs.EntryTests.{index_tests}
 use Rattle.thorin_index.specs.IndexText.{IsIndexOf, entry_ids, used_sections}
 use Rattle.thorin_index.specs.ReadBack.{index_with}
-use Rattle.thorin_faults.specs.Fault.{Fault, ParseIndex, IncompatibleIndexVersion}
-use Rattle.thorin_faults.specs.Fault.{MixedInputEncodings}
-use Rattle.thorin_faults.specs.Answers.{as_fault}
+use Rattle.thorin_errors.specs.Fault.{Fault, ParseIndex, IncompatibleIndexVersion}
+use Rattle.thorin_errors.specs.Fault.{MixedInputEncodings}
+use Rattle.thorin_errors.specs.Answers.{as_fault}
 use Rattle.thorin_join.specs.Builder.{State, IdentifiersFit, IsFinished, rows_of, is_chosen}
 use Rattle.thorin_join.specs.Builder.{order_of, same_order, order_test, package_or_new}
 use Rattle.thorin_join.specs.Builder.{with_source_or_new, with_units, with_input}

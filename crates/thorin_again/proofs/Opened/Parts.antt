@@ -9,8 +9,8 @@ use Rattle.dwp_base.specs.declared.section.SectionKind.TheVariants.{StrOffsets, 
 use Rattle.dwp_base.specs.Reading.{◌>>=◌}
 use Rattle.dwp_base.specs.Sections.{name_of, same_kind}
 use Rattle.dwp_elf.specs.Contents.{count_of, KindsDiffer, content_of}
-use Rattle.thorin_faults.specs.Fault.{Fault, MissingRequiredSection, RepeatedSection}
-use Rattle.thorin_faults.specs.Fault.{SectionOutsideFormat}
+use Rattle.thorin_errors.specs.Fault.{Fault, MissingRequiredSection, RepeatedSection}
+use Rattle.thorin_errors.specs.Fault.{SectionOutsideFormat}
 use Rattle.thorin_input.specs.Growing.{Contents}
 use Rattle.thorin_input.specs.Indexes.{Source}
 use Rattle.thorin_again.specs.OwnInput.{written_used, CanTake, TakesParts}

@@ -26,8 +26,8 @@ use Rattle.dwp_elf_read.specs.declared.kind.FileKind.{FileKind}
 use Rattle.dwp_elf_read.specs.declared.kind.FileKind.TheVariants.{Archive, Elf32, Elf64}
 use Rattle.dwp_index.specs.Contents as contents
 use Rattle.dwp_index.specs.Contents.{is_of_kind}
-use Rattle.thorin_faults.specs.Fault.{Fault, ParseFileKind, ParseObjectFile}
-use Rattle.thorin_faults.specs.Answers.{as_fault}
+use Rattle.thorin_errors.specs.Fault.{Fault, ParseFileKind, ParseObjectFile}
+use Rattle.thorin_errors.specs.Answers.{as_fault}
 use Rattle.thorin_input.specs.Growing.{Contents}
 use Rattle.thorin_again.specs.OwnInput.{written_used, written_object}
 use Rattle.thorin_input.specs.Used.{Used, elf_in, opened, used_kind, counts_once, unusable}

@@ -15,7 +15,7 @@ use Rattle.dwp_index.specs.Index.{Index, Ranges, row_in, range_in, column_place}
 use Rattle.dwp_table.specs.Objects.{identifier_of}
 use Rattle.dwp_table.specs.declared.object.DwarfObject.{DwarfObject}
 use Rattle.dwp_table.specs.declared.object.DwarfObject.TheVariants.{Compilation, TypeUnit}
-use Rattle.thorin_faults.specs.Fault.{Fault, BadContribution}
+use Rattle.thorin_errors.specs.Fault.{Fault, BadContribution}
 use Rattle.thorin_input.specs.Adjusting.{Adjustor, own_index, other_index, row_of, has_column_for}
 use Rattle.thorin_input.specs.Adjusting.{moved, moved_range, without_column, part_by_row, adjusted}
 use Rattle.thorin_index.specs.Entries.{contribution_to}

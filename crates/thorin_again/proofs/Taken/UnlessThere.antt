@@ -24,7 +24,7 @@ use Rattle.dwp_index.specs.Package.{part_of, place_of}
 use Rattle.dwp_table.specs.declared.object.DwarfObject.{DwarfObject}
 use Rattle.dwp_table.specs.declared.object.DwarfObject.TheVariants.{Compilation, TypeUnit}
 use Rattle.dwp_table.specs.Objects.{identifier_of}
-use Rattle.thorin_faults.specs.Fault.{Fault, EmptyUnit}
+use Rattle.thorin_errors.specs.Fault.{Fault, EmptyUnit}
 use Rattle.thorin_identity.specs.Identity.{identity}
 use Rattle.thorin_index.specs.Entries.{contribution_to}
 use Rattle.thorin_index.specs.IndexText.{is_used}

@@ -18,7 +18,7 @@ use Rattle.thorin_strings.specs.Strings.{data_of}
 use Rattle.thorin_index.specs.declared.entry.IndexEntry.{IndexEntry}
 use Rattle.thorin_index.specs.EntryTests.{index_tests}
 use Rattle.thorin_index.specs.IndexText.{entry_ids}
-use Rattle.thorin_faults.specs.Fault.{NoOutputObjectCreated}
+use Rattle.thorin_errors.specs.Fault.{NoOutputObjectCreated}
 use Rattle.thorin_join.specs.Builder.{State, IdentifiersFit, IsFinished, IsFinishedState}
 use Rattle.thorin_join.specs.Builder.{finish_test, targets_test, indexes_test, names_in, rows_of}
 use Rattle.thorin_join.specs.Builder.{compilations}

@@ -12,7 +12,7 @@ use Rattle.dwp_bytes.specs.declared.encoding.Encoding.{Encoding}
 use Rattle.dwp_dwarf.specs.Units.{UnitsAreTaken}
 use Rattle.dwp_table.specs.declared.object.DwarfObject.{DwarfObject}
 use Rattle.thorin_strings.specs.Strings.{IsTable}
-use Rattle.thorin_faults.specs.Fault.{Fault, MixedInputEncodings}
+use Rattle.thorin_errors.specs.Fault.{Fault, MixedInputEncodings}
 use Rattle.thorin_join.specs.Builder.{package_or_new, order_of, same_order, order_test}
 use Rattle.thorin_join.specs.Builder.{with_source_or_new, with_units, with_input}
 use Rattle.thorin_input.specs.Encodings.{encoding_of}

@@ -12,8 +12,8 @@ use Rattle.dwp_base.specs.declared.section.SectionKind.TheVariants.{TuIndex}
 use Rattle.dwp_base.specs.Sections.{same_kind, rank_of, all_kinds, name_of}
 use Rattle.dwp_base.specs.Reading.{◌>>=◌}
 use Rattle.dwp_elf.specs.Contents.{content_of, appended}
-use Rattle.thorin_faults.specs.Fault.{Fault, MissingRequiredSection, RepeatedSection}
-use Rattle.thorin_faults.specs.Fault.{SectionOutsideFormat}
+use Rattle.thorin_errors.specs.Fault.{Fault, MissingRequiredSection, RepeatedSection}
+use Rattle.thorin_errors.specs.Fault.{SectionOutsideFormat}
 use Rattle.thorin_input.specs.Growing.{Contents, with_bytes, with_parts, joined_parts}
 use Rattle.thorin_input.specs.Indexes.{Source}
 use Rattle.thorin_join.specs.Meaning.{joined_content}

@@ -22,9 +22,9 @@ use Rattle.dwp_bytes.specs.declared.fault.ReadError.{ReadError}
 use Rattle.dwp_bytes.specs.declared.fault.ReadError.TheVariants.{UnexpectedEof}
 use Rattle.dwp_elf_read.specs.Elf.{Elf}
 use Rattle.dwp_table.specs.declared.object.DwarfObject.{DwarfObject}
-use Rattle.thorin_faults.specs.Fault.{Fault, OffsetAtIndex, StrAtOffset, BadStringOffsets}
-use Rattle.thorin_faults.specs.Fault.{OverlappingStringOffsets}
-use Rattle.thorin_faults.specs.Answers.{as_fault}
+use Rattle.thorin_errors.specs.Fault.{Fault, OffsetAtIndex, StrAtOffset, BadStringOffsets}
+use Rattle.thorin_errors.specs.Fault.{OverlappingStringOffsets}
+use Rattle.thorin_errors.specs.Answers.{as_fault}
 use Rattle.thorin_packaged.specs.PackagedOffsets.{offset_ranges, is_whole_range, ranges_test}
 use Rattle.thorin_packaged.specs.PackagedOffsets.{rewritten_from, packaged_offsets}
 use Rattle.thorin_packaged.specs.PackagedReading.{range_bytes}

@@ -17,7 +17,7 @@ use Rattle.dwp_bytes.specs.declared.encoding.Format.TheVariants.{Dwarf32, Dwarf6
 use Rattle.dwp_bytes.specs.Encoding.{offset_size}
 use Rattle.dwp_bytes.specs.StringOffsets.{header_size, entry_count}
 use Rattle.dwp_index.specs.Strings.{string_in, entry_in, string_for}
-use Rattle.thorin_faults.specs.Fault.{Fault}
+use Rattle.thorin_errors.specs.Fault.{Fault}
 use Rattle.thorin_packaged.specs.ReadStrings.{ReadsAlike}
 use Rattle.thorin_strings.specs.Strings.{IsTable}
 use Rattle.thorin_strings.specs.StringOffsets.{remapped}

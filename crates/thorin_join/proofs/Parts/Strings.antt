@@ -4,7 +4,7 @@ use Rattle.std.proofs.Common.{take, min, subst, refl, sym, ap, inl, inr, Result,
 use Rattle.std.proofs.lemmas.List.{length-take, take-take}
 use Rattle.std.proofs.Math.Seq.{take-length}
 use Rattle.dwp_base.specs.declared.section.SectionKind.TheVariants.{Str, CuIndex, TuIndex}
-use Rattle.thorin_faults.specs.Fault.{Fault}
+use Rattle.thorin_errors.specs.Fault.{Fault}
 use Rattle.thorin_packaged.specs.PackagedOffsets.{packaged_offsets}
 use Rattle.thorin_strings.specs.Strings.{IsTable}
 use Rattle.thorin_strings.specs.StringOffsets.{remapped}

@@ -21,8 +21,8 @@ use Rattle.dwp_table.specs.Objects.{identifier_of}
 use Rattle.dwp_table.specs.Probing.{found_row}
 use Rattle.dwp_table.specs.declared.object.DwarfObject.{DwarfObject}
 use Rattle.dwp_table.specs.declared.object.DwarfObject.TheVariants.{Compilation, TypeUnit}
-use Rattle.thorin_faults.specs.Fault.{Fault}
-use Rattle.thorin_faults.specs.Answers.{as_fault}
+use Rattle.thorin_errors.specs.Fault.{Fault}
+use Rattle.thorin_errors.specs.Answers.{as_fault}
 use Rattle.thorin_packaged.specs.RowPlaces.{row_by_place}
 use Rattle.thorin_input.specs.Adjusting.{Adjustor, own_index, other_index, row_found, row_of}
 use Rattle.thorin_input.specs.Adjusting.{has_column_for, part_by_row, adjusted}

@@ -13,7 +13,7 @@ use Rattle.dwp_base.specs.Sections.{name_of}
 use Rattle.dwp_index.specs.Index.{Index, Ranges, row_in, column_place, contribution, range_in}
 use Rattle.dwp_index.specs.Package.{part_of, is_outside}
 use Rattle.dwp_bytes.specs.declared.fault.ReadError.{ReadError}
-use Rattle.thorin_faults.specs.Fault.{Fault, BadContribution}
+use Rattle.thorin_errors.specs.Fault.{Fault, BadContribution}
 use Rattle.thorin_packaged.specs.PackagedReading.{range_bytes}
 use Rattle.thorin_input.specs.Adjusting.{moved, moved_range, without_column}
 use Rattle.thorin_join.proofs.Parts.Appended.{no-bytes}

@@ -42,7 +42,7 @@ use Rattle.thorin_join.proofs.Rows.Meaning.{RowMeans, SharedLie, OffsetsRead, ro
 use Rattle.thorin_join.proofs.Rows.Ranges.{Lies, Placed, whole_behind, lies-whole, not-outside}
 use Rattle.thorin_join.proofs.Rows.Ranges.{range-some}
 use Rattle.thorin_join.proofs.Steps.{ok-eq}
-use Rattle.thorin_faults.specs.Fault.{Fault}
+use Rattle.thorin_errors.specs.Fault.{Fault}
 
 -- a unit that passed the tests stands in its row
 pub record RowShares (source : Source) (before parts : Contents) (after : List (List ℕ))

@@ -20,7 +20,7 @@ use Rattle.thorin_strings.specs.StringOffsets.{initial_length, header_of, remapp
 use Rattle.thorin_strings.specs.StringOffsets.{remapped_entries, entry_bytes, remapped}
 use Rattle.thorin_packaged.specs.PackagedOffsets.{is_whole_range, ranges_test, offset_ranges}
 use Rattle.thorin_packaged.specs.PackagedOffsets.{rewritten_from, packaged_offsets}
-use Rattle.thorin_faults.specs.Fault.{Fault, BadStringOffsets, OverlappingStringOffsets}
+use Rattle.thorin_errors.specs.Fault.{Fault, BadStringOffsets, OverlappingStringOffsets}
 use Rattle.thorin_input.specs.Indexes.{Source, is_package}
 use Rattle.thorin_input.specs.Parts.{rewritten}
 use Rattle.thorin_input.specs.Used.{first}

@@ -27,8 +27,8 @@ use Rattle.thorin_strings.specs.StringOffsets.{fitting_offset, remapped_entry, r
 use Rattle.thorin_strings.specs.StringOffsets.{entry_bytes, remapped}
 use Rattle.thorin_packaged.specs.PackagedOffsets.{ranges_test, offset_ranges, rewritten_from}
 use Rattle.thorin_packaged.specs.PackagedOffsets.{packaged_offsets}
-use Rattle.thorin_faults.specs.Fault.{Fault, StrAtOffset}
-use Rattle.thorin_faults.specs.Answers.{as_fault}
+use Rattle.thorin_errors.specs.Fault.{Fault, StrAtOffset}
+use Rattle.thorin_errors.specs.Answers.{as_fault}
 use Rattle.thorin_input.specs.Indexes.{Source, is_package}
 use Rattle.thorin_input.specs.NewUnits.{NewUnit}
 use Rattle.thorin_input.specs.Names.{same_name}

@@ -15,8 +15,8 @@ use Rattle.dwp_dwarf.specs.declared.unit.UnitSection.{UnitSection}
 use Rattle.dwp_table.specs.Objects.{identifier_of}
 use Rattle.dwp_table.specs.declared.object.DwarfObject.{DwarfObject}
 use Rattle.dwp_table.specs.declared.object.DwarfObject.TheVariants.{Compilation, TypeUnit}
-use Rattle.thorin_faults.specs.Fault.{Fault, ParseUnitHeader, EmptyUnit}
-use Rattle.thorin_faults.specs.Answers.{as_fault}
+use Rattle.thorin_errors.specs.Fault.{Fault, ParseUnitHeader, EmptyUnit}
+use Rattle.thorin_errors.specs.Answers.{as_fault}
 use Rattle.thorin_input.specs.NewUnits.{NewUnit, New, Adding, Met, none_met, name_for, place_for}
 use Rattle.thorin_input.specs.NewUnits.{kept_bytes, with_first, with_unit, with_read}
 use Rattle.thorin_input.specs.NewUnits.{with_each_read, unit_section, once_test, with_section_at}

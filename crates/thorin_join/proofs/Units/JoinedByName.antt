@@ -17,8 +17,8 @@ use Rattle.dwp_table.specs.Objects.{identifier_of}
 use Rattle.dwp_table.specs.declared.object.DwarfObject.{DwarfObject}
 use Rattle.dwp_table.specs.declared.object.DwarfObject.TheVariants.{Compilation, TypeUnit}
 use Rattle.thorin_index.specs.declared.entry.IndexEntry.{IndexEntry}
-use Rattle.thorin_faults.specs.Fault.{Fault, ParseUnitHeader, EmptyUnit}
-use Rattle.thorin_faults.specs.Answers.{as_fault}
+use Rattle.thorin_errors.specs.Fault.{Fault, ParseUnitHeader, EmptyUnit}
+use Rattle.thorin_errors.specs.Answers.{as_fault}
 use Rattle.thorin_join.specs.Meaning.{UnitRead, keys, joining, can_join, named_unit, named_each}
 use Rattle.thorin_join.specs.Meaning.{named_at, named_sections, source_units}
 use Rattle.thorin_input.specs.Names.{same_name, is_compilation}

@@ -12,9 +12,9 @@ use Rattle.dwp_dwarf.specs.Units.{Unit as Header}
 use Rattle.dwp_dwarf.specs.declared.unit.UnitType.{UnitType}
 use Rattle.dwp_dwarf.specs.declared.unit.UnitType.TheVariants as unit_types
 use Rattle.dwp_table.specs.declared.object.DwarfObject.{DwarfObject}
-use Rattle.thorin_faults.specs.Fault.{Fault, NoDie, TopLevelDieNotUnit, ParseUnitAbbreviations}
-use Rattle.thorin_faults.specs.Fault.{GimliRead}
-use Rattle.thorin_faults.specs.Answers.{as_fault}
+use Rattle.thorin_errors.specs.Fault.{Fault, NoDie, TopLevelDieNotUnit, ParseUnitAbbreviations}
+use Rattle.thorin_errors.specs.Fault.{GimliRead}
+use Rattle.thorin_errors.specs.Answers.{as_fault}
 use Rattle.thorin_identity.specs.Identity.{compilation, is_unit_tag, identifier_in, found_or}
 use Rattle.thorin_identity.specs.Identity.{first_identifier, entry_identity, root_identity}
 use Rattle.thorin_identity.specs.Identity.{identity_by, identity}

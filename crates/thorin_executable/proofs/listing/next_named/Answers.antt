@@ -1,7 +1,7 @@
 use Rattle.std.proofs.Common.{◌∙◌, ℕ, List, Option, Result, Ok, ap, sym, subst}
 use Rattle.std.specs.Prelude.{option_map, string_bytes}
 use Rattle.std.proofs.lemmas.Result.{err_from_is_err_and}
-use Rattle.thorin_faults.specs.Fault.{Fault}
+use Rattle.thorin_errors.specs.Fault.{Fault}
 use Rattle.thorin_executable.specs.Skeletons.{Named}
 use Rattle.thorin_executable.specs.View.{named_at, IsPathAfter}
 use Rattle.thorin_executable.specs.declared.lending.NamedUnit.{NamedUnit}

@@ -1,6 +1,6 @@
 use Rattle.std.proofs.Common.{◌≡◌, rules, ap, subst, drop, take}
 use Rattle.dwp_dwarf.specs.Units.{unit_of}
-use Rattle.thorin_faults.specs.Answers.{Gives}
+use Rattle.thorin_errors.specs.Answers.{Gives}
 use Rattle.thorin_identity.specs.Identity.{part_between}
 use Rattle.thorin_identity.proofs.Parts.{root_alike}
 use Rattle.thorin_identity.proofs.identity.root_identifier_in_range.Goals as goal

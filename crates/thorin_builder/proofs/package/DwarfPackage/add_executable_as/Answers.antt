@@ -1,5 +1,5 @@
 use Rattle.std.proofs.Common.{refl, rules, Ok, Err, []}
-use Rattle.thorin_faults.specs.declared.fault.InputError.TheVariants.{Io, Memory}
+use Rattle.thorin_errors.specs.declared.error.InputError.TheVariants.{Io, Memory}
 use Rattle.thorin_builder.proofs.package.DwarfPackage.add_executable_as.Goals as goal
 
 pub returns-in-Ok-clause-taken : goal.returns-in-Ok-clause-taken

@@ -1,5 +1,5 @@
 use Rattle.std.proofs.Common.{refl, rules, Ok, Err, []}
-use Rattle.thorin_faults.specs.declared.fault.InputError.TheVariants.{Io, Memory}
+use Rattle.thorin_errors.specs.declared.error.InputError.TheVariants.{Io, Memory}
 use Rattle.thorin_builder.specs.Taking.{accepted_of}
 use Rattle.thorin_builder.proofs.package.DwarfPackage.add_input_by.Goals as goal
 

@@ -1,7 +1,7 @@
 use Rattle.std.proofs.Common.{◌≡◌, refl, rules, subst, Ok, Err, []}
 use Rattle.std.specs.Path.{path_bytes}
-use Rattle.thorin_faults.specs.declared.fault.InputError.TheVariants.{Io, Memory}
-use Rattle.thorin_faults.specs.declared.fault.Error.TheVariants as error
+use Rattle.thorin_errors.specs.declared.error.InputError.TheVariants.{Io, Memory}
+use Rattle.thorin_errors.specs.declared.error.Error.TheVariants as error
 use Rattle.thorin_builder.specs.Taking.{accepted_of}
 use Rattle.thorin_builder.proofs.AddedAgain.{are-taken-later, taken-remembered}
 use Rattle.thorin_builder.proofs.Extending.{on_ok-both}

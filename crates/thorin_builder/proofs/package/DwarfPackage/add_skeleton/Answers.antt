@@ -3,8 +3,8 @@ use Rattle.std.proofs.Common.{Err}
 use Rattle.std.specs.Map.{lookup}
 use Rattle.std.specs.Prelude.{string_bytes}
 use Rattle.std.specs.Str.{bytes_eq}
-use Rattle.thorin_faults.specs.declared.fault.Error.TheVariants as error
-use Rattle.thorin_faults.specs.declared.fault.InputError.TheVariants.{Memory}
+use Rattle.thorin_errors.specs.declared.error.Error.TheVariants as error
+use Rattle.thorin_errors.specs.declared.error.InputError.TheVariants.{Memory}
 use Rattle.thorin_join.specs.Builder.{State}
 use Rattle.thorin_builder.specs.Repeated.{AddsAgainTo, AreTaken}
 use Rattle.thorin_builder.specs.Taking.{TakesReferredFile, Takes, with_target, is_there}

@@ -1,0 +1,69 @@
+-- Each fault has a text.
+use Rattle.std.proofs.Common.{◌≡◌, false, refl, sym}
+use Rattle.std.specs.Prelude.{IsSome}
+use Rattle.std.proofs.lemmas.Bool.{false≢true}
+use Rattle.thorin_errors.specs.Fault.{Fault, ReadInput, ParseFileKind, ParseObjectFile}
+use Rattle.thorin_errors.specs.Fault.{InvalidInputKind, DecompressData, NamelessSection}
+use Rattle.thorin_errors.specs.Fault.{RelocationWithInvalidSymbol, MultipleRelocations}
+use Rattle.thorin_errors.specs.Fault.{UnsupportedRelocation, MissingDwoName, NoCompilationUnits}
+use Rattle.thorin_errors.specs.Fault.{NoDie, TopLevelDieNotUnit, MissingRequiredSection}
+use Rattle.thorin_errors.specs.Fault.{ParseUnitAbbreviations, ParseUnitHeader, ParseUnit}
+use Rattle.thorin_errors.specs.Fault.{IncompatibleIndexVersion, OffsetAtIndex, StrAtOffset}
+use Rattle.thorin_errors.specs.Fault.{ParseIndex, UnitNotInIndex, RowNotInIndex, SectionNotInRow}
+use Rattle.thorin_errors.specs.Fault.{EmptyUnit, MultipleDebugInfoSection}
+use Rattle.thorin_errors.specs.Fault.{MultipleDebugTypesSection, NotSplitUnit, DuplicateUnit}
+use Rattle.thorin_errors.specs.Fault.{MissingReferencedUnit, NoOutputObjectCreated}
+use Rattle.thorin_errors.specs.Fault.{MixedInputEncodings, Io, ObjectRead, ObjectWrite, GimliRead}
+use Rattle.thorin_errors.specs.Fault.{GimliWrite, Memory, NumberTooLarge, BadContribution}
+use Rattle.thorin_errors.specs.Fault.{SectionOutsideFormat, RepeatedSection, BadStringOffsets}
+use Rattle.thorin_errors.specs.Fault.{OverlappingStringOffsets}
+use Rattle.thorin_errors.specs.Text.{fault_text, is_passed_on}
+
+pub has_text : (fault : Fault) → is_passed_on fault ≡ false → IsSome (fault_text fault)
+has_text fault =
+    elim fault as (λ f. is_passed_on f ≡ false → IsSome (fault_text f)) [
+      | ReadInput a ↦ λ h. refl
+      | ParseFileKind a ↦ λ h. refl
+      | ParseObjectFile a ↦ λ h. refl
+      | InvalidInputKind ↦ λ h. refl
+      | DecompressData a ↦ λ h. refl
+      | NamelessSection a b ↦ λ h. refl
+      | RelocationWithInvalidSymbol a b ↦ λ h. refl
+      | MultipleRelocations a b ↦ λ h. refl
+      | UnsupportedRelocation a b ↦ λ h. refl
+      | MissingDwoName a ↦ λ h. refl
+      | NoCompilationUnits ↦ λ h. refl
+      | NoDie ↦ λ h. refl
+      | TopLevelDieNotUnit ↦ λ h. refl
+      | MissingRequiredSection a ↦ λ h. refl
+      | ParseUnitAbbreviations a ↦ λ h. refl
+      | ParseUnitHeader a ↦ λ h. refl
+      | ParseUnit a ↦ λ h. refl
+      | IncompatibleIndexVersion a b c ↦ λ h. refl
+      | OffsetAtIndex a b ↦ λ h. refl
+      | StrAtOffset a b ↦ λ h. refl
+      | ParseIndex a b ↦ λ h. refl
+      | UnitNotInIndex a ↦ λ h. refl
+      | RowNotInIndex a b ↦ λ h. refl
+      | SectionNotInRow ↦ λ h. refl
+      | EmptyUnit a ↦ λ h. refl
+      | MultipleDebugInfoSection ↦ λ h. refl
+      | MultipleDebugTypesSection ↦ λ h. refl
+      | NotSplitUnit ↦ λ h. refl
+      | DuplicateUnit a ↦ λ h. refl
+      | MissingReferencedUnit a ↦ λ h. refl
+      | NoOutputObjectCreated ↦ λ h. refl
+      | MixedInputEncodings ↦ λ h. refl
+      | Io a ↦ λ h. absurd (false≢true (sym h))
+      | ObjectRead a ↦ λ h. absurd (false≢true (sym h))
+      | ObjectWrite a ↦ λ h. absurd (false≢true (sym h))
+      | GimliRead a ↦ λ h. absurd (false≢true (sym h))
+      | GimliWrite a ↦ λ h. absurd (false≢true (sym h))
+      | Memory ↦ λ h. refl
+      | NumberTooLarge a b ↦ λ h. refl
+      | BadContribution a b ↦ λ h. refl
+      | SectionOutsideFormat a ↦ λ h. refl
+      | RepeatedSection a ↦ λ h. refl
+      | BadStringOffsets a ↦ λ h. refl
+      | OverlappingStringOffsets a ↦ λ h. refl
+    ]

@@ -1,0 +1,4 @@
+pub mod Fault
+pub mod Answers
+pub mod Inputs
+pub mod Text
