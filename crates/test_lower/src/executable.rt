@@ -6,8 +6,8 @@ use std::alloc::Global;
 use std::collections::BTreeMap;
 use std::path::Path;
 use test_rows::{Row, Said, change, number, split};
-use thorin_executable::{NamelessUnits, Skeleton, SkeletonList, SkeletonUnits, skeletons};
 use thorin_errors::{Error, InputError};
+use thorin_executable::{NamelessUnits, Skeleton, SkeletonList, SkeletonUnits, skeletons};
 use thorin_sessions::{ArenaSession, MemorySession, Session};
 
 /// Makes the call of a row.

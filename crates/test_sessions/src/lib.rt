@@ -16,6 +16,8 @@ mod building;
 #[cfg(test)]
 mod counting;
 #[cfg(test)]
+mod executables;
+#[cfg(test)]
 mod lower;
 #[cfg(test)]
 mod objects;

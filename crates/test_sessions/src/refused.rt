@@ -3,9 +3,9 @@
 
 use crate::asserting::{MEMORY, SECOND, Seen, all_held};
 use crate::building::{Step, add, counts, file_of, name_of, packed, sure_whole};
+use crate::executables::{Naming, executable};
 use crate::objects::{
-    Files, Kind, Naming, TYPE_UNIT, UNIT_5, UNIT_6, UNIT_8, executable, part, put_file, put_object,
-    sure,
+    Files, Kind, TYPE_UNIT, UNIT_5, UNIT_6, UNIT_8, part, put_file, put_object, sure,
 };
 use bumpalo::Bump;
 use dwp_bytes::RelocationEntry;

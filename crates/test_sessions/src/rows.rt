@@ -5,7 +5,8 @@
 use crate::asserting::says;
 use crate::building::{Step, name_of};
 use crate::counting::{CountingSession, Refusal};
-use crate::objects::{Files, Kind, Naming, sure};
+use crate::executables::Naming;
+use crate::objects::{Files, Kind, sure};
 use crate::running::{Objects, is_made_of, told};
 use bumpalo::Bump;
 use dwp_table::{DwarfObject, DwoId};

@@ -3,7 +3,8 @@
 use crate::asserting::Seen;
 use crate::building::{Step, add, file_of, name_of, whole};
 use crate::counting::{CountingSession, Refusal};
-use crate::objects::{Files, Kind, Naming, executable, put_file, put_object, sure};
+use crate::executables::{Naming, executable};
+use crate::objects::{Files, Kind, put_file, put_object, sure};
 use bumpalo::Bump;
 use dwp_elf::WritableObject;
 use dwp_table::DwarfObject;

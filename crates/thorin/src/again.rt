@@ -32,8 +32,8 @@ use thorin_again::{
     written_packages_mean_their_units,
 };
 use thorin_builder::InputReader;
-use thorin_sessions::Session;
 use thorin_join::{finished_packages_are_read, inputs_are_joined};
+use thorin_sessions::Session;
 
 /// The law of accepted inputs: those of a run were taken one after another. So the laws of
 /// `thorin_again` on lists of inputs speak of runs, and of inputs that are all taken. It does

@@ -25,11 +25,11 @@ pub use packing::{Input, Packed, pack, take_input};
 pub use thorin_builder::{
     DwarfPackage, InProgressDwarfPackage, InputReader, MissingTargets, Repetition,
 };
-pub use thorin_executable::{NamelessUnits, Skeleton, SkeletonList, SkeletonUnits, skeletons};
 pub use thorin_errors::{Error, InputError, MissingReferencedObjectBehaviour, Result};
-pub use thorin_sessions::{ArenaSession, BytesSession, MemorySession, Session};
+pub use thorin_executable::{NamelessUnits, Skeleton, SkeletonList, SkeletonUnits, skeletons};
 pub use thorin_identity::dwo_identifier_of_unit;
 pub use thorin_parts::{
     Buckets, ContributionAdjustor, IndexEntry, PackageStringOffset, PackageStringTable,
     add_relocations, bucket, write_index,
 };
+pub use thorin_sessions::{ArenaSession, BytesSession, MemorySession, Session};

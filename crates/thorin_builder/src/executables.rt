@@ -17,8 +17,8 @@ use dwp_table::DwarfObject;
 use indexmap::IndexMap;
 use std::alloc::Global;
 use std::path::Path;
-use thorin_executable::{NamedUnit, NamedUnits, NamelessUnits};
 use thorin_errors::{Error, InputError, MissingReferencedObjectBehaviour};
+use thorin_executable::{NamedUnit, NamedUnits, NamelessUnits};
 use thorin_sessions::Session;
 
 /// Whether what was known of the path of the unit before is known of a unit's path.

@@ -38,9 +38,9 @@ use thorin_again::{
     plain_packages_are_kept,
 };
 use thorin_errors::{Error, InputError};
-use thorin_sessions::Session;
 use thorin_input::common;
 use thorin_join::{finished_packages_are_read, inputs_are_joined};
+use thorin_sessions::Session;
 
 /// A package in the making: it takes one input after another. The session keeps what is read.
 #[derive(Drop)]

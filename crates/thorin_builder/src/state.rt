@@ -349,7 +349,7 @@ fn are_all(rows: &IndexRows, compilations: bool) -> bool
     ensures { result ≡ true → rows_of compilations rows.now ≡ rows.now }
 {
     for place in 0..rows.len() {
-        if is_compilation(rows.entry(place).id) != compilations {
+        if is_compilation(rows.unit(place)) != compilations {
             return false;
         }
     }
@@ -363,9 +363,8 @@ fn rows_of(alloc: Global, rows: &IndexRows, compilations: bool) -> Result<IndexR
 {
     let mut chosen = IndexRows::new(alloc);
     for place in 0..rows.len() {
-        let row = rows.entry(place);
-        if is_compilation(row.id) == compilations {
-            chosen.push(&row)?;
+        if is_compilation(rows.unit(place)) == compilations {
+            chosen.push(&rows.entry(place))?;
         }
     }
     Ok(chosen)
@@ -377,6 +376,6 @@ fn identifiers_fit(rows: &IndexRows)
     ensures { IdentifiersFit rows.now }
 {
     for place in 0..rows.len() {
-        let _identifier = rows.entry(place).index();
+        let _identifier = rows.unit(place).index();
     }
 }

@@ -13,8 +13,8 @@ use crate::types::{ThorinReport, ThorinSkeleton};
 use dwp_table::DwarfObject;
 use std::alloc::{AllocError, Global};
 use thorin::{Bump, BytesSession, skeletons};
-use thorin_executable::{Skeleton, SkeletonList};
 use thorin_errors::Error;
+use thorin_executable::{Skeleton, SkeletonList};
 
 /// Lists the split units that an executable names, and the paths of their objects, each with a zero
 /// byte behind it, as far as there is room: 0, how many units there are in `count`, and how many

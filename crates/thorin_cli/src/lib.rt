@@ -7,6 +7,7 @@ mod notes;
 mod pipes;
 mod progress;
 mod responses;
+mod settings;
 
 use crate::columns::list_in_columns;
 pub use crate::manner::Facts;
@@ -15,6 +16,7 @@ use crate::notes::{Given, note_no_index, note_packing, note_reading, note_unread
 use crate::pipes::Watched;
 use crate::progress::{Console, CountedFiles, Lines};
 use crate::responses::HostResponses;
+use crate::settings::{file_count, nameless_units, packing_of};
 use std::convert::AsStr;
 use std::fmt;
 use std::io::{self, Write};
@@ -23,10 +25,9 @@ use thorin_arguments::{
 };
 pub use thorin_commands::Failure;
 use thorin_commands::{
-    FindForm, HostFiles, ListForm, NamelessUnits, Packing, Reading, Warnings, check, check_as_json,
-    find, lacks_index, list, list_missing, pack, report, show, verify,
+    FindForm, HostFiles, ListForm, Packing, Reading, check, check_as_json, find, lacks_index, list,
+    list_missing, pack, report, show, verify,
 };
-use thorin_errors::MissingReferencedObjectBehaviour;
 use thorin_words::{ResponseError, expanded, printed};
 
 /// Does what a command line asks for: `words` are the program's name and its arguments, where
@@ -300,57 +301,5 @@ impl<O: Write, E: Write> Commands for Program<'_, '_, '_, O, E> {
 
     fn lack_memory(&mut self) -> u8 {
         report(self.err, &Failure::Memory)
-    }
-}
-
-/// What is to be packed, in the packer's terms.
-fn packing_of<'m, 'a>(arguments: PackArguments<'m, 'a>, manner: Manner) -> Packing<'m, 'a> {
-    let missing = if arguments.skips_missing || arguments.partial {
-        MissingReferencedObjectBehaviour::Skip
-    } else {
-        MissingReferencedObjectBehaviour::Error
-    };
-    Packing {
-        output: arguments.output,
-        inputs: arguments.inputs,
-        executables: arguments.executables,
-        missing,
-        nameless: nameless_units(arguments.skips_nameless || manner.skips_nameless),
-        force: arguments.force,
-        decompresses: arguments.decompresses,
-        prefix_maps: arguments.prefix_maps,
-        partial: arguments.partial,
-        opens_archives: arguments.opens_archives || manner.opens_archives,
-        verbose: arguments.verbose,
-        notes: manner.notes || arguments.verbose,
-        warnings: warnings_of(arguments.warnings, manner.warnings),
-        allows_overlap: arguments.allows_overlap,
-        keeps_last_macros: arguments.keeps_last_macros || manner.keeps_last_macros,
-        lets_empty: manner.lets_empty,
-    }
-}
-
-/// What becomes of units that name no object.
-fn nameless_units(are_skipped: bool) -> NamelessUnits {
-    if are_skipped {
-        NamelessUnits::PassedOver
-    } else {
-        NamelessUnits::Refused
-    }
-}
-
-/// The warnings that a word asks for, where there is one.
-fn warnings_of(word: Option<&str>, default: Warnings) -> Warnings {
-    match word {
-        Some(word) => Warnings::of(word).unwrap_or(default),
-        None => default,
-    }
-}
-
-/// How many files are to be read, where no executable names more.
-fn file_count(packing: &Packing<'_, '_>) -> Option<u64> {
-    match (packing.inputs, packing.executables) {
-        (Some(inputs), None) => Some(inputs.len() as u64),
-        _ => None,
     }
 }

@@ -21,8 +21,8 @@ use std::io::Write;
 use std::path::{AsPath, Path};
 use thorin::{DwarfPackage, Input, take_input};
 use thorin_errors::Error;
-use thorin_sessions::Session;
 use thorin_queries::{Failure, shown, tell_taken};
+use thorin_sessions::Session;
 
 /// Whether bytes are those of an archive, plain or thin.
 fn is_archive(bytes: &[u8]) -> bool {

@@ -20,10 +20,10 @@ use std::collections::{BTreeMap, HashSet};
 use std::io::Write;
 use std::path::{AsPath, Path};
 use thorin::{BytesSession, DwarfPackage, Input, MissingTargets, NamelessUnits};
-use thorin_executable::NamedUnits;
 use thorin_errors::{Error, MissingReferencedObjectBehaviour};
-use thorin_sessions::Session;
+use thorin_executable::NamedUnits;
 use thorin_queries::{Failure, buffer, shown};
+use thorin_sessions::Session;
 
 /// Where that is asked for, leaves out units that executables refer to and that aren't there: each
 /// is told.

@@ -29,8 +29,8 @@ use std::io::Write;
 use thorin::laws::runs_go_on;
 use thorin::{BytesSession, DwarfPackage, Input, NamelessUnits};
 use thorin_errors::{Error, MissingReferencedObjectBehaviour};
-use thorin_sessions::Session;
 use thorin_queries::{Failure, Reading, buffer, check};
+use thorin_sessions::Session;
 
 /// What is to be packed, and where to.
 #[derive(Drop)]

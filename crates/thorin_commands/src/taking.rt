@@ -14,8 +14,8 @@ use std::io::Write;
 use std::path::AsPath;
 use thorin::{DwarfPackage, Input, take_input};
 use thorin_errors::Error;
-use thorin_sessions::Session;
 use thorin_queries::Failure;
+use thorin_sessions::Session;
 
 /// Takes the inputs in order, up to the first that is refused.
 pub(crate) fn take_all<'o, 's: 'o, Sess: Session<RelocationEntry>, I: Inputs, E: Write>(

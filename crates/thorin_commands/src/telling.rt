@@ -14,8 +14,8 @@ use std::alloc::{AllocError, Global};
 use std::io::Write;
 use std::path::{AsPath, Path};
 use thorin::{BytesSession, DwarfPackage, Input, NamelessUnits};
-use thorin_executable::NamedUnits;
 use thorin_errors::{Error, MissingReferencedObjectBehaviour};
+use thorin_executable::NamedUnits;
 use thorin_queries::{Failure, shown, tell_taken};
 use thorin_words::printed;
 

@@ -22,8 +22,8 @@ use dwp_table::DwarfObject;
 use std::alloc::Global;
 use std::marker::Model;
 use thorin_errors::Error;
-use thorin_sessions::Session;
 use thorin_identity::dwo_identifier_remembering;
+use thorin_sessions::Session;
 
 /// A split unit that an executable names, and the path of its object.
 #[derive(Debug, Drop)]

@@ -1,12 +1,13 @@
 //! What is tested of entries before an index is written of them.
 
-ghost use Rattle.std.specs.Prelude.{◌≡◌, ◌≤◌, length, All, Ok, OnOk};
+ghost use Rattle.std.specs.Prelude.{◌≡◌, ◌<◌, ◌≤◌, get_or, length, All, Ok, OnOk};
 ghost use Rattle.thorin_index.specs.Entries.{offset_or_0, size_or_0};
 ghost use Rattle.thorin_index.specs.IndexText.{FitsRow};
 ghost use Rattle.thorin_errors.specs.Answers.{Gives};
 ghost use Rattle.thorin_index.specs.EntryTests.{count_test, each, each_part, encoding_test};
 ghost use Rattle.thorin_index.specs.EntryTests.{number_test, parts_test, tests_under};
 ghost use Rattle.thorin_index.specs.PartTests.{test_of};
+ghost use Rattle.thorin_index.specs.Rows.{blank};
 
 use crate::entry::IndexEntry;
 use crate::rows::IndexRows;
@@ -53,10 +54,11 @@ fn test_number(what: &'static str, number: u64) -> Result<(), Error>
     Ok(())
 }
 
-fn test_encoding(encoding: Encoding, entry: &IndexEntry) -> Result<(), Error>
-    ensures { Gives (λ x. x) result (encoding_test encoding entry.now) }
+fn test_encoding(encoding: Encoding, rows: &IndexRows, place: usize) -> Result<(), Error>
+    requires { place < length rows.now }
+    ensures { Gives (λ x. x) result (encoding_test encoding (get_or rows.now place blank)) }
 {
-    if entry.encoding == encoding {
+    if rows.encoding(place) == encoding {
         Ok(())
     } else {
         Err(Error::MixedInputEncodings)
@@ -67,7 +69,7 @@ fn test_encodings(encoding: Encoding, rows: &IndexRows) -> Result<(), Error>
     ensures { Gives (λ x. x) result (each (encoding_test encoding) rows.now) }
 {
     for place in 0..rows.len() {
-        test_encoding(encoding, &rows.entry(place))?;
+        test_encoding(encoding, rows, place)?;
     }
     Ok(())
 }

@@ -1,7 +1,7 @@
 //! Writing an index (DWARF 5, 7.3.5.3; the GNU page DebugFissionDWP).
 
 ghost use Rattle.std.specs.Prelude.{◌≡◌, ◌<◌, ◌≤◌, ◌^◌, ◌++◌, [], ◌∷◌, length, map, filter, All};
-ghost use Rattle.std.specs.Prelude.{IfOk, OnOk, vec_len};
+ghost use Rattle.std.specs.Prelude.{IfOk, OnOk, get_or, vec_len};
 ghost use Rattle.std.specs.List.{flat_map};
 ghost use Rattle.dwp_base.specs.Numbers.{number_bytes};
 ghost use Rattle.dwp_table.specs.Table.{signature_of};
@@ -23,6 +23,7 @@ ghost use Rattle.thorin_index.specs.IndexText.{
   version_bytes,
 };
 ghost use Rattle.thorin_index.specs.Measures.{measure_of};
+ghost use Rattle.thorin_index.specs.Rows.{blank};
 
 use crate::entry::IndexEntry;
 use crate::entry_tests::test_entries;
@@ -67,7 +68,7 @@ pub fn write_rows(alloc: Global, endianness: Endianness, rows: &IndexRows) -> Re
     if rows.len() == 0 {
         return Ok(Vec::new(alloc));
     }
-    let encoding = rows.entry(0).encoding;
+    let encoding = rows.encoding(0);
     test_entries(encoding, rows)?;
     let columns = used_among(alloc, &CONTRIBUTION_KINDS, rows)?;
     let slots = rows.slots(alloc)?;
@@ -146,7 +147,7 @@ fn is_used(rows: &IndexRows, kind: SectionKind) -> bool
     ensures { result ≡ is_used rows.now kind }
 {
     for place in 0..rows.len() {
-        if rows.entry(place).contribution(kind).is_some() {
+        if rows.contribution(place, kind).is_some() {
             return true;
         }
     }
@@ -198,7 +199,7 @@ fn signature(rows: &IndexRows, row: u32) -> u64
     if row == 0 {
         0
     } else {
-        rows.entry(row as usize - 1).index()
+        rows.unit(row as usize - 1).index()
     }
 }
 
@@ -249,8 +250,7 @@ fn put_rows(
         ≡ out.old.items ++ rows_bytes order (measure_of measure) columns.now rows.now) }
 {
     for place in 0..rows.len() {
-        let entry = rows.entry(place);
-        put_row(out, order, measure, columns, &entry)?;
+        put_row(out, order, measure, columns, rows, place)?;
     }
     Ok(())
 }
@@ -260,14 +260,16 @@ fn put_row(
     order: Endianness,
     measure: Measure,
     columns: &[SectionKind],
-    entry: &IndexEntry,
+    rows: &IndexRows,
+    place: usize,
 ) -> Result<(), AllocError>
-    requires { FitsRow (measure_of measure) entry.now }
-    ensures { OnOk result (out.new.items ≡ out.old.items
-        ++ numbers_bytes order (row_numbers (measure_of measure) columns.now entry.now)) }
+    requires within { place < length rows.now }
+    requires fits { FitsRow (measure_of measure) (get_or rows.now place blank) }
+    ensures { OnOk result (out.new.items ≡ out.old.items ++ numbers_bytes order
+        (row_numbers (measure_of measure) columns.now (get_or rows.now place blank))) }
 {
     for kind in columns {
-        let number = measure.of(entry.contribution(*kind)) as u32;
+        let number = measure.of(rows.contribution(place, *kind)) as u32;
         out.extend_from_slice(&order.bytes_of_u32(number))?;
     }
     Ok(())

@@ -1,16 +1,17 @@
-//! The rows of an index, each held in few bytes: what rows in turn share is held once.
+//! The rows of an index, each held in few bytes: what neighbouring rows share is held once.
 
 ghost use Rattle.std.specs.Prelude.{◌≡◌, ◌<◌, ◌++◌, [], ◌∷◌, Some, get_or, length, slice_get, take};
 ghost use Rattle.std.specs.Prelude.{IfOk, OnOk, OnErr, IsTrue};
 ghost use Rattle.dwp_table.specs.Table.{HasSlots, IsHashTable};
 ghost use Rattle.thorin_errors.specs.Answers.{Gives};
+ghost use Rattle.thorin_index.specs.Entries.{contribution_to};
 ghost use Rattle.thorin_index.specs.EntryTests.{count_test};
 ghost use Rattle.thorin_index.specs.IndexText.{entry_ids};
-ghost use Rattle.thorin_index.specs.Rows.{with_own};
+ghost use Rattle.thorin_index.specs.Rows.{blank, with_own};
 
 use crate::buckets::bucket;
 use crate::entry::IndexEntry;
-use dwp_base::Contribution;
+use dwp_base::{Contribution, SectionKind};
 use dwp_bytes::Encoding;
 use dwp_table::{Bucketable, CONTRIBUTION_KINDS, DebugTypeSignature, DwarfObject};
 use std::alloc::{AllocError, Global};
@@ -117,8 +118,9 @@ pub fn share(entries: &mut Vec<IndexEntry>, entry: &IndexEntry) -> Result<usize,
 
 /// The rows of an index. In clauses they are the list of their entries.
 ///
-/// The units of an object share their contributions to all sections but the one that they stand in:
-/// a row in a row of such rows takes 48 bytes, where an entry takes 264.
+/// The units of an object share their contributions to all sections but the one that they stand in.
+/// Of rows that follow each other and share these, each but the first takes 48 bytes, where an entry
+/// takes 264.
 #[derive(Drop)]
 pub struct IndexRows {
     rows: Vec<Row>,
@@ -154,6 +156,35 @@ impl IndexRows {
         ensures { result ≡ length self.now }
     {
         self.rows.len()
+    }
+
+    /// The unit of a row.
+    pub fn unit(&self, place: usize) -> DwarfObject
+        requires { place < length self.now }
+        ensures { result ≡ (get_or self.now place blank).id }
+    {
+        self.rows[place].id
+    }
+
+    /// The encoding of a row's unit.
+    pub fn encoding(&self, place: usize) -> Encoding
+        requires { place < length self.now }
+        ensures { result ≡ (get_or self.now place blank).encoding }
+    {
+        self.shared[self.rows[place].shared].encoding
+    }
+
+    /// The contribution of a row's unit to a section; none to one that an index has no column for.
+    pub fn contribution(&self, place: usize, kind: SectionKind) -> Option<Contribution>
+        requires { place < length self.now }
+        ensures { result ≡ contribution_to kind (get_or self.now place blank) }
+    {
+        let Row { own, shared, .. } = self.rows[place];
+        match (kind, own) {
+            (SectionKind::Info, Own::Info(range)) => Some(range),
+            (SectionKind::Types, Own::Types(range)) => Some(range),
+            _ => self.shared[shared].contribution(kind),
+        }
     }
 
     /// The entry of a row.

@@ -82,7 +82,7 @@ IsNone lines = lines ≡ []
 abbrev pub IsLine : List ℕ → List (List ℕ) → Type 0
 IsLine line lines = lines ≡ line ∷ []
 
--- what waits went to a writer, and nothing waits; or none of it is left, though it didn't all go
+-- what waits went to a writer, and nothing waits; of a failure only what the writer got is said
 abbrev pub HandsOver : (old : Option (List ℕ)) → (held : List ℕ) → (new : Option (List ℕ))
     → (left : List ℕ) → Outcome → Type 0
 HandsOver old held new left (Ok done) = Appends old new held × (left ≡ [])

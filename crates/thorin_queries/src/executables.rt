@@ -22,8 +22,8 @@ use dwp_index::PackageFile;
 use dwp_table::DwarfObject;
 use std::alloc::{AllocError, Global};
 use std::io::Write;
-use thorin_executable::{NamedUnits, NamelessUnits};
 use thorin_errors::Error;
+use thorin_executable::{NamedUnits, NamelessUnits};
 use thorin_sessions::{ArenaSession, Session};
 use thorin_words::printed;
 

@@ -3,7 +3,6 @@
 
 mod identifier;
 pub mod laws;
-mod next;
 mod printing;
 mod responses;
 mod words;

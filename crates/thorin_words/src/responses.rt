@@ -9,7 +9,7 @@ ghost use Rattle.std.specs.Str.{bytes_eq};
 ghost use Rattle.thorin_words.specs.Words.{words_of};
 ghost use Rattle.thorin_words.specs.declared.responses.ResponseError.TheVariants as errors;
 
-use crate::next::next_word;
+use crate::words::next_word;
 use std::alloc::{AllocError, AllocFailed, Global};
 use std::convert::AsStr;
 use std::str;

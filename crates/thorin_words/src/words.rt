@@ -1,7 +1,8 @@
 //! The words of a text, as linkers read those of a response file.
 
-ghost use Rattle.std.specs.Prelude.{◌≡◌, map, IfOk};
+ghost use Rattle.std.specs.Prelude.{◌≡◌, ◌≤◌, length, map, IfOk};
 ghost use Rattle.thorin_words.specs.Words.{behind, keeps, is_between, is_space, is_mark, words_of};
+ghost use Rattle.thorin_words.specs.Words.{IsNext};
 
 use std::alloc::{AllocError, Global};
 use std::mem;
@@ -93,4 +94,36 @@ pub fn split_words(alloc: Global, text: &[u8]) -> Result<Vec<Vec<u8>>, AllocErro
         words.push(word)?;
     }
     Ok(words)
+}
+
+/// Reads the first word that begins at a place of a text or behind it, into a word's room, and
+/// answers the place behind it; none where there is no more word.
+///
+/// # Errors
+/// Want of memory.
+pub(crate) fn next_word(
+    text: &[u8],
+    start: usize,
+    word: &mut Vec<u8>,
+) -> Result<Option<usize>, AllocError>
+    requires { start ≤ length text.now }
+    ensures { IfOk result (IsNext text.now start word.new.items) }
+{
+    word.clear();
+    let mut place = Place::Between;
+    for i in start..text.len() {
+        let byte = text[i];
+        let was = place;
+        place = was.behind(byte);
+        if was.keeps(byte) {
+            word.push(byte)?;
+        } else if place.is_between() && !was.is_between() {
+            return Ok(Some(i + 1));
+        }
+    }
+    if place.is_between() {
+        Ok(None)
+    } else {
+        Ok(Some(text.len()))
+    }
 }

@@ -1,12 +1,12 @@
 //! What an executable names.
 
 use crate::asserting::{MEMORY, SECOND, Seen};
-use crate::objects::{Naming, executable};
+use crate::executables::{Naming, executable};
 use bumpalo::Bump;
 use std::alloc::Global;
 use std::collections::BTreeMap;
-use thorin_executable::skeletons;
 use thorin_errors::Error;
+use thorin_executable::skeletons;
 use thorin_sessions::MemorySession;
 
 /// Whether a file of two units is listed; memory may be refused.

@@ -3,6 +3,7 @@ use Rattle.std.proofs.Common.{get_or, ap, sym, subst, arith}
 use Rattle.std.proofs.Math.Seq.{take-suc}
 use Rattle.dwp_table.specs.Objects.{identifier_of}
 use Rattle.thorin_index.specs.declared.entry.IndexEntry.{IndexEntry}
+use Rattle.thorin_index.specs.Rows.{blank}
 use Rattle.thorin_join.specs.Builder.{IdentifiersFit}
 use Rattle.thorin_builder.proofs.state.identifiers_fit.Goals as goal
 
@@ -20,7 +21,7 @@ fits-next rows i d h fit k = subst IdentifiersFit (sym (ap (λ n. take n rows) (
 pub loop-place-preserved : goal.loop-place-preserved
 loop-place-preserved c =
     let fit = subst (λ n. n < 2 ^ 64)
-    (c.index-identifier.ensures ∙ ap (λ (row : IndexEntry). identifier_of row.id) c.entry.ensures)
+    (c.index-identifier.ensures ∙ ap identifier_of c.unit.ensures)
     c.index-identifier.type_inv in
-    fits-next c.args.rows.now c.loop-place.place c.entry.result
+    fits-next c.args.rows.now c.loop-place.place blank
     (omega (arith, c.loop-place-test.true, c.len-place-end.ensures)) c.loop-place.invariant fit

@@ -2,7 +2,7 @@ use Rattle.std.proofs.Common.{◌≡◌, ℕ, ◌+◌, ◌<◌, true, false, Lis
 use Rattle.std.proofs.Common.{refl, arith, ◌∙◌}
 use Rattle.thorin_words.specs.Words.{words_of, keeps, behind, is_between}
 use Rattle.thorin_words.proofs.Splitting.{prefix-nothing, words_of-ended, words_of-last}
-use Rattle.thorin_words.proofs.next.next_word.Goals as goal
+use Rattle.thorin_words.proofs.words.next_word.Goals as goal
 
 pub loop-i-init : goal.loop-i-init
 unfolding words_of

@@ -1,7 +1,7 @@
 use Rattle.std.proofs.Common.{◌≡◌, [], drop, true, false, ◌<◌}
 use Rattle.thorin_words.specs.Words.{is_between, words_from, words_of}
 use Rattle.thorin_words.proofs.Splitting.{prefix}
-use Rattle.thorin_words.proofs.next.next_word.Given as goal
+use Rattle.thorin_words.proofs.words.next_word.Given as goal
 
 -- the words from the start on are those that the rest has, behind what was read of the present one
 abbrev pub invariant-loop-i : goal.invariant-loop-i

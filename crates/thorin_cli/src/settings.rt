@@ -1,0 +1,61 @@
+//! The settings of a command, of the words of its command line.
+
+use crate::manner::Manner;
+use thorin_arguments::PackArguments;
+use thorin_commands::{NamelessUnits, Packing, Warnings};
+use thorin_errors::MissingReferencedObjectBehaviour;
+
+/// What is to be packed, in the packer's terms.
+pub(crate) fn packing_of<'m, 'a>(
+    arguments: PackArguments<'m, 'a>,
+    manner: Manner,
+) -> Packing<'m, 'a> {
+    let missing = if arguments.skips_missing || arguments.partial {
+        MissingReferencedObjectBehaviour::Skip
+    } else {
+        MissingReferencedObjectBehaviour::Error
+    };
+    Packing {
+        output: arguments.output,
+        inputs: arguments.inputs,
+        executables: arguments.executables,
+        missing,
+        nameless: nameless_units(arguments.skips_nameless || manner.skips_nameless),
+        force: arguments.force,
+        decompresses: arguments.decompresses,
+        prefix_maps: arguments.prefix_maps,
+        partial: arguments.partial,
+        opens_archives: arguments.opens_archives || manner.opens_archives,
+        verbose: arguments.verbose,
+        notes: manner.notes || arguments.verbose,
+        warnings: warnings_of(arguments.warnings, manner.warnings),
+        allows_overlap: arguments.allows_overlap,
+        keeps_last_macros: arguments.keeps_last_macros || manner.keeps_last_macros,
+        lets_empty: manner.lets_empty,
+    }
+}
+
+/// What becomes of units that name no object.
+pub(crate) fn nameless_units(are_skipped: bool) -> NamelessUnits {
+    if are_skipped {
+        NamelessUnits::PassedOver
+    } else {
+        NamelessUnits::Refused
+    }
+}
+
+/// The warnings that a word asks for, where there is one.
+fn warnings_of(word: Option<&str>, default: Warnings) -> Warnings {
+    match word {
+        Some(word) => Warnings::of(word).unwrap_or(default),
+        None => default,
+    }
+}
+
+/// How many files are to be read, where no executable names more.
+pub(crate) fn file_count(packing: &Packing<'_, '_>) -> Option<u64> {
+    match (packing.inputs, packing.executables) {
+        (Some(inputs), None) => Some(inputs.len() as u64),
+        _ => None,
+    }
+}
