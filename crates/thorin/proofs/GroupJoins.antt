@@ -146,10 +146,6 @@ joining-new {X} names more (u ∷ us) =
 abbrev clashes : List DwarfObject → DwarfObject → Bool
 clashes names name = is_compilation name && list_any (same_name name) names
 
-and-true : (a b : Bool) → (a && b) ≡ true → (a ≡ true) × (b ≡ true)
-and-true true b h = (refl, h)
-and-true false b h = absurd (true≢false (sym h))
-
 -- a list that can be joined can be joined to more names where none of its compilation units is
 -- there
 can_join-new : {X : Type 0} (names more : List DwarfObject) (us : List (DwarfObject × X))

@@ -92,12 +92,6 @@ adds-later bytes parts differing made now h alone = record {
   stays = alone.stays;
 }
 
-pub adds-now : (bytes : List ℕ) (again : Repeated) (begun : Option InProgress)
-    → AddsAgainTo bytes again begun
-    → (made : InProgress) × (begun ≡ Some made) × AddsAgain bytes again made
-adds-now bytes again None h = absurd h
-adds-now bytes again (Some made) h = (made, refl, h)
-
 again-later : (bytes : List ℕ) (again : Repeated) (begun now : Option InProgress)
     → IsLaterBegun begun now → AddsAgainTo bytes again begun → AddsAgainTo bytes again now
 again-later bytes again None now h adds = absurd adds

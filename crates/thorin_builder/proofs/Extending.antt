@@ -33,12 +33,6 @@ pub front-append : {A : Type 0} (a b x : List A) → take (length a) b ≡ a
     → take (length a) (b ++ x) ≡ a
 front-append a b x h = take-append-le (length a) b x (at_most a b h) ∙ h
 
--- also where nothing may be added
-pub front-either : {A : Type 0} (a b x : List A) (c : Bool) → take (length a) b ≡ a
-    → take (length a) (cond c (b ++ x) b) ≡ a
-front-either a b x true h = front-append a b x h
-front-either a b x false h = h
-
 -- the signatures of type units, once more are added
 pub signatures : (a b n : List DebugTypeSignature) → n ≡ a ++ b
     → map (λ (s : DebugTypeSignature). s.0)

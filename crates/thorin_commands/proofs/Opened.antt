@@ -256,12 +256,6 @@ answers_members r decompresses offer old new file members are =
     on_ok_weaker r (λ (each : TookEach decompresses offer (split_contents members) old new).
     record { members = members; are = are; each = each })
 
--- what the call that takes bytes answered
-pub answers_bytes : (offer : Offer) (bytes : Bor (List ℕ)) (old new : State) (r : Outcome)
-    → Took offer (inputs.Bytes bytes) old r new → OnOk r (TookBytes offer bytes.now old new)
-answers_bytes offer bytes old new (Ok x) took = record { bytes = bytes; is = refl; took = took }
-answers_bytes offer bytes old new (Err e) took = tt
-
 -- what a call gave that was settled
 pub settled : {E : Type 0} (P : Type 0) (r : Result (Unit {0}) E) (outcome : Outcome)
     → OnOk r (outcome ≡ Ok tt) → OnOk outcome P → OnOk r P

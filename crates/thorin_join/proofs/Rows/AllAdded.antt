@@ -125,10 +125,6 @@ pub record Added (p : InProgress) (us : List (DwarfObject × NewUnit)) (ms : Mem
       false) → content_of kind (with_new_units p us).file.contents ≡ content_of kind p.file.contents
   pub names : names_of (with_new_units p us) ≡ names_of p ++ keys us
 
-same-added : (p q : InProgress) (us : List (DwarfObject × NewUnit)) (ms : Members) → q ≡ p
-    → Added p us ms → Added q us ms
-same-added p q us ms h a = subst (λ r. Added r us ms) (sym h) a
-
 pub units-added : (p : InProgress) (us : List (DwarfObject × NewUnit)) (ms added : Members)
     → AllNew (names_of p) us → AllCanBeAdded p.file.order p.file.contents p.strings us added
     → AreRowsOf p.file.order p.file.contents p.strings p.rows ms → Added p us (ms ++ added)

@@ -37,9 +37,6 @@ front-trans a b c h k = record {
       append_assoc a h.rest k.rest;
 }
 
-pub grows-refl : (c : Contents) → Grows c c
-grows-refl c kind = front-refl (content_of kind c)
-
 pub grows-trans : (c d e : Contents) → Grows c d → Grows d e → Grows c e
 grows-trans c d e h k kind = front-trans (content_of kind c) (content_of kind d) (content_of kind e)
     (h kind) (k kind)

@@ -145,11 +145,3 @@ distinct_chosen b rows names h apart =
     chosen-distinct b (rows_of b rows) (filter_passes (is_chosen b) rows)
     (AllPairs-filter (λ r s. same_name r.id s.id ≡ false) (is_chosen b) rows
     (rows-apart rows names h apart))
-
-pub distinct_compilations : (rows : List IndexEntry) (names : List DwarfObject)
-    → map (λ r. r.id) rows ≡ names → AreApart names → AreDistinct (entry_ids (rows_of true rows))
-distinct_compilations rows names h apart = distinct_chosen true rows names h apart
-
-pub distinct_types : (rows : List IndexEntry) (names : List DwarfObject) → map (λ r. r.id) rows ≡
-    names → AreApart names → AreDistinct (entry_ids (rows_of false rows))
-distinct_types rows names h apart = distinct_chosen false rows names h apart
