@@ -14,7 +14,9 @@ use Rattle.thorin_input.specs.Encodings.{encoding_of}
 use Rattle.thorin_input.specs.Growing.{Contents}
 use Rattle.thorin_input.specs.Indexes.{Indexes, Source, is_package, indexes_of}
 use Rattle.thorin_again.specs.OwnUnits.{AllOf}
-use Rattle.thorin_input.specs.Parts.{Parts, is_in_format, rewritten, parts_of}
+use Rattle.thorin_input.specs.Format.{is_in_format}
+use Rattle.thorin_input.specs.InputStrings.{rewritten}
+use Rattle.thorin_input.specs.Parts.{Parts, parts_of}
 use Rattle.thorin_join.specs.Represents.{IsSoundBegun, units_in}
 use Rattle.thorin_join.specs.State.{InProgress}
 use Rattle.thorin_input.specs.Used.{Used, InputFile, is_present}

@@ -22,7 +22,7 @@ use Rattle.thorin_strings.specs.StringOffsets.{header_of}
 use Rattle.thorin_strings.specs.Strings.{IsTable, data_of}
 use Rattle.thorin_join.specs.Builder.{State}
 use Rattle.thorin_input.specs.Growing.{Contents}
-use Rattle.thorin_input.specs.Parts.{is_copied}
+use Rattle.thorin_input.specs.Format.{is_copied}
 use Rattle.thorin_join.specs.StandApart.{EachRow}
 use Rattle.thorin_join.specs.State.{InProgress, unit_bytes}
 

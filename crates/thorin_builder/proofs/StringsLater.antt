@@ -27,8 +27,10 @@ use Rattle.thorin_packaged.specs.PackagedOffsets.{offset_ranges, ranges_test, re
 use Rattle.thorin_packaged.specs.PackagedOffsets.{packaged_offsets}
 use Rattle.thorin_input.specs.Growing.{Contents}
 use Rattle.thorin_input.specs.Indexes.{Source, is_package}
-use Rattle.thorin_input.specs.Parts.{is_in_format, is_copied, has_part, stands_once}
-use Rattle.thorin_input.specs.Parts.{rewritten, with_offsets, with_part, with_each_part, parts_of}
+use Rattle.thorin_input.specs.Format.{is_in_format, is_copied}
+use Rattle.thorin_input.specs.Parts.{has_part, stands_once}
+use Rattle.thorin_input.specs.InputStrings.{rewritten}
+use Rattle.thorin_input.specs.Parts.{with_offsets, with_part, with_each_part, parts_of}
 use Rattle.thorin_input.specs.Used.{Used, first}
 
 abbrev Strings : Type 0

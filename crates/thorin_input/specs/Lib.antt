@@ -5,6 +5,8 @@ pub mod Indexes
 pub mod Names
 pub mod Rows
 pub mod WholeFits
+pub mod Format
+pub mod InputStrings
 pub mod Parts
 pub mod NewUnits
 pub mod Encodings

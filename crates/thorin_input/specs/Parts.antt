@@ -1,43 +1,19 @@
 -- What an input adds to the sections of a package beside its units (DWARF 5, 7.3.5; the
 -- GNU page DebugFissionDWP).
-use Rattle.std.specs.Prelude.{ℕ, Bool, true, false, ◌&&◌, ◌||◌, not, nat_le, List, [], ◌∷◌, ◌++◌}
-use Rattle.std.specs.Prelude.{length, Result, Ok, Err, if◌then◌else◌}
+use Rattle.std.specs.Prelude.{ℕ, Bool, ◌&&◌, ◌||◌, not, nat_le, List, [], ◌∷◌, ◌++◌, Result, Ok, Err}
+use Rattle.std.specs.Prelude.{if◌then◌else◌}
 use Rattle.std.specs.List.{list_any}
 use Rattle.dwp_base.specs.declared.section.SectionKind.{SectionKind}
-use Rattle.dwp_base.specs.declared.section.SectionKind.TheVariants.{Types, Abbrev, Line, Loc}
-use Rattle.dwp_base.specs.declared.section.SectionKind.TheVariants.{Loclists, Rnglists, StrOffsets}
-use Rattle.dwp_base.specs.declared.section.SectionKind.TheVariants.{Macinfo, Macro, Str}
+use Rattle.dwp_base.specs.declared.section.SectionKind.TheVariants.{StrOffsets, Str}
 use Rattle.dwp_base.specs.Reading.{◌>>=◌}
 use Rattle.dwp_base.specs.Sections.{name_of, same_kind}
-use Rattle.dwp_bytes.specs.declared.encoding.Encoding.{Encoding}
-use Rattle.thorin_strings.specs.StringOffsets.{remapped}
-use Rattle.thorin_packaged.specs.PackagedOffsets.{packaged_offsets}
 use Rattle.thorin_errors.specs.Fault.{Fault, MissingRequiredSection, RepeatedSection}
 use Rattle.thorin_errors.specs.Fault.{SectionOutsideFormat}
 use Rattle.thorin_input.specs.Growing.{Contents}
+use Rattle.thorin_input.specs.Format.{is_in_format, is_copied}
 use Rattle.thorin_input.specs.Indexes.{Source, is_package}
+use Rattle.thorin_input.specs.InputStrings.{rewritten}
 use Rattle.thorin_input.specs.Used.{Used, first}
-
--- packages of an encoding's version have the section: location and range lists of DWARF 5 from
--- version 5 on, type units, location lists and macros of older versions below it
-abbrev pub is_in_format : Encoding → SectionKind → Bool
-is_in_format encoding Loclists = nat_le 5 encoding.version
-is_in_format encoding Rnglists = nat_le 5 encoding.version
-is_in_format encoding Types = not (nat_le 5 encoding.version)
-is_in_format encoding Loc = not (nat_le 5 encoding.version)
-is_in_format encoding Macinfo = not (nat_le 5 encoding.version)
-is_in_format encoding _ = true
-
--- a section that goes to the package whole and as it is
-abbrev pub is_copied : SectionKind → Bool
-is_copied Abbrev = true
-is_copied Line = true
-is_copied Loc = true
-is_copied Loclists = true
-is_copied Rnglists = true
-is_copied Macinfo = true
-is_copied Macro = true
-is_copied _ = false
 
 -- the parts so far, and the distinct strings so far
 abbrev pub Parts : Type 0
@@ -52,15 +28,6 @@ has_part kind parts = list_any (λ part. same_kind part.0 kind) parts
 abbrev pub stands_once : Source → SectionKind → Bool
 stands_once source kind =
     is_package source.indexes || (nat_le 5 source.encoding.version && same_kind kind StrOffsets)
-
--- string offsets that name their strings among the distinct ones: those of a package range by range
-unfoldable pub rewritten : Source → List ℕ → List (List ℕ) → Result (List ℕ × List (List ℕ)) Fault
-rewritten source bytes strings =
-    if is_package source.indexes
-    then packaged_offsets source.object.order source.encoding source.indexes.compilations
-    source.indexes.types (first Str source.object.sections) bytes strings
-    else remapped source.object.order source.encoding (first Str source.object.sections) bytes
-    (length bytes) strings
 
 -- the parts with string offsets
 unfoldable pub with_offsets : Source → Parts → List ℕ → Result Parts Fault

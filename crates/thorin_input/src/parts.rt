@@ -6,6 +6,8 @@ ghost use Rattle.dwp_elf.specs.FileText.{Object};
 ghost use Rattle.thorin_errors.specs.Answers.{Gives};
 ghost use Rattle.thorin_strings.specs.Known.{AreKnown};
 ghost use Rattle.thorin_input.specs.Growing.{IsGrown, with_bytes, with_parts};
+ghost use Rattle.thorin_input.specs.Format as format;
+ghost use Rattle.thorin_input.specs.InputStrings as strings_of;
 ghost use Rattle.thorin_input.specs.Parts as spec;
 ghost use Rattle.thorin_input.specs.Used.{first};
 ghost use Rattle.thorin_input.specs.View as view;
@@ -53,7 +55,7 @@ impl<'a> Part<'a> {
 
 /// Whether packages of an encoding's version have a section of this kind.
 fn is_in_format(encoding: Encoding, kind: SectionKind) -> bool
-    ensures { result ≡ spec.is_in_format encoding kind }
+    ensures { result ≡ format.is_in_format encoding kind }
 {
     match kind {
         SectionKind::Loclists | SectionKind::Rnglists => encoding.is_std_dwarf_package_format(),
@@ -66,7 +68,7 @@ fn is_in_format(encoding: Encoding, kind: SectionKind) -> bool
 
 /// Whether a section goes to the package whole and as it is.
 fn is_copied(kind: SectionKind) -> bool
-    ensures { result ≡ spec.is_copied kind }
+    ensures { result ≡ format.is_copied kind }
 {
     match kind {
         SectionKind::Abbrev
@@ -102,7 +104,7 @@ fn stands_once(source: &Source<'_>, kind: SectionKind) -> bool
 
 /// String offsets that name their strings in the table: those of a package range by range. An `Err`
 /// may leave strings behind those before.
-#[tactic(auto, unfolding(crate::specs::Parts::rewritten))]
+#[tactic(auto, unfolding(crate::specs::InputStrings::rewritten))]
 fn rewritten(
     alloc: Global,
     source: &Source<'_>,
@@ -114,7 +116,7 @@ fn rewritten(
     requires named { named.now ≡ first Str (view.source source.now).object.sections }
     requires known { AreKnown named.now strings.old repeats.old }
     ensures meaning { Gives (λ written. (written.items, strings.new)) result
-        (spec.rewritten (view.source source.now) bytes.now strings.old) }
+        (strings_of.rewritten (view.source source.now) bytes.now strings.old) }
     ensures kept { take (length strings.old) strings.new ≡ strings.old }
     ensures known { AreKnown named.now strings.new repeats.new }
 {

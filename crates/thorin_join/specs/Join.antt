@@ -21,7 +21,7 @@ use Rattle.dwp_table.specs.declared.object.DwarfObject.TheVariants.{Compilation,
 use Rattle.thorin_join.specs.Meaning.{Meaning, Members, piece, keys, input_meaning, joining}
 use Rattle.thorin_join.specs.Meaning.{can_join}
 use Rattle.thorin_input.specs.Names.{same_name, is_compilation}
-use Rattle.thorin_input.specs.Parts.{is_copied}
+use Rattle.thorin_input.specs.Format.{is_copied}
 
 -- an input joins its units to those before: a type unit whose name is there is passed over, no
 -- compilation unit is, and all that belongs to each unit that is added is there

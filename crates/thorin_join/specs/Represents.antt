@@ -22,7 +22,7 @@ use Rattle.thorin_input.specs.Growing.{Contents}
 use Rattle.thorin_join.specs.Laid.{IsLaid}
 use Rattle.thorin_join.specs.Meaning.{Meaning, Members, pieces_by, piece}
 use Rattle.thorin_input.specs.Names.{same_name}
-use Rattle.thorin_input.specs.Parts.{is_copied}
+use Rattle.thorin_input.specs.Format.{is_copied}
 use Rattle.thorin_join.specs.State.{InProgress, kind_at, names_of, unit_bytes}
 use Rattle.thorin_join.specs.Strings.{strings_of}
 

@@ -31,7 +31,9 @@ use Rattle.thorin_again.specs.OwnAccepted.{IsAcceptedOnceWritten}
 use Rattle.thorin_again.specs.OwnInput.{written_used, written_object, IsOwn, TakesParts}
 use Rattle.thorin_again.specs.OwnRefusals.{UnlessStringOffset, UnlessForeseen}
 use Rattle.thorin_again.specs.OwnUnits.{AllOf, HoldsOwn}
-use Rattle.thorin_input.specs.Parts.{Parts, is_in_format, is_copied, rewritten, with_offsets}
+use Rattle.thorin_input.specs.Format.{is_in_format, is_copied}
+use Rattle.thorin_input.specs.InputStrings.{rewritten}
+use Rattle.thorin_input.specs.Parts.{Parts, with_offsets}
 use Rattle.thorin_input.specs.Parts.{with_part, with_each_part, parts_of}
 use Rattle.thorin_again.specs.Plain.{is_shared, IsPlain, HoldsPlain}
 use Rattle.thorin_join.specs.Represents.{IsSound, IsSoundBegun, units_of, units_begun}

@@ -31,7 +31,8 @@ use Rattle.thorin_join.specs.Meaning.{UnitRead, keys, named_unit, named_each, na
 use Rattle.thorin_join.specs.Meaning.{named_sections, joining}
 use Rattle.thorin_input.specs.Names.{same_name}
 use Rattle.thorin_input.specs.NewUnits.{Adding, NewUnit, place_for, name_for, unit_section}
-use Rattle.thorin_input.specs.Parts.{Parts, is_in_format, has_part, stands_once, with_part}
+use Rattle.thorin_input.specs.Format.{is_in_format}
+use Rattle.thorin_input.specs.Parts.{Parts, has_part, stands_once, with_part}
 use Rattle.thorin_input.specs.Parts.{with_each_part}
 use Rattle.thorin_join.specs.State.{InProgress, kind_at, names_of, held_units, adding}
 use Rattle.thorin_join.specs.State.{with_unit_added, with_new_unit, with_new_units, with_source}

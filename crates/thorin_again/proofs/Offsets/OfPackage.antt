@@ -26,7 +26,7 @@ use Rattle.thorin_join.specs.Meaning.{Meaning, Members}
 use Rattle.thorin_again.specs.OwnInput.{written_object, IsOwn}
 use Rattle.thorin_again.specs.OwnRefusals.{UnlessStringOffset}
 use Rattle.thorin_again.specs.OwnUnits.{AllOf}
-use Rattle.thorin_input.specs.Parts.{rewritten}
+use Rattle.thorin_input.specs.InputStrings.{rewritten}
 use Rattle.thorin_again.specs.Plain.{is_shared, IsWholeRange, Tile, IsAmong, HasOneOf, IsPlain}
 use Rattle.thorin_join.specs.Represents.{IsSound, IsSoundBegun, IsRowOf, AreRowsOf, units_of}
 use Rattle.thorin_join.specs.Represents.{units_begun}

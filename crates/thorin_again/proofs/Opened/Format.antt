@@ -21,7 +21,7 @@ use Rattle.thorin_index.specs.IndexText.{is_used}
 use Rattle.thorin_index.specs.declared.entry.IndexEntry.{IndexEntry}
 use Rattle.thorin_join.specs.Builder.{rows_of}
 use Rattle.thorin_join.specs.Laid.{Lie, is_at, rows_at}
-use Rattle.thorin_input.specs.Parts.{is_in_format}
+use Rattle.thorin_input.specs.Format.{is_in_format}
 use Rattle.thorin_join.specs.State.{kind_at}
 use Rattle.thorin_again.proofs.Opened.Indexes.{HaveVersion, version-chosen}
 use Rattle.thorin_again.proofs.Taken.RowsGiven.{used-chosen}

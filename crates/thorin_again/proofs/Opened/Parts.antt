@@ -14,8 +14,10 @@ use Rattle.thorin_errors.specs.Fault.{SectionOutsideFormat}
 use Rattle.thorin_input.specs.Growing.{Contents}
 use Rattle.thorin_input.specs.Indexes.{Source}
 use Rattle.thorin_again.specs.OwnInput.{written_used, CanTake, TakesParts}
-use Rattle.thorin_input.specs.Parts.{Parts, is_in_format, is_copied, has_part, stands_once}
-use Rattle.thorin_input.specs.Parts.{rewritten, with_offsets, with_part, with_each_part}
+use Rattle.thorin_input.specs.Format.{is_in_format, is_copied}
+use Rattle.thorin_input.specs.Parts.{Parts, has_part, stands_once}
+use Rattle.thorin_input.specs.InputStrings.{rewritten}
+use Rattle.thorin_input.specs.Parts.{with_offsets, with_part, with_each_part}
 use Rattle.thorin_input.specs.Used.{Used}
 use Rattle.thorin_again.proofs.Opened.Sections.{rest-differ, same-itself, fewer, last-counts}
 use Rattle.thorin_again.proofs.Opened.Sections.{one-there}

@@ -24,7 +24,8 @@ use Rattle.thorin_join.specs.Meaning.{Meaning}
 use Rattle.thorin_input.specs.NewUnits.{Adding, with_each_read, new_units}
 use Rattle.thorin_again.specs.OwnInput.{written_object, IsOwn}
 use Rattle.thorin_again.specs.OwnRefusals.{UnlessForeseen}
-use Rattle.thorin_input.specs.Parts.{is_copied, parts_of}
+use Rattle.thorin_input.specs.Format.{is_copied}
+use Rattle.thorin_input.specs.Parts.{parts_of}
 use Rattle.thorin_again.specs.Plain.{is_shared, NamesItself, IsPlain}
 use Rattle.thorin_join.specs.Represents.{IsSound, IsSoundBegun, LieInside, AreRowsOf, meaning_at}
 use Rattle.thorin_join.specs.Represents.{units_of, units_begun}

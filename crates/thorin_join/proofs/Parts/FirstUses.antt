@@ -40,7 +40,8 @@ use Rattle.thorin_join.specs.FirstUse.{named_in, strings_begun, named_in_file, u
 use Rattle.thorin_input.specs.Indexes.{Source, is_package, indexes_of}
 use Rattle.thorin_input.specs.Names.{same_name}
 use Rattle.thorin_input.specs.NewUnits.{NewUnit, new_units}
-use Rattle.thorin_input.specs.Parts.{Parts, rewritten, with_part, with_each_part, parts_of}
+use Rattle.thorin_input.specs.InputStrings.{rewritten}
+use Rattle.thorin_input.specs.Parts.{Parts, with_part, with_each_part, parts_of}
 use Rattle.thorin_join.specs.Represents.{IsSound}
 use Rattle.thorin_join.specs.State.{InProgress, names_of, adding, abbreviations_test}
 use Rattle.thorin_join.specs.State.{with_unit_added, with_new_unit, with_new_units, with_all}

@@ -16,7 +16,8 @@ use Rattle.thorin_strings.specs.Strings.{IsTable, data_of}
 use Rattle.thorin_input.specs.Growing.{Contents, joined_parts}
 use Rattle.thorin_input.specs.Indexes.{Indexes, Source, is_package}
 use Rattle.thorin_join.specs.Meaning.{joined_content}
-use Rattle.thorin_input.specs.Parts.{Parts, is_copied, has_part, stands_once, with_part}
+use Rattle.thorin_input.specs.Format.{is_copied}
+use Rattle.thorin_input.specs.Parts.{Parts, has_part, stands_once, with_part}
 use Rattle.thorin_input.specs.Parts.{with_each_part, parts_of}
 use Rattle.thorin_input.specs.Used.{Used, first, has_kind, bytes_of}
 use Rattle.thorin_join.proofs.Parts.Appended.{either, kind-like, same-kind, joined_parts-more}

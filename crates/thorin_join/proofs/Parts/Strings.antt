@@ -10,7 +10,8 @@ use Rattle.thorin_strings.specs.Strings.{IsTable}
 use Rattle.thorin_strings.specs.StringOffsets.{remapped}
 use Rattle.thorin_input.specs.Growing.{Contents, joined_parts}
 use Rattle.thorin_input.specs.Indexes.{Source, is_package}
-use Rattle.thorin_input.specs.Parts.{Parts, rewritten, with_part, with_each_part, parts_of}
+use Rattle.thorin_input.specs.InputStrings.{rewritten}
+use Rattle.thorin_input.specs.Parts.{Parts, with_part, with_each_part, parts_of}
 use Rattle.thorin_input.specs.Used.{Used, first}
 use Rattle.thorin_join.proofs.Parts.Appended.{Adds, step, parts-none}
 use Rattle.thorin_join.proofs.Steps.{bind-inv}

@@ -19,7 +19,7 @@ use Rattle.thorin_input.specs.Growing.{Contents, with_parts}
 use Rattle.thorin_input.specs.Indexes.{Source}
 use Rattle.thorin_join.specs.Meaning.{Meaning, pieces_by, piece, part_by, offsets_by, lie_inside}
 use Rattle.thorin_join.specs.Meaning.{meaning_with, meaning_by}
-use Rattle.thorin_input.specs.Parts.{is_copied}
+use Rattle.thorin_input.specs.Format.{is_copied}
 use Rattle.thorin_join.specs.Represents.{LieInside, Shares}
 use Rattle.thorin_join.specs.Strings.{strings_of}
 use Rattle.thorin_input.specs.Used.{first}

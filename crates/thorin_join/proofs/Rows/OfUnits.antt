@@ -31,7 +31,7 @@ use Rattle.thorin_index.specs.declared.entry.IndexEntry.{IndexEntry}
 use Rattle.thorin_input.specs.Growing.{Contents, joined_parts, range_put}
 use Rattle.thorin_input.specs.Indexes.{Indexes, is_package, index_for, looked_up}
 use Rattle.thorin_join.specs.Meaning.{read_of, placed_row}
-use Rattle.thorin_input.specs.Parts.{is_copied}
+use Rattle.thorin_input.specs.Format.{is_copied}
 use Rattle.thorin_input.specs.Rows.{whole_row, adjusted_part, unit_row, own_range, number_by_place}
 use Rattle.thorin_input.specs.Rows.{is_same_row, row_test}
 use Rattle.thorin_join.proofs.Parts.OfPackages.{IsOneOf}

@@ -25,7 +25,7 @@ use Rattle.thorin_index.specs.Entries.{contribution_to}
 use Rattle.thorin_index.specs.declared.entry.IndexEntry.{IndexEntry}
 use Rattle.thorin_input.specs.Growing.{Contents, with_bytes, range_put}
 use Rattle.thorin_join.specs.Meaning.{Meaning}
-use Rattle.thorin_input.specs.Parts.{is_copied}
+use Rattle.thorin_input.specs.Format.{is_copied}
 use Rattle.thorin_join.specs.Represents.{LieInside, Shares, IsRowOf}
 use Rattle.thorin_join.specs.State.{kind_at, row_at}
 use Rattle.thorin_join.proofs.Rows.Stay.{grows-with_bytes, keep-lie, keep-shares, part-inside}

@@ -23,7 +23,8 @@ use Rattle.thorin_input.specs.Growing.{Contents, with_parts, joined_parts}
 use Rattle.thorin_input.specs.Indexes.{Source, is_package, index_for}
 use Rattle.thorin_join.specs.Meaning.{Meaning, UnitRead, lie_inside, meaning_by, placed_row}
 use Rattle.thorin_join.specs.Meaning.{unit_meaning}
-use Rattle.thorin_input.specs.Parts.{is_copied, parts_of}
+use Rattle.thorin_input.specs.Format.{is_copied}
+use Rattle.thorin_input.specs.Parts.{parts_of}
 use Rattle.thorin_join.specs.Represents.{LieInside, Shares}
 use Rattle.thorin_input.specs.Rows.{whole_row, adjusted_part, unit_row, own_range, row_test}
 use Rattle.thorin_input.specs.Used.{first}

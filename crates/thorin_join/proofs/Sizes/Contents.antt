@@ -14,7 +14,8 @@ use Rattle.thorin_input.specs.Growing.{Contents, with_bytes, with_parts}
 use Rattle.thorin_input.specs.Indexes.{Source}
 use Rattle.thorin_input.specs.Names.{same_name}
 use Rattle.thorin_input.specs.NewUnits.{NewUnit}
-use Rattle.thorin_input.specs.Parts.{Parts, is_copied, with_part, with_each_part, parts_of}
+use Rattle.thorin_input.specs.Format.{is_copied}
+use Rattle.thorin_input.specs.Parts.{Parts, with_part, with_each_part, parts_of}
 use Rattle.thorin_input.specs.Used.{Used}
 use Rattle.thorin_join.specs.Sizes.{bytes_of_contents}
 use Rattle.thorin_join.specs.State.{InProgress, names_of, kind_at, with_unit_added, with_new_unit}

@@ -17,7 +17,8 @@ use Rattle.dwp_dwarf.specs.Units.{UnitsAreTaken}
 use Rattle.thorin_input.specs.Encodings.{encoding_of}
 use Rattle.thorin_input.specs.Indexes.{Source, indexes_of}
 use Rattle.thorin_input.specs.NewUnits.{new_units, unit_section}
-use Rattle.thorin_input.specs.Parts.{is_copied, parts_of}
+use Rattle.thorin_input.specs.Format.{is_copied}
+use Rattle.thorin_input.specs.Parts.{parts_of}
 use Rattle.thorin_input.specs.Used.{Used, opened, has_info, counts_once, input_file_of, first}
 use Rattle.thorin_join.specs.Builder.{package_or_new, order_test, with_source_or_new, with_units}
 use Rattle.thorin_join.specs.Builder.{with_input}

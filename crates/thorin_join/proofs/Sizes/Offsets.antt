@@ -22,7 +22,7 @@ use Rattle.thorin_packaged.specs.PackagedOffsets.{is_whole_range, ranges_test, o
 use Rattle.thorin_packaged.specs.PackagedOffsets.{rewritten_from, packaged_offsets}
 use Rattle.thorin_errors.specs.Fault.{Fault, BadStringOffsets, OverlappingStringOffsets}
 use Rattle.thorin_input.specs.Indexes.{Source, is_package}
-use Rattle.thorin_input.specs.Parts.{rewritten}
+use Rattle.thorin_input.specs.InputStrings.{rewritten}
 use Rattle.thorin_input.specs.Used.{first}
 use Rattle.thorin_join.proofs.Parts.OffsetRanges.{count-fits}
 use Rattle.thorin_join.proofs.Parts.Strings.{packaged, unpackaged}

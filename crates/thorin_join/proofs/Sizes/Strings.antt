@@ -32,7 +32,8 @@ use Rattle.thorin_errors.specs.Answers.{as_fault}
 use Rattle.thorin_input.specs.Indexes.{Source, is_package}
 use Rattle.thorin_input.specs.NewUnits.{NewUnit}
 use Rattle.thorin_input.specs.Names.{same_name}
-use Rattle.thorin_input.specs.Parts.{Parts, rewritten, with_part, with_each_part, parts_of}
+use Rattle.thorin_input.specs.InputStrings.{rewritten}
+use Rattle.thorin_input.specs.Parts.{Parts, with_part, with_each_part, parts_of}
 use Rattle.thorin_input.specs.Used.{Used, first}
 use Rattle.dwp_table.specs.declared.object.DwarfObject.{DwarfObject}
 use Rattle.thorin_join.specs.Sizes.{bytes_of_strings, offsets_used}
