@@ -10,7 +10,7 @@ use thorin_packaged::laws::{
     every_row_is_found_by_place, packaged_rows_are_read_alike, rows_are_found_by_place,
 };
 use thorin_packaged::{RowPlaces, remap_packaged_offsets};
-use thorin_strings::PackageStringTable;
+use thorin_strings::{PackageStringTable, StringOffsets};
 
 /// Makes the call of a row.
 pub fn call(row: Row<'_>, said: &mut Said) {
@@ -67,10 +67,12 @@ fn remapped(
         strings,
         Some(compilations),
         Some(types),
-        b"a\0b\0",
-        row.bytes(2),
-        Endianness::Little,
-        encoding(row.word(1)),
+        &StringOffsets {
+            strings: b"a\0b\0",
+            offsets: row.bytes(2),
+            order: Endianness::Little,
+            encoding: encoding(row.word(1)),
+        },
     )
 }
 
@@ -93,10 +95,12 @@ fn put_without_indexes(row: Row<'_>, strings: &mut PackageStringTable, said: &mu
         strings,
         None,
         None,
-        b"",
-        row.bytes(1),
-        Endianness::Big,
-        encoding("dwarf5"),
+        &StringOffsets {
+            strings: b"",
+            offsets: row.bytes(1),
+            order: Endianness::Big,
+            encoding: encoding("dwarf5"),
+        },
     ));
     said.put(&strings.is_empty());
 }

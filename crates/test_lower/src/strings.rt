@@ -7,7 +7,7 @@ use dwp_base::Endianness;
 use dwp_bytes::{Encoding, string_at};
 use test_rows::{Row, Said, Text, encoding, number, order, split};
 use thorin_errors::Error;
-use thorin_strings::{PackageStringOffset, PackageStringTable, Repeats};
+use thorin_strings::{PackageStringOffset, PackageStringTable, Repeats, StringOffsets};
 
 /// Makes the call of a row.
 pub fn call(row: Row<'_>, said: &mut Said) {
@@ -124,8 +124,13 @@ fn again(
     requires { AreKnown section.now table.old repeats.old }
     ensures { AreKnown section.now table.new repeats.new }
 {
-    let size = offsets.len() as u64;
-    table.remap_repeating(repeats, section, offsets, size, Little, encoding("gnu"))
+    let range = StringOffsets {
+        strings: section,
+        offsets,
+        order: Little,
+        encoding: encoding("gnu"),
+    };
+    table.remap_repeating(repeats, &range, offsets.len() as u64)
 }
 
 /// The same, and says what comes of it.

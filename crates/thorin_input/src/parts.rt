@@ -21,7 +21,7 @@ use dwp_elf::WritableObject;
 use std::alloc::Global;
 use thorin_errors::Error;
 use thorin_packaged::remap_packaged_offsets;
-use thorin_strings::{PackageStringTable, Repeats};
+use thorin_strings::{PackageStringTable, Repeats, StringOffsets};
 
 /// The bytes of a part: those of the input, or string offsets that were rewritten.
 #[derive(Drop)]
@@ -51,6 +51,13 @@ impl<'a> Part<'a> {
             PartBytes::Rewritten(bytes) => bytes,
         }
     }
+}
+
+/// What is gathered of an input: its parts so far, and those of its strings that are remembered.
+#[derive(Drop)]
+struct Gathering<'a> {
+    parts: Vec<Part<'a>>,
+    repeats: Repeats,
 }
 
 /// Whether packages of an encoding's version have a section of this kind.
@@ -120,22 +127,19 @@ fn rewritten(
     ensures kept { take (length strings.old) strings.new ≡ strings.old }
     ensures known { AreKnown named.now strings.new repeats.new }
 {
-    let object = &source.object;
+    let section = StringOffsets {
+        strings: named,
+        offsets: bytes,
+        order: source.object.order,
+        encoding: source.encoding,
+    };
     if source.indexes.is_package() {
         repeats.clear();
-        remap_packaged_offsets(
-            alloc,
-            strings,
-            source.indexes.compilations.as_ref(),
-            source.indexes.types.as_ref(),
-            named,
-            bytes,
-            object.order,
-            source.encoding,
-        )
+        let compilations = source.indexes.compilations.as_ref();
+        let types = source.indexes.types.as_ref();
+        remap_packaged_offsets(alloc, strings, compilations, types, &section)
     } else {
-        let size = bytes.len() as u64;
-        strings.remap_repeating(repeats, named, bytes, size, object.order, source.encoding)
+        strings.remap_repeating(repeats, &section, bytes.len() as u64)
     }
 }
 
@@ -143,28 +147,27 @@ fn rewritten(
 #[tactic(auto, unfolding(crate::specs::Parts::with_offsets))]
 fn add_offsets<'a>(
     alloc: Global,
-    parts: &mut Vec<Part<'a>>,
+    gathering: &mut Gathering<'a>,
     source: &Source<'a>,
     named: &[u8],
     bytes: &[u8],
     strings: &mut PackageStringTable,
-    repeats: &mut Repeats,
 ) -> Result<(), Error>
     requires named { named.now ≡ first Str (view.source source.now).object.sections }
-    requires known { AreKnown named.now strings.old repeats.old }
-    ensures meaning { Gives (λ _. (map view.part parts.new.items, strings.new)) result
+    requires known { AreKnown named.now strings.old gathering.old.repeats }
+    ensures meaning { Gives (λ _. (map view.part gathering.new.parts.items, strings.new)) result
         (spec.with_offsets (view.source source.now) (
-          map view.part parts.old.items,
+          map view.part gathering.old.parts.items,
           strings.old,
         ) bytes.now) }
     ensures kept { take (length strings.old) strings.new ≡ strings.old }
-    ensures known { AreKnown named.now strings.new repeats.new }
+    ensures known { AreKnown named.now strings.new gathering.new.repeats }
 {
     if !source.object.has_strings {
         return Err(Error::MissingRequiredSection(SectionKind::Str.name()));
     }
-    let written = rewritten(alloc, source, named, bytes, strings, repeats)?;
-    parts.push(Part {
+    let written = rewritten(alloc, source, named, bytes, strings, &mut gathering.repeats)?;
+    gathering.parts.push(Part {
         kind: SectionKind::StrOffsets,
         bytes: PartBytes::Rewritten(written),
     })?;
@@ -176,34 +179,33 @@ fn add_offsets<'a>(
 #[tactic(auto, unfolding(crate::specs::Parts::with_part))]
 fn add_part<'a>(
     alloc: Global,
-    parts: &mut Vec<Part<'a>>,
+    gathering: &mut Gathering<'a>,
     source: &Source<'a>,
     named: &[u8],
     section: UsedSection<'a>,
     strings: &mut PackageStringTable,
-    repeats: &mut Repeats,
 ) -> Result<(), Error>
     requires named { named.now ≡ first Str (view.source source.now).object.sections }
-    requires known { AreKnown named.now strings.old repeats.old }
-    ensures meaning { Gives (λ _. (map view.part parts.new.items, strings.new)) result
+    requires known { AreKnown named.now strings.old gathering.old.repeats }
+    ensures meaning { Gives (λ _. (map view.part gathering.new.parts.items, strings.new)) result
         (spec.with_part (view.source source.now) (
-          map view.part parts.old.items,
+          map view.part gathering.old.parts.items,
           strings.old,
         ) (view.used section.entry)) }
     ensures kept { take (length strings.old) strings.new ≡ strings.old }
-    ensures known { AreKnown named.now strings.new repeats.new }
+    ensures known { AreKnown named.now strings.new gathering.new.repeats }
 {
-    if stands_once(source, section.kind) && has_part(parts, section.kind) {
+    if stands_once(source, section.kind) && has_part(&gathering.parts, section.kind) {
         return Err(Error::RepeatedSection(section.kind.name()));
     }
     if !is_in_format(source.encoding, section.kind) {
         return Err(Error::SectionOutsideFormat(section.kind.name()));
     }
     if section.kind.is(SectionKind::StrOffsets) {
-        return add_offsets(alloc, parts, source, named, section.bytes, strings, repeats);
+        return add_offsets(alloc, gathering, source, named, section.bytes, strings);
     }
     if is_copied(section.kind) {
-        parts.push(Part {
+        gathering.parts.push(Part {
             kind: section.kind,
             bytes: PartBytes::Copied(section.bytes),
         })?;
@@ -228,21 +230,16 @@ pub fn parts_of<'a>(
         (spec.parts_of (view.source source.now) strings.old) }
     ensures kept { take (length strings.old) strings.new ≡ strings.old }
 {
-    let mut parts = Vec::new(alloc);
     // Looked for once: an input may have many sections of string offsets.
     let named = source.object.first(SectionKind::Str);
-    let mut repeats = Repeats::new(alloc);
+    let mut gathering = Gathering {
+        parts: Vec::new(alloc),
+        repeats: Repeats::new(alloc),
+    };
     for section in &source.object.sections {
-        add_part(
-            alloc,
-            &mut parts,
-            source,
-            named,
-            *section,
-            strings,
-            &mut repeats,
-        )?;
+        add_part(alloc, &mut gathering, source, named, *section, strings)?;
     }
+    let Gathering { parts, .. } = gathering;
     Ok(parts)
 }
 

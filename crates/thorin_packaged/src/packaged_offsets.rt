@@ -7,12 +7,11 @@ ghost use Rattle.thorin_packaged.specs.PackagedOffsets.{packaged_offsets, ranges
 ghost use Rattle.thorin_packaged.specs.PackagedOffsets.{rewritten_from};
 
 use crate::offset_ranges::{offset_ranges, test_ranges};
-use dwp_base::{Contribution, Endianness};
-use dwp_bytes::Encoding;
+use dwp_base::Contribution;
 use dwp_index::UnitIndex;
 use std::alloc::Global;
 use thorin_errors::Error;
-use thorin_strings::{PackageStringTable, Repeats};
+use thorin_strings::{PackageStringTable, Repeats, StringOffsets};
 
 /// The string offsets of a package with these indexes, rewritten to the same strings in a table:
 /// each range of a row by itself, with its own header (DWARF 5, 7.3.5, 7.26), and the bytes between
@@ -30,27 +29,17 @@ pub fn remap_packaged_offsets(
     strings: &mut PackageStringTable,
     cu_index: Option<&UnitIndex<'_>>,
     tu_index: Option<&UnitIndex<'_>>,
-    debug_str: &[u8],
-    debug_str_offsets: &[u8],
-    endian: Endianness,
-    encoding: Encoding,
+    section: &StringOffsets<'_>,
 ) -> Result<Vec<u8>, Error>
     ensures meaning { Gives (λ bytes. (bytes.items, strings.new)) result
-        (packaged_offsets endian encoding (option_copied cu_index.entry)
-        (option_copied tu_index.entry) debug_str.now debug_str_offsets.now strings.old) }
+        (packaged_offsets section.now.order section.now.encoding (option_copied cu_index.entry)
+        (option_copied tu_index.entry) section.now.strings.now section.now.offsets.now
+        strings.old) }
     ensures kept { take (length strings.old) strings.new ≡ strings.old }
 {
     let ranges = offset_ranges(alloc, cu_index, tu_index)?;
-    test_ranges(&ranges, encoding, debug_str_offsets.len() as u64)?;
-    rewritten(
-        alloc,
-        strings,
-        &ranges,
-        debug_str,
-        debug_str_offsets,
-        endian,
-        encoding,
-    )
+    test_ranges(&ranges, section.encoding, section.offsets.len() as u64)?;
+    rewritten(alloc, strings, &ranges, section)
 }
 
 /// The same of ranges that passed the tests.
@@ -58,35 +47,31 @@ fn rewritten(
     alloc: Global,
     strings: &mut PackageStringTable,
     ranges: &[Contribution],
-    debug_str: &[u8],
-    debug_str_offsets: &[u8],
-    endian: Endianness,
-    encoding: Encoding,
+    section: &StringOffsets<'_>,
 ) -> Result<Vec<u8>, Error>
-    requires { ranges_test encoding (length debug_str_offsets.now) 0 ranges.now ≡ Ok tt }
+    requires { ranges_test section.now.encoding (length section.now.offsets.now) 0 ranges.now
+        ≡ Ok tt }
     ensures meaning { Gives (λ bytes. (bytes.items, strings.new)) result
-        (rewritten_from endian encoding debug_str.now debug_str_offsets.now 0
-        ranges.now strings.old) }
+        (rewritten_from section.now.order section.now.encoding section.now.strings.now
+        section.now.offsets.now 0 ranges.now strings.old) }
     ensures kept { take (length strings.old) strings.new ≡ strings.old }
 {
-    let mut out = Vec::with_capacity(alloc, debug_str_offsets.len())?;
+    let offsets = section.offsets;
+    let mut out = Vec::with_capacity(alloc, offsets.len())?;
     let mut at = 0;
-    let mut repeats = Repeats::of_ranges(alloc, debug_str);
+    let mut repeats = Repeats::of_ranges(alloc, section.strings);
     for range in ranges {
         let begin = range.offset.0 as usize;
         let end = begin + range.size as usize;
-        out.extend_from_slice(&debug_str_offsets[at..begin])?;
-        let bytes = strings.remap_repeating(
-            &mut repeats,
-            debug_str,
-            &debug_str_offsets[begin..end],
-            range.size,
-            endian,
-            encoding,
-        )?;
+        out.extend_from_slice(&offsets[at..begin])?;
+        let one = StringOffsets {
+            offsets: &offsets[begin..end],
+            ..*section
+        };
+        let bytes = strings.remap_repeating(&mut repeats, &one, range.size)?;
         out.extend_from_slice(&bytes)?;
         at = end;
     }
-    out.extend_from_slice(&debug_str_offsets[at..])?;
+    out.extend_from_slice(&offsets[at..])?;
     Ok(out)
 }

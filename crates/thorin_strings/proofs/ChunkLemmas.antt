@@ -181,12 +181,6 @@ length-raised from xs =
       length-drop from xs,
     )
 
-pub raised_none : (from : ℕ) (xs : List ℕ) → from ≤ length xs
-    → xs ≡ take from (raised from xs) ++ drop from xs
-raised_none from xs fits =
-    sym (ap (λ l. l ++ drop from xs) (take_at (take from xs) (map (λ s. s + 1) (drop from xs)) from
-    (length-take-le from xs fits)) ∙ take-append-drop from xs)
-
 pub raised_more : (from i : ℕ) (xs ys : List ℕ) (x : ℕ) → from ≤ i → i < length xs
     → ys ≡ take i (raised from xs) ++ drop i xs → x ≡ get_or ys i 0 → (x ≡ get_or xs i 0)
     × (set ys i (x + 1) ≡ take (i + 1) (raised from xs) ++ drop (i + 1) xs)
@@ -212,12 +206,6 @@ raised_more from i xs ys x above within so_far read =
           (drop (i + 1) xs))
           ∙ ap (λ l. l ++ drop (i + 1) xs) (sym (take_more (raised from xs) i 0 (omega arith))),
     )
-
-pub raised_all : (from i : ℕ) (xs ys : List ℕ) → length xs ≤ i → ys ≡ take i (raised from xs) ++
-    drop i xs → ys ≡ raised from xs
-raised_all from i xs ys past so_far =
-    so_far ∙ ap₂ (λ l r. l ++ r) (take_all i (raised from xs)
-    (omega (arith, length-raised from xs))) (drop_all i xs past) ∙ append-nil (raised from xs)
 
 -- filtering one piece after another
 pub kept_more : (f : List ℕ → List ℕ) (ps qs rs : List (List ℕ)) (i : ℕ) → i < length ps

@@ -17,11 +17,6 @@ half size (suc digits) some within =
 abbrev pub IsHalved : ℕ → ℕ → ℕ → Type 0
 IsHalved n steps size = (k : ℕ) → n < 2 ^ k → (steps ≤ k) × (size < 2 ^ (k - steps))
 
-pub halved_none : (n : ℕ) → IsHalved n 0 n
-halved_none n = λ k h.
-    let same : k - 0 ≡ k = omega arith in
-    (omega arith, subst (λ (j : ℕ). n < 2 ^ j) (sym same) h)
-
 pub halved_more : (n steps size rest : ℕ) → IsHalved n steps size → 0 < size → rest ≤ size / 2
     → IsHalved n (steps + 1) rest
 halved_more n steps size rest so_far some less = λ k h.

@@ -55,25 +55,6 @@ related_push R xs ys xs' ys' x y long is_xs is_ys related last = λ k less.
     subst (λ n. R n (get_or ys' k 0)) (sym first) (subst (R x) (sym second) last))
     (cases_lt k (length xs))
 
--- no strings, whatever there is
-pub findable_none : (bytes : List ℕ) (slots : List Slot) (size : ℕ) (is_full : Bool)
-    (ordered : List ℕ) → bytes ≡ [] → ordered ≡ [] → IsFindable bytes slots size is_full ordered
-findable_none bytes slots size is_full ordered none empty =
-    let strings : strings_in bytes ≡ [] = ap strings_in none in
-    record {
-      indexed = record {
-        ended = ap data_of strings ∙ sym none;
-        distinct = λ i j d less within. absurd (omega (arith, ap length strings));
-        begun = λ i d within. absurd (omega (arith, ap length empty));
-        sorted = λ i j d less within. absurd (omega (arith, ap length empty));
-      };
-      found = λ k less. absurd (omega (
-        arith,
-        ap length strings,
-        length-map (strings_in bytes) hash,
-      ));
-    }
-
 -- a string of the section is found
 found_at : (bytes : List ℕ) (slots : List Slot) (size : ℕ) (is_full : Bool) (ordered s : List ℕ)
     → IsFindable bytes slots size is_full ordered → Contains (strings_in bytes) s
@@ -156,11 +137,6 @@ unordered bytes slots size is_full ordered s h r table is_hash leads stands ther
     (λ among. stands_apart bytes ordered s r (offset_of (strings_in bytes) s) stands among.0
     (stands_there bytes s table.indexed.ended there).1)
     (found_at bytes slots size is_full ordered s table there)
-
--- one comparison, where there is a string
-pub one_within : (n : ℕ) → 0 < n → IsWithinDigits 1 n
-one_within n some zero few = absurd (omega arith)
-one_within n some (suc k) few = omega arith
 
 -- what is found is so where each place that a hash has is kept, and no more are full
 pub found_kept : (slots new : List Slot) (size size' : ℕ) (is_full is_full' : Bool)

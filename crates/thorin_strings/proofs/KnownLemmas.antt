@@ -1,6 +1,7 @@
 -- What is remembered of strings that were read.
 use Rattle.std.proofs.Common.{◌≡◌, ℕ, ◌+◌, ◌<◌, ◌≤◌, Bool, true, false, cond, ltb, List, [], ◌∷◌}
 use Rattle.std.proofs.Common.{◌++◌, length, take, drop, codes, arith}
+use Rattle.std.proofs.Common.{Option, None, Some}
 use Rattle.std.proofs.Common.{Result, Ok, Err, ap, ap₂, sym, subst, refl, ◌∙◌}
 use Rattle.std.proofs.lemmas.List.{take-append-drop}
 use Rattle.std.proofs.lemmas.List.Elements.{All-weaker}
@@ -9,6 +10,7 @@ use Rattle.dwp_base.specs.declared.endian.Endianness.{Endianness}
 use Rattle.dwp_base.specs.Reading.{◌>>=◌}
 use Rattle.dwp_bytes.specs.declared.encoding.Encoding.{Encoding}
 use Rattle.thorin_errors.specs.Fault.{Fault, NumberTooLarge}
+use Rattle.std.specs.Option.{IfSome, IsSomeAnd}
 use Rattle.std.specs.Str.{bytes_eq}
 use Rattle.thorin_strings.specs.Strings.{data_of, offset_of, with_string}
 use Rattle.thorin_strings.specs.StringOffsets.{offset_limit, entry_at, string_read, named_at}
@@ -96,6 +98,16 @@ entry_read order encoding section bytes index named place old new entry h fits =
     let r = was_read section named place old new h in
     entry_used order encoding section bytes index old new r.string place (rw (entry, r.read) refl)
     fits (r.offset, r.strings)
+
+pub entry_told : (order : Endianness) (encoding : Encoding) (section bytes : List ℕ)
+    (index place : ℕ) (old new : List (List ℕ)) (named : Option ℕ)
+    → IfSome named (λ n. entry_at order encoding bytes index ≡ Ok n)
+    → IsSomeAnd named (λ n. offset_read section n old ≡ Ok (place, new))
+    → place ≤ offset_limit encoding.format
+    → remapped_entry order encoding section bytes index old ≡ Ok (place, new)
+entry_told order encoding section bytes index place old new None entry h fits = absurd h
+entry_told order encoding section bytes index place old new (Some named) entry h fits =
+    entry_read order encoding section bytes index named place old new entry h fits
 
 pub entry_large : (order : Endianness) (encoding : Encoding) (section bytes : List ℕ)
     (index named place : ℕ) (old new : List (List ℕ)) → entry_at order encoding bytes index ≡ Ok

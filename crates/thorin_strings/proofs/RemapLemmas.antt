@@ -130,36 +130,6 @@ word_written format out out' new at to offset form same is written =
     ap₂ take is same ∙ written
     ∙ ap (λ f. take at out ++ number_bytes Little (offset_size f) offset) (sym form)
 
--- all of them
-pub words_done : (out initial header tail : List ℕ) (size first index count : ℕ) → index ≡ count
-    → first ≡ size → length out ≡ first + count * 4 → take first initial ≡ header
-    → take (size + index * 4) out ≡ take first initial ++ tail → out ≡ header ++ tail
-words_done out initial header tail size first index count done is_first long is_header so_far =
-    sym (take_all (size + index * 4) out (omega arith)) ∙ so_far
-    ∙ ap (λ l. l ++ tail) is_header
-
--- a range whose entries were all rewritten
-pub remapped_done : (order : Endianness) (encoding : Encoding) (section bytes : List ℕ)
-    (size count width : ℕ) (old now : List (List ℕ)) (header offsets out : List ℕ)
-    → count ≡ entry_count encoding size → width ≡ offset_size encoding.format → (size ≡ 0 → ⊥)
-    → header_size encoding ≤ size → header_of order encoding (count * width) ≡ Ok header
-    → remapped_entries order encoding section bytes count old ≡ Ok (offsets, now)
-    → out ≡ header ++ entry_bytes order encoding.format offsets
-    → remapped order encoding section bytes size old ≡ Ok (out, now)
-unfolding remapped
-remapped_done order encoding section bytes size count width old now header offsets out is_count
-    is_width some fits has_header entries is_out =
-    let some_bytes : eqb size 0 ≡ false = ne_eqb size 0 some in
-    let whole : ltb size (header_size encoding) ≡ false = le-ltb size (header_size encoding) fits in
-    let headed : header_of order encoding (entry_count encoding size * offset_size encoding.format)
-    ≡ Ok header = ap₂ (λ n m. header_of order encoding (n * m)) (sym is_count)
-    (sym is_width) ∙ has_header in
-    let done : remapped_entries order encoding section bytes (entry_count encoding size) old ≡ Ok
-    (offsets, now) =
-    subst (λ n. remapped_entries order encoding section bytes n old ≡ Ok (offsets, now)) is_count
-    entries in
-    rw (some_bytes, whole, headed, done) (ap (λ l. Ok (l, now)) (sym is_out))
-
 -- what keeps the strings before it keeps those before them
 pub kept_more : (old now new : List (List ℕ)) → take (length old) now ≡ old → take (length now) new
     ≡ now → take (length old) new ≡ old
@@ -167,15 +137,6 @@ kept_more old now new first second =
     let short : length old ≤ length now =
     omega (arith, ap length first, length-take (length old) now) in
     sym (take-take (length old) (length now) new short) ∙ ap (take (length old)) second ∙ first
-
--- an entry of four bytes of a range that is whole
-pub word_within : (encoding : Encoding) (size count index long : ℕ) → encoding.format ≡ Dwarf32
-    → count ≡ entry_count encoding size → header_size encoding ≤ size → size ≤ long → index < count
-    → header_size encoding + index * 4 + 4 ≤ long
-word_within encoding size count index long form is_count headed whole less =
-    let is : count ≡ (size - header_size encoding) / 4 = is_count ∙ ap (λ f.
-    (size - header_size encoding) / offset_size f) form in
-    omega (arith, is)
 
 -- the offset that it has
 pub word_read : (encoding : Encoding) (bytes rest : List ℕ) (index at word : ℕ) → encoding.format ≡

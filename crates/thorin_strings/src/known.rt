@@ -1,16 +1,15 @@
 //! Entries of string offsets whose strings are told without room for an error (DWARF 5, 7.26).
 
 ghost use Rattle.std.specs.Prelude.{◌≡◌, ◌≤◌, ◌<◌, ◌+◌, ◌*◌, ◌^◌, length, take, Ok};
-ghost use Rattle.std.specs.Prelude.{IsNone, IfSome};
+ghost use Rattle.std.specs.Prelude.{IsNone, IfSome, IsSomeAnd};
 ghost use Rattle.dwp_bytes.specs.Encoding.{offset_size};
 ghost use Rattle.dwp_bytes.specs.StringOffsets.{header_size};
-ghost use Rattle.thorin_strings.specs.StringOffsets.{offset_limit, entry_at, string_read};
-ghost use Rattle.thorin_strings.specs.StringOffsets.{remapped_entry};
+ghost use Rattle.thorin_strings.specs.StringOffsets.{entry_at, string_read};
 ghost use Rattle.thorin_strings.specs.Strings.{IsZeroFree};
 ghost use Rattle.thorin_strings.specs.Known.{offset_read, AreKnown};
 
 use crate::ends::{ROUNDS, end_of, short_end};
-use crate::offsets::{offset_at, offset_limit};
+use crate::offsets::offset_at;
 use crate::repeats::Repeats;
 use crate::table::PackageStringTable;
 use dwp_base::Endianness;
@@ -18,7 +17,7 @@ use dwp_bytes::Encoding;
 
 /// The offset that the entry of a number has, where it can be read.
 #[inline(always)]
-fn known_entry(
+pub(crate) fn known_entry(
     debug_str_offsets: &[u8],
     endian: Endianness,
     encoding: Encoding,
@@ -147,32 +146,24 @@ impl PackageStringTable {
         Some(offset)
     }
 
-    /// The offset of the string that an entry names. None where it can't be read, where the table's
-    /// offsets may pass the limit, and for want of memory; the table is then as it was.
+    /// The same of the offset that an entry has, where it was read.
     #[inline(always)]
-    #[tactic(auto, using(crate::proofs::KnownLemmas::entry_read))]
     pub(crate) fn entry_told(
         &mut self,
         repeats: &mut Repeats,
         debug_str: &[u8],
-        debug_str_offsets: &[u8],
-        endian: Endianness,
-        encoding: Encoding,
-        index: u64,
+        named: Option<u64>,
+        limit: u64,
     ) -> Option<u64>
-        requires small { header_size encoding + index * offset_size encoding.format < 2 ^ 64 }
         requires known { AreKnown debug_str.now self.old repeats.old }
-        ensures meaning { IfSome result (λ offset.
-            remapped_entry endian encoding debug_str.now debug_str_offsets.now index self.old
-            ≡ Ok (offset, self.new)) }
-        ensures fits { IfSome result (λ offset. offset ≤ offset_limit encoding.format) }
+        ensures meaning { IfSome result (λ offset. IsSomeAnd named (λ at.
+            offset_read debug_str.now at self.old ≡ Ok (offset, self.new))) }
+        ensures fits { IfSome result (λ offset. offset ≤ limit) }
         ensures kept { take (length self.old) self.new ≡ self.old }
         ensures none { IsNone result → self.new ≡ self.old }
         ensures known { AreKnown debug_str.now self.new repeats.new }
     {
-        let limit = offset_limit(encoding.format);
-        let named = known_entry(debug_str_offsets, endian, encoding, index)?;
-        let offset = self.offset_told(repeats, debug_str, named, limit)?;
-        Some(offset)
+        let named = named?;
+        self.offset_told(repeats, debug_str, named, limit)
     }
 }

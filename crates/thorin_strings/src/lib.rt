@@ -16,5 +16,6 @@ mod table;
 mod told;
 mod words;
 
+pub use offsets::StringOffsets;
 pub use repeats::Repeats;
 pub use table::{PackageStringOffset, PackageStringTable, TableMark};

@@ -14,12 +14,27 @@ ghost use Rattle.thorin_strings.specs.StringOffsets.{remapped_entry, remapped};
 ghost use Rattle.thorin_strings.specs.Strings.{IsZeroFree};
 ghost use Rattle.thorin_strings.specs.Known.{offset_read, AreKnown};
 
+use crate::known::known_entry;
 use crate::repeats::Repeats;
 use crate::table::PackageStringTable;
 use dwp_base::Endianness;
 use dwp_bytes::{Encoding, Format, ReadError, string_at};
 use std::alloc::{AllocError, Global};
 use thorin_errors::Error;
+
+/// String offsets, and the strings that they name (DWARF 5, 7.26).
+#[derive(Clone, Copy)]
+pub struct StringOffsets<'a> {
+    /// The section of the strings, which end with a zero byte each.
+    pub strings: &'a [u8],
+    /// The offsets: a section of them, or the bytes of a range, its header first.
+    pub offsets: &'a [u8],
+    /// The order of the bytes of a number.
+    pub order: Endianness,
+    /// The version, which says whether a range has a header, and the format, which says how long a
+    /// length and an offset are.
+    pub encoding: Encoding,
+}
 
 /// The largest length that an initial length of the format holds (DWARF 5, 7.4).
 fn length_limit(format: Format) -> u64
@@ -183,14 +198,13 @@ impl PackageStringTable {
         ensures err { OnErr result (self.new ≡ self.old) }
     {
         let mut repeats = Repeats::new(self.allocator());
-        self.remap_repeating(
-            &mut repeats,
-            debug_str,
-            debug_str_offsets,
-            section_size,
-            endian,
+        let range = StringOffsets {
+            strings: debug_str,
+            offsets: debug_str_offsets,
+            order: endian,
             encoding,
-        )
+        };
+        self.remap_repeating(&mut repeats, &range, section_size)
     }
 
     /// As `remap_str_offsets_section`, for one of many ranges that name strings of the same
@@ -202,28 +216,19 @@ impl PackageStringTable {
     pub fn remap_repeating(
         &mut self,
         repeats: &mut Repeats,
-        debug_str: &[u8],
-        debug_str_offsets: &[u8],
+        range: &StringOffsets<'_>,
         section_size: u64,
-        endian: Endianness,
-        encoding: Encoding,
     ) -> Result<Vec<u8>, Error>
-        requires { AreKnown debug_str.now self.old repeats.old }
+        requires { AreKnown range.now.strings.now self.old repeats.old }
         ensures meaning { Gives (λ bytes. (bytes.items, self.new)) result
-            (remapped endian encoding debug_str.now debug_str_offsets.now section_size self.old) }
+            (remapped range.now.order range.now.encoding range.now.strings.now range.now.offsets.now
+            section_size self.old) }
         ensures kept { take (length self.old) self.new ≡ self.old }
         ensures err { OnErr result ((self.new ≡ self.old) × (repeats.new ≡ [])) }
-        ensures known { AreKnown debug_str.now self.new repeats.new }
+        ensures known { AreKnown range.now.strings.now self.new repeats.new }
     {
         let mark = self.mark();
-        let result = self.remapped_by_form(
-            repeats,
-            debug_str,
-            debug_str_offsets,
-            section_size,
-            endian,
-            encoding,
-        );
+        let result = self.remapped_by_form(repeats, range, section_size);
         if result.is_err() {
             self.truncate(mark);
             repeats.clear();
@@ -237,44 +242,38 @@ impl PackageStringTable {
     fn remapped_by_form(
         &mut self,
         repeats: &mut Repeats,
-        debug_str: &[u8],
-        debug_str_offsets: &[u8],
+        range: &StringOffsets<'_>,
         section_size: u64,
-        endian: Endianness,
-        encoding: Encoding,
     ) -> Result<Vec<u8>, Error>
-        requires known { AreKnown debug_str.now self.old repeats.old }
+        requires known { AreKnown range.now.strings.now self.old repeats.old }
         ensures meaning { Gives (λ bytes. (bytes.items, self.new)) result
-            (remapped endian encoding debug_str.now debug_str_offsets.now section_size self.old) }
+            (remapped range.now.order range.now.encoding range.now.strings.now range.now.offsets.now
+            section_size self.old) }
         ensures kept { take (length self.old) self.new ≡ self.old }
-        ensures known { AreKnown debug_str.now self.new repeats.new }
+        ensures known { AreKnown range.now.strings.now self.new repeats.new }
     {
-        let is_whole = section_size <= debug_str_offsets.len() as u64;
+        let StringOffsets {
+            strings,
+            offsets,
+            order,
+            encoding,
+        } = *range;
+        let is_whole = section_size <= offsets.len() as u64;
         let is_plain = is_whole && !repeats.has_cells();
-        match (endian, encoding.format) {
-            (Endianness::Little, Format::Dwarf32) if is_plain => self.remapped_words(
-                repeats,
-                debug_str,
-                debug_str_offsets,
-                section_size,
-                dwarf32(encoding),
-            ),
-            (Endianness::Little, Format::Dwarf32) => self.remapped(
-                repeats,
-                debug_str,
-                debug_str_offsets,
-                section_size,
-                Endianness::Little,
-                dwarf32(encoding),
-            ),
-            _ => self.remapped(
-                repeats,
-                debug_str,
-                debug_str_offsets,
-                section_size,
-                endian,
-                encoding,
-            ),
+        match (order, encoding.format) {
+            (Endianness::Little, Format::Dwarf32) if is_plain => {
+                self.remapped_words(repeats, strings, offsets, section_size, dwarf32(encoding))
+            }
+            (Endianness::Little, Format::Dwarf32) => {
+                let words = StringOffsets {
+                    strings,
+                    offsets,
+                    order: Endianness::Little,
+                    encoding: dwarf32(encoding),
+                };
+                self.remapped(repeats, &words, section_size)
+            }
+            _ => self.remapped(repeats, range, section_size),
         }
     }
 
@@ -284,18 +283,22 @@ impl PackageStringTable {
     fn remapped(
         &mut self,
         repeats: &mut Repeats,
-        debug_str: &[u8],
-        debug_str_offsets: &[u8],
+        range: &StringOffsets<'_>,
         section_size: u64,
-        endian: Endianness,
-        encoding: Encoding,
     ) -> Result<Vec<u8>, Error>
-        requires known { AreKnown debug_str.now self.old repeats.old }
+        requires known { AreKnown range.now.strings.now self.old repeats.old }
         ensures meaning { Gives (λ bytes. (bytes.items, self.new)) result
-            (remapped endian encoding debug_str.now debug_str_offsets.now section_size self.old) }
+            (remapped range.now.order range.now.encoding range.now.strings.now range.now.offsets.now
+            section_size self.old) }
         ensures kept { take (length self.old) self.new ≡ self.old }
-        ensures known { AreKnown debug_str.now self.new repeats.new }
+        ensures known { AreKnown range.now.strings.now self.new repeats.new }
     {
+        let StringOffsets {
+            strings,
+            offsets,
+            order,
+            encoding,
+        } = *range;
         let alloc = self.allocator();
         if section_size == 0 {
             return Ok(Vec::new(alloc));
@@ -305,30 +308,17 @@ impl PackageStringTable {
         }
         let entry_size = encoding.format.offset_size() as u64;
         let count = encoding.string_offsets_count(section_size);
-        let mut out = header(alloc, endian, encoding, count * entry_size)?;
-        out.reserve(debug_str_offsets.len())?;
+        let limit = offset_limit(encoding.format);
+        let mut out = header(alloc, order, encoding, count * entry_size)?;
+        out.reserve(offsets.len())?;
         for index in 0..count {
             // (nearly every entry is told here, without room for an error)
-            let known = self.entry_told(
-                repeats,
-                debug_str,
-                debug_str_offsets,
-                endian,
-                encoding,
-                index,
-            );
-            let offset = match known {
+            let named = known_entry(offsets, order, encoding, index);
+            let offset = match self.entry_told(repeats, strings, named, limit) {
                 Some(offset) => offset,
-                None => self.remapped_entry(
-                    repeats,
-                    debug_str,
-                    debug_str_offsets,
-                    endian,
-                    encoding,
-                    index,
-                )?,
+                None => self.remapped_entry(repeats, range, index)?,
             };
-            push_offset(&mut out, endian, encoding.format, offset)?;
+            push_offset(&mut out, order, encoding.format, offset)?;
         }
         Ok(out)
     }
@@ -339,23 +329,22 @@ impl PackageStringTable {
     pub(crate) fn remapped_entry(
         &mut self,
         repeats: &mut Repeats,
-        debug_str: &[u8],
-        debug_str_offsets: &[u8],
-        endian: Endianness,
-        encoding: Encoding,
+        range: &StringOffsets<'_>,
         index: u64,
     ) -> Result<u64, Error>
-        requires small { header_size encoding + index * offset_size encoding.format < 2 ^ 64 }
-        requires known { AreKnown debug_str.now self.old repeats.old }
+        requires small { header_size range.now.encoding
+            + index * offset_size range.now.encoding.format < 2 ^ 64 }
+        requires known { AreKnown range.now.strings.now self.old repeats.old }
         ensures meaning { Gives (λ offset. (offset, self.new)) result
-            (remapped_entry endian encoding debug_str.now debug_str_offsets.now index self.old) }
-        ensures fits { IfOk result (λ offset. offset ≤ offset_limit encoding.format) }
+            (remapped_entry range.now.order range.now.encoding range.now.strings.now
+            range.now.offsets.now index self.old) }
+        ensures fits { IfOk result (λ offset. offset ≤ offset_limit range.now.encoding.format) }
         ensures kept { take (length self.old) self.new ≡ self.old }
-        ensures known { AreKnown debug_str.now self.new repeats.new }
+        ensures known { AreKnown range.now.strings.now self.new repeats.new }
     {
-        let named = entry_at(debug_str_offsets, endian, encoding, index)?;
-        let offset = self.offset_read(repeats, debug_str, named)?;
-        if offset_limit(encoding.format) < offset {
+        let named = entry_at(range.offsets, range.order, range.encoding, index)?;
+        let offset = self.offset_read(repeats, range.strings, named)?;
+        if offset_limit(range.encoding.format) < offset {
             return Err(Error::NumberTooLarge("string offset", offset));
         }
         Ok(offset)

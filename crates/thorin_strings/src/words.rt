@@ -9,7 +9,7 @@ ghost use Rattle.dwp_bytes.specs.StringOffsets.{header_size};
 ghost use Rattle.thorin_strings.specs.StringOffsets.{entry_at, remapped_entry, remapped};
 ghost use Rattle.thorin_strings.specs.Known.{AreKnown};
 
-use crate::offsets::header;
+use crate::offsets::{StringOffsets, header};
 use crate::repeats::Repeats;
 use crate::table::PackageStringTable;
 use dwp_base::Endianness;
@@ -110,14 +110,15 @@ impl PackageStringTable {
         let named = word_at(debug_str_offsets, encoding, index);
         match self.other_offset(repeats, debug_str, named, u32::MAX as u64) {
             Some(offset) => Ok(offset),
-            None => self.remapped_entry(
-                repeats,
-                debug_str,
-                debug_str_offsets,
-                Endianness::Little,
-                encoding,
-                index as u64,
-            ),
+            None => {
+                let range = StringOffsets {
+                    strings: debug_str,
+                    offsets: debug_str_offsets,
+                    order: Endianness::Little,
+                    encoding,
+                };
+                self.remapped_entry(repeats, &range, index as u64)
+            }
         }
     }
 

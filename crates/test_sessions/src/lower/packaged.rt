@@ -8,7 +8,7 @@ use std::alloc::Global;
 use thorin_errors::Error;
 use thorin_packaged::{RowPlaces, remap_packaged_offsets};
 use thorin_parts::{IndexEntry, write_index};
-use thorin_strings::PackageStringTable;
+use thorin_strings::{PackageStringTable, StringOffsets};
 
 const DWARF5: Encoding = Encoding {
     version: 5,
@@ -96,10 +96,12 @@ fn remap(
         strings,
         Some(index),
         None,
-        b"a\0b\0",
-        &A_THEN_B,
-        Endianness::Little,
-        DWARF5,
+        &StringOffsets {
+            strings: b"a\0b\0",
+            offsets: &A_THEN_B,
+            order: Endianness::Little,
+            encoding: DWARF5,
+        },
     )
 }
 

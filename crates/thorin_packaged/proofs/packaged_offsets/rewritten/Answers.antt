@@ -24,8 +24,8 @@ pub slice_bounds-extend_from_slice-end : goal.slice_bounds-extend_from_slice-end
 slice_bounds-extend_from_slice-end c = let r = next _ _ _ _ _ _ _ _ _ _
     c.loop-range.invariant.so_far zero_range c.loop-range-test.true in omega (arith, r.inside)
 
-pub slice_bounds-remap_repeating-end : goal.slice_bounds-remap_repeating-end
-slice_bounds-remap_repeating-end c = let r = next _ _ _ _ _ _ _ _ _ _ c.loop-range.invariant.so_far
+pub slice_bounds-one-end : goal.slice_bounds-one-end
+slice_bounds-one-end c = let r = next _ _ _ _ _ _ _ _ _ _ c.loop-range.invariant.so_far
     zero_range c.loop-range-test.true in r.inside
 
 pub returns-in_err-bytes-clause-meaning : goal.returns-in_err-bytes-clause-meaning
@@ -48,5 +48,5 @@ pub returns-clause-meaning : goal.returns-clause-meaning
 returns-clause-meaning c =
     all_written _ _ _ _ _ _ _ _ _ _ c.loop-range.invariant.so_far c.loop-range-test.false
     ∙ ap (λ l. Ok (c.loop-range.out.items ++ l, c.loop-range.strings))
-    (sym (take_rest c.args.debug_str_offsets.now c.loop-range.at))
+    (sym (take_rest c.args.section.now.offsets.now c.loop-range.at))
     ∙ ap (λ l. Ok (l, c.loop-range.strings)) (sym c.in_ok-extend_from_slice-3.ensures.items)

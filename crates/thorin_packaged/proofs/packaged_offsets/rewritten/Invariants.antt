@@ -4,7 +4,7 @@ use Rattle.thorin_packaged.proofs.packaged_offsets.rewritten.Given as goal
 
 abbrev pub invariant-loop-range : goal.invariant-loop-range
 invariant-loop-range l = record {
-  so_far : IsSoFar l.endian l.encoding l.debug_str l.debug_str_offsets l.ranges l.initial.strings
-      l.out.items l.at l.range-index l.strings;
-  known : AreKnown l.debug_str l.strings l.repeats;
+  so_far : IsSoFar l.section.order l.section.encoding l.section.strings.now l.section.offsets.now
+      l.ranges l.initial.strings l.out.items l.at l.range-index l.strings;
+  known : AreKnown l.section.strings.now l.strings l.repeats;
 }

@@ -3,6 +3,7 @@ use Rattle.std.proofs.lemmas.List.{append-nil, take_all}
 use Rattle.std.proofs.lemmas.Result.{err_from_is_err_and}
 use Rattle.thorin_strings.specs.StringOffsets.{remapped_entry}
 use Rattle.thorin_strings.proofs.RemapLemmas.{entries_none, entries_more, bytes_more, kept_more}
+use Rattle.thorin_strings.proofs.KnownLemmas.{entry_told}
 use Rattle.thorin_strings.proofs.RemapLemmas.{remapped_refuses}
 use Rattle.thorin_strings.proofs.table.PackageStringTable.remapped.Goals as goal
 use Rattle.thorin_strings.proofs.table.PackageStringTable.remapped.Goals.{in-Some}
@@ -19,8 +20,8 @@ pub returns-in_err-offset-in-None-clause-meaning : goal.returns-in_err-offset-in
 returns-in_err-offset-in-None-clause-meaning c =
     let p = err_from_is_err_and c.from_residual-in_err-offset-in-None.result
     c.from_residual-in_err-offset-in-None.ensures.1 in
-    rw (p.1, p.2) (λ other. remapped_refuses c.args.endian c.args.encoding c.args.debug_str.now
-    c.args.debug_str_offsets.now c.args.section_size c.string_offsets_count-count.result
+    rw (p.1, p.2) (λ other. remapped_refuses c.args.range.now.order c.args.range.now.encoding c.args.range.now.strings.now
+    c.args.range.now.offsets.now c.args.section_size c.string_offsets_count-count.result
     c.offset_size-entry_size.result c.loop-index.index c.args.self.now c.loop-index.self _ _ _
     c.string_offsets_count-count.ensures c.offset_size-entry_size.ensures (omega arith)
     (omega arith) c.in_ok-out.ensures c.loop-index.invariant.so_far.1
@@ -28,32 +29,38 @@ returns-in_err-offset-in-None-clause-meaning c =
 
 pub loop-index-preserved : goal.loop-index-preserved
 loop-index-preserved c =
-    let entry : remapped_entry c.args.endian c.args.encoding c.args.debug_str.now
-    c.args.debug_str_offsets.now c.loop-index.index c.loop-index.self ≡ Ok
-    (c.match-known.offset, c.match-known.self) = elim c.match-known.branch [
-      | in-Some w ↦ w.in-Some.ensures.meaning ∙ ap₂ (λ n l. Ok (n, l)) (sym w.offset-is)
-          (sym w.self-is)
+    let entry : remapped_entry c.args.range.now.order c.args.range.now.encoding c.args.range.now.strings.now
+    c.args.range.now.offsets.now c.loop-index.index c.loop-index.self ≡ Ok
+    (c.match-entry_told.offset, c.match-entry_told.self) = elim c.match-entry_told.branch [
+      | in-Some w ↦ entry_told c.args.range.now.order c.args.range.now.encoding
+          c.args.range.now.strings.now c.args.range.now.offsets.now c.loop-index.index _
+          c.loop-index.self _ c.known_entry-named.result c.known_entry-named.ensures
+          w.in-Some.ensures.meaning (omega (
+            arith,
+            w.in-Some.ensures.fits,
+            c.offset_limit-limit.ensures,
+          )) ∙ ap₂ (λ n l. Ok (n, l)) (sym w.offset-is) (sym w.self-is)
       | in-None+in_ok-offset-in-None w ↦ (rw w.in-None.ensures.none at
           w.in_ok-offset-in-None.ensures.meaning) ∙ ap₂ (λ n l. Ok (n, l)) (sym w.offset-is)
           (sym w.self-is)
     ] in
-    let kept : take (length c.loop-index.self) c.match-known.self ≡ c.loop-index.self =
-    elim c.match-known.branch [
-      | in-Some w ↦ rw w.self-is c.entry_told-known.ensures.kept
+    let kept : take (length c.loop-index.self) c.match-entry_told.self ≡ c.loop-index.self =
+    elim c.match-entry_told.branch [
+      | in-Some w ↦ rw w.self-is c.entry_told.ensures.kept
       | in-None+in_ok-offset-in-None w ↦ rw w.self-is (rw w.in-None.ensures.none at
           w.remapped_entry.ensures.kept)
     ] in
     record {
       kept = kept_more _ _ _ c.loop-index.invariant.kept kept;
       so_far = (
-        c.loop-index.invariant.so_far.0 ++ c.match-known.offset ∷ [],
-        entries_more c.args.endian c.args.encoding c.args.debug_str.now c.args.debug_str_offsets.now
+        c.loop-index.invariant.so_far.0 ++ c.match-entry_told.offset ∷ [],
+        entries_more c.args.range.now.order c.args.range.now.encoding c.args.range.now.strings.now c.args.range.now.offsets.now
             c.loop-index.index _ c.loop-index.self _ _ _ c.loop-index.invariant.so_far.1 entry,
-        bytes_more c.args.endian c.args.encoding.format _ c.loop-index.out.items _ _ _
+        bytes_more c.args.range.now.order c.args.range.now.encoding.format _ c.loop-index.out.items _ _ _
             c.loop-index.invariant.so_far.2 c.in_ok-push_offset.ensures,
       );
-      known = elim c.match-known.branch [
-        | in-Some w ↦ rw (w.self-is, w.repeats-is) c.entry_told-known.ensures.known
+      known = elim c.match-entry_told.branch [
+        | in-Some w ↦ rw (w.self-is, w.repeats-is) c.entry_told.ensures.known
         | in-None+in_ok-offset-in-None w ↦ rw (w.self-is, w.repeats-is)
             w.remapped_entry.ensures.known
       ];

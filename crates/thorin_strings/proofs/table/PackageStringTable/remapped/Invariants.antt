@@ -7,8 +7,8 @@ abbrev pub invariant-loop-index : goal.invariant-loop-index
 invariant-loop-index l = record {
   kept : take (length l.initial.self) l.self ≡ l.initial.self;
   so_far : (offsets : List ℕ)
-      × (remapped_entries l.endian l.encoding l.debug_str l.debug_str_offsets l.index l.initial.self
+      × (remapped_entries l.order l.encoding l.strings l.offsets l.index l.initial.self
       ≡ Ok (offsets, l.self))
-      × (l.out.items ≡ l.initial.out.items ++ entry_bytes l.endian l.encoding.format offsets);
-  known : AreKnown l.debug_str l.self l.repeats;
+      × (l.out.items ≡ l.initial.out.items ++ entry_bytes l.order l.encoding.format offsets);
+  known : AreKnown l.strings l.self l.repeats;
 }
