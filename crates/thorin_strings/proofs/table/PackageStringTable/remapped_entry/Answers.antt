@@ -5,13 +5,15 @@ use Rattle.thorin_strings.proofs.table.PackageStringTable.remapped_entry.Goals a
 pub returns-in_err-named-clause-meaning : goal.returns-in_err-named-clause-meaning
 returns-in_err-named-clause-meaning c =
     let p = err_from_is_err_and c.from_residual.result c.from_residual.ensures.1 in
-    rw (p.1, p.2) (λ other. entry_none c.args.range.now.order c.args.range.now.encoding c.args.range.now.strings.now
+    rw (p.1, p.2) (λ other. entry_none c.args.range.now.order c.args.range.now.encoding
+    c.args.range.now.strings.now
     c.args.range.now.offsets.now c.args.index _ _ (c.in_err-named.ensures other))
 
 pub returns-in_err-offset-clause-meaning : goal.returns-in_err-offset-clause-meaning
 returns-in_err-offset-clause-meaning c =
     let p = err_from_is_err_and c.from_residual-in_err-offset.result
     c.from_residual-in_err-offset.ensures.1 in
-    rw (p.1, p.2) (λ other. entry_unread c.args.range.now.order c.args.range.now.encoding c.args.range.now.strings.now
+    rw (p.1, p.2) (λ other. entry_unread c.args.range.now.order c.args.range.now.encoding
+    c.args.range.now.strings.now
     c.args.range.now.offsets.now c.args.index _ _ _ c.in_ok-named.ensures
     (c.in_err-offset.ensures.meaning other))
