@@ -1,4 +1,5 @@
-//! Packages of plain objects of one encoding, as laws.
+//! Packages of plain objects of one encoding, and own packages as inputs: what is kept, rewritten,
+//! taken and accepted, as laws.
 
 ghost use Rattle.std.specs.Prelude.{◌≡◌, ℕ, List, Some, Ok};
 ghost use Rattle.dwp_base.specs.declared.section.SectionKind.TheVariants.{StrOffsets};

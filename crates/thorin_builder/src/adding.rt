@@ -1,4 +1,5 @@
-//! What an object's bytes make of a package.
+//! What an input's bytes make of a package: the input is read as ELF, its byte order is tested, and
+//! its units are added.
 
 ghost use Rattle.std.specs.Prelude.{◌≡◌, Ok, OnErr, OnOk, IfOk};
 ghost use Rattle.dwp_elf_read.specs.View.{elf};

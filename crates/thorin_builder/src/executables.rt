@@ -1,4 +1,5 @@
-//! The objects that executables name (DWARF 5, 3.1.2; the GNU page DebugFission).
+//! Executables as inputs: the executable is read, then each object that it names is read and added,
+//! passed over, or refused (DWARF 5, 3.1.2; the GNU page DebugFission).
 
 ghost use Rattle.std.specs.Prelude.{◌≡◌, ℕ, List, IsTrue, Option, OnOk};
 ghost use Rattle.std.specs.Path.{path_bytes};

@@ -1,4 +1,5 @@
-//! The package builder.
+//! The package builder: `DwarfPackage`, its calls for objects and packages, and finishing. Its
+//! calls for executables are in `executables`.
 
 ghost use Rattle.std.specs.Prelude.{◌≡◌, ℕ, List, map, filter, length, IsTrue, IfOk, IfErr, OnOk};
 ghost use Rattle.std.specs.Prelude.{OnErr, IfSome};

@@ -1,4 +1,5 @@
-//! A package while it is made.
+//! A package while it is made: adding a source's units, taking them back, and finishing with
+//! strings and indexes.
 
 ghost use Rattle.std.specs.Prelude.{◌≡◌, ℕ, List, [], map, length, take, option_map, Some, IfOk};
 ghost use Rattle.std.specs.Prelude.{IfErr, OnOk, OnErr, true};

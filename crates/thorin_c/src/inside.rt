@@ -1,4 +1,5 @@
-//! The calls over a package that is open.
+//! The exports over a package that is open: they check their arguments and fill what the caller
+//! gave.
 
 ghost use Rattle.std.specs.Prelude.{◌≡◌, Ok};
 ghost use Rattle.dwp_base.specs.Reading.{Answers};

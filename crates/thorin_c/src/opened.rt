@@ -1,4 +1,4 @@
-//! A package whose sections' places are known, and looking its units up.
+//! A package that is open: looking its units and rows up by identifier or slot.
 
 ghost use Rattle.std.specs.Prelude.{◌≡◌, is_some};
 ghost use Rattle.std.specs.Option.{option_copied};

@@ -1,4 +1,4 @@
-//! Looking up the rows of many units.
+//! The export that looks up the rows of many units at once.
 
 ghost use Rattle.std.specs.Prelude.{◌≡◌, pos, Ok};
 ghost use Rattle.dwp_index.specs.Package.{package_of};

@@ -1,4 +1,4 @@
-//! The sections of a package at places that are known.
+//! The sections of an open package at places that are known, and whether a row lies inside them.
 
 ghost use Rattle.std.specs.Prelude.{◌≡◌};
 ghost use Rattle.dwp_elf_read.specs.Layout.{is_inside};

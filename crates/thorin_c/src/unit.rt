@@ -1,4 +1,4 @@
-//! Units that were found in an open package.
+//! A unit that was found in an open package: its bytes, its strings and its encoding.
 
 ghost use Rattle.std.specs.Prelude.{◌≡◌, ◌≤◌, Ok, IfSome, length, take, drop};
 ghost use Rattle.std.specs.Option.{option_copied};

@@ -1,4 +1,5 @@
-//! The line behind a failure that says what it is about.
+//! The lines `note: ` of the program: about which file each failure of a command is, and why a file
+//! can't be read or written.
 
 use std::alloc::AllocError;
 use std::io::Write;

@@ -1,4 +1,5 @@
-//! The settings of a command, of the words of its command line.
+//! The settings of a command, in the packer's terms, by the words of its command line and the
+//! manner of the program.
 
 use crate::manner::Manner;
 use thorin_arguments::PackArguments;

@@ -1,4 +1,4 @@
-//! The inputs that a command asks for.
+//! The inputs that a command asks for, in order: objects and packages, then executables.
 
 ghost use Rattle.std.specs.Prelude.{◌≡◌, ◌++◌, ◌∷◌, [], Some, None, map, IfOk};
 ghost use Rattle.thorin_commands.specs.Packing.{asked, object_asked, executable_asked};

@@ -1,4 +1,4 @@
-//! The files that `pack` reads, and the one that it writes.
+//! The files that `pack` reads, and the one that it writes, as a trait; and those of the system.
 
 ghost use Rattle.std.specs.Prelude.{ℕ, List, Result, Option, Some, None, OnOk, OnErr, IfErr};
 ghost use Rattle.std.specs.Path.{path_bytes};

@@ -1,4 +1,4 @@
-//! Paths that the command line names.
+//! Which place among the paths of the command line a path has.
 
 ghost use Rattle.std.specs.Prelude.{IsTrue, IfSome};
 ghost use Rattle.thorin_commands.specs.Packing.{StandsAt};

@@ -1,4 +1,5 @@
-//! The line behind a refusal that says what it is about: which file, and what is the matter with it.
+//! The texts of the lines `note: ` behind what `pack` refuses: which file, what is the matter with
+//! it, and which option helps.
 
 use std::alloc::{AllocError, Global};
 use std::fmt;

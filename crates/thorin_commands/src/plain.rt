@@ -1,4 +1,5 @@
-//! The inputs of `pack`, decompressed and with the last macros alone where that is asked for.
+//! The reader of the inputs of `pack`: files are read, decompressed, and tested for strings and
+//! sections that overlap, and what can't be read is kept for notes.
 
 ghost use Rattle.std.specs.Prelude.{◌≡◌, ◌⊎◌, IsTrue, IfOk, IfErr};
 ghost use Rattle.std.specs.Prelude.{string_bytes};

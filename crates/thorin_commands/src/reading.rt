@@ -1,4 +1,4 @@
-//! What `pack` asks of its inputs.
+//! What `pack` asks of the reader of its inputs, as a trait: `plain` has the reader.
 
 ghost use Rattle.std.specs.Prelude.{◌≡◌, Bool, IfOk};
 ghost use Rattle.thorin_commands.specs.Archives.{IsTakenFor, or_content};

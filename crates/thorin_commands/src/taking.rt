@@ -1,4 +1,4 @@
-//! What `pack` takes: the inputs in order.
+//! Taking the inputs in order, and what becomes of one that is refused.
 
 ghost use Rattle.std.specs.Prelude.{◌≡◌, Ok, OnOk};
 ghost use Rattle.thorin.specs.Run.{Took};

@@ -1,4 +1,4 @@
-//! What `pack` tells of its inputs.
+//! What `pack` tells of its inputs: with `--verbose`, and where one is refused.
 
 use crate::asked::{executable_of, nameless_in};
 use crate::growth::Growth;

@@ -1,4 +1,5 @@
-//! Where the parts of an input's section come to lie (DWARF 5, 7.3.5.3).
+//! Where a unit's contribution to a section of an input package comes to lie: its row is sought in
+//! the index of the input by its identifier (DWARF 5, 7.3.5.3).
 
 ghost use Rattle.std.specs.Prelude.{◌≡◌, ◌+◌, ◌<◌, ◌^◌, Ok, Result, is_some};
 ghost use Rattle.std.specs.Option.{ForSome, option_copied};

@@ -1,4 +1,4 @@
-//! The contents of a package while it is made.
+//! The contents of a package while it is made, and what is appended to them.
 
 ghost use Rattle.std.specs.Prelude.{◌≡◌, length, IfErr, OnOk, OnErr, IfOk};
 ghost use Rattle.dwp_elf.specs.Contents.{content_of};

@@ -1,4 +1,5 @@
-//! What an input adds to the sections of a package beside its units.
+//! What an input adds to the sections of a package beside its units: contents that are copied, and
+//! string offsets that are rewritten.
 
 ghost use Rattle.std.specs.Prelude.{◌≡◌, length, take, map, OnOk, OnErr, IfErr};
 ghost use Rattle.dwp_base.specs.declared.section.SectionKind.TheVariants.{Str};

@@ -1,4 +1,5 @@
-//! The rows that units get: each unit's part of each section of its input.
+//! The rows that units get: each unit's contribution to each section of its input, tested, and put
+//! where the section comes to lie in the package.
 
 ghost use Rattle.std.specs.Prelude.{◌≡◌, length, map, false, IfOk, IfErr};
 ghost use Rattle.dwp_base.specs.declared.section.SectionKind.TheVariants.{Abbrev};

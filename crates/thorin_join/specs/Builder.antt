@@ -1,5 +1,5 @@
--- What each input does to a package that is made, and what is written of it (DWARF 5, 7.3.5; the
--- GNU page DebugFissionDWP).
+-- What a package builder does with each input, from its bytes on, with the first fault; and what is
+-- written of the package (DWARF 5, 7.3.5; the GNU page DebugFissionDWP).
 use Rattle.std.specs.Prelude.{◌≡◌, ℕ, ◌<◌, ◌^◌, Bool, true, false, not, List, [], ◌∷◌, Option, Some}
 use Rattle.std.specs.Prelude.{None, Result, Ok, Err, unwrap_or, filter, find, length, nat_lt}
 use Rattle.std.specs.Prelude.{if◌then◌else◌}

@@ -1,5 +1,5 @@
--- A package while it is made: what each input adds to it (DWARF 5, 7.3.5; the
--- GNU page DebugFissionDWP).
+-- A package while it is made: its fields, and the steps that add the units and rows of an input
+-- whose sections are known (DWARF 5, 7.3.5; the GNU page DebugFissionDWP).
 use Rattle.std.specs.Prelude.{◌≡◌, ℕ, List, [], ◌∷◌, ◌++◌, map, take, length}
 use Rattle.std.specs.Prelude.{Result, Ok, Err, if◌then◌else◌}
 use Rattle.std.specs.List.{list_any}
