@@ -1,4 +1,4 @@
-//! Calls of the sessions of `thorin_errors`: what they read and place.
+//! Calls of the sessions of `thorin_sessions`: what they read and place.
 
 use bumpalo::Bump;
 use std::borrow::CowSlice;

@@ -29,7 +29,7 @@ pub use thorin_errors::{Error, InputError, MissingReferencedObjectBehaviour, Res
 pub use thorin_executable::{NamelessUnits, Skeleton, SkeletonList, SkeletonUnits, skeletons};
 pub use thorin_identity::dwo_identifier_of_unit;
 pub use thorin_parts::{
-    Buckets, ContributionAdjustor, IndexEntry, PackageStringOffset, PackageStringTable,
-    add_relocations, bucket, write_index,
+    Buckets, ContributionAdjustor, IndexEntry, PackageStringOffset, PackageStringTable, Repeats,
+    StringOffsets, add_relocations, bucket, write_index,
 };
 pub use thorin_sessions::{ArenaSession, BytesSession, MemorySession, Session};

@@ -28,9 +28,9 @@ use Rattle.thorin_packaged.specs.PackagedOffsets.{packaged_offsets}
 use Rattle.thorin_input.specs.Growing.{Contents}
 use Rattle.thorin_input.specs.Indexes.{Source, is_package}
 use Rattle.thorin_input.specs.Format.{is_in_format, is_copied}
-use Rattle.thorin_input.specs.Parts.{has_part, stands_once}
 use Rattle.thorin_input.specs.InputStrings.{rewritten}
-use Rattle.thorin_input.specs.Parts.{with_offsets, with_part, with_each_part, parts_of}
+use Rattle.thorin_input.specs.Parts.{has_part, stands_once, with_offsets, with_part, with_each_part}
+use Rattle.thorin_input.specs.Parts.{parts_of}
 use Rattle.thorin_input.specs.Used.{Used, first}
 
 abbrev Strings : Type 0

@@ -1,4 +1,4 @@
-//! The lines `note: ` of the program: about which file each failure of a command is, and why a file
+//! The `note:` lines of the program: which file the failure of a command is about, and why a file
 //! can't be read or written.
 
 use std::alloc::AllocError;

@@ -1,4 +1,4 @@
-//! The texts of the lines `note: ` behind what `pack` refuses: which file, what is the matter with
+//! The texts of the `note:` lines behind what `pack` refuses: which file, what is the matter with
 //! it, and which option helps.
 
 use std::alloc::{AllocError, Global};

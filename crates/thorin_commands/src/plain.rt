@@ -1,5 +1,6 @@
-//! The reader of the inputs of `pack`: files are read, decompressed, and tested for strings and
-//! sections that overlap, and what can't be read is kept for notes.
+//! The reader of the inputs of `pack`: files are read, decompressed, left with their last macros
+//! where that is asked for, and tested for strings and sections that overlap; what can't be read is
+//! kept for notes.
 
 ghost use Rattle.std.specs.Prelude.{◌≡◌, ◌⊎◌, IsTrue, IfOk, IfErr};
 ghost use Rattle.std.specs.Prelude.{string_bytes};

@@ -1,8 +1,7 @@
 -- What an input adds to the sections of a package beside its units (DWARF 5, 7.3.5; the
 -- GNU page DebugFissionDWP).
 use Rattle.std.specs.Prelude.{ℕ, Bool, ◌&&◌, ◌||◌, not, nat_le, List, [], ◌∷◌, ◌++◌, Result, Ok}
-use Rattle.std.specs.Prelude.{Err}
-use Rattle.std.specs.Prelude.{if◌then◌else◌}
+use Rattle.std.specs.Prelude.{Err, if◌then◌else◌}
 use Rattle.std.specs.List.{list_any}
 use Rattle.dwp_base.specs.declared.section.SectionKind.{SectionKind}
 use Rattle.dwp_base.specs.declared.section.SectionKind.TheVariants.{StrOffsets, Str}
@@ -10,11 +9,11 @@ use Rattle.dwp_base.specs.Reading.{◌>>=◌}
 use Rattle.dwp_base.specs.Sections.{name_of, same_kind}
 use Rattle.thorin_errors.specs.Fault.{Fault, MissingRequiredSection, RepeatedSection}
 use Rattle.thorin_errors.specs.Fault.{SectionOutsideFormat}
-use Rattle.thorin_input.specs.Growing.{Contents}
 use Rattle.thorin_input.specs.Format.{is_in_format, is_copied}
+use Rattle.thorin_input.specs.Growing.{Contents}
 use Rattle.thorin_input.specs.Indexes.{Source, is_package}
 use Rattle.thorin_input.specs.InputStrings.{rewritten}
-use Rattle.thorin_input.specs.Used.{Used, first}
+use Rattle.thorin_input.specs.Used.{Used}
 
 -- the parts so far, and the distinct strings so far
 abbrev pub Parts : Type 0

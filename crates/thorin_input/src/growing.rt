@@ -1,6 +1,6 @@
 //! The contents of a package while it is made, and what is appended to them.
 
-ghost use Rattle.std.specs.Prelude.{◌≡◌, length, IfErr, OnOk, OnErr, IfOk};
+ghost use Rattle.std.specs.Prelude.{◌≡◌, IfErr, OnOk, IfOk};
 ghost use Rattle.dwp_elf.specs.Contents.{content_of};
 ghost use Rattle.dwp_elf.specs.FileText.{Object};
 ghost use Rattle.thorin_input.specs.Growing as spec;

@@ -1,14 +1,14 @@
 //! What an input adds to the sections of a package beside its units: contents that are copied, and
 //! string offsets that are rewritten.
 
-ghost use Rattle.std.specs.Prelude.{◌≡◌, length, take, map, OnOk, OnErr, IfErr};
+ghost use Rattle.std.specs.Prelude.{◌≡◌, length, take, map, OnOk, IfErr};
 ghost use Rattle.dwp_base.specs.declared.section.SectionKind.TheVariants.{Str};
 ghost use Rattle.dwp_elf.specs.FileText.{Object};
 ghost use Rattle.thorin_errors.specs.Answers.{Gives};
 ghost use Rattle.thorin_strings.specs.Known.{AreKnown};
+ghost use Rattle.thorin_input.specs.Format as formats;
 ghost use Rattle.thorin_input.specs.Growing.{IsGrown, with_bytes, with_parts};
-ghost use Rattle.thorin_input.specs.Format as format;
-ghost use Rattle.thorin_input.specs.InputStrings as strings_of;
+ghost use Rattle.thorin_input.specs.InputStrings as input_strings;
 ghost use Rattle.thorin_input.specs.Parts as spec;
 ghost use Rattle.thorin_input.specs.Used.{first};
 ghost use Rattle.thorin_input.specs.View as view;
@@ -63,7 +63,7 @@ struct Gathering<'a> {
 
 /// Whether packages of an encoding's version have a section of this kind.
 fn is_in_format(encoding: Encoding, kind: SectionKind) -> bool
-    ensures { result ≡ format.is_in_format encoding kind }
+    ensures { result ≡ formats.is_in_format encoding kind }
 {
     match kind {
         SectionKind::Loclists | SectionKind::Rnglists => encoding.is_std_dwarf_package_format(),
@@ -76,7 +76,7 @@ fn is_in_format(encoding: Encoding, kind: SectionKind) -> bool
 
 /// Whether a section goes to the package whole and as it is.
 fn is_copied(kind: SectionKind) -> bool
-    ensures { result ≡ format.is_copied kind }
+    ensures { result ≡ formats.is_copied kind }
 {
     match kind {
         SectionKind::Abbrev
@@ -124,7 +124,7 @@ fn rewritten(
     requires named { named.now ≡ first Str (view.source source.now).object.sections }
     requires known { AreKnown named.now strings.old repeats.old }
     ensures meaning { Gives (λ written. (written.items, strings.new)) result
-        (strings_of.rewritten (view.source source.now) bytes.now strings.old) }
+        (input_strings.rewritten (view.source source.now) bytes.now strings.old) }
     ensures kept { take (length strings.old) strings.new ≡ strings.old }
     ensures known { AreKnown named.now strings.new repeats.new }
 {

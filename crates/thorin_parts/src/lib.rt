@@ -6,4 +6,4 @@ pub use thorin_executable::add_relocations;
 pub use thorin_index::{Buckets, IndexEntry, bucket, write_index};
 pub use thorin_input::ContributionAdjustor;
 pub use thorin_sessions::{ArenaSession, MemorySession, Session};
-pub use thorin_strings::{PackageStringOffset, PackageStringTable};
+pub use thorin_strings::{PackageStringOffset, PackageStringTable, Repeats, StringOffsets};

@@ -15,9 +15,9 @@ use Rattle.thorin_input.specs.Growing.{Contents}
 use Rattle.thorin_input.specs.Indexes.{Source}
 use Rattle.thorin_again.specs.OwnInput.{written_used, CanTake, TakesParts}
 use Rattle.thorin_input.specs.Format.{is_in_format, is_copied}
-use Rattle.thorin_input.specs.Parts.{Parts, has_part, stands_once}
 use Rattle.thorin_input.specs.InputStrings.{rewritten}
-use Rattle.thorin_input.specs.Parts.{with_offsets, with_part, with_each_part}
+use Rattle.thorin_input.specs.Parts.{Parts, has_part, stands_once, with_offsets, with_part}
+use Rattle.thorin_input.specs.Parts.{with_each_part}
 use Rattle.thorin_input.specs.Used.{Used}
 use Rattle.thorin_again.proofs.Opened.Sections.{rest-differ, same-itself, fewer, last-counts}
 use Rattle.thorin_again.proofs.Opened.Sections.{one-there}

@@ -18,9 +18,9 @@ use Rattle.thorin_input.specs.Growing.{Contents, with_bytes, with_parts, joined_
 use Rattle.thorin_input.specs.Indexes.{Source}
 use Rattle.thorin_join.specs.Meaning.{joined_content}
 use Rattle.thorin_input.specs.Format.{is_in_format, is_copied}
-use Rattle.thorin_input.specs.Parts.{Parts, has_part, stands_once}
 use Rattle.thorin_input.specs.InputStrings.{rewritten}
-use Rattle.thorin_input.specs.Parts.{with_offsets, with_part, with_each_part, parts_of}
+use Rattle.thorin_input.specs.Parts.{Parts, has_part, stands_once, with_offsets, with_part}
+use Rattle.thorin_input.specs.Parts.{with_each_part, parts_of}
 use Rattle.thorin_input.specs.Used.{Used}
 use Rattle.thorin_join.proofs.Steps.{bind-inv}
 
