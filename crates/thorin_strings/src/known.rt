@@ -146,7 +146,7 @@ impl PackageStringTable {
         Some(offset)
     }
 
-    /// The same of the offset that an entry has, where it was read.
+    /// The same, of the offset that an entry has; None also where the entry couldn't be read.
     #[inline(always)]
     pub(crate) fn entry_told(
         &mut self,

@@ -1,7 +1,7 @@
 //! String offsets, rewritten into a table of strings (DWARF 5, 7.26).
 
 ghost use Rattle.std.specs.Prelude.{◌≡◌, ◌≤◌, ◌<◌, ◌+◌, ◌*◌, ◌^◌, ◌++◌, [], length, take, Ok};
-ghost use Rattle.std.specs.Prelude.{OnOk, OnErr, IfOk, IsNone, IfSome};
+ghost use Rattle.std.specs.Prelude.{OnOk, OnErr, IfOk};
 ghost use Rattle.dwp_base.specs.Numbers.{number_bytes};
 ghost use Rattle.dwp_base.specs.Reading.{Answers};
 ghost use Rattle.dwp_bytes.specs.declared.encoding.Format.TheVariants.{Dwarf32};
@@ -27,7 +27,8 @@ use thorin_errors::Error;
 pub struct StringOffsets<'a> {
     /// The section of the strings, which end with a zero byte each.
     pub strings: &'a [u8],
-    /// The offsets: a section of them, or the bytes of a range, its header first.
+    /// The offsets: a section of them, or the bytes of a range, with its header first where it has
+    /// one.
     pub offsets: &'a [u8],
     /// The order of the bytes of a number.
     pub order: Endianness,
@@ -265,19 +266,15 @@ impl PackageStringTable {
                 self.remapped_words(repeats, strings, offsets, section_size, dwarf32(encoding))
             }
             (Endianness::Little, Format::Dwarf32) => {
-                let words = StringOffsets {
-                    strings,
-                    offsets,
-                    order: Endianness::Little,
-                    encoding: dwarf32(encoding),
-                };
-                self.remapped(repeats, &words, section_size)
+                let encoding = dwarf32(encoding);
+                self.remapped(repeats, range, section_size, Endianness::Little, encoding)
             }
-            _ => self.remapped(repeats, range, section_size),
+            _ => self.remapped(repeats, range, section_size, order, encoding),
         }
     }
 
-    /// The same for one form.
+    /// The same for one form: the order and the encoding, which stand apart from the range, so that
+    /// the compiler knows them where they are constants.
     #[inline(always)]
     #[tactic(auto, unfolding(crate::specs::StringOffsets::remapped))]
     fn remapped(
@@ -285,19 +282,20 @@ impl PackageStringTable {
         repeats: &mut Repeats,
         range: &StringOffsets<'_>,
         section_size: u64,
+        order: Endianness,
+        encoding: Encoding,
     ) -> Result<Vec<u8>, Error>
         requires known { AreKnown range.now.strings.now self.old repeats.old }
         ensures meaning { Gives (λ bytes. (bytes.items, self.new)) result
-            (remapped range.now.order range.now.encoding range.now.strings.now range.now.offsets.now
-            section_size self.old) }
+            (remapped order encoding range.now.strings.now range.now.offsets.now section_size
+            self.old) }
         ensures kept { take (length self.old) self.new ≡ self.old }
         ensures known { AreKnown range.now.strings.now self.new repeats.new }
     {
         let StringOffsets {
             strings,
             offsets,
-            order,
-            encoding,
+            ..
         } = *range;
         let alloc = self.allocator();
         if section_size == 0 {
@@ -316,7 +314,15 @@ impl PackageStringTable {
             let named = known_entry(offsets, order, encoding, index);
             let offset = match self.entry_told(repeats, strings, named, limit) {
                 Some(offset) => offset,
-                None => self.remapped_entry(repeats, range, index)?,
+                None => {
+                    let of_form = StringOffsets {
+                        strings,
+                        offsets,
+                        order,
+                        encoding,
+                    };
+                    self.remapped_entry(repeats, &of_form, index)?
+                }
             };
             push_offset(&mut out, order, encoding.format, offset)?;
         }

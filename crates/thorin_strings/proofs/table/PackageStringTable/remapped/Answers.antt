@@ -2,8 +2,8 @@ use Rattle.std.proofs.Common.{◌≡◌, [], ◌∷◌, ◌++◌, Ok, sym, ap₂
 use Rattle.std.proofs.lemmas.List.{append-nil, take_all}
 use Rattle.std.proofs.lemmas.Result.{err_from_is_err_and}
 use Rattle.thorin_strings.specs.StringOffsets.{remapped_entry}
-use Rattle.thorin_strings.proofs.RemapLemmas.{entries_none, entries_more, bytes_more, kept_more}
 use Rattle.thorin_strings.proofs.KnownLemmas.{entry_told}
+use Rattle.thorin_strings.proofs.RemapLemmas.{entries_none, entries_more, bytes_more, kept_more}
 use Rattle.thorin_strings.proofs.RemapLemmas.{remapped_refuses}
 use Rattle.thorin_strings.proofs.table.PackageStringTable.remapped.Goals as goal
 use Rattle.thorin_strings.proofs.table.PackageStringTable.remapped.Goals.{in-Some}
@@ -20,7 +20,7 @@ pub returns-in_err-offset-in-None-clause-meaning : goal.returns-in_err-offset-in
 returns-in_err-offset-in-None-clause-meaning c =
     let p = err_from_is_err_and c.from_residual-in_err-offset-in-None.result
     c.from_residual-in_err-offset-in-None.ensures.1 in
-    rw (p.1, p.2) (λ other. remapped_refuses c.args.range.now.order c.args.range.now.encoding
+    rw (p.1, p.2) (λ other. remapped_refuses c.args.order c.args.encoding
     c.args.range.now.strings.now
     c.args.range.now.offsets.now c.args.section_size c.string_offsets_count-count.result
     c.offset_size-entry_size.result c.loop-index.index c.args.self.now c.loop-index.self _ _ _
@@ -30,11 +30,11 @@ returns-in_err-offset-in-None-clause-meaning c =
 
 pub loop-index-preserved : goal.loop-index-preserved
 loop-index-preserved c =
-    let entry : remapped_entry c.args.range.now.order c.args.range.now.encoding
+    let entry : remapped_entry c.args.order c.args.encoding
     c.args.range.now.strings.now
     c.args.range.now.offsets.now c.loop-index.index c.loop-index.self ≡ Ok
     (c.match-entry_told.offset, c.match-entry_told.self) = elim c.match-entry_told.branch [
-      | in-Some w ↦ entry_told c.args.range.now.order c.args.range.now.encoding
+      | in-Some w ↦ entry_told c.args.order c.args.encoding
           c.args.range.now.strings.now c.args.range.now.offsets.now c.loop-index.index _
           c.loop-index.self _ c.known_entry-named.result c.known_entry-named.ensures
           w.in-Some.ensures.meaning (omega (
@@ -56,10 +56,10 @@ loop-index-preserved c =
       kept = kept_more _ _ _ c.loop-index.invariant.kept kept;
       so_far = (
         c.loop-index.invariant.so_far.0 ++ c.match-entry_told.offset ∷ [],
-        entries_more c.args.range.now.order c.args.range.now.encoding c.args.range.now.strings.now
+        entries_more c.args.order c.args.encoding c.args.range.now.strings.now
             c.args.range.now.offsets.now
             c.loop-index.index _ c.loop-index.self _ _ _ c.loop-index.invariant.so_far.1 entry,
-        bytes_more c.args.range.now.order c.args.range.now.encoding.format _
+        bytes_more c.args.order c.args.encoding.format _
             c.loop-index.out.items _ _ _
             c.loop-index.invariant.so_far.2 c.in_ok-push_offset.ensures,
       );
