@@ -1,3 +1,4 @@
+pub mod ByKind
 pub mod Numbers
 pub mod Reading
 pub mod Sections

@@ -40,6 +40,22 @@ compressed_name_of Str = codes ".zdebug_str.dwo"
 compressed_name_of CuIndex = codes ".zdebug_cu_index"
 compressed_name_of TuIndex = codes ".zdebug_tu_index"
 
+-- its name in short
+abbrev pub short_name : SectionKind → List ℕ
+short_name Info = codes "info"
+short_name Types = codes "types"
+short_name Abbrev = codes "abbrev"
+short_name Line = codes "line"
+short_name Loc = codes "loc"
+short_name Loclists = codes "loclists"
+short_name Rnglists = codes "rnglists"
+short_name StrOffsets = codes "str_offsets"
+short_name Macinfo = codes "macinfo"
+short_name Macro = codes "macro"
+short_name Str = codes "str"
+short_name CuIndex = codes "cu_index"
+short_name TuIndex = codes "tu_index"
+
 -- a name is one of the two spellings
 abbrev pub is_named : List ℕ → SectionKind → Bool
 is_named name kind = bytes_eq name (name_of kind) || bytes_eq name (compressed_name_of kind)
@@ -52,6 +68,10 @@ all_kinds = Info ∷ Types ∷ Abbrev ∷ Line ∷ Loc ∷ Loclists ∷ Rnglists
 -- the kind of section that a name belongs to, in either spelling
 abbrev pub kind_named : List ℕ → Option SectionKind
 kind_named name = find (is_named name) all_kinds
+
+-- the kind of section that has a short name
+abbrev pub kind_of_short_name : List ℕ → Option SectionKind
+kind_of_short_name name = find (λ kind. bytes_eq name (short_name kind)) all_kinds
 
 -- where a kind stands among them
 abbrev pub rank_of : SectionKind → ℕ

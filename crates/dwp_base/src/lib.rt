@@ -2,10 +2,12 @@
 //! contributions.
 #![tactic(auto)]
 
+mod by_kind;
 mod class;
 mod endian;
 mod section;
 
+pub use by_kind::ByKind;
 pub use class::Class;
 pub use endian::Endianness;
 pub use section::{Contribution, ContributionOffset, SectionKind};

@@ -3,6 +3,7 @@
 ghost use Rattle.std.specs.Prelude.{◌≡◌};
 ghost use Rattle.dwp_base.specs.Sections.{name_of, compressed_name_of, is_named, all_kinds};
 ghost use Rattle.dwp_base.specs.Sections.{kind_named, rank_of, same_kind};
+ghost use Rattle.dwp_base.specs.Sections.{short_name, kind_of_short_name};
 
 use std::fmt::{Debug, Formatter, Write};
 
@@ -110,6 +111,37 @@ impl SectionKind {
             SectionKind::CuIndex => ".zdebug_cu_index",
             SectionKind::TuIndex => ".zdebug_tu_index",
         }
+    }
+
+    /// The section's name in short, as a command line has it: `info` for `.debug_info.dwo`.
+    pub fn short_name(self) -> &'static str
+        ensures { result.now ≡ short_name self }
+    {
+        match self {
+            SectionKind::Info => "info",
+            SectionKind::Types => "types",
+            SectionKind::Abbrev => "abbrev",
+            SectionKind::Line => "line",
+            SectionKind::Loc => "loc",
+            SectionKind::Loclists => "loclists",
+            SectionKind::Rnglists => "rnglists",
+            SectionKind::StrOffsets => "str_offsets",
+            SectionKind::Macinfo => "macinfo",
+            SectionKind::Macro => "macro",
+            SectionKind::Str => "str",
+            SectionKind::CuIndex => "cu_index",
+            SectionKind::TuIndex => "tu_index",
+        }
+    }
+
+    /// The kind of section that has a short name.
+    pub fn of_short_name(name: &str) -> Option<SectionKind>
+        ensures { result ≡ kind_of_short_name name.now }
+    {
+        SectionKind::ALL
+            .iter()
+            .copied()
+            .find(|kind| name == kind.short_name())
     }
 
     /// Whether a name is one of the two spellings of this section's.

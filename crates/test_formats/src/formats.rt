@@ -1,6 +1,6 @@
 //! Calls of `dwp_base`, `dwp_bytes` and `dwp_table`.
 
-use dwp_base::{Contribution, ContributionOffset, Endianness, SectionKind};
+use dwp_base::{ByKind, Contribution, ContributionOffset, Endianness, SectionKind};
 use dwp_bytes::{Encoding, Format, ReadError, WriteError, string_at};
 use dwp_index::{Bucketable, DebugTypeSignature, DwarfObject, DwoId};
 use dwp_table::{column_of, kind_of_column, slot_count};
@@ -13,6 +13,9 @@ pub fn call(row: Row<'_>, said: &mut Said) {
         "stored" => said.put(&stored(row.order(1))),
         "bytes_of" => said.put(&bytes_of(row.order(1), row.number(2))),
         "of_name" => said.put(&SectionKind::of_name(row.word(1))),
+        "short" => said.put(&short(row.word(1))),
+        "by_kind" => said.put(&by_kind(row.kind(1), row.number(2))),
+        "read_by_kind" => said.put(&read_by_kind(row.kind(1), row.kind(2))),
         "kind" => said.put(&kind(row.kind(1), row.word(2), row.kind(3))),
         _ => call_of_bytes(row, said),
     }
@@ -74,6 +77,32 @@ fn kind(
         kind.is_named(name),
         kind.is(other),
     )
+}
+
+/// The kind of a short name, and that name again.
+fn short(name: &str) -> Option<(SectionKind, &'static str)> {
+    let kind = SectionKind::of_short_name(name)?;
+    Some((kind, kind.short_name()))
+}
+
+/// Where a kind's value is put in the place of 1: that value, and the last kind's.
+fn by_kind(kind: SectionKind, value: u64) -> (u64, u64) {
+    let mut values = ByKind::same(1);
+    values.set(kind, value);
+    (values.get(kind), values.get(SectionKind::TuIndex))
+}
+
+/// Where ranks are read, but none from one kind on unless it is the wanted one: the rank that was
+/// read for the wanted kind.
+fn read_by_kind(unread: SectionKind, wanted: SectionKind) -> Result<u8, SectionKind> {
+    let read = |kind: SectionKind| {
+        if kind.rank() >= unread.rank() && !unread.is(wanted) {
+            Err(kind)
+        } else {
+            Ok(kind.rank())
+        }
+    };
+    Ok(ByKind::read(0, read)?.get(wanted))
 }
 
 /// Of an encoding, its version and `narrow` or `wide`: whether it is GNU's, and of string offsets of

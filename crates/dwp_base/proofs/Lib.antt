@@ -1,0 +1,4 @@
+pub mod EveryKind
+pub mod Bools
+pub mod Steps
+pub mod KindsRead

@@ -1,0 +1,68 @@
+-- Steps that read: what one that answered says of those before it, and what is read for each of a
+-- list.
+use Rattle.std.proofs.Common.{◌≡◌, ℕ, zero, suc, List, [], ◌∷◌, ◌++◌, map}
+use Rattle.std.proofs.Common.{refl, sym, ap, ◌∙◌}
+use Rattle.std.specs.Prelude.{Some, Result, Ok, Err, slice_get}
+use Rattle.dwp_base.specs.Reading.{◌>>=◌, read_each}
+
+-- a step that answered goes on
+pub bind-ok : {A B E : Type 0} (r : Result A E) (x : A) (f : A → Result B E) → r ≡ Ok x
+    → (r >>= f) ≡ f x
+bind-ok r x f e = ap (λ s. s >>= f) e
+
+pub bind-err : {A B E : Type 0} (r : Result A E) (fault : E) (f : A → Result B E) → r ≡ Err fault
+    → (r >>= f) ≡ Err fault
+bind-err r fault f e = ap (λ s. s >>= f) e
+
+-- the value of a step, where what follows it answered
+pub bind-was : {A B E : Type 0} (r : Result A E) (f : A → Result B E) (y : B) → (r >>= f) ≡ Ok y
+    → (x : A) × (r ≡ Ok x) × (f x ≡ Ok y)
+bind-was (Ok x) f y e = (x, refl, e)
+bind-was (Err d) f y e = absurd cc
+
+pub same-ok : {A E : Type 0} (x y : A) → ◌≡◌ {A = Result A E} (Ok x) (Ok y) → x ≡ y
+same-ok x y e = cc
+
+-- what is read for each, where each is read
+pub each-read : {X Y E : Type 0} (f : X → Result Y E) (g : X → Y) → ((x : X) → f x ≡ Ok (g x))
+    → (xs : List X) → read_each f xs ≡ Ok (map g xs)
+each-read f g read [] = refl
+each-read f g read (x ∷ xs) = rw (read x, each-read f g read xs) refl
+
+-- what was read for one of them
+pub read-at : {X Y E : Type 0} (f : X → Result Y E) (xs : List X) (ys : List Y)
+    → read_each f xs ≡ Ok ys → (i : ℕ) (x : X) → slice_get xs i ≡ Some x
+    → (y : Y) × (f x ≡ Ok y) × (slice_get ys i ≡ Some y)
+read-at f [] ys e i x at = absurd cc
+read-at f (x' ∷ xs) ys e zero x at =
+    let first = bind-was (f x') _ ys e in
+    let rest = bind-was (read_each f xs) _ ys first.2 in
+    let same : x' ≡ x = cc in
+    (first.0, ap f (sym same) ∙ first.1, ap (λ l. slice_get l 0) (sym (same-ok _ _ rest.2)))
+read-at f (x' ∷ xs) ys e (suc i) x at =
+    let first = bind-was (f x') _ ys e in
+    let rest = bind-was (read_each f xs) _ ys first.2 in
+    let later = read-at f xs rest.0 rest.1 i x at in
+    (later.0, later.1, ap (λ l. slice_get l (suc i)) (sym (same-ok _ _ rest.2)) ∙ later.2)
+
+-- what is read for the first of some and then for the others
+pub read-append : {X Y E : Type 0} (f : X → Result Y E) (xs zs : List X) (ys : List Y)
+    → read_each f xs ≡ Ok ys
+    → read_each f (xs ++ zs) ≡ (read_each f zs >>= λ more. Ok (ys ++ more))
+read-append f [] zs ys e = nothing (read_each f zs) ys (same-ok _ _ e)
+  where
+    nothing : {Y E : Type 0} (r : Result (List Y) E) (ys : List Y) → ◌≡◌ {A = List Y} [] ys
+        → r ≡ (r >>= λ more. Ok (ys ++ more))
+    nothing (Ok more) ys e = ap (λ l. Ok (l ++ more)) e
+    nothing (Err d) ys e = refl
+read-append f (x ∷ xs) zs ys e =
+    let first = bind-was (f x) _ ys e in
+    let rest = bind-was (read_each f xs) _ ys first.2 in
+    rw (first.1, read-append f xs zs rest.0 rest.1) (put (read_each f zs) first.0 rest.0 ys
+    (same-ok _ _ rest.2))
+  where
+    put : {Y E : Type 0} (r : Result (List Y) E) (y : Y) (front ys : List Y) → y ∷ front ≡ ys
+        → ((r >>= λ more. Ok (front ++ more)) >>= λ later. Ok (y ∷ later))
+        ≡ (r >>= λ more. Ok (ys ++ more))
+    put (Ok more) y front ys e = ap (λ l. Ok (l ++ more)) e
+    put (Err d) y front ys e = refl
