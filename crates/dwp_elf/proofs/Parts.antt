@@ -1,18 +1,16 @@
 -- Lemmas on the parts of a file, section by section.
 use Rattle.std.proofs.Common.{◌≡◌, ℕ, zero, suc, ◌+◌, ◌*◌, ◌^◌, ◌<◌, ◌≤◌, List, [], ◌∷◌, ◌++◌}
 use Rattle.std.proofs.Common.{length, drop, get_or, refl, sym, ap, ◌∙◌, arith, add-one}
-use Rattle.std.proofs.Common.{length-append}
+use Rattle.std.proofs.Common.{length-append, nat_le}
 use Rattle.std.specs.Global.{Vec}
 use Rattle.std.proofs.Math.Seq.{drop-cons}
+use Rattle.std.proofs.lemmas.Bool.{leb-true}
 use Rattle.dwp_base.specs.declared.section.SectionKind.{SectionKind}
-use Rattle.dwp_base.specs.declared.section.SectionKind.TheVariants.{Info, Types, Abbrev, Line, Loc}
-use Rattle.dwp_base.specs.declared.section.SectionKind.TheVariants.{Loclists, Rnglists, StrOffsets}
-use Rattle.dwp_base.specs.declared.section.SectionKind.TheVariants.{Macinfo, Macro, Str, CuIndex}
-use Rattle.dwp_base.specs.declared.section.SectionKind.TheVariants.{TuIndex}
 use Rattle.dwp_base.specs.declared.class.Class.{Class}
 use Rattle.dwp_base.specs.declared.class.Class.TheVariants.{Elf32, Elf64}
 use Rattle.dwp_base.specs.declared.endian.Endianness.{Endianness}
 use Rattle.dwp_base.specs.Sections.{name_of}
+use Rattle.dwp_base.proofs.EveryKind.{every}
 use Rattle.dwp_elf.specs.Contents.{contents_of}
 use Rattle.dwp_elf_read.specs.Layout.{word_size}
 use Rattle.dwp_elf.specs.FileText.{content_bytes, names_of, headers_from, section_header}
@@ -56,19 +54,7 @@ names_of-end xs i h = ap (λ l. names_of (contents_of l)) (drop-end xs i h)
 
 -- no name has more than 24 bytes
 pub length-name_of : (kind : SectionKind) → length (name_of kind) ≤ 24
-length-name_of Info = omega arith
-length-name_of Types = omega arith
-length-name_of Abbrev = omega arith
-length-name_of Line = omega arith
-length-name_of Loc = omega arith
-length-name_of Loclists = omega arith
-length-name_of Rnglists = omega arith
-length-name_of StrOffsets = omega arith
-length-name_of Macinfo = omega arith
-length-name_of Macro = omega arith
-length-name_of Str = omega arith
-length-name_of CuIndex = omega arith
-length-name_of TuIndex = omega arith
+length-name_of kind = leb-true _ 24 (every (λ k. nat_le (length (name_of k)) 24) refl kind)
 
 -- the same for lengths
 pub length-content_bytes-drop : (xs : List (SectionKind × Vec ℕ)) (i : ℕ) (x : SectionKind × Vec ℕ)

@@ -1,21 +1,20 @@
 -- Reading one written section: its content and its name.
 use Rattle.std.proofs.Common.{◌≡◌, ℕ, zero, suc, ◌+◌, ◌-◌, ◌<◌, ◌==◌, nat_lt, nat_le, Bool, true}
+use Rattle.std.proofs.Common.{not, ◌&&◌}
 use Rattle.std.proofs.Common.{false, cond, List, [], ◌∷◌, ◌++◌, Some, None, length, take, drop}
 use Rattle.std.proofs.Common.{position, refl, ap, ◌∙◌, arith, length-append}
 use Rattle.std.specs.Prelude.{codes}
-use Rattle.std.specs.List.{position_or_len, slice_range}
+use Rattle.std.specs.List.{list_all, position_or_len, slice_range}
 use Rattle.std.specs.Option.{option_and_then}
 use Rattle.std.specs.Str.{IsAscii, is_utf8}
 use Rattle.std.proofs.Math.Seq.{take-append_seam}
-use Rattle.std.proofs.lemmas.Bool.{lt-ltb, ltb-true, false≢true}
+use Rattle.std.proofs.lemmas.Bool.{lt-ltb, ltb-true}
 use Rattle.std.proofs.lemmas.Str.{IsUtf8-from_ascii, is_utf8-from_IsUtf8}
 use Rattle.std.proofs.lemmas.Str.Ascii.{IsAscii-nil}
 use Rattle.dwp_base.specs.declared.section.SectionKind.{SectionKind}
-use Rattle.dwp_base.specs.declared.section.SectionKind.TheVariants.{Info, Types, Abbrev, Line, Loc}
-use Rattle.dwp_base.specs.declared.section.SectionKind.TheVariants.{Loclists, Rnglists, StrOffsets}
-use Rattle.dwp_base.specs.declared.section.SectionKind.TheVariants.{Macinfo, Macro, Str, CuIndex}
-use Rattle.dwp_base.specs.declared.section.SectionKind.TheVariants.{TuIndex}
 use Rattle.dwp_base.specs.Sections.{name_of}
+use Rattle.dwp_base.proofs.Bools.{both}
+use Rattle.dwp_base.proofs.EveryKind.{every}
 use Rattle.dwp_elf_read.specs.Elf.{section_content, text_of, text_at, section_of}
 use Rattle.dwp_elf.specs.Written.{plain_section}
 
@@ -24,43 +23,40 @@ pub record IsName (text : List ℕ) : Type 0 where
   pub ends : (more : List ℕ) → position_or_len (λ b. b == 0) (text ++ 0 ∷ more) ≡ length text
   pub utf8 : is_utf8 text ≡ true
 
--- every byte is below 128
-abbrev all_ascii : List ℕ → Bool
-all_ascii [] = true
-all_ascii (x ∷ xs) = cond (nat_lt x 128) (all_ascii xs) false
+-- a byte other than zero, below 128
+abbrev in_name : ℕ → Bool
+in_name x = not (x == 0) && nat_lt x 128
 
-both : (a b : Bool) → cond a b false ≡ true → (a ≡ true) × (b ≡ true)
-both true b h = (refl, h)
-both false b h = absurd (false≢true h)
+name-ends : (text more : List ℕ) → list_all in_name text ≡ true
+    → position_or_len (λ b. b == 0) (text ++ 0 ∷ more) ≡ length text
+name-ends [] more h = refl
+name-ends (x ∷ xs) more h =
+    let all = both (in_name x) (list_all in_name xs) h in
+    rw (both (not (x == 0)) (nat_lt x 128) all.0).0 (omega (arith, name-ends xs more all.1))
 
-IsAscii-from_all : (bytes : List ℕ) → all_ascii bytes ≡ true → IsAscii bytes
+IsAscii-from_all : (text : List ℕ) → list_all in_name text ≡ true → IsAscii text
 IsAscii-from_all [] h i = IsAscii-nil i
-IsAscii-from_all (x ∷ xs) h zero = ltb-true x 128 (both (nat_lt x 128) (all_ascii xs) h).0
-IsAscii-from_all (x ∷ xs) h (suc i) = IsAscii-from_all xs (both (nat_lt x 128) (all_ascii xs) h).1 i
+IsAscii-from_all (x ∷ xs) h zero =
+    let first = both (in_name x) (list_all in_name xs) h in
+    ltb-true x 128 (both (not (x == 0)) (nat_lt x 128) first.0).1
+IsAscii-from_all (x ∷ xs) h (suc i) =
+    let all = both (in_name x) (list_all in_name xs) h in
+    IsAscii-from_all xs all.1 i
 
-utf8-of : (bytes : List ℕ) → all_ascii bytes ≡ true → is_utf8 bytes ≡ true
-utf8-of bytes h = is_utf8-from_IsUtf8 bytes (IsUtf8-from_ascii bytes (IsAscii-from_all bytes h))
+name-of : (text : List ℕ) → list_all in_name text ≡ true → IsName text
+name-of text h = record {
+  ends = λ more. name-ends text more h;
+  utf8 = is_utf8-from_IsUtf8 text (IsUtf8-from_ascii text (IsAscii-from_all text h));
+}
 
 pub empty-name : IsName []
-empty-name = record { ends = λ more. refl; utf8 = utf8-of [] refl }
+empty-name = name-of [] refl
 
 pub own-name : IsName (codes ".shstrtab")
-own-name = record { ends = λ more. refl; utf8 = utf8-of (codes ".shstrtab") refl }
+own-name = name-of (codes ".shstrtab") refl
 
 pub kind-name : (kind : SectionKind) → IsName (name_of kind)
-kind-name Info = record { ends = λ more. refl; utf8 = utf8-of (name_of Info) refl }
-kind-name Types = record { ends = λ more. refl; utf8 = utf8-of (name_of Types) refl }
-kind-name Abbrev = record { ends = λ more. refl; utf8 = utf8-of (name_of Abbrev) refl }
-kind-name Line = record { ends = λ more. refl; utf8 = utf8-of (name_of Line) refl }
-kind-name Loc = record { ends = λ more. refl; utf8 = utf8-of (name_of Loc) refl }
-kind-name Loclists = record { ends = λ more. refl; utf8 = utf8-of (name_of Loclists) refl }
-kind-name Rnglists = record { ends = λ more. refl; utf8 = utf8-of (name_of Rnglists) refl }
-kind-name StrOffsets = record { ends = λ more. refl; utf8 = utf8-of (name_of StrOffsets) refl }
-kind-name Macinfo = record { ends = λ more. refl; utf8 = utf8-of (name_of Macinfo) refl }
-kind-name Macro = record { ends = λ more. refl; utf8 = utf8-of (name_of Macro) refl }
-kind-name Str = record { ends = λ more. refl; utf8 = utf8-of (name_of Str) refl }
-kind-name CuIndex = record { ends = λ more. refl; utf8 = utf8-of (name_of CuIndex) refl }
-kind-name TuIndex = record { ends = λ more. refl; utf8 = utf8-of (name_of TuIndex) refl }
+kind-name kind = name-of (name_of kind) (every (λ k. list_all in_name (name_of k)) refl kind)
 
 position-name : (text more : List ℕ) → IsName text → position (λ b. b == 0) (text ++ 0 ∷ more) ≡
     Some (length text)

@@ -2,18 +2,18 @@
 use Rattle.std.proofs.Common.{◌≡◌, ℕ, zero, suc, ◌<◌, Bool, true, false, cond, not, eqb, ◌||◌, ◌&&◌}
 use Rattle.std.proofs.Common.{inl, inr, List, [], ◌∷◌, length, refl, sym, ap, subst, ◌∙◌, arith}
 use Rattle.std.specs.Prelude.{Option, Some, None, Result, Ok, Err, slice_get}
-use Rattle.std.specs.List.{find, list_all}
+use Rattle.std.specs.List.{find}
 use Rattle.std.specs.Option.{ok_or}
-use Rattle.std.specs.Str.{bytes_eq}
-use Rattle.std.proofs.lemmas.Bool.{ne_eqb, eqb-true}
+use Rattle.std.proofs.lemmas.Bool.{ne_eqb}
 use Rattle.dwp_base.specs.Reading.{◌>>=◌}
-use Rattle.dwp_base.specs.Sections.{name_of, compressed_name_of, is_named, kind_named, all_kinds}
+use Rattle.dwp_base.specs.Sections.{name_of, is_named, kind_named, all_kinds}
 use Rattle.dwp_base.specs.Sections.{same_kind, rank_of}
 use Rattle.dwp_base.specs.declared.section.SectionKind.{SectionKind}
-use Rattle.dwp_base.specs.declared.section.SectionKind.TheVariants.{Info, Types, Abbrev, Line, Loc}
-use Rattle.dwp_base.specs.declared.section.SectionKind.TheVariants.{Loclists, Rnglists, StrOffsets}
-use Rattle.dwp_base.specs.declared.section.SectionKind.TheVariants.{Macinfo, Macro, Str, CuIndex}
-use Rattle.dwp_base.specs.declared.section.SectionKind.TheVariants.{TuIndex}
+use Rattle.dwp_base.specs.declared.section.SectionKind.TheVariants.{CuIndex, TuIndex}
+use Rattle.dwp_base.proofs.Bools.{is-false}
+use Rattle.dwp_base.proofs.EveryKind.{every-two, at-rank, is-same, named-itself, not-older}
+use Rattle.dwp_base.proofs.EveryKind.{value-of}
+use Rattle.dwp_base.proofs.Steps.{each-read}
 use Rattle.dwp_elf_read.specs.Elf.{Elf, SectionMeaning, SHT_NOBITS, elf_of}
 use Rattle.dwp_elf_read.specs.declared.fault.ReadError.TheVariants.{SectionRange, Compressed}
 use Rattle.dwp_index.specs.declared.fault.PackageError.TheVariants as faults
@@ -26,63 +26,14 @@ use Rattle.dwp_index.specs.IndexBytes.{index_of}
 use Rattle.dwp_index.specs.Package.{as_fault, index_in_section, package_of}
 use Rattle.dwp_index.specs.Holding.{Holds, HasContent, HoldsInOrder, held_of, sections_of}
 
-left_of : (a b : Bool) → (a && b) ≡ true → a ≡ true
-left_of true b e = refl
-left_of false b e = e
-
-right_of : (a b : Bool) → (a && b) ≡ true → b ≡ true
-right_of true b e = e
-right_of false b e = absurd cc
-
 -- ---- names
-passes : {X : Type 0} (p : X → Bool) (xs : List X) (i : ℕ) (x : X) → list_all p xs ≡ true
-    → slice_get xs i ≡ Some x → p x ≡ true
-passes p [] i x all at = absurd cc
-passes p (y ∷ ys) zero x all at = let same : y ≡ x = cc in ap p (sym same) ∙ left_of (p y)
-    (list_all p ys) all
-passes p (y ∷ ys) (suc i) x all at = passes p ys i x (right_of (p y) (list_all p ys) all) at
-
-at_rank : (kind : SectionKind) → slice_get all_kinds (rank_of kind) ≡ Some kind
-at_rank Info = refl
-at_rank Types = refl
-at_rank Abbrev = refl
-at_rank Line = refl
-at_rank Loc = refl
-at_rank Loclists = refl
-at_rank Rnglists = refl
-at_rank StrOffsets = refl
-at_rank Macinfo = refl
-at_rank Macro = refl
-at_rank Str = refl
-at_rank CuIndex = refl
-at_rank TuIndex = refl
 
 abbrev apart : SectionKind → SectionKind → Bool
 apart a b = same_kind a b || not (is_named (name_of a) b)
 
-all_apart : list_all (λ a. list_all (apart a) all_kinds) all_kinds ≡ true
-all_apart = refl
-
-abbrev own : SectionKind → Bool
-own kind = is_named (name_of kind) kind && not (bytes_eq (name_of kind) (compressed_name_of kind))
-
-all_own : list_all own all_kinds ≡ true
-all_own = refl
-
-own_kind : (kind : SectionKind) → own kind ≡ true
-own_kind kind = passes own all_kinds (rank_of kind) kind all_own (at_rank kind)
-
-is_false : (b : Bool) → not b ≡ true → b ≡ false
-is_false true e = absurd cc
-is_false false e = refl
-
 other_name : (a b : SectionKind) → same_kind a b ≡ false → is_named (name_of a) b ≡ false
-other_name a b e =
-    let row = passes (λ k. list_all (apart k) all_kinds) all_kinds (rank_of a) a
-    all_apart (at_rank a) in
-    let both = passes (apart a) all_kinds (rank_of b) b row (at_rank b) in
-    is_false (is_named (name_of a) b)
-    (subst (λ c. (c || not (is_named (name_of a) b)) ≡ true) e both)
+other_name a b e = is-false (is_named (name_of a) b)
+    (subst (λ c. (c || not (is_named (name_of a) b)) ≡ true) e (every-two apart refl a b))
 
 -- ---- which sections are of a kind
 not_both : (a : Bool) → (a && false) ≡ false
@@ -118,7 +69,7 @@ found-none p (y ∷ ys) i x none at = found-step p y ys x (p y) i (λ j n a.
 pub foreign : (section : SectionMeaning) (kind : SectionKind) (name : List ℕ) → section.name ≡ Some
     name → kind_named name ≡ None → is_of_kind kind section ≡ false
 foreign section kind name e none = nameless kind section (ap (has_name kind) e ∙ found-none
-    (is_named name) all_kinds (rank_of kind) kind none (at_rank kind))
+    (is_named name) all_kinds (rank_of kind) kind none (at-rank kind))
 
 pub empty : (section : SectionMeaning) (kind : SectionKind) → section.size ≡ 0
     → is_of_kind kind section ≡ false
@@ -133,8 +84,7 @@ holds-kind section kind bytes h =
     ap (λ b. not (b || eqb section.kind SHT_NOBITS) && has_name kind section.name)
     (ne_eqb section.size 0 (λ e. omega (arith, h.size_is, h.some)))
     ∙ ap (λ b. not b && has_name kind section.name) (ne_eqb section.kind SHT_NOBITS h.has_bytes)
-    ∙ ap (has_name kind) h.name_is ∙ left_of (is_named (name_of kind) kind)
-    (not (bytes_eq (name_of kind) (compressed_name_of kind))) (own_kind kind)
+    ∙ ap (has_name kind) h.name_is ∙ named-itself kind
 
 -- ---- the contents
 holds-used : (section : SectionMeaning) (kind : SectionKind) (bytes : List ℕ) → Holds section kind
@@ -142,9 +92,7 @@ holds-used : (section : SectionMeaning) (kind : SectionKind) (bytes : List ℕ) 
 unfolding used_bytes
 holds-used section kind bytes h =
     let older : has_older_name kind section.name ≡ false = ap (has_older_name kind) h.name_is ∙
-    is_false (bytes_eq (name_of kind) (compressed_name_of kind))
-    (right_of (is_named (name_of kind) kind)
-    (not (bytes_eq (name_of kind) (compressed_name_of kind))) (own_kind kind)) in
+    not-older kind in
     ap (λ b. cond (b || has_older_name kind section.name) (Err Compressed)
     (ok_or section.content SectionRange)) h.stored
     ∙ ap (λ b. cond b (Err Compressed) (ok_or section.content SectionRange)) older
@@ -161,18 +109,12 @@ content_is (s ∷ ss) kind bytes (inr h) =
     ap (λ b. bytes_of kind (cond b (Some s) (find (is_of_kind kind) ss))) h.0 ∙ content_is
     ss kind bytes h.1
 
-same_is : (a b : SectionKind) → same_kind a b ≡ true → a ≡ b
-same_is a b e =
-    let ranks : rank_of a ≡ rank_of b = eqb-true (rank_of a) (rank_of b) e in
-    let both : Some a ≡ Some b = sym (at_rank a) ∙ ap (slice_get all_kinds) ranks ∙ at_rank b in
-    cc
-
 held-by : (section : SectionMeaning) (sections : List SectionMeaning) (kind : SectionKind)
     (content : SectionKind × List ℕ) (rest : List ℕ) (b : Bool) → same_kind content.0 kind ≡ b
     → Holds section content.0 content.1 → HasContent sections kind rest
     → HasContent (section ∷ sections) kind (cond b content.1 rest)
 held-by section sections kind content rest true e h others =
-    inl (subst (λ k. Holds section k content.1) (same_is content.0 kind e) h)
+    inl (subst (λ k. Holds section k content.1) (is-same content.0 kind e) h)
 held-by section sections kind content rest false e h others =
     inr (another_kind section kind content.0 h.name_is e, others)
 
@@ -190,23 +132,8 @@ contents_are : (sections : List SectionMeaning) (bytes : SectionKind → List �
     (sections_of bytes)
 unfolding contents_of
 contents_are sections bytes h =
-    let at = λ (kind : SectionKind). content_is sections kind (bytes kind) (h kind) in
-    rw (
-      at Info,
-      at Types,
-      at Abbrev,
-      at Line,
-      at Loc,
-      at Loclists,
-      at Rnglists,
-      at StrOffsets,
-      at
-          Macinfo,
-      at Macro,
-      at Str,
-      at CuIndex,
-      at TuIndex,
-    ) refl
+    each-read (content_among sections) bytes
+    (λ kind. content_is sections kind (bytes kind) (h kind)) all_kinds
 
 pub package_is : (bytes : List ℕ) (file : Elf) (held : SectionKind → List ℕ)
     (compilations types : Option Index) → elf_of bytes ≡ Ok file
@@ -241,16 +168,4 @@ index_missing order bytes e =
 
 pub held_content : (held : SectionKind → List ℕ) (kind : SectionKind) → content (sections_of held)
     kind ≡ held kind
-held_content held Info = refl
-held_content held Types = refl
-held_content held Abbrev = refl
-held_content held Line = refl
-held_content held Loc = refl
-held_content held Loclists = refl
-held_content held Rnglists = refl
-held_content held StrOffsets = refl
-held_content held Macinfo = refl
-held_content held Macro = refl
-held_content held Str = refl
-held_content held CuIndex = refl
-held_content held TuIndex = refl
+held_content held kind = value-of held [] kind

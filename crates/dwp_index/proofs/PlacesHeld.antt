@@ -1,112 +1,49 @@
 -- Where columns stand, by the numbers that say it.
-use Rattle.std.proofs.Common.{◌≡◌, ℕ, ◌+◌, ◌<◌, Bool, true, false, cond, eqb, List, [], ◌∷◌}
+use Rattle.std.proofs.Common.{◌≡◌, ℕ, ◌+◌, ◌<◌, Bool, true, false, not, ◌||◌, cond, eqb, List, []}
+use Rattle.std.proofs.Common.{◌∷◌}
 use Rattle.std.proofs.Common.{◌++◌}
 use Rattle.std.proofs.Common.{length, refl, sym, ap, ◌∙◌, subst, eq-eqb, arith}
 use Rattle.std.proofs.Common.{add-zero, zero-add}
-use Rattle.std.proofs.lemmas.Bool.{ne_eqb, eqb-true, eqb-false}
+use Rattle.std.proofs.lemmas.Bool.{ne_eqb, eqb-true, false≢true}
 use Rattle.std.specs.Prelude.{Option, Some, None, is_some}
-use Rattle.std.specs.List.{find, list_any, position_from}
+use Rattle.std.specs.List.{find, list_all, list_any, position_from}
 use Rattle.std.specs.Option.{option_and_then}
-use Rattle.dwp_base.specs.Sections.{rank_of, same_kind}
+use Rattle.dwp_base.specs.Sections.{all_kinds, same_kind}
+use Rattle.dwp_base.proofs.EveryKind.{every-two, is-same, same-self}
 use Rattle.dwp_base.specs.declared.section.SectionKind.{SectionKind}
-use Rattle.dwp_base.specs.declared.section.SectionKind.TheVariants.{Info, Types, Abbrev, Line, Loc}
-use Rattle.dwp_base.specs.declared.section.SectionKind.TheVariants.{Loclists, Rnglists, StrOffsets}
-use Rattle.dwp_base.specs.declared.section.SectionKind.TheVariants.{Macinfo, Macro, Str, CuIndex}
-use Rattle.dwp_base.specs.declared.section.SectionKind.TheVariants.{TuIndex}
 use Rattle.dwp_table.specs.Columns.{standard_column, gnu_column, column_of, is_number, kind_with}
 use Rattle.dwp_table.specs.Columns.{kind_of_column, contribution_kinds}
 use Rattle.dwp_index.specs.Index.{column_place}
 use Rattle.dwp_index.specs.Places.{NO_COLUMN, IsPlace, ArePlaces, place_held}
-use Rattle.dwp_index.specs.declared.places.Places.{Places}
+use Rattle.dwp_base.specs.declared.by_kind.ByKind.{ByKind}
 use Rattle.dwp_index.proofs.NumberLists.{is_some-position}
 
--- ---- the order of sections
-kind_at : ℕ → SectionKind
-kind_at n =
-    cond (eqb n 0) Info (cond (eqb n 1) Types
-    (cond (eqb n 2) Abbrev
-    (cond (eqb n 3) Line
-    (cond (eqb n 4) Loc (cond (eqb n 5) Loclists (cond (eqb n 6) Rnglists
-    (cond (eqb n 7) StrOffsets (cond (eqb n 8) Macinfo
-    (cond (eqb n 9) Macro (cond (eqb n 10) Str (cond (eqb n 11) CuIndex TuIndex)))))))))))
-
-at_rank : (kind : SectionKind) → kind_at (rank_of kind) ≡ kind
-unfolding kind_at
-at_rank Info = refl
-at_rank Types = refl
-at_rank Abbrev = refl
-at_rank Line = refl
-at_rank Loc = refl
-at_rank Loclists = refl
-at_rank Rnglists = refl
-at_rank StrOffsets = refl
-at_rank Macinfo = refl
-at_rank Macro = refl
-at_rank Str = refl
-at_rank CuIndex = refl
-at_rank TuIndex = refl
-
-one_kind : (a b : SectionKind) → rank_of a ≡ rank_of b → a ≡ b
-one_kind a b e = sym (at_rank a) ∙ ap kind_at e ∙ at_rank b
-
 -- ---- the numbers of columns: each is that of one section
-standard_rank : ℕ → ℕ
-standard_rank n =
-    cond (eqb n 1) 0 (cond (eqb n 3) 2
-    (cond (eqb n 4) 3 (cond (eqb n 5) 5 (cond (eqb n 6) 7 (cond (eqb n 7) 9 6)))))
+abbrev same_number : Option ℕ → Option ℕ → Bool
+same_number (Some m) (Some n) = eqb m n
+same_number _ _ = false
 
-gnu_rank : ℕ → ℕ
-gnu_rank n =
-    cond (eqb n 1) 0 (cond (eqb n 2) 1
-    (cond (eqb n 3) 2 (cond (eqb n 4) 3
-    (cond (eqb n 5) 4 (cond (eqb n 6) 7 (cond (eqb n 7) 8 9))))))
+abbrev apart : (SectionKind → Option ℕ) → SectionKind → SectionKind → Bool
+apart column a b = not (same_number (column a) (column b)) || same_kind a b
 
-standard_ranks : (kind : SectionKind) (n : ℕ) → standard_column kind ≡ Some n
-    → standard_rank n ≡ rank_of kind
-unfolding standard_rank
-standard_ranks Info n e = let same : n ≡ 1 = cc in ap standard_rank same
-standard_ranks Types n e = absurd cc
-standard_ranks Abbrev n e = let same : n ≡ 3 = cc in ap standard_rank same
-standard_ranks Line n e = let same : n ≡ 4 = cc in ap standard_rank same
-standard_ranks Loc n e = absurd cc
-standard_ranks Loclists n e = let same : n ≡ 5 = cc in ap standard_rank same
-standard_ranks Rnglists n e = let same : n ≡ 8 = cc in ap standard_rank same
-standard_ranks StrOffsets n e = let same : n ≡ 6 = cc in ap standard_rank same
-standard_ranks Macinfo n e = absurd cc
-standard_ranks Macro n e = let same : n ≡ 7 = cc in ap standard_rank same
-standard_ranks Str n e = absurd cc
-standard_ranks CuIndex n e = absurd cc
-standard_ranks TuIndex n e = absurd cc
+one_of : (column : SectionKind → Option ℕ)
+    → list_all (λ a. list_all (apart column a) all_kinds) all_kinds ≡ true → (n : ℕ)
+    (a b : SectionKind) → column a ≡ Some n → column b ≡ Some n → a ≡ b
+one_of column all n a b e f =
+    let both : same_number (column a) (column b) ≡ true = rw (e, f) (eq-eqb n n refl) in
+    let differ : not (same_number (column a) (column b)) || same_kind a b ≡ true =
+    every-two (apart column) all a b in
+    is-same a b (subst (λ t. (not t || same_kind a b) ≡ true) both differ)
 
-gnu_ranks : (kind : SectionKind) (n : ℕ) → gnu_column kind ≡ Some n → gnu_rank n ≡ rank_of kind
-unfolding gnu_rank
-gnu_ranks Info n e = let same : n ≡ 1 = cc in ap gnu_rank same
-gnu_ranks Types n e = let same : n ≡ 2 = cc in ap gnu_rank same
-gnu_ranks Abbrev n e = let same : n ≡ 3 = cc in ap gnu_rank same
-gnu_ranks Line n e = let same : n ≡ 4 = cc in ap gnu_rank same
-gnu_ranks Loc n e = let same : n ≡ 5 = cc in ap gnu_rank same
-gnu_ranks Loclists n e = absurd cc
-gnu_ranks Rnglists n e = absurd cc
-gnu_ranks StrOffsets n e = let same : n ≡ 6 = cc in ap gnu_rank same
-gnu_ranks Macinfo n e = let same : n ≡ 7 = cc in ap gnu_rank same
-gnu_ranks Macro n e = let same : n ≡ 8 = cc in ap gnu_rank same
-gnu_ranks Str n e = absurd cc
-gnu_ranks CuIndex n e = absurd cc
-gnu_ranks TuIndex n e = absurd cc
-
-rank_by : Bool → ℕ → ℕ
-rank_by five n = cond five (standard_rank n) (gnu_rank n)
-
-ranks_by : (five : Bool) (kind : SectionKind) (n : ℕ)
-    → cond five (standard_column kind) (gnu_column kind) ≡ Some n → rank_by five n ≡ rank_of kind
-unfolding rank_by
-ranks_by true kind n e = standard_ranks kind n e
-ranks_by false kind n e = gnu_ranks kind n e
+one_by : (five : Bool) (n : ℕ) (a b : SectionKind)
+    → cond five (standard_column a) (gnu_column a) ≡ Some n
+    → cond five (standard_column b) (gnu_column b) ≡ Some n → a ≡ b
+one_by true n a b e f = one_of standard_column refl n a b e f
+one_by false n a b e f = one_of gnu_column refl n a b e f
 
 one_section : (version n : ℕ) (a b : SectionKind) → column_of version a ≡ Some n
-    → column_of version b ≡ Some n → rank_of a ≡ rank_of b
-one_section version n a b e f = sym (ranks_by (eqb version 5) a n e) ∙ ranks_by
-    (eqb version 5) b n f
+    → column_of version b ≡ Some n → a ≡ b
+one_section version n a b e f = one_by (eqb version 5) n a b e f
 
 -- the section of a number has that number
 is_number_of : (o : Option ℕ) (n : ℕ) → is_number o n ≡ true → o ≡ Some n
@@ -198,7 +135,7 @@ same_place (Some c) columns n other = position_same (λ x. eqb x c) 0 columns n
     (ne_eqb n c (λ e. other (ap Some (sym e))))
 
 -- where columns stand once there is one more, of a section that had none
-pub one_more : (old new : Places) (version count n : ℕ) (columns more : List ℕ)
+pub one_more : (old new : ByKind ℕ) (version count n : ℕ) (columns more : List ℕ)
     (kind : SectionKind) → more ≡ columns ++ n ∷ [] → length columns ≡ count → count < NO_COLUMN
     → ArePlaces old version count columns → kind_of_column version n ≡ Some kind
     → place_held old kind ≡ NO_COLUMN → ((other : SectionKind) → place_held new other ≡ cond
@@ -223,7 +160,7 @@ one_more old new version count n columns more kind longer long small are named n
     by-kind : (b : Bool) → same_kind other kind ≡ b → IsPlace (count + 1) (place_held new other)
         (column_place version (columns ++ n ∷ []) other)
     by-kind true e =
-        let same : other ≡ kind = one_kind other kind (eqb-true (rank_of other) (rank_of kind) e) in
+        let same : other ≡ kind = is-same other kind e in
         let held : place_held new other ≡ count = put other
         ∙ ap (λ b. cond b count (place_held old other)) e in
         let place : column_place version (columns ++ n ∷ []) other ≡ Some count =
@@ -234,8 +171,9 @@ one_more old new version count n columns more kind longer long small are named n
         let held : place_held new other ≡ place_held old other = put other
         ∙ ap (λ b. cond b count (place_held old other)) e in
         let apart : (column_of version other ≡ Some n → ⊥) =
-        λ f. eqb-false (rank_of other) (rank_of kind) e (one_section version n other kind f number)
-        in
+        λ f. false≢true (sym e ∙ ap (λ k. same_kind k kind)
+        (one_section version n other kind f number)
+        ∙ same-self kind) in
         let place : column_place version (columns ++ n ∷ []) other
         ≡ column_place version columns other = place_is version (columns ++ n ∷ []) other
         ∙ same_place (column_of version other) columns n apart
@@ -249,7 +187,7 @@ no_place None = refl
 no_place (Some c) = refl
 
 -- there are no columns yet
-pub none_yet : (p : Places) (version : ℕ) → ((kind : SectionKind) → place_held p kind ≡ NO_COLUMN)
+pub none_yet : (p : ByKind ℕ) (version : ℕ) → ((kind : SectionKind) → place_held p kind ≡ NO_COLUMN)
     → ArePlaces p version 0 []
 none_yet p version none kind =
     let place : column_place version [] kind ≡ None = place_is version [] kind

@@ -4,47 +4,23 @@ use Rattle.std.specs.Prelude.{Result, Ok, Err, if◌then◌else◌}
 use Rattle.std.specs.List.{find}
 use Rattle.std.specs.Option.{ok_or}
 use Rattle.std.specs.Str.{bytes_eq}
-use Rattle.dwp_base.specs.Reading.{◌>>=◌}
-use Rattle.dwp_base.specs.Sections.{is_named, compressed_name_of}
+use Rattle.dwp_base.specs.ByKind.{value_of}
+use Rattle.dwp_base.specs.Reading.{read_each}
+use Rattle.dwp_base.specs.Sections.{is_named, compressed_name_of, all_kinds}
 use Rattle.dwp_base.specs.declared.section.SectionKind.{SectionKind}
-use Rattle.dwp_base.specs.declared.section.SectionKind.TheVariants.{Info, Types, Abbrev, Line, Loc}
-use Rattle.dwp_base.specs.declared.section.SectionKind.TheVariants.{Loclists, Rnglists, StrOffsets}
-use Rattle.dwp_base.specs.declared.section.SectionKind.TheVariants.{Macinfo, Macro, Str, CuIndex}
-use Rattle.dwp_base.specs.declared.section.SectionKind.TheVariants.{TuIndex}
 use Rattle.dwp_elf_read.specs.Elf.{SectionMeaning, SHT_NOBITS, has_compressed_flag}
 use Rattle.dwp_elf_read.specs.declared.fault.ReadError.{ReadError}
 use Rattle.dwp_elf_read.specs.declared.fault.ReadError.TheVariants.{SectionRange, Compressed}
 
--- the content of each kind; none where the file has no such section
-pub record Sections : Type 0 where
-  pub info : List ℕ
-  pub types : List ℕ
-  pub abbrev_bytes : List ℕ
-  pub line : List ℕ
-  pub loc : List ℕ
-  pub loclists : List ℕ
-  pub rnglists : List ℕ
-  pub str_offsets : List ℕ
-  pub macinfo : List ℕ
-  pub macros : List ℕ
-  pub strings : List ℕ
-  pub cu_index : List ℕ
-  pub tu_index : List ℕ
+-- the contents of a package's sections, in the order of `all_kinds`; no bytes where there is no
+-- such
+-- section
+abbrev pub Sections : Type 0
+Sections = List (List ℕ)
 
+-- that of a kind
 abbrev pub content : Sections → SectionKind → List ℕ
-content s Info = s.info
-content s Types = s.types
-content s Abbrev = s.abbrev_bytes
-content s Line = s.line
-content s Loc = s.loc
-content s Loclists = s.loclists
-content s Rnglists = s.rnglists
-content s StrOffsets = s.str_offsets
-content s Macinfo = s.macinfo
-content s Macro = s.macros
-content s Str = s.strings
-content s CuIndex = s.cu_index
-content s TuIndex = s.tu_index
+content sections kind = value_of [] sections kind
 
 -- a section's name is one of the two spellings of a kind's
 abbrev pub has_name : SectionKind → Option (List ℕ) → Bool
@@ -77,32 +53,4 @@ content_among sections kind = bytes_of kind (find (is_of_kind kind) sections)
 
 -- that of each kind
 unfoldable pub contents_of : List SectionMeaning → Result Sections ReadError
-contents_of sections = do
-  info ← content_among sections Info
-  types ← content_among sections Types
-  abbrev_bytes ← content_among sections Abbrev
-  line ← content_among sections Line
-  loc ← content_among sections Loc
-  loclists ← content_among sections Loclists
-  rnglists ← content_among sections Rnglists
-  str_offsets ← content_among sections StrOffsets
-  macinfo ← content_among sections Macinfo
-  macros ← content_among sections Macro
-  strings ← content_among sections Str
-  cu_index ← content_among sections CuIndex
-  tu_index ← content_among sections TuIndex
-  Ok (record {
-    info = info;
-    types = types;
-    abbrev_bytes = abbrev_bytes;
-    line = line;
-    loc = loc;
-    loclists = loclists;
-    rnglists = rnglists;
-    str_offsets = str_offsets;
-    macinfo = macinfo;
-    macros = macros;
-    strings = strings;
-    cu_index = cu_index;
-    tu_index = tu_index;
-  })
+contents_of sections = read_each (content_among sections) all_kinds

@@ -1,12 +1,8 @@
 -- Files whose sections are contents as they stand (DWARF 5, 7.3.5).
-use Rattle.std.specs.Prelude.{◌≡◌, ◌≢◌, ◌⊎◌, ℕ, ◌<◌, false, List, [], ◌∷◌, length, Some}
+use Rattle.std.specs.Prelude.{◌≡◌, ◌≢◌, ◌⊎◌, ℕ, ◌<◌, false, List, [], ◌∷◌, length, map, Some}
 use Rattle.std.specs.Prelude.{if◌then◌else◌}
-use Rattle.dwp_base.specs.Sections.{name_of, same_kind}
+use Rattle.dwp_base.specs.Sections.{name_of, same_kind, all_kinds}
 use Rattle.dwp_base.specs.declared.section.SectionKind.{SectionKind}
-use Rattle.dwp_base.specs.declared.section.SectionKind.TheVariants.{Info, Types, Abbrev, Line, Loc}
-use Rattle.dwp_base.specs.declared.section.SectionKind.TheVariants.{Loclists, Rnglists, StrOffsets}
-use Rattle.dwp_base.specs.declared.section.SectionKind.TheVariants.{Macinfo, Macro, Str, CuIndex}
-use Rattle.dwp_base.specs.declared.section.SectionKind.TheVariants.{TuIndex}
 use Rattle.dwp_elf_read.specs.Elf.{SectionMeaning, SHT_NOBITS, has_compressed_flag}
 use Rattle.dwp_index.specs.Contents.{Sections, is_of_kind}
 
@@ -45,18 +41,4 @@ held_of kind (c ∷ cs) = if same_kind c.0 kind then c.1 else held_of kind cs
 
 -- these bytes of each kind
 abbrev pub sections_of : (SectionKind → List ℕ) → Sections
-sections_of bytes = record {
-  info = bytes Info;
-  types = bytes Types;
-  abbrev_bytes = bytes Abbrev;
-  line = bytes Line;
-  loc = bytes Loc;
-  loclists = bytes Loclists;
-  rnglists = bytes Rnglists;
-  str_offsets = bytes StrOffsets;
-  macinfo = bytes Macinfo;
-  macros = bytes Macro;
-  strings = bytes Str;
-  cu_index = bytes CuIndex;
-  tu_index = bytes TuIndex;
-}
+sections_of bytes = map bytes all_kinds

@@ -58,8 +58,8 @@ unfoldable pub package_of : List ℕ → Result Package PackageError
 package_of bytes = do
   file ← as_fault faults.Elf (elf_of bytes)
   contents ← as_fault faults.Elf (contents_of file.sections)
-  compilations ← index_in_section file.order contents.cu_index
-  types ← index_in_section file.order contents.tu_index
+  compilations ← index_in_section file.order (content contents kinds.CuIndex)
+  types ← index_in_section file.order (content contents kinds.TuIndex)
   Ok (record {
     order = file.order;
     contents = contents;

@@ -8,25 +8,13 @@ ghost use Rattle.dwp_index.specs.Contents.{content, is_of_kind, has_older_name, 
 ghost use Rattle.dwp_index.specs.Contents.{content_among, contents_of};
 ghost use Rattle.dwp_index.specs.ContentFields.{contents_in};
 
-use dwp_base::SectionKind;
+use dwp_base::{ByKind, SectionKind};
 use dwp_elf_read::{ElfFile, ReadError, Section};
 
 /// The content of the first section of each kind that isn't empty; no bytes where there is none.
 #[derive(Clone, Copy)]
 pub(crate) struct Contents<'a> {
-    info: &'a [u8],
-    types: &'a [u8],
-    abbrev_bytes: &'a [u8],
-    line: &'a [u8],
-    loc: &'a [u8],
-    loclists: &'a [u8],
-    rnglists: &'a [u8],
-    str_offsets: &'a [u8],
-    macinfo: &'a [u8],
-    macros: &'a [u8],
-    strings: &'a [u8],
-    cu_index: &'a [u8],
-    tu_index: &'a [u8],
+    by_kind: ByKind<&'a [u8]>,
 }
 
 /// Whether a section has bytes, and is one of this kind.
@@ -93,54 +81,17 @@ impl<'a> Contents<'a> {
     pub fn read(file: &ElfFile<'a>) -> Result<Contents<'a>, ReadError>
         ensures { Answers contents_in result (contents_of (elf file.now).sections) }
     {
-        let info = content(file, SectionKind::Info)?;
-        let types = content(file, SectionKind::Types)?;
-        let abbrev_bytes = content(file, SectionKind::Abbrev)?;
-        let line = content(file, SectionKind::Line)?;
-        let loc = content(file, SectionKind::Loc)?;
-        let loclists = content(file, SectionKind::Loclists)?;
-        let rnglists = content(file, SectionKind::Rnglists)?;
-        let str_offsets = content(file, SectionKind::StrOffsets)?;
-        let macinfo = content(file, SectionKind::Macinfo)?;
-        let macros = content(file, SectionKind::Macro)?;
-        let strings = content(file, SectionKind::Str)?;
-        let cu_index = content(file, SectionKind::CuIndex)?;
-        let tu_index = content(file, SectionKind::TuIndex)?;
-        Ok(Contents {
-            info,
-            types,
-            abbrev_bytes,
-            line,
-            loc,
-            loclists,
-            rnglists,
-            str_offsets,
-            macinfo,
-            macros,
-            strings,
-            cu_index,
-            tu_index,
-        })
+        match ByKind::read(&[][..], |kind| content(file, kind)) {
+            Ok(by_kind) => Ok(Contents { by_kind }),
+            Err(e) => Err(e),
+        }
     }
 
     /// The content of a kind.
+    #[inline(always)]
     pub fn of(&self, kind: SectionKind) -> &'a [u8]
         ensures { result.now ≡ content (contents_in self.now) kind }
     {
-        match kind {
-            SectionKind::Info => self.info,
-            SectionKind::Types => self.types,
-            SectionKind::Abbrev => self.abbrev_bytes,
-            SectionKind::Line => self.line,
-            SectionKind::Loc => self.loc,
-            SectionKind::Loclists => self.loclists,
-            SectionKind::Rnglists => self.rnglists,
-            SectionKind::StrOffsets => self.str_offsets,
-            SectionKind::Macinfo => self.macinfo,
-            SectionKind::Macro => self.macros,
-            SectionKind::Str => self.strings,
-            SectionKind::CuIndex => self.cu_index,
-            SectionKind::TuIndex => self.tu_index,
-        }
+        self.by_kind.get(kind)
     }
 }

@@ -7,7 +7,6 @@ mod fault;
 pub mod laws;
 mod package;
 mod parsing;
-mod places;
 mod strings;
 mod unit;
 mod unit_index;

@@ -28,7 +28,7 @@ use dwp_base::{Endianness, SectionKind};
 use dwp_bytes::Encoding;
 use dwp_dwarf::UnitSection;
 use dwp_elf_read::ElfFile;
-use dwp_table::{Bucketable, DebugTypeSignature, DwarfObject, DwoId};
+use dwp_table::{Bucketable, CONTRIBUTION_KINDS, DebugTypeSignature, DwarfObject, DwoId};
 use std::marker::Model;
 
 /// A package file: its sections, and the indexes that say which parts of them belong to which unit
@@ -338,37 +338,10 @@ fn read_encoding(
 fn first_outside(contents: &Contents<'_>, row: &Row<'_>) -> Option<SectionKind>
     ensures { result ≡ first_outside (contents_in contents.now) row.now }
 {
-    if is_outside(contents, row, SectionKind::Info) {
-        return Some(SectionKind::Info);
-    }
-    if is_outside(contents, row, SectionKind::Types) {
-        return Some(SectionKind::Types);
-    }
-    if is_outside(contents, row, SectionKind::Abbrev) {
-        return Some(SectionKind::Abbrev);
-    }
-    if is_outside(contents, row, SectionKind::Line) {
-        return Some(SectionKind::Line);
-    }
-    if is_outside(contents, row, SectionKind::Loc) {
-        return Some(SectionKind::Loc);
-    }
-    if is_outside(contents, row, SectionKind::Loclists) {
-        return Some(SectionKind::Loclists);
-    }
-    if is_outside(contents, row, SectionKind::Rnglists) {
-        return Some(SectionKind::Rnglists);
-    }
-    if is_outside(contents, row, SectionKind::StrOffsets) {
-        return Some(SectionKind::StrOffsets);
-    }
-    if is_outside(contents, row, SectionKind::Macinfo) {
-        return Some(SectionKind::Macinfo);
-    }
-    if is_outside(contents, row, SectionKind::Macro) {
-        return Some(SectionKind::Macro);
-    }
-    None
+    CONTRIBUTION_KINDS
+        .iter()
+        .copied()
+        .find(|kind| is_outside(contents, row, *kind))
 }
 
 #[inline(always)]

@@ -10,8 +10,8 @@ ghost use Rattle.dwp_index.specs.IndexBytes.{numbers, after, version_of, counts_
 ghost use Rattle.dwp_index.specs.IndexBytes.{is_slot_count, Counts};
 ghost use Rattle.dwp_index.specs.Places.{ArePlaces};
 
-use crate::places::{NO_COLUMN, Places};
-use dwp_base::{Endianness, SectionKind};
+use crate::unit_index::NO_COLUMN;
+use dwp_base::{ByKind, Endianness, SectionKind};
 use dwp_bytes::ReadError;
 use dwp_table::{column_of, kind_of_column};
 
@@ -127,14 +127,14 @@ pub(crate) fn read_columns(
     order: Endianness,
     version: u16,
     count: u32,
-) -> Result<(Places, &[u8]), ReadError>
+) -> Result<(ByKind<u32>, &[u8]), ReadError>
     ensures exact { Answers (λ x. (numbers order 4 count bytes.now, x.1.now)) result
         (columns_at order version [] count bytes.now) }
     ensures enough { OnOk result (4 * count ≤ length bytes.now) }
     ensures places { IfOk result (λ x. ArePlaces x.0 version count
         (numbers order 4 count bytes.now)) }
 {
-    let mut places = Places::none();
+    let mut places = ByKind::same(NO_COLUMN);
     for i in 0..count {
         let at = 4 * i as usize;
         if bytes.len() < at + 4 {
@@ -144,10 +144,10 @@ pub(crate) fn read_columns(
         let Some(kind) = kind_of_column(version, number) else {
             return Err(ReadError::UnknownColumn);
         };
-        if places.of(kind) != NO_COLUMN {
+        if places.get(kind) != NO_COLUMN {
             return Err(ReadError::RepeatedColumn);
         }
-        places.put(kind, i);
+        places.set(kind, i);
     }
     Ok((places, tail(bytes, 4 * count as usize)))
 }

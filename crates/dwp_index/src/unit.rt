@@ -91,7 +91,7 @@ impl<'a> PackagedUnit<'a> {
     /// the string.
     pub fn string(&self, i: u64) -> Result<Option<&'a [u8]>, ReadError>
         ensures { Answers option_copied result
-            (string_in self.now.order self.now.encoding self.now.contents.strings
+            (string_in self.now.order self.now.encoding (content self.now.contents SectionKind.Str)
             (row_bytes self.now.contents self.now.row SectionKind.StrOffsets) i) }
     {
         string_in(

@@ -11,12 +11,14 @@ use crate::parsing::{
     after, after_rows, column_place, counts_of, read_columns, read_u32_at, read_u64_at, tail,
     version_of,
 };
-use crate::places::{NO_COLUMN, Places};
-use dwp_base::{Contribution, ContributionOffset, Endianness, SectionKind};
+use dwp_base::{ByKind, Contribution, ContributionOffset, Endianness, SectionKind};
 use dwp_bytes::ReadError;
 use dwp_table::laws::look_up_finds_exactly;
 use dwp_table::{column_of, first_place, place_after};
 use std::marker::Model;
+
+/// Stands for no column. An index has fewer columns than this, so no place is so large.
+pub(crate) const NO_COLUMN: u32 = u32::MAX;
 
 /// An index of a package: a hash table from identifiers to rows, and for each row its ranges in the
 /// package's sections (DWARF 5, 7.3.5.3).
@@ -33,8 +35,8 @@ pub struct UnitIndex<'a> {
     columns: &'a [u8],
     offsets: &'a [u8],
     sizes: &'a [u8],
-    // Where each section's column stands.
-    places: Places,
+    // The place of each section's column among the columns; `NO_COLUMN` where it has none.
+    places: ByKind<u32>,
 }
 
 impl<'a> Model for UnitIndex<'a> {
@@ -59,8 +61,8 @@ pub struct Row<'a> {
     columns: &'a [u8],
     offsets: &'a [u8],
     sizes: &'a [u8],
-    // Where each section's column stands.
-    places: Places,
+    // The place of each section's column among the columns; `NO_COLUMN` where it has none.
+    places: ByKind<u32>,
 }
 
 impl<'a> Model for Row<'a> {
@@ -236,7 +238,7 @@ impl<'a> Row<'a> {
     pub fn range(&self, kind: SectionKind) -> Option<Contribution>
         ensures { result ≡ range_in self.now kind }
     {
-        let place = self.places.of(kind);
+        let place = self.places.get(kind);
         if place == NO_COLUMN {
             return None;
         }

@@ -1,10 +1,9 @@
-use Rattle.std.proofs.Common.{◌≡◌, ◌+◌, ◌-◌, ◌*◌, eqb, drop, [], refl, sym, ap, ◌∙◌, arith}
+use Rattle.std.proofs.Common.{◌≡◌, ◌+◌, ◌-◌, ◌*◌, drop, [], refl, sym, ap, ◌∙◌, arith}
 use Rattle.std.specs.Prelude.{Ok, is_none}
-use Rattle.std.specs.List.{list_any}
 use Rattle.std.proofs.lemmas.List.{length-drop}
-use Rattle.dwp_base.specs.Numbers.{number}
 use Rattle.dwp_table.specs.Columns.{kind_of_column}
 use Rattle.dwp_index.specs.IndexBytes.{numbers, columns_at}
+use Rattle.dwp_index.specs.Places.{NO_COLUMN}
 use Rattle.dwp_index.proofs.NumberLists.{length-numbers, numbers_more}
 use Rattle.dwp_index.proofs.PlacesHeld.{one_more, none_yet, is_among, is_new}
 use Rattle.dwp_index.proofs.ColumnSteps.{ends, unknown, repeated, goes_on, done, next_rest}
@@ -16,7 +15,7 @@ loop-i-init c = record {
   so_far =
       let whole : c.args.count - 0 ≡ c.args.count = omega arith in
       ap (λ m. columns_at c.args.order c.args.version [] m c.args.bytes.now) whole;
-  places = none_yet c.none-places.result c.args.version c.none-places.ensures;
+  places = none_yet c.same-places.result c.args.version (c.same-places.ensures.each NO_COLUMN);
 }
 
 pub returns-then-bytes-at-clause-exact : goal.returns-then-bytes-at-clause-exact
@@ -38,15 +37,15 @@ returns-in_default-clause-exact c =
     bytes) c.args.count i (drop (4 * i) bytes) c.loop-i-test.true
     (omega (arith, length-drop (4 * i) bytes)) none
 
-pub returns-then-of-clause-exact : goal.returns-then-of-clause-exact
-returns-then-of-clause-exact c =
+pub returns-then-get-clause-exact : goal.returns-then-get-clause-exact
+returns-then-get-clause-exact c =
     let i = c.loop-i.i in
     let bytes = c.args.bytes.now in
     let named = ap (kind_of_column c.args.version) (sym c.read_u32_at-number.ensures) ∙ sym
     c.kind_of_column.ensures ∙ c.in-Some.is in
     let again = is_among c.args.version i _ _ (numbers c.args.order 4 i bytes) c.in-Some.kind
     (c.loop-i.invariant.places c.in-Some.kind) named
-    (λ e. c.if-of.true (c.of.ensures ∙ e)) in
+    (λ e. c.if-get.true (sym (c.get.ensures.value NO_COLUMN) ∙ e)) in
     sym c.loop-i.invariant.so_far ∙ repeated c.args.order c.args.version (numbers c.args.order 4 i
     bytes) c.args.count i (drop (4 * i) bytes) c.loop-i-test.true
     (omega (arith, length-drop (4 * i) bytes)) (ap is_none named) again
@@ -57,7 +56,7 @@ loop-i-preserved c =
     let bytes = c.args.bytes.now in
     let named = ap (kind_of_column c.args.version) (sym c.read_u32_at-number.ensures) ∙ sym
     c.kind_of_column.ensures ∙ c.in-Some.is in
-    let none = sym c.of.ensures ∙ c.if-of.false in
+    let none = c.get.ensures.value NO_COLUMN ∙ c.if-get.false in
     let fresh = is_new c.args.version i _ _ (numbers c.args.order 4 i bytes) c.in-Some.kind
     (c.loop-i.invariant.places c.in-Some.kind) named none in
     record {
@@ -72,7 +71,7 @@ loop-i-preserved c =
           one_more _ _ c.args.version i _ (numbers c.args.order 4 i bytes)
           (numbers c.args.order 4 (i + 1) bytes) c.in-Some.kind (numbers_more c.args.order 4 i
           bytes) (length-numbers c.args.order 4 i bytes) (omega arith) c.loop-i.invariant.places
-          named none c.put.ensures;
+          named none (c.set.ensures.each NO_COLUMN);
     }
 
 pub returns-clause-exact : goal.returns-clause-exact
