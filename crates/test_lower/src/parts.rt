@@ -1,6 +1,6 @@
 //! Calls of `thorin_parts`: hash tables, entries, written indexes and relocations.
 
-use dwp_base::{Contribution, ContributionOffset, Endianness, SectionKind};
+use dwp_base::{ByKind, Contribution, ContributionOffset, Endianness, SectionKind};
 use dwp_bytes::{Encoding, RelocationEntry};
 use dwp_elf_read::{ElfFile, Section};
 use dwp_index::{DwarfObject, DwoId, UnitIndex};
@@ -45,20 +45,11 @@ fn entry(
     abbrev: Option<Contribution>,
     str_offsets: Option<Contribution>,
 ) -> IndexEntry {
-    IndexEntry {
-        encoding,
-        id: DwarfObject::Compilation(DwoId(id)),
-        debug_info: info,
-        debug_types: None,
-        debug_abbrev: abbrev,
-        debug_line: None,
-        debug_loc: None,
-        debug_loclists: None,
-        debug_rnglists: None,
-        debug_str_offsets: str_offsets,
-        debug_macinfo: None,
-        debug_macro: None,
-    }
+    let mut parts = ByKind::same(None);
+    parts.set(SectionKind::Info, info);
+    parts.set(SectionKind::Abbrev, abbrev);
+    parts.set(SectionKind::StrOffsets, str_offsets);
+    IndexEntry::by_kind(encoding, DwarfObject::Compilation(DwoId(id)), &parts)
 }
 
 pub fn contribution(word: &str) -> Contribution {

@@ -1,18 +1,17 @@
 -- The columns of an index that was written are known, and none stands twice.
 use Rattle.std.proofs.Common.{◌≡◌, ℕ, suc, ◌^◌, ◌<◌, ◌≤◌, Bool, true, false, ◌||◌, ◌&&◌, not, cond}
-use Rattle.std.proofs.Common.{eqb, List, [], ◌∷◌, ◌++◌, length, drop, map, filter, Ok, ◌⊎◌, inl}
+use Rattle.std.proofs.Common.{eqb, ltb, Option, List, [], ◌∷◌, ◌++◌, length, drop, map, filter, Ok}
+use Rattle.std.proofs.Common.{◌⊎◌, inl}
 use Rattle.std.proofs.Common.{inr, refl, sym, ap, subst, ◌∙◌, append_assoc, arith}
 use Rattle.std.specs.Prelude.{is_none, is_some, unwrap_or}
 use Rattle.std.specs.List.{flat_map, AllByRecursion, list_any}
 use Rattle.std.proofs.lemmas.List.{append-nil, length-append}
-use Rattle.std.proofs.lemmas.Bool.{le-ltb, false≢true}
+use Rattle.std.proofs.lemmas.Bool.{le-ltb, ltb-true, false≢true}
 use Rattle.dwp_base.specs.declared.endian.Endianness.{Endianness}
 use Rattle.dwp_base.specs.declared.section.SectionKind.{SectionKind}
-use Rattle.dwp_base.specs.declared.section.SectionKind.TheVariants.{Info, Types, Abbrev, Line, Loc}
-use Rattle.dwp_base.specs.declared.section.SectionKind.TheVariants.{Loclists, Rnglists, StrOffsets}
-use Rattle.dwp_base.specs.declared.section.SectionKind.TheVariants.{Macinfo, Macro, Str, CuIndex}
-use Rattle.dwp_base.specs.declared.section.SectionKind.TheVariants.{TuIndex}
 use Rattle.dwp_base.specs.Numbers.{number_bytes}
+use Rattle.dwp_base.proofs.Bools.{both, is-false, neither}
+use Rattle.dwp_base.proofs.EveryKind.{every}
 use Rattle.dwp_table.specs.Columns.{column_of, kind_of_column, contribution_kinds, standard_column}
 use Rattle.dwp_table.specs.Columns.{gnu_column}
 use Rattle.dwp_index.specs.IndexBytes.{after, new_column, columns_at}
@@ -63,39 +62,14 @@ number_of version kind = unwrap_or (column_of version kind) 0
 abbrev pub has_number : ℕ → SectionKind → Bool
 has_number version kind = is_some (column_of version kind)
 
+abbrev is_small : (SectionKind → Option ℕ) → SectionKind → Bool
+is_small column kind = ltb (unwrap_or (column kind) 0) (2 ^ 32)
+
 standard_small : (kind : SectionKind) → unwrap_or (standard_column kind) 0 < 2 ^ 32
-standard_small kind = elim kind as (λ k. unwrap_or (standard_column k) 0 < 2 ^ 32) [
-  | Info ↦ omega arith
-  | Types ↦ omega arith
-  | Abbrev ↦ omega arith
-  | Line ↦ omega arith
-  | Loc ↦ omega arith
-  | Loclists ↦ omega arith
-  | Rnglists ↦ omega arith
-  | StrOffsets ↦ omega arith
-  | Macinfo ↦ omega arith
-  | Macro ↦ omega arith
-  | Str ↦ omega arith
-  | CuIndex ↦ omega arith
-  | TuIndex ↦ omega arith
-]
+standard_small kind = ltb-true _ (2 ^ 32) (every (is_small standard_column) refl kind)
 
 gnu_small : (kind : SectionKind) → unwrap_or (gnu_column kind) 0 < 2 ^ 32
-gnu_small kind = elim kind as (λ k. unwrap_or (gnu_column k) 0 < 2 ^ 32) [
-  | Info ↦ omega arith
-  | Types ↦ omega arith
-  | Abbrev ↦ omega arith
-  | Line ↦ omega arith
-  | Loc ↦ omega arith
-  | Loclists ↦ omega arith
-  | Rnglists ↦ omega arith
-  | StrOffsets ↦ omega arith
-  | Macinfo ↦ omega arith
-  | Macro ↦ omega arith
-  | Str ↦ omega arith
-  | CuIndex ↦ omega arith
-  | TuIndex ↦ omega arith
-]
+gnu_small kind = ltb-true _ (2 ^ 32) (every (is_small gnu_column) refl kind)
 
 chosen_small : (b : Bool) (kind : SectionKind)
     → unwrap_or (cond b (standard_column kind) (gnu_column kind)) 0 < 2 ^ 32
@@ -117,21 +91,9 @@ apart version [] = true
 apart version (k ∷ ks) = not (is_none (kind_of_column version (number_of version k))) &&
     (later_differ version (number_of version k) ks && apart version ks)
 
-both_true : (a b : Bool) → (a && b) ≡ true → (a ≡ true) × (b ≡ true)
-both_true true b e = (refl, e)
-both_true false b e = absurd cc
-
-is_false : (b : Bool) → not b ≡ true → b ≡ false
-is_false true e = absurd cc
-is_false false e = refl
-
-neither : (a b : Bool) → a ≡ false → b ≡ false → (a || b) ≡ false
-neither true b e f = absurd cc
-neither false b e f = f
-
-neither_of : (a b : Bool) → (a || b) ≡ false → (a ≡ false) × (b ≡ false)
-neither_of true b e = absurd cc
-neither_of false b e = (refl, e)
+none_of : (a b : Bool) → a ≡ false → b ≡ false → (a || b) ≡ false
+none_of true b e f = absurd cc
+none_of false b e f = f
 
 NotAmong : ℕ → List ℕ → List SectionKind → Type 0
 NotAmong version before [] = Unit {0}
@@ -140,10 +102,10 @@ NotAmong version before (k ∷ ks) = (list_any (λ c. eqb c (number_of version k
 
 any_more : (n : ℕ) (before : List ℕ) (m : ℕ) → list_any (λ c. eqb c n) before ≡ false
     → eqb m n ≡ false → list_any (λ c. eqb c n) (before ++ m ∷ []) ≡ false
-any_more n [] m h e = neither (eqb m n) false e refl
+any_more n [] m h e = none_of (eqb m n) false e refl
 any_more n (b ∷ before) m h e =
-    let parts = neither_of (eqb b n) (list_any (λ c. eqb c n) before) h in
-    neither (eqb b n) (list_any (λ c. eqb c n) (before ++ m ∷ [])) parts.0
+    let parts = neither (eqb b n) (list_any (λ c. eqb c n) before) h in
+    none_of (eqb b n) (list_any (λ c. eqb c n) (before ++ m ∷ [])) parts.0
     (any_more n before m parts.1 e)
 
 not_among_more : (version : ℕ) (before : List ℕ) (n : ℕ) (ks : List SectionKind)
@@ -152,8 +114,8 @@ not_among_more : (version : ℕ) (before : List ℕ) (n : ℕ) (ks : List Sectio
 unfolding NotAmong later_differ
 not_among_more version before n [] h d = tt
 not_among_more version before n (k ∷ ks) h d =
-    let parts = both_true (not (eqb n (number_of version k))) (later_differ version n ks) d in (
-      any_more (number_of version k) before n h.0 (is_false (eqb n (number_of version k)) parts.0),
+    let parts = both (not (eqb n (number_of version k))) (later_differ version n ks) d in (
+      any_more (number_of version k) before n h.0 (is-false (eqb n (number_of version k)) parts.0),
       not_among_more version before n ks h.1 parts.1,
     )
 
@@ -163,14 +125,14 @@ filtered_new : (version : ℕ) (p : SectionKind → Bool) (before : List ℕ) (k
 unfolding NotAmong apart
 filtered_new version p before [] a h = tt
 filtered_new version p before (k ∷ ks) a h =
-    let parts = both_true (not (is_none (kind_of_column version (number_of version k))))
+    let parts = both (not (is_none (kind_of_column version (number_of version k))))
     (later_differ version (number_of version k) ks && apart version ks) a in
-    let later = both_true (later_differ version (number_of version k) ks)
+    let later = both (later_differ version (number_of version k) ks)
     (apart version ks) parts.1 in
     elim (p k) as (λ b. AreNew version before (map (number_of version) (cond b (k ∷ filter p ks)
     (filter p ks)))) [
       | true ↦ (
-        (is_false (is_none (kind_of_column version (number_of version k))) parts.0, h.0),
+        (is-false (is_none (kind_of_column version (number_of version k))) parts.0, h.0),
         filtered_new version p (before ++ number_of version k ∷ []) ks later.1
             (not_among_more version before (number_of version k) ks h.1 later.0),
       )

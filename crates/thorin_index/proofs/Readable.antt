@@ -8,10 +8,7 @@ use Rattle.std.proofs.lemmas.List.{length-map}
 use Rattle.std.proofs.lemmas.Bool.{false≢true, lt-ltb, ltb-true}
 use Rattle.dwp_base.specs.declared.endian.Endianness.{Endianness}
 use Rattle.dwp_base.specs.declared.section.SectionKind.{SectionKind}
-use Rattle.dwp_base.specs.declared.section.SectionKind.TheVariants.{Info, Types, Abbrev, Line, Loc}
-use Rattle.dwp_base.specs.declared.section.SectionKind.TheVariants.{Loclists, Rnglists, StrOffsets}
-use Rattle.dwp_base.specs.declared.section.SectionKind.TheVariants.{Macinfo, Macro, Str, CuIndex}
-use Rattle.dwp_base.specs.declared.section.SectionKind.TheVariants.{TuIndex}
+use Rattle.dwp_base.proofs.Steps.{bind-was}
 use Rattle.dwp_base.specs.declared.section.Contribution.{Contribution}
 use Rattle.dwp_base.specs.Reading.{◌>>=◌}
 use Rattle.dwp_bytes.specs.declared.encoding.Encoding.{Encoding}
@@ -28,7 +25,7 @@ use Rattle.thorin_index.specs.EntryTests.{each, count_test, encoding_test, forma
 use Rattle.thorin_index.specs.EntryTests.{size_test, parts_test, tests_under}
 use Rattle.thorin_index.specs.IndexText.{is_used, used_sections, entry_ids, IsIndexText}
 use Rattle.thorin_index.specs.ReadBack.{index_with}
-use Rattle.thorin_index.proofs.Each.{bind_ok, each_passed, rows_fit}
+use Rattle.thorin_index.proofs.Each.{each_passed, kind_test, rows_fit}
 use Rattle.thorin_index.proofs.Columns.{has_number, columns_new}
 use Rattle.thorin_index.proofs.ReadAgain.{IsReadable, index_read}
 
@@ -41,30 +38,6 @@ either false = inr refl
 
 pub version_either : (v : ℕ) → (index_version_of v ≡ 5) ⊎ (index_version_of v ≡ 2)
 version_either v = either (leb 5 v)
-
--- a test that passed all parts of an entry passed the part of each section
-pub kind_test : (test : SectionKind → Option Contribution → Result (Unit {0}) Fault)
-    (entry : IndexEntry) → parts_test test entry ≡ Ok tt → ((kind : SectionKind)
-    → test kind None ≡ Ok tt) → (kind : SectionKind)
-    → test kind (contribution_to kind entry) ≡ Ok tt
-kind_test test entry e none kind =
-    let at = λ (k : ℕ) (h : k < 10). each_passed (λ kind'. test kind' (contribution_to kind' entry))
-    contribution_kinds e k Info h in
-    elim kind as (λ k. test k (contribution_to k entry) ≡ Ok tt) [
-      | Info ↦ at 0 (omega arith)
-      | Types ↦ at 1 (omega arith)
-      | Abbrev ↦ at 2 (omega arith)
-      | Line ↦ at 3 (omega arith)
-      | Loc ↦ at 4 (omega arith)
-      | Loclists ↦ at 5 (omega arith)
-      | Rnglists ↦ at 6 (omega arith)
-      | StrOffsets ↦ at 7 (omega arith)
-      | Macinfo ↦ at 8 (omega arith)
-      | Macro ↦ at 9 (omega arith)
-      | Str ↦ none Str
-      | CuIndex ↦ none CuIndex
-      | TuIndex ↦ none TuIndex
-    ]
 
 abbrev tested : Bool → Fault → Result (Unit {0}) Fault
 tested b fault = cond b (Ok tt) (Err fault)
@@ -132,16 +105,16 @@ pub index_is_read : (order : Endianness) (encoding : Encoding) (entries : List I
 unfolding tests_under
 index_is_read order encoding entries bytes tests ids text =
     let version = index_version_of encoding.version in
-    let one = bind_ok (count_test (length entries)) (λ _. each (encoding_test encoding) entries >>=
+    let one = bind-was (count_test (length entries)) (λ _. each (encoding_test encoding) entries >>=
     λ _. each (parts_test (format_test version)) entries >>= λ _. each (parts_test offset_test)
     entries >>= λ _. each (parts_test size_test) entries) tt tests in
-    let two = bind_ok (each (encoding_test encoding) entries) (λ _.
+    let two = bind-was (each (encoding_test encoding) entries) (λ _.
     each (parts_test (format_test version)) entries >>= λ _. each (parts_test offset_test)
     entries >>= λ _. each (parts_test size_test) entries) tt one.2 in
-    let three = bind_ok (each (parts_test (format_test version)) entries) (λ _.
+    let three = bind-was (each (parts_test (format_test version)) entries) (λ _.
     each (parts_test offset_test) entries >>= λ _. each (parts_test size_test)
     entries) tt two.2 in
-    let four = bind_ok (each (parts_test offset_test) entries) (λ _. each (parts_test size_test)
+    let four = bind-was (each (parts_test offset_test) entries) (λ _. each (parts_test size_test)
     entries) tt three.2 in
     let few = count_fits (length entries) one.1 in
     let table = text.table in

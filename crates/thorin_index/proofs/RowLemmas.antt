@@ -1,5 +1,5 @@
 -- The rows of an index as they are held: what they stand for where more is shared.
-use Rattle.std.proofs.Common.{◌≡◌, ◌∙◌, ℕ, suc, ◌+◌, ◌<◌, ◌≤◌, List, [], ◌∷◌, ◌++◌, length, map}
+use Rattle.std.proofs.Common.{◌≡◌, ◌∙◌, ℕ, suc, ◌<◌, ◌≤◌, List, [], ◌∷◌, ◌++◌, length, map}
 use Rattle.std.proofs.Common.{get_or}
 use Rattle.std.proofs.Common.{take, min, Some, Result, Ok, Err, ap, sym, refl, arith}
 use Rattle.std.specs.Prelude.{All, OnErr, slice_get}
@@ -75,10 +75,6 @@ pub kept_rows : (shared more : List IndexEntry) (rows : List Row)
     → take (length shared) more ≡ shared → AreNumbered shared rows
     → map (row_of more) rows ≡ map (row_of shared) rows
 kept_rows shared more rows h numbered = still shared more h rows numbered
-
-pub kept_numbered : (shared more : List IndexEntry) (rows : List Row)
-    → take (length shared) more ≡ shared → AreNumbered shared rows → AreNumbered more rows
-kept_numbered = numbered_still
 
 -- what holds whatever came holds of an error
 pub on_err : {T E P : Type 0} (r : Result T E) → P → OnErr r P

@@ -1,5 +1,6 @@
 -- The rows of an index of entries have the entries' parts.
-use Rattle.std.proofs.Common.{◌≡◌, ℕ, zero, suc, ◌+◌, ◌-◌, ◌^◌, ◌<◌, Bool, true, false, ◌||◌, cond}
+use Rattle.std.proofs.Common.{◌≡◌, ℕ, zero, suc, ◌+◌, ◌-◌, ◌^◌, ◌<◌, Bool, true, false, ◌||◌, not}
+use Rattle.std.proofs.Common.{cond}
 use Rattle.std.proofs.Common.{eqb, ltb, List, [], ◌∷◌, ◌++◌, length, get_or, map, filter, Option}
 use Rattle.std.proofs.Common.{Some, None, Ok, ◌⊎◌, inl, inr, refl, sym, ap, subst, ◌∙◌}
 use Rattle.std.proofs.Common.{append_assoc, arith, length-append}
@@ -10,10 +11,10 @@ use Rattle.std.proofs.lemmas.List.{length-map, get_or-map, get_or_at}
 use Rattle.std.proofs.lemmas.Option.{slice_get_within, get_or_from_slice_get}
 use Rattle.std.proofs.lemmas.Bool.{false≢true, lt-ltb, eqb-true, eq-eqb, or_right}
 use Rattle.dwp_base.specs.declared.section.SectionKind.{SectionKind}
-use Rattle.dwp_base.specs.declared.section.SectionKind.TheVariants.{Info, Types, Abbrev, Line, Loc}
-use Rattle.dwp_base.specs.declared.section.SectionKind.TheVariants.{Loclists, Rnglists, StrOffsets}
-use Rattle.dwp_base.specs.declared.section.SectionKind.TheVariants.{Macinfo, Macro, Str, CuIndex}
-use Rattle.dwp_base.specs.declared.section.SectionKind.TheVariants.{TuIndex}
+use Rattle.dwp_base.specs.declared.section.SectionKind.TheVariants.{Info}
+use Rattle.dwp_base.specs.Sections.{same_kind}
+use Rattle.dwp_base.proofs.EveryKind.{every, is-same}
+use Rattle.dwp_base.proofs.Steps.{bind-was}
 use Rattle.dwp_base.specs.declared.section.Contribution.{Contribution}
 use Rattle.dwp_table.specs.Columns.{column_of, kind_of_column, contribution_kinds}
 use Rattle.dwp_table.specs.Table.{IsHashTable, AreDistinct, signature_of}
@@ -32,49 +33,34 @@ use Rattle.dwp_index.specs.IndexBytes.{index_of}
 use Rattle.thorin_index.specs.EntryTests.{each, count_test, encoding_test, format_test, offset_test}
 use Rattle.thorin_index.specs.EntryTests.{size_test, parts_test, tests_under}
 use Rattle.thorin_index.specs.IndexText.{IsIndexText}
-use Rattle.thorin_index.proofs.Each.{bind_ok, each_passed}
-use Rattle.thorin_index.proofs.Readable.{kind_test, part_known, used_known, version_either}
+use Rattle.thorin_index.proofs.Each.{each_passed, kind_test, placed}
+use Rattle.thorin_index.proofs.Readable.{part_known, used_known, version_either}
 use Rattle.thorin_index.proofs.Readable.{index_is_read}
 use Rattle.thorin_index.proofs.Columns.{number_of, has_number}
 
 -- ---- a column's number names one section
+abbrev is_kind : Option SectionKind → SectionKind → Bool
+is_kind None kind = false
+is_kind (Some other) kind = same_kind other kind
+
+-- a section that has a column is the one that its number names
+abbrev is_again : ℕ → SectionKind → Bool
+is_again version kind = not (has_number version kind)
+    || is_kind (kind_of_column version (number_of version kind)) kind
+
+kind_named : (other : Option SectionKind) (kind : SectionKind) (b : Bool)
+    → (not b || is_kind other kind) ≡ true → b ≡ true → other ≡ Some kind
+kind_named (Some other) kind true e h = ap Some (is-same other kind e)
+kind_named None kind true e h = absurd cc
+kind_named other kind false e h = absurd cc
+
 kind_again_5 : (kind : SectionKind) → has_number 5 kind ≡ true
     → kind_of_column 5 (number_of 5 kind) ≡ Some kind
-kind_again_5 kind = elim kind as (λ k. has_number 5 k ≡ true
-    → kind_of_column 5 (number_of 5 k) ≡ Some k) [
-      | Info ↦ λ h. refl
-      | Types ↦ λ h. absurd (false≢true h)
-      | Abbrev ↦ λ h. refl
-      | Line ↦ λ h. refl
-      | Loc ↦ λ h. absurd (false≢true h)
-      | Loclists ↦ λ h. refl
-      | Rnglists ↦ λ h. refl
-      | StrOffsets ↦ λ h. refl
-      | Macinfo ↦ λ h. absurd (false≢true h)
-      | Macro ↦ λ h. refl
-      | Str ↦ λ h. absurd (false≢true h)
-      | CuIndex ↦ λ h. absurd (false≢true h)
-      | TuIndex ↦ λ h. absurd (false≢true h)
-    ]
+kind_again_5 kind = kind_named _ kind (has_number 5 kind) (every (is_again 5) refl kind)
 
 kind_again_2 : (kind : SectionKind) → has_number 2 kind ≡ true
     → kind_of_column 2 (number_of 2 kind) ≡ Some kind
-kind_again_2 kind = elim kind as (λ k. has_number 2 k ≡ true
-    → kind_of_column 2 (number_of 2 k) ≡ Some k) [
-      | Info ↦ λ h. refl
-      | Types ↦ λ h. refl
-      | Abbrev ↦ λ h. refl
-      | Line ↦ λ h. refl
-      | Loc ↦ λ h. refl
-      | Loclists ↦ λ h. absurd (false≢true h)
-      | Rnglists ↦ λ h. absurd (false≢true h)
-      | StrOffsets ↦ λ h. refl
-      | Macinfo ↦ λ h. refl
-      | Macro ↦ λ h. refl
-      | Str ↦ λ h. absurd (false≢true h)
-      | CuIndex ↦ λ h. absurd (false≢true h)
-      | TuIndex ↦ λ h. absurd (false≢true h)
-    ]
+kind_again_2 kind = kind_named _ kind (has_number 2 kind) (every (is_again 2) refl kind)
 
 kind_again : (version : ℕ) (kind : SectionKind) → (version ≡ 5) ⊎ (version ≡ 2) → has_number version
     kind ≡ true → kind_of_column version (number_of version kind) ≡ Some kind
@@ -182,28 +168,6 @@ any_entry test (x ∷ xs) zero entry at passes =
 any_entry test (x ∷ xs) (suc r) entry at passes = or_right (test x) (list_any test xs)
     (any_entry test xs r entry at passes)
 
--- a section has a place among those with columns, or no unit has a part of it
-abbrev IsPlaced : SectionKind → Type 0
-IsPlaced kind = ((i : ℕ) × (i < 10) × (get_or contribution_kinds i Info ≡ kind))
-    ⊎ ((entry : IndexEntry) → contribution_to kind entry ≡ None)
-
-placed : (kind : SectionKind) → IsPlaced kind
-placed kind = elim kind as IsPlaced [
-  | Info ↦ inl (0, omega arith, refl)
-  | Types ↦ inl (1, omega arith, refl)
-  | Abbrev ↦ inl (2, omega arith, refl)
-  | Line ↦ inl (3, omega arith, refl)
-  | Loc ↦ inl (4, omega arith, refl)
-  | Loclists ↦ inl (5, omega arith, refl)
-  | Rnglists ↦ inl (6, omega arith, refl)
-  | StrOffsets ↦ inl (7, omega arith, refl)
-  | Macinfo ↦ inl (8, omega arith, refl)
-  | Macro ↦ inl (9, omega arith, refl)
-  | Str ↦ inr (λ entry. refl)
-  | CuIndex ↦ inr (λ entry. refl)
-  | TuIndex ↦ inr (λ entry. refl)
-]
-
 -- ---- a part
 part_again : (part : Option Contribution) → contribution (offset_or_0 part) (size_or_0 part)
     ≡ non_empty part
@@ -238,7 +202,8 @@ module _ (version : ℕ) (entries : List IndexEntry) (is : (version ≡ 5) ⊎ (
         let used : is_used entries kind ≡ true = any_entry (λ e. is_some (contribution_to kind e))
         entries r entry at some in
         any_kept (is_used entries) (is_column kind) contribution_kinds there.0 Info there.1
-        (ap (is_used entries) there.2 ∙ used) (eq-eqb _ _ (ap (number_of version) there.2))
+        (ap (is_used entries) (there.2 Info) ∙ used)
+        (eq-eqb _ _ (ap (number_of version) (there.2 Info)))
     | inr none ↦ absurd (false≢true (ap is_some (sym (none entry)) ∙ some))
   ]
 
@@ -340,13 +305,13 @@ pub written_rows : (order : Endianness) (encoding : Encoding) (entries : List In
 unfolding tests_under
 written_rows order encoding entries bytes tests distinct ids text index read =
     let version = index_version_of encoding.version in
-    let one = bind_ok (count_test (length entries)) (λ _. each (encoding_test encoding) entries >>=
+    let one = bind-was (count_test (length entries)) (λ _. each (encoding_test encoding) entries >>=
     λ _. each (parts_test (format_test version)) entries >>= λ _. each (parts_test offset_test)
     entries >>= λ _. each (parts_test size_test) entries) tt tests in
-    let two = bind_ok (each (encoding_test encoding) entries) (λ _.
+    let two = bind-was (each (encoding_test encoding) entries) (λ _.
     each (parts_test (format_test version)) entries >>= λ _. each (parts_test offset_test)
     entries >>= λ _. each (parts_test size_test) entries) tt one.2 in
-    let three = bind_ok (each (parts_test (format_test version)) entries) (λ _.
+    let three = bind-was (each (parts_test (format_test version)) entries) (λ _.
     each (parts_test offset_test) entries >>= λ _. each (parts_test size_test)
     entries) tt two.2 in
     let again = entries_again version entries (version_either encoding.version)

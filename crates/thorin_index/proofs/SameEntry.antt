@@ -1,34 +1,30 @@
 -- Entries with the same encoding, unit and contributions are the same.
-use Rattle.std.proofs.Common.{◌≡◌, ◌∙◌, ◌⊎◌, inl, inr, ℕ, ◌+◌, ◌<◌, ◌≤◌, get_or, ap, sym, arith}
+use Rattle.std.proofs.Common.{◌≡◌, ◌∙◌, ◌⊎◌, inl, inr, ℕ, ◌+◌, ◌<◌, ◌≤◌, get_or, length, ap, subst}
+use Rattle.std.proofs.Common.{sym, arith}
 use Rattle.std.proofs.lemmas.Bool.{cases_lt}
 use Rattle.std.proofs.lemmas.List.{get_or_default}
 use Rattle.dwp_base.specs.declared.section.SectionKind.{SectionKind}
 use Rattle.dwp_base.specs.declared.section.SectionKind.TheVariants.{Info}
 use Rattle.dwp_table.specs.Columns.{contribution_kinds}
 use Rattle.thorin_index.specs.declared.entry.IndexEntry.{IndexEntry}
-use Rattle.thorin_index.specs.Entries.{contribution_to}
+use Rattle.thorin_index.specs.Entries.{contribution_to, entry_by}
+use Rattle.thorin_index.proofs.Each.{placed}
 
 abbrev pub SameUpTo : ℕ → IndexEntry → IndexEntry → Type 0
 SameUpTo n a b = (k : ℕ) (d : SectionKind) → k < n
     → contribution_to (get_or contribution_kinds k d) a
     ≡ contribution_to (get_or contribution_kinds k d) b
 
-pub same_entries : (a b : IndexEntry) → a.encoding ≡ b.encoding → a.id ≡ b.id → SameUpTo 10 a b
-    → a ≡ b
-same_entries a b encoding id same = λ i. record {
-  encoding = encoding i;
-  id = id i;
-  debug_info = same 0 Info (omega arith) i;
-  debug_types = same 1 Info (omega arith) i;
-  debug_abbrev = same 2 Info (omega arith) i;
-  debug_line = same 3 Info (omega arith) i;
-  debug_loc = same 4 Info (omega arith) i;
-  debug_loclists = same 5 Info (omega arith) i;
-  debug_rnglists = same 6 Info (omega arith) i;
-  debug_str_offsets = same 7 Info (omega arith) i;
-  debug_macinfo = same 8 Info (omega arith) i;
-  debug_macro = same 9 Info (omega arith) i;
-}
+pub same_entries : (a b : IndexEntry) → a.encoding ≡ b.encoding → a.id ≡ b.id
+    → SameUpTo (length contribution_kinds) a b → a ≡ b
+same_entries a b encoding id same = λ i. entry_by (encoding i) (id i) (λ kind. part kind i)
+  where
+    part : (kind : SectionKind) → contribution_to kind a ≡ contribution_to kind b
+    part kind = elim (placed kind) [
+      | inl there ↦ subst (λ k. contribution_to k a ≡ contribution_to k b) (there.2 Info)
+          (same there.0 Info there.1)
+      | inr none ↦ none a ∙ sym (none b)
+    ]
 
 -- and one contribution more
 pub one_more : (n : ℕ) (e : SectionKind) (a b : IndexEntry) → n < 10

@@ -6,6 +6,8 @@ use Rattle.dwp_base.specs.declared.section.SectionKind.TheVariants.{Loclists, Rn
 use Rattle.dwp_base.specs.declared.section.SectionKind.TheVariants.{Macinfo, Macro, Str, CuIndex}
 use Rattle.dwp_base.specs.declared.section.SectionKind.TheVariants.{TuIndex}
 use Rattle.dwp_base.specs.declared.section.Contribution.{Contribution}
+use Rattle.dwp_bytes.specs.declared.encoding.Encoding.{Encoding}
+use Rattle.dwp_table.specs.declared.object.DwarfObject.{DwarfObject}
 use Rattle.thorin_index.specs.declared.entry.IndexEntry.{IndexEntry}
 
 -- the entry's part of a section
@@ -23,6 +25,23 @@ contribution_to Macro entry = entry.debug_macro
 contribution_to Str entry = None
 contribution_to CuIndex entry = None
 contribution_to TuIndex entry = None
+
+-- the entry of a unit whose part of each section that has a column is as given
+abbrev pub entry_by : Encoding → DwarfObject → (SectionKind → Option Contribution) → IndexEntry
+entry_by encoding id part = record {
+  encoding = encoding;
+  id = id;
+  debug_info = part Info;
+  debug_types = part Types;
+  debug_abbrev = part Abbrev;
+  debug_line = part Line;
+  debug_loc = part Loc;
+  debug_loclists = part Loclists;
+  debug_rnglists = part Rnglists;
+  debug_str_offsets = part StrOffsets;
+  debug_macinfo = part Macinfo;
+  debug_macro = part Macro;
+}
 
 -- where a part begins and how much it has; an absent one has 0 for both
 abbrev pub offset_or_0 : Option Contribution → ℕ

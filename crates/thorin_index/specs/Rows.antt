@@ -4,6 +4,7 @@ use Rattle.std.specs.Prelude.{List, Some, None, get_or}
 use Rattle.dwp_bytes.specs.declared.encoding.Format.TheVariants.{Dwarf32}
 use Rattle.dwp_table.specs.declared.object.DwarfObject.{DwarfObject}
 use Rattle.dwp_table.specs.declared.object.DwarfObject.TheVariants.{TypeUnit}
+use Rattle.thorin_index.specs.Entries.{entry_by}
 use Rattle.thorin_index.specs.declared.entry.IndexEntry.{IndexEntry}
 use Rattle.thorin_index.specs.declared.rows.Own.{Own}
 use Rattle.thorin_index.specs.declared.rows.Own.TheVariants.{Nothing, Info, Types}
@@ -17,20 +18,8 @@ with_own id (Types range) entry = record entry { id = id; debug_types = Some ran
 
 -- an entry of no number
 abbrev pub blank : IndexEntry
-blank = record {
-  encoding = record { version = 0; format = Dwarf32; address_size = 0 };
-  id = TypeUnit (record { 0 = 0 });
-  debug_info = None;
-  debug_types = None;
-  debug_abbrev = None;
-  debug_line = None;
-  debug_loc = None;
-  debug_loclists = None;
-  debug_rnglists = None;
-  debug_str_offsets = None;
-  debug_macinfo = None;
-  debug_macro = None;
-}
+blank = entry_by (record { version = 0; format = Dwarf32; address_size = 0 })
+    (TypeUnit (record { 0 = 0 })) (λ kind. None)
 
 -- the entry of a row
 abbrev pub row_of : List IndexEntry → Row → IndexEntry

@@ -1,6 +1,6 @@
 //! The entries that an index is written of (DWARF 5, 7.3.5.3).
 
-use dwp_base::{Contribution, SectionKind};
+use dwp_base::{ByKind, Contribution, SectionKind};
 use dwp_bytes::Encoding;
 use dwp_table::{Bucketable, DwarfObject};
 
@@ -45,8 +45,34 @@ impl Bucketable for IndexEntry {
 }
 
 impl IndexEntry {
-    ghost use Rattle.std.specs.Prelude.{◌≡◌};
-    ghost use Rattle.thorin_index.specs.Entries.{contribution_to};
+    ghost use Rattle.std.specs.Prelude.{◌≡◌, None};
+    ghost use Rattle.dwp_base.specs.ByKind.{value_of, values_of};
+    ghost use Rattle.thorin_index.specs.Entries.{contribution_to, entry_by};
+
+    /// The entry of a unit that has these parts. Those of sections that an index has no column for
+    /// are left out.
+    pub fn by_kind(
+        encoding: Encoding,
+        id: DwarfObject,
+        parts: &ByKind<Option<Contribution>>,
+    ) -> IndexEntry
+        ensures { result ≡ entry_by encoding id (value_of None (values_of parts.now)) }
+    {
+        IndexEntry {
+            encoding,
+            id,
+            debug_info: parts.get(SectionKind::Info),
+            debug_types: parts.get(SectionKind::Types),
+            debug_abbrev: parts.get(SectionKind::Abbrev),
+            debug_line: parts.get(SectionKind::Line),
+            debug_loc: parts.get(SectionKind::Loc),
+            debug_loclists: parts.get(SectionKind::Loclists),
+            debug_rnglists: parts.get(SectionKind::Rnglists),
+            debug_str_offsets: parts.get(SectionKind::StrOffsets),
+            debug_macinfo: parts.get(SectionKind::Macinfo),
+            debug_macro: parts.get(SectionKind::Macro),
+        }
+    }
 
     /// The unit's part of a section; none for one that an index has no column for.
     pub fn contribution(&self, kind: SectionKind) -> Option<Contribution>

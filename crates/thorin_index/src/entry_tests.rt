@@ -9,7 +9,6 @@ ghost use Rattle.thorin_index.specs.EntryTests.{number_test, parts_test, tests_u
 ghost use Rattle.thorin_index.specs.PartTests.{test_of};
 ghost use Rattle.thorin_index.specs.Rows.{blank};
 
-use crate::entry::IndexEntry;
 use crate::rows::IndexRows;
 use dwp_base::{Contribution, SectionKind};
 use dwp_bytes::Encoding;
@@ -91,11 +90,13 @@ impl PartTest {
         }
     }
 
-    fn test_parts(self, kinds: &[SectionKind], entry: &IndexEntry) -> Result<(), Error>
-        ensures { Gives (λ x. x) result (each_part (test_of self) kinds.now entry.now) }
+    fn test_parts(self, kinds: &[SectionKind], rows: &IndexRows, place: usize) -> Result<(), Error>
+        requires { place < length rows.now }
+        ensures { Gives (λ x. x) result
+            (each_part (test_of self) kinds.now (get_or rows.now place blank)) }
     {
         for kind in kinds {
-            self.test(*kind, entry.contribution(*kind))?;
+            self.test(*kind, rows.contribution(place, *kind))?;
         }
         Ok(())
     }
@@ -106,7 +107,7 @@ impl PartTest {
             (All (λ entry. parts_test (test_of self) entry ≡ Ok tt) rows.now) }
     {
         for place in 0..rows.len() {
-            self.test_parts(&CONTRIBUTION_KINDS, &rows.entry(place))?;
+            self.test_parts(&CONTRIBUTION_KINDS, rows, place)?;
         }
         Ok(())
     }

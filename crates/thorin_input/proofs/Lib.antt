@@ -3,3 +3,4 @@ pub mod Walking
 pub mod Growth
 pub mod PartLemmas
 pub mod Ends
+pub mod RowParts

@@ -10,6 +10,7 @@ use Rattle.dwp_base.specs.declared.endian.Endianness.{Endianness}
 use Rattle.dwp_base.specs.declared.section.SectionKind.{SectionKind}
 use Rattle.dwp_base.specs.declared.section.SectionKind.TheVariants as kinds
 use Rattle.dwp_base.specs.Reading.{◌>>=◌}
+use Rattle.dwp_base.proofs.Steps.{bind-ok}
 use Rattle.dwp_base.specs.Sections.{name_of, compressed_name_of, kind_named, all_kinds, same_kind}
 use Rattle.dwp_elf_read.specs.declared.fault.ReadError.TheVariants.{Compressed, SectionRange}
 use Rattle.dwp_elf_read.specs.Elf.{Elf, SectionMeaning, SHT_NOBITS, name_is, has_compressed_flag}
@@ -27,11 +28,6 @@ use Rattle.thorin_input.specs.declared.object.InputObject.{InputObject}
 use Rattle.thorin_input.specs.declared.object.UsedSection.{UsedSection}
 use Rattle.thorin_input.specs.declared.walk.Taken.{Taken}
 use Rattle.thorin_input.proofs.Sections.{used_from-step, used_from-fault, used_from-end}
-
--- a step that gives x goes on with it
-bind-ok : {A B E : Type 0} (r : Result A E) (x : A) (f : A → Result B E) → r ≡ Ok x
-    → (r >>= f) ≡ f x
-bind-ok r x f h = ap (λ q. q >>= f) h
 
 -- ---- one section
 

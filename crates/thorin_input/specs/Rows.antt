@@ -3,12 +3,11 @@
 use Rattle.std.specs.Prelude.{ℕ, Bool, true, false, ◌==◌, ◌&&◌, not, List, length, Option, Some}
 use Rattle.std.specs.Prelude.{None, Result, Ok, Err, if◌then◌else◌}
 use Rattle.dwp_base.specs.declared.section.SectionKind.{SectionKind}
-use Rattle.dwp_base.specs.declared.section.SectionKind.TheVariants.{Abbrev, Line, Loc, Loclists}
-use Rattle.dwp_base.specs.declared.section.SectionKind.TheVariants.{Rnglists, StrOffsets, Macinfo}
-use Rattle.dwp_base.specs.declared.section.SectionKind.TheVariants.{Macro}
+use Rattle.dwp_base.specs.declared.section.SectionKind.TheVariants.{Abbrev}
 use Rattle.dwp_base.specs.declared.section.Contribution.{Contribution}
-use Rattle.dwp_base.specs.Reading.{◌>>=◌}
-use Rattle.dwp_base.specs.Sections.{name_of}
+use Rattle.dwp_base.specs.Reading.{◌>>=◌, read_each}
+use Rattle.dwp_base.specs.ByKind.{value_of}
+use Rattle.dwp_base.specs.Sections.{name_of, all_kinds}
 use Rattle.dwp_bytes.specs.declared.encoding.Encoding.{Encoding}
 use Rattle.dwp_dwarf.specs.Units.{Unit as Header}
 use Rattle.dwp_dwarf.specs.declared.unit.UnitType.{UnitType}
@@ -19,6 +18,8 @@ use Rattle.dwp_table.specs.Objects.{identifier_of}
 use Rattle.dwp_table.specs.declared.object.DwarfObject.{DwarfObject}
 use Rattle.dwp_table.specs.declared.object.DwarfObject.TheVariants.{Compilation}
 use Rattle.thorin_input.specs.Adjusting.{adjusted}
+use Rattle.thorin_input.specs.Format.{is_shared}
+use Rattle.thorin_index.specs.Entries.{contribution_to, entry_by}
 use Rattle.thorin_index.specs.declared.entry.IndexEntry.{IndexEntry}
 use Rattle.thorin_packaged.specs.RowPlaces.{row_by_place}
 use Rattle.thorin_errors.specs.Fault.{Fault, UnitNotInIndex, RowNotInIndex, BadContribution}
@@ -30,20 +31,8 @@ use Rattle.thorin_input.specs.Used.{first}
 -- where the whole of each section that units share comes to lie, once parts are added to contents:
 -- as the row of a unit that has all of it
 unfoldable pub whole_row : Encoding → Contents → Contents → IndexEntry
-whole_row encoding before parts = record {
-  encoding = encoding;
-  id = Compilation (record { 0 = 0 });
-  debug_info = None;
-  debug_types = None;
-  debug_abbrev = range_put Abbrev (joined_parts Abbrev parts) before;
-  debug_line = range_put Line (joined_parts Line parts) before;
-  debug_loc = range_put Loc (joined_parts Loc parts) before;
-  debug_loclists = range_put Loclists (joined_parts Loclists parts) before;
-  debug_rnglists = range_put Rnglists (joined_parts Rnglists parts) before;
-  debug_str_offsets = range_put StrOffsets (joined_parts StrOffsets parts) before;
-  debug_macinfo = range_put Macinfo (joined_parts Macinfo parts) before;
-  debug_macro = range_put Macro (joined_parts Macro parts) before;
-}
+whole_row encoding before parts = entry_by encoding (Compilation (record { 0 = 0 })) (λ kind.
+    if is_shared kind then range_put kind (joined_parts kind parts) before else None)
 
 -- a unit's part of a section which as a whole lies there in the package
 abbrev pub adjusted_part : Indexes → DwarfObject → SectionKind → Option Contribution
@@ -54,28 +43,18 @@ adjusted_part indexes name kind whole = adjusted (record {
   section = kind;
 }) name whole
 
+-- a unit's part of a section: adjusted where units share the section, else that of the whole row as
+-- it is
+abbrev pub unit_part : Indexes → DwarfObject → SectionKind → Option Contribution
+    → Result (Option Contribution) Fault
+unit_part indexes name kind whole =
+    if is_shared kind then adjusted_part indexes name kind whole else Ok whole
+
 -- the row of a unit but for its own bytes: its part of each section that units share
 unfoldable pub unit_row : Indexes → IndexEntry → DwarfObject → Result IndexEntry Fault
 unit_row indexes whole name = do
-  abbreviations ← adjusted_part indexes name Abbrev whole.debug_abbrev
-  line ← adjusted_part indexes name Line whole.debug_line
-  loc ← adjusted_part indexes name Loc whole.debug_loc
-  loclists ← adjusted_part indexes name Loclists whole.debug_loclists
-  rnglists ← adjusted_part indexes name Rnglists whole.debug_rnglists
-  str_offsets ← adjusted_part indexes name StrOffsets whole.debug_str_offsets
-  macinfo ← adjusted_part indexes name Macinfo whole.debug_macinfo
-  macros ← adjusted_part indexes name Macro whole.debug_macro
-  Ok (record whole {
-    id = name;
-    debug_abbrev = abbreviations;
-    debug_line = line;
-    debug_loc = loc;
-    debug_loclists = loclists;
-    debug_rnglists = rnglists;
-    debug_str_offsets = str_offsets;
-    debug_macinfo = macinfo;
-    debug_macro = macros;
-  })
+  parts ← read_each (λ kind. unit_part indexes name kind (contribution_to kind whole)) all_kinds
+  Ok (entry_by whole.encoding name (value_of None parts))
 
 -- a unit's range of its section
 abbrev pub own_range : Header → Contribution

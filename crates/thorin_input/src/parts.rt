@@ -19,6 +19,7 @@ use crate::source::Source;
 use dwp_base::SectionKind;
 use dwp_dwarf::Encoding;
 use dwp_elf::WritableObject;
+use dwp_table::{CONTRIBUTION_KINDS, column_of};
 use std::alloc::Global;
 use thorin_errors::Error;
 use thorin_packaged::remap_packaged_offsets;
@@ -61,17 +62,19 @@ struct Gathering<'a> {
     repeats: Repeats,
 }
 
+/// Whether units have contributions to a section of this kind.
+fn is_of_units(kind: SectionKind) -> bool
+    ensures { result ≡ formats.is_of_units kind }
+{
+    CONTRIBUTION_KINDS.iter().any(|other| kind.is(*other))
+}
+
 /// Whether packages of an encoding's version have a section of this kind.
 fn is_in_format(encoding: Encoding, kind: SectionKind) -> bool
     ensures { result ≡ formats.is_in_format encoding kind }
 {
-    match kind {
-        SectionKind::Loclists | SectionKind::Rnglists => encoding.is_std_dwarf_package_format(),
-        SectionKind::Types | SectionKind::Loc | SectionKind::Macinfo => {
-            !encoding.is_std_dwarf_package_format()
-        }
-        _ => true,
-    }
+    let version = encoding.dwarf_package_index_version();
+    !is_of_units(kind) || column_of(version, kind).is_some()
 }
 
 /// Whether a section goes to the package whole and as it is.
@@ -79,15 +82,17 @@ fn is_copied(kind: SectionKind) -> bool
     ensures { result ≡ formats.is_copied kind }
 {
     match kind {
-        SectionKind::Abbrev
-        | SectionKind::Line
-        | SectionKind::Loc
-        | SectionKind::Loclists
-        | SectionKind::Rnglists
-        | SectionKind::Macinfo
-        | SectionKind::Macro => true,
-        _ => false,
+        SectionKind::Info | SectionKind::Types | SectionKind::StrOffsets => false,
+        SectionKind::Str | SectionKind::CuIndex | SectionKind::TuIndex => false,
+        _ => true,
     }
+}
+
+/// Whether units share a section: whether they have contributions to it, and don't stand in it.
+pub(crate) fn is_shared(kind: SectionKind) -> bool
+    ensures { result ≡ formats.is_shared kind }
+{
+    is_copied(kind) || kind.is(SectionKind::StrOffsets)
 }
 
 /// Whether a part of a kind is there.

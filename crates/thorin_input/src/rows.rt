@@ -1,13 +1,15 @@
 //! The rows that units get: each unit's contribution to each section of its input, tested, and put
 //! where the section comes to lie in the package.
 
-ghost use Rattle.std.specs.Prelude.{◌≡◌, length, map, false, IfOk, IfErr};
+ghost use Rattle.std.specs.Prelude.{◌≡◌, length, map, false, None, IfOk, IfErr, if◌then◌else◌};
 ghost use Rattle.dwp_base.specs.declared.section.SectionKind.TheVariants.{Abbrev};
 ghost use Rattle.dwp_dwarf.specs.Units.{unit_of};
 ghost use Rattle.dwp_index.specs.Package.{part_of, is_outside};
 ghost use Rattle.dwp_table.specs.Objects.{identifier_of};
 ghost use Rattle.thorin_errors.specs.Answers.{Gives};
 ghost use Rattle.thorin_input.specs.Adjusting.{GivesExactly};
+ghost use Rattle.thorin_index.specs.Entries.{contribution_to};
+ghost use Rattle.thorin_input.specs.Format.{is_shared};
 ghost use Rattle.thorin_packaged.specs.RowPlaces.{row_by_place};
 ghost use Rattle.thorin_input.specs.Growing.{joined_parts, range_put};
 ghost use Rattle.thorin_input.specs.Indexes.{index_for, looked_up};
@@ -18,9 +20,9 @@ ghost use Rattle.thorin_input.specs.WholeFits.{EndFits, EndsFit};
 
 use crate::adjustor::ContributionAdjustor;
 use crate::growing::content;
-use crate::parts::Part;
+use crate::parts::{Part, is_shared};
 use crate::source::{Indexes, Source};
-use dwp_base::{Contribution, ContributionOffset, Endianness, SectionKind};
+use dwp_base::{ByKind, Contribution, ContributionOffset, Endianness, SectionKind};
 use dwp_dwarf::{Encoding, Reader, SliceReader, UnitHeader, UnitType};
 use dwp_elf::WritableObject;
 use dwp_index::{Row, UnitIndex};
@@ -80,42 +82,40 @@ fn whole_range(
     }))
 }
 
+/// Where the whole of a section that units share comes to lie; None for any other section. `Memory`
+/// where no memory could hold it.
+fn shared_range(
+    file: &WritableObject,
+    parts: &[Part<'_>],
+    kind: SectionKind,
+) -> Result<Option<Contribution>, Error>
+    ensures range { IfOk result (λ range. range ≡ (if is_shared kind
+        then range_put kind (joined_parts kind (map view.part parts.now)) file.now.contents
+        else None)) }
+    ensures fits { IfOk result EndFits }
+    ensures refused { IfErr result (λ e. e ≡ Error.Memory) }
+{
+    if is_shared(kind) {
+        whole_range(file, parts, kind)
+    } else {
+        Ok(None)
+    }
+}
+
 impl Whole {
     /// Where the whole of each section comes to lie once parts are put behind the contents of a
     /// file.
     ///
     /// # Errors
     /// `Memory` alone.
-    #[tactic(auto, unfolding(crate::specs::Rows::whole_row))]
     pub fn of(encoding: Encoding, file: &WritableObject, parts: &[Part<'_>]) -> Result<Whole, Error>
         ensures row { IfOk result (λ whole.
             whole.row ≡ spec.whole_row encoding file.now.contents (map view.part parts.now)) }
         ensures refused { IfErr result (λ e. e ≡ Error.Memory) }
     {
-        let debug_abbrev = whole_range(file, parts, SectionKind::Abbrev)?;
-        let debug_line = whole_range(file, parts, SectionKind::Line)?;
-        let debug_loc = whole_range(file, parts, SectionKind::Loc)?;
-        let debug_loclists = whole_range(file, parts, SectionKind::Loclists)?;
-        let debug_rnglists = whole_range(file, parts, SectionKind::Rnglists)?;
-        let debug_str_offsets = whole_range(file, parts, SectionKind::StrOffsets)?;
-        let debug_macinfo = whole_range(file, parts, SectionKind::Macinfo)?;
-        let debug_macro = whole_range(file, parts, SectionKind::Macro)?;
-        Ok(Whole {
-            row: IndexEntry {
-                encoding,
-                id: DwarfObject::Compilation(DwoId(0)),
-                debug_info: None,
-                debug_types: None,
-                debug_abbrev,
-                debug_line,
-                debug_loc,
-                debug_loclists,
-                debug_rnglists,
-                debug_str_offsets,
-                debug_macinfo,
-                debug_macro,
-            },
-        })
+        let ranges = ByKind::read(None, |kind| shared_range(file, parts, kind))?;
+        let row = IndexEntry::by_kind(encoding, DwarfObject::Compilation(DwoId(0)), &ranges);
+        Ok(Whole { row })
     }
 }
 
@@ -144,12 +144,32 @@ fn adjusted_part(
     ContributionAdjustor::new(compilations, types, kind).adjust_row(unit.name, unit.number, whole)
 }
 
+/// A unit's part of a section: adjusted where units share the section, else that of the whole row as
+/// it is.
+fn unit_part(
+    indexes: &Indexes<'_>,
+    whole: &Whole,
+    unit: Numbered,
+    kind: SectionKind,
+) -> Result<Option<Contribution>, Error>
+    requires number { unit.number
+        ≡ looked_up (index_for (view.indexes indexes.now) unit.name) (identifier_of unit.name) }
+    ensures { GivesExactly result (spec.unit_part (view.indexes indexes.now) unit.name kind
+        (contribution_to kind whole.now.row)) }
+{
+    let part = whole.row.contribution(kind);
+    if is_shared(kind) {
+        adjusted_part(indexes, unit, kind, part)
+    } else {
+        Ok(part)
+    }
+}
+
 /// The row of a unit but for its own bytes: its part of each section that units share. `number` is
 /// what looking the unit up gave (`test_row`).
 ///
 /// # Errors
 /// Those of `ContributionAdjustor::adjust`, of the sections in the order of a row.
-#[tactic(auto, unfolding(crate::specs::Rows::unit_row, crate::specs::Adjusting::adjusted))]
 pub fn unit_row(
     indexes: &Indexes<'_>,
     whole: &Whole,
@@ -173,7 +193,6 @@ pub fn unit_row(
 }
 
 /// The same in a package.
-#[tactic(auto, unfolding(crate::specs::Rows::unit_row))]
 fn packaged_row(indexes: &Indexes<'_>, whole: &Whole, unit: Numbered) -> Result<IndexEntry, Error>
     requires number { unit.number
         ≡ looked_up (index_for (view.indexes indexes.now) unit.name) (identifier_of unit.name) }
@@ -181,34 +200,8 @@ fn packaged_row(indexes: &Indexes<'_>, whole: &Whole, unit: Numbered) -> Result<
         (spec.unit_row (view.indexes indexes.now) whole.now.row unit.name) }
     ensures name { IfOk result (λ row. row.id ≡ unit.name) }
 {
-    let row = whole.row;
-    let debug_abbrev = adjusted_part(indexes, unit, SectionKind::Abbrev, row.debug_abbrev)?;
-    let debug_line = adjusted_part(indexes, unit, SectionKind::Line, row.debug_line)?;
-    let debug_loc = adjusted_part(indexes, unit, SectionKind::Loc, row.debug_loc)?;
-    let debug_loclists = adjusted_part(indexes, unit, SectionKind::Loclists, row.debug_loclists)?;
-    let debug_rnglists = adjusted_part(indexes, unit, SectionKind::Rnglists, row.debug_rnglists)?;
-    let debug_str_offsets = adjusted_part(
-        indexes,
-        unit,
-        SectionKind::StrOffsets,
-        row.debug_str_offsets,
-    )?;
-    let debug_macinfo = adjusted_part(indexes, unit, SectionKind::Macinfo, row.debug_macinfo)?;
-    let debug_macro = adjusted_part(indexes, unit, SectionKind::Macro, row.debug_macro)?;
-    Ok(IndexEntry {
-        encoding: row.encoding,
-        id: unit.name,
-        debug_info: row.debug_info,
-        debug_types: row.debug_types,
-        debug_abbrev,
-        debug_line,
-        debug_loc,
-        debug_loclists,
-        debug_rnglists,
-        debug_str_offsets,
-        debug_macinfo,
-        debug_macro,
-    })
+    let parts = ByKind::read(None, |kind| unit_part(indexes, whole, unit, kind))?;
+    Ok(IndexEntry::by_kind(whole.row.encoding, unit.name, &parts))
 }
 
 /// A unit's range of its section.

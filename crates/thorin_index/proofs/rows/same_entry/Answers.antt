@@ -1,4 +1,4 @@
-use Rattle.std.proofs.Common.{◌≡◌, ◌∙◌, refl, sym, arith}
+use Rattle.std.proofs.Common.{◌∙◌, refl, sym, arith}
 use Rattle.thorin_index.proofs.SameEntry.{one_more, same_entries}
 use Rattle.thorin_index.proofs.rows.same_entry.Goals as goal
 

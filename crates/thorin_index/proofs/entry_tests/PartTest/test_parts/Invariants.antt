@@ -1,9 +1,11 @@
-use Rattle.std.proofs.Common.{◌≡◌, drop}
+use Rattle.std.proofs.Common.{◌≡◌, drop, get_or}
 use Rattle.thorin_index.specs.EntryTests.{each_part}
 use Rattle.thorin_index.specs.PartTests.{test_of}
+use Rattle.thorin_index.specs.Rows.{blank}
 use Rattle.thorin_index.proofs.entry_tests.PartTest.test_parts.Given as goal
 
 -- what is left has the first fault of all
 abbrev pub invariant-loop-kind : goal.invariant-loop-kind
-invariant-loop-kind l = each_part (test_of l.self) (drop l.kind-index l.kinds) l.entry ≡ each_part
-    (test_of l.self) l.kinds l.entry
+invariant-loop-kind l =
+    each_part (test_of l.self) (drop l.kind-index l.kinds) (get_or l.rows l.place blank)
+    ≡ each_part (test_of l.self) l.kinds (get_or l.rows l.place blank)

@@ -1,4 +1,4 @@
-use Rattle.std.proofs.Common.{◌≡◌, ◌∙◌, ◌++◌, ◌∷◌, [], ap, map, sym, subst}
+use Rattle.std.proofs.Common.{◌∙◌, ◌++◌, ◌∷◌, [], ap, map, sym, subst}
 use Rattle.thorin_index.specs.Rows.{row_of}
 use Rattle.thorin_index.proofs.RowLemmas.{AreNumbered, kept_rows, numbered_pushed, on_err, pushed}
 use Rattle.thorin_index.proofs.rows.IndexRows.push.Goals as goal

@@ -1,0 +1,156 @@
+-- The rows that units get, put together of the parts that are read for each kind of section.
+use Rattle.std.proofs.Common.{◌≡◌, ◌∙◌, Bool, true, false, cond, List, [], ◌∷◌, refl}
+use Rattle.std.proofs.Common.{sym, ap, subst}
+use Rattle.std.proofs.Common.{Option, None, Some, Result, Ok, Err}
+use Rattle.std.specs.Prelude.{slice_get}
+use Rattle.std.specs.List.{list_any}
+use Rattle.std.proofs.lemmas.List.{map-id}
+use Rattle.std.proofs.lemmas.Option.{get_or_from_slice_get}
+use Rattle.dwp_base.specs.ByKind.{values_of, value_of, ReadsEach}
+use Rattle.dwp_base.specs.Reading.{Answers}
+use Rattle.dwp_base.specs.Sections.{rank_of, all_kinds, same_kind}
+use Rattle.dwp_base.specs.declared.by_kind.ByKind.{ByKind}
+use Rattle.dwp_base.specs.declared.section.Contribution.{Contribution}
+use Rattle.dwp_base.specs.declared.section.SectionKind.{SectionKind}
+use Rattle.dwp_base.proofs.EveryKind.{HoldsAll, each}
+use Rattle.dwp_base.proofs.KindsRead.{answers-each}
+use Rattle.dwp_base.proofs.Steps.{bind-ok, bind-err, each-read}
+use Rattle.dwp_bytes.specs.declared.encoding.Encoding.{Encoding}
+use Rattle.dwp_table.specs.Columns.{contribution_kinds}
+use Rattle.dwp_table.specs.declared.object.DwarfObject.{DwarfObject}
+use Rattle.dwp_table.specs.declared.object.DwarfObject.TheVariants.{Compilation}
+use Rattle.thorin_errors.specs.Fault.{Fault, fault_of}
+use Rattle.thorin_errors.specs.declared.error.Error.{Error}
+use Rattle.thorin_index.specs.Entries.{contribution_to, entry_by}
+use Rattle.thorin_index.specs.declared.entry.IndexEntry.{IndexEntry}
+use Rattle.thorin_input.specs.Adjusting.{adjusted, GivesExactly}
+use Rattle.thorin_input.specs.Format.{is_shared}
+use Rattle.thorin_input.specs.Growing.{Contents, joined_parts, range_put}
+use Rattle.thorin_input.specs.Indexes.{Indexes}
+use Rattle.thorin_input.specs.Rows.{whole_row, unit_part, unit_row}
+use Rattle.thorin_input.specs.WholeFits.{EndFits, EndsFit}
+
+-- what holds of each is said of all of a list
+all-hold : {X : Type 0} (P : X → Type 0) → ((x : X) → P x) → (xs : List X) → HoldsAll P xs
+all-hold P holds [] = tt
+all-hold P holds (x ∷ xs) = (holds x, all-hold P holds xs)
+
+-- an entry's part of a section is the one that was given, or none
+part-holds : (P : Option Contribution → Type 0) (encoding : Encoding) (id : DwarfObject)
+    (part : SectionKind → Option Contribution) → P None → ((kind : SectionKind) → P (part kind))
+    → (kind : SectionKind) → P (contribution_to kind (entry_by encoding id part))
+part-holds P encoding id part none given =
+    each (λ kind. P (contribution_to kind (entry_by encoding id part)))
+    (all-hold (λ kind. P (cond (list_any (same_kind kind) contribution_kinds) (part kind) None))
+    (λ kind. by (list_any (same_kind kind) contribution_kinds) kind) all_kinds)
+  where
+    by : (b : Bool) (kind : SectionKind) → P (cond b (part kind) None)
+    by true kind = given kind
+    by false kind = none
+
+-- ---- where whole sections come to lie
+
+-- something is known of the value of each kind
+abbrev pub AreKnown : {T : Type 0} → (SectionKind → T → Type 0) → ByKind T → Type 0
+AreKnown P values = (kind : SectionKind)
+    → (value : _) × (slice_get (values_of values) (rank_of kind) ≡ Some value) × P kind value
+
+known : {T : Type 0} (P : SectionKind → T → Type 0) (values : ByKind T) → AreKnown P values
+    → (kind : SectionKind) (default : T) → P kind (value_of default (values_of values) kind)
+known P values read kind default =
+    let at = read kind in
+    subst (P kind) (sym (get_or_from_slice_get (values_of values) (rank_of kind) at.0 default at.1))
+    at.2
+
+abbrev range_of_whole : Contents → Contents → SectionKind → Option Contribution
+range_of_whole before parts kind =
+    cond (is_shared kind) (range_put kind (joined_parts kind parts) before) None
+
+pub whole-is : (encoding : Encoding) (before parts : Contents)
+    (ranges : ByKind (Option Contribution))
+    → AreKnown (λ kind range. range ≡ range_of_whole before parts kind) ranges → (row : IndexEntry)
+    → row ≡ entry_by encoding (Compilation (record { 0 = 0 })) (value_of None (values_of ranges))
+    → row ≡ whole_row encoding before parts
+unfolding whole_row
+whole-is encoding before parts ranges read row is =
+    is ∙ (λ i. entry_by encoding (Compilation (record { 0 = 0 })) (λ kind.
+    known (λ k range. range ≡ range_of_whole before parts k) ranges read kind None i))
+
+pub whole-fits : (encoding : Encoding) (id : DwarfObject) (ranges : ByKind (Option Contribution))
+    → AreKnown (λ _ range. EndFits range) ranges → (row : IndexEntry)
+    → row ≡ entry_by encoding id (value_of None (values_of ranges)) → EndsFit row
+whole-fits encoding id ranges read row is = subst EndsFit (sym is)
+    (λ kind shared. part-holds EndFits encoding id (value_of None (values_of ranges))
+    (λ x e. absurd cc) (λ k. known (λ _ range. EndFits range) ranges read k None) kind)
+
+-- ---- a unit's row
+
+-- where an input has no index
+pub plain-row : (indexes : Indexes) (whole : IndexEntry) (name : DwarfObject)
+    → indexes.compilations ≡ None → indexes.types ≡ None
+    → unit_row indexes whole name ≡ Ok (record whole { id = name })
+unfolding unit_row adjusted
+plain-row indexes whole name compilations types =
+    bind-ok _ _ (λ parts. Ok (entry_by whole.encoding name (value_of None parts)))
+    (each-read (λ kind. unit_part indexes name kind (contribution_to kind whole))
+    (λ kind. contribution_to kind whole) (λ kind. stays kind (is_shared kind)) all_kinds)
+  where
+    unchanged : (kind : SectionKind) (part : Option Contribution) → adjusted (record {
+      compilation = indexes.compilations;
+      types = indexes.types;
+      section = kind;
+    }) name part ≡ Ok part
+    unchanged kind part = rw (compilations, types) refl
+
+    stays : (kind : SectionKind) (b : Bool) → cond b (adjusted (record {
+      compilation = indexes.compilations;
+      types = indexes.types;
+      section = kind;
+    }) name (contribution_to kind whole)) (Ok (contribution_to kind whole))
+        ≡ Ok (contribution_to kind whole)
+    stays kind true = unchanged kind (contribution_to kind whole)
+    stays kind false = refl
+
+module _ (indexes : Indexes) (whole : IndexEntry) (name : DwarfObject) where
+  abbrev part : SectionKind → Result (Option Contribution) Fault
+  part kind = unit_part indexes name kind (contribution_to kind whole)
+
+  -- what a call answered for a kind is what the definition says
+  abbrev pub PartRead : SectionKind → Result (Option Contribution) Error → Type 0
+  PartRead kind r = GivesExactly r (part kind)
+
+  -- what a call refused, as the fault that it stands for
+  FaultRead : SectionKind → Result (Option Contribution) Fault → Type 0
+  FaultRead kind (Ok part) = PartRead kind (Ok part)
+  FaultRead kind (Err fault) = (e : Error) × (fault ≡ fault_of e) × PartRead kind (Err e)
+
+  answers : (kind : SectionKind) (r : Result (Option Contribution) Fault) → FaultRead kind r
+      → Answers (λ part. part) r (part kind)
+  unfolding FaultRead
+  answers kind (Ok part) read = read
+  answers kind (Err fault) read = read.2 ∙ ap Err (sym read.1)
+
+  pub row-read : (parts : ByKind (Option Contribution)) → ReadsEach PartRead (Ok parts)
+      → unit_row indexes whole name
+      ≡ Ok (entry_by whole.encoding name (value_of None (values_of parts)))
+  unfolding unit_row FaultRead
+  row-read parts read = bind-ok _ (values_of parts) (λ values.
+      Ok (entry_by whole.encoding name (value_of None values)))
+      (answers-each (λ part. part) (λ kind. unit_part indexes name kind
+      (contribution_to kind whole))
+      FaultRead answers (Ok parts) read ∙ ap Ok (map-id (values_of parts)))
+
+  pub row-refused : (e : Error) → ReadsEach PartRead (Err e) → unit_row indexes whole name
+      ≡ Err (fault_of e)
+  unfolding unit_row FaultRead
+  row-refused e read = bind-err _ (fault_of e) (λ values.
+      Ok (entry_by whole.encoding name (value_of None values)))
+      (answers-each (λ part. part) (λ kind. unit_part indexes name kind
+      (contribution_to kind whole))
+      FaultRead answers (Err (fault_of e)) (
+        read.0,
+        read.1,
+        read.2,
+        (e, refl, read.3),
+        read.4,
+      ))
