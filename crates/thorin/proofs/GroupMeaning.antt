@@ -1,13 +1,12 @@
 -- What packing in groups means: the join of all inputs at once.
 use Rattle.std.proofs.Common.{◌≡◌, ◌∙◌, ℕ, ◌<◌, true, List, [], ◌∷◌, ◌++◌, length, Option, Some}
-use Rattle.std.proofs.Common.{Result, Ok, Err, refl, sym, ap, subst, arith}
+use Rattle.std.proofs.Common.{Ok, refl, sym, ap, subst, arith}
 use Rattle.std.specs.List.{swap, flat_map, IsDistinct}
 use Rattle.std.specs.List.Sorted.{IsPermutation}
 use Rattle.std.proofs.lemmas.List.{length-map}
 use Rattle.std.proofs.lemmas.List.Sorted.{IsPermutation-refl, IsPermutation-sym}
 use Rattle.std.proofs.lemmas.List.Sorted.{IsPermutation-trans, IsPermutation-swap}
 use Rattle.std.proofs.lemmas.List.Sorted.{IsPermutation-keeps}
-use Rattle.dwp_base.specs.Reading.{◌>>=◌}
 use Rattle.dwp_elf.specs.FileText.{Object as File, file_text}
 use Rattle.dwp_elf.specs.Written.{written_elf}
 use Rattle.dwp_elf_read.specs.Elf.{elf_of}
@@ -25,6 +24,7 @@ use Rattle.thorin.specs.Groups.{AreJoined, HaveTheirEncodings, inputs_of, IsPack
 use Rattle.thorin.proofs.GroupJoins.{groups-defined, groups-joined, joined-distinct, none-distinct}
 use Rattle.thorin.proofs.GroupLookups.{units-found, swap-map}
 use Rattle.thorin.proofs.GroupUnits.{Units, AllMean, keys-meant, mean-append, join-of, joins-all}
+use Rattle.dwp_base.proofs.Steps.{bind-was as bound}
 
 -- what the laws of the builder say
 abbrev pub KeepsSound : Type 0
@@ -36,11 +36,6 @@ MeansAgain = (state : State) (file : File) → IsSoundBegun state.begun → fini
     → IsFinishedState state file → MeansOnceWritten (units_in state) file
 
 -- ---- inputs that were taken
-
-bound : {A B E : Type 0} (r : Result A E) (f : A → Result B E) (y : B) → (r >>= f) ≡ Ok y → (x : A)
-    × (r ≡ Ok x) × (f x ≡ Ok y)
-bound (Ok x) f y h = (x, refl, h)
-bound (Err e) f y h = absurd cc
 
 step-sound : KeepsSound → (bytes : List ℕ) (old new : State) → IsSoundBegun old.begun
     → taken bytes old ≡ Ok new → IsSoundBegun new.begun

@@ -1,5 +1,5 @@
 -- Inputs that are joined, as the list of all their units; and back.
-use Rattle.std.proofs.Common.{◌≡◌, ◌∙◌, ℕ, Bool, true, false, true≢false, ◌&&◌, List, [], ◌∷◌, ◌++◌}
+use Rattle.std.proofs.Common.{◌≡◌, ◌∙◌, ℕ, true, ◌&&◌, List, [], ◌∷◌, ◌++◌}
 use Rattle.std.proofs.Common.{Option, Some, Ok, refl, sym, ap, ap₂, subst, append_assoc, append-nil}
 use Rattle.std.proofs.lemmas.List.{map-append}
 use Rattle.dwp_table.specs.declared.object.DwarfObject.{DwarfObject}
@@ -7,6 +7,7 @@ use Rattle.thorin_join.specs.Join.{Joins, JoinAll}
 use Rattle.thorin_join.specs.Meaning.{Meaning, Members, keys, input_meaning, joining, can_join}
 use Rattle.thorin_again.specs.Again.{all_meant}
 use Rattle.thorin.proofs.GroupJoins.{joining-append, can_join-append}
+use Rattle.dwp_base.proofs.Bools.{both as both-true}
 
 abbrev pub Units : Type 0
 Units = List (DwarfObject × Option Meaning)
@@ -115,10 +116,6 @@ parted (u ∷ us) back (v ∷ vs) h =
 none-meant : (units : Members) → [] ≡ all_meant units → units ≡ []
 none-meant [] h = refl
 none-meant (u ∷ us) h = absurd cc
-
-both-true : (a b : Bool) → (a && b) ≡ true → (a ≡ true) × (b ≡ true)
-both-true true b h = (refl, h)
-both-true false b h = absurd (true≢false (sym h))
 
 -- and the join of that list is the join of the inputs
 pub joins-all : (inputs : List (List ℕ)) (all : Units) (before added : Members) → AllMean inputs all

@@ -7,10 +7,9 @@ use Rattle.dwp_base.specs.Reading.{◌>>=◌}
 use Rattle.dwp_base.specs.Sections.{name_of}
 use Rattle.dwp_base.specs.declared.endian.Endianness.{Endianness}
 use Rattle.dwp_base.specs.declared.section.SectionKind.{SectionKind}
-use Rattle.dwp_base.specs.declared.section.SectionKind.TheVariants.{Info, Types, Abbrev, Line, Loc}
-use Rattle.dwp_base.specs.declared.section.SectionKind.TheVariants.{Loclists, Rnglists, StrOffsets}
-use Rattle.dwp_base.specs.declared.section.SectionKind.TheVariants.{Macinfo, Macro, Str, CuIndex}
-use Rattle.dwp_base.specs.declared.section.SectionKind.TheVariants.{TuIndex}
+use Rattle.dwp_base.specs.declared.section.SectionKind.TheVariants.{StrOffsets, Str}
+use Rattle.dwp_base.specs.declared.section.SectionKind.TheVariants.{CuIndex, TuIndex}
+use Rattle.dwp_base.proofs.KindsRead.{read-kind}
 use Rattle.dwp_bytes.specs.declared.encoding.Encoding.{Encoding}
 use Rattle.dwp_bytes.specs.declared.fault.ReadError.{ReadError}
 use Rattle.dwp_elf_read.specs.Elf.{Elf, SectionMeaning, elf_of}
@@ -43,9 +42,7 @@ use Rattle.thorin.specs.MeaningRead.{has_index, lies_in, unit_with, unit_of_row,
 use Rattle.thorin.specs.MeaningRead.{MeansByReader}
 use Rattle.thorin.proofs.RunTaken.{bind-was}
 use Rattle.thorin.proofs.SectionsRead.{first-is}
-
-was : {A E : Type 0} (x y : A) → ◌≡◌ {A = Result A E} (Ok x) (Ok y) → x ≡ y
-was x y h = cc
+use Rattle.dwp_base.proofs.Steps.{same-ok as was}
 
 -- ---- the package
 
@@ -54,66 +51,26 @@ fault-was : {X E F : Type 0} (f : E → F) (r : Result X E) (x : X) → reader.a
 fault-was f (Ok y) x h = ap Ok (was y x h)
 fault-was f (Err e) x h = absurd cc
 
-each-content : (ss : List SectionMeaning) (made : Sections)
-    → content_among ss Info ≡ Ok made.info → content_among ss Types ≡ Ok made.types
-    → content_among ss Abbrev ≡ Ok made.abbrev_bytes → content_among ss Line ≡ Ok made.line
-    → content_among ss Loc ≡ Ok made.loc → content_among ss Loclists ≡ Ok made.loclists
-    → content_among ss Rnglists ≡ Ok made.rnglists
-    → content_among ss StrOffsets ≡ Ok made.str_offsets
-    → content_among ss Macinfo ≡ Ok made.macinfo → content_among ss Macro ≡ Ok made.macros
-    → content_among ss Str ≡ Ok made.strings → content_among ss CuIndex ≡ Ok made.cu_index
-    → content_among ss TuIndex ≡ Ok made.tu_index
-    → (kind : SectionKind) → content_among ss kind ≡ Ok (content made kind)
-each-content ss made a b c d e f g h i j k l m Info = a
-each-content ss made a b c d e f g h i j k l m Types = b
-each-content ss made a b c d e f g h i j k l m Abbrev = c
-each-content ss made a b c d e f g h i j k l m Line = d
-each-content ss made a b c d e f g h i j k l m Loc = e
-each-content ss made a b c d e f g h i j k l m Loclists = f
-each-content ss made a b c d e f g h i j k l m Rnglists = g
-each-content ss made a b c d e f g h i j k l m StrOffsets = h
-each-content ss made a b c d e f g h i j k l m Macinfo = i
-each-content ss made a b c d e f g h i j k l m Macro = j
-each-content ss made a b c d e f g h i j k l m Str = k
-each-content ss made a b c d e f g h i j k l m CuIndex = l
-each-content ss made a b c d e f g h i j k l m TuIndex = m
-
 contents-are : (ss : List SectionMeaning) (cs : Sections) → contents_of ss ≡ Ok cs
     → (kind : SectionKind) → content_among ss kind ≡ Ok (content cs kind)
 unfolding contents_of
-contents-are ss cs z =
-    let a = bind-was (content_among ss Info) _ cs z in
-    let b = bind-was (content_among ss Types) _ cs a.2 in
-    let c = bind-was (content_among ss Abbrev) _ cs b.2 in
-    let d = bind-was (content_among ss Line) _ cs c.2 in
-    let e = bind-was (content_among ss Loc) _ cs d.2 in
-    let f = bind-was (content_among ss Loclists) _ cs e.2 in
-    let g = bind-was (content_among ss Rnglists) _ cs f.2 in
-    let h = bind-was (content_among ss StrOffsets) _ cs g.2 in
-    let i = bind-was (content_among ss Macinfo) _ cs h.2 in
-    let j = bind-was (content_among ss Macro) _ cs i.2 in
-    let k = bind-was (content_among ss Str) _ cs j.2 in
-    let l = bind-was (content_among ss CuIndex) _ cs k.2 in
-    let m = bind-was (content_among ss TuIndex) _ cs l.2 in
-    subst (λ made. (kind : SectionKind) → content_among ss kind ≡ Ok (content made kind))
-    (was _ cs m.2)
-    (each-content ss _ a.1 b.1 c.1 d.1 e.1 f.1 g.1 h.1 i.1 j.1 k.1 l.1 m.1)
+contents-are ss cs read = read-kind (content_among ss) cs [] read
 
 record Parsed (bytes : List ℕ) (pack : Package) : Type 0 where
   file : Elf
   is : elf_of bytes ≡ Ok file
   order : pack.order ≡ file.order
   each : (kind : SectionKind) → content_among file.sections kind ≡ Ok (content pack.contents kind)
-  compilations : index_in_section file.order pack.contents.cu_index ≡ Ok pack.compilations
-  types : index_in_section file.order pack.contents.tu_index ≡ Ok pack.types
+  compilations : index_in_section file.order (content pack.contents CuIndex) ≡ Ok pack.compilations
+  types : index_in_section file.order (content pack.contents TuIndex) ≡ Ok pack.types
 
 parsed : (bytes : List ℕ) (pack : Package) → package_of bytes ≡ Ok pack → Parsed bytes pack
 unfolding package_of
 parsed bytes pack h =
     let s1 = bind-was (reader.as_fault faults.Elf (elf_of bytes)) _ pack h in
     let s2 = bind-was (reader.as_fault faults.Elf (contents_of s1.0.sections)) _ pack s1.2 in
-    let s3 = bind-was (index_in_section s1.0.order s2.0.cu_index) _ pack s2.2 in
-    let s4 = bind-was (index_in_section s1.0.order s2.0.tu_index) _ pack s3.2 in
+    let s3 = bind-was (index_in_section s1.0.order (content s2.0 CuIndex)) _ pack s2.2 in
+    let s4 = bind-was (index_in_section s1.0.order (content s2.0 TuIndex)) _ pack s3.2 in
     subst (Parsed bytes) (was _ pack s4.2) (record {
       file = s1.0;
       is = fault-was faults.Elf (elf_of bytes) s1.0 s1.1;
@@ -222,7 +179,7 @@ module _ (source : Source) (pack : Package) (alike : IsReadAs source.object sour
       (strings_of (alike.order i) source.encoding
       (alike.each Str i) (part_of (alike.each StrOffsets i) (range_in row StrOffsets)))) None)
       ∙ ap (λ m. cond (lies_in pack row) m None) (with-alike bytes row
-      (strings_of pack.order source.encoding pack.contents.strings
+      (strings_of pack.order source.encoding (content pack.contents Str)
       (row_bytes pack.contents row StrOffsets)))
 
   index-alike : (name : DwarfObject) → index_for source.indexes name ≡ reader.index_for pack name

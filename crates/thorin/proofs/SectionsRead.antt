@@ -1,17 +1,17 @@
 -- The sections of an input are those that a reader of packages has.
 use Rattle.std.proofs.Common.{◌≡◌, ◌∙◌, ℕ, zero, suc, Bool, true, false, cond, ◌&&◌, ◌||◌, List, []}
 use Rattle.std.proofs.Common.{◌∷◌, ◌++◌, refl, sym, ap, subst, Option, Some, None, Result, Ok, Err}
-use Rattle.std.proofs.Common.{is_some, filter, find, slice_get, bytes_eq}
+use Rattle.std.proofs.Common.{is_some, find, slice_get, bytes_eq, not}
 use Rattle.std.proofs.lemmas.Option.{same_Some}
 use Rattle.std.proofs.lemmas.Slice.Eq.{bytes_eq-Decides}
+use Rattle.std.specs.List.{list_all}
 use Rattle.dwp_base.specs.Reading.{◌>>=◌}
 use Rattle.dwp_base.specs.Sections.{name_of, compressed_name_of, is_named, all_kinds, rank_of}
 use Rattle.dwp_base.specs.Sections.{same_kind}
 use Rattle.dwp_base.specs.declared.section.SectionKind.{SectionKind}
-use Rattle.dwp_base.specs.declared.section.SectionKind.TheVariants.{Info, Types, Abbrev, Line, Loc}
-use Rattle.dwp_base.specs.declared.section.SectionKind.TheVariants.{Loclists, Rnglists, StrOffsets}
-use Rattle.dwp_base.specs.declared.section.SectionKind.TheVariants.{Macinfo, Macro, Str, CuIndex}
-use Rattle.dwp_base.specs.declared.section.SectionKind.TheVariants.{TuIndex}
+use Rattle.dwp_base.proofs.Bools.{both}
+use Rattle.dwp_base.proofs.EveryKind.{at-rank, every-two, is-same, same-self}
+use Rattle.dwp_base.proofs.Steps.{bind-was, same-ok}
 use Rattle.dwp_elf_read.specs.Elf.{SectionMeaning}
 use Rattle.dwp_index.specs.Contents as reader
 use Rattle.dwp_index.specs.Contents.{has_name, is_of_kind, content_among}
@@ -19,147 +19,27 @@ use Rattle.thorin_errors.specs.Fault.{Fault}
 use Rattle.thorin_errors.specs.Answers.{as_fault}
 use Rattle.thorin_input.specs.Used.{Used, used_kind, counts_once, used_bytes, has_kind, with_used}
 use Rattle.thorin_input.specs.Used.{used_from, bytes_of, first}
-use Rattle.thorin.proofs.RunTaken.{bind-was}
-
-was : {A E : Type 0} (x y : A) → ◌≡◌ {A = Result A E} (Ok x) (Ok y) → x ≡ y
-was x y h = cc
 
 -- ---- no name is that of two kinds
 
-at-rank : (kind : SectionKind) → slice_get all_kinds (rank_of kind) ≡ Some kind
-at-rank Info = refl
-at-rank Types = refl
-at-rank Abbrev = refl
-at-rank Line = refl
-at-rank Loc = refl
-at-rank Loclists = refl
-at-rank Rnglists = refl
-at-rank StrOffsets = refl
-at-rank Macinfo = refl
-at-rank Macro = refl
-at-rank Str = refl
-at-rank CuIndex = refl
-at-rank TuIndex = refl
-
-same-self : (kind : SectionKind) → same_kind kind kind ≡ true
-same-self Info = refl
-same-self Types = refl
-same-self Abbrev = refl
-same-self Line = refl
-same-self Loc = refl
-same-self Loclists = refl
-same-self Rnglists = refl
-same-self StrOffsets = refl
-same-self Macinfo = refl
-same-self Macro = refl
-same-self Str = refl
-same-self CuIndex = refl
-same-self TuIndex = refl
-
-by-name : (kind : SectionKind) → filter (is_named (name_of kind)) all_kinds ≡ kind ∷ []
-by-name Info = refl
-by-name Types = refl
-by-name Abbrev = refl
-by-name Line = refl
-by-name Loc = refl
-by-name Loclists = refl
-by-name Rnglists = refl
-by-name StrOffsets = refl
-by-name Macinfo = refl
-by-name Macro = refl
-by-name Str = refl
-by-name CuIndex = refl
-by-name TuIndex = refl
-
-by-older : (kind : SectionKind) → filter (is_named (compressed_name_of kind)) all_kinds ≡ kind ∷ []
-by-older Info = refl
-by-older Types = refl
-by-older Abbrev = refl
-by-older Line = refl
-by-older Loc = refl
-by-older Loclists = refl
-by-older Rnglists = refl
-by-older StrOffsets = refl
-by-older Macinfo = refl
-by-older Macro = refl
-by-older Str = refl
-by-older CuIndex = refl
-by-older TuIndex = refl
-
-same-kinds : (kind : SectionKind) → filter (λ k. same_kind k kind) all_kinds ≡ kind ∷ []
-same-kinds Info = refl
-same-kinds Types = refl
-same-kinds Abbrev = refl
-same-kinds Line = refl
-same-kinds Loc = refl
-same-kinds Loclists = refl
-same-kinds Rnglists = refl
-same-kinds StrOffsets = refl
-same-kinds Macinfo = refl
-same-kinds Macro = refl
-same-kinds Str = refl
-same-kinds CuIndex = refl
-same-kinds TuIndex = refl
-
-none-in : {X : Type 0} (p : X → Bool) (xs : List X) (r : ℕ) (k : X) → filter p xs ≡ []
-    → slice_get xs r ≡ Some k → p k ≡ true → ⊥
-none-in p [] r k h g t = absurd cc
-none-in p (x ∷ xs) zero k h g t =
-    let here : p x ≡ true = ap p (same_Some x k g) ∙ t in
-    let some : x ∷ filter p xs ≡ [] = sym (ap (λ b. cond b (x ∷ filter p xs) (filter p xs)) here)
-    ∙ h in
-    absurd cc
-none-in {X} p (x ∷ xs) (suc r) k h g t = by (p x) h (λ e. none-in p xs r k e g t)
-  where
-    by : (b : Bool) → ◌≡◌ {A = List X} (cond b (x ∷ filter p xs) (filter p xs)) []
-        → (filter p xs ≡ [] → ⊥) → ⊥
-    by true e later = absurd cc
-    by false e later = later e
-
-one-in : {X : Type 0} (p : X → Bool) (xs : List X) (r : ℕ) (j k : X) → filter p xs ≡ j ∷ []
-    → slice_get xs r ≡ Some k → p k ≡ true → k ≡ j
-one-in p [] r j k h g t = absurd cc
-one-in p (x ∷ xs) zero j k h g t =
-    let same : x ≡ k = same_Some x k g in
-    let here : p x ≡ true = ap p same ∙ t in
-    let some : x ∷ filter p xs ≡ j ∷ [] =
-    sym (ap (λ b. cond b (x ∷ filter p xs) (filter p xs)) here) ∙ h in
-    let head : x ≡ j = cc in
-    sym same ∙ head
-one-in {X} p (x ∷ xs) (suc r) j k h g t = by (p x) h (λ e. one-in p xs r j k e g t)
-  where
-    by : (b : Bool) → ◌≡◌ {A = List X} (cond b (x ∷ filter p xs) (filter p xs)) (j ∷ [])
-        → (filter p xs ≡ j ∷ [] → k ≡ j) → k ≡ j
-    by true e later = let tail : filter p xs ≡ [] = cc in absurd (none-in p xs r k tail g t)
-    by false e later = later e
-
-is-same : (j k : SectionKind) → same_kind j k ≡ true → j ≡ k
-is-same j k h = one-in (λ a. same_kind a k) all_kinds (rank_of j) k j (same-kinds k) (at-rank j) h
+no-other : (spelling : SectionKind → List ℕ)
+    → list_all (λ a. list_all (λ b. not (is_named (spelling a) b) || same_kind a b) all_kinds)
+    all_kinds ≡ true → (name : List ℕ) (j k : SectionKind) → bytes_eq name (spelling j) ≡ true
+    → is_named name k ≡ true → k ≡ j
+no-other spelling all name j k e g =
+    let same : name ≡ spelling j = (bytes_eq-Decides name (spelling j)).0 e in
+    let named : is_named (spelling j) k ≡ true = ap (λ n. is_named n k) (sym same) ∙ g in
+    sym (is-same j k (ap (λ b. not b || same_kind j k) (sym named)
+    ∙ every-two (λ a b. not (is_named (spelling a) b) || same_kind a b) all j k))
 
 one-kind : (name : List ℕ) (j k : SectionKind) → is_named name j ≡ true → is_named name k ≡ true
     → k ≡ j
 one-kind name j k h g = by (bytes_eq name (name_of j)) refl
   where
     by : (b : Bool) → bytes_eq name (name_of j) ≡ b → k ≡ j
-    by true e =
-        let same : name ≡ name_of j = (bytes_eq-Decides name (name_of j)).0 e in
-        one-in (is_named (name_of j)) all_kinds (rank_of k) j k (by-name j) (at-rank k)
-        (subst (λ n. is_named n k ≡ true) same g)
-    by false e =
-        let older : bytes_eq name (compressed_name_of j) ≡ true =
-        sym (ap (λ b. b || bytes_eq name (compressed_name_of j)) e) ∙ h in
-        let same : name ≡ compressed_name_of j =
-        (bytes_eq-Decides name (compressed_name_of j)).0 older in
-        one-in (is_named (compressed_name_of j)) all_kinds (rank_of k) j k (by-older j) (at-rank k)
-        (subst (λ n. is_named n k ≡ true) same g)
-
-and-right : (a b : Bool) → (a && b) ≡ true → b ≡ true
-and-right true b h = h
-and-right false b h = absurd cc
-
-and-none : (a : Bool) → (a && false) ≡ false
-and-none true = refl
-and-none false = refl
+    by true e = no-other name_of refl name j k e g
+    by false e = no-other compressed_name_of refl name j k
+        (sym (ap (λ b. b || bytes_eq name (compressed_name_of j)) e) ∙ h) g
 
 kinds-of : (name : Option (List ℕ)) (j k : SectionKind) → has_name j name ≡ true
     → has_name k name ≡ true → k ≡ j
@@ -169,8 +49,8 @@ kinds-of (Some name) j k h g = one-kind name j k h g
 one-of : (s : SectionMeaning) (j k : SectionKind) → is_of_kind j s ≡ true → is_of_kind k s ≡ true
     → k ≡ j
 unfolding is_of_kind
-one-of s j k h g =
-    kinds-of s.name j k (and-right _ (has_name j s.name) h) (and-right _ (has_name k s.name) g)
+one-of s j k h g = kinds-of s.name j k (both _ (has_name j s.name) h).1
+    (both _ (has_name k s.name) g).1
 
 not-both : (s : SectionMeaning) (j k : SectionKind) → is_of_kind j s ≡ true
     → same_kind j k ≡ false → is_of_kind k s ≡ false
@@ -241,24 +121,24 @@ with-stays : (k : SectionKind) (u : Used) (s : SectionMeaning) (before after : L
     (o : Option SectionKind) → find (has_kind k) before ≡ Some u
     → with_used before s o ≡ Ok after → find (has_kind k) after ≡ Some u
 with-stays k u s before after None f h =
-    subst (λ l. find (has_kind k) l ≡ Some u) (was before after h) f
+    subst (λ l. find (has_kind k) l ≡ Some u) (same-ok before after h) f
 with-stays k u s before after (Some j) f h =
     by (counts_once j && is_some (find (has_kind j) before)) h
   where
     by : (b : Bool) → cond {A = Result (List Used) Fault} b (Ok before)
         (used_bytes j s >>= λ bytes. Ok (before ++ used-one j s bytes ∷ [])) ≡ Ok after
         → find (has_kind k) after ≡ Some u
-    by true e = subst (λ l. find (has_kind k) l ≡ Some u) (was before after e) f
+    by true e = subst (λ l. find (has_kind k) l ≡ Some u) (same-ok before after e) f
     by false e =
         let t = bind-was (used_bytes j s) _ after e in
-        subst (λ l. find (has_kind k) l ≡ Some u) (was _ after t.2)
+        subst (λ l. find (has_kind k) l ≡ Some u) (same-ok _ after t.2)
         (find-more (has_kind k) before (used-one j s t.0 ∷ []) u f)
 
 stays : (k : SectionKind) (u : Used) (ss : List SectionMeaning) (before after : List Used)
     → find (has_kind k) before ≡ Some u → used_from before ss ≡ Ok after
     → find (has_kind k) after ≡ Some u
 unfolding used_from
-stays k u [] before after f h = subst (λ l. find (has_kind k) l ≡ Some u) (was before after h) f
+stays k u [] before after f h = subst (λ l. find (has_kind k) l ≡ Some u) (same-ok before after h) f
 stays k u (s ∷ ss) before after f h =
     let t = bind-was (with_used before s (used_kind s)) _ after h in
     stays k u ss t.0 after (with-stays k u s before t.0 (used_kind s) f t.1) t.2
@@ -272,11 +152,11 @@ with-other k j s before after other f h =
     by : (b : Bool) → cond {A = Result (List Used) Fault} b (Ok before)
         (used_bytes j s >>= λ bytes. Ok (before ++ used-one j s bytes ∷ [])) ≡ Ok after
         → find (has_kind k) after ≡ None
-    by true e = subst (λ l. find (has_kind k) l ≡ None) (was before after e) f
+    by true e = subst (λ l. find (has_kind k) l ≡ None) (same-ok before after e) f
     by false e =
         let t = bind-was (used_bytes j s) _ after e in
         let one = used-one j s t.0 in
-        subst (λ l. find (has_kind k) l ≡ None) (was _ after t.2)
+        subst (λ l. find (has_kind k) l ≡ None) (same-ok _ after t.2)
         (find-last (has_kind k) before one f ∙ ap (λ b. cond b (Some one) None) other)
 
 as-given : {X E : Type 0} (f : E → Fault) (r : Result X E) (x y : X) → as_fault f r ≡ Ok x
@@ -290,6 +170,10 @@ record IsUsed (k : SectionKind) (s : SectionMeaning) (bytes : List ℕ)
   one : Used
   found : find (has_kind k) after ≡ Some one
   same : one.bytes ≡ bytes
+
+and-none : (a : Bool) → (a && false) ≡ false
+and-none true = refl
+and-none false = refl
 
 with-first : (k : SectionKind) (s : SectionMeaning) (before after : List Used) (bytes : List ℕ)
     → find (has_kind k) before ≡ None → with_used before s (Some k) ≡ Ok after
@@ -305,7 +189,7 @@ with-first k s before after bytes f h c =
     let one = used-one k s t.0 in
     record {
       one = one;
-      found = subst (λ l. find (has_kind k) l ≡ Some one) (was _ after t.2)
+      found = subst (λ l. find (has_kind k) l ≡ Some one) (same-ok _ after t.2)
           (find-last (has_kind k) before one f
           ∙ ap (λ b. cond b (Some one) None) (same-self k));
       same = as-given _ (reader.used_bytes k s) t.0 bytes t.1 c;
@@ -360,7 +244,7 @@ one-more : (k : SectionKind) (s : SectionMeaning) (ss : List SectionMeaning)
     → with_used before s o ≡ Ok next → used_from next ss ≡ Ok after
     → Later k ss after bytes → first k after ≡ bytes
 one-more k s ss before next after bytes f c None is w rest later =
-    later next (subst (λ l. find (has_kind k) l ≡ None) (was before next w) f) rest
+    later next (subst (λ l. find (has_kind k) l ≡ None) (same-ok before next w) f) rest
     (content-pass k s ss bytes (kind-none s k is) c)
 one-more k s ss before next after bytes f c (Some j) is w rest later =
     one-some k j s ss before next after bytes f c (kind-found s j is) w rest later
@@ -372,7 +256,7 @@ pub first-is : (k : SectionKind) (ss : List SectionMeaning) (before after : List
     → content_among ss k ≡ Ok bytes → first k after ≡ bytes
 unfolding used_from content_among
 first-is k [] before after bytes f h c =
-    ap bytes_of (ap (find (has_kind k)) (sym (was before after h)) ∙ f) ∙ was [] bytes c
+    ap bytes_of (ap (find (has_kind k)) (sym (same-ok before after h)) ∙ f) ∙ same-ok [] bytes c
 first-is k (s ∷ ss) before after bytes f h c =
     let t = bind-was (with_used before s (used_kind s)) _ after h in
     one-more k s ss before t.0 after bytes f c (used_kind s) refl t.1 t.2

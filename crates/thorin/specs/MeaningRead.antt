@@ -18,6 +18,7 @@ use Rattle.thorin_input.specs.Used.{opened, input_file_of}
 use Rattle.thorin_join.specs.Meaning.{Meaning, UnitRead, pieces_by, shared_kinds, placed_row}
 use Rattle.thorin_join.specs.Meaning.{source_units}
 use Rattle.thorin_join.specs.Strings.{strings_of}
+use Rattle.dwp_base.specs.declared.section.SectionKind.TheVariants.{Str}
 
 -- a package has an index
 abbrev pub has_index : Package → Bool
@@ -44,7 +45,8 @@ unit_with pack encoding bytes row (Err e) = None
 abbrev pub unit_of_row : Package → Encoding → List ℕ → Ranges → Option Meaning
 unit_of_row pack encoding bytes row =
     if lies_in pack row
-    then unit_with pack encoding bytes row (strings_of pack.order encoding pack.contents.strings
+    then unit_with pack encoding bytes row (strings_of pack.order encoding
+    (content pack.contents Str)
     (row_bytes pack.contents row StrOffsets))
     else None
 

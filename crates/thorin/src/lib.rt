@@ -10,7 +10,7 @@ pub mod laws;
 mod packing;
 
 pub use bumpalo::Bump;
-pub use dwp_base::{Class, Contribution, ContributionOffset, Endianness, SectionKind};
+pub use dwp_base::{ByKind, Class, Contribution, ContributionOffset, Endianness, SectionKind};
 pub use dwp_bytes::{
     Encoding, Format, ReadError, Reader, Relocate, Relocation, RelocationEntry, SliceReader,
     WriteError as DwarfWriteError,

@@ -18,6 +18,8 @@ use Rattle.thorin_input.specs.Used.{InputFile, opened, input_file_of}
 use Rattle.thorin_again.specs.Again.{input_encoding, HaveEncodingOf}
 use Rattle.thorin_join.specs.Join.{GivesUnit, GivesNone, look_limit}
 use Rattle.thorin_join.specs.Meaning.{Meaning, Members}
+use Rattle.dwp_index.specs.Contents.{content}
+use Rattle.dwp_base.specs.declared.section.SectionKind.TheVariants.{Str}
 
 -- each unit of an input, passed over or not, has the encoding of the first unit of its first info
 -- section
@@ -37,7 +39,7 @@ pub record GivesWhole (pack : Package) (name : DwarfObject) (most : ℕ)
   pub gives : GivesUnit pack name most unit
   pub encoding : gives.found.encoding ≡ unit.encoding
   pub string : (i : ℕ) → string_in gives.found.order gives.found.encoding
-      gives.found.contents.strings
+      (content gives.found.contents Str)
       (row_bytes gives.found.contents gives.found.row StrOffsets) i ≡ Ok (slice_get unit.strings i)
 
 -- bytes are a package in which looking up any name gives just the unit of that name among these,

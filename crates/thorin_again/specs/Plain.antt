@@ -1,12 +1,11 @@
 -- A package that is made of plain objects of one encoding, each of which added a unit (DWARF 5,
 -- 7.3.5).
-use Rattle.std.specs.Prelude.{◌≡◌, ℕ, ◌+◌, ◌*◌, ◌<◌, Bool, true, ◌||◌, ◌⊎◌, List, [], ◌∷◌, length}
+use Rattle.std.specs.Prelude.{◌≡◌, ℕ, ◌+◌, ◌*◌, ◌<◌, true, ◌⊎◌, List, [], ◌∷◌, length}
 use Rattle.std.specs.Prelude.{take, Some, Ok}
 use Rattle.dwp_base.specs.declared.endian.Endianness.{Endianness}
 use Rattle.dwp_base.specs.declared.section.Contribution.{Contribution}
 use Rattle.dwp_base.specs.declared.section.SectionKind.{SectionKind}
 use Rattle.dwp_base.specs.declared.section.SectionKind.TheVariants.{Info, Abbrev, StrOffsets}
-use Rattle.dwp_base.specs.Sections.{same_kind}
 use Rattle.dwp_bytes.specs.Encoding.{offset_size}
 use Rattle.dwp_bytes.specs.Input.{Input, section}
 use Rattle.dwp_bytes.specs.StringOffsets.{header_size}
@@ -22,13 +21,9 @@ use Rattle.thorin_strings.specs.StringOffsets.{header_of}
 use Rattle.thorin_strings.specs.Strings.{IsTable, data_of}
 use Rattle.thorin_join.specs.Builder.{State}
 use Rattle.thorin_input.specs.Growing.{Contents}
-use Rattle.thorin_input.specs.Format.{is_copied}
+use Rattle.thorin_input.specs.Format.{is_shared}
 use Rattle.thorin_join.specs.StandApart.{EachRow}
 use Rattle.thorin_join.specs.State.{InProgress, unit_bytes}
-
--- a section that units share
-abbrev pub is_shared : SectionKind → Bool
-is_shared kind = is_copied kind || same_kind kind StrOffsets
 
 -- each shared section that has bytes has a part that some row names
 abbrev pub HasNamedParts : InProgress → Type 0

@@ -15,7 +15,6 @@ use Rattle.std.specs.Prelude.{String, string_bytes, string_eq, take, drop, lengt
 use Rattle.std.specs.Str.{bytes_eq}
 use Rattle.std.specs.declared.io.Error.{Error as IoError}
 use Rattle.indexmap.specs.IndexMap.{insert_entry}
-use Rattle.dwp_base.specs.Reading.{◌>>=◌}
 use Rattle.dwp_base.specs.declared.endian.Endianness.{Endianness}
 use Rattle.dwp_base.specs.declared.endian.Endianness.TheVariants.{Little, Big}
 use Rattle.dwp_bytes.specs.declared.encoding.Encoding.{Encoding}
@@ -50,11 +49,7 @@ use Rattle.thorin_builder.specs.declared.in_progress.InProgressDwarfPackage.{InP
 use Rattle.thorin_builder.proofs.PartsApart.{parts-apart, held-apart}
 use Rattle.thorin_builder.proofs.UnitsLater.{units-later}
 use Rattle.thorin_builder.proofs.StringsLater.{parts-later}
-
--- a step that gives x goes on with it
-bind-ok : {A B E : Type 0} (r : Result A E) (x : A) (f : A → Result B E) → r ≡ Ok x
-    → (r >>= f) ≡ f x
-bind-ok r x f h = ap (λ q. q >>= f) h
+use Rattle.dwp_base.proofs.Steps.{bind-ok}
 
 -- ---- packages that another one became
 

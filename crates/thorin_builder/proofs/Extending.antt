@@ -15,12 +15,7 @@ use Rattle.thorin_join.specs.State.{InProgress, Extends, with_source, with_all, 
 use Rattle.thorin_join.specs.State.{abbreviations_test, adding}
 use Rattle.thorin_input.specs.Used.{InputFile}
 use Rattle.thorin_builder.proofs.Grown.{is_grown-refl}
-use Rattle.dwp_base.specs.Reading.{◌>>=◌}
-
--- a step that gives x goes on with it
-bind-ok : {A B E : Type 0} (r : Result A E) (x : A) (f : A → Result B E) → r ≡ Ok x
-    → (r >>= f) ≡ f x
-bind-ok r x f h = ap (λ q. q >>= f) h
+use Rattle.dwp_base.proofs.Steps.{bind-ok}
 
 -- what stands at the front of a list isn't longer than it
 at_most : {A : Type 0} (a b : List A) → take (length a) b ≡ a → length a ≤ length b

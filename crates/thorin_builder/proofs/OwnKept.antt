@@ -1,19 +1,14 @@
 -- The one encoding that a builder holds, as a step with an input leaves it.
 use Rattle.std.proofs.Common.{◌≡◌, ◌∙◌, ℕ, ◌<◌, ◌≤◌, true, false, cond, List, length, refl, sym, ap}
-use Rattle.std.proofs.Common.{Result, Ok, Option, Some, None, arith, true≢false}
+use Rattle.std.proofs.Common.{Ok, Option, Some, None, arith, true≢false}
 use Rattle.std.specs.Prelude.{is_some, is_none}
 use Rattle.std.proofs.lemmas.Bool.{le-ltb, lt-ltb}
-use Rattle.dwp_base.specs.Reading.{◌>>=◌}
 use Rattle.dwp_bytes.specs.declared.encoding.Encoding.{Encoding}
 use Rattle.thorin_input.specs.Encodings.{own_encoding, common}
 use Rattle.thorin_join.specs.Builder.{State, taken, with_input, with_own, own_after, names_in}
 use Rattle.thorin_again.specs.OwnUnits.{HoldsOwn, HasOneEncoding}
 use Rattle.thorin_join.specs.State.{InProgress}
-
--- a step that gives x goes on with it
-bind-ok : {A B E : Type 0} (r : Result A E) (x : A) (f : A → Result B E) → r ≡ Ok x
-    → (r >>= f) ≡ f x
-bind-ok r x f h = ap (λ q. q >>= f) h
+use Rattle.dwp_base.proofs.Steps.{bind-ok}
 
 -- a builder whose inputs have one encoding
 pub one-of : (state : State) → HoldsOwn state → is_some state.own ≡ true → HasOneEncoding state

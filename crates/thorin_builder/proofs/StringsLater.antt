@@ -32,6 +32,8 @@ use Rattle.thorin_input.specs.InputStrings.{rewritten}
 use Rattle.thorin_input.specs.Parts.{has_part, stands_once, with_offsets, with_part, with_each_part}
 use Rattle.thorin_input.specs.Parts.{parts_of}
 use Rattle.thorin_input.specs.Used.{Used, first}
+use Rattle.dwp_base.proofs.Steps.{bind-ok, bind-was as bind-inv}
+use Rattle.dwp_base.proofs.Bools.{or-right}
 
 abbrev Strings : Type 0
 Strings = List (List ℕ)
@@ -62,15 +64,6 @@ record Later {W : Type 0} (step : Strings → Result (W × Strings) Fault) (befo
 abbrev Keeps : {W : Type 0} → (Strings → Result (W × Strings) Fault) → Type 0
 Keeps {W} step = (before : Strings) (given : W × Strings) → step before ≡ Ok given
     → Later step before given
-
-bind-ok : {A B E : Type 0} (r : Result A E) (x : A) (f : A → Result B E) → r ≡ Ok x
-    → (r >>= f) ≡ f x
-bind-ok r x f h = ap (λ q. q >>= f) h
-
-bind-inv : {A B E : Type 0} (r : Result A E) (f : A → Result B E) (y : B) → (r >>= f) ≡ Ok y
-    → (x : A) × (r ≡ Ok x) × (f x ≡ Ok y)
-bind-inv (Ok x) f y h = (x, refl, h)
-bind-inv (Err e) f y h = absurd cc
 
 ok-eq : {X E : Type 0} (x y : X) → ◌≡◌ {A = Result X E} (Ok x) (Ok y) → x ≡ y
 ok-eq x y h = cc
@@ -117,10 +110,6 @@ has ss s = list_any (λ t. bytes_eq t s) ss
 
 itself : (s : List ℕ) → bytes_eq s s ≡ true
 itself s = (bytes_eq-Decides s s).1 refl
-
-or-right : (b c : Bool) → c ≡ true → (b || c) ≡ true
-or-right true c h = refl
-or-right false c h = h
 
 has-by : (b r q : Bool) → (b || r) ≡ true → (r ≡ true → q ≡ true) → (b || q) ≡ true
 has-by true r q h more = refl

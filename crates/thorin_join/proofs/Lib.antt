@@ -1,4 +1,5 @@
 pub mod Steps
+pub mod EachKind
 pub mod Moved
 pub mod Parts
 pub mod Rows

@@ -18,10 +18,12 @@ use Rattle.dwp_index.specs.Naming.{entries_of}
 use Rattle.dwp_table.specs.Objects.{identifier_of}
 use Rattle.dwp_table.specs.declared.object.DwarfObject.{DwarfObject}
 use Rattle.dwp_table.specs.declared.object.DwarfObject.TheVariants.{Compilation, TypeUnit}
-use Rattle.thorin_join.specs.Meaning.{Meaning, Members, piece, keys, input_meaning, joining}
+use Rattle.thorin_join.specs.Meaning.{Meaning, Members, keys, input_meaning, joining}
 use Rattle.thorin_join.specs.Meaning.{can_join}
 use Rattle.thorin_input.specs.Names.{same_name, is_compilation}
 use Rattle.thorin_input.specs.Format.{is_copied}
+use Rattle.dwp_index.specs.Contents.{content as section_content}
+use Rattle.dwp_base.specs.declared.section.SectionKind.TheVariants.{Str}
 
 -- an input joins its units to those before: a type unit whose name is there is passed over, no
 -- compilation unit is, and all that belongs to each unit that is added is there
@@ -44,10 +46,10 @@ JoinAll (bytes ∷ rest) before now =
 -- input's encoding
 pub record IsUnit (found : index.FoundUnit) (unit : Meaning) : Type 0 where
   pub bytes : found.bytes ≡ unit.bytes
-  pub content : (kind : SectionKind) → is_copied kind ≡ true
-      → row_bytes found.contents found.row kind ≡ piece unit.pieces kind
+  pub content : (kind : SectionKind) (copied : is_copied kind ≡ true)
+      → row_bytes found.contents found.row kind ≡ unit.pieces kind copied
   pub string : found.encoding ≡ unit.encoding → (i : ℕ)
-      → string_in found.order found.encoding found.contents.strings
+      → string_in found.order found.encoding (section_content found.contents Str)
       (row_bytes found.contents found.row StrOffsets) i ≡ Ok (slice_get unit.strings i)
 
 -- a look-up gave that unit

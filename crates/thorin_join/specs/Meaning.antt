@@ -1,14 +1,13 @@
 -- What an input means: its units by name, in file order, with all that belongs to each; and how
 -- such lists are joined (DWARF 5, 7.3.5; the GNU page DebugFissionDWP).
-use Rattle.std.specs.Prelude.{ℕ, Bool, true, not, ◌&&◌, ◌+◌, ◌*◌, List, [], ◌∷◌, ◌++◌, map, take}
-use Rattle.std.specs.Prelude.{length, find, is_none, Option, Some, None, Result, Ok, Err}
+use Rattle.std.specs.Prelude.{◌≡◌, ℕ, Bool, true, not, ◌&&◌, ◌+◌, ◌*◌, List, [], ◌∷◌, ◌++◌, map}
+use Rattle.std.specs.Prelude.{take}
+use Rattle.std.specs.Prelude.{filter, length, find, is_none, Option, Some, None, Result, Ok, Err}
 use Rattle.std.specs.Prelude.{if◌then◌else◌}
 use Rattle.std.specs.List.{list_any}
 use Rattle.std.specs.Option.{option_and_then}
 use Rattle.dwp_base.specs.declared.section.SectionKind.{SectionKind}
-use Rattle.dwp_base.specs.declared.section.SectionKind.TheVariants.{Abbrev, Line, Loc, Loclists}
-use Rattle.dwp_base.specs.declared.section.SectionKind.TheVariants.{Rnglists, StrOffsets, Macinfo}
-use Rattle.dwp_base.specs.declared.section.SectionKind.TheVariants.{Macro, Str}
+use Rattle.dwp_base.specs.declared.section.SectionKind.TheVariants.{StrOffsets, Str}
 use Rattle.dwp_base.specs.declared.section.Contribution.{Contribution}
 use Rattle.dwp_base.specs.Reading.{◌>>=◌}
 use Rattle.dwp_base.specs.Sections.{same_kind}
@@ -21,11 +20,13 @@ use Rattle.dwp_dwarf.specs.Units.{Unit as Header, units}
 use Rattle.dwp_dwarf.specs.declared.unit.UnitSection.{UnitSection}
 use Rattle.dwp_index.specs.Index.{Index, Ranges, row_in, range_in}
 use Rattle.dwp_index.specs.Package.{part_of, is_outside}
+use Rattle.dwp_table.specs.Columns.{contribution_kinds}
 use Rattle.dwp_table.specs.declared.object.DwarfObject.{DwarfObject}
 use Rattle.thorin_packaged.specs.RowPlaces.{row_by_place}
 use Rattle.thorin_errors.specs.Fault.{Fault, ParseUnitHeader}
 use Rattle.thorin_errors.specs.Answers.{as_fault}
 use Rattle.thorin_input.specs.Encodings.{encoding_of}
+use Rattle.thorin_input.specs.Format.{is_copied, is_shared}
 use Rattle.thorin_input.specs.Indexes.{Source, is_package, index_for, indexes_of}
 use Rattle.thorin_input.specs.Names.{same_name, is_compilation}
 use Rattle.thorin_input.specs.NewUnits.{name_for, unit_section}
@@ -33,38 +34,15 @@ use Rattle.thorin_input.specs.Rows.{own_range}
 use Rattle.thorin_join.specs.Strings.{strings_of}
 use Rattle.thorin_input.specs.Used.{Used, InputFile, opened, has_info, input_file_of, first}
 
--- a unit's part of each kind of section that is kept as it is
-pub record Pieces : Type 0 where
-  pub abbreviations : List ℕ
-  pub line : List ℕ
-  pub loc : List ℕ
-  pub loclists : List ℕ
-  pub rnglists : List ℕ
-  pub macinfo : List ℕ
-  pub macros : List ℕ
-
--- the piece of a kind; other kinds have none
-abbrev pub piece : Pieces → SectionKind → List ℕ
-piece pieces Abbrev = pieces.abbreviations
-piece pieces Line = pieces.line
-piece pieces Loc = pieces.loc
-piece pieces Loclists = pieces.loclists
-piece pieces Rnglists = pieces.rnglists
-piece pieces Macinfo = pieces.macinfo
-piece pieces Macro = pieces.macros
-piece pieces _ = []
+-- a unit's part of each kind of section that is kept as it is; the proof is asked so that nothing
+-- is
+-- said of other kinds
+abbrev pub Pieces : Type 0
+Pieces = (kind : SectionKind) → is_copied kind ≡ true → List ℕ
 
 -- these bytes of each kind
 abbrev pub pieces_by : (SectionKind → List ℕ) → Pieces
-pieces_by bytes = record {
-  abbreviations = bytes Abbrev;
-  line = bytes Line;
-  loc = bytes Loc;
-  loclists = bytes Loclists;
-  rnglists = bytes Rnglists;
-  macinfo = bytes Macinfo;
-  macros = bytes Macro;
-}
+pieces_by bytes kind copied = bytes kind
 
 -- all that belongs to a unit: its bytes, its pieces, its strings in the order of their offsets, and
 -- its input's encoding
@@ -110,7 +88,7 @@ offsets_by source (Some row) =
 
 -- the kinds of section that units share
 abbrev pub shared_kinds : List SectionKind
-shared_kinds = Abbrev ∷ Line ∷ Loc ∷ Loclists ∷ Rnglists ∷ StrOffsets ∷ Macinfo ∷ Macro ∷ []
+shared_kinds = filter is_shared contribution_kinds
 
 -- the ranges of a row lie inside their sections
 abbrev pub lie_inside : Source → Option Ranges → Bool

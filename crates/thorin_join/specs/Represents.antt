@@ -20,7 +20,7 @@ use Rattle.thorin_index.specs.declared.entry.IndexEntry.{IndexEntry}
 use Rattle.thorin_join.specs.Builder.{State}
 use Rattle.thorin_input.specs.Growing.{Contents}
 use Rattle.thorin_join.specs.Laid.{IsLaid}
-use Rattle.thorin_join.specs.Meaning.{Meaning, Members, pieces_by, piece}
+use Rattle.thorin_join.specs.Meaning.{Meaning, Members, pieces_by}
 use Rattle.thorin_input.specs.Names.{same_name}
 use Rattle.thorin_input.specs.Format.{is_copied}
 use Rattle.thorin_join.specs.State.{InProgress, kind_at, names_of, unit_bytes}
@@ -60,8 +60,8 @@ pub record LieInside (contents : Contents) (row : IndexEntry) : Type 0 where
 -- what a unit shares with others stands in the ranges of its row, whatever strings are added
 pub record Shares (order : Endianness) (contents : Contents) (strings : List (List ℕ))
     (row : IndexEntry) (unit : Meaning) : Type 0 where
-  pub content : (kind : SectionKind) → is_copied kind ≡ true
-      → part_of (content_of kind contents) (contribution_to kind row) ≡ piece unit.pieces kind
+  pub content : (kind : SectionKind) (copied : is_copied kind ≡ true)
+      → part_of (content_of kind contents) (contribution_to kind row) ≡ unit.pieces kind copied
   pub string : (final : List (List ℕ)) → IsTable final
       → take (length strings) final ≡ strings → (i : ℕ)
       → string_in order unit.encoding (data_of final) (part_of (content_of StrOffsets contents)

@@ -41,6 +41,7 @@ pub fn written_packages_are_read()
         }) }
 {
     written_contents_are_read_back();
+    written_files_have_their_size();
     contents_are_read();
 }
 

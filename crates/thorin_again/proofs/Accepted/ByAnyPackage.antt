@@ -10,9 +10,12 @@ use Rattle.dwp_base.specs.Reading.{◌>>=◌}
 use Rattle.dwp_base.specs.Sections.{name_of, same_kind}
 use Rattle.dwp_base.specs.declared.section.SectionKind.{SectionKind}
 use Rattle.dwp_base.specs.declared.section.SectionKind.TheVariants as kinds
+use Rattle.dwp_base.proofs.EveryKind.{is-same, every}
+use Rattle.dwp_base.proofs.Bools.{both}
 use Rattle.dwp_bytes.specs.declared.encoding.Encoding.{Encoding}
 use Rattle.dwp_dwarf.specs.Units.{UnitsAreTaken}
 use Rattle.dwp_dwarf.specs.declared.unit.UnitSection.TheVariants as places
+use Rattle.dwp_dwarf.specs.declared.unit.UnitSection.{UnitSection}
 use Rattle.dwp_elf.specs.Contents.{KindsDiffer, content_of}
 use Rattle.dwp_elf.specs.FileText.{Object as File, file_text}
 use Rattle.dwp_elf.specs.Written.{written_elf}
@@ -25,7 +28,7 @@ use Rattle.thorin_join.specs.Builder.{package_or_new, with_source_or_new, with_i
 use Rattle.thorin_input.specs.Encodings.{encoding_of, one_encoding, file_encoding, own_encoding}
 use Rattle.thorin_input.specs.Growing.{Contents}
 use Rattle.thorin_input.specs.Indexes.{Indexes, Source, is_package, indexes_of}
-use Rattle.thorin_input.specs.NewUnits.{new_units}
+use Rattle.thorin_input.specs.NewUnits.{new_units, unit_section}
 use Rattle.thorin_again.specs.Own.{has_content, has_sections, packs_again}
 use Rattle.thorin_again.specs.OwnAccepted.{IsAcceptedOnceWritten}
 use Rattle.thorin_again.specs.OwnInput.{written_used, written_object, IsOwn, TakesParts}
@@ -33,12 +36,12 @@ use Rattle.thorin_again.specs.OwnRefusals.{UnlessStringOffset, UnlessForeseen}
 use Rattle.thorin_again.specs.OwnUnits.{AllOf, HoldsOwn}
 use Rattle.thorin_input.specs.Format.{is_in_format, is_copied}
 use Rattle.thorin_input.specs.InputStrings.{rewritten}
-use Rattle.thorin_input.specs.Parts.{Parts, with_offsets}
-use Rattle.thorin_input.specs.Parts.{with_part, with_each_part, parts_of}
-use Rattle.thorin_again.specs.Plain.{is_shared, IsPlain, HoldsPlain}
+use Rattle.thorin_input.specs.Parts.{Parts, with_offsets, with_part, with_each_part, parts_of}
+use Rattle.thorin_input.specs.Format.{is_shared}
+use Rattle.thorin_again.specs.Plain.{IsPlain, HoldsPlain}
 use Rattle.thorin_join.specs.Represents.{IsSound, IsSoundBegun, units_of, units_begun}
-use Rattle.thorin_join.specs.State.{InProgress, adding, abbreviations_test, with_source}
-use Rattle.thorin_input.specs.Used.{Used, opened, input_file_of}
+use Rattle.thorin_join.specs.State.{InProgress, adding, abbreviations_test, with_source, kind_at}
+use Rattle.thorin_input.specs.Used.{Used, opened, input_file_of, counts_once}
 use Rattle.thorin_join.proofs.Files.Indexes.{IndexIsRead, IndexHasEntries, SomeIndex, NoIndex}
 use Rattle.thorin_join.proofs.Joined.Input.{new-sound}
 use Rattle.thorin_again.proofs.Opened.FirstEncoding.{own-first}
@@ -47,17 +50,17 @@ use Rattle.thorin_again.proofs.Opened.Format.{in-format, lie-used}
 use Rattle.thorin_again.proofs.Opened.Indexes.{rows-version, up-to-parts}
 use Rattle.thorin_again.proofs.Opened.ContentsByName.{present-written, info-written}
 use Rattle.thorin_again.proofs.Opened.Parts.{Fresh, fresh-rest, fresh-more, behind, front}
-use Rattle.thorin_again.proofs.Opened.Parts.{past-tests}
-use Rattle.thorin_again.proofs.Opened.Parts.{own-parts}
-use Rattle.thorin_again.proofs.Opened.Sections.{rest-differ, object-written, opened-elf}
+use Rattle.thorin_again.proofs.Opened.Parts.{past-tests, own-parts}
+use Rattle.thorin_again.proofs.Opened.Sections.{rest-differ, object-written, opened-elf, section_of}
 use Rattle.thorin_again.proofs.Offsets.RangesApart.{then-unless}
-use Rattle.thorin_again.proofs.Taken.ByAnyPackage.{own-units}
+use Rattle.thorin_again.proofs.Taken.ByAnyPackage.{laid-at, own-units}
 use Rattle.thorin_again.proofs.Taken.UnlessThere.{then-foreseen}
-use Rattle.thorin_join.proofs.Parts.Appended.{same-kind, is-rewritten}
+use Rattle.thorin_join.proofs.Parts.Appended.{is-rewritten}
 use Rattle.thorin_join.proofs.Parts.OffsetLaws.{NamesTheSameLaw, PackagedLaw}
 use Rattle.thorin_again.proofs.Meant.RowPlaces.{FirstLaw, FindLaw}
 use Rattle.thorin_join.proofs.Steps.{bind-ok}
 use Rattle.thorin_join.proofs.Files.Finished.{tested-state, finished-own, finished-strings}
+use Rattle.thorin_join.proofs.Units.HeadersRead.{kind-place}
 
 -- ---- the parts, unless the offset of a string doesn't fit
 
@@ -82,9 +85,6 @@ can-rest source c cs differ can = record {
       (sym (behind kinds.StrOffsets c cs differ some)) some));
 }
 
-abbrev section_of : SectionKind × List ℕ → Used
-section_of c = record { kind = c.0; bytes = c.1; address = 0 }
-
 offsets-tried : (source : Source) (before : Parts) (bytes : List ℕ) → source.object.has_strings ≡
     true → UnlessStringOffset (rewritten source bytes before.1) → UnlessStringOffset
     (with_offsets source before bytes)
@@ -105,7 +105,7 @@ offsets-fresh : (source : Source) (before next : Parts) (c : SectionKind × List
 offsets-fresh source before next c cs differ fresh same h =
     let w = is-rewritten source before c.1 next h in
     subst (λ (p : Parts). Fresh p.0 cs) (sym w.is)
-    (subst (λ k. Fresh (before.0 ++ (k, w.written.0) ∷ []) cs) (same-kind c.0 kinds.StrOffsets
+    (subst (λ k. Fresh (before.0 ++ (k, w.written.0) ∷ []) cs) (is-same c.0 kinds.StrOffsets
     same) (fresh-more c w.written.0 cs before.0 differ fresh))
 
 then-parts : (source : Source) (before : Parts) (section : Used) (rest : List Used)
@@ -171,10 +171,6 @@ foreseen (Err e) h = inl h
 
 -- ---- all of it
 
-both : (a b : Bool) → (a && b) ≡ true → (a ≡ true) × (b ≡ true)
-both true b h = (refl, h)
-both false b h = absurd (true≢false (sym h))
-
 not-or : (a b : Bool) → (not a || b) ≡ true → a ≡ true → b ≡ true
 not-or true b h k = h
 not-or false b h k = absurd (true≢false (sym k))
@@ -235,11 +231,27 @@ module _ (names : NamesTheSameLaw) (law : PackagedLaw) (reads : UnitsAreTaken)
   shared-used kind shared some = plain.named kind shared (subst (λ l. 0 < length l)
       (finished-shared made file fin kind shared) some)
 
-  types-used : 0 < length (content_of kinds.Types file.contents)
-      → is_used made.rows kinds.Types ≡ true
-  types-used some = lie-used made.file.order places.Types 0 made.rows (content_of kinds.Types
-      made.file.contents) sound.laid.types (subst (λ l. 0 < length l) (finished-own made file fin
-      places.Types) some)
+  own-used : (place : UnitSection) → 0 < length (content_of (kind_at place) file.contents)
+      → is_used made.rows (kind_at place) ≡ true
+  own-used place some = lie-used made.file.order place 0 made.rows
+      (content_of (kind_at place) made.file.contents) (laid-at made sound place)
+      (subst (λ l. 0 < length l) (finished-own made file fin place) some)
+
+  -- rows name each kind that has bytes, but those that count once
+  kind-used : (kind : SectionKind) → 0 < length (content_of kind file.contents)
+      → counts_once kind ≡ false → is_used made.rows kind ≡ true
+  kind-used kind some once = by (is_shared kind) (unit_section kind) refl refl
+    where
+      by : (shared : Bool) (place : Option UnitSection) → is_shared kind ≡ shared
+          → unit_section kind ≡ place → is_used made.rows kind ≡ true
+      by true place s at = shared-used kind s some
+      by false (Some place) s at =
+          let same = kind-place kind place at in
+          subst (λ k. is_used made.rows k ≡ true) (sym same)
+          (own-used place (subst (λ k. 0 < length (content_of k file.contents)) same some))
+      by false None s at = absurd (true≢false (sym (every (λ k. is_shared k || counts_once k
+          || is_some (unit_section k)) refl kind)
+          ∙ (λ i. s i || once i || is_some (at i))))
 
   formatted : (kind : SectionKind) → 0 < length (content_of kind file.contents)
       → is_in_format encoding kind ≡ true
@@ -248,15 +260,7 @@ module _ (names : NamesTheSameLaw) (law : PackagedLaw) (reads : UnitsAreTaken)
       let version = rows-version made.file.order made.file.contents made.strings made.rows
       (units_of made) encoding sound.units.rows all in
       in-format encoding made.rows version tests.compilation_rows tests.type_rows kind
-      (λ e. types-used (subst (λ k. 0 < length (content_of k file.contents)) e some))
-      (λ e. shared-used kinds.Loc refl
-      (subst (λ k. 0 < length (content_of k file.contents)) e some))
-      (λ e. shared-used kinds.Loclists refl
-      (subst (λ k. 0 < length (content_of k file.contents)) e some))
-      (λ e. shared-used kinds.Rnglists refl
-      (subst (λ k. 0 < length (content_of k file.contents)) e some))
-      (λ e. shared-used kinds.Macinfo refl
-      (subst (λ k. 0 < length (content_of k file.contents)) e some))
+      (kind-used kind some)
 
   module _ (indexes : Indexes) (read : indexes_of (written_object file) encoding ≡ Ok indexes) where
     abbrev source : Source

@@ -13,7 +13,6 @@ use Rattle.thorin_join.specs.Builder.{State, start, begun_by, own_after, IsFinis
 use Rattle.thorin_join.specs.Builder.{finish_test, with_source_or_new, with_input, taken}
 use Rattle.thorin_input.specs.Encodings.{one_encoding, own_encoding}
 use Rattle.thorin_input.specs.Indexes.{Indexes, Source, is_package, indexes_of}
-use Rattle.thorin_join.specs.Join.{Joins, IsPackageOnceWritten}
 use Rattle.thorin_join.specs.Meaning.{Meaning, pieces_by, keys}
 use Rattle.thorin_input.specs.Names.{same_name}
 use Rattle.thorin_input.specs.NewUnits.{new_units}
@@ -28,7 +27,7 @@ use Rattle.thorin_join.specs.State.{InProgress, names_of, adding, abbreviations_
 use Rattle.thorin_join.specs.State.{with_source}
 use Rattle.thorin_input.specs.Used.{opened, input_file_of}
 use Rattle.thorin_join.proofs.Units.NamesApart.{apart-none}
-use Rattle.thorin_again.proofs.Lists.StringsWhole.{own-encoded, alone-whole}
+use Rattle.thorin_again.proofs.Lists.StringsWhole.{own-encoded, alone-whole, FinishedLaw}
 use Rattle.thorin_again.proofs.Lists.HeadersEncoded.{AreEncoded}
 use Rattle.thorin_join.proofs.Files.Indexes.{IndexIsRead, IndexHasEntries, SomeIndex, NoIndex}
 use Rattle.thorin_join.proofs.Joined.Input.{new-sound}
@@ -41,6 +40,7 @@ use Rattle.thorin_again.proofs.Accepted.Alone.{alone-finds}
 use Rattle.thorin_again.proofs.Taken.ByNewPackage.{own-units-new}
 use Rattle.thorin_join.proofs.Parts.OffsetLaws.{NamesTheSameLaw, PackagedLaw}
 use Rattle.thorin_again.proofs.Meant.RowPlaces.{FirstLaw, FindLaw}
+use Rattle.thorin_again.proofs.Kept.OneEncoding.{InputsJoined}
 use Rattle.thorin_join.proofs.Steps.{bind-ok}
 use Rattle.thorin_join.proofs.Units.InRows.{keys-units}
 use Rattle.thorin_join.proofs.Files.Finished.{finished-order}
@@ -105,17 +105,9 @@ abbrev pub SoundLaw : Type 0
 SoundLaw = (bytes : List ℕ) (begun now : Option InProgress) → IsSoundBegun begun
     → with_input bytes begun ≡ Ok now → IsSoundBegun now
 
-abbrev pub JoinsLaw : Type 0
-JoinsLaw = (bytes : List ℕ) (begun now : Option InProgress) → IsSoundBegun begun
-    → with_input bytes begun ≡ Ok now → Joins bytes (units_begun begun) (units_begun now)
-
 abbrev pub MeansLaw : Type 0
 MeansLaw = (state : State) (file : File) → IsSoundBegun state.begun → finish_test state ≡ Ok tt
     → IsFinishedState state file → MeansOnceWritten (units_in state) file
-
-abbrev pub FinishedLaw : Type 0
-FinishedLaw = (state : State) (file : File) → IsSoundBegun state.begun → finish_test state ≡ Ok tt
-    → IsFinishedState state file → IsPackageOnceWritten (units_in state) file
 
 -- its encoding as an input
 own-encoding : (state : State) (encoding : Encoding) (file : File) → IsOwn state encoding file
@@ -136,7 +128,7 @@ names-distinct (Some made) sound = subst (IsDistinct same_name) (sym (keys-units
     (apart-distinct (names_of made) sound.apart)
 
 pub own-by-new : NamesTheSameLaw → PackagedLaw → UnitsAreTaken → FirstLaw → FindLaw → IndexIsRead
-    → IndexHasEntries → SomeIndex → NoIndex → SoundLaw → JoinsLaw → MeansLaw → FinishedLaw
+    → IndexHasEntries → SomeIndex → NoIndex → SoundLaw → InputsJoined → MeansLaw → FinishedLaw
     → (state : State) (file : File)
     → IsSoundBegun state.begun → HoldsOwn state → HoldsPlain state → finish_test state ≡ Ok tt
     → IsFinishedState state file → IsAcceptedByNewOnceWritten state file

@@ -10,6 +10,8 @@ use Rattle.dwp_base.specs.declared.endian.Endianness.{Endianness}
 use Rattle.dwp_base.specs.declared.section.SectionKind.{SectionKind}
 use Rattle.dwp_base.specs.declared.section.SectionKind.TheVariants as kinds
 use Rattle.dwp_base.specs.Sections.{same_kind}
+use Rattle.dwp_base.proofs.EveryKind.{is-same}
+use Rattle.dwp_base.proofs.Bools.{or-right}
 use Rattle.dwp_bytes.specs.Input.{Input, section, number_at, split_at, offset_at}
 use Rattle.dwp_bytes.specs.declared.encoding.Encoding.{Encoding}
 use Rattle.dwp_bytes.specs.declared.encoding.Format.{Format}
@@ -34,13 +36,10 @@ use Rattle.thorin_input.specs.NewUnits.{name_for, unit_section}
 use Rattle.thorin_input.specs.Rows.{abbreviations_for}
 use Rattle.thorin_input.specs.Used.{Used, has_kind, bytes_of, first}
 use Rattle.thorin_join.proofs.Units.NamesApart.{same_name-self}
-use Rattle.thorin_join.proofs.Units.HeadersRead.{newer-five, no_header}
+use Rattle.thorin_join.proofs.Units.HeadersRead.{no_header, Reads}
 use Rattle.thorin_join.proofs.Units.Sorts.{identity-sort}
-use Rattle.thorin_join.proofs.Parts.Appended.{same-kind}
 use Rattle.thorin_join.proofs.Steps.{err-ok, ok-eq, bind-inv, by-choice}
-
-abbrev pub Reads : Type 0
-Reads = List (DwarfObject × UnitRead)
+use Rattle.thorin_join.proofs.Moved.Units.{newer-five}
 
 -- ---- a unit in info is of version 5, or no type unit
 
@@ -133,11 +132,7 @@ ok-some (Some y) x h = ap (λ v. Some v) (ok-eq {E = Fault} y x h)
 any-behind : (test : DwarfObject → Bool) (us vs : Reads) → list_any test (keys vs) ≡ true
     → list_any test (keys (us ++ vs)) ≡ true
 any-behind test [] vs h = h
-any-behind test (u ∷ us) vs h = or-right (test u.0) (any-behind test us vs h)
-  where
-    or-right : (b : Bool) {c : Bool} → c ≡ true → (b || c) ≡ true
-    or-right true h = refl
-    or-right false h = h
+any-behind test (u ∷ us) vs h = or-right (test u.0) _ (any-behind test us vs h)
 
 module _ (source : Source) (encoding : Encoding) where
   -- a name is there, of a unit that stands in info
@@ -190,7 +185,7 @@ module _ (source : Source) (encoding : Encoding) where
           (first kinds.Info rest))) ≡ Ok encoding → FirstNamed others)
           → FirstNamed (here ++ others)
       by here others named true is k later =
-          let kind : from.kind ≡ kinds.Info = same-kind from.kind kinds.Info is in
+          let kind : from.kind ≡ kinds.Info = is-same from.kind kinds.Info is in
           let f = first-units source.object.order from.bytes encoding k in
           let each : named_each source from.kind (units places.Info (section source.object.order
           from.bytes)) ≡ Ok here = ap (λ n. named_at source from (unit_section n))

@@ -1,6 +1,6 @@
 -- Info of a package of plain objects of one encoding has bytes, where it has units: the first unit
 -- of an object stands in info, and its name's unit goes there.
-use Rattle.std.proofs.Common.{◌≡◌, ◌∙◌, ◌<◌, Bool, true, false, cond, leb, not, ◌&&◌, ◌||◌, ◌⊎◌}
+use Rattle.std.proofs.Common.{◌≡◌, ◌∙◌, ◌<◌, Bool, true, false, cond, is_some, not, ◌&&◌, ◌||◌, ◌⊎◌}
 use Rattle.std.proofs.Common.{inl, inr, ⊎_elim, List, [], ◌∷◌, ◌++◌, length, map, refl, sym, ap}
 use Rattle.std.proofs.Common.{subst, Result, Ok, Err, Option, Some, None, arith, true≢false}
 use Rattle.std.proofs.Common.{length-append}
@@ -12,6 +12,7 @@ use Rattle.dwp_base.specs.declared.endian.Endianness.{Endianness}
 use Rattle.dwp_base.specs.declared.section.SectionKind.{SectionKind}
 use Rattle.dwp_base.specs.declared.section.SectionKind.TheVariants as kinds
 use Rattle.dwp_base.specs.Sections.{name_of, same_kind}
+use Rattle.dwp_base.proofs.Bools.{or-right}
 use Rattle.dwp_bytes.specs.declared.encoding.Encoding.{Encoding}
 use Rattle.dwp_bytes.specs.declared.fault.ReadError.{ReadError}
 use Rattle.dwp_dwarf.specs.Units.{Unit as Header, UnitsAreTaken}
@@ -31,23 +32,25 @@ use Rattle.thorin_join.specs.Meaning.{UnitRead, keys, named_unit, named_each, na
 use Rattle.thorin_join.specs.Meaning.{named_sections, joining}
 use Rattle.thorin_input.specs.Names.{same_name}
 use Rattle.thorin_input.specs.NewUnits.{Adding, NewUnit, place_for, name_for, unit_section}
+use Rattle.dwp_bytes.specs.Encoding.{index_version_of}
+use Rattle.dwp_table.specs.Columns.{column_of}
 use Rattle.thorin_input.specs.Format.{is_in_format}
-use Rattle.thorin_input.specs.Parts.{Parts, has_part, stands_once, with_part}
-use Rattle.thorin_input.specs.Parts.{with_each_part}
+use Rattle.thorin_input.specs.Parts.{Parts, has_part, stands_once, with_part, with_each_part}
 use Rattle.thorin_join.specs.State.{InProgress, kind_at, names_of, held_units, adding}
 use Rattle.thorin_join.specs.State.{with_unit_added, with_new_unit, with_new_units, with_source}
 use Rattle.thorin_input.specs.Used.{Used}
 use Rattle.thorin_join.proofs.Units.NamesApart.{same_name-true}
-use Rattle.thorin_join.proofs.Units.HeadersRead.{ReadAlone}
-use Rattle.thorin_again.proofs.Kept.FirstHeaders.{Reads, first-named}
+use Rattle.thorin_join.proofs.Units.HeadersRead.{ReadAlone, Reads}
+use Rattle.thorin_again.proofs.Kept.FirstHeaders.{first-named}
 use Rattle.thorin_join.proofs.Units.JoinedByName.{AreAdded, added-keys}
 use Rattle.thorin_join.proofs.Rows.LieInTurn.{AllCanLie, all-can-lie}
-use Rattle.thorin_join.proofs.Parts.Appended.{content-with_bytes, content-with_parts}
+use Rattle.thorin_join.proofs.Parts.Appended.{content-with_bytes, content-with_parts, differ}
 use Rattle.thorin_again.proofs.Kept.SharedParts.{plain-added}
 use Rattle.thorin_join.proofs.Joined.Source.{with_all_parts, keys-held}
 use Rattle.thorin_join.proofs.Steps.{err-ok, ok-eq, bind-inv}
 use Rattle.thorin_join.proofs.Rows.AllAdded.{names-added}
 use Rattle.thorin_join.proofs.Units.Whole.{go-joining, units-go}
+use Rattle.thorin_join.proofs.EachKind.{same-each}
 
 -- ---- where units of that name go
 
@@ -152,24 +155,17 @@ module _ (source : Source) where
 
 no-types : (encoding : Encoding) → encoding.version ≡ 5 → is_in_format encoding
     kinds.Types ≡ true → ⊥
-no-types encoding five h = true≢false (sym h ∙ ap (λ v. not (leb 5 v)) five)
+no-types encoding five h = true≢false (sym h ∙ ap (λ v. is_some (column_of (index_version_of v)
+    kinds.Types)) five)
 
 newer-place : (encoding : Encoding) (name : DwarfObject) (kind : SectionKind) → encoding.version ≡ 5
     → is_in_format encoding kind ≡ true → place_for name kind ≡ places.Info
 newer-place encoding (Compilation id) kind five h = refl
-newer-place encoding (TypeUnit s) kinds.Info five h = refl
-newer-place encoding (TypeUnit s) kinds.Types five h = absurd (no-types encoding five h)
-newer-place encoding (TypeUnit s) kinds.Abbrev five h = refl
-newer-place encoding (TypeUnit s) kinds.Line five h = refl
-newer-place encoding (TypeUnit s) kinds.Loc five h = refl
-newer-place encoding (TypeUnit s) kinds.Loclists five h = refl
-newer-place encoding (TypeUnit s) kinds.Rnglists five h = refl
-newer-place encoding (TypeUnit s) kinds.StrOffsets five h = refl
-newer-place encoding (TypeUnit s) kinds.Macinfo five h = refl
-newer-place encoding (TypeUnit s) kinds.Macro five h = refl
-newer-place encoding (TypeUnit s) kinds.Str five h = refl
-newer-place encoding (TypeUnit s) kinds.CuIndex five h = refl
-newer-place encoding (TypeUnit s) kinds.TuIndex five h = refl
+newer-place encoding (TypeUnit s) kind five h =
+    same-each (place_for (TypeUnit s)) (λ k. cond (same_kind k kinds.Types) places.Types
+    places.Info) refl kind
+    ∙ ap (λ b. cond b places.Types places.Info) (differ kind kinds.Types (λ e.
+    no-types encoding five (ap (is_in_format encoding) (sym e) ∙ h)))
 
 older-place : (name other : DwarfObject) (kind : SectionKind) → name_signature name ≡ None
     → same_name name other ≡ true → place_for other kind ≡ places.Info
@@ -293,13 +289,9 @@ module _ (name : DwarfObject) where
       (λ same. join (or-left (list_any test names) (list_any test others)
       (subst (λ m. list_any (same_name m) names ≡ true)
       (sym (same_name-true name u same)) met)))
-      (λ later. join (by (list_any test names) later))
+      (λ later. join (or-right (list_any test names) _ later))
       (or-either (test u) (list_any test others) rest))
       (or-either (list_any test names) (test u || list_any test others) split)
-    where
-      by : (a : Bool) {b : Bool} → b ≡ true → (a || b) ≡ true
-      by true h = refl
-      by false h = h
 
   joining-there : (names : List DwarfObject) (all : Reads) → list_any (same_name name)
       (names ++ keys all) ≡ true → list_any (same_name name)

@@ -2,7 +2,7 @@
 -- encoding are added.
 use Rattle.std.proofs.Common.{◌≡◌, ◌∙◌, ℕ, ◌+◌, ◌<◌, ◌≤◌, Bool, true, false, cond, List, [], ◌∷◌}
 use Rattle.std.proofs.Common.{◌++◌, length, refl, sym, ap, subst, Ok, Option, Some, None, arith}
-use Rattle.std.proofs.Common.{length-append}
+use Rattle.std.proofs.Common.{length-append, ⊎_elim}
 use Rattle.std.specs.Prelude.{find}
 use Rattle.std.specs.List.{list_any, list_all}
 use Rattle.std.proofs.lemmas.Option.{none-some, same_Some}
@@ -27,7 +27,8 @@ use Rattle.thorin_join.specs.Meaning.{UnitRead, keys, joining, joined_content}
 use Rattle.thorin_input.specs.Names.{same_name}
 use Rattle.thorin_input.specs.NewUnits.{NewUnit}
 use Rattle.thorin_input.specs.Parts.{parts_of}
-use Rattle.thorin_again.specs.Plain.{is_shared, NamesItself, HasNamedUnits}
+use Rattle.thorin_input.specs.Format.{is_shared}
+use Rattle.thorin_again.specs.Plain.{NamesItself, HasNamedUnits}
 use Rattle.thorin_join.specs.Represents.{IsSound, LieInside}
 use Rattle.thorin_input.specs.Rows.{whole_row}
 use Rattle.thorin_join.specs.StandApart.{EachRow}
@@ -41,7 +42,7 @@ use Rattle.thorin_join.proofs.Rows.LieInTurn.{types-only}
 use Rattle.thorin_again.proofs.Kept.LongerTables.{identity-stays}
 use Rattle.thorin_again.proofs.Offsets.Tiled.{row-append, weaker, order-kept}
 use Rattle.thorin_join.proofs.Rows.OfUnits.{is-unit_row, whole-else}
-use Rattle.thorin_join.proofs.Parts.Appended.{content-with_parts, parts-copied}
+use Rattle.thorin_join.proofs.Parts.Appended.{content-with_parts, parts-copied, either}
 use Rattle.thorin_again.proofs.Kept.ObjectNames.{NamedAlone, AllNamed, named-joining, units-named}
 use Rattle.thorin_again.proofs.Kept.SharedParts.{shared-row, plain-part, plain-added}
 use Rattle.thorin_join.proofs.Joined.Source.{with_all_parts, grows-with_parts}
@@ -49,6 +50,7 @@ use Rattle.thorin_join.proofs.Rows.StandApart.{sound-inside}
 use Rattle.thorin_join.proofs.Rows.OneAdded.{Fits, content-put, place-put, part-put, range_for}
 use Rattle.thorin_join.proofs.Rows.OneAdded.{row-name, row-own, own-place, row-part, lie-by}
 use Rattle.thorin_join.proofs.Units.Whole.{Goes, AllGo, go-joining, units-go}
+use Rattle.thorin_join.proofs.Rows.Meaning.{unshared}
 
 -- ---- the abbreviations of a row begin with those of the first section
 
@@ -237,25 +239,14 @@ module _ (source : Source) (made : InProgress) (parts : Contents) (plain : is_pa
       (sym (plain-part source made parts n r plain is kind shared) ∙ e)
 
   all-inside : (kind : SectionKind) → Inside kind
-  all-inside kinds.Info range e =
-      none-inside kinds.Info c n.1.row.debug_info range
-      ((is-unit_row source.indexes (whole_row source.encoding made.file.contents parts) r.0 n.1.row
-      is.row).info ∙ (whole-else source.encoding made.file.contents parts).1) e
-  all-inside kinds.Types range e =
-      none-inside kinds.Types c n.1.row.debug_types range
-      ((is-unit_row source.indexes (whole_row source.encoding made.file.contents parts) r.0 n.1.row
-      is.row).types ∙ (whole-else source.encoding made.file.contents parts).2) e
-  all-inside kinds.Abbrev range e = shared-inside kinds.Abbrev refl range e
-  all-inside kinds.Line range e = shared-inside kinds.Line refl range e
-  all-inside kinds.Loc range e = shared-inside kinds.Loc refl range e
-  all-inside kinds.Loclists range e = shared-inside kinds.Loclists refl range e
-  all-inside kinds.Rnglists range e = shared-inside kinds.Rnglists refl range e
-  all-inside kinds.StrOffsets range e = shared-inside kinds.StrOffsets refl range e
-  all-inside kinds.Macinfo range e = shared-inside kinds.Macinfo refl range e
-  all-inside kinds.Macro range e = shared-inside kinds.Macro refl range e
-  all-inside kinds.Str range e = absurd (none-some range e)
-  all-inside kinds.CuIndex range e = absurd (none-some range e)
-  all-inside kinds.TuIndex range e = absurd (none-some range e)
+  all-inside kind range e =
+      let whole = whole_row source.encoding made.file.contents parts in
+      let row = is-unit_row source.indexes whole r.0 n.1.row is.row in
+      let else = whole-else source.encoding made.file.contents parts in
+      ⊎_elim (λ shared. shared-inside kind shared range e)
+      (λ other. absurd (none-some range (sym (unshared n.1.row (row.info ∙ else.1)
+      (row.types ∙ else.2) kind other) ∙ e)))
+      (either (is_shared kind))
 
   pub new-inside : LieInside c n.1.row
   new-inside = record {

@@ -6,6 +6,7 @@ use Rattle.std.specs.Option.{ok_or}
 use Rattle.dwp_base.specs.declared.endian.Endianness.{Endianness}
 use Rattle.dwp_base.specs.declared.section.SectionKind.{SectionKind}
 use Rattle.dwp_base.specs.declared.section.SectionKind.TheVariants as kinds
+use Rattle.dwp_base.proofs.Bools.{both}
 use Rattle.dwp_bytes.specs.Input.{Input, section}
 use Rattle.dwp_bytes.specs.declared.encoding.Encoding.{Encoding}
 use Rattle.dwp_bytes.specs.declared.fault.ReadError.{ReadError}
@@ -29,13 +30,13 @@ use Rattle.thorin_input.specs.Rows.{own_range}
 use Rattle.thorin_join.specs.State.{kind_at}
 use Rattle.thorin_input.specs.Used.{Used, first}
 use Rattle.thorin_packaged.specs.RowPlaces.{row_by_place}
-use Rattle.thorin_join.proofs.Units.HeadersRead.{ReadAlone, name-identity}
+use Rattle.thorin_join.proofs.Units.HeadersRead.{ReadAlone, name-identity, kind-place, Listed}
 use Rattle.thorin_join.proofs.Units.Sorts.{identity-sort}
 use Rattle.thorin_again.proofs.Kept.OneEncoding.{encoding-eq}
 use Rattle.thorin_join.proofs.Moved.RootEntries.{identity-shifted}
 use Rattle.thorin_join.proofs.Steps.{ok-eq, bind-inv}
-use Rattle.thorin_join.proofs.Units.Whole.{ReadsAlone, IsKnown, Listed, AreKnown, known-in}
-use Rattle.thorin_join.proofs.Units.Whole.{kind-place, other-alone, five-named, fault-ok}
+use Rattle.thorin_join.proofs.Units.Whole.{ReadsAlone, IsKnown, AreKnown, known-in}
+use Rattle.thorin_join.proofs.Units.Whole.{other-alone, five-named, fault-ok}
 
 -- ---- the units of a plain object by its first section of abbreviations
 
@@ -128,10 +129,6 @@ module _ (taken : UnitsAreTaken) (alone : ReadAlone) (source : Source)
       subst (NamedAlone so se st) (ok-eq {E = Fault} _ u b.2)
       (subst (λ k. NamedAlone so se st (b.0, record { from = k; unit = a.0 }))
       (sym kind_is) here)
-
-  both : (a b : Bool) → (a && b) ≡ true → (a ≡ true) × (b ≡ true)
-  both true b h = (refl, h)
-  both false b h = absurd (true≢false (sym h))
 
   each-named : (kind : SectionKind) (place : UnitSection) (reads : Listed)
       (us : List (DwarfObject × UnitRead)) → unit_section kind ≡ Some place

@@ -9,6 +9,7 @@ use Rattle.std.proofs.lemmas.List.{length-map}
 use Rattle.std.proofs.lemmas.List.Elements.{All-cons, All-append}
 use Rattle.dwp_base.specs.Reading.{◌>>=◌}
 use Rattle.dwp_base.specs.declared.section.SectionKind.TheVariants.{Str}
+use Rattle.dwp_base.proofs.Bools.{both}
 use Rattle.dwp_elf_read.specs.Elf.{Elf}
 use Rattle.dwp_bytes.specs.declared.encoding.Encoding.{Encoding}
 use Rattle.dwp_bytes.specs.declared.encoding.Format.{Format}
@@ -204,15 +205,11 @@ format-eq Dwarf64 Dwarf64 h = refl
 format-eq Dwarf32 Dwarf64 h = absurd cc
 format-eq Dwarf64 Dwarf32 h = absurd cc
 
-both-true : (a b : Bool) → (a && b) ≡ true → (a ≡ true) × (b ≡ true)
-both-true true b h = (refl, h)
-both-true false b h = absurd cc
-
 pub encoding-eq : (a b : Encoding) → same_encoding a b ≡ true → a ≡ b
 encoding-eq a b h =
-    let x = both-true (eqb a.version b.version) (same_format a.format b.format && eqb a.address_size
+    let x = both (eqb a.version b.version) (same_format a.format b.format && eqb a.address_size
     b.address_size) h in
-    let y = both-true (same_format a.format b.format) (eqb a.address_size b.address_size) x.1 in
+    let y = both (same_format a.format b.format) (eqb a.address_size b.address_size) x.1 in
     same-parts a b (eqb-true a.version b.version x.0) (format-eq a.format b.format y.0)
     (eqb-true a.address_size b.address_size y.1)
 

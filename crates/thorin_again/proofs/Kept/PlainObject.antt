@@ -1,7 +1,7 @@
 -- What a plain object of one encoding is for the package that it is added to.
-use Rattle.std.proofs.Common.{◌≡◌, ◌∙◌, ℕ, ◌<◌, Bool, true, false, cond, not, ltb, ◌&&◌, ◌||◌, List}
+use Rattle.std.proofs.Common.{◌≡◌, ◌∙◌, ℕ, ◌<◌, Bool, true, false, cond, ltb, ◌&&◌, ◌||◌, List}
 use Rattle.std.proofs.Common.{[], ◌∷◌, length, refl, sym, ap, subst, Result, Ok, Option, Some, None}
-use Rattle.std.proofs.Common.{arith, true≢false}
+use Rattle.std.proofs.Common.{arith}
 use Rattle.std.specs.Prelude.{find, is_some}
 use Rattle.std.specs.List.{list_any, list_all}
 use Rattle.std.proofs.lemmas.Bool.{ltb-true}
@@ -11,6 +11,7 @@ use Rattle.dwp_base.specs.declared.endian.Endianness.{Endianness}
 use Rattle.dwp_base.specs.declared.section.SectionKind.{SectionKind}
 use Rattle.dwp_base.specs.declared.section.SectionKind.TheVariants.{CuIndex, TuIndex}
 use Rattle.dwp_base.specs.Sections.{same_kind}
+use Rattle.dwp_base.proofs.Bools.{is-false, neither}
 use Rattle.dwp_elf_read.specs.Elf.{Elf}
 use Rattle.dwp_bytes.specs.declared.encoding.Encoding.{Encoding}
 use Rattle.dwp_index.specs.Index.{Index}
@@ -31,45 +32,37 @@ use Rattle.thorin_join.proofs.Steps.{ok-eq, bind-inv}
 
 -- ---- a plain object has no index
 
-not-either : (a b : Bool) → (a || b) ≡ false → (a ≡ false) × (b ≡ false)
-not-either true b h = absurd (true≢false h)
-not-either false b h = (refl, h)
-
 none-found : (kind : SectionKind) → ((s : Used) → is_index s ≡ false → same_kind s.kind kind ≡
     false) → (ss : List Used) → list_any is_index ss ≡ false → first kind ss ≡ []
 none-found kind other [] h = refl
 none-found kind other (s ∷ ss) h =
-    let both = not-either (is_index s) (list_any is_index ss) h in
+    let both = neither (is_index s) (list_any is_index ss) h in
     ap (λ b. bytes_of (cond b (Some s) (find (has_kind kind) ss))) (other s both.0) ∙ none-found
     kind other ss both.1
 
 no-compilations : (s : Used) → is_index s ≡ false → same_kind s.kind CuIndex ≡ false
-no-compilations s h = (not-either (same_kind s.kind CuIndex) (same_kind s.kind TuIndex) h).0
+no-compilations s h = (neither (same_kind s.kind CuIndex) (same_kind s.kind TuIndex) h).0
 
 no-types : (s : Used) → is_index s ≡ false → same_kind s.kind TuIndex ≡ false
-no-types s h = (not-either (same_kind s.kind CuIndex) (same_kind s.kind TuIndex) h).1
+no-types s h = (neither (same_kind s.kind CuIndex) (same_kind s.kind TuIndex) h).1
 
-not-inv : (b : Bool) → not b ≡ true → b ≡ false
-not-inv true h = absurd (true≢false (sym h))
-not-inv false h = refl
-
-neither : (a b : Option Index) → a ≡ None → b ≡ None
+no-index : (a b : Option Index) → a ≡ None → b ≡ None
     → is_package (record { compilations = a; types = b }) ≡ false
-neither a b h k = ap (λ x. is_some x || is_some b) h ∙ ap is_some k
+no-index a b h k = ap (λ x. is_some x || is_some b) h ∙ ap is_some k
 
 plain-indexes : (object : InputFile) (encoding : Encoding) (indexes : Indexes)
     → is_plain object.sections ≡ true → indexes_of object encoding ≡ Ok indexes
     → is_package indexes ≡ false
 plain-indexes object encoding indexes plain h =
     let are = are-indexes object encoding indexes h in
-    let none = not-inv (list_any is_index object.sections) plain in
+    let none = is-false (list_any is_index object.sections) plain in
     let c : indexes.compilations ≡ None = ok-eq {E = Fault} _ _ (sym are.compilations ∙ none-taken
     object.order CuIndex (first CuIndex object.sections) (none-found CuIndex no-compilations
     object.sections none)) in
     let t : indexes.types ≡ None = ok-eq {E = Fault} _ _ (sym are.types ∙ none-taken object.order
     TuIndex (first TuIndex object.sections) (none-found TuIndex no-types
     object.sections none)) in
-    neither indexes.compilations indexes.types c t
+    no-index indexes.compilations indexes.types c t
 
 -- ---- an object that has one encoding
 

@@ -6,7 +6,6 @@ use Rattle.std.specs.Prelude.{is_some}
 use Rattle.std.specs.List.{list_any}
 use Rattle.std.proofs.lemmas.Bool.{eqb-true}
 use Rattle.dwp_base.specs.declared.section.SectionKind.{SectionKind}
-use Rattle.dwp_base.specs.declared.section.SectionKind.TheVariants as kinds
 use Rattle.dwp_base.specs.declared.section.Contribution.{Contribution}
 use Rattle.dwp_base.specs.Sections.{same_kind}
 use Rattle.dwp_dwarf.specs.declared.unit.UnitSection.{UnitSection}
@@ -23,36 +22,37 @@ use Rattle.thorin_join.specs.Meaning.{UnitRead, keys, source_units, joining}
 use Rattle.thorin_input.specs.Names.{same_name}
 use Rattle.thorin_input.specs.NewUnits.{New, NewUnit, new_units}
 use Rattle.thorin_input.specs.Parts.{parts_of}
-use Rattle.thorin_again.specs.Plain.{is_shared, HasNamedParts}
+use Rattle.thorin_input.specs.Format.{is_shared}
+use Rattle.thorin_again.specs.Plain.{HasNamedParts}
 use Rattle.thorin_input.specs.Rows.{whole_row}
 use Rattle.thorin_join.specs.State.{InProgress, kind_at, names_of, row_at, adding}
 use Rattle.thorin_join.specs.State.{abbreviations_test, with_unit_added, with_new_unit}
 use Rattle.thorin_join.specs.State.{with_new_units, with_source}
 use Rattle.thorin_join.proofs.Units.JoinedByName.{IsAdded, AreAdded, units-joined}
-use Rattle.thorin_join.proofs.Rows.OfUnits.{each-shared, adjusted-plain, is-unit_row, whole-part}
+use Rattle.thorin_join.proofs.Rows.OfUnits.{adjusted-plain, is-unit_row, whole-part}
 use Rattle.thorin_join.proofs.Parts.Appended.{either, content-with_bytes, content-with_parts}
+use Rattle.thorin_join.proofs.Parts.Appended.{differ}
 use Rattle.thorin_join.proofs.Joined.Source.{with_all_parts, all-is}
 use Rattle.thorin_join.proofs.Steps.{ok-eq, bind-inv}
+use Rattle.thorin_join.proofs.Rows.OneAdded.{row-other}
+
+-- units' own bytes go to other sections
+pub shared-apart : (place : UnitSection) (kind : SectionKind) → is_shared kind ≡ true
+    → same_kind (kind_at place) kind ≡ false
+shared-apart place kind shared = differ (kind_at place) kind (λ e. true≢false (sym shared
+    ∙ ap is_shared (sym e) ∙ not-shared place))
+  where
+    not-shared : (place : UnitSection) → is_shared (kind_at place) ≡ false
+    not-shared places.Info = refl
+    not-shared places.Types = refl
 
 -- ---- the row of a unit has what it shares
 
 pub shared-row : (shared : IndexEntry) (c : Contents) (name : DwarfObject) (x : List ℕ)
     (place : UnitSection) (kind : SectionKind) → is_shared kind ≡ true
     → contribution_to kind (row_at shared c name x place) ≡ contribution_to kind shared
-shared-row shared c name x places.Info =
-    each-shared (λ kind. contribution_to kind (row_at shared c name x places.Info) ≡ contribution_to
-    kind shared) refl refl refl refl refl refl refl refl
-shared-row shared c name x places.Types =
-    each-shared (λ kind. contribution_to kind (row_at shared c name x places.Types) ≡
-    contribution_to kind shared) refl refl refl refl refl refl refl refl
-
--- units' own bytes go to other sections
-pub shared-apart : (place : UnitSection) (kind : SectionKind) → is_shared kind ≡ true
-    → same_kind (kind_at place) kind ≡ false
-shared-apart places.Info = each-shared (λ kind. same_kind kinds.Info kind ≡ false) refl refl refl
-    refl refl refl refl refl
-shared-apart places.Types = each-shared (λ kind. same_kind kinds.Types kind ≡ false) refl refl refl
-    refl refl refl refl refl
+shared-row shared c name x place kind is = row-other shared c name x place kind
+    (shared-apart place kind is)
 
 -- ---- units that are added, one after the other
 

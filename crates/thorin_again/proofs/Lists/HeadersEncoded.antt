@@ -2,16 +2,16 @@
 -- are read again.
 use Rattle.std.proofs.Common.{◌≡◌, ◌∙◌, ℕ, suc, Bool, true, false, cond, nat_eq, ◌&&◌, List, []}
 use Rattle.std.proofs.Common.{◌∷◌, ◌++◌, map, refl, sym, ap, subst, Result, Ok, Err, Option, Some}
-use Rattle.std.proofs.Common.{None}
-use Rattle.std.proofs.Common.{◌-◌, true≢false, arith}
+use Rattle.std.proofs.Common.{None, ◌-◌}
 use Rattle.std.specs.Prelude.{All, nat_le}
 use Rattle.std.specs.List.{list_any, list_all}
 use Rattle.std.specs.Option.{option_and_then}
-use Rattle.std.proofs.lemmas.List.Elements.{All-nil, All-cons, All-append, All-head, All-tail}
+use Rattle.std.proofs.lemmas.List.Elements.{All-nil, All-cons}
 use Rattle.dwp_base.specs.Reading.{◌>>=◌}
 use Rattle.dwp_base.specs.declared.endian.Endianness.{Endianness}
 use Rattle.dwp_base.specs.declared.section.SectionKind.{SectionKind}
 use Rattle.dwp_base.specs.declared.section.SectionKind.TheVariants.{Str}
+use Rattle.dwp_base.proofs.Bools.{both}
 use Rattle.dwp_bytes.specs.Input.{Input, section, number_at, split_at, offset_at}
 use Rattle.dwp_bytes.specs.declared.encoding.Encoding.{Encoding}
 use Rattle.dwp_bytes.specs.declared.encoding.Format.{Format}
@@ -35,13 +35,12 @@ use Rattle.thorin_input.specs.Used.{Used, first}
 use Rattle.thorin_join.specs.Meaning.{Meaning, Members, UnitRead, named_unit, named_each, named_at}
 use Rattle.thorin_join.specs.Meaning.{named_sections, source_units, source_meaning, meant, joining}
 use Rattle.thorin_join.specs.Meaning.{meaning_with, meaning_by, unit_meaning, lie_inside}
-use Rattle.thorin_join.specs.Meaning.{offsets_by}
-use Rattle.thorin_join.specs.Meaning.{placed_row, part_by, pieces_by}
+use Rattle.thorin_join.specs.Meaning.{offsets_by, placed_row}
 use Rattle.thorin_join.specs.Strings.{strings_of}
-use Rattle.thorin_join.proofs.Units.HeadersRead.{ReadAlone}
+use Rattle.thorin_join.proofs.Units.HeadersRead.{ReadAlone, Listed, Reads}
 use Rattle.thorin_again.proofs.Kept.OneEncoding.{encoding-eq, some-eq, none-some}
 use Rattle.thorin_join.proofs.Steps.{ok-eq, bind-inv}
-use Rattle.thorin_join.proofs.Units.Whole.{IsKnown, Listed, AreKnown, known-in, fault-ok}
+use Rattle.thorin_join.proofs.Units.Whole.{IsKnown, AreKnown, known-in, fault-ok}
 
 -- ---- a header has one encoding, in whichever section it is read
 
@@ -155,15 +154,8 @@ known-has order place unit encoding known is =
 
 -- ---- the units of an input
 
-abbrev Reads : Type 0
-Reads = List (DwarfObject × UnitRead)
-
 abbrev ReadHas : Source → DwarfObject × UnitRead → Type 0
 ReadHas source r = HeaderHas source.object.order source.encoding r.1.unit.whole.bytes
-
-both : (a b : Bool) → (a && b) ≡ true → (a ≡ true) × (b ≡ true)
-both true b h = (refl, h)
-both false b h = absurd (true≢false (sym h))
 
 module _ (taken : UnitsAreTaken) (alone : ReadAlone) (source : Source) where
   abbrev AllHave : Reads → Type 0

@@ -1,11 +1,10 @@
 -- Where all inputs have one encoding, so has what is written, as an input.
-use Rattle.std.proofs.Common.{◌≡◌, ◌∙◌, ℕ, ◌<◌, Bool, true, false, cond, List, [], ◌∷◌, ◌++◌}
+use Rattle.std.proofs.Common.{◌≡◌, ◌∙◌, ℕ, ◌<◌, Bool, true, false, cond, List, [], ◌∷◌}
 use Rattle.std.proofs.Common.{length}
-use Rattle.std.proofs.Common.{map, refl, sym, ap, subst, Result, Ok, Err, Option, Some, None, arith}
+use Rattle.std.proofs.Common.{map, refl, sym, ap, subst, Result, Ok, Option, Some, None, arith}
 use Rattle.std.specs.Prelude.{All}
 use Rattle.std.proofs.lemmas.List.{length-map}
 use Rattle.std.proofs.lemmas.List.Elements.{All-nil, All-append, All-head, All-tail}
-use Rattle.dwp_base.specs.Reading.{◌>>=◌}
 use Rattle.dwp_base.specs.declared.endian.Endianness.{Endianness}
 use Rattle.dwp_base.specs.declared.section.SectionKind.TheVariants as kinds
 use Rattle.dwp_bytes.specs.declared.encoding.Encoding.{Encoding}
@@ -14,7 +13,7 @@ use Rattle.dwp_dwarf.specs.declared.unit.UnitSection.TheVariants as places
 use Rattle.dwp_elf.specs.Contents.{KindsDiffer, content_of}
 use Rattle.dwp_elf.specs.FileText.{Object as File, file_text}
 use Rattle.dwp_elf.specs.Written.{written_elf}
-use Rattle.dwp_elf_read.specs.Elf.{Elf, elf_of}
+use Rattle.dwp_elf_read.specs.Elf.{Elf}
 use Rattle.dwp_index.specs.Package.{place_of}
 use Rattle.dwp_table.specs.declared.object.DwarfObject.{DwarfObject}
 use Rattle.thorin_errors.specs.Fault.{Fault}
@@ -27,8 +26,8 @@ use Rattle.thorin_again.specs.Again.{input_encoding}
 use Rattle.thorin_join.specs.Builder.{State, start, with_input, with_units, package_or_new}
 use Rattle.thorin_join.specs.Builder.{with_source_or_new, order_test, IsFinishedState}
 use Rattle.thorin_join.specs.Join.{Joins}
-use Rattle.thorin_join.specs.Meaning.{Meaning, Members, keys}
-use Rattle.thorin_again.specs.OneEncoding.{IsOfOneEncoding, IsOfEncoding, HaveEncodingOnceWritten}
+use Rattle.thorin_join.specs.Meaning.{Meaning, keys}
+use Rattle.thorin_again.specs.OneEncoding.{IsOfEncoding, HaveEncodingOnceWritten}
 use Rattle.thorin_again.specs.OwnInput.{written_object}
 use Rattle.thorin_again.specs.OwnUnits.{AllOf}
 use Rattle.thorin_again.specs.PlainInputs.{AreTaken}
@@ -36,9 +35,8 @@ use Rattle.thorin_join.specs.Represents.{IsSound, IsSoundBegun, meaning_at, unit
 use Rattle.thorin_join.specs.Represents.{units_begun}
 use Rattle.thorin_join.specs.StandApart.{EachRow}
 use Rattle.thorin_join.specs.State.{InProgress, with_source, unit_bytes}
-use Rattle.thorin_again.proofs.Lists.StringsWhole.{Encoded, encoded-made, means-source, new-units}
-use Rattle.thorin_again.proofs.Lists.StringsWhole.{each-encoded}
-use Rattle.thorin_again.proofs.Lists.StringsWhole.{each-sound}
+use Rattle.thorin_again.proofs.Lists.StringsWhole.{Encoded, means-source}
+use Rattle.thorin_again.proofs.Lists.StringsWhole.{each-encoded, each-sound}
 use Rattle.thorin_again.proofs.Lists.HeadersEncoded.{AreEncoded, IsEncoded, in-of}
 use Rattle.thorin_join.proofs.Units.HeadersRead.{ReadAlone}
 use Rattle.thorin_again.proofs.Kept.InfoThere.{info-there}
@@ -49,6 +47,7 @@ use Rattle.thorin_again.proofs.Opened.Sections.{object-written, opened-elf}
 use Rattle.thorin_again.proofs.Lists.PlainInputs.{InputsSound}
 use Rattle.thorin_join.proofs.Steps.{ok-eq, bind-ok, bind-inv}
 use Rattle.thorin_join.proofs.Files.Finished.{finished-own}
+use Rattle.thorin_join.proofs.Joined.Input.{new-units}
 
 -- ---- one input
 

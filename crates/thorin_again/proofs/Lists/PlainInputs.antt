@@ -1,15 +1,12 @@
 -- The one encoding of a builder, by the inputs that it took.
 use Rattle.std.proofs.Common.{◌≡◌, ◌∙◌, ◌↔◌, ℕ, ◌<◌, Bool, true, false, cond, ltb, ◌&&◌, List, []}
-use Rattle.std.proofs.Common.{◌∷◌}
-use Rattle.std.proofs.Common.{◌++◌, length, map, refl, sym, ap, subst, Result, Ok, Err, Option}
-use Rattle.std.proofs.Common.{Some}
-use Rattle.std.proofs.Common.{None, ◌+◌, eqb, arith, true≢false, length-append}
+use Rattle.std.proofs.Common.{◌∷◌, ◌++◌, length, map, refl, sym, ap, subst, Result, Ok, Option}
+use Rattle.std.proofs.Common.{Some, None, ◌+◌, eqb, arith, true≢false, length-append}
 use Rattle.std.specs.Prelude.{All, is_some}
-use Rattle.std.specs.List.{list_all}
 use Rattle.std.proofs.lemmas.Bool.{ltb-true, lt-ltb, eq-eqb}
 use Rattle.std.proofs.lemmas.List.Elements.{All-nil, All-cons, All-head, All-tail}
 use Rattle.std.proofs.lemmas.Option.{same_Some}
-use Rattle.dwp_base.specs.Reading.{◌>>=◌}
+use Rattle.dwp_base.proofs.Bools.{both}
 use Rattle.dwp_elf_read.specs.Elf.{Elf}
 use Rattle.dwp_bytes.specs.declared.encoding.Encoding.{Encoding}
 use Rattle.dwp_bytes.specs.declared.encoding.Format.{Format}
@@ -17,22 +14,21 @@ use Rattle.dwp_bytes.specs.declared.encoding.Format.TheVariants.{Dwarf32, Dwarf6
 use Rattle.dwp_table.specs.declared.object.DwarfObject.{DwarfObject}
 use Rattle.thorin_index.specs.EntryTests.{same_encoding, same_format}
 use Rattle.thorin_errors.specs.Fault.{Fault}
-use Rattle.thorin_input.specs.Encodings.{encoding_of, own_encoding, file_encoding, common, is_plain}
-use Rattle.thorin_input.specs.Encodings.{section_has}
-use Rattle.thorin_input.specs.Used.{InputFile, opened, has_info, input_file_of}
+use Rattle.thorin_input.specs.Encodings.{encoding_of, own_encoding, file_encoding, common}
+use Rattle.thorin_input.specs.Used.{opened, has_info, input_file_of}
 use Rattle.thorin_join.specs.Builder.{State, start, taken, with_input, with_units, names_in}
 use Rattle.thorin_join.specs.Builder.{with_own, own_after, package_or_new, with_source_or_new}
 use Rattle.thorin_join.specs.Builder.{order_test}
-use Rattle.thorin_input.specs.Indexes.{Source, indexes_of}
+use Rattle.thorin_input.specs.Indexes.{indexes_of}
 use Rattle.thorin_join.specs.Join.{Joins}
 use Rattle.thorin_join.specs.Meaning.{Meaning, Members, keys, joining}
 use Rattle.thorin_again.specs.Own.{has_sections, packs_again}
 use Rattle.thorin_again.specs.PlainInputs.{AreTaken, IsPlainOf, EachAdds, IsOfPlainObjects}
-use Rattle.thorin_join.specs.Represents.{IsSoundBegun, units_in, units_begun}
+use Rattle.thorin_join.specs.Represents.{IsSoundBegun, units_in}
 use Rattle.thorin_join.specs.State.{InProgress, with_source}
 use Rattle.thorin_again.proofs.Kept.OneEncoding.{InputsJoined, own-or-none, common-are, begun-now}
 use Rattle.thorin_again.proofs.Kept.OneEncoding.{units-names}
-use Rattle.thorin_again.proofs.Kept.PlainObject.{OwnFile, own-file}
+use Rattle.thorin_again.proofs.Kept.PlainObject.{own-file}
 use Rattle.thorin_join.proofs.Steps.{ok-eq, bind-ok, bind-inv}
 
 -- ---- plain objects of one encoding
@@ -300,10 +296,6 @@ module _ (sound : InputsSound) (joins : InputsJoined) (e : Encoding) where
 
 -- ---- from a new builder
 
-both-true : (a b : Bool) → (a && b) ≡ true → (a ≡ true) × (b ≡ true)
-both-true true b h = (refl, h)
-both-true false b h = absurd (true≢false (sym h))
-
 some-own : (own : Option Encoding) → is_some own ≡ true → (e : Encoding) × (own ≡ Some e)
 some-own None h = absurd (true≢false (sym h))
 some-own (Some e) h = (e, refl)
@@ -319,7 +311,7 @@ again-exactly sound joins accepted state are = (there, back)
   where
     there : packs_again state ≡ true → IsOfPlainObjects accepted state
     there h =
-        let two = both-true (is_some state.own) (has_sections state.begun) h in
+        let two = both (is_some state.own) (has_sections state.begun) h in
         let own = some-own state.own two.0 in
         let each = each-of sound joins own.0 accepted start state tt are
         (before-own state.begun state.own own.0 own.1) in

@@ -1,8 +1,7 @@
 -- Where each input has one encoding, each unit of a package has its strings.
 use Rattle.std.proofs.Common.{◌≡◌, ◌∙◌, ℕ, Bool, true, false, cond, List, [], ◌∷◌, ◌++◌, map, refl}
-use Rattle.std.proofs.Common.{sym}
-use Rattle.std.proofs.Common.{ap, subst, Result, Ok, Err, Option, Some, None, true≢false}
-use Rattle.std.specs.Prelude.{All, slice_get, MatchOption}
+use Rattle.std.proofs.Common.{sym, ap, subst, Result, Ok, Err, Option, Some, None}
+use Rattle.std.specs.Prelude.{All, MatchOption}
 use Rattle.std.specs.List.{list_all}
 use Rattle.std.specs.Map.{lookup}
 use Rattle.std.proofs.lemmas.List.Elements.{All-nil, All-cons, All-append, All-head, All-tail}
@@ -11,14 +10,12 @@ use Rattle.dwp_base.specs.Reading.{◌>>=◌}
 use Rattle.dwp_base.specs.declared.endian.Endianness.{Endianness}
 use Rattle.dwp_base.specs.declared.section.SectionKind.TheVariants as kinds
 use Rattle.dwp_bytes.specs.declared.encoding.Encoding.{Encoding}
-use Rattle.dwp_bytes.specs.declared.fault.ReadError.{ReadError}
 use Rattle.dwp_bytes.specs.Input.{section}
 use Rattle.dwp_dwarf.specs.Units.{UnitsAreTaken, unit_at}
-use Rattle.dwp_elf.specs.Contents.{KindsDiffer}
 use Rattle.dwp_elf.specs.FileText.{Object as File, file_text}
 use Rattle.dwp_elf.specs.Written.{written_elf}
 use Rattle.dwp_elf_read.specs.Elf.{Elf, elf_of}
-use Rattle.dwp_index.specs.Contents.{contents_of}
+use Rattle.dwp_index.specs.Contents.{content, contents_of}
 use Rattle.dwp_index.specs.Index.{Index, Ranges, row_in, range_in}
 use Rattle.dwp_index.specs.declared.fault.PackageError.{PackageError}
 use Rattle.dwp_index.specs.declared.fault.PackageError.TheVariants as faults
@@ -41,10 +38,8 @@ use Rattle.thorin_input.specs.Used.{InputFile, opened, has_info, input_file_of}
 use Rattle.thorin_join.specs.Builder.{State, start, taken, with_input, with_units, package_or_new}
 use Rattle.thorin_join.specs.Builder.{with_source_or_new, order_test, order_of, finish_test}
 use Rattle.thorin_join.specs.Builder.{IsFinishedState}
-use Rattle.thorin_join.specs.Join.{Joins, IsPackageOf, IsPackageOnceWritten, GivesUnit, GivesNone}
-use Rattle.thorin_join.specs.Join.{look_limit}
-use Rattle.thorin_join.specs.Meaning.{Meaning, Members, keys, joining, input_meaning}
-use Rattle.thorin_join.specs.Meaning.{object_meaning}
+use Rattle.thorin_join.specs.Join.{Joins, IsPackageOnceWritten, GivesUnit, GivesNone, look_limit}
+use Rattle.thorin_join.specs.Meaning.{Meaning, Members, keys, input_meaning, object_meaning}
 use Rattle.thorin_join.specs.Meaning.{source_meaning}
 use Rattle.thorin_again.specs.OneEncoding.{IsOfOneEncoding, GivesWhole, AnswersAs}
 use Rattle.thorin_again.specs.OneEncoding.{AnswersOnceWritten}
@@ -58,11 +53,10 @@ use Rattle.thorin_join.specs.StandApart.{EachRow}
 use Rattle.thorin_join.specs.State.{InProgress, with_source, adding, abbreviations_test, unit_bytes}
 use Rattle.thorin_index.specs.declared.entry.IndexEntry.{IndexEntry}
 use Rattle.thorin_again.proofs.Lists.HeadersEncoded.{AreEncoded, IsEncoded, MeantAre, Meant}
-use Rattle.thorin_again.proofs.Lists.HeadersEncoded.{source-fine}
-use Rattle.thorin_again.proofs.Lists.HeadersEncoded.{joined-fine}
-use Rattle.thorin_again.proofs.Lists.HeadersEncoded.{there-fine, header-has, in-of}
+use Rattle.thorin_again.proofs.Lists.HeadersEncoded.{source-fine, joined-fine, there-fine}
+use Rattle.thorin_again.proofs.Lists.HeadersEncoded.{header-has, in-of}
 use Rattle.thorin_join.proofs.Units.HeadersRead.{ReadAlone}
-use Rattle.thorin_join.proofs.Joined.Input.{made-order}
+use Rattle.thorin_join.proofs.Joined.Input.{made-order, new-units}
 use Rattle.thorin_again.proofs.Offsets.Tiled.{order-kept}
 use Rattle.thorin_again.proofs.Kept.OneEncoding.{InputsJoined, begun-now}
 use Rattle.thorin_again.proofs.Opened.Sections.{opened-elf}
@@ -128,11 +122,6 @@ new-encoded : (file : Elf) (begun : Option InProgress) → Encoded begun
     → Encoded (Some (package_or_new file begun))
 new-encoded file None h = All-nil (λ (u : DwarfObject × Meaning). IsEncoded file.order u.1)
 new-encoded file (Some made) h = h
-
-pub new-units : (file : Elf) (begun : Option InProgress) → units_of (package_or_new file begun) ≡
-    units_begun begun
-new-units file None = refl
-new-units file (Some made) = refl
 
 with-encoded : UnitsAreTaken → ReadAlone → (bytes : List ℕ) (file : Elf)
     (begun now : Option InProgress) → IsOfOneEncoding bytes → opened bytes ≡ Ok file
@@ -322,8 +311,8 @@ unfolding package_of
 pack-order bytes file pack is h =
     let s1 = bind-inv (index.as_fault faults.Elf (elf_of bytes)) _ pack h in
     let s2 = bind-inv (index.as_fault faults.Elf (contents_of s1.0.sections)) _ pack s1.2 in
-    let s3 = bind-inv (index_in_section s1.0.order s2.0.cu_index) _ pack s2.2 in
-    let s4 = bind-inv (index_in_section s1.0.order s2.0.tu_index) _ pack s3.2 in
+    let s3 = bind-inv (index_in_section s1.0.order (content s2.0 kinds.CuIndex)) _ pack s2.2 in
+    let s4 = bind-inv (index_in_section s1.0.order (content s2.0 kinds.TuIndex)) _ pack s3.2 in
     let same : s1.0 ≡ file = ok-eq {E = ElfError} s1.0 file
     (sym (fault-was faults.Elf (elf_of bytes) s1.0 s1.1) ∙ is) in
     ap (λ (p : Package). p.order) (sym (ok-eq {E = PackageError} _ pack s4.2))

@@ -51,18 +51,16 @@ use Rattle.thorin_join.proofs.Units.HeadersRead.{name-identity}
 use Rattle.thorin_join.proofs.Units.Sorts.{identity-sort}
 use Rattle.thorin_join.proofs.Files.UnitsFound.{part-there}
 use Rattle.thorin_again.proofs.Meant.RowPlaces.{FirstLaw, FindLaw, IsAgain, Below, below-chosen}
-use Rattle.thorin_again.proofs.Meant.RowPlaces.{below-at}
-use Rattle.thorin_again.proofs.Meant.RowPlaces.{get-seam, get-left, get-there, among}
-use Rattle.thorin_again.proofs.Meant.RowPlaces.{non_empty-some}
-use Rattle.thorin_again.proofs.Meant.RowPlaces.{first-row, chosen-self, place-eq, sort-rows}
-use Rattle.thorin_again.proofs.Meant.RowPlaces.{some-index}
-use Rattle.thorin_again.proofs.Meant.RowPlaces.{same-number, test-inv, test-ok, compile-sort}
-use Rattle.thorin_again.proofs.Meant.RowPlaces.{identity-any}
-use Rattle.thorin_again.proofs.Meant.RowPlaces.{find-none, inside-by, signature-name, index-alike}
+use Rattle.thorin_again.proofs.Meant.RowPlaces.{below-at, get-seam, get-left, get-there, among}
+use Rattle.thorin_again.proofs.Meant.RowPlaces.{non_empty-some, first-row, chosen-self, place-eq}
+use Rattle.thorin_again.proofs.Meant.RowPlaces.{sort-rows, some-index, same-number, test-inv}
+use Rattle.thorin_again.proofs.Meant.RowPlaces.{test-ok, compile-sort, identity-any, find-none}
+use Rattle.thorin_again.proofs.Meant.RowPlaces.{inside-by, signature-name, index-alike}
 use Rattle.thorin_join.proofs.Files.RowsFound.{id-at}
 use Rattle.thorin_join.proofs.Steps.{ok-eq}
 use Rattle.thorin_join.proofs.Parts.StringLists.{strings-are}
 use Rattle.thorin_join.proofs.Moved.Readings.{plain}
+use Rattle.thorin_join.proofs.Units.InRows.{pieces-same}
 use Rattle.thorin_again.proofs.Meant.UnitsBySection.{IsTested}
 
 module _ (first_law : FirstLaw) (find_law : FindLaw) (source : Source) (contents : Contents)
@@ -176,15 +174,8 @@ module _ (first_law : FirstLaw) (find_law : FindLaw) (source : Source) (contents
       same ∙ is.owns.bytes
 
   pieces-are : pieces_by (part_by source (Some parts.row)) ≡ unit.pieces
-  pieces-are = λ i. record {
-    abbreviations = (bytes-are kinds.Abbrev ∙ is.shares.content kinds.Abbrev refl) i;
-    line = (bytes-are kinds.Line ∙ is.shares.content kinds.Line refl) i;
-    loc = (bytes-are kinds.Loc ∙ is.shares.content kinds.Loc refl) i;
-    loclists = (bytes-are kinds.Loclists ∙ is.shares.content kinds.Loclists refl) i;
-    rnglists = (bytes-are kinds.Rnglists ∙ is.shares.content kinds.Rnglists refl) i;
-    macinfo = (bytes-are kinds.Macinfo ∙ is.shares.content kinds.Macinfo refl) i;
-    macros = (bytes-are kinds.Macro ∙ is.shares.content kinds.Macro refl) i;
-  }
+  pieces-are = pieces-same _ unit.pieces (λ kind copied.
+      bytes-are kind ∙ is.shares.content kind copied)
 
   module _ (same_encoding : source.encoding ≡ unit.encoding) where
     strings-there : strings_of source.object.order source.encoding

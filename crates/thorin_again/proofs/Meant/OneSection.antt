@@ -32,7 +32,8 @@ use Rattle.thorin_again.proofs.Meant.RowPlaces.{FirstLaw, FindLaw, IsAgain, Belo
 use Rattle.thorin_join.proofs.Steps.{ok-eq, bind-inv}
 use Rattle.thorin_join.proofs.Moved.Readings.{plain}
 use Rattle.thorin_join.proofs.Moved.Units.{unit-moves}
-use Rattle.thorin_again.proofs.Meant.UnitsBySection.{Reads, AreTested}
+use Rattle.thorin_join.proofs.Units.HeadersRead.{Reads}
+use Rattle.thorin_again.proofs.Meant.UnitsBySection.{AreTested}
 
 -- what rows of one encoding mean
 abbrev pub Encoded : Source → (IndexEntry → Meaning) → List IndexEntry → Type 0

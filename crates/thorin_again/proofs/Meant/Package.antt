@@ -1,16 +1,16 @@
 -- A finished package, taken as an input, means the units that were joined in it.
-use Rattle.std.proofs.Common.{◌≡◌, ◌∙◌, ◌⊎◌, inl, inr, ℕ, suc, Bool, true, false, cond, not, nat_eq}
-use Rattle.std.proofs.Common.{List, [], ◌∷◌, ◌++◌, length, map, ap, ap₂, sym, refl, subst, Result}
-use Rattle.std.proofs.Common.{Ok, Err, Option, Some, None, arith}
+use Rattle.std.proofs.Common.{◌≡◌, ◌∙◌, ◌⊎◌, inl, inr, ℕ, suc, Bool, true, false, cond, not}
+use Rattle.std.proofs.Common.{List, [], ◌∷◌, ◌++◌, map, ap, ap₂, sym, refl, subst, Result}
+use Rattle.std.proofs.Common.{Ok, Err, Option, Some, arith, nat_eq, length, None}
 use Rattle.std.specs.List.Sorted.{IsPermutation}
 use Rattle.std.proofs.lemmas.List.{map-append}
 use Rattle.std.proofs.lemmas.List.Sorted.{IsPermutation-refl, IsPermutation-trans}
 use Rattle.std.proofs.lemmas.List.Sorted.{IsPermutation-map, IsPermutation-filter_both}
 use Rattle.std.proofs.Math.Seq.{take-length}
-use Rattle.dwp_base.specs.Reading.{◌>>=◌}
-use Rattle.dwp_base.specs.declared.endian.Endianness.{Endianness}
 use Rattle.dwp_base.specs.declared.section.SectionKind.{SectionKind}
 use Rattle.dwp_base.specs.declared.section.SectionKind.TheVariants as kinds
+use Rattle.dwp_base.specs.Reading.{◌>>=◌}
+use Rattle.dwp_base.specs.declared.endian.Endianness.{Endianness}
 use Rattle.dwp_bytes.specs.Input.{section}
 use Rattle.dwp_bytes.specs.declared.encoding.Encoding.{Encoding}
 use Rattle.dwp_bytes.specs.declared.fault.ReadError.{ReadError}
@@ -22,26 +22,25 @@ use Rattle.dwp_elf.specs.FileText.{Object as File, file_text}
 use Rattle.dwp_elf.specs.Written.{written_elf}
 use Rattle.dwp_elf_read.specs.Elf.{Elf, elf_of}
 use Rattle.dwp_elf_read.specs.Identification as identification
-use Rattle.dwp_elf_read.specs.declared.fault.ReadError as elf_fault
 use Rattle.dwp_elf_read.specs.declared.kind.FileKind.{FileKind}
 use Rattle.dwp_elf_read.specs.declared.kind.FileKind.TheVariants.{Archive, Elf32, Elf64}
+use Rattle.dwp_index.specs.Package.{place_of, index_in_section}
 use Rattle.dwp_index.specs.Index.{Index}
 use Rattle.dwp_index.specs.IndexBytes.{index_of}
-use Rattle.dwp_index.specs.Package.{index_in_section, place_of}
+use Rattle.dwp_table.specs.declared.object.DwarfObject.{DwarfObject}
 use Rattle.dwp_index.specs.Package as reader
 use Rattle.dwp_index.specs.declared.fault.PackageError.TheVariants as faults
-use Rattle.dwp_table.specs.declared.object.DwarfObject.{DwarfObject}
-use Rattle.thorin_errors.specs.Fault.{Fault, ParseFileKind, ParseIndex, NoCompilationUnits}
+use Rattle.thorin_errors.specs.Fault.{Fault, ParseFileKind, NoCompilationUnits, ParseIndex}
 use Rattle.thorin_errors.specs.Answers.{as_fault}
 use Rattle.thorin_index.specs.declared.entry.IndexEntry.{IndexEntry}
 use Rattle.thorin_again.specs.Again.{input_encoding, HaveEncodingOf, all_meant, MeansWhereTaken}
 use Rattle.thorin_again.specs.Again.{MeansOnceWritten}
 use Rattle.thorin_join.specs.Builder.{State, IdentifiersFit, IsFinished, IsFinishedState}
-use Rattle.thorin_join.specs.Builder.{finish_test, rows_of, package_or_new, order_test}
-use Rattle.thorin_join.specs.Builder.{with_source_or_new, with_units, with_input, taken}
+use Rattle.thorin_join.specs.Builder.{finish_test, package_or_new, order_test}
+use Rattle.thorin_join.specs.Builder.{with_source_or_new, with_units, with_input, taken, rows_of}
 use Rattle.thorin_input.specs.Encodings.{encoding_of, first_encoding}
-use Rattle.thorin_input.specs.Indexes.{Indexes, Source, is_package, index_in, version_test}
-use Rattle.thorin_input.specs.Indexes.{indexes_of}
+use Rattle.thorin_input.specs.Indexes.{Indexes, Source, indexes_of}
+use Rattle.thorin_input.specs.Indexes.{is_package, index_in, version_test}
 use Rattle.thorin_join.specs.Laid.{IsLaid, Lie, is_at, rows_at}
 use Rattle.thorin_join.specs.Meaning.{Meaning, keys, meant, source_units, source_meaning}
 use Rattle.thorin_join.specs.Meaning.{input_meaning, named_sections}
@@ -49,26 +48,28 @@ use Rattle.thorin_input.specs.NewUnits.{new_units}
 use Rattle.thorin_input.specs.Parts.{parts_of}
 use Rattle.thorin_join.specs.Represents.{IsSound, IsSoundBegun, AreRowsOf, meaning_at, units_of}
 use Rattle.thorin_join.specs.Represents.{units_in, units_begun}
-use Rattle.thorin_join.specs.State.{InProgress, kind_at, names_of, adding, abbreviations_test}
-use Rattle.thorin_join.specs.State.{with_source}
+use Rattle.thorin_join.specs.State.{InProgress, kind_at, adding, abbreviations_test, with_source}
+use Rattle.thorin_join.specs.State.{names_of}
 use Rattle.thorin_input.specs.Used.{InputFile, opened, elf_in, has_info, input_file_of, first}
-use Rattle.thorin_join.proofs.Units.NamesApart.{distinct_chosen}
-use Rattle.thorin_join.proofs.Files.Indexes.{HasRows, IndexIsRead, IndexHasEntries, SomeIndex}
-use Rattle.thorin_join.proofs.Files.Indexes.{NoIndex, index-read, chosen-fit}
+use Rattle.thorin_join.proofs.Files.Indexes.{IndexIsRead, IndexHasEntries, SomeIndex, NoIndex}
+use Rattle.thorin_join.proofs.Files.Indexes.{HasRows, index-read, chosen-fit}
 use Rattle.thorin_join.proofs.Joined.Input.{meaning-at, object-means}
 use Rattle.thorin_join.proofs.Units.JoinedByName.{units-joined}
 use Rattle.thorin_join.proofs.Rows.Stay.{keep-rows}
 use Rattle.thorin_again.proofs.Meant.RowPlaces.{FirstLaw, FindLaw, IsAgain}
 use Rattle.thorin_again.proofs.Meant.OneSection.{Encoded, meant_rows, with_names, section-again}
 use Rattle.thorin_join.proofs.Steps.{err-ok, ok-eq, bind-ok, bind-inv}
-use Rattle.thorin_again.proofs.Meant.UnitsBySection.{Reads, AreTested, Split, joined-tested}
+use Rattle.thorin_again.proofs.Meant.UnitsBySection.{AreTested, Split, joined-tested}
 use Rattle.thorin_again.proofs.Meant.UnitsBySection.{sections-split}
 use Rattle.thorin_join.proofs.Files.Finished.{Tested, tested-state, finished-order, finished-grows}
-use Rattle.thorin_join.proofs.Files.Finished.{finished-strings, finished-compilations}
-use Rattle.thorin_join.proofs.Files.Finished.{finished-types}
-use Rattle.thorin_join.proofs.Files.Finished.{finished-own}
+use Rattle.thorin_join.proofs.Files.Finished.{finished-own, finished-strings}
+use Rattle.thorin_join.proofs.Files.Finished.{finished-compilations, finished-types}
+use Rattle.thorin_join.proofs.Units.HeadersRead.{Reads}
+use Rattle.thorin_join.proofs.Units.NamesApart.{distinct_chosen}
 use Rattle.thorin_again.proofs.Opened.SectionsWritten.{useds, written-object, first-content}
 use Rattle.thorin_again.proofs.Opened.SectionsWritten.{no-info}
+use Rattle.thorin_again.proofs.Opened.Sections.{object-written, first-written}
+use Rattle.thorin_again.specs.OwnInput.{written_object}
 
 -- ---- an index that an input has is the one that a reader of packages has
 
@@ -125,6 +126,63 @@ one-there source rows c t some = by source.indexes.compilations source.indexes.t
     by (Some i) b c' t' = refl
     by None (Some i) c' t' = refl
     by None None c' t' = absurd (some (no-rows rows c' t'))
+
+-- ---- the package, read again
+
+module _ (is_read : IndexIsRead) (has_entries : IndexHasEntries) (some_index : SomeIndex)
+    (none_index : NoIndex) (made : InProgress) (file : File) (sound : IsSound made)
+    (tests : Tested made) (fits : IdentifiersFit made.rows)
+    (f : IsFinished made file) (differ : KindsDiffer file.contents) (encoding : Encoding)
+    (indexes : Indexes) (read : indexes_of (written_object file) encoding ≡ Ok indexes)
+    (some : made.rows ≡ [] → ⊥) where
+  abbrev own-source : Source
+  own-source = record { object = written_object file; encoding = encoding; indexes = indexes }
+
+  own-held : (kind : SectionKind) → first kind (written_object file).sections ≡ content_of
+      kind file.contents
+  own-held kind = first-written kind file.contents differ
+
+  own-order : file.order ≡ made.file.order
+  own-order = finished-order made file f
+
+  has-compilations : HasRows indexes.compilations (rows_of true made.rows)
+  has-compilations =
+      let c = index-read is_read has_entries some_index none_index made.file.order
+      (rows_of true made.rows) f.compilation_index f.compilations tests.compilation_rows
+      (distinct_chosen true made.rows (names_of made) refl sound.apart)
+      (chosen-fit true made.rows fits) in
+      let same : indexes.compilations ≡ c.index =
+      index-same file.order kinds.CuIndex (first kinds.CuIndex (written_object file).sections)
+      indexes.compilations c.index (are-indexes (written_object file) encoding indexes
+      read).compilations
+      ((λ i. index_in_section (own-order i)
+      ((own-held kinds.CuIndex ∙ finished-compilations made file
+      f sound.units.no_compilations) i)) ∙ c.read) in
+      subst (λ i. HasRows i (rows_of true made.rows)) (sym same) c.has
+
+  has-types : HasRows indexes.types (rows_of false made.rows)
+  has-types =
+      let c = index-read is_read has_entries some_index none_index made.file.order
+      (rows_of false made.rows) f.type_index f.types tests.type_rows
+      (distinct_chosen false made.rows (names_of made) refl sound.apart)
+      (chosen-fit false made.rows fits) in
+      let same : indexes.types ≡ c.index =
+      index-same file.order kinds.TuIndex (first kinds.TuIndex (written_object file).sections)
+      indexes.types c.index (are-indexes (written_object file) encoding indexes read).types
+      ((λ i. index_in_section (own-order i) ((own-held kinds.TuIndex ∙ finished-types made file f
+      sound.units.no_types) i)) ∙ c.read) in
+      subst (λ i. HasRows i (rows_of false made.rows)) (sym same) c.has
+
+  -- what is read of it as an input
+  pub own-again : IsAgain own-source file.contents made.strings made.rows
+  own-again = record {
+    packed = one-there own-source made.rows has-compilations has-types some;
+    held = own-held;
+    strings_are = finished-strings made file f sound.units.no_strings;
+    table = sound.units.table;
+    compilations = has-compilations;
+    types = has-types;
+  }
 
 -- ---- the file
 
@@ -317,40 +375,14 @@ module _ (reads : UnitsAreTaken) (first_law : FirstLaw) (find_law : FindLaw) (is
     written : (t.object.order ≡ file.order) × (t.object.sections ≡ useds file.contents)
     written = written-object file t.object differ t.object_is
 
+    same_object : t.object ≡ written_object file
+    same_object = ok-eq _ _ (sym t.object_is ∙ object-written file differ)
+
     held : (kind : SectionKind) → first kind t.object.sections ≡ content_of kind file.contents
     held kind = ap (first kind) written.1 ∙ first-content kind file.contents differ
 
-    indexes : AreIndexes t.object t.indexes
-    indexes = are-indexes t.object t.encoding t.indexes t.indexes_are
-
     same_order : t.object.order ≡ made.file.order
     same_order = written.0 ∙ finished-order made file f
-
-    has-compilations : HasRows t.indexes.compilations (rows_of true made.rows)
-    has-compilations =
-        let c = index-read is_read has_entries some_index none_index made.file.order
-        (rows_of true made.rows) f.compilation_index f.compilations tests.compilation_rows
-        (distinct_chosen true made.rows (names_of made) refl sound.apart)
-        (chosen-fit true made.rows fits) in
-        let same : t.indexes.compilations ≡ c.index =
-        index-same t.object.order kinds.CuIndex (first kinds.CuIndex t.object.sections)
-        t.indexes.compilations c.index indexes.compilations
-        ((λ i. index_in_section (same_order i) ((held kinds.CuIndex ∙ finished-compilations made
-        file f sound.units.no_compilations) i)) ∙ c.read) in
-        subst (λ i. HasRows i (rows_of true made.rows)) (sym same) c.has
-
-    has-types : HasRows t.indexes.types (rows_of false made.rows)
-    has-types =
-        let c = index-read is_read has_entries some_index none_index made.file.order
-        (rows_of false made.rows) f.type_index f.types tests.type_rows
-        (distinct_chosen false made.rows (names_of made) refl sound.apart)
-        (chosen-fit false made.rows fits) in
-        let same : t.indexes.types ≡ c.index =
-        index-same t.object.order kinds.TuIndex (first kinds.TuIndex t.object.sections)
-        t.indexes.types c.index indexes.types
-        ((λ i. index_in_section (same_order i) ((held kinds.TuIndex ∙ finished-types made file f
-        sound.units.no_types) i)) ∙ c.read) in
-        subst (λ i. HasRows i (rows_of false made.rows)) (sym same) c.has
 
     -- an input with units has rows
     some-rows : made.rows ≡ [] → ⊥
@@ -369,14 +401,14 @@ module _ (reads : UnitsAreTaken) (first_law : FirstLaw) (find_law : FindLaw) (is
         ok-eq _ _ (sym t.encoding_is ∙ ap encoding_of same ∙ i.2)
 
     again : IsAgain source file.contents made.strings made.rows
-    again = record {
-      packed = one-there source made.rows has-compilations has-types some-rows;
-      held = held;
-      strings_are = finished-strings made file f sound.units.no_strings;
-      table = sound.units.table;
-      compilations = has-compilations;
-      types = has-types;
-    }
+    again = subst (λ o. IsAgain (record {
+      object = o;
+      encoding = t.encoding;
+      indexes = t.indexes;
+    }) file.contents made.strings made.rows) (sym same_object)
+        (own-again is_read has_entries some_index none_index made file sound tests fits f differ
+        t.encoding t.indexes (subst (λ o. indexes_of o t.encoding ≡ Ok t.indexes) same_object
+        t.indexes_are) some-rows)
 
     rows-kept : AreRowsOf t.object.order file.contents made.strings made.rows
         (with_names mean made.rows)

@@ -1,12 +1,15 @@
 -- The units of a written file, section by section.
 use Rattle.std.proofs.Common.{◌≡◌, ◌∙◌, ℕ, true, false, Bool, cond, not, ◌&&◌, List, [], ◌∷◌, ◌++◌}
 use Rattle.std.proofs.Common.{ap, sym, refl, subst, Result, Ok, append-nil, arith}
+use Rattle.std.proofs.Common.{Option, Some, None}
 use Rattle.std.specs.List.{list_any}
 use Rattle.std.specs.List.Sorted.{IsPermutation}
 use Rattle.std.proofs.lemmas.List.Sorted.{IsPermutation-refl, IsPermutation-trans}
 use Rattle.std.proofs.lemmas.List.Sorted.{IsPermutation-append_right, IsPermutation-append_comm}
+use Rattle.std.proofs.lemmas.Option.{none-some}
 use Rattle.dwp_base.specs.declared.section.SectionKind.{SectionKind}
 use Rattle.dwp_base.specs.declared.section.SectionKind.TheVariants as kinds
+use Rattle.dwp_base.proofs.Bools.{both}
 use Rattle.dwp_bytes.specs.Input.{section}
 use Rattle.dwp_dwarf.specs.Units.{units, units_within}
 use Rattle.dwp_dwarf.specs.declared.unit.UnitSection.{UnitSection}
@@ -24,11 +27,11 @@ use Rattle.thorin_input.specs.Rows.{row_test}
 use Rattle.thorin_join.specs.State.{kind_at}
 use Rattle.thorin_join.proofs.Units.JoinedByName.{AreAdded}
 use Rattle.thorin_join.proofs.Steps.{ok-eq, bind-inv}
-use Rattle.thorin_again.proofs.Opened.SectionsWritten.{used_of, useds, differ-later, empty-content}
-use Rattle.thorin_again.proofs.Opened.SectionsWritten.{none-there}
-
-abbrev pub Reads : Type 0
-Reads = List (DwarfObject × UnitRead)
+use Rattle.thorin_join.proofs.Units.HeadersRead.{kind-place, Reads}
+use Rattle.thorin_join.proofs.Parts.Appended.{differ}
+use Rattle.thorin_join.proofs.Files.Contents.{nothing}
+use Rattle.thorin_again.proofs.Opened.SectionsWritten.{useds, empty-content}
+use Rattle.thorin_again.proofs.Opened.Sections.{rest-differ, section_of}
 
 -- ---- the rows of compilation units that are accepted were tested
 
@@ -47,14 +50,6 @@ tested-front source (u ∷ us) vs h = (h.0, tested-front source us vs h.1)
 tested-back : (source : Source) (us vs : Reads) → AreTested source (us ++ vs) → AreTested source vs
 tested-back source [] vs h = h
 tested-back source (u ∷ us) vs h = tested-back source us vs h.1
-
-and-left : (a b : Bool) → (a && b) ≡ true → a ≡ true
-and-left true b h = refl
-and-left false b h = absurd cc
-
-and-right : (a b : Bool) → (a && b) ≡ true → b ≡ true
-and-right true b h = h
-and-right false b h = absurd cc
 
 not-both : (b : Bool) → not b ≡ true → b ≡ true → ⊥
 not-both true h k = cc
@@ -78,12 +73,9 @@ joined-tested adding names (u ∷ us) ns can are =
         → ((ms : List (DwarfObject × NewUnit)) → can_join (names ++ u.0 ∷ []) us ≡ true
         → AreAdded adding ms (joining (names ++ u.0 ∷ []) us) → AreTested adding.source us)
         → AreTested adding.source (u ∷ us)
-    by true ns can are here there = (
-      λ k. absurd (not-both (is_compilation u.0) (and-left (not (is_compilation u.0))
-          (can_join names us) can) k),
-      here ns (and-right (not (is_compilation u.0))
-          (can_join names us) can) are,
-    )
+    by true ns can are here there =
+        let passed = both (not (is_compilation u.0)) (can_join names us) can in
+        (λ k. absurd (not-both (is_compilation u.0) passed.0 k), here ns passed.1 are)
     by false [] can are here there = absurd are
     by false (n ∷ ns) can are here there = (λ k. are.0.tested, there ns can are.1)
 
@@ -186,44 +178,35 @@ module _ (source : Source) (k : SectionKind) (bytes : List ℕ) (cs : Contents) 
 section-split : (source : Source) (k : SectionKind) (bytes : List ℕ) (cs : Contents)
     (here others : Reads) → KindsDiffer ((k, bytes) ∷ cs) → AreTested source (here ++ others)
     → Split source cs others
-    → named_at source (used_of (k, bytes)) (unit_section k) ≡ Ok here
+    → named_at source (section_of (k, bytes)) (unit_section k) ≡ Ok here
     → Split source ((k, bytes) ∷ cs) (here ++ others)
-section-split source kinds.Info bytes cs here others differ tested rest h =
-    info-split source kinds.Info bytes cs here others tested rest refl (none-there kinds.Info cs
-    (let d = differ kinds.Info in omega arith)) refl h
-section-split source kinds.Types bytes cs here others differ tested rest h =
-    types-split source kinds.Types bytes cs here others tested rest refl (none-there kinds.Types cs
-    (let d = differ kinds.Types in omega arith)) refl h
-section-split source kinds.Abbrev bytes cs here others differ tested rest h =
-    other-split source kinds.Abbrev bytes cs here others tested rest refl refl
-    (sym (ok-eq [] here h))
-section-split source kinds.Line bytes cs here others differ tested rest h =
-    other-split source kinds.Line bytes cs here others tested rest refl refl (sym (ok-eq [] here h))
-section-split source kinds.Loc bytes cs here others differ tested rest h =
-    other-split source kinds.Loc bytes cs here others tested rest refl refl (sym (ok-eq [] here h))
-section-split source kinds.Loclists bytes cs here others differ tested rest h =
-    other-split source kinds.Loclists bytes cs here others tested rest refl refl
-    (sym (ok-eq [] here h))
-section-split source kinds.Rnglists bytes cs here others differ tested rest h =
-    other-split source kinds.Rnglists bytes cs here others tested rest refl refl
-    (sym (ok-eq [] here h))
-section-split source kinds.StrOffsets bytes cs here others differ tested rest h =
-    other-split source kinds.StrOffsets bytes cs here others tested rest refl refl
-    (sym (ok-eq [] here h))
-section-split source kinds.Macinfo bytes cs here others differ tested rest h =
-    other-split source kinds.Macinfo bytes cs here others tested rest refl refl
-    (sym (ok-eq [] here h))
-section-split source kinds.Macro bytes cs here others differ tested rest h =
-    other-split source kinds.Macro bytes cs here others tested rest refl refl
-    (sym (ok-eq [] here h))
-section-split source kinds.Str bytes cs here others differ tested rest h =
-    other-split source kinds.Str bytes cs here others tested rest refl refl (sym (ok-eq [] here h))
-section-split source kinds.CuIndex bytes cs here others differ tested rest h =
-    other-split source kinds.CuIndex bytes cs here others tested rest refl refl
-    (sym (ok-eq [] here h))
-section-split source kinds.TuIndex bytes cs here others differ tested rest h =
-    other-split source kinds.TuIndex bytes cs here others tested rest refl refl
-    (sym (ok-eq [] here h))
+section-split source k bytes cs here others apart tested rest h = by (unit_section k) refl h
+  where
+    placed : (place : UnitSection) → KindsDiffer ((kind_at place, bytes) ∷ cs)
+        → named_at source (section_of (kind_at place, bytes)) (Some place) ≡ Ok here
+        → Split source ((kind_at place, bytes) ∷ cs) (here ++ others)
+    placed places.Info once h =
+        info-split source kinds.Info bytes cs here others tested rest refl
+        (nothing kinds.Info cs (let d = once kinds.Info in omega arith)) refl h
+    placed places.Types once h =
+        types-split source kinds.Types bytes cs here others tested rest refl
+        (nothing kinds.Types cs (let d = once kinds.Types in omega arith)) refl h
+
+    by : (place : Option UnitSection) → unit_section k ≡ place
+        → named_at source (section_of (k, bytes)) place ≡ Ok here
+        → Split source ((k, bytes) ∷ cs) (here ++ others)
+    by None at h =
+        let other = λ (place : UnitSection) (there : unit_section (kind_at place) ≡ Some place).
+        differ k (kind_at place) (λ e. none-some place (sym at ∙ ap unit_section e ∙ there)) in
+        other-split source k bytes cs here others tested rest
+        (ap (λ b. cond b bytes (content_of kinds.Info cs)) (other places.Info refl))
+        (ap (λ b. cond b bytes (content_of kinds.Types cs)) (other places.Types refl))
+        (sym (ok-eq [] here h))
+    by (Some place) at h =
+        subst (λ j. KindsDiffer ((j, bytes) ∷ cs)
+        → named_at source (section_of (j, bytes)) (Some place) ≡ Ok here
+        → Split source ((j, bytes) ∷ cs) (here ++ others))
+        (sym (kind-place k place at)) (placed place) apart h
 
 -- the units of a file's sections are those of info and those of types, in some order
 pub sections-split : (source : Source) (cs : Contents) (all : Reads) → KindsDiffer cs
@@ -241,13 +224,13 @@ sections-split source [] all differ h tested = record {
 sections-split source ((k, []) ∷ cs) all differ h tested =
     split-as source ((k, []) ∷ cs) cs all (empty-content kinds.Info k cs differ)
     (empty-content kinds.Types k cs differ)
-    (sections-split source cs all (differ-later (k, []) cs differ) h tested)
+    (sections-split source cs all (rest-differ (k, []) cs differ) h tested)
 sections-split source ((k, b ∷ bs) ∷ cs) all differ h tested =
-    let s1 = bind-inv (named_at source (used_of (k, b ∷ bs)) (unit_section k)) _ all h in
+    let s1 = bind-inv (named_at source (section_of (k, b ∷ bs)) (unit_section k)) _ all h in
     let s2 = bind-inv (named_sections source (useds cs)) _ all s1.2 in
     let is : s1.0 ++ s2.0 ≡ all = ok-eq _ all s2.2 in
     let both : AreTested source (s1.0 ++ s2.0) = subst (AreTested source) (sym is) tested in
-    let rest = sections-split source cs s2.0 (differ-later (k, b ∷ bs) cs differ) s2.1
+    let rest = sections-split source cs s2.0 (rest-differ (k, b ∷ bs) cs differ) s2.1
     (tested-back source s1.0 s2.0 both) in
     subst (Split source ((k, b ∷ bs) ∷ cs)) is (section-split source k (b ∷ bs) cs s1.0 s2.0
     differ both rest s1.1)

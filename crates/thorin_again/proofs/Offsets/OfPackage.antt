@@ -1,6 +1,6 @@
 -- A written package of plain objects as an input: its indexes, and its string offsets.
 use Rattle.std.proofs.Common.{◌≡◌, ◌∙◌, ℕ, suc, ◌+◌, ◌<◌, true, false, cond, List, [], ◌∷◌, ◌++◌}
-use Rattle.std.proofs.Common.{length, refl, sym, ap, subst, Ok, Some, arith, inl, inr}
+use Rattle.std.proofs.Common.{length, refl, sym, ap, subst, Ok, Some, arith, inl, inr, true≢false}
 use Rattle.std.specs.Prelude.{slice_get}
 use Rattle.std.proofs.lemmas.List.{length-map}
 use Rattle.std.proofs.lemmas.Option.{same_Some}
@@ -9,17 +9,16 @@ use Rattle.dwp_base.specs.declared.endian.Endianness.{Endianness}
 use Rattle.dwp_base.specs.declared.section.Contribution.{Contribution}
 use Rattle.dwp_base.specs.declared.section.SectionKind.{SectionKind}
 use Rattle.dwp_base.specs.declared.section.SectionKind.TheVariants as kinds
-use Rattle.dwp_base.specs.Sections.{same_kind}
 use Rattle.dwp_bytes.specs.StringOffsets.{entry_count}
 use Rattle.dwp_bytes.specs.declared.encoding.Encoding.{Encoding}
-use Rattle.dwp_elf.specs.Contents.{KindsDiffer, content_of}
+use Rattle.dwp_elf.specs.Contents.{content_of}
 use Rattle.dwp_elf.specs.FileText.{Object as File}
-use Rattle.dwp_index.specs.Package.{index_in_section, part_of}
+use Rattle.dwp_index.specs.Package.{part_of}
 use Rattle.dwp_index.specs.Strings.{string_in}
 use Rattle.dwp_table.specs.declared.object.DwarfObject.{DwarfObject}
 use Rattle.thorin_index.specs.declared.entry.IndexEntry.{IndexEntry}
 use Rattle.thorin_strings.specs.Strings.{IsTable, data_of}
-use Rattle.thorin_join.specs.Builder.{State, IdentifiersFit, IsFinished, rows_of}
+use Rattle.thorin_join.specs.Builder.{State, IsFinished}
 use Rattle.thorin_input.specs.Growing.{Contents, with_bytes}
 use Rattle.thorin_input.specs.Indexes.{Indexes, Source, indexes_of}
 use Rattle.thorin_join.specs.Meaning.{Meaning, Members}
@@ -27,31 +26,26 @@ use Rattle.thorin_again.specs.OwnInput.{written_object, IsOwn}
 use Rattle.thorin_again.specs.OwnRefusals.{UnlessStringOffset}
 use Rattle.thorin_again.specs.OwnUnits.{AllOf}
 use Rattle.thorin_input.specs.InputStrings.{rewritten}
-use Rattle.thorin_again.specs.Plain.{is_shared, IsWholeRange, Tile, IsAmong, HasOneOf, IsPlain}
+use Rattle.thorin_input.specs.Format.{is_shared}
+use Rattle.thorin_again.specs.Plain.{IsWholeRange, Tile, IsAmong, HasOneOf, IsPlain}
 use Rattle.thorin_join.specs.Represents.{IsSound, IsSoundBegun, IsRowOf, AreRowsOf, units_of}
 use Rattle.thorin_join.specs.Represents.{units_begun}
 use Rattle.thorin_join.specs.StandApart.{EachRow}
-use Rattle.thorin_join.specs.State.{InProgress, names_of}
+use Rattle.thorin_join.specs.State.{InProgress}
 use Rattle.thorin_input.specs.Used.{first}
 use Rattle.thorin_packaged.specs.PackagedOffsets.{packaged_offsets}
 use Rattle.thorin_packaged.specs.PackagedReading.{range_bytes}
-use Rattle.thorin_join.proofs.Units.NamesApart.{distinct_chosen}
 use Rattle.thorin_join.proofs.Parts.FirstUses.{slice-long}
-use Rattle.thorin_join.proofs.Files.Indexes.{HasRows, IndexIsRead, IndexHasEntries, SomeIndex}
-use Rattle.thorin_join.proofs.Files.Indexes.{NoIndex, index-read, chosen-fit}
+use Rattle.thorin_join.proofs.Files.Indexes.{IndexIsRead, IndexHasEntries, SomeIndex, NoIndex}
 use Rattle.thorin_join.proofs.Rows.Stay.{part-inside}
 use Rattle.thorin_again.proofs.Offsets.RangesApart.{AreNamed, CanRewrite, offsets-rewritten}
 use Rattle.thorin_again.proofs.Offsets.RangesApart.{are-named}
 use Rattle.thorin_again.proofs.Offsets.RangesFill.{offsets-alone}
-use Rattle.thorin_join.proofs.Rows.OfUnits.{each-shared}
-use Rattle.thorin_again.proofs.Opened.Sections.{first-written}
-use Rattle.thorin_again.proofs.Meant.Package.{index-same, are-indexes, one-there}
-use Rattle.thorin_join.proofs.Parts.Appended.{content-with_bytes}
+use Rattle.thorin_again.proofs.Meant.Package.{own-again}
+use Rattle.thorin_join.proofs.Parts.Appended.{content-with_bytes, differ}
 use Rattle.thorin_join.proofs.Parts.Strings.{rewritten-package}
 use Rattle.thorin_again.proofs.Meant.RowPlaces.{IsAgain}
-use Rattle.thorin_join.proofs.Files.Finished.{Tested, tested-state, finished-order}
-use Rattle.thorin_join.proofs.Files.Finished.{finished-strings}
-use Rattle.thorin_join.proofs.Files.Finished.{finished-compilations, finished-types}
+use Rattle.thorin_join.proofs.Files.Finished.{tested-state, finished-order}
 
 -- the contents that units share stay when a package is finished
 pub finished-shared : (made : InProgress) (file : File) → IsFinished made file
@@ -62,71 +56,14 @@ finished-shared made file f kind shared =
     let s = with_bytes kinds.Str (data_of made.strings) c in
     let t = with_bytes kinds.CuIndex f.compilation_index s in
     ap (λ (o : File). content_of kind o.contents) f.contents
-    ∙ other kinds.TuIndex f.type_index t (each-shared (λ k. same_kind kinds.TuIndex k ≡ false) refl
-    refl refl refl refl refl refl refl kind shared)
-    ∙ other kinds.CuIndex f.compilation_index s (each-shared (λ k. same_kind kinds.CuIndex k ≡
-    false) refl refl refl refl refl refl refl refl kind shared)
-    ∙ other kinds.Str (data_of made.strings) c (each-shared (λ k. same_kind kinds.Str k ≡ false)
-    refl refl refl refl refl refl refl refl kind shared)
+    ∙ other kinds.TuIndex f.type_index t refl ∙ other kinds.CuIndex f.compilation_index s refl
+    ∙ other kinds.Str (data_of made.strings) c refl
   where
-    other : (k : SectionKind) (x : List ℕ) (d : Contents) → same_kind k kind ≡ false
+    other : (k : SectionKind) (x : List ℕ) (d : Contents) → is_shared k ≡ false
         → content_of kind (with_bytes k x d) ≡ content_of kind d
     other k x d h = content-with_bytes kind k x d ∙ ap (λ b. cond b (content_of kind d ++ x)
-        (content_of kind d)) h
-
-module _ (is_read : IndexIsRead) (has_entries : IndexHasEntries) (some_index : SomeIndex)
-    (none_index : NoIndex) (made : InProgress) (file : File) (sound : IsSound made)
-    (tests : Tested made) (fits : IdentifiersFit made.rows)
-    (f : IsFinished made file) (differ : KindsDiffer file.contents) (encoding : Encoding)
-    (indexes : Indexes) (read : indexes_of (written_object file) encoding ≡ Ok indexes)
-    (some : made.rows ≡ [] → ⊥) where
-  abbrev source : Source
-  source = record { object = written_object file; encoding = encoding; indexes = indexes }
-
-  held : (kind : SectionKind) → first kind (written_object file).sections ≡ content_of
-      kind file.contents
-  held kind = first-written kind file.contents differ
-
-  same_order : file.order ≡ made.file.order
-  same_order = finished-order made file f
-
-  has-compilations : HasRows indexes.compilations (rows_of true made.rows)
-  has-compilations =
-      let c = index-read is_read has_entries some_index none_index made.file.order
-      (rows_of true made.rows) f.compilation_index f.compilations tests.compilation_rows
-      (distinct_chosen true made.rows (names_of made) refl sound.apart)
-      (chosen-fit true made.rows fits) in
-      let same : indexes.compilations ≡ c.index =
-      index-same file.order kinds.CuIndex (first kinds.CuIndex (written_object file).sections)
-      indexes.compilations c.index (are-indexes (written_object file) encoding indexes
-      read).compilations
-      ((λ i. index_in_section (same_order i) ((held kinds.CuIndex ∙ finished-compilations made file
-      f sound.units.no_compilations) i)) ∙ c.read) in
-      subst (λ i. HasRows i (rows_of true made.rows)) (sym same) c.has
-
-  has-types : HasRows indexes.types (rows_of false made.rows)
-  has-types =
-      let c = index-read is_read has_entries some_index none_index made.file.order
-      (rows_of false made.rows) f.type_index f.types tests.type_rows
-      (distinct_chosen false made.rows (names_of made) refl sound.apart)
-      (chosen-fit false made.rows fits) in
-      let same : indexes.types ≡ c.index =
-      index-same file.order kinds.TuIndex (first kinds.TuIndex (written_object file).sections)
-      indexes.types c.index (are-indexes (written_object file) encoding indexes read).types
-      ((λ i. index_in_section (same_order i) ((held kinds.TuIndex ∙ finished-types made file f
-      sound.units.no_types) i)) ∙ c.read) in
-      subst (λ i. HasRows i (rows_of false made.rows)) (sym same) c.has
-
-  -- what is read of it as an input
-  pub own-again : IsAgain source file.contents made.strings made.rows
-  own-again = record {
-    packed = one-there source made.rows has-compilations has-types some;
-    held = held;
-    strings_are = finished-strings made file f sound.units.no_strings;
-    table = sound.units.table;
-    compilations = has-compilations;
-    types = has-types;
-  }
+        (content_of kind d)) (differ k kind (λ e. true≢false (sym shared ∙ ap is_shared (sym e)
+        ∙ h)))
 
 -- ---- string offsets
 
@@ -185,6 +122,45 @@ rows-can order encoding c strings ranges (row ∷ rows) (m ∷ ms) tile table ar
       all (suc k) d (omega (arith, within))) has.1,
 )
 
+-- a finished package of plain objects, read again of its file
+pub record IsReadOf (state : State) (encoding : Encoding) (file : File)
+    (indexes : Indexes) : Type 0 where
+  pub made : InProgress
+  pub finished : IsFinished made file
+  pub sound : IsSound made
+  pub plain : IsPlain encoding made
+  pub all : AllOf encoding (units_of made)
+  pub again : IsAgain (record {
+    object = written_object file;
+    encoding = encoding;
+    indexes = indexes;
+  }) file.contents made.strings made.rows
+
+pub read-of : IndexIsRead → IndexHasEntries → SomeIndex → NoIndex → (state : State)
+    (encoding : Encoding) (file : File) → IsOwn state encoding file
+    → (made : InProgress) → state.begun ≡ Some made → IsPlain encoding made → (indexes : Indexes)
+    → indexes_of (written_object file) encoding ≡ Ok indexes → IsReadOf state encoding file indexes
+read-of is_read has_entries some_index none_index state encoding file own other begun plain indexes
+    read =
+    let fin = own.finished in
+    let made = fin.made in
+    let same : other ≡ made = same_Some other made (sym begun ∙ fin.begun) in
+    let sound : IsSound made = subst IsSoundBegun fin.begun own.sound in
+    let count : 0 < length (units_of made) = subst (λ b. 0 < length (units_begun b))
+    fin.begun own.some in
+    let long : length (units_of made) ≡ length made.rows = length-map made.rows _ in
+    record {
+      made = made;
+      finished = fin.finished;
+      sound = sound;
+      plain = subst (IsPlain encoding) same plain;
+      all = subst (λ b. AllOf encoding (units_begun b)) fin.begun own.all;
+      again = own-again is_read has_entries some_index none_index made file sound
+          (tested-state state made fin.begun own.tested) fin.identifiers fin.finished own.kinds
+          encoding indexes read (λ none. let e : length made.rows ≡ 0 = ap length none in
+          omega (arith, e, count, long));
+    }
+
 -- the string offsets of a written package are rewritten, unless an offset doesn't fit
 pub own-offsets : IndexIsRead → IndexHasEntries → SomeIndex → NoIndex
     → (state : State) (encoding : Encoding) (file : File) → IsOwn state encoding file
@@ -197,22 +173,10 @@ pub own-offsets : IndexIsRead → IndexHasEntries → SomeIndex → NoIndex
     }) (content_of kinds.StrOffsets file.contents) strings)
 own-offsets is_read has_entries some_index none_index state encoding file own other begun plain
     indexes read strings =
-    let fin = own.finished in
-    let made = fin.made in
-    let f = fin.finished in
-    let same : other ≡ made = same_Some other made (sym begun ∙ fin.begun) in
-    let sound : IsSound made = subst IsSoundBegun fin.begun own.sound in
-    let is_plain : IsPlain encoding made = subst (IsPlain encoding) same plain in
-    let tests = tested-state state made fin.begun own.tested in
-    let all : AllOf encoding (units_of made) = subst (λ b. AllOf encoding (units_begun b))
-    fin.begun own.all in
-    let count : 0 < length (units_of made) = subst (λ b. 0 < length (units_begun b))
-    fin.begun own.some in
-    let long : length (units_of made) ≡ length made.rows = length-map made.rows _ in
-    let some : made.rows ≡ [] → ⊥ = λ none. let e : length made.rows ≡ 0 = ap length none in
-    omega (arith, e, count, long) in
-    let again = own-again is_read has_entries some_index none_index made file sound tests
-    fin.identifiers f own.kinds encoding indexes read some in
+    let is = read-of is_read has_entries some_index none_index state encoding file own other begun
+    plain indexes read in
+    let made = is.made in
+    let f = is.finished in
     let source : Source = record {
       object = written_object file;
       encoding = encoding;
@@ -222,16 +186,16 @@ own-offsets is_read has_entries some_index none_index state encoding file own ot
     let content = finished-shared made file f kinds.StrOffsets refl in
     let old = content_of kinds.StrOffsets made.file.contents in
     let rows = rows-can made.file.order encoding made.file.contents made.strings
-    is_plain.offsets.ranges made.rows (units_of made) is_plain.offsets.tile sound.units.table
-    sound.units.rows all is_plain.offsets.rows in
+    is.plain.offsets.ranges made.rows (units_of made) is.plain.offsets.tile is.sound.units.table
+    is.sound.units.rows is.all is.plain.offsets.rows in
     let here = offsets-rewritten made.file.order encoding indexes.compilations indexes.types
-    (data_of made.strings) old strings made.rows is_plain.offsets.ranges is_plain.offsets.tile
-    again.compilations again.types rows in
+    (data_of made.strings) old strings made.rows is.plain.offsets.ranges is.plain.offsets.tile
+    is.again.compilations is.again.types rows in
     let strings_are : first kinds.Str (written_object file).sections ≡ data_of made.strings =
-    again.held kinds.Str ∙ again.strings_are in
+    is.again.held kinds.Str ∙ is.again.strings_are in
     subst UnlessStringOffset
     (sym (rewritten-package source (content_of kinds.StrOffsets file.contents)
-    strings again.packed))
+    strings is.again.packed))
     (subst (λ b. UnlessStringOffset (packaged_offsets file.order encoding indexes.compilations
     indexes.types (first kinds.Str (written_object file).sections) b strings)) (sym content)
     (subst (λ s. UnlessStringOffset (packaged_offsets file.order encoding indexes.compilations
@@ -249,20 +213,10 @@ pub own-offsets-alone : IndexIsRead → IndexHasEntries → SomeIndex → NoInde
     (content_of kinds.StrOffsets file.contents) [] ≡ Ok w)
 own-offsets-alone is_read has_entries some_index none_index state encoding file own other begun
     plain indexes read =
-    let fin = own.finished in
-    let made = fin.made in
-    let f = fin.finished in
-    let same : other ≡ made = same_Some other made (sym begun ∙ fin.begun) in
-    let sound : IsSound made = subst IsSoundBegun fin.begun own.sound in
-    let is_plain : IsPlain encoding made = subst (IsPlain encoding) same plain in
-    let tests = tested-state state made fin.begun own.tested in
-    let count : 0 < length (units_of made) = subst (λ b. 0 < length (units_begun b))
-    fin.begun own.some in
-    let long : length (units_of made) ≡ length made.rows = length-map made.rows _ in
-    let some : made.rows ≡ [] → ⊥ = λ none. let e : length made.rows ≡ 0 = ap length none in
-    omega (arith, e, count, long) in
-    let again = own-again is_read has_entries some_index none_index made file sound tests
-    fin.identifiers f own.kinds encoding indexes read some in
+    let is = read-of is_read has_entries some_index none_index state encoding file own other begun
+    plain indexes read in
+    let made = is.made in
+    let f = is.finished in
     let source : Source = record {
       object = written_object file;
       encoding = encoding;
@@ -271,15 +225,15 @@ own-offsets-alone is_read has_entries some_index none_index state encoding file 
     let order : file.order ≡ made.file.order = finished-order made file f in
     let content = finished-shared made file f kinds.StrOffsets refl in
     let old = content_of kinds.StrOffsets made.file.contents in
-    let tiled = is_plain.offsets in
+    let tiled = is.plain.offsets in
     let here = offsets-alone made.file.order encoding indexes.compilations indexes.types
-    (data_of made.strings) old made.rows tiled.ranges made.strings tiled.tile again.compilations
-    again.types tiled.rows tiled.named
-    (tiled.strings made.strings sound.units.table (take-length made.strings)) in
+    (data_of made.strings) old made.rows tiled.ranges made.strings tiled.tile is.again.compilations
+    is.again.types tiled.rows tiled.named
+    (tiled.strings made.strings is.sound.units.table (take-length made.strings)) in
     let strings_are : first kinds.Str (written_object file).sections ≡ data_of made.strings =
-    again.held kinds.Str ∙ again.strings_are in (
+    is.again.held kinds.Str ∙ is.again.strings_are in (
       here.0,
-      rewritten-package source (content_of kinds.StrOffsets file.contents) [] again.packed
+      rewritten-package source (content_of kinds.StrOffsets file.contents) [] is.again.packed
           ∙ (λ i. packaged_offsets (order i) encoding indexes.compilations indexes.types
           (strings_are i) (content i) [])
           ∙ here.1,

@@ -8,6 +8,7 @@ use Rattle.std.proofs.Math.Seq.{take-length}
 use Rattle.dwp_base.specs.declared.endian.Endianness.{Endianness}
 use Rattle.dwp_base.specs.declared.section.SectionKind.TheVariants.{StrOffsets, Str}
 use Rattle.dwp_base.specs.Reading.{◌>>=◌}
+use Rattle.dwp_base.proofs.EveryKind.{is-same}
 use Rattle.dwp_bytes.specs.Encoding.{offset_size}
 use Rattle.dwp_bytes.specs.StringOffsets.{header_size, entry_count}
 use Rattle.dwp_bytes.specs.declared.encoding.Encoding.{Encoding}
@@ -26,8 +27,7 @@ use Rattle.thorin_input.specs.Used.{Used, first}
 use Rattle.thorin_join.proofs.Parts.FirstUses.{no-entries}
 use Rattle.thorin_join.proofs.Parts.OffsetRanges.{no-header, rewritten-long, count-again}
 use Rattle.thorin_again.proofs.Offsets.RewrittenAgain.{Lead, leads-again, leads-joined}
-use Rattle.thorin_join.proofs.Parts.Appended.{either, same-kind, joined_parts-more}
-use Rattle.thorin_join.proofs.Parts.Appended.{joined_parts-other}
+use Rattle.thorin_join.proofs.Parts.Appended.{either, joined_parts-more, joined_parts-other}
 use Rattle.thorin_join.proofs.Parts.Appended.{Rewritten, Adds, step}
 use Rattle.thorin_join.proofs.Parts.OffsetLaws.{NamesTheSameLaw}
 use Rattle.thorin_join.proofs.Parts.PlainOffsets.{has-more, has-other, not-there}
@@ -225,7 +225,7 @@ module _ (names : NamesTheSameLaw) (source : Source) (plain : is_package source.
   made-step before s next so_far once (inl (o, w)) =
       let here : (stands_once source StrOffsets && has_part StrOffsets before.0) ≡ false =
       subst (λ k. (stands_once source k && has_part k before.0) ≡ false)
-      (same-kind s.kind StrOffsets o) once in
+      (is-same s.kind StrOffsets o) once in
       made-rewritten before s.bytes next so_far (λ standard. not-there (is_package source.indexes)
       (leb 5 encoding.version) (has_part StrOffsets before.0) standard here) w
   made-step before s next so_far once (inr (inl (o, c, is))) =

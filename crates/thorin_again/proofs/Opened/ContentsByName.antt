@@ -5,18 +5,15 @@ use Rattle.std.specs.Prelude.{find, is_some}
 use Rattle.std.specs.List.{list_any}
 use Rattle.std.specs.Str.{bytes_eq}
 use Rattle.dwp_base.specs.declared.section.SectionKind.{SectionKind}
-use Rattle.dwp_base.specs.declared.section.SectionKind.TheVariants.{Info, Types, Abbrev, Line, Loc}
-use Rattle.dwp_base.specs.declared.section.SectionKind.TheVariants.{Loclists, Rnglists, StrOffsets}
-use Rattle.dwp_base.specs.declared.section.SectionKind.TheVariants.{Macinfo, Macro, Str, CuIndex}
-use Rattle.dwp_base.specs.declared.section.SectionKind.TheVariants.{TuIndex}
+use Rattle.dwp_base.specs.declared.section.SectionKind.TheVariants.{Info}
 use Rattle.dwp_base.specs.Sections.{name_of, same_kind}
+use Rattle.dwp_base.proofs.EveryKind.{is-same, every}
 use Rattle.dwp_elf.specs.Contents.{content_of}
 use Rattle.dwp_elf.specs.FileText.{Object as File, name_table}
 use Rattle.dwp_elf.specs.Written.{plain_section, written_sections, written_elf}
 use Rattle.dwp_elf_read.specs.Elf.{SectionMeaning, is_named}
 use Rattle.thorin_input.specs.Growing.{Contents}
 use Rattle.thorin_input.specs.Used.{has_info, is_of, is_present}
-use Rattle.thorin_join.proofs.Parts.Appended.{same-kind}
 
 -- a test that each section of the kind's name meets
 abbrev Meets : SectionKind → (SectionMeaning → Bool) → Type 0
@@ -49,7 +46,7 @@ named-section kind test meets n names (c ∷ cs) h = here (same_kind c.0 kind) r
         (find test (written_sections (n + 1) names cs))) ≡ true
     here true e some later = is-found (plain_section n 1 (name_of c.0) c.1)
         (test (plain_section n 1 (name_of c.0) c.1)) (find test (written_sections (n + 1) names cs))
-        (ap (λ k. test (plain_section n 1 (name_of k) c.1)) (same-kind c.0 kind e) ∙ meets n c.1)
+        (ap (λ k. test (plain_section n 1 (name_of k) c.1)) (is-same c.0 kind e) ∙ meets n c.1)
     here false e some later = found-later (plain_section n 1 (name_of c.0) c.1)
         (test (plain_section n 1 (name_of c.0) c.1)) (find test (written_sections (n + 1) names cs))
         (later some)
@@ -65,19 +62,7 @@ any-found test (x ∷ xs) h = either-way (test x) h (any-found test xs)
     either-way false h later = later h
 
 own-name : (kind : SectionKind) → bytes_eq (name_of kind) (name_of kind) ≡ true
-own-name Info = refl
-own-name Types = refl
-own-name Abbrev = refl
-own-name Line = refl
-own-name Loc = refl
-own-name Loclists = refl
-own-name Rnglists = refl
-own-name StrOffsets = refl
-own-name Macinfo = refl
-own-name Macro = refl
-own-name Str = refl
-own-name CuIndex = refl
-own-name TuIndex = refl
+own-name = every (λ k. bytes_eq (name_of k) (name_of k)) refl
 
 in-file : (file : File) (test : SectionMeaning → Bool)
     → is_some (find test (written_sections 1 (name_table file.contents) file.contents)) ≡ true

@@ -1,14 +1,14 @@
 -- The sections of a written package are in the format of its units.
-use Rattle.std.proofs.Common.{◌≡◌, ◌∙◌, ℕ, zero, suc, ◌<◌, Bool, true, false, cond, not, leb, ◌||◌}
+use Rattle.std.proofs.Common.{◌≡◌, ◌∙◌, ℕ, zero, suc, ◌<◌, Bool, true, false, cond, not, ◌||◌}
 use Rattle.std.proofs.Common.{⊎_elim, List, [], ◌∷◌, length, refl, sym, ap, Result, Ok, Err, Option}
 use Rattle.std.proofs.Common.{Some, None, arith, true≢false}
 use Rattle.std.specs.Prelude.{slice_get, is_some}
 use Rattle.std.proofs.lemmas.Option.{none-some, same_Some}
-use Rattle.dwp_base.specs.Sections.{name_of}
+use Rattle.dwp_base.specs.Sections.{name_of, rank_of}
 use Rattle.dwp_base.specs.declared.endian.Endianness.{Endianness}
 use Rattle.dwp_base.specs.declared.section.Contribution.{Contribution}
 use Rattle.dwp_base.specs.declared.section.SectionKind.{SectionKind}
-use Rattle.dwp_base.specs.declared.section.SectionKind.TheVariants as kinds
+use Rattle.dwp_base.proofs.Bools.{or-right}
 use Rattle.dwp_bytes.specs.Encoding.{index_version_of}
 use Rattle.dwp_bytes.specs.declared.encoding.Encoding.{Encoding}
 use Rattle.dwp_dwarf.specs.declared.unit.UnitSection.{UnitSection}
@@ -21,11 +21,13 @@ use Rattle.thorin_index.specs.IndexText.{is_used}
 use Rattle.thorin_index.specs.declared.entry.IndexEntry.{IndexEntry}
 use Rattle.thorin_join.specs.Builder.{rows_of}
 use Rattle.thorin_join.specs.Laid.{Lie, is_at, rows_at}
-use Rattle.thorin_input.specs.Format.{is_in_format}
+use Rattle.thorin_input.specs.Format.{is_in_format, is_of_units}
+use Rattle.thorin_input.specs.Used.{counts_once}
 use Rattle.thorin_join.specs.State.{kind_at}
 use Rattle.thorin_again.proofs.Opened.Indexes.{HaveVersion, version-chosen}
 use Rattle.thorin_again.proofs.Taken.RowsGiven.{used-chosen}
 use Rattle.thorin_join.proofs.Steps.{bind-inv}
+use Rattle.thorin_join.proofs.EachKind.{same-each}
 
 -- what each of a list passes
 each-passed : {A : Type 0} (test : A → Result (Unit {0}) Fault) (xs : List A) (n : ℕ) (x : A)
@@ -105,52 +107,28 @@ column-of version kind k rows at have c t used = ⊎_elim
     (version-chosen false version rows have) t u)
     (used-chosen kind rows used)
 
-older-loc : (b : Bool) → is_some (column_of (cond b 5 2) kinds.Loc) ≡ true → not b ≡ true
-older-loc true h = absurd (true≢false (sym h))
-older-loc false h = refl
-
-older-macinfo : (b : Bool) → is_some (column_of (cond b 5 2) kinds.Macinfo) ≡ true → not b ≡ true
-older-macinfo true h = absurd (true≢false (sym h))
-older-macinfo false h = refl
-
-older-types : (b : Bool) → is_some (column_of (cond b 5 2) kinds.Types) ≡ true → not b ≡ true
-older-types true h = absurd (true≢false (sym h))
-older-types false h = refl
-
-newer-loclists : (b : Bool) → is_some (column_of (cond b 5 2) kinds.Loclists) ≡ true → b ≡ true
-newer-loclists true h = refl
-newer-loclists false h = absurd (true≢false (sym h))
-
-newer-rnglists : (b : Bool) → is_some (column_of (cond b 5 2) kinds.Rnglists) ≡ true → b ≡ true
-newer-rnglists true h = refl
-newer-rnglists false h = absurd (true≢false (sym h))
+column-at : (kind : SectionKind) → counts_once kind ≡ false
+    → slice_get contribution_kinds (rank_of kind) ≡ Some kind
+column-at kind once =
+    same-each (λ k. slice_get contribution_kinds (rank_of k)) (λ k. cond (counts_once k) None
+    (Some k)) refl kind
+    ∙ ap (λ b. cond b None (Some kind)) once
 
 -- a section that has bytes is in the format, where rows name it
 pub in-format : (encoding : Encoding) (rows : List IndexEntry) → HaveVersion encoding.version rows
     → index_tests (rows_of true rows) ≡ Ok tt → index_tests (rows_of false rows) ≡ Ok tt
-    → (kind : SectionKind) → (kind ≡ kinds.Types → is_used rows kinds.Types ≡ true)
-    → (kind ≡ kinds.Loc → is_used rows kinds.Loc ≡ true) → (kind ≡ kinds.Loclists
-    → is_used rows kinds.Loclists ≡ true)
-    → (kind ≡ kinds.Rnglists → is_used rows kinds.Rnglists ≡ true) → (kind ≡ kinds.Macinfo
-    → is_used rows kinds.Macinfo ≡ true) → is_in_format encoding kind ≡ true
-in-format encoding rows have c t kinds.Info a b d e f = refl
-in-format encoding rows have c t kinds.Types a b d e f = older-types (leb 5 encoding.version)
-    (column-of encoding.version kinds.Types 1 rows refl have c t (a refl))
-in-format encoding rows have c t kinds.Abbrev a b d e f = refl
-in-format encoding rows have c t kinds.Line a b d e f = refl
-in-format encoding rows have c t kinds.Loc a b d e f = older-loc (leb 5 encoding.version)
-    (column-of encoding.version kinds.Loc 4 rows refl have c t (b refl))
-in-format encoding rows have c t kinds.Loclists a b d e f = newer-loclists (leb 5 encoding.version)
-    (column-of encoding.version kinds.Loclists 5 rows refl have c t (d refl))
-in-format encoding rows have c t kinds.Rnglists a b d e f = newer-rnglists (leb 5 encoding.version)
-    (column-of encoding.version kinds.Rnglists 6 rows refl have c t (e refl))
-in-format encoding rows have c t kinds.StrOffsets a b d e f = refl
-in-format encoding rows have c t kinds.Macinfo a b d e f = older-macinfo (leb 5 encoding.version)
-    (column-of encoding.version kinds.Macinfo 8 rows refl have c t (f refl))
-in-format encoding rows have c t kinds.Macro a b d e f = refl
-in-format encoding rows have c t kinds.Str a b d e f = refl
-in-format encoding rows have c t kinds.CuIndex a b d e f = refl
-in-format encoding rows have c t kinds.TuIndex a b d e f = refl
+    → (kind : SectionKind) → (counts_once kind ≡ false → is_used rows kind ≡ true)
+    → is_in_format encoding kind ≡ true
+in-format encoding rows have c t kind used = by (is_of_units kind) refl
+  where
+    by : (b : Bool) → is_of_units kind ≡ b
+        → (not b || is_some (column_of (index_version_of encoding.version) kind)) ≡ true
+    by false other = refl
+    by true of =
+        let once : counts_once kind ≡ false =
+        same-each counts_once (λ k. not (is_of_units k)) refl kind ∙ ap not of in
+        column-of encoding.version kind (rank_of kind) rows (column-at kind once) have c t
+        (used once)
 
 -- a section of units that has bytes is one that a row names
 pub lie-used : (order : Endianness) (place : UnitSection) (offset : ℕ) (rows : List IndexEntry)
@@ -161,14 +139,9 @@ lie-used order place offset [] bytes lie some = let e : length bytes ≡ 0 = ap 
 lie-used order place offset (r ∷ rs) bytes lie some = by (is_at place r) lie (λ l.
     lie-used order place offset rs bytes l some)
   where
-    or-true : (b : Bool) → is_used rs (kind_at place) ≡ true
-        → (b || is_used rs (kind_at place)) ≡ true
-    or-true true h = refl
-    or-true false h = h
-
     by : (b : Bool) → Lie order place offset (cond b (r ∷ rows_at place rs) (rows_at place rs))
         bytes → (Lie order place offset (rows_at place rs) bytes
         → is_used rs (kind_at place) ≡ true)
         → (is_some (contribution_to (kind_at place) r) || is_used rs (kind_at place)) ≡ true
     by true l later = ap (λ p. is_some p || is_used rs (kind_at place)) l.0.range
-    by false l later = or-true (is_some (contribution_to (kind_at place) r)) (later l)
+    by false l later = or-right (is_some (contribution_to (kind_at place) r)) _ (later l)

@@ -19,7 +19,7 @@ use Rattle.dwp_elf.specs.FileText.{Object as File, file_text}
 use Rattle.dwp_elf.specs.Written.{written_elf}
 use Rattle.dwp_elf_read.specs.Elf.{Elf}
 use Rattle.dwp_index.specs.Index.{Index}
-use Rattle.dwp_index.specs.IndexBytes.{index_of, version_of}
+use Rattle.dwp_index.specs.IndexBytes.{index_of}
 use Rattle.thorin_index.specs.declared.entry.IndexEntry.{IndexEntry}
 use Rattle.thorin_index.specs.EntryTests.{index_tests}
 use Rattle.thorin_index.specs.IndexText.{IsIndexOf, entry_ids, used_sections}
@@ -40,13 +40,12 @@ use Rattle.thorin_again.specs.OwnUnits.{AllOf}
 use Rattle.thorin_join.specs.Represents.{IsSound, IsSoundBegun, AreRowsOf, units_of, units_begun}
 use Rattle.thorin_join.specs.State.{InProgress}
 use Rattle.thorin_input.specs.Used.{first, opened, has_info}
-use Rattle.thorin_join.proofs.Files.Indexes.{IndexIsRead, chosen-fit}
+use Rattle.thorin_join.proofs.Files.Indexes.{IndexIsRead, chosen-fit, no-bytes}
 use Rattle.thorin_again.proofs.Opened.ContentsByName.{info-written}
 use Rattle.thorin_again.proofs.Opened.Sections.{first-written, object-written, opened-elf}
 use Rattle.thorin_join.proofs.Steps.{bind-ok, err-ok}
 use Rattle.thorin_join.proofs.Files.Finished.{Tested, tested-state, finished-order}
-use Rattle.thorin_join.proofs.Files.Finished.{finished-compilations}
-use Rattle.thorin_join.proofs.Files.Finished.{finished-types}
+use Rattle.thorin_join.proofs.Files.Finished.{finished-compilations, finished-types}
 
 -- rows come from inputs of this version
 abbrev pub HaveVersion : ℕ → List IndexEntry → Type 0
@@ -71,10 +70,6 @@ own-version false = refl
 -- an index of the version that goes with units of a version may stand beside them
 compatible : (version : ℕ) → is_compatible version (index_version_of version) ≡ true
 compatible version = own-version (leb 5 version)
-
-no-bytes : (order : Endianness) → index_of order [] ≡ Err UnexpectedEof
-unfolding index_of version_of
-no-bytes order = refl
 
 pub none-taken : (order : Endianness) (kind : SectionKind) (bytes : List ℕ) → bytes ≡ []
     → index_in order kind bytes ≡ Ok None

@@ -8,6 +8,7 @@ use Rattle.dwp_base.specs.declared.section.SectionKind.{SectionKind}
 use Rattle.dwp_base.specs.declared.section.SectionKind.TheVariants.{StrOffsets, Str}
 use Rattle.dwp_base.specs.Reading.{◌>>=◌}
 use Rattle.dwp_base.specs.Sections.{name_of, same_kind}
+use Rattle.dwp_base.proofs.EveryKind.{is-same, same-self}
 use Rattle.dwp_elf.specs.Contents.{count_of, KindsDiffer, content_of}
 use Rattle.thorin_errors.specs.Fault.{Fault, MissingRequiredSection, RepeatedSection}
 use Rattle.thorin_errors.specs.Fault.{SectionOutsideFormat}
@@ -19,10 +20,10 @@ use Rattle.thorin_input.specs.InputStrings.{rewritten}
 use Rattle.thorin_input.specs.Parts.{Parts, has_part, stands_once, with_offsets, with_part}
 use Rattle.thorin_input.specs.Parts.{with_each_part}
 use Rattle.thorin_input.specs.Used.{Used}
-use Rattle.thorin_again.proofs.Opened.Sections.{rest-differ, same-itself, fewer, last-counts}
-use Rattle.thorin_again.proofs.Opened.Sections.{one-there}
-use Rattle.thorin_join.proofs.Parts.Appended.{same-kind}
+use Rattle.thorin_again.proofs.Opened.Sections.{rest-differ, fewer, last-counts}
+use Rattle.thorin_again.proofs.Opened.Sections.{one-there, section_of}
 use Rattle.thorin_join.proofs.Steps.{bind-ok}
+use Rattle.thorin_join.proofs.Files.Contents.{nothing}
 
 -- ---- no kind of the parts so far comes again
 
@@ -59,7 +60,7 @@ fresh-more c bytes cs parts differ fresh kind there = ⊎_elim
 not-had : (c : SectionKind × List ℕ) (cs parts : Contents) → Fresh parts (c ∷ cs)
     → has_part c.0 parts ≡ false
 not-had c cs parts fresh = decided (has_part c.0 parts) (λ there. one-there (same_kind c.0 c.0)
-    (count_of c.0 cs) (same-itself c.0) (fresh c.0 there))
+    (count_of c.0 cs) (same-self c.0) (fresh c.0 there))
   where
     decided : (b : Bool) → (b ≡ true → ⊥) → b ≡ false
     decided true h = absurd (h refl)
@@ -67,19 +68,10 @@ not-had c cs parts fresh = decided (has_part c.0 parts) (λ there. one-there (sa
 
 -- ---- the contents behind the first
 
-nothing-of : (kind : SectionKind) (cs : Contents) → count_of kind cs ≡ 0 → content_of kind cs ≡ []
-nothing-of kind [] h = refl
-nothing-of kind (c ∷ cs) h = step (same_kind c.0 kind) h (nothing-of kind cs)
-  where
-    step : (b : Bool) → cond b 1 0 + count_of kind cs ≡ 0 → (count_of kind cs ≡ 0
-        → content_of kind cs ≡ []) → cond b c.1 (content_of kind cs) ≡ []
-    step true h later = absurd (omega (arith, h))
-    step false h later = later (omega (arith, h))
-
 -- a content behind the first is that of its kind in the whole
 pub behind : (kind : SectionKind) (c : SectionKind × List ℕ) (cs : Contents) → KindsDiffer (c ∷ cs)
     → 0 < length (content_of kind cs) → content_of kind (c ∷ cs) ≡ content_of kind cs
-behind kind c cs differ some = step (same_kind c.0 kind) (differ kind) (nothing-of kind cs)
+behind kind c cs differ some = step (same_kind c.0 kind) (differ kind) (nothing kind cs)
   where
     step : (b : Bool) → cond b 1 0 + count_of kind cs ≤ 1 → (count_of kind cs ≡ 0
         → content_of kind cs ≡ []) → cond b c.1 (content_of kind cs) ≡ content_of kind cs
@@ -88,7 +80,7 @@ behind kind c cs differ some = step (same_kind c.0 kind) (differ kind) (nothing-
     step false h none = refl
 
 pub front : (c : SectionKind × List ℕ) (cs : Contents) → content_of c.0 (c ∷ cs) ≡ c.1
-front c cs = ap (λ b. cond b c.1 (content_of c.0 cs)) (same-itself c.0)
+front c cs = ap (λ b. cond b c.1 (content_of c.0 cs)) (same-self c.0)
 
 -- ---- what taking the sections asks
 
@@ -114,7 +106,7 @@ can-behind : (source : Source) (c : SectionKind × List ℕ) (cs : Contents)
     → CanTake source (c ∷ cs) strings → CanTake source cs now
 can-behind source c cs strings now differ same can =
     let rest = can-rest source c cs strings differ can in
-    let none : content_of StrOffsets cs ≡ [] = nothing-of StrOffsets cs
+    let none : content_of StrOffsets cs ≡ [] = nothing StrOffsets cs
     (last-counts (same_kind c.0 StrOffsets) (count_of StrOffsets cs) same
     (differ StrOffsets)) in
     record {
@@ -125,9 +117,6 @@ can-behind source c cs strings now differ same can =
     }
 
 -- ---- a section is taken
-
-abbrev section_of : SectionKind × List ℕ → Used
-section_of c = record { kind = c.0; bytes = c.1; address = 0 }
 
 -- the tests that come first
 pub past-tests : (source : Source) (before : Parts) (c : SectionKind × List ℕ) (cs : Contents)
@@ -201,7 +190,7 @@ one-part source c cs before differ fresh can tests later true copied s k h =
     (tests ∙ ap (λ b. cond b (with_offsets source before c.1)
     (cond (is_copied c.0) (Ok (before.0 ++ (c.0, c.1) ∷ [], before.1)) (Ok before))) s
     ∙ offsets-taken source before c.1 w.0 (can.has some) written)
-    (later next (subst (λ k. Fresh (before.0 ++ (k, w.0.0) ∷ []) cs) (same-kind c.0 StrOffsets s)
+    (later next (subst (λ k. Fresh (before.0 ++ (k, w.0.0) ∷ []) cs) (is-same c.0 StrOffsets s)
     (fresh-more c w.0.0 cs before.0 differ fresh)) (can-behind source c cs before.1
     w.0.1 differ s can))
 one-part source c cs before differ fresh can tests later false true s k h =

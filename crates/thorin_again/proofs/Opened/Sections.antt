@@ -3,18 +3,13 @@ use Rattle.std.proofs.Common.{◌≡◌, ◌∙◌, ℕ, ◌+◌, ◌≤◌, Boo
 use Rattle.std.proofs.Common.{◌⊎◌, inl, inr, ⊎_elim, List, [], ◌∷◌, ◌++◌, length, Result, Ok, Err}
 use Rattle.std.proofs.Common.{Some, None, refl, sym, ap, arith, true≢false}
 use Rattle.std.specs.Prelude.{find, is_some, codes}
-use Rattle.std.specs.Str.{bytes_eq}
 use Rattle.std.proofs.lemmas.Bool.{eqb-true}
 use Rattle.std.proofs.lemmas.List.{append_assoc, append-nil}
 use Rattle.dwp_base.specs.declared.class.Class.{Class}
 use Rattle.dwp_base.specs.declared.section.SectionKind.{SectionKind}
-use Rattle.dwp_base.specs.declared.section.SectionKind.TheVariants.{Info, Types, Abbrev, Line, Loc}
-use Rattle.dwp_base.specs.declared.section.SectionKind.TheVariants.{Loclists, Rnglists, StrOffsets}
-use Rattle.dwp_base.specs.declared.section.SectionKind.TheVariants.{Macinfo, Macro, Str, CuIndex}
-use Rattle.dwp_base.specs.declared.section.SectionKind.TheVariants.{TuIndex}
 use Rattle.dwp_base.specs.Reading.{◌>>=◌}
-use Rattle.dwp_base.specs.Sections.{name_of, compressed_name_of, is_named, kind_named, all_kinds}
-use Rattle.dwp_base.specs.Sections.{same_kind}
+use Rattle.dwp_base.specs.Sections.{name_of, is_named, all_kinds, same_kind}
+use Rattle.dwp_base.proofs.EveryKind.{not-older, same-self}
 use Rattle.dwp_elf.specs.Contents.{count_of, KindsDiffer, content_of}
 use Rattle.dwp_elf.specs.FileText.{Object as File, name_table}
 use Rattle.dwp_elf.specs.Written.{plain_section, written_sections, written_elf}
@@ -35,6 +30,8 @@ use Rattle.thorin_input.specs.Used.{used_bytes, has_kind, with_used, used_from, 
 use Rattle.thorin_input.specs.Used.{bytes_of, first}
 use Rattle.thorin_join.proofs.Parts.Appended.{either}
 use Rattle.thorin_join.proofs.Steps.{err-ok, bind-ok, bind-inv}
+use Rattle.thorin_join.proofs.EachKind.{kind-named}
+use Rattle.thorin_join.proofs.Files.Contents.{fewer-one}
 
 -- ---- the file is opened
 
@@ -59,41 +56,14 @@ opened-elf bytes file h =
 
 -- ---- the sections of written contents
 
-kind_name : (kind : SectionKind) → kind_named (name_of kind) ≡ Some kind
-kind_name Info = refl
-kind_name Types = refl
-kind_name Abbrev = refl
-kind_name Line = refl
-kind_name Loc = refl
-kind_name Loclists = refl
-kind_name Rnglists = refl
-kind_name StrOffsets = refl
-kind_name Macinfo = refl
-kind_name Macro = refl
-kind_name Str = refl
-kind_name CuIndex = refl
-kind_name TuIndex = refl
-
-not_compressed : (kind : SectionKind) → bytes_eq (name_of kind) (compressed_name_of kind) ≡ false
-not_compressed Info = refl
-not_compressed Types = refl
-not_compressed Abbrev = refl
-not_compressed Line = refl
-not_compressed Loc = refl
-not_compressed Loclists = refl
-not_compressed Rnglists = refl
-not_compressed StrOffsets = refl
-not_compressed Macinfo = refl
-not_compressed Macro = refl
-not_compressed Str = refl
-not_compressed CuIndex = refl
-not_compressed TuIndex = refl
+abbrev pub section_of : SectionKind × List ℕ → Used
+section_of c = record { kind = c.0; bytes = c.1; address = 0 }
 
 kind-some : (n : ℕ) (kind : SectionKind) (bytes : List ℕ) → eqb (length bytes) 0 ≡ false
     → used_kind (plain_section n 1 (name_of kind) bytes) ≡ Some kind
 unfolding used_kind is_of_kind
 kind-some n kind bytes some = ap (λ b. find (λ k. not (b || eqb 1 8) && is_named (name_of kind) k)
-    all_kinds) some ∙ kind_name kind
+    all_kinds) some ∙ kind-named kind
 
 kind-none : (n kind : ℕ) (name bytes : List ℕ) → eqb (length bytes) 0 ≡ true
     → used_kind (plain_section n kind name bytes) ≡ None
@@ -113,7 +83,7 @@ bytes-are : (n : ℕ) (kind : SectionKind) (bytes : List ℕ)
     → used_bytes kind (plain_section n 1 (name_of kind) bytes) ≡ Ok bytes
 unfolding used_bytes contents.used_bytes
 bytes-are n kind bytes = ap (λ b. as_fault unusable (cond {A = Result (List ℕ) ReadError} b
-    (Err Compressed) (Ok bytes))) (not_compressed kind)
+    (Err Compressed) (Ok bytes))) (not-older kind)
 
 taken-section : (n : ℕ) (kind : SectionKind) (bytes : List ℕ) (used : List Used)
     → (counts_once kind && is_some (find (has_kind kind) used)) ≡ false
@@ -135,10 +105,6 @@ Free used cs = (kind : SectionKind) → is_some (find (has_kind kind) used) ≡ 
 pub fewer : (b : Bool) (n : ℕ) → cond b 1 0 + n ≡ 0 → n ≡ 0
 fewer true n h = absurd (omega (arith, h))
 fewer false n h = omega (arith, h)
-
-fewer-one : (b : Bool) (n : ℕ) → cond b 1 0 + n ≤ 1 → n ≤ 1
-fewer-one true n h = omega (arith, h)
-fewer-one false n h = omega (arith, h)
 
 pub rest-differ : (c : SectionKind × List ℕ) (cs : Contents) → KindsDiffer (c ∷ cs) → KindsDiffer cs
 rest-differ c cs h kind = fewer-one (same_kind c.0 kind) (count_of kind cs) (h kind)
@@ -170,26 +136,11 @@ find-last test (y ∷ ys) x h = first-or (test y) h (find-last test ys x)
     first-or false h later = later h
 
 free-more : (c : SectionKind × List ℕ) (cs : Contents) (used : List Used) → KindsDiffer (c ∷ cs)
-    → Free used (c ∷ cs) → Free (used ++ record { kind = c.0; bytes = c.1; address = 0 } ∷ []) cs
+    → Free used (c ∷ cs) → Free (used ++ section_of c ∷ []) cs
 free-more c cs used differ free kind there = ⊎_elim
     (λ e. free-rest c cs used free kind e)
     (λ e. last-counts (same_kind c.0 kind) (count_of kind cs) e (differ kind))
-    (find-last (has_kind kind) used (record { kind = c.0; bytes = c.1; address = 0 }) there)
-
-pub same-itself : (kind : SectionKind) → same_kind kind kind ≡ true
-same-itself Info = refl
-same-itself Types = refl
-same-itself Abbrev = refl
-same-itself Line = refl
-same-itself Loc = refl
-same-itself Loclists = refl
-same-itself Rnglists = refl
-same-itself StrOffsets = refl
-same-itself Macinfo = refl
-same-itself Macro = refl
-same-itself Str = refl
-same-itself CuIndex = refl
-same-itself TuIndex = refl
+    (find-last (has_kind kind) used (section_of c) there)
 
 pub one-there : (b : Bool) (n : ℕ) → b ≡ true → cond b 1 0 + n ≡ 0 → ⊥
 one-there true n e h = omega (arith, h)
@@ -198,7 +149,7 @@ one-there false n e h = true≢false (sym e)
 not-yet : (c : SectionKind × List ℕ) (cs : Contents) (used : List Used) → Free used (c ∷ cs)
     → (counts_once c.0 && is_some (find (has_kind c.0) used)) ≡ false
 not-yet c cs used free = not-both (counts_once c.0) (is_some (find (has_kind c.0) used)) (λ there.
-    one-there (same_kind c.0 c.0) (count_of c.0 cs) (same-itself c.0) (free c.0 there))
+    one-there (same_kind c.0 c.0) (count_of c.0 cs) (same-self c.0) (free c.0 there))
   where
     not-both : (a b : Bool) → (b ≡ true → ⊥) → (a && b) ≡ false
     not-both true true h = absurd (h refl)
@@ -211,11 +162,11 @@ used-step : (n : ℕ) (c : SectionKind × List ℕ) (rest : List SectionMeaning)
     (used : List Used)
     → (counts_once c.0 && is_some (find (has_kind c.0) used)) ≡ false
     → used_from used rest ≡ Ok (used ++ written_used cs)
-    → used_from (used ++ record { kind = c.0; bytes = c.1; address = 0 } ∷ []) rest ≡ Ok
-    ((used ++ record { kind = c.0; bytes = c.1; address = 0 } ∷ []) ++ written_used cs)
+    → used_from (used ++ section_of c ∷ []) rest ≡ Ok
+    ((used ++ section_of c ∷ []) ++ written_used cs)
     → (e : Bool) → eqb (length c.1) 0 ≡ e
     → used_from used (plain_section n 1 (name_of c.0) c.1 ∷ rest) ≡ Ok
-    (used ++ cond e (written_used cs) (record { kind = c.0; bytes = c.1; address = 0 } ∷
+    (used ++ cond e (written_used cs) (section_of c ∷
     written_used cs))
 unfolding used_from
 used-step n c rest cs used once skipped taken true e =
@@ -225,7 +176,7 @@ used-step n c rest cs used once skipped taken false e =
     ap (λ k. with_used used (plain_section n 1 (name_of c.0) c.1) k >>= λ w. used_from w rest)
     (kind-some n c.0 c.1 e)
     ∙ bind-ok _ _ (λ w. used_from w rest) (taken-section n c.0 c.1 used once)
-    ∙ taken ∙ ap Ok (append_assoc used (record { kind = c.0; bytes = c.1; address = 0 } ∷ [])
+    ∙ taken ∙ ap Ok (append_assoc used (section_of c ∷ [])
     (written_used cs))
 
 used-names : (n : ℕ) (names : List ℕ) (used : List Used)
@@ -240,7 +191,7 @@ used-written n names [] used differ free = used-names n names used
 used-written n names (c ∷ cs) used differ free =
     used-step n c (written_sections (n + 1) names cs) cs used (not-yet c cs used free)
     (used-written (n + 1) names cs used (rest-differ c cs differ) (free-rest c cs used free))
-    (used-written (n + 1) names cs (used ++ record { kind = c.0; bytes = c.1; address = 0 } ∷ [])
+    (used-written (n + 1) names cs (used ++ section_of c ∷ [])
     (rest-differ c cs differ) (free-more c cs used differ free))
     (eqb (length c.1) 0) refl
 
@@ -270,12 +221,12 @@ none-used kind (c ∷ cs) h = none-here (same_kind c.0 kind) (eqb (length c.1) 0
   where
     none-here : (b e : Bool) → same_kind c.0 kind ≡ b → cond b 1 0 + count_of kind cs ≡ 0
         → (count_of kind cs ≡ 0 → first kind (written_used cs) ≡ [])
-        → first kind (cond e (written_used cs) (record { kind = c.0; bytes = c.1; address = 0 } ∷
+        → first kind (cond e (written_used cs) (section_of c ∷
         written_used cs)) ≡ []
     none-here true e s h later = absurd (omega (arith, h))
     none-here false true s h later = later (omega (arith, h))
     none-here false false s h later =
-        ap (λ b. bytes_of (cond b (Some (record { kind = c.0; bytes = c.1; address = 0 }))
+        ap (λ b. bytes_of (cond b (Some (section_of c))
         (find (has_kind kind) (written_used cs)))) s ∙ later (omega (arith, h))
 
 empty-list : (xs : List ℕ) → eqb (length xs) 0 ≡ true → xs ≡ []
@@ -291,13 +242,13 @@ first-written kind (c ∷ cs) differ = first-here (same_kind c.0 kind) (eqb (len
   where
     first-here : (b e : Bool) → same_kind c.0 kind ≡ b → eqb (length c.1) 0 ≡ e
         → cond b 1 0 + count_of kind cs ≤ 1 → first kind (written_used cs) ≡ content_of kind cs
-        → first kind (cond e (written_used cs) (record { kind = c.0; bytes = c.1; address = 0 } ∷
+        → first kind (cond e (written_used cs) (section_of c ∷
         written_used cs)) ≡ cond b c.1 (content_of kind cs)
     first-here true true s e h later = none-used kind cs (omega (arith, h)) ∙ sym (empty-list c.1 e)
     first-here true false s e h later =
-        ap (λ b. bytes_of (cond b (Some (record { kind = c.0; bytes = c.1; address = 0 }))
+        ap (λ b. bytes_of (cond b (Some (section_of c))
         (find (has_kind kind) (written_used cs)))) s
     first-here false true s e h later = later
     first-here false false s e h later =
-        ap (λ b. bytes_of (cond b (Some (record { kind = c.0; bytes = c.1; address = 0 }))
+        ap (λ b. bytes_of (cond b (Some (section_of c))
         (find (has_kind kind) (written_used cs)))) s ∙ later

@@ -38,32 +38,30 @@ use Rattle.thorin_input.specs.NewUnits.{unit_section, is_met, with_met, none_met
 use Rattle.thorin_input.specs.NewUnits.{with_section_at, with_section_in, with_section}
 use Rattle.thorin_input.specs.NewUnits.{with_each_section, new_units, place_for}
 use Rattle.thorin_again.specs.OwnInput.{written_used}
-use Rattle.thorin_again.specs.Plain.{is_shared, NamesItself}
+use Rattle.thorin_input.specs.Format.{is_shared}
+use Rattle.thorin_again.specs.Plain.{NamesItself}
 use Rattle.thorin_join.specs.Represents.{LieInside, AreRowsOf}
 use Rattle.thorin_input.specs.Rows.{row_test, unit_row}
 use Rattle.thorin_join.specs.StandApart.{EachRow}
 use Rattle.thorin_join.specs.State.{kind_at, unit_bytes}
 use Rattle.thorin_input.specs.Used.{Used}
 use Rattle.thorin_again.proofs.Opened.Parts.{behind, front}
-use Rattle.thorin_again.proofs.Opened.Sections.{fewer, rest-differ}
+use Rattle.thorin_again.proofs.Opened.Sections.{fewer, rest-differ, section_of}
 use Rattle.thorin_again.proofs.Taken.RowsGiven.{row-given}
-use Rattle.thorin_again.proofs.Meant.OneRow.{parts}
+use Rattle.thorin_again.proofs.Meant.OneRow.{parts, found-row, found-range, row-tested, named-again}
 use Rattle.thorin_again.proofs.Meant.RowPlaces.{FirstLaw, FindLaw, IsAgain, Below, place-eq}
-use Rattle.thorin_again.proofs.Meant.OneRow.{found-row, found-range, row-tested, named-again}
 use Rattle.thorin_again.proofs.Meant.OneSection.{with_names, below-more, part-middle, no-reads}
 use Rattle.thorin_again.proofs.Meant.OneSection.{one-read}
 use Rattle.thorin_join.proofs.Moved.RootEntries.{IsShifted, identity-shifted}
 use Rattle.thorin_join.proofs.Steps.{bind-ok}
 use Rattle.thorin_join.proofs.Moved.Readings.{plain}
 use Rattle.thorin_join.proofs.Moved.Units.{unit-moves}
-use Rattle.thorin_join.proofs.Units.Whole.{kind-place}
+use Rattle.thorin_join.proofs.Units.HeadersRead.{kind-place}
 use Rattle.thorin_again.proofs.Offsets.Tiled.{weaker}
-use Rattle.thorin_again.proofs.Taken.UnlessThere.{NotAgain, once-passed, section_of, not-met}
-use Rattle.thorin_again.proofs.Taken.UnlessThere.{free-after}
+use Rattle.thorin_again.proofs.Taken.UnlessThere.{NotAgain, once-passed, not-met, free-after}
 use Rattle.thorin_again.proofs.Taken.UnlessThere.{section-is}
 use Rattle.thorin_again.proofs.Taken.NamesFree.{Free, Avoids, IsMore, avoids-more, avoids-none}
-use Rattle.thorin_again.proofs.Taken.NamesFree.{Apart}
-use Rattle.thorin_again.proofs.Taken.NamesFree.{others-apart, later-apart}
+use Rattle.thorin_again.proofs.Taken.NamesFree.{Apart, others-apart, later-apart}
 
 -- an answer of which something holds
 pub record Answers (X : Type 0) (P : X → Type 0) (r : Result X Fault) : Type 0 where

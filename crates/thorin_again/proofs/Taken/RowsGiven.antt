@@ -1,15 +1,17 @@
 -- A unit of a written package gets a row, whatever package it is added to.
 use Rattle.std.proofs.Common.{◌≡◌, ◌∙◌, ℕ, suc, ◌+◌, ◌<◌, ◌≤◌, Bool, true, false, cond, not, ◌||◌}
-use Rattle.std.proofs.Common.{◌⊎◌, inl, inr, ⊎_elim, List, [], ◌∷◌, length, refl, sym, ap, subst}
+use Rattle.std.proofs.Common.{◌⊎◌, inl, inr, ⊎_elim, List, [], ◌∷◌, map, length, refl, sym, ap}
+use Rattle.std.proofs.Common.{subst}
 use Rattle.std.proofs.Common.{Result, Ok, Err, Option, Some, None, arith, true≢false}
 use Rattle.std.specs.Prelude.{slice_get, is_some}
 use Rattle.std.proofs.lemmas.Bool.{le-leb}
 use Rattle.std.proofs.lemmas.Option.{none-some, same_Some}
-use Rattle.dwp_base.specs.Reading.{◌>>=◌}
-use Rattle.dwp_base.specs.Sections.{name_of}
+use Rattle.dwp_base.specs.ByKind.{value_of}
+use Rattle.dwp_base.specs.Reading.{◌>>=◌, read_each}
+use Rattle.dwp_base.specs.Sections.{name_of, all_kinds}
+use Rattle.dwp_base.proofs.Steps.{each-read}
 use Rattle.dwp_base.specs.declared.section.Contribution.{Contribution}
 use Rattle.dwp_base.specs.declared.section.SectionKind.{SectionKind}
-use Rattle.dwp_base.specs.declared.section.SectionKind.TheVariants as kinds
 use Rattle.dwp_elf.specs.Contents.{content_of}
 use Rattle.dwp_index.specs.Index.{Index, Ranges, row_in, range_in, column_place}
 use Rattle.dwp_table.specs.Objects.{identifier_of}
@@ -18,16 +20,16 @@ use Rattle.dwp_table.specs.declared.object.DwarfObject.TheVariants.{Compilation,
 use Rattle.thorin_errors.specs.Fault.{Fault, BadContribution}
 use Rattle.thorin_input.specs.Adjusting.{Adjustor, own_index, other_index, row_of, has_column_for}
 use Rattle.thorin_input.specs.Adjusting.{moved, moved_range, without_column, part_by_row, adjusted}
-use Rattle.thorin_index.specs.Entries.{contribution_to}
+use Rattle.thorin_index.specs.Entries.{contribution_to, entry_by}
 use Rattle.thorin_index.specs.IndexText.{is_used}
 use Rattle.thorin_index.specs.declared.entry.IndexEntry.{IndexEntry}
 use Rattle.thorin_join.specs.Builder.{is_chosen, rows_of}
 use Rattle.thorin_input.specs.Growing.{Contents, range_put}
 use Rattle.thorin_input.specs.Indexes.{Indexes, is_package, index_for}
 use Rattle.thorin_input.specs.Names.{is_compilation}
-use Rattle.thorin_again.specs.Plain.{is_shared}
+use Rattle.thorin_input.specs.Format.{is_shared}
 use Rattle.thorin_join.specs.Represents.{LieInside}
-use Rattle.thorin_input.specs.Rows.{adjusted_part, unit_row}
+use Rattle.thorin_input.specs.Rows.{adjusted_part, unit_part, unit_row}
 use Rattle.thorin_join.specs.StandApart.{EachRow}
 use Rattle.thorin_join.proofs.Files.Indexes.{HasRows}
 use Rattle.thorin_join.proofs.Rows.OfUnits.{own-index, some-index}
@@ -244,36 +246,21 @@ module _ (indexes : Indexes) (packed : is_package indexes ≡ true) (contents : 
       → ((kind : SectionKind) → is_shared kind ≡ true → contribution_to kind whole ≡ range_put kind
       (x kind) before) → (given : IndexEntry) × (unit_row indexes whole row.id ≡ Ok given)
   unfolding unit_row
-  row-given whole x before long put =
-      let one = λ (kind : SectionKind) (shared : is_shared kind ≡ true). part-given kind shared
-      (x kind) before (long kind shared) in
-      let at = λ (kind : SectionKind) (shared : is_shared kind ≡ true).
-      ap (adjusted_part indexes row.id kind) (put kind shared) ∙ (one kind shared).1 in (
-        record whole {
-          id = row.id;
-          debug_abbrev = (one kinds.Abbrev refl).0;
-          debug_line = (one kinds.Line refl).0;
-          debug_loc = (one kinds.Loc refl).0;
-          debug_loclists = (one kinds.Loclists refl).0;
-          debug_rnglists = (one kinds.Rnglists refl).0;
-          debug_str_offsets = (one kinds.StrOffsets refl).0;
-          debug_macinfo = (one kinds.Macinfo refl).0;
-          debug_macro = (one kinds.Macro refl).0;
-        },
-        bind-ok (adjusted_part indexes row.id kinds.Abbrev whole.debug_abbrev)
-            (one kinds.Abbrev refl).0 _ (at kinds.Abbrev refl)
-            ∙ bind-ok (adjusted_part indexes row.id kinds.Line whole.debug_line)
-            (one kinds.Line refl).0 _ (at kinds.Line refl)
-            ∙ bind-ok (adjusted_part indexes row.id kinds.Loc whole.debug_loc)
-            (one kinds.Loc refl).0 _ (at kinds.Loc refl)
-            ∙ bind-ok (adjusted_part indexes row.id kinds.Loclists whole.debug_loclists)
-            (one kinds.Loclists refl).0 _ (at kinds.Loclists refl)
-            ∙ bind-ok (adjusted_part indexes row.id kinds.Rnglists whole.debug_rnglists)
-            (one kinds.Rnglists refl).0 _ (at kinds.Rnglists refl)
-            ∙ bind-ok (adjusted_part indexes row.id kinds.StrOffsets whole.debug_str_offsets)
-            (one kinds.StrOffsets refl).0 _ (at kinds.StrOffsets refl)
-            ∙ bind-ok (adjusted_part indexes row.id kinds.Macinfo whole.debug_macinfo)
-            (one kinds.Macinfo refl).0 _ (at kinds.Macinfo refl)
-            ∙ bind-ok (adjusted_part indexes row.id kinds.Macro whole.debug_macro)
-            (one kinds.Macro refl).0 _ (at kinds.Macro refl),
-      )
+  row-given whole x before long put = (
+    entry_by whole.encoding row.id (value_of None (map given all_kinds)),
+    bind-ok (read_each (λ kind. unit_part indexes row.id kind (contribution_to kind whole))
+        all_kinds) (map given all_kinds) _ (each-read (λ kind. unit_part indexes row.id kind
+        (contribution_to kind whole)) given (λ kind. (part-of kind (is_shared kind) refl).1)
+        all_kinds),
+  )
+    where
+      part-of : (kind : SectionKind) (b : Bool) → is_shared kind ≡ b
+          → (part : Option Contribution) × (cond b (adjusted_part indexes row.id kind
+          (contribution_to kind whole)) (Ok (contribution_to kind whole)) ≡ Ok part)
+      part-of kind true shared =
+          let one = part-given kind shared (x kind) before (long kind shared) in
+          (one.0, ap (adjusted_part indexes row.id kind) (put kind shared) ∙ one.1)
+      part-of kind false alone = (contribution_to kind whole, refl)
+
+      given : SectionKind → Option Contribution
+      given kind = (part-of kind (is_shared kind) refl).0

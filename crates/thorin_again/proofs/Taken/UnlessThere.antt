@@ -13,6 +13,7 @@ use Rattle.dwp_base.specs.declared.endian.Endianness.{Endianness}
 use Rattle.dwp_base.specs.declared.section.Contribution.{Contribution}
 use Rattle.dwp_base.specs.declared.section.SectionKind.{SectionKind}
 use Rattle.dwp_base.specs.declared.section.SectionKind.TheVariants as kinds
+use Rattle.dwp_base.proofs.EveryKind.{same-self}
 use Rattle.dwp_bytes.specs.Input.{section, after}
 use Rattle.dwp_bytes.specs.declared.encoding.Encoding.{Encoding}
 use Rattle.dwp_bytes.specs.declared.fault.ReadError.{ReadError}
@@ -41,26 +42,26 @@ use Rattle.thorin_input.specs.NewUnits.{with_section_at, with_section_in, with_s
 use Rattle.thorin_input.specs.NewUnits.{with_each_section, new_units, place_for}
 use Rattle.thorin_again.specs.OwnInput.{written_used}
 use Rattle.thorin_again.specs.OwnRefusals.{UnlessForeseen}
-use Rattle.thorin_again.specs.Plain.{is_shared, NamesItself}
+use Rattle.thorin_input.specs.Format.{is_shared}
+use Rattle.thorin_again.specs.Plain.{NamesItself}
 use Rattle.thorin_join.specs.Represents.{LieInside, AreRowsOf}
 use Rattle.thorin_input.specs.Rows.{row_test, unit_row}
 use Rattle.thorin_join.specs.StandApart.{EachRow}
 use Rattle.thorin_join.specs.State.{kind_at, unit_bytes}
 use Rattle.thorin_input.specs.Used.{Used}
 use Rattle.thorin_again.proofs.Opened.Parts.{behind, front}
-use Rattle.thorin_again.proofs.Opened.Sections.{fewer, rest-differ, last-counts, same-itself}
-use Rattle.thorin_again.proofs.Opened.Sections.{one-there}
+use Rattle.thorin_again.proofs.Opened.Sections.{fewer, rest-differ, last-counts}
+use Rattle.thorin_again.proofs.Opened.Sections.{one-there, section_of}
 use Rattle.thorin_again.proofs.Taken.RowsGiven.{row-given}
-use Rattle.thorin_again.proofs.Meant.OneRow.{parts}
+use Rattle.thorin_again.proofs.Meant.OneRow.{parts, found-row, found-range, row-tested, named-again}
 use Rattle.thorin_again.proofs.Meant.RowPlaces.{FirstLaw, FindLaw, IsAgain, Below, place-eq}
-use Rattle.thorin_again.proofs.Meant.OneRow.{found-row, found-range, row-tested, named-again}
 use Rattle.thorin_again.proofs.Meant.OneSection.{with_names, below-more, part-middle, no-reads}
 use Rattle.thorin_again.proofs.Meant.OneSection.{one-read}
 use Rattle.thorin_join.proofs.Moved.RootEntries.{IsShifted, identity-shifted}
 use Rattle.thorin_join.proofs.Steps.{ok-eq, bind-ok, bind-inv}
 use Rattle.thorin_join.proofs.Moved.Readings.{plain}
 use Rattle.thorin_join.proofs.Moved.Units.{unit-moves}
-use Rattle.thorin_join.proofs.Units.Whole.{kind-place}
+use Rattle.thorin_join.proofs.Units.HeadersRead.{kind-place}
 
 -- a step, and then another
 pub then-foreseen : {X Y : Type 0} (r : Result X Fault) (f : X → Result Y Fault) → UnlessForeseen r
@@ -328,16 +329,13 @@ at-taken add contents each from place before kind address bytes met =
     (units place (section add.source.object.order from.bytes))) _ (each place from kind address
     bytes before.1) (λ new e. tt))
 
-abbrev pub section_of : SectionKind × List ℕ → Used
-section_of c = record { kind = c.0; bytes = c.1; address = 0 }
-
 pub not-met : (met : Met) (place : UnitSection) (c : SectionKind × List ℕ) (cs : Contents)
     → NotAgain met (c ∷ cs) → c.0 ≡ kind_at place → is_met place met ≡ false
 not-met met place c cs free kind = by (is_met place met) (free place)
   where
     by : (b : Bool) → (b ≡ true → count_of (kind_at place) (c ∷ cs) ≡ 0) → b ≡ false
     by true h = absurd (one-there (same_kind c.0 (kind_at place)) (count_of (kind_at place) cs)
-        (ap (λ k. same_kind k (kind_at place)) kind ∙ same-itself (kind_at place)) (h refl))
+        (ap (λ k. same_kind k (kind_at place)) kind ∙ same-self (kind_at place)) (h refl))
     by false h = refl
 
 -- what was met after a section
@@ -357,7 +355,7 @@ free-after met place c cs differ kind free other h = by (same_place other place)
     by true e =
         let same : kind_at other ≡ c.0 = ap kind_at (place-eq other place e) ∙ sym kind in
         last-counts (same_kind c.0 (kind_at other)) (count_of (kind_at other) cs)
-        (ap (same_kind c.0) same ∙ same-itself c.0) (differ (kind_at other))
+        (ap (same_kind c.0) same ∙ same-self c.0) (differ (kind_at other))
     by false e = fewer (same_kind c.0 (kind_at other)) (count_of (kind_at other) cs)
         (free other (met-after met place other h e))
 

@@ -1,18 +1,14 @@
 -- A written file is read as the package of its contents.
-use Rattle.std.proofs.lemmas.Option.{same_Some}
 use Rattle.std.proofs.Common.{◌≡◌, ℕ, ◌+◌, ◌^◌, ◌<◌, ◌≤◌, Bool, true, false, cond, inl, inr, List}
-use Rattle.std.proofs.Common.{[], ◌∷◌, length, refl, sym, ap, ◌∙◌, arith}
-use Rattle.std.specs.Prelude.{Option, Some, None, Ok, codes, slice_get}
-use Rattle.std.proofs.lemmas.Bool.{eqb-true}
-use Rattle.dwp_base.specs.Sections.{name_of, same_kind, kind_named, rank_of, all_kinds}
+use Rattle.std.proofs.Common.{[], ◌∷◌, length, refl, ap, arith}
+use Rattle.std.specs.Prelude.{Option, Some, None, Ok, codes}
+use Rattle.dwp_base.specs.Sections.{name_of, same_kind, kind_named}
 use Rattle.dwp_base.specs.declared.class.Class.{Class}
 use Rattle.dwp_base.specs.declared.class.Class.TheVariants.{Elf32, Elf64}
 use Rattle.dwp_base.specs.declared.endian.Endianness.{Endianness}
 use Rattle.dwp_base.specs.declared.section.SectionKind.{SectionKind}
-use Rattle.dwp_base.specs.declared.section.SectionKind.TheVariants.{Info, Types, Abbrev, Line, Loc}
-use Rattle.dwp_base.specs.declared.section.SectionKind.TheVariants.{Loclists, Rnglists, StrOffsets}
-use Rattle.dwp_base.specs.declared.section.SectionKind.TheVariants.{Macinfo, Macro, Str, CuIndex}
-use Rattle.dwp_base.specs.declared.section.SectionKind.TheVariants.{TuIndex}
+use Rattle.dwp_base.specs.declared.section.SectionKind.TheVariants.{CuIndex, TuIndex}
+use Rattle.dwp_base.proofs.EveryKind.{is-same}
 use Rattle.dwp_elf_read.specs.Layout.{word_size}
 use Rattle.dwp_elf_read.specs.Elf.{Elf, SectionMeaning, elf_of}
 use Rattle.dwp_elf.specs.FileText.{Object, headers_place, name_table, file_text}
@@ -30,6 +26,9 @@ abbrev pub ReadBack : Type 0
 ReadBack =
     (o : Object) → o.machine < 256 ^ 2 → headers_place o.class o.contents < 256 ^ word_size o.class
     → length o.contents < 60000 → elf_of (file_text o) ≡ Ok (written_elf o)
+
+abbrev pub FewContents : Type 0
+FewContents = (contents : List (SectionKind × List ℕ)) → KindsDiffer contents → length contents ≤ 13
 
 abbrev pub ContentsRead : Type 0
 ContentsRead =
@@ -63,79 +62,6 @@ abbrev pub NoBytes : Type 0
 NoBytes = (section : SectionMeaning) (kind : SectionKind) → section.size ≡ 0
     → is_of_kind kind section ≡ false
 
--- ---- kinds
-
-at_rank : (kind : SectionKind) → slice_get all_kinds (rank_of kind) ≡ Some kind
-at_rank Info = refl
-at_rank Types = refl
-at_rank Abbrev = refl
-at_rank Line = refl
-at_rank Loc = refl
-at_rank Loclists = refl
-at_rank Rnglists = refl
-at_rank StrOffsets = refl
-at_rank Macinfo = refl
-at_rank Macro = refl
-at_rank Str = refl
-at_rank CuIndex = refl
-at_rank TuIndex = refl
-
-pub is_same : (a b : SectionKind) → same_kind a b ≡ true → a ≡ b
-is_same a b e = same_Some _ _ (sym (at_rank a) ∙ ap (slice_get all_kinds)
-    (eqb-true (rank_of a) (rank_of b) e) ∙ at_rank b)
-
--- ---- at most 13 contents
-
-abbrev sum_kinds : (SectionKind → ℕ) → ℕ
-sum_kinds f = f Info + f Types + f Abbrev + f Line + f Loc + f Loclists + f Rnglists + f StrOffsets
-    + f Macinfo + f Macro + f Str + f CuIndex + f TuIndex
-
-sum_kinds-one : (kind : SectionKind) → sum_kinds (λ k. cond (same_kind kind k) 1 0) ≡ 1
-sum_kinds-one Info = refl
-sum_kinds-one Types = refl
-sum_kinds-one Abbrev = refl
-sum_kinds-one Line = refl
-sum_kinds-one Loc = refl
-sum_kinds-one Loclists = refl
-sum_kinds-one Rnglists = refl
-sum_kinds-one StrOffsets = refl
-sum_kinds-one Macinfo = refl
-sum_kinds-one Macro = refl
-sum_kinds-one Str = refl
-sum_kinds-one CuIndex = refl
-sum_kinds-one TuIndex = refl
-
-sum_kinds-add : (f g : SectionKind → ℕ) → sum_kinds (λ k. f k + g k) ≡ sum_kinds f + sum_kinds g
-sum_kinds-add f g = omega arith
-
-sum_kinds-count_of : (cs : List (SectionKind × List ℕ)) → sum_kinds (λ k. count_of k cs) ≡ length cs
-sum_kinds-count_of [] = refl
-sum_kinds-count_of (c ∷ cs) =
-    sum_kinds-add (λ k. cond (same_kind c.0 k) 1 0) (λ k. count_of k cs)
-    ∙ ap (λ n. n + sum_kinds (λ k. count_of k cs)) (sum_kinds-one c.0) ∙ ap (λ n. 1 + n)
-    (sum_kinds-count_of cs) ∙ omega arith
-
-at_most_13 : (cs : List (SectionKind × List ℕ)) → KindsDiffer cs → length cs ≤ 13
-at_most_13 cs h =
-    omega (
-      arith,
-      sum_kinds-count_of cs,
-      h Info,
-      h Types,
-      h Abbrev,
-      h Line,
-      h Loc,
-      h Loclists,
-      h
-          Rnglists,
-      h StrOffsets,
-      h Macinfo,
-      h Macro,
-      h Str,
-      h CuIndex,
-      h TuIndex,
-    )
-
 -- ---- the headers' place
 
 fitting : (class : Class) (machine : ℕ) (order : Endianness) (cs : List (SectionKind × List ℕ))
@@ -155,7 +81,7 @@ nothing_at : (kind : SectionKind) (c : SectionKind × List ℕ) (cs : List (Sect
 nothing_at kind c cs true e h rest = absurd (omega (arith, h))
 nothing_at kind c cs false e h rest = rest (omega (arith, h))
 
-nothing : (kind : SectionKind) (cs : List (SectionKind × List ℕ)) → count_of kind cs ≡ 0
+pub nothing : (kind : SectionKind) (cs : List (SectionKind × List ℕ)) → count_of kind cs ≡ 0
     → content_of kind cs ≡ []
 nothing kind [] h = refl
 nothing kind (c ∷ cs) h = nothing_at kind c cs (same_kind c.0 kind) refl h (λ z. nothing kind cs z)
@@ -186,13 +112,13 @@ held_at : OtherKind → NoBytes → (kind : SectionKind) (number : ℕ) (names :
     → HasContent (plain_section number 1 (name_of c.0) c.1 ∷ written_sections (number + 1) names cs)
     kind (cond b c.1 (content_of kind cs))
 held_at other empty kind number names c cs true e h rest =
-    here empty kind number names c.0 c.1 cs (is_same c.0 kind e) (omega (arith, h)) rest
+    here empty kind number names c.0 c.1 cs (is-same c.0 kind e) (omega (arith, h)) rest
 held_at other empty kind number names c cs false e h rest =
     inr (other (plain_section number 1 (name_of c.0) c.1) kind c.0 refl e, rest)
 
-fewer : (b : Bool) (n : ℕ) → cond b 1 0 + n ≤ 1 → n ≤ 1
-fewer true n h = omega (arith, h)
-fewer false n h = omega (arith, h)
+pub fewer-one : (b : Bool) (n : ℕ) → cond b 1 0 + n ≤ 1 → n ≤ 1
+fewer-one true n h = omega (arith, h)
+fewer-one false n h = omega (arith, h)
 
 held_from : OtherKind → ForeignName → NoBytes → (kind : SectionKind) (number : ℕ) (names : List ℕ)
     (cs : List (SectionKind × List ℕ)) → count_of kind cs ≤ 1
@@ -205,7 +131,7 @@ held_from other foreign empty kind number names [] h =
     )
 held_from other foreign empty kind number names (c ∷ cs) h =
     held_at other empty kind number names c cs (same_kind c.0 kind) refl h
-    (held_from other foreign empty kind (number + 1) names cs (fewer (same_kind c.0 kind)
+    (held_from other foreign empty kind (number + 1) names cs (fewer-one (same_kind c.0 kind)
     (count_of kind cs) h))
 
 -- each kind has its content
@@ -221,7 +147,7 @@ held other foreign empty o h kind =
 
 -- ---- the package
 
-pub package_read : ReadBack → ContentsRead → OtherKind → ForeignName → NoBytes
+pub package_read : ReadBack → FewContents → ContentsRead → OtherKind → ForeignName → NoBytes
     → (o : Object) → KindsDiffer o.contents → o.machine < 256 ^ 2 → Fits o
     → (compilations types : Option Index)
     → index_in_section o.order (content_of CuIndex o.contents) ≡ Ok compilations
@@ -233,8 +159,8 @@ pub package_read : ReadBack → ContentsRead → OtherKind → ForeignName → N
       compilations = compilations;
       types = types;
     })
-package_read back read other foreign empty o h machine fits compilations types c t =
-    let few : length o.contents < 60000 = omega (arith, at_most_13 o.contents h) in
+package_read back most read other foreign empty o h machine fits compilations types c t =
+    let few : length o.contents < 60000 = omega (arith, most o.contents h) in
     read (file_text o) (written_elf o) (λ kind. content_of kind o.contents) compilations types
     (back o machine (fitting o.class o.machine o.order o.contents fits) few)
     (held other foreign empty o h) c t

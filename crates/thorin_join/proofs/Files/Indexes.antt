@@ -58,7 +58,7 @@ pub record IndexRead (order : Endianness) (rows : List IndexEntry) (bytes : List
   pub read : index_in_section order bytes ≡ Ok index
   pub has : HasRows index rows
 
-no-bytes : (order : Endianness) → index_of order [] ≡ Err UnexpectedEof
+pub no-bytes : (order : Endianness) → index_of order [] ≡ Err UnexpectedEof
 unfolding index_of version_of
 no-bytes order = refl
 

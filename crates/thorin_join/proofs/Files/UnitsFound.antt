@@ -40,6 +40,7 @@ use Rattle.thorin_join.specs.State.{kind_at}
 use Rattle.thorin_join.proofs.Files.Indexes.{HasRows}
 use Rattle.thorin_join.proofs.Files.RowsFound.{RowFound, find-row, id-at, no-row, rows-counted}
 use Rattle.thorin_join.proofs.Files.RowsFound.{ids-counted}
+use Rattle.thorin_join.proofs.EachKind.{same-each}
 
 -- the laws of look-ups in packages
 abbrev pub PresentLaw : Type 0
@@ -70,19 +71,7 @@ pub record IsRead (pack : Package) (order : Endianness) (contents : Contents)
 
 content-is : (held : SectionKind → List ℕ) (kind : SectionKind) → content (sections_of held)
     kind ≡ held kind
-content-is held kinds.Info = refl
-content-is held kinds.Types = refl
-content-is held kinds.Abbrev = refl
-content-is held kinds.Line = refl
-content-is held kinds.Loc = refl
-content-is held kinds.Loclists = refl
-content-is held kinds.Rnglists = refl
-content-is held kinds.StrOffsets = refl
-content-is held kinds.Macinfo = refl
-content-is held kinds.Macro = refl
-content-is held kinds.Str = refl
-content-is held kinds.CuIndex = refl
-content-is held kinds.TuIndex = refl
+content-is held = same-each (content (sections_of held)) held refl
 
 -- the index of a name's sort
 sort-rows : (pack : Package) (order : Endianness) (contents : Contents) (rows : List IndexEntry)

@@ -92,7 +92,7 @@ pub new-sound : (file : Elf) (begun : Option InProgress) → IsSoundBegun begun
 new-sound file None h = empty-sound file.class file.machine file.order
 new-sound file (Some made) h = h
 
-new-units : (file : Elf) (begun : Option InProgress) → units_of (package_or_new file begun) ≡
+pub new-units : (file : Elf) (begun : Option InProgress) → units_of (package_or_new file begun) ≡
     units_begun begun
 new-units file None = refl
 new-units file (Some made) = refl

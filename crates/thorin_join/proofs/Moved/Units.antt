@@ -6,6 +6,7 @@ use Rattle.std.proofs.lemmas.Bool.{le-ltb, ltb-false, eq-eqb}
 use Rattle.std.proofs.lemmas.List.{append-nil, take-append-le, length-take-le}
 use Rattle.dwp_base.specs.Reading.{◌>>=◌}
 use Rattle.dwp_base.specs.declared.endian.Endianness.{Endianness}
+use Rattle.dwp_base.proofs.Steps.{bind-was, same-ok}
 use Rattle.dwp_bytes.specs.Input.{Input, after, split_at, number_at, offset_at}
 use Rattle.dwp_bytes.specs.declared.encoding.Format.{Format}
 use Rattle.dwp_bytes.specs.declared.fault.ReadError.{ReadError}
@@ -50,14 +51,6 @@ split-goes order n p bytes h =
       plain order (p + n)
           (drop n bytes),
     ))) (le-ltb _ _ h)
-
-bind-inv : {A B E : Type 0} (r : Result A E) (f : A → Result B E) (y : B) → (r >>= f) ≡ Ok y
-    → (x : A) × (r ≡ Ok x) × (f x ≡ Ok y)
-bind-inv (Ok x) f y h = (x, refl, h)
-bind-inv (Err e) f y h = absurd cc
-
-same-ok : {A E : Type 0} (x y : A) → ◌≡◌ {A = Result A E} (Ok x) (Ok y) → x ≡ y
-same-ok x y h = cc
 
 abbrev Units : Type 0
 Units = Result (Header × Input) ReadError
@@ -149,13 +142,13 @@ module _ (taken : UnitsAreTaken) (order : Endianness) (place : UnitSection) (own
   unit-goes format n p bs h =
       let i = plain order 0 own in
       let j = plain order d (own ++ more) in
-      let s1 = bind-inv (split_at n (plain order p bs)) (from_body place i format) (u, r) h in
+      let s1 = bind-was (split_at n (plain order p bs)) (from_body place i format) (u, r) h in
       let c1 = split-inverse order n p bs s1.0 s1.1 in
       let h2 : from_body place i format (plain order p (take n bs), plain order (p + n) (drop n bs))
       ≡ Ok (u, r) = subst (λ b. from_body place i format b ≡ Ok (u, r)) (sym c1.1) s1.2 in
-      let s2 = bind-inv (split_at (p + n - 0) i) _ (u, r) h2 in
+      let s2 = bind-was (split_at (p + n - 0) i) _ (u, r) h2 in
       let c2 = split-inverse order (p + n - 0) 0 own s2.0 s2.1 in
-      let s3 = bind-inv (header_at place format s2.0.0 (plain order p (take n bs))) _ (u, r) s2.2 in
+      let s3 = bind-was (header_at place format s2.0.0 (plain order p (take n bs))) _ (u, r) s2.2 in
       let m : ℕ = p + n in
       let same_m : p + n - 0 ≡ m = omega arith in
       let fits : m ≤ length own = subst (λ k. k ≤ length own) same_m c2.0 in
@@ -210,7 +203,7 @@ module _ (taken : UnitsAreTaken) (order : Endianness) (place : UnitSection) (own
   unit-moves h =
       let i = plain order 0 own in
       let j = plain order d (own ++ more) in
-      let s1 = bind-inv (initial_length_at i) (from_length place i) (u, r)
+      let s1 = bind-was (initial_length_at i) (from_length place i) (u, r)
       (sym (by_length place i) ∙ h) in
       let there = agree-there order d more _ _ s1.0 (length_agrees order d more own 0) s1.1 in
       let same_place : d + 0 ≡ d = omega arith in
@@ -251,23 +244,23 @@ module _ (taken : UnitsAreTaken) (order : Endianness) (place : UnitSection) (own
 
 -- ---- the same of both sections: units of version 5
 
-newer-five : (format : Format) (whole i : Input) (u : Header) → newer_at format whole i ≡ Ok u
+pub newer-five : (format : Format) (whole i : Input) (u : Header) → newer_at format whole i ≡ Ok u
     → u.encoding.version ≡ 5
 unfolding newer_at
 newer-five format whole i u h =
-    let a = bind-inv (unit_code_at i) _ u h in
-    let b = bind-inv (address_size_at a.0.1) _ u a.2 in
-    let c = bind-inv (offset_at format b.0.1) _ u b.2 in
-    let d = bind-inv (unit_type_at a.0.0 format c.0.1) _ u c.2 in
+    let a = bind-was (unit_code_at i) _ u h in
+    let b = bind-was (address_size_at a.0.1) _ u a.2 in
+    let c = bind-was (offset_at format b.0.1) _ u b.2 in
+    let d = bind-was (unit_type_at a.0.0 format c.0.1) _ u c.2 in
     sym (ap (λ (x : Header). x.encoding.version) (same-ok _ u d.2))
 
 older-version : (place : UnitSection) (format : Format) (version : ℕ) (whole i : Input) (u : Header)
     → older_at place format version whole i ≡ Ok u → u.encoding.version ≡ version
 unfolding older_at
 older-version place format version whole i u h =
-    let a = bind-inv (offset_at format i) _ u h in
-    let b = bind-inv (address_size_at a.0.1) _ u a.2 in
-    let c = bind-inv (older_type_at place format b.0.1) _ u b.2 in
+    let a = bind-was (offset_at format i) _ u h in
+    let b = bind-was (address_size_at a.0.1) _ u a.2 in
+    let c = bind-was (older_type_at place format b.0.1) _ u b.2 in
     sym (ap (λ (x : Header). x.encoding.version) (same-ok _ u c.2))
 
 -- a version is 5, or is read as an older one
@@ -289,7 +282,7 @@ header-anywhere : (place other : UnitSection) (format : Format) (whole i : Input
     → header_at other format whole i ≡ Ok u
 unfolding header_at
 header-anywhere place other format whole i u is h =
-    let s = bind-inv (number_at 2 i) _ u h in
+    let s = bind-was (number_at 2 i) _ u h in
     ap (λ (r : Result (ℕ × Input) ReadError). r >>= λ version. cond (eqb version.0 5)
     (newer_at format whole version.1) (cond (leb 2 version.0 && leb version.0 4)
     (older_at other format version.0 whole version.1) (Err UnknownVersion))) s.1
@@ -301,10 +294,10 @@ pub unit-anywhere : (place other : UnitSection) (i : Input) (u : Header) (r : In
     → u.encoding.version ≡ 5 → unit_at place i ≡ Ok (u, r) → unit_at other i ≡ Ok (u, r)
 unfolding unit_at
 unit-anywhere place other i u r is h =
-    let s1 = bind-inv (initial_length_at i) _ (u, r) h in
-    let s2 = bind-inv (split_at s1.0.0.1 s1.0.1) _ (u, r) s1.2 in
-    let s3 = bind-inv (split_at (s2.0.1.place - i.place) i) _ (u, r) s2.2 in
-    let s4 = bind-inv (header_at place s1.0.0.0 s3.0.0 s2.0.0) _ (u, r) s3.2 in
+    let s1 = bind-was (initial_length_at i) _ (u, r) h in
+    let s2 = bind-was (split_at s1.0.0.1 s1.0.1) _ (u, r) s1.2 in
+    let s3 = bind-was (split_at (s2.0.1.place - i.place) i) _ (u, r) s2.2 in
+    let s4 = bind-was (header_at place s1.0.0.0 s3.0.0 s2.0.0) _ (u, r) s3.2 in
     let unit_is : s4.0 ≡ u = ap (λ (x : Header × Input). x.0) (same-ok _ _ s4.2) in
     let there = header-anywhere place other s1.0.0.0 s3.0.0 s2.0.0 s4.0
     (ap (λ (z : Header). z.encoding.version) unit_is ∙ is) s4.1 in

@@ -1,16 +1,14 @@
 -- What the parts of an input are for the contents that they are added to.
 use Rattle.std.proofs.Common.{◌≡◌, ◌∙◌, ℕ, Bool, true, false, cond, eqb, List, [], ◌∷◌, ◌++◌}
-use Rattle.std.proofs.Common.{length, get_or, not, ◌&&◌, Result, Ok, Err, refl, sym, ap}
+use Rattle.std.proofs.Common.{length, not, ◌&&◌, Result, Ok, Err, refl, sym, ap}
 use Rattle.std.proofs.Common.{if◌then◌else◌, ◌⊎◌, inl, inr, ⊎_elim, true≢false, arith}
 use Rattle.std.proofs.lemmas.List.{append_assoc, append-nil}
 use Rattle.std.proofs.lemmas.Bool.{eqb-true, eqb-false, ne_eqb}
 use Rattle.dwp_base.specs.declared.section.SectionKind.{SectionKind}
-use Rattle.dwp_base.specs.declared.section.SectionKind.TheVariants.{Info, Types, Abbrev, Line, Loc}
-use Rattle.dwp_base.specs.declared.section.SectionKind.TheVariants.{Loclists, Rnglists, StrOffsets}
-use Rattle.dwp_base.specs.declared.section.SectionKind.TheVariants.{Macinfo, Macro, Str, CuIndex}
-use Rattle.dwp_base.specs.declared.section.SectionKind.TheVariants.{TuIndex}
-use Rattle.dwp_base.specs.Sections.{same_kind, rank_of, all_kinds, name_of}
+use Rattle.dwp_base.specs.declared.section.SectionKind.TheVariants.{StrOffsets, Str}
+use Rattle.dwp_base.specs.Sections.{same_kind, rank_of, name_of}
 use Rattle.dwp_base.specs.Reading.{◌>>=◌}
+use Rattle.dwp_base.proofs.EveryKind.{is-same}
 use Rattle.dwp_elf.specs.Contents.{content_of, appended}
 use Rattle.thorin_errors.specs.Fault.{Fault, MissingRequiredSection, RepeatedSection}
 use Rattle.thorin_errors.specs.Fault.{SectionOutsideFormat}
@@ -110,27 +108,8 @@ content-with_parts kind (p ∷ ps) c =
     ∙ with-front (same_kind p.0 kind) (content_of kind c) p.1 (joined_parts kind ps)
 
 -- ---- what a section adds to the parts
-pub kind-back : (k : SectionKind) → get_or all_kinds (rank_of k) Info ≡ k
-kind-back Info = refl
-kind-back Types = refl
-kind-back Abbrev = refl
-kind-back Line = refl
-kind-back Loc = refl
-kind-back Loclists = refl
-kind-back Rnglists = refl
-kind-back StrOffsets = refl
-kind-back Macinfo = refl
-kind-back Macro = refl
-kind-back Str = refl
-kind-back CuIndex = refl
-kind-back TuIndex = refl
-
-pub same-kind : (a b : SectionKind) → same_kind a b ≡ true → a ≡ b
-same-kind a b h = sym (kind-back a) ∙ ap (λ n. get_or all_kinds n Info)
-    (eqb-true (rank_of a) (rank_of b) h) ∙ kind-back b
-
 pub differ : (a b : SectionKind) → (a ≡ b → ⊥) → same_kind a b ≡ false
-differ a b apart = ⊎_elim (λ same. absurd (apart (same-kind a b same))) (λ other. other)
+differ a b apart = ⊎_elim (λ same. absurd (apart (is-same a b same))) (λ other. other)
     (either (same_kind a b))
 
 pub copied-differ : (a b : SectionKind) → is_copied a ≡ true → is_copied b ≡ false
@@ -249,7 +228,7 @@ module _ (source : Source) where
       (same_kind s.kind kind) s.bytes []
   step-copied kind before s next copied (inl (o, w)) =
       let other : same_kind s.kind kind ≡ false = copied-differ kind s.kind copied
-      (ap is_copied (same-kind s.kind StrOffsets o)) in
+      (ap is_copied (is-same s.kind StrOffsets o)) in
       ap (λ (n : Parts). joined_parts kind n.0) w.is
       ∙ joined_parts-other kind before.0 StrOffsets w.written.0
       (copied-differ kind StrOffsets copied refl)

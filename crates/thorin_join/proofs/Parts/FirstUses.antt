@@ -13,6 +13,7 @@ use Rattle.dwp_base.specs.Sections.{same_kind}
 use Rattle.dwp_base.specs.declared.endian.Endianness.{Endianness}
 use Rattle.dwp_base.specs.declared.section.Contribution.{Contribution}
 use Rattle.dwp_base.specs.declared.section.SectionKind.TheVariants.{Str, StrOffsets}
+use Rattle.dwp_base.proofs.Bools.{both}
 use Rattle.dwp_bytes.specs.Encoding.{offset_size}
 use Rattle.dwp_bytes.specs.StringOffsets.{header_size, entry_count, string_at}
 use Rattle.dwp_bytes.specs.declared.encoding.Encoding.{Encoding}
@@ -195,10 +196,6 @@ module _ (order : Endianness) (encoding : Encoding) (section bytes : List ℕ) w
           ∙ ap (λ r. with_strings strings (result_unwrap_or r [])) (sym all)
 
 -- ---- the strings that ranges name, one after the other
-both : (a b : Bool) → (a && b) ≡ true → (a ≡ true) × (b ≡ true)
-both true b e = (refl, e)
-both false b e = absurd cc
-
 pub slice-long : (bytes : List ℕ) (at size : ℕ) → at + size ≤ length bytes
     → size ≡ length (slice_range bytes at (at + size))
 slice-long bytes at size h =

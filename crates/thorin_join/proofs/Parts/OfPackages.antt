@@ -9,6 +9,8 @@ use Rattle.dwp_base.specs.declared.section.SectionKind.{SectionKind}
 use Rattle.dwp_base.specs.declared.section.SectionKind.TheVariants.{StrOffsets, Str}
 use Rattle.dwp_base.specs.declared.section.Contribution.{Contribution}
 use Rattle.dwp_base.specs.Sections.{same_kind}
+use Rattle.dwp_base.proofs.EveryKind.{is-same}
+use Rattle.dwp_base.proofs.Bools.{or-right}
 use Rattle.dwp_index.specs.Index.{Index, Ranges, row_in, range_in}
 use Rattle.thorin_packaged.specs.PackagedReading.{PackageReadsAlike, RowsReadAlike, range_bytes}
 use Rattle.thorin_packaged.specs.ReadStrings.{ReadsAlike}
@@ -20,7 +22,7 @@ use Rattle.thorin_input.specs.Format.{is_copied}
 use Rattle.thorin_input.specs.Parts.{Parts, has_part, stands_once, with_part}
 use Rattle.thorin_input.specs.Parts.{with_each_part, parts_of}
 use Rattle.thorin_input.specs.Used.{Used, first, has_kind, bytes_of}
-use Rattle.thorin_join.proofs.Parts.Appended.{either, kind-like, same-kind, joined_parts-more}
+use Rattle.thorin_join.proofs.Parts.Appended.{either, kind-like, joined_parts-more}
 use Rattle.thorin_join.proofs.Parts.Appended.{joined_parts-other, Adds, step, parts-copied}
 use Rattle.thorin_join.proofs.Parts.OffsetLaws.{NamesTheSameLaw, PackagedLaw}
 use Rattle.thorin_join.proofs.Parts.Strings.{front-front, packaged}
@@ -28,24 +30,20 @@ use Rattle.thorin_join.proofs.Parts.Strings.{rewritten-package, step-strings, ea
 use Rattle.thorin_join.proofs.Steps.{bind-inv}
 
 -- ---- which kinds have a part
-or-true : (a b : Bool) → b ≡ true → (a || b) ≡ true
-or-true true b h = refl
-or-true false b h = h
-
 has-kept : (kind : SectionKind) (a b : Contents) → has_part kind a ≡ true
     → has_part kind (a ++ b) ≡ true
 has-kept kind [] b h = absurd (true≢false (sym h))
 has-kept kind (p ∷ ps) b h =
     ⊎_elim
     (λ same. ap (λ (v : Bool). v || has_part kind (ps ++ b)) same)
-    (λ other. or-true (same_kind p.0 kind) (has_part kind (ps ++ b))
+    (λ other. or-right (same_kind p.0 kind) (has_part kind (ps ++ b))
     (has-kept kind ps b (sym (ap (λ (v : Bool). v || has_part kind ps) other) ∙ h)))
     (either (same_kind p.0 kind))
 
 has-last : (kind : SectionKind) (a : Contents) (k : SectionKind) (bytes : List ℕ)
     → same_kind k kind ≡ true → has_part kind (a ++ (k, bytes) ∷ []) ≡ true
 has-last kind [] k bytes same = ap (λ (v : Bool). v || false) same
-has-last kind (p ∷ ps) k bytes same = or-true (same_kind p.0 kind)
+has-last kind (p ∷ ps) k bytes same = or-right (same_kind p.0 kind)
     (has_part kind (ps ++ (k, bytes) ∷ [])) (has-last kind ps k bytes same)
 
 has-other : (kind : SectionKind) (a : Contents) (k : SectionKind) (bytes : List ℕ)
@@ -109,13 +107,13 @@ module _ (source : Source) where
       → is_copied kind ≡ true → same_kind s.kind kind ≡ true → Adds source before s next
       → has_part kind next.0 ≡ true
   adds-copied kind before s next copied same (inl (o, w)) =
-      let here : s.kind ≡ kind = same-kind s.kind kind same in
-      let there : s.kind ≡ StrOffsets = same-kind s.kind StrOffsets o in
+      let here : s.kind ≡ kind = is-same s.kind kind same in
+      let there : s.kind ≡ StrOffsets = is-same s.kind StrOffsets o in
       absurd (true≢false (sym copied ∙ ap is_copied (sym here ∙ there)))
   adds-copied kind before s next copied same (inr (inl (o, c, is))) =
       ap (λ (n : Parts). has_part kind n.0) is ∙ has-last kind before.0 s.kind s.bytes same
   adds-copied kind before s next copied same (inr (inr (o, c, is))) =
-      let here : s.kind ≡ kind = same-kind s.kind kind same in
+      let here : s.kind ≡ kind = is-same s.kind kind same in
       absurd (true≢false (sym copied ∙ ap is_copied (sym here) ∙ c))
 
 module _ (source : Source) (packed : is_package source.indexes ≡ true) where
@@ -124,7 +122,7 @@ module _ (source : Source) (packed : is_package source.indexes ≡ true) where
       → (stands_once source s.kind && has_part s.kind before.0) ≡ false
       → has_part kind before.0 ≡ false
   none-yet kind before s same once =
-      subst (λ (k : SectionKind). has_part k before.0 ≡ false) (same-kind s.kind kind same)
+      subst (λ (k : SectionKind). has_part k before.0 ≡ false) (is-same s.kind kind same)
       (once-alone (is_package source.indexes) _ (has_part s.kind before.0) packed once)
 
   -- where a kind has a part, no further section of it follows, and the part stays

@@ -8,6 +8,8 @@ use Rattle.std.proofs.lemmas.Bool.{leb-true, leb-false}
 use Rattle.dwp_base.specs.declared.section.SectionKind.{SectionKind}
 use Rattle.dwp_base.specs.declared.section.SectionKind.TheVariants.{StrOffsets, Str}
 use Rattle.dwp_base.specs.Sections.{same_kind}
+use Rattle.dwp_base.proofs.EveryKind.{is-same}
+use Rattle.dwp_base.proofs.Bools.{or-right}
 use Rattle.dwp_bytes.specs.declared.encoding.Encoding.{Encoding}
 use Rattle.dwp_bytes.specs.Encoding.{offset_size}
 use Rattle.dwp_bytes.specs.StringOffsets.{entry_count}
@@ -23,20 +25,16 @@ use Rattle.thorin_input.specs.Parts.{parts_of}
 use Rattle.thorin_input.specs.Used.{Used, InputFile, first}
 use Rattle.thorin_join.proofs.Parts.OffsetRanges.{whole-long, whole-read, empty-read, no-header}
 use Rattle.thorin_join.proofs.Parts.OffsetRanges.{rewritten-long, alike-by, IsWhole, whole-more}
-use Rattle.thorin_join.proofs.Parts.Appended.{either, same-kind, joined-front, joined_parts-more}
+use Rattle.thorin_join.proofs.Parts.Appended.{either, joined-front, joined_parts-more}
 use Rattle.thorin_join.proofs.Parts.Appended.{joined_parts-other, Rewritten, Adds, step}
 use Rattle.thorin_join.proofs.Parts.OffsetLaws.{NamesTheSameLaw, ReadsAlikeLaw, ReadInTurnLaw}
 use Rattle.thorin_join.proofs.Parts.Strings.{front-front, rewritten-plain}
 use Rattle.thorin_join.proofs.Steps.{bind-inv}
 
-has-by : (a b : Bool) → b ≡ true → (a || b) ≡ true
-has-by true b h = refl
-has-by false b h = h
-
 pub has-more : (a : Contents) (bytes : List ℕ) → has_part StrOffsets
     (a ++ (StrOffsets, bytes) ∷ []) ≡ true
 has-more [] bytes = refl
-has-more (p ∷ ps) bytes = has-by (same_kind p.0 StrOffsets)
+has-more (p ∷ ps) bytes = or-right (same_kind p.0 StrOffsets)
     (has_part StrOffsets (ps ++ (StrOffsets, bytes) ∷ [])) (has-more ps bytes)
 
 pub has-other : (a : Contents) (k : SectionKind) (bytes : List ℕ) → same_kind k StrOffsets ≡ false
@@ -180,7 +178,7 @@ module _ (names : NamesTheSameLaw) (alike : ReadsAlikeLaw) (in_turn : ReadInTurn
   step-reads before s next old so_far once (inl (o, w)) =
       let here : (stands_once source StrOffsets && has_part StrOffsets before.0) ≡ false =
       subst (λ (k : SectionKind). (stands_once source k && has_part k before.0) ≡ false)
-      (same-kind s.kind StrOffsets o) once in
+      (is-same s.kind StrOffsets o) once in
       rw o (reads-rewritten before s.bytes next old so_far (λ standard.
       not-there (is_package source.indexes) (leb 5 encoding.version)
       (has_part StrOffsets before.0) standard here) w)

@@ -1,13 +1,10 @@
 -- What a row means, where each of its ranges was put behind the contents before.
 use Rattle.std.proofs.Common.{◌≡◌, ◌∙◌, ℕ, true, false, cond, List, length, take, Option, Some}
-use Rattle.std.proofs.Common.{None, refl, sym, ap, ⊎_elim, true≢false}
+use Rattle.std.proofs.Common.{None, refl, sym, ap, ⊎_elim}
 use Rattle.std.proofs.Math.Seq.{take-length}
 use Rattle.std.proofs.lemmas.Option.{none-some}
 use Rattle.dwp_base.specs.declared.section.SectionKind.{SectionKind}
-use Rattle.dwp_base.specs.declared.section.SectionKind.TheVariants.{Info, Types, Abbrev, Line, Loc}
-use Rattle.dwp_base.specs.declared.section.SectionKind.TheVariants.{Loclists, Rnglists, StrOffsets}
-use Rattle.dwp_base.specs.declared.section.SectionKind.TheVariants.{Macinfo, Macro, Str, CuIndex}
-use Rattle.dwp_base.specs.declared.section.SectionKind.TheVariants.{TuIndex}
+use Rattle.dwp_base.specs.declared.section.SectionKind.TheVariants.{StrOffsets, Str}
 use Rattle.dwp_elf.specs.Contents.{content_of}
 use Rattle.dwp_index.specs.Index.{Ranges}
 use Rattle.dwp_index.specs.Strings.{string_in}
@@ -17,16 +14,18 @@ use Rattle.thorin_index.specs.declared.entry.IndexEntry.{IndexEntry}
 use Rattle.thorin_strings.specs.Strings.{IsTable, data_of}
 use Rattle.thorin_input.specs.Growing.{Contents, with_parts}
 use Rattle.thorin_input.specs.Indexes.{Source}
-use Rattle.thorin_join.specs.Meaning.{Meaning, pieces_by, piece, part_by, offsets_by, lie_inside}
+use Rattle.thorin_join.specs.Meaning.{Meaning, pieces_by, part_by, offsets_by, lie_inside}
 use Rattle.thorin_join.specs.Meaning.{meaning_with, meaning_by}
 use Rattle.thorin_input.specs.Format.{is_copied}
 use Rattle.thorin_join.specs.Represents.{LieInside, Shares}
 use Rattle.thorin_join.specs.Strings.{strings_of}
 use Rattle.thorin_input.specs.Used.{first}
-use Rattle.thorin_join.proofs.Rows.OfUnits.{is_shared, shared-copied}
+use Rattle.thorin_input.specs.Format.{is_shared}
+use Rattle.thorin_join.proofs.Rows.OfUnits.{shared-copied}
 use Rattle.thorin_join.proofs.Parts.Appended.{either}
 use Rattle.thorin_join.proofs.Rows.Ranges.{Lies}
 use Rattle.thorin_join.proofs.Parts.StringLists.{strings-there, strings-read}
+use Rattle.thorin_join.proofs.EachKind.{same-each}
 
 -- the unit of a row, by its input's ranges, with all that belongs to it
 pub record RowMeans (source : Source) (before parts : Contents) (after : List (List ℕ))
@@ -44,21 +43,12 @@ SharedLie contents row part = (kind : SectionKind) → is_shared kind ≡ true
     → Lies (content_of kind contents) (contribution_to kind row) (part kind)
 
 -- the kinds that units don't share have no range
-unshared : (row : IndexEntry) → row.debug_info ≡ None → row.debug_types ≡ None
+pub unshared : (row : IndexEntry) → row.debug_info ≡ None → row.debug_types ≡ None
     → (kind : SectionKind) → is_shared kind ≡ false → contribution_to kind row ≡ None
-unshared row info types Info h = info
-unshared row info types Types h = types
-unshared row info types Abbrev h = absurd (true≢false h)
-unshared row info types Line h = absurd (true≢false h)
-unshared row info types Loc h = absurd (true≢false h)
-unshared row info types Loclists h = absurd (true≢false h)
-unshared row info types Rnglists h = absurd (true≢false h)
-unshared row info types StrOffsets h = absurd (true≢false h)
-unshared row info types Macinfo h = absurd (true≢false h)
-unshared row info types Macro h = absurd (true≢false h)
-unshared row info types Str h = refl
-unshared row info types CuIndex h = refl
-unshared row info types TuIndex h = refl
+unshared row info types kind other =
+    ap (λ b. cond b None (contribution_to kind row)) (sym other)
+    ∙ same-each (λ k. cond (is_shared k) None (contribution_to k row)) (λ k. None)
+    (rw (info, types) refl) kind
 
 lie-inside : (contents : Contents) (row : IndexEntry) (part : SectionKind → List ℕ)
     → SharedLie contents row part → row.debug_info ≡ None → row.debug_types ≡ None
@@ -73,22 +63,6 @@ lie-inside contents row part lies info types = record {
       (λ other. absurd (none-some range (sym (unshared row info types kind other) ∙ h)))
       (either (is_shared kind));
 }
-
-piece-of : (bytes : SectionKind → List ℕ) (kind : SectionKind) → is_copied kind ≡ true
-    → bytes kind ≡ piece (pieces_by bytes) kind
-piece-of bytes Info h = absurd (true≢false (sym h))
-piece-of bytes Types h = absurd (true≢false (sym h))
-piece-of bytes Abbrev h = refl
-piece-of bytes Line h = refl
-piece-of bytes Loc h = refl
-piece-of bytes Loclists h = refl
-piece-of bytes Rnglists h = refl
-piece-of bytes StrOffsets h = absurd (true≢false (sym h))
-piece-of bytes Macinfo h = refl
-piece-of bytes Macro h = refl
-piece-of bytes Str h = absurd (true≢false (sym h))
-piece-of bytes CuIndex h = absurd (true≢false (sym h))
-piece-of bytes TuIndex h = absurd (true≢false (sym h))
 
 -- string offsets read as those of the unit's ranges, with the strings of any table that begins with
 -- these
@@ -129,7 +103,7 @@ row-means source before parts after bytes ranges row part lies copied inside rea
       lie = lie-inside (with_parts parts before) row part lies info types;
       shares = record {
         content = λ kind copies. (lies kind (shared-copied kind copies)).part_is ∙ copied kind
-            copies ∙ piece-of (part_by source ranges) kind copies;
+            copies;
         string = λ final final_table kept i.
             ap (λ v. string_in order source.encoding (data_of final) v i)
             (lies StrOffsets refl).part_is

@@ -5,13 +5,13 @@ use Rattle.std.proofs.Common.{true≢false, inl, inr}
 use Rattle.std.specs.Option.{option_and_then}
 use Rattle.std.proofs.lemmas.Option.{none-some}
 use Rattle.std.proofs.lemmas.Bool.{eqb-true}
-use Rattle.dwp_base.specs.Reading.{◌>>=◌}
-use Rattle.dwp_base.specs.Sections.{same_kind}
+use Rattle.dwp_base.specs.ByKind.{value_of}
+use Rattle.dwp_base.specs.Reading.{◌>>=◌, read_each}
+use Rattle.dwp_base.specs.Sections.{all_kinds, same_kind}
+use Rattle.dwp_base.proofs.KindsRead.{read-kind}
+use Rattle.dwp_base.proofs.Steps.{bind-was}
 use Rattle.dwp_base.specs.declared.section.SectionKind.{SectionKind}
-use Rattle.dwp_base.specs.declared.section.SectionKind.TheVariants.{Info, Types, Abbrev, Line, Loc}
-use Rattle.dwp_base.specs.declared.section.SectionKind.TheVariants.{Loclists, Rnglists, StrOffsets}
-use Rattle.dwp_base.specs.declared.section.SectionKind.TheVariants.{Macinfo, Macro, Str, CuIndex}
-use Rattle.dwp_base.specs.declared.section.SectionKind.TheVariants.{TuIndex}
+use Rattle.dwp_base.specs.declared.section.SectionKind.TheVariants.{Info, Types, Abbrev, StrOffsets}
 use Rattle.dwp_base.specs.declared.section.Contribution.{Contribution}
 use Rattle.dwp_bytes.specs.declared.encoding.Encoding.{Encoding}
 use Rattle.dwp_bytes.specs.declared.fault.ReadError.{ReadError}
@@ -26,41 +26,33 @@ use Rattle.thorin_errors.specs.Answers.{as_fault}
 use Rattle.thorin_packaged.specs.RowPlaces.{row_by_place}
 use Rattle.thorin_input.specs.Adjusting.{Adjustor, own_index, other_index, row_found, row_of}
 use Rattle.thorin_input.specs.Adjusting.{has_column_for, part_by_row, adjusted}
-use Rattle.thorin_index.specs.Entries.{contribution_to}
+use Rattle.thorin_index.specs.Entries.{contribution_to, entry_by}
 use Rattle.thorin_index.specs.declared.entry.IndexEntry.{IndexEntry}
 use Rattle.thorin_input.specs.Growing.{Contents, joined_parts, range_put}
 use Rattle.thorin_input.specs.Indexes.{Indexes, is_package, index_for, looked_up}
 use Rattle.thorin_join.specs.Meaning.{read_of, placed_row}
-use Rattle.thorin_input.specs.Format.{is_copied}
-use Rattle.thorin_input.specs.Rows.{whole_row, adjusted_part, unit_row, own_range, number_by_place}
+use Rattle.thorin_input.specs.Format.{is_copied, is_shared}
+use Rattle.thorin_input.specs.Rows.{whole_row, adjusted_part, unit_part, unit_row, own_range}
+use Rattle.thorin_input.specs.Rows.{number_by_place}
 use Rattle.thorin_input.specs.Rows.{is_same_row, row_test}
 use Rattle.thorin_join.proofs.Parts.OfPackages.{IsOneOf}
 use Rattle.thorin_join.proofs.Rows.Ranges.{Placed, whole_behind, placed-by, range-some, range-none}
+use Rattle.thorin_join.proofs.EachKind.{same-each}
 use Rattle.thorin_join.proofs.Steps.{ok-eq, bind-inv}
 
 -- ---- kinds that units share
-abbrev pub is_shared : SectionKind → Bool
-is_shared kind = is_copied kind || same_kind kind StrOffsets
-
 pub shared-copied : (kind : SectionKind) → is_copied kind ≡ true → is_shared kind ≡ true
 shared-copied kind copied = ap (λ (b : Bool). b || same_kind kind StrOffsets) copied
 
--- what holds of each of them
-pub each-shared : (P : SectionKind → Type 0) → P Abbrev → P Line → P Loc → P Loclists → P Rnglists
-    → P StrOffsets → P Macinfo → P Macro → (kind : SectionKind) → is_shared kind ≡ true → P kind
-each-shared P a l o c r s i m Info h = absurd (true≢false (sym h))
-each-shared P a l o c r s i m Types h = absurd (true≢false (sym h))
-each-shared P a l o c r s i m Abbrev h = a
-each-shared P a l o c r s i m Line h = l
-each-shared P a l o c r s i m Loc h = o
-each-shared P a l o c r s i m Loclists h = c
-each-shared P a l o c r s i m Rnglists h = r
-each-shared P a l o c r s i m StrOffsets h = s
-each-shared P a l o c r s i m Macinfo h = i
-each-shared P a l o c r s i m Macro h = m
-each-shared P a l o c r s i m Str h = absurd (true≢false (sym h))
-each-shared P a l o c r s i m CuIndex h = absurd (true≢false (sym h))
-each-shared P a l o c r s i m TuIndex h = absurd (true≢false (sym h))
+-- an entry by parts has each of those that it can have
+pub entry-part : (encoding : Encoding) (id : DwarfObject) (part : SectionKind → Option Contribution)
+    (kind : SectionKind) → is_shared kind ≡ true
+    → contribution_to kind (entry_by encoding id part) ≡ part kind
+entry-part encoding id part kind shared =
+    ap (λ b. cond b (contribution_to kind (entry_by encoding id part)) None) (sym shared)
+    ∙ same-each (λ k. cond (is_shared k) (contribution_to k (entry_by encoding id part)) None)
+    (λ k. cond (is_shared k) (part k) None) refl kind
+    ∙ ap (λ b. cond b (part kind) None) shared
 
 -- ---- a unit's own row
 -- the row by place is there, and is the one that looking an identifier up gives
@@ -215,29 +207,21 @@ pub is-unit_row : (indexes : Indexes) (whole : IndexEntry) (name : DwarfObject) 
     → unit_row indexes whole name ≡ Ok row → IsUnitRow indexes whole name row
 unfolding unit_row
 is-unit_row indexes whole name row h =
-    let a = bind-inv (adjusted_part indexes name Abbrev whole.debug_abbrev) _ row h in
-    let l = bind-inv (adjusted_part indexes name Line whole.debug_line) _ row a.2 in
-    let o = bind-inv (adjusted_part indexes name Loc whole.debug_loc) _ row l.2 in
-    let c = bind-inv (adjusted_part indexes name Loclists whole.debug_loclists) _ row o.2 in
-    let r = bind-inv (adjusted_part indexes name Rnglists whole.debug_rnglists) _ row c.2 in
-    let s = bind-inv (adjusted_part indexes name StrOffsets whole.debug_str_offsets) _ row r.2 in
-    let i = bind-inv (adjusted_part indexes name Macinfo whole.debug_macinfo) _ row s.2 in
-    let m = bind-inv (adjusted_part indexes name Macro whole.debug_macro) _ row i.2 in
-    let is = ok-eq {E = Fault} _ row m.2 in
+    let parts = bind-was (read_each (λ kind. unit_part indexes name kind
+    (contribution_to kind whole)) all_kinds) _ row h in
+    let part = read-kind (λ kind. unit_part indexes name kind (contribution_to kind whole)) parts.0
+    None parts.1 in
+    let is = ok-eq {E = Fault} _ row parts.2 in
     record {
       encoding = ap (λ (e : IndexEntry). e.encoding) (sym is);
-      info = ap (λ (e : IndexEntry). e.debug_info) (sym is);
-      types = ap (λ (e : IndexEntry). e.debug_types) (sym is);
-      parts = each-shared (λ kind. adjusted_part indexes name kind (contribution_to kind whole) ≡ Ok
-          (contribution_to kind row))
-          (a.1 ∙ ap (λ (e : IndexEntry). Ok e.debug_abbrev) is)
-          (l.1 ∙ ap (λ (e : IndexEntry). Ok e.debug_line) is)
-          (o.1 ∙ ap (λ (e : IndexEntry). Ok e.debug_loc) is)
-          (c.1 ∙ ap (λ (e : IndexEntry). Ok e.debug_loclists) is)
-          (r.1 ∙ ap (λ (e : IndexEntry). Ok e.debug_rnglists) is)
-          (s.1 ∙ ap (λ (e : IndexEntry). Ok e.debug_str_offsets) is)
-          (i.1 ∙ ap (λ (e : IndexEntry). Ok e.debug_macinfo) is)
-          (m.1 ∙ ap (λ (e : IndexEntry). Ok e.debug_macro) is);
+      info = ap (λ (e : IndexEntry). e.debug_info) (sym is) ∙ sym
+          (ok-eq {E = Fault} _ _ (part Info));
+      types = ap (λ (e : IndexEntry). e.debug_types) (sym is)
+          ∙ sym (ok-eq {E = Fault} _ _ (part Types));
+      parts = λ kind shared. ap (λ b. cond b (adjusted_part indexes name kind
+          (contribution_to kind whole)) (Ok (contribution_to kind whole))) (sym shared)
+          ∙ part kind ∙ ap Ok (sym (entry-part whole.encoding name (value_of None parts.0) kind
+          shared) ∙ ap (contribution_to kind) is);
     }
 
 -- where the wholes lie
@@ -245,9 +229,10 @@ pub whole-part : (encoding : Encoding) (before parts : Contents) (kind : Section
     → is_shared kind ≡ true → contribution_to kind (whole_row encoding before parts) ≡ range_put
     kind (joined_parts kind parts) before
 unfolding whole_row
-whole-part encoding before parts =
-    each-shared (λ kind. contribution_to kind (whole_row encoding before parts) ≡ range_put kind
-    (joined_parts kind parts) before) refl refl refl refl refl refl refl refl
+whole-part encoding before parts kind shared =
+    entry-part encoding _ (λ k. cond (is_shared k) (range_put k (joined_parts k parts) before) None)
+    kind shared
+    ∙ ap (λ b. cond b (range_put kind (joined_parts kind parts) before) None) shared
 
 pub whole-else : (encoding : Encoding) (before parts : Contents)
     → ((whole_row encoding before parts).encoding ≡ encoding)

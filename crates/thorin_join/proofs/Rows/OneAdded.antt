@@ -1,5 +1,5 @@
 -- A unit that is added stands in its row.
-use Rattle.std.proofs.Common.{◌≡◌, ◌∙◌, ℕ, ◌+◌, ◌-◌, ◌≤◌, ◌<◌, Bool, true, false, cond, true≢false}
+use Rattle.std.proofs.Common.{◌≡◌, ◌∙◌, ℕ, ◌+◌, ◌-◌, ◌≤◌, ◌<◌, Bool, true, false, cond}
 use Rattle.std.proofs.Common.{List, [], ◌∷◌, ◌++◌, length, take, drop, ap, sym, refl, arith}
 use Rattle.std.proofs.Common.{length-append, Some, None, Option, Ok, nat_eq, subst, ◌⊎◌, inl, inr}
 use Rattle.std.specs.Prelude.{slice_range}
@@ -11,6 +11,7 @@ use Rattle.dwp_base.specs.declared.section.SectionKind.TheVariants as kinds
 use Rattle.dwp_base.specs.declared.section.Contribution.{Contribution}
 use Rattle.dwp_base.specs.declared.endian.Endianness.{Endianness}
 use Rattle.dwp_base.specs.Sections.{same_kind}
+use Rattle.dwp_base.proofs.EveryKind.{same-self, is-same}
 use Rattle.dwp_elf.specs.Contents.{content_of}
 use Rattle.dwp_bytes.specs.declared.encoding.Encoding.{Encoding}
 use Rattle.dwp_dwarf.specs.declared.unit.UnitSection.{UnitSection}
@@ -29,28 +30,14 @@ use Rattle.thorin_input.specs.Format.{is_copied}
 use Rattle.thorin_join.specs.Represents.{LieInside, Shares, IsRowOf}
 use Rattle.thorin_join.specs.State.{kind_at, row_at}
 use Rattle.thorin_join.proofs.Rows.Stay.{grows-with_bytes, keep-lie, keep-shares, part-inside}
-use Rattle.thorin_join.proofs.Parts.Appended.{content-with_bytes}
-
--- the content of the kind that bytes are added to
-same-self : (k : SectionKind) → same_kind k k ≡ true
-same-self kinds.Info = refl
-same-self kinds.Types = refl
-same-self kinds.Abbrev = refl
-same-self kinds.Line = refl
-same-self kinds.Loc = refl
-same-self kinds.Loclists = refl
-same-self kinds.Rnglists = refl
-same-self kinds.StrOffsets = refl
-same-self kinds.Macinfo = refl
-same-self kinds.Macro = refl
-same-self kinds.Str = refl
-same-self kinds.CuIndex = refl
-same-self kinds.TuIndex = refl
+use Rattle.thorin_join.proofs.Parts.Appended.{content-with_bytes, copied-differ}
+use Rattle.thorin_join.proofs.EachKind.{same-each}
 
 not_empty : (x : List ℕ) → 0 < length x → nat_eq (length x) 0 ≡ false
 not_empty [] h = absurd (omega arith)
 not_empty (y ∷ ys) h = eqb-suc-zero (length ys)
 
+-- the content of the kind that bytes are added to
 pub content-put : (k : SectionKind) (x : List ℕ) (c : Contents) → content_of k (with_bytes k x c) ≡
     content_of k c ++ x
 content-put k x c = content-with_bytes k k x c ∙ ap (λ e. cond e (content_of k c ++ x)
@@ -84,81 +71,70 @@ part-put k x c h =
     ∙ part-inside (content_of k c ++ x) (range_for k x c) long
     ∙ own-bytes (content_of k c) x
 
--- a unit's row has the parts that it shares
+-- a unit's row has its own part, and those that it shares
+row-parts : (shared : IndexEntry) (c : Contents) (name : DwarfObject) (x : List ℕ)
+    (place : UnitSection) (kind : SectionKind)
+    → contribution_to kind (row_at shared c name x place) ≡ cond (same_kind (kind_at place) kind)
+    (range_put (kind_at place) x c) (contribution_to kind shared)
+row-parts shared c name x places.Info =
+    same-each (λ k. contribution_to k (row_at shared c name x places.Info)) (λ k.
+    cond (same_kind kinds.Info k) (range_put kinds.Info x c) (contribution_to k shared)) refl
+row-parts shared c name x places.Types =
+    same-each (λ k. contribution_to k (row_at shared c name x places.Types)) (λ k.
+    cond (same_kind kinds.Types k) (range_put kinds.Types x c) (contribution_to k shared)) refl
+
+pub row-other : (shared : IndexEntry) (c : Contents) (name : DwarfObject) (x : List ℕ)
+    (place : UnitSection) (kind : SectionKind) → same_kind (kind_at place) kind ≡ false
+    → contribution_to kind (row_at shared c name x place) ≡ contribution_to kind shared
+row-other shared c name x place kind other =
+    row-parts shared c name x place kind ∙ ap (λ b. cond b (range_put (kind_at place) x c)
+    (contribution_to kind shared)) other
+
+not-copied : (place : UnitSection) → is_copied (kind_at place) ≡ false
+not-copied places.Info = refl
+not-copied places.Types = refl
+
+not-offsets : (place : UnitSection) → same_kind (kind_at place) kinds.StrOffsets ≡ false
+not-offsets places.Info = refl
+not-offsets places.Types = refl
+
 pub row-shared : (shared : IndexEntry) (c : Contents) (name : DwarfObject) (x : List ℕ)
     (place : UnitSection) (kind : SectionKind) → is_copied kind ≡ true
     → contribution_to kind (row_at shared c name x place) ≡ contribution_to kind shared
-row-shared shared c name x places.Info kinds.Abbrev h = refl
-row-shared shared c name x places.Info kinds.Line h = refl
-row-shared shared c name x places.Info kinds.Loc h = refl
-row-shared shared c name x places.Info kinds.Loclists h = refl
-row-shared shared c name x places.Info kinds.Rnglists h = refl
-row-shared shared c name x places.Info kinds.Macinfo h = refl
-row-shared shared c name x places.Info kinds.Macro h = refl
-row-shared shared c name x places.Types kinds.Abbrev h = refl
-row-shared shared c name x places.Types kinds.Line h = refl
-row-shared shared c name x places.Types kinds.Loc h = refl
-row-shared shared c name x places.Types kinds.Loclists h = refl
-row-shared shared c name x places.Types kinds.Rnglists h = refl
-row-shared shared c name x places.Types kinds.Macinfo h = refl
-row-shared shared c name x places.Types kinds.Macro h = refl
-row-shared shared c name x place kinds.Info h = absurd (true≢false (sym h))
-row-shared shared c name x place kinds.Types h = absurd (true≢false (sym h))
-row-shared shared c name x place kinds.StrOffsets h = absurd (true≢false (sym h))
-row-shared shared c name x place kinds.Str h = absurd (true≢false (sym h))
-row-shared shared c name x place kinds.CuIndex h = absurd (true≢false (sym h))
-row-shared shared c name x place kinds.TuIndex h = absurd (true≢false (sym h))
-
-row-offsets : (shared : IndexEntry) (c : Contents) (name : DwarfObject) (x : List ℕ)
-    (place : UnitSection)
-    → contribution_to kinds.StrOffsets (row_at shared c name x place) ≡ contribution_to
-    kinds.StrOffsets shared
-row-offsets shared c name x places.Info = refl
-row-offsets shared c name x places.Types = refl
+row-shared shared c name x place kind copied = row-other shared c name x place kind
+    (copied-differ kind (kind_at place) copied (not-copied place))
 
 pub row-name : (shared : IndexEntry) (c : Contents) (name : DwarfObject) (x : List ℕ)
     (place : UnitSection) → (row_at shared c name x place).id ≡ name
 row-name shared c name x places.Info = refl
 row-name shared c name x places.Types = refl
 
--- its other parts are those that it shares, and its own
 pub row-own : (shared : IndexEntry) (c : Contents) (name : DwarfObject) (x : List ℕ)
     (place : UnitSection) → contribution_to (kind_at place) (row_at shared c name x place) ≡
     range_put (kind_at place) x c
-row-own shared c name x places.Info = refl
-row-own shared c name x places.Types = refl
+row-own shared c name x place =
+    row-parts shared c name x place (kind_at place) ∙ ap (λ b.
+    cond b (range_put (kind_at place) x c)
+    (contribution_to (kind_at place) shared)) (same-self (kind_at place))
 
+-- its other parts are those that it shares, and its own
 pub row-part : (shared : IndexEntry) (c : Contents) (name : DwarfObject) (x : List ℕ)
     (place : UnitSection) (kind : SectionKind)
     → (contribution_to kind (row_at shared c name x place) ≡ contribution_to kind shared)
     ⊎ ((kind ≡ kind_at place) × (contribution_to kind (row_at shared c name x place) ≡ range_put
     (kind_at place) x c))
-row-part shared c name x places.Info kinds.Info = inr (refl, refl)
-row-part shared c name x places.Info kinds.Types = inl refl
-row-part shared c name x places.Types kinds.Info = inl refl
-row-part shared c name x places.Types kinds.Types = inr (refl, refl)
-row-part shared c name x places.Info kinds.Abbrev = inl refl
-row-part shared c name x places.Info kinds.Line = inl refl
-row-part shared c name x places.Info kinds.Loc = inl refl
-row-part shared c name x places.Info kinds.Loclists = inl refl
-row-part shared c name x places.Info kinds.Rnglists = inl refl
-row-part shared c name x places.Info kinds.StrOffsets = inl refl
-row-part shared c name x places.Info kinds.Macinfo = inl refl
-row-part shared c name x places.Info kinds.Macro = inl refl
-row-part shared c name x places.Types kinds.Abbrev = inl refl
-row-part shared c name x places.Types kinds.Line = inl refl
-row-part shared c name x places.Types kinds.Loc = inl refl
-row-part shared c name x places.Types kinds.Loclists = inl refl
-row-part shared c name x places.Types kinds.Rnglists = inl refl
-row-part shared c name x places.Types kinds.StrOffsets = inl refl
-row-part shared c name x places.Types kinds.Macinfo = inl refl
-row-part shared c name x places.Types kinds.Macro = inl refl
-row-part shared c name x places.Info kinds.Str = inl refl
-row-part shared c name x places.Info kinds.CuIndex = inl refl
-row-part shared c name x places.Info kinds.TuIndex = inl refl
-row-part shared c name x places.Types kinds.Str = inl refl
-row-part shared c name x places.Types kinds.CuIndex = inl refl
-row-part shared c name x places.Types kinds.TuIndex = inl refl
+row-part shared c name x place kind = by (same_kind (kind_at place) kind) refl
+  where
+    by : (b : Bool) → same_kind (kind_at place) kind ≡ b
+        → (contribution_to kind (row_at shared c name x place) ≡ contribution_to kind shared)
+        ⊎ ((kind ≡ kind_at place) × (contribution_to kind (row_at shared c name x place)
+        ≡ range_put (kind_at place) x c))
+    by true same = inr (
+      sym (is-same (kind_at place) kind same),
+      row-parts shared c name x place kind ∙ ap (λ b. cond b (range_put (kind_at place) x c)
+          (contribution_to kind shared)) same,
+    )
+    by false other = inl (row-other shared c name x place kind other)
 
 -- the place of a unit is that of its name and its range in types
 pub record Fits (shared : IndexEntry) (name : DwarfObject) (x : List ℕ)
@@ -240,7 +216,8 @@ unit-added order c s shared name x place member encoding named own encoded lie s
         content = λ kind copied. ap (part_of (content_of kind d)) (row-shared shared c name x place
             kind copied) ∙ kept.content kind copied;
         string = λ final table begins i. ap (λ p. string_in order unit.encoding (data_of final)
-            (part_of (content_of kinds.StrOffsets d) p) i) (row-offsets shared c name x place) ∙
+            (part_of (content_of kinds.StrOffsets d) p) i) (row-other shared c name x place
+            kinds.StrOffsets (not-offsets place)) ∙
             kept.string final table begins i;
       };
       owns = record {

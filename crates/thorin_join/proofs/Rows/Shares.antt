@@ -1,14 +1,15 @@
 -- A unit that passed the tests stands in its row.
 use Rattle.std.proofs.Common.{◌≡◌, ◌∙◌, ℕ, ◌+◌, ◌≤◌, true, false, cond, List, [], ◌++◌, length, Ok}
 use Rattle.std.proofs.Common.{Option, Some, None, refl, sym, ap, subst, ⊎_elim, arith}
+use Rattle.std.proofs.Common.{Bool, ◌∷◌, is_none}
 use Rattle.std.specs.Prelude.{IsOk}
 use Rattle.std.specs.Option.{option_and_then}
 use Rattle.std.proofs.lemmas.Bool.{le-leb}
+use Rattle.std.specs.List.{list_all, find}
 use Rattle.dwp_base.specs.declared.section.Contribution.{Contribution}
 use Rattle.dwp_base.specs.declared.section.SectionKind.{SectionKind}
-use Rattle.dwp_base.specs.declared.section.SectionKind.TheVariants.{Abbrev, Line, Loc, Loclists}
-use Rattle.dwp_base.specs.declared.section.SectionKind.TheVariants.{Rnglists, StrOffsets, Macinfo}
-use Rattle.dwp_base.specs.declared.section.SectionKind.TheVariants.{Macro, Str}
+use Rattle.dwp_base.specs.declared.section.SectionKind.TheVariants.{StrOffsets, Str}
+use Rattle.dwp_base.proofs.Bools.{both}
 use Rattle.dwp_elf.specs.Contents.{content_of}
 use Rattle.dwp_index.specs.Index.{Ranges, range_in}
 use Rattle.dwp_index.specs.Package.{part_of}
@@ -22,17 +23,15 @@ use Rattle.thorin_strings.specs.Strings.{IsTable, data_of}
 use Rattle.thorin_input.specs.Growing.{Contents, with_parts, joined_parts}
 use Rattle.thorin_input.specs.Indexes.{Source, is_package, index_for}
 use Rattle.thorin_join.specs.Meaning.{Meaning, UnitRead, lie_inside, meaning_by, placed_row}
-use Rattle.thorin_join.specs.Meaning.{unit_meaning}
-use Rattle.thorin_input.specs.Format.{is_copied}
+use Rattle.thorin_join.specs.Meaning.{unit_meaning, shared_kinds}
 use Rattle.thorin_input.specs.Parts.{parts_of}
 use Rattle.thorin_join.specs.Represents.{LieInside, Shares}
 use Rattle.thorin_input.specs.Rows.{whole_row, adjusted_part, unit_row, own_range, row_test}
 use Rattle.thorin_input.specs.Used.{first}
 use Rattle.thorin_join.proofs.Parts.OffsetRanges.{empty-read}
-use Rattle.thorin_join.proofs.Rows.OfUnits.{is_shared, each-shared, OwnRow, one-of, adjusted-plain}
-use Rattle.thorin_join.proofs.Rows.OfUnits.{placed-part, IsUnitRow, is-unit_row, whole-part}
-use Rattle.thorin_join.proofs.Rows.OfUnits.{whole-else}
-use Rattle.thorin_join.proofs.Rows.OfUnits.{own-row}
+use Rattle.thorin_input.specs.Format.{is_shared}
+use Rattle.thorin_join.proofs.Rows.OfUnits.{OwnRow, one-of, adjusted-plain, placed-part}
+use Rattle.thorin_join.proofs.Rows.OfUnits.{IsUnitRow, is-unit_row, whole-part, whole-else, own-row}
 use Rattle.thorin_join.proofs.Parts.OfPackages.{RowsRead, parts-first, rows-read}
 use Rattle.thorin_join.proofs.Parts.Appended.{either, content-with_parts, parts-copied}
 use Rattle.thorin_join.proofs.Parts.OffsetLaws.{NamesTheSameLaw, ReadsAlikeLaw, ReadInTurnLaw}
@@ -43,6 +42,7 @@ use Rattle.thorin_join.proofs.Rows.Meaning.{RowMeans, SharedLie, OffsetsRead, ro
 use Rattle.thorin_join.proofs.Rows.Ranges.{Lies, Placed, whole_behind, lies-whole, not-outside}
 use Rattle.thorin_join.proofs.Rows.Ranges.{range-some}
 use Rattle.thorin_join.proofs.Steps.{ok-eq}
+use Rattle.thorin_join.proofs.EachKind.{copied-or-offsets}
 use Rattle.thorin_errors.specs.Fault.{Fault}
 
 -- a unit that passed the tests stands in its row
@@ -64,6 +64,15 @@ RowsLaw = (source : Source) (before : Contents) (strings : List (List ℕ)) (par
     → row_test source.indexes read.1.from read.0 read.1.unit ≡ Ok tt
     → unit_row source.indexes (whole_row source.encoding before parts) read.0 ≡ Ok row
     → RowShares source before parts after read row
+
+-- a test that no kind that units share passes
+none-found : (test : SectionKind → Bool) → ((kind : SectionKind) → is_shared kind ≡ true
+    → test kind ≡ false) → (kinds : List SectionKind) → list_all is_shared kinds ≡ true
+    → is_none (find test kinds) ≡ true
+none-found test fails [] shared = refl
+none-found test fails (kind ∷ kinds) shared =
+    let each = both (is_shared kind) (list_all is_shared kinds) shared in
+    rw (fails kind each.0) (none-found test fails kinds each.1)
 
 -- the bytes of a range that lies inside
 part-there : (bytes : List ℕ) (range : Contribution) → range.offset.0 + range.size ≤ length bytes
@@ -132,20 +141,9 @@ module _ (source : Source) (before parts : Contents) (read : DwarfObject × Unit
         → length (first kind source.object.sections) ≡ length (joined_parts kind parts))
         → lie_inside source (Some own.row) ≡ true
     packed-inside long =
-        let at = λ (kind : SectionKind) (shared : is_shared kind ≡ true).
-        not-outside (first kind source.object.sections) (joined_parts kind parts)
-        (range_in own.row kind) (long kind shared) (each-placed kind shared).within in
-        rw (
-          at Abbrev refl,
-          at Line refl,
-          at Loc refl,
-          at Loclists refl,
-          at Rnglists refl,
-          at
-              StrOffsets refl,
-          at Macinfo refl,
-          at Macro refl,
-        ) refl
+        none-found _ (λ kind shared. not-outside (first kind source.object.sections)
+        (joined_parts kind parts) (range_in own.row kind) (long kind shared)
+        (each-placed kind shared).within) shared_kinds refl
 
     -- its string offsets read alike
     packed-reads : (after : List (List ℕ))
@@ -247,14 +245,11 @@ shares-packed names law source before strings parts after read row packed table 
     read.1.unit row packed test made in
     let firsts = parts-first source packed strings parts after h in
     let reads = rows-read names law source packed strings parts after table h in
-    let long = λ (kind : SectionKind) (copied : is_copied kind ≡ true).
-    ap length (sym (firsts kind copied)) in
     let longs : (kind : SectionKind) → is_shared kind ≡ true
     → length (first kind source.object.sections) ≡ length (joined_parts kind parts) =
-    each-shared (λ kind. length (first kind source.object.sections) ≡ length
-    (joined_parts kind parts))
-    (long Abbrev refl) (long Line refl) (long Loc refl) (long Loclists refl) (long Rnglists refl)
-    (sym reads.size) (long Macinfo refl) (long Macro refl) in
+    copied-or-offsets (λ kind. length (first kind source.object.sections) ≡ length
+    (joined_parts kind parts)) (λ kind copied. ap length (sym (firsts kind copied)))
+    (sym reads.size) in
     shares-by source before parts after read row (Some own.row) (unit-packed source read own.row
     packed own.placed) info types
     (row-means source before parts after read.1.unit.whole.bytes (Some own.row) row (λ kind.

@@ -1,18 +1,13 @@
 -- The ranges of an input's units lie behind those of the inputs before it.
-use Rattle.std.proofs.Common.{◌≡◌, ◌∙◌, ℕ, ◌+◌, ◌≤◌, Bool, true, false, cond, true≢false, is_none}
-use Rattle.std.proofs.Common.{◌&&◌, nat_eq, nat_le, List, [], ◌∷◌, ◌++◌, length, ap, sym, subst}
-use Rattle.std.proofs.Common.{refl, Result, Ok, Err, Option, Some, None, ◌⊎◌, inl, inr, ⊎_elim}
-use Rattle.std.proofs.Common.{arith}
+use Rattle.std.proofs.Common.{◌≡◌, ◌∙◌, ℕ, ◌+◌, ◌≤◌, Bool, true, false, cond, is_none, ◌&&◌, nat_eq}
+use Rattle.std.proofs.Common.{nat_le, List, [], ◌∷◌, ◌++◌, length, ap, sym, subst, refl, Result, Ok}
+use Rattle.std.proofs.Common.{Err, Option, Some, None, ◌⊎◌, inl, inr, ⊎_elim, arith}
 use Rattle.std.specs.List.{list_any}
 use Rattle.std.proofs.lemmas.List.{append_assoc, append-nil, length-append}
 use Rattle.std.proofs.lemmas.Option.{none-some, same_Some}
 use Rattle.dwp_base.specs.Reading.{◌>>=◌}
 use Rattle.dwp_base.specs.Sections.{name_of}
 use Rattle.dwp_base.specs.declared.section.SectionKind.{SectionKind}
-use Rattle.dwp_base.specs.declared.section.SectionKind.TheVariants.{Info, Types, Abbrev, Line, Loc}
-use Rattle.dwp_base.specs.declared.section.SectionKind.TheVariants.{Loclists, Rnglists, StrOffsets}
-use Rattle.dwp_base.specs.declared.section.SectionKind.TheVariants.{Macinfo, Macro, Str, CuIndex}
-use Rattle.dwp_base.specs.declared.section.SectionKind.TheVariants.{TuIndex}
 use Rattle.dwp_base.specs.declared.section.Contribution.{Contribution}
 use Rattle.dwp_base.specs.declared.endian.Endianness.{Endianness}
 use Rattle.dwp_elf.specs.Contents.{content_of}
@@ -44,11 +39,13 @@ use Rattle.thorin_join.specs.State.{with_new_units, with_all, with_source}
 use Rattle.thorin_input.specs.Used.{opened, has_info, input_file_of}
 use Rattle.thorin_join.proofs.Units.JoinedByName.{AreAdded, units-joined}
 use Rattle.thorin_join.proofs.Rows.Stay.{Grows, grows-trans, grows-with_bytes}
-use Rattle.thorin_join.proofs.Rows.OfUnits.{is_shared, is-unit_row, whole-part, whole-else}
+use Rattle.thorin_input.specs.Format.{is_shared}
+use Rattle.thorin_join.proofs.Rows.OfUnits.{is-unit_row, whole-part, whole-else}
 use Rattle.thorin_join.proofs.Parts.Appended.{either}
 use Rattle.thorin_join.proofs.Joined.Source.{grows-with_parts}
 use Rattle.thorin_join.proofs.Steps.{ok-eq, bind-inv}
 use Rattle.thorin_join.proofs.Rows.OneAdded.{range_for, row-part}
+use Rattle.thorin_join.proofs.Rows.Meaning.{unshared}
 
 -- ---- a range that begins at a place or behind
 abbrev Behind : ℕ → Option Contribution → Type 0
@@ -126,25 +123,6 @@ put-behind kind x c = by (nat_eq (length x) 0)
         omega (arith, start)
 
 -- ---- the rows of an input's units
-abbrev no_part : SectionKind → IndexEntry → Type 0
-no_part kind row = contribution_to kind row ≡ None
-
-without-part : (row : IndexEntry) → row.debug_info ≡ None → row.debug_types ≡ None
-    → (kind : SectionKind) → is_shared kind ≡ false → no_part kind row
-without-part row info types Info h = info
-without-part row info types Types h = types
-without-part row info types Abbrev h = absurd (true≢false h)
-without-part row info types Line h = absurd (true≢false h)
-without-part row info types Loc h = absurd (true≢false h)
-without-part row info types Loclists h = absurd (true≢false h)
-without-part row info types Rnglists h = absurd (true≢false h)
-without-part row info types StrOffsets h = absurd (true≢false h)
-without-part row info types Macinfo h = absurd (true≢false h)
-without-part row info types Macro h = absurd (true≢false h)
-without-part row info types Str h = refl
-without-part row info types CuIndex h = refl
-without-part row info types TuIndex h = refl
-
 row-behind : (source : Source) (before parts : Contents) (name : DwarfObject) (row : IndexEntry)
     → unit_row source.indexes (whole_row source.encoding before parts) name ≡ Ok row
     → LieBehind before row
@@ -160,7 +138,7 @@ row-behind source before parts name row h kind range is =
     (put-behind kind (joined_parts kind parts) before))
     (made.parts kind shared) range is)
     (λ other. absurd (none-some range
-    (sym (without-part row (made.info ∙ else.1) (made.types ∙ else.2) kind other) ∙ is)))
+    (sym (unshared row (made.info ∙ else.1) (made.types ∙ else.2) kind other) ∙ is)))
     (either (is_shared kind))
 
 -- with its own bytes behind contents that grew

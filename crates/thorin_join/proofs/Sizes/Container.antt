@@ -1,16 +1,13 @@
 -- An ELF file has few bytes beside its contents.
-use Rattle.std.proofs.Common.{◌≡◌, ℕ, ◌+◌, ◌*◌, ◌≤◌, [], ◌∷◌, ◌++◌, length, refl}
-use Rattle.std.proofs.Common.{arith}
+use Rattle.std.proofs.Common.{◌≡◌, ℕ, ◌+◌, ◌*◌, ◌≤◌, [], ◌∷◌, ◌++◌, length, refl, arith, nat_le}
 use Rattle.std.specs.Prelude.{codes}
 use Rattle.std.proofs.lemmas.List.{length-append}
+use Rattle.std.proofs.lemmas.Bool.{leb-true}
 use Rattle.dwp_base.specs.declared.class.Class.{Class}
 use Rattle.dwp_base.specs.declared.class.Class.TheVariants.{Elf32, Elf64}
 use Rattle.dwp_base.specs.declared.section.SectionKind.{SectionKind}
-use Rattle.dwp_base.specs.declared.section.SectionKind.TheVariants.{Info, Types, Abbrev, Line, Loc}
-use Rattle.dwp_base.specs.declared.section.SectionKind.TheVariants.{Loclists, Rnglists, StrOffsets}
-use Rattle.dwp_base.specs.declared.section.SectionKind.TheVariants.{Macinfo, Macro, Str, CuIndex}
-use Rattle.dwp_base.specs.declared.section.SectionKind.TheVariants.{TuIndex}
 use Rattle.dwp_base.specs.Sections.{name_of}
+use Rattle.dwp_base.proofs.EveryKind.{every}
 use Rattle.dwp_elf.specs.Contents.{KindsDiffer}
 use Rattle.dwp_elf.specs.FileText.{Object, content_bytes, names_of, name_table, names_end}
 use Rattle.dwp_elf.specs.FileText.{zeros_after, file_text}
@@ -30,19 +27,7 @@ contents-long (c ∷ cs) = omega (
 )
 
 name-within : (kind : SectionKind) → length (name_of kind) ≤ 22
-name-within Info = omega arith
-name-within Types = omega arith
-name-within Abbrev = omega arith
-name-within Line = omega arith
-name-within Loc = omega arith
-name-within Loclists = omega arith
-name-within Rnglists = omega arith
-name-within StrOffsets = omega arith
-name-within Macinfo = omega arith
-name-within Macro = omega arith
-name-within Str = omega arith
-name-within CuIndex = omega arith
-name-within TuIndex = omega arith
+name-within kind = leb-true _ 22 (every (λ k. nat_le (length (name_of k)) 22) refl kind)
 
 names-within : (cs : Contents) → length (names_of cs) ≤ 23 * length cs
 unfolding names_of

@@ -1,5 +1,5 @@
 -- How many bytes contents have once bytes, parts or units were added.
-use Rattle.std.proofs.Common.{◌≡◌, ℕ, ◌+◌, ◌≤◌, Bool, true, false, cond, eqb, List, [], ◌∷◌}
+use Rattle.std.proofs.Common.{◌∙◌, ◌≡◌, ℕ, ◌+◌, ◌≤◌, Bool, true, false, cond, eqb, List, [], ◌∷◌}
 use Rattle.std.proofs.Common.{◌++◌, length, refl, ap, inl, inr, Ok, arith}
 use Rattle.std.specs.List.{sum_by, list_any}
 use Rattle.std.proofs.lemmas.List.{length-append}
@@ -128,7 +128,9 @@ part-within source before s next (inl (o, w)) =
     omega (arith, is, most, own, more-long before.0 StrOffsets w.written.0)
 part-within source before s next (inr (inl (o, c, is))) =
     let whole = ap (λ (n : Parts). bytes_of_contents n.0) is in
-    let own : part_bytes s ≡ length s.bytes = rw (o, c) refl in
+    let own : part_bytes s ≡ length s.bytes =
+    ap (λ b. cond b (length s.bytes) (cond (is_copied s.kind) (length s.bytes) 0)) o
+    ∙ ap (λ b. cond b (length s.bytes) 0) c in
     omega (arith, whole, own, more-long before.0 s.kind s.bytes)
 part-within source before s next (inr (inr (o, c, is))) =
     let same = ap (λ (n : Parts). bytes_of_contents n.0) is in

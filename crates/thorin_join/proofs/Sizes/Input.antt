@@ -1,15 +1,12 @@
 -- Inputs add to the contents of a package at most the bytes of their used sections.
 use Rattle.std.proofs.Common.{◌≡◌, ◌∙◌, ℕ, suc, ◌+◌, ◌*◌, ◌≤◌, Bool, true, false, cond, List, []}
 use Rattle.std.proofs.Common.{◌∷◌, ◌++◌, length, refl, sym, ap, Ok, Option, Some, None, ◌⊎◌, inl}
-use Rattle.std.proofs.Common.{inr, arith}
+use Rattle.std.proofs.Common.{inr, arith, is_some}
 use Rattle.std.specs.Prelude.{All}
 use Rattle.std.specs.List.{sum_by}
 use Rattle.std.proofs.lemmas.List.Sums.{sum_by-cons}
 use Rattle.dwp_base.specs.declared.section.SectionKind.{SectionKind}
-use Rattle.dwp_base.specs.declared.section.SectionKind.TheVariants.{Info, Types, Abbrev, Line, Loc}
-use Rattle.dwp_base.specs.declared.section.SectionKind.TheVariants.{Loclists, Rnglists, StrOffsets}
-use Rattle.dwp_base.specs.declared.section.SectionKind.TheVariants.{Macinfo, Macro, Str, CuIndex}
-use Rattle.dwp_base.specs.declared.section.SectionKind.TheVariants.{TuIndex}
+use Rattle.dwp_base.specs.declared.section.SectionKind.TheVariants.{StrOffsets, Str}
 use Rattle.dwp_base.specs.Reading.{◌>>=◌}
 use Rattle.dwp_base.specs.Sections.{same_kind}
 use Rattle.dwp_elf_read.specs.Elf.{Elf}
@@ -34,48 +31,31 @@ use Rattle.thorin_join.proofs.Sizes.Contents.{parts-within}
 use Rattle.thorin_join.proofs.Sizes.Units.{placed_bytes, unit_bytes, new-within}
 use Rattle.thorin_join.proofs.Sizes.Strings.{units-strings, parts-most}
 use Rattle.thorin_join.proofs.Steps.{bind-ok, bind-inv, ok-eq}
+use Rattle.thorin_join.proofs.EachKind.{same-each}
 
 -- ---- a section goes to one place at most
-one-place : (kind : SectionKind) (s : Used) (n : ℕ) → placed_bytes (unit_section kind) s ≤ n
-    → length s.bytes ≡ n
-    → cond (same_kind kind StrOffsets) n (cond (is_copied kind) n 0) + placed_bytes
-    (unit_section kind) s ≤ cond (counts_once kind) 0 n
-one-place Info s n h e = omega (arith, h)
-one-place Types s n h e = omega (arith, h)
-one-place Abbrev s n h e = omega arith
-one-place Line s n h e = omega arith
-one-place Loc s n h e = omega arith
-one-place Loclists s n h e = omega arith
-one-place Rnglists s n h e = omega arith
-one-place StrOffsets s n h e = omega arith
-one-place Macinfo s n h e = omega arith
-one-place Macro s n h e = omega arith
-one-place Str s n h e = omega arith
-one-place CuIndex s n h e = omega arith
-one-place TuIndex s n h e = omega arith
-
-placed-within : (kind : SectionKind) (s : Used) → placed_bytes (unit_section kind) s ≤
-    length s.bytes
-placed-within Info s = omega arith
-placed-within Types s = omega arith
-placed-within Abbrev s = omega arith
-placed-within Line s = omega arith
-placed-within Loc s = omega arith
-placed-within Loclists s = omega arith
-placed-within Rnglists s = omega arith
-placed-within StrOffsets s = omega arith
-placed-within Macinfo s = omega arith
-placed-within Macro s = omega arith
-placed-within Str s = omega arith
-placed-within CuIndex s = omega arith
-placed-within TuIndex s = omega arith
+one-place : (s : Used) (kind : SectionKind)
+    → cond (same_kind kind StrOffsets) (length s.bytes) (cond (is_copied kind) (length s.bytes) 0)
+    + placed_bytes (unit_section kind) s ≤ cond (counts_once kind) 0 (length s.bytes)
+one-place s kind =
+    let n : ℕ = length s.bytes in
+    let part = same-each (λ k. cond (same_kind k StrOffsets) n (cond (is_copied k) n 0)) (λ k.
+    cond (counts_once k) 0 (cond (is_some (unit_section k)) 0 n)) refl kind in
+    let placed = same-each (λ k. placed_bytes (unit_section k) s) (λ k.
+    cond (counts_once k) 0 (cond (is_some (unit_section k)) n 0)) refl kind in
+    omega (arith, part, placed, by (counts_once kind) (is_some (unit_section kind)) n)
+  where
+    by : (once units : Bool) (n : ℕ)
+        → cond once 0 (cond units 0 n) + cond once 0 (cond units n 0) ≤ cond once 0 n
+    by true units n = omega arith
+    by false true n = omega arith
+    by false false n = omega arith
 
 places-within : (sections : List Used) → sum_by part_bytes sections + sum_by unit_bytes sections ≤
     sum_by carried sections
 places-within [] = omega arith
 places-within (s ∷ ss) =
-    let one : part_bytes s + unit_bytes s ≤ carried s = one-place s.kind s (length s.bytes)
-    (placed-within s.kind s) refl in
+    let one : part_bytes s + unit_bytes s ≤ carried s = one-place s s.kind in
     omega (
       arith,
       one,

@@ -1,7 +1,7 @@
 -- Rewritten string offsets have no more bytes than those that were read.
 use Rattle.std.proofs.Common.{◌≡◌, ℕ, zero, suc, ◌+◌, ◌-◌, ◌*◌, ◌≤◌, Bool, true, false, cond}
 use Rattle.std.proofs.Common.{eqb, ltb, leb, List, [], ◌∷◌, ◌++◌, length, drop, Result}
-use Rattle.std.proofs.Common.{Ok, Err, refl, sym, ap, not, ◌&&◌, zero-mul, suc-mul, arith}
+use Rattle.std.proofs.Common.{Ok, Err, refl, sym, ap, not, zero-mul, suc-mul, arith}
 use Rattle.std.specs.Prelude.{slice_range}
 use Rattle.std.proofs.lemmas.List.{length-append, length-take, length-drop}
 use Rattle.std.proofs.lemmas.Bool.{leb-true, le-leb, ltb-false}
@@ -11,6 +11,7 @@ use Rattle.dwp_base.specs.declared.section.Contribution.{Contribution}
 use Rattle.dwp_base.specs.declared.section.SectionKind.TheVariants.{Str}
 use Rattle.dwp_base.specs.Numbers.{number_bytes}
 use Rattle.dwp_base.specs.Reading.{◌>>=◌}
+use Rattle.dwp_base.proofs.Bools.{both}
 use Rattle.dwp_bytes.specs.declared.encoding.Encoding.{Encoding}
 use Rattle.dwp_bytes.specs.declared.encoding.Format.{Format}
 use Rattle.dwp_bytes.specs.declared.encoding.Format.TheVariants.{Dwarf32, Dwarf64}
@@ -137,10 +138,6 @@ remapped-within order encoding section bytes size strings range h = by-size orde
     bytes (eqb size 0) (ltb size (header_size encoding)) size strings _ range refl h
 
 -- ---- the ranges of a package
-and-first : (a b : Bool) → (a && b) ≡ true → a ≡ true
-and-first true b h = refl
-and-first false b h = h
-
 -- a range that was tested
 pub record Lies (encoding : Encoding) (size at : ℕ) (r : Contribution)
     (rs : List Contribution) : Type 0 where
@@ -158,7 +155,7 @@ lies-by encoding size at r rs false before w b h = absurd cc
 lies-by encoding size at r rs true true w b h = absurd cc
 lies-by encoding size at r rs true false w b h = record {
   inside = leb-true (r.offset.0 + r.size) size
-      (and-first (leb (r.offset.0 + r.size) size) _ (and-first _ _ w));
+      (both (leb (r.offset.0 + r.size) size) _ (both _ _ w).0).0;
   behind = ltb-false r.offset.0 at b;
   rest = h;
 }

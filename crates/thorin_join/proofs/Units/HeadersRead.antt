@@ -7,14 +7,16 @@ use Rattle.std.specs.List.{list_any}
 use Rattle.std.specs.Option.{ok_or}
 use Rattle.dwp_base.specs.declared.endian.Endianness.{Endianness}
 use Rattle.dwp_base.specs.declared.section.SectionKind.{SectionKind}
-use Rattle.dwp_base.specs.declared.section.SectionKind.TheVariants as kinds
+use Rattle.dwp_base.proofs.EveryKind.{every, is-same}
+use Rattle.dwp_base.specs.Sections.{same_kind}
+use Rattle.dwp_base.proofs.Steps.{same-ok}
 use Rattle.dwp_bytes.specs.Input.{Input, section, split_at, number_at, offset_at}
 use Rattle.dwp_bytes.specs.declared.encoding.Encoding.{Encoding}
 use Rattle.dwp_bytes.specs.declared.encoding.Format.{Format}
 use Rattle.dwp_bytes.specs.declared.fault.ReadError.{ReadError}
 use Rattle.dwp_bytes.specs.declared.fault.ReadError.TheVariants.{UnknownVersion}
 use Rattle.dwp_dwarf.specs.Units.{Unit as Header, initial_length_at, address_size_at, type_at}
-use Rattle.dwp_dwarf.specs.Units.{older_type_at, unit_code_at, unit_type_at, older_at, newer_at}
+use Rattle.dwp_dwarf.specs.Units.{older_type_at, older_at, newer_at}
 use Rattle.dwp_dwarf.specs.Units.{header_at, unit_at, listed, units_within, units, unit_bytes}
 use Rattle.dwp_dwarf.specs.declared.unit.UnitSection.{UnitSection}
 use Rattle.dwp_dwarf.specs.declared.unit.UnitSection.TheVariants as places
@@ -35,6 +37,8 @@ use Rattle.thorin_input.specs.NewUnits.{name_for, place_for, unit_section}
 use Rattle.thorin_input.specs.Rows.{abbreviations_for}
 use Rattle.thorin_input.specs.Used.{Used}
 use Rattle.thorin_join.proofs.Steps.{bind-inv, by-choice}
+use Rattle.thorin_join.specs.State.{kind_at}
+use Rattle.thorin_join.proofs.Moved.Units.{newer-five}
 
 -- a unit's header can be read from its bytes, where it goes, and only a type unit goes to types
 pub record HasHeader (order : Endianness) (read : DwarfObject × UnitRead) : Type 0 where
@@ -70,9 +74,6 @@ abbrev pub FiveOrType : Header → Type 0
 FiveOrType unit = (unit.encoding.version ≡ 5) ⊎ ((signature offset : ℕ)
     × (unit.unit_type ≡ unit_types.TypeUnit signature offset))
 
-same-ok : {A E : Type 0} (x y : A) → ◌≡◌ {A = Result A E} (Ok x) (Ok y) → x ≡ y
-same-ok x y h = cc
-
 older-type : (format : Format) (i : Input) (t : UnitType × Input) → older_type_at places.Types
     format i ≡ Ok t → (signature offset : ℕ) × (t.0 ≡ unit_types.TypeUnit signature offset)
 unfolding older_type_at
@@ -89,16 +90,6 @@ older-five format version whole i u h =
     let c = bind-inv (older_type_at places.Types format b.0.1) _ u b.2 in
     let t = older-type format b.0.1 c.0 c.1 in
     inr (t.0, t.1, sym (ap (λ (x : Header). x.unit_type) (same-ok _ u c.2)) ∙ t.2)
-
-pub newer-five : (format : Format) (whole i : Input) (u : Header) → newer_at format whole i ≡ Ok u
-    → u.encoding.version ≡ 5
-unfolding newer_at
-newer-five format whole i u h =
-    let a = bind-inv (unit_code_at i) _ u h in
-    let b = bind-inv (address_size_at a.0.1) _ u a.2 in
-    let c = bind-inv (offset_at format b.0.1) _ u b.2 in
-    let d = bind-inv (unit_type_at a.0.0 format c.0.1) _ u c.2 in
-    sym (ap (λ (x : Header). x.encoding.version) (same-ok _ u d.2))
 
 pub no_header : (P : Type 0) (u : Header) → ◌≡◌ {A = Result Header ReadError}
     (Err UnknownVersion) (Ok u) → P
@@ -127,8 +118,11 @@ unit-five i x h =
     subst FiveOrType (ap (λ (y : Header × Input). y.0) (same-ok _ x d.2))
     (header-five a.0.0.0 c.0.0 b.0.0 d.0 d.1)
 
-abbrev Listed : Type 0
+abbrev pub Listed : Type 0
 Listed = List (Result Header ReadError)
+
+abbrev pub Reads : Type 0
+Reads = List (DwarfObject × UnitRead)
 
 listed-five : (others : Input → Listed) (i : Input) (b : Bool) (r : Result (Header × Input)
     ReadError) (k : ℕ) (u : Header)
@@ -210,38 +204,46 @@ five-only abbreviations unit id h (inl five) = five
 five-only abbreviations unit id h (inr t) =
     absurd (not-type t.0 id (same-ok _ _ (ap (identity_by abbreviations unit) (sym t.2) ∙ h)))
 
+-- the place of a kind of section
+abbrev is_at : SectionKind → Option UnitSection → Bool
+is_at kind None = true
+is_at kind (Some place) = same_kind kind (kind_at place)
+
+pub kind-place : (kind : SectionKind) (place : UnitSection) → unit_section kind ≡ Some place
+    → kind ≡ kind_at place
+kind-place kind place at = is-same kind (kind_at place) (ap (is_at kind) (sym at) ∙ every (λ k.
+    is_at k (unit_section k)) refl kind)
+
 -- the header of a unit in the place that its name gives it
-name-header : ReadAnywhere → (order : Endianness) (abbreviations : Input) (kind : SectionKind)
-    (place : UnitSection) (name : DwarfObject) (unit : Header)
-    → unit_section kind ≡ Some place → IsReadIn order place unit → identity abbreviations unit
-    ≡ Ok (Some name)
-    → (encoding_in order (place_for name kind) unit.whole.bytes ≡ Ok unit.encoding)
-    × (place_for name kind ≡ places.Types → (signature : ℕ)
-    × (name ≡ TypeUnit (record { 0 = signature })))
-name-header anywhere order abbreviations kinds.Info places.Info (Compilation id) unit at read h =
+abbrev HasHeaderAt : Endianness → DwarfObject → Header → UnitSection → Type 0
+HasHeaderAt order name unit place =
+    (encoding_in order place unit.whole.bytes ≡ Ok unit.encoding)
+    × (place ≡ places.Types → (signature : ℕ) × (name ≡ TypeUnit (record { 0 = signature })))
+
+header-at : ReadAnywhere → (order : Endianness) (abbreviations : Input) (place : UnitSection)
+    (name : DwarfObject) (unit : Header)
+    → IsReadIn order place unit → identity abbreviations unit ≡ Ok (Some name)
+    → HasHeaderAt order name unit (place_for name (kind_at place))
+header-at anywhere order abbreviations places.Info (Compilation id) unit read h =
     (read.0, λ is. absurd cc)
-name-header anywhere order abbreviations kinds.Info places.Info (TypeUnit signature) unit at read
-    h = (read.0, λ is. absurd cc)
-name-header anywhere order abbreviations kinds.Types places.Types (Compilation id) unit at read h = (
+header-at anywhere order abbreviations places.Info (TypeUnit signature) unit read h =
+    (read.0, λ is. absurd cc)
+header-at anywhere order abbreviations places.Types (Compilation id) unit read h = (
   anywhere order places.Types places.Info (unit_bytes unit) unit.encoding
       (five-only abbreviations unit id h (read.1 refl)) read.0,
   λ is. absurd cc,
 )
-name-header anywhere order abbreviations kinds.Types places.Types (TypeUnit signature) unit at read
-    h = (read.0, λ is. (signature.0, refl))
-name-header anywhere order abbreviations kinds.Info places.Types name unit at read h = absurd cc
-name-header anywhere order abbreviations kinds.Types places.Info name unit at read h = absurd cc
-name-header anywhere order abbreviations kinds.Abbrev place name unit at read h = absurd cc
-name-header anywhere order abbreviations kinds.Line place name unit at read h = absurd cc
-name-header anywhere order abbreviations kinds.Loc place name unit at read h = absurd cc
-name-header anywhere order abbreviations kinds.Loclists place name unit at read h = absurd cc
-name-header anywhere order abbreviations kinds.Rnglists place name unit at read h = absurd cc
-name-header anywhere order abbreviations kinds.StrOffsets place name unit at read h = absurd cc
-name-header anywhere order abbreviations kinds.Macinfo place name unit at read h = absurd cc
-name-header anywhere order abbreviations kinds.Macro place name unit at read h = absurd cc
-name-header anywhere order abbreviations kinds.Str place name unit at read h = absurd cc
-name-header anywhere order abbreviations kinds.CuIndex place name unit at read h = absurd cc
-name-header anywhere order abbreviations kinds.TuIndex place name unit at read h = absurd cc
+header-at anywhere order abbreviations places.Types (TypeUnit signature) unit read h =
+    (read.0, λ is. (signature.0, refl))
+
+name-header : ReadAnywhere → (order : Endianness) (abbreviations : Input) (kind : SectionKind)
+    (place : UnitSection) (name : DwarfObject) (unit : Header)
+    → unit_section kind ≡ Some place → IsReadIn order place unit → identity abbreviations unit
+    ≡ Ok (Some name)
+    → HasHeaderAt order name unit (place_for name kind)
+name-header anywhere order abbreviations kind place name unit at read h =
+    subst (λ k. HasHeaderAt order name unit (place_for name k)) (sym (kind-place kind place at))
+    (header-at anywhere order abbreviations place name unit read h)
 
 as_fault-ok : {A E : Type 0} (f : E → Fault) (r : Result A E) (x : A)
     → as_fault f r ≡ Ok x → r ≡ Ok x

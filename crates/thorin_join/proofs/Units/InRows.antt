@@ -1,12 +1,11 @@
 -- The units that a package represents are those that stand in the ranges of its rows.
-use Rattle.std.proofs.Common.{◌≡◌, ◌∙◌, ℕ, List, [], ◌∷◌, map, ap, sym, refl}
+use Rattle.std.proofs.Common.{◌≡◌, ◌∙◌, ℕ, List, [], ◌∷◌, map, ap, sym, refl, true}
 use Rattle.std.specs.Prelude.{Ok}
 use Rattle.std.specs.Result.{result_unwrap_or}
 use Rattle.std.proofs.Math.Seq.{take-length}
-use Rattle.dwp_base.specs.declared.section.SectionKind.TheVariants.{Abbrev, Line, Loc, Loclists}
-use Rattle.dwp_base.specs.declared.section.SectionKind.TheVariants.{Rnglists, StrOffsets, Macinfo}
-use Rattle.dwp_base.specs.declared.section.SectionKind.TheVariants.{Macro}
 use Rattle.dwp_base.specs.declared.endian.Endianness.{Endianness}
+use Rattle.dwp_base.specs.declared.section.SectionKind.{SectionKind}
+use Rattle.dwp_base.specs.declared.section.SectionKind.TheVariants.{StrOffsets}
 use Rattle.dwp_elf.specs.Contents.{content_of}
 use Rattle.dwp_index.specs.Package.{part_of, place_of}
 use Rattle.dwp_table.specs.declared.object.DwarfObject.{DwarfObject}
@@ -14,11 +13,17 @@ use Rattle.thorin_strings.specs.Strings.{IsTable, data_of}
 use Rattle.thorin_index.specs.Entries.{contribution_to}
 use Rattle.thorin_index.specs.declared.entry.IndexEntry.{IndexEntry}
 use Rattle.thorin_input.specs.Growing.{Contents}
-use Rattle.thorin_join.specs.Meaning.{Meaning, Members, pieces_by, keys}
+use Rattle.thorin_input.specs.Format.{is_copied}
+use Rattle.thorin_join.specs.Meaning.{Meaning, Members, pieces_by, keys, Pieces}
 use Rattle.thorin_join.specs.Represents.{IsRowOf, AreRowsOf, Represents, meaning_at, units_of}
 use Rattle.thorin_join.specs.State.{InProgress, kind_at, names_of, unit_bytes}
 use Rattle.thorin_join.specs.Strings.{strings_of}
 use Rattle.thorin_join.proofs.Parts.StringLists.{strings-are}
+
+-- the pieces of a unit, where each kind's bytes are its piece
+pub pieces-same : (bytes : SectionKind → List ℕ) (pieces : Pieces) → ((kind : SectionKind)
+    (copied : is_copied kind ≡ true) → bytes kind ≡ pieces kind copied) → pieces_by bytes ≡ pieces
+pieces-same bytes pieces same = λ i kind copied. same kind copied i
 
 module _ (order : Endianness) (contents : Contents) (strings : List (List ℕ))
     (table : IsTable strings) where
@@ -33,15 +38,7 @@ module _ (order : Endianness) (contents : Contents) (strings : List (List ℕ))
 
     pieces-are : member.1.pieces ≡ pieces_by (λ kind. part_of (content_of kind contents)
         (contribution_to kind row))
-    pieces-are = λ i. record {
-      abbreviations = sym (is.shares.content Abbrev refl) i;
-      line = sym (is.shares.content Line refl) i;
-      loc = sym (is.shares.content Loc refl) i;
-      loclists = sym (is.shares.content Loclists refl) i;
-      rnglists = sym (is.shares.content Rnglists refl) i;
-      macinfo = sym (is.shares.content Macinfo refl) i;
-      macros = sym (is.shares.content Macro refl) i;
-    }
+    pieces-are = sym (pieces-same _ member.1.pieces is.shares.content)
 
     strings-found : strings_of order row.encoding (data_of strings)
         (part_of (content_of StrOffsets contents) (contribution_to StrOffsets row)) ≡ Ok

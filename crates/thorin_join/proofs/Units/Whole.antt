@@ -8,7 +8,6 @@ use Rattle.std.proofs.lemmas.List.{take-append-drop}
 use Rattle.std.proofs.lemmas.Option.{none-some}
 use Rattle.dwp_base.specs.declared.endian.Endianness.{Endianness}
 use Rattle.dwp_base.specs.declared.section.SectionKind.{SectionKind}
-use Rattle.dwp_base.specs.declared.section.SectionKind.TheVariants as kinds
 use Rattle.dwp_bytes.specs.Input.{Input, section}
 use Rattle.dwp_bytes.specs.declared.encoding.Encoding.{Encoding}
 use Rattle.dwp_bytes.specs.declared.fault.ReadError.{ReadError}
@@ -30,7 +29,7 @@ use Rattle.thorin_input.specs.NewUnits.{name_for, place_for, unit_section}
 use Rattle.thorin_join.specs.State.{kind_at}
 use Rattle.thorin_input.specs.Used.{Used}
 use Rattle.thorin_join.proofs.Units.HeadersRead.{ReadAlone, FiveOrType, types_or_five}
-use Rattle.thorin_join.proofs.Units.HeadersRead.{name-identity}
+use Rattle.thorin_join.proofs.Units.HeadersRead.{name-identity, kind-place, Listed}
 use Rattle.thorin_join.proofs.Units.Sorts.{identity-sort}
 use Rattle.thorin_join.proofs.Moved.RootEntries.{IsShifted}
 use Rattle.thorin_join.proofs.Steps.{ok-eq, bind-inv}
@@ -118,9 +117,6 @@ alone-of taken order place unit at enc =
 abbrev pub IsKnown : Endianness → UnitSection → Header → Type 0
 IsKnown order place unit = ReadsAlone order place unit × (place ≡ places.Types → FiveOrType unit)
 
-abbrev pub Listed : Type 0
-Listed = List (Result Header ReadError)
-
 abbrev pub AreKnown : Endianness → UnitSection → Listed → Type 0
 AreKnown order place reads = (k : ℕ) (unit : Header) → slice_get reads k ≡ Some (Ok unit)
     → IsKnown order place unit
@@ -139,25 +135,6 @@ known-in taken alone order places.Types bytes k unit h = (
   λ is.
       types_or_five order bytes k unit h,
 )
-
--- the place of a kind of section
-pub kind-place : (kind : SectionKind) (place : UnitSection) → unit_section kind ≡ Some place
-    → kind ≡ kind_at place
-kind-place kinds.Info places.Info h = refl
-kind-place kinds.Types places.Types h = refl
-kind-place kinds.Info places.Types h = absurd cc
-kind-place kinds.Types places.Info h = absurd cc
-kind-place kinds.Abbrev place h = absurd cc
-kind-place kinds.Line place h = absurd cc
-kind-place kinds.Loc place h = absurd cc
-kind-place kinds.Loclists place h = absurd cc
-kind-place kinds.Rnglists place h = absurd cc
-kind-place kinds.StrOffsets place h = absurd cc
-kind-place kinds.Macinfo place h = absurd cc
-kind-place kinds.Macro place h = absurd cc
-kind-place kinds.Str place h = absurd cc
-kind-place kinds.CuIndex place h = absurd cc
-kind-place kinds.TuIndex place h = absurd cc
 
 whole-by : UnitsAreTaken → (order : Endianness) (place : UnitSection) (name : DwarfObject)
     (unit : Header) → ReadsAlone order place unit → type_signature unit.unit_type ≡
