@@ -1,17 +1,14 @@
 -- A written file is read back where its numbers fit, and no two contents are of one kind.
 use Rattle.std.proofs.Common.{◌≡◌, ◌∙◌, ℕ, ◌+◌, ◌^◌, ◌<◌, ◌≤◌, cond, List, [], ◌∷◌, length, refl}
-use Rattle.std.proofs.Common.{ap}
-use Rattle.std.proofs.Common.{arith}
+use Rattle.std.proofs.Common.{arith, eqb}
 use Rattle.std.specs.Prelude.{Ok}
-use Rattle.dwp_base.specs.Sections.{same_kind}
+use Rattle.std.proofs.lemmas.Bool.{eqb-true}
+use Rattle.dwp_base.specs.Sections.{same_kind, all_kinds}
 use Rattle.dwp_base.specs.declared.class.Class.{Class}
 use Rattle.dwp_base.specs.declared.class.Class.TheVariants.{Elf32, Elf64}
 use Rattle.dwp_base.specs.declared.endian.Endianness.{Endianness}
 use Rattle.dwp_base.specs.declared.section.SectionKind.{SectionKind}
-use Rattle.dwp_base.specs.declared.section.SectionKind.TheVariants.{Info, Types, Abbrev, Line, Loc}
-use Rattle.dwp_base.specs.declared.section.SectionKind.TheVariants.{Loclists, Rnglists, StrOffsets}
-use Rattle.dwp_base.specs.declared.section.SectionKind.TheVariants.{Macinfo, Macro, Str, CuIndex}
-use Rattle.dwp_base.specs.declared.section.SectionKind.TheVariants.{TuIndex}
+use Rattle.dwp_base.proofs.EveryKind.{every}
 use Rattle.dwp_elf_read.specs.Layout.{word_size}
 use Rattle.dwp_elf_read.specs.Elf.{elf_of}
 use Rattle.dwp_elf.specs.FileText.{Object, headers_place, file_text}
@@ -21,54 +18,37 @@ use Rattle.dwp_elf.specs.Written.{written_elf}
 use Rattle.thorin_join.specs.Join.{IsPackageOf, IsPackageOnceWritten}
 use Rattle.thorin_join.specs.Meaning.{Members}
 
-abbrev sum_kinds : (SectionKind → ℕ) → ℕ
-sum_kinds f = f Info + f Types + f Abbrev + f Line + f Loc + f Loclists + f Rnglists + f StrOffsets
-    + f Macinfo + f Macro + f Str + f CuIndex + f TuIndex
+-- ---- at most 13 contents
 
-sum_kinds-one : (kind : SectionKind) → sum_kinds (λ k. cond (same_kind kind k) 1 0) ≡ 1
-sum_kinds-one Info = refl
-sum_kinds-one Types = refl
-sum_kinds-one Abbrev = refl
-sum_kinds-one Line = refl
-sum_kinds-one Loc = refl
-sum_kinds-one Loclists = refl
-sum_kinds-one Rnglists = refl
-sum_kinds-one StrOffsets = refl
-sum_kinds-one Macinfo = refl
-sum_kinds-one Macro = refl
-sum_kinds-one Str = refl
-sum_kinds-one CuIndex = refl
-sum_kinds-one TuIndex = refl
+abbrev total : (SectionKind → ℕ) → List SectionKind → ℕ
+total f [] = 0
+total f (k ∷ ks) = f k + total f ks
 
-sum_kinds-add : (f g : SectionKind → ℕ) → sum_kinds (λ k. f k + g k) ≡ sum_kinds f + sum_kinds g
-sum_kinds-add f g = omega arith
+total-one : (kind : SectionKind) → total (λ k. cond (same_kind kind k) 1 0) all_kinds ≡ 1
+total-one kind = eqb-true _ 1 (every (λ c. eqb (total (λ k. cond (same_kind c k) 1 0) all_kinds) 1)
+    refl kind)
 
-sum_kinds-count_of : (cs : List (SectionKind × List ℕ)) → sum_kinds (λ k. count_of k cs) ≡ length cs
-sum_kinds-count_of [] = refl
-sum_kinds-count_of (c ∷ cs) =
-    sum_kinds-add (λ k. cond (same_kind c.0 k) 1 0) (λ k. count_of k cs)
-    ∙ ap (λ n. n + sum_kinds (λ k. count_of k cs)) (sum_kinds-one c.0) ∙ ap (λ n. 1 + n)
-    (sum_kinds-count_of cs) ∙ omega arith
+total-add : (f g : SectionKind → ℕ) (ks : List SectionKind)
+    → total (λ k. f k + g k) ks ≡ total f ks + total g ks
+total-add f g [] = refl
+total-add f g (k ∷ ks) = omega (arith, total-add f g ks)
+
+total-le : (f : SectionKind → ℕ) (ks : List SectionKind) → ((kind : SectionKind) → f kind ≤ 1)
+    → total f ks ≤ length ks
+total-le f [] h = omega arith
+total-le f (k ∷ ks) h = omega (arith, h k, total-le f ks h)
+
+total-count_of : (cs : List (SectionKind × List ℕ)) → total (λ k. count_of k cs) all_kinds
+    ≡ length cs
+total-count_of [] = refl
+total-count_of (c ∷ cs) =
+    total-add (λ k. cond (same_kind c.0 k) 1 0) (λ k. count_of k cs) all_kinds
+    ∙ omega (arith, total-one c.0, total-count_of cs)
 
 at_most_13 : (cs : List (SectionKind × List ℕ)) → KindsDiffer cs → length cs ≤ 13
-at_most_13 cs h =
-    omega (
-      arith,
-      sum_kinds-count_of cs,
-      h Info,
-      h Types,
-      h Abbrev,
-      h Line,
-      h Loc,
-      h Loclists,
-      h Rnglists,
-      h StrOffsets,
-      h Macinfo,
-      h Macro,
-      h Str,
-      h CuIndex,
-      h TuIndex,
-    )
+at_most_13 cs h = omega (arith, total-count_of cs, total-le (λ k. count_of k cs) all_kinds h)
+
+-- ---- what is written is read back
 
 fitting : (class : Class) (machine : ℕ) (order : Endianness) (cs : List (SectionKind × List ℕ))
     → Fits (record { class = class; machine = machine; order = order; contents = cs })

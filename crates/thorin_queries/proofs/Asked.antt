@@ -1,14 +1,16 @@
 -- What words ask for.
-use Rattle.std.proofs.Common.{◌≢◌, ◌∙◌, ℕ, List, ◌++◌, inl, inr, refl, sym, ap}
-use Rattle.std.specs.Prelude.{codes, None}
+use Rattle.std.proofs.Common.{◌≡◌, ◌≢◌, ◌∙◌, ℕ, zero, suc, Bool, true, false, cond, List, [], ◌∷◌}
+use Rattle.std.proofs.Common.{◌++◌, inl, inr, refl, sym, ap}
+use Rattle.std.specs.Prelude.{codes, Some, None, find, slice_get}
+use Rattle.std.specs.Str.{bytes_eq}
 use Rattle.std.specs.Str.Pattern.{FindsTextPrefix, StripsPrefix}
+use Rattle.std.proofs.lemmas.Bool.{false≢true}
+use Rattle.std.proofs.lemmas.Option.{same_Some}
+use Rattle.std.proofs.lemmas.Slice.Eq.{bytes_eq-Decides}
+use Rattle.dwp_base.specs.Sections.{short_name, kind_of_short_name, all_kinds, rank_of}
 use Rattle.dwp_base.specs.declared.section.SectionKind.{SectionKind}
-use Rattle.dwp_base.specs.declared.section.SectionKind.TheVariants.{Info, Types, Abbrev, Line, Loc}
-use Rattle.dwp_base.specs.declared.section.SectionKind.TheVariants.{Loclists, Rnglists, StrOffsets}
-use Rattle.dwp_base.specs.declared.section.SectionKind.TheVariants.{Macinfo, Macro, Str, CuIndex}
-use Rattle.dwp_base.specs.declared.section.SectionKind.TheVariants.{TuIndex}
+use Rattle.dwp_base.proofs.EveryKind.{at-rank}
 use Rattle.thorin_queries.specs.Finding.{HasDigits}
-use Rattle.thorin_queries.specs.Lines.{short_name}
 
 -- the digits behind `0x`
 pub digits_behind : (text digits : List ℕ) → StripsPrefix (FindsTextPrefix (codes "0x")) text digits
@@ -20,32 +22,39 @@ digits_behind text digits h =
 pub digits_alone : (text : List ℕ) → FindsTextPrefix (codes "0x") text None → HasDigits text text
 digits_alone text h = inr (h, refl)
 
+-- what is found passes, and where nothing is none does
+found-step : {X : Type 0} (p : X → Bool) (y : X) (ys : List X) (x : X) (b : Bool) → p y ≡ b
+    → (find p ys ≡ Some x → p x ≡ true) → cond b (Some y) (find p ys) ≡ Some x → p x ≡ true
+found-step p y ys x true here later e = ap p (sym (same_Some _ _ e)) ∙ here
+found-step p y ys x false here later e = later e
+
+found-passes : {X : Type 0} (p : X → Bool) (xs : List X) (x : X) → find p xs ≡ Some x → p x ≡ true
+found-passes p [] x e = absurd cc
+found-passes p (y ∷ ys) x e = found-step p y ys x (p y) refl (found-passes p ys x) e
+
+none-step : {X : Type 0} (p : X → Bool) (y : X) (ys : List X) (x : X) (b : Bool) → p y ≡ b
+    → (find p ys ≡ None → (i : ℕ) → slice_get ys i ≡ Some x → p x ≡ false)
+    → cond b (Some y) (find p ys) ≡ None → (i : ℕ) → slice_get (y ∷ ys) i ≡ Some x → p x ≡ false
+none-step p y ys x true here later e i at = absurd cc
+none-step p y ys x false here later e zero at = ap p (sym (same_Some _ _ at)) ∙ here
+none-step p y ys x false here later e (suc i) at = later e i at
+
+none-passes : {X : Type 0} (p : X → Bool) (xs : List X) (i : ℕ) (x : X) → find p xs ≡ None
+    → slice_get xs i ≡ Some x → p x ≡ false
+none-passes p [] i x e at = absurd cc
+none-passes p (y ∷ ys) i x e at =
+    none-step p y ys x (p y) refl (λ f j there. none-passes p ys j x f there) e i at
+
+-- the kind that was found by its short name
+pub its_short_name : (text : List ℕ) (kind : SectionKind) → kind_of_short_name text ≡ Some kind
+    → text ≡ short_name kind
+its_short_name text kind e =
+    (bytes_eq-Decides text (short_name kind)).0
+    (found-passes (λ k. bytes_eq text (short_name k)) all_kinds kind e)
+
 -- a text that is the short name of no kind
-pub no_short_name : (text : List ℕ)
-    → text ≢ codes "info"
-    → text ≢ codes "types"
-    → text ≢ codes "abbrev"
-    → text ≢ codes "line"
-    → text ≢ codes "loc"
-    → text ≢ codes "loclists"
-    → text ≢ codes "rnglists"
-    → text ≢ codes "str_offsets"
-    → text ≢ codes "macinfo"
-    → text ≢ codes "macro"
-    → text ≢ codes "str"
-    → text ≢ codes "cu_index"
-    → text ≢ codes "tu_index"
-    → (kind : SectionKind) → text ≢ short_name kind
-no_short_name text h1 h2 h3 h4 h5 h6 h7 h8 h9 h10 h11 h12 h13 Info = h1
-no_short_name text h1 h2 h3 h4 h5 h6 h7 h8 h9 h10 h11 h12 h13 Types = h2
-no_short_name text h1 h2 h3 h4 h5 h6 h7 h8 h9 h10 h11 h12 h13 Abbrev = h3
-no_short_name text h1 h2 h3 h4 h5 h6 h7 h8 h9 h10 h11 h12 h13 Line = h4
-no_short_name text h1 h2 h3 h4 h5 h6 h7 h8 h9 h10 h11 h12 h13 Loc = h5
-no_short_name text h1 h2 h3 h4 h5 h6 h7 h8 h9 h10 h11 h12 h13 Loclists = h6
-no_short_name text h1 h2 h3 h4 h5 h6 h7 h8 h9 h10 h11 h12 h13 Rnglists = h7
-no_short_name text h1 h2 h3 h4 h5 h6 h7 h8 h9 h10 h11 h12 h13 StrOffsets = h8
-no_short_name text h1 h2 h3 h4 h5 h6 h7 h8 h9 h10 h11 h12 h13 Macinfo = h9
-no_short_name text h1 h2 h3 h4 h5 h6 h7 h8 h9 h10 h11 h12 h13 Macro = h10
-no_short_name text h1 h2 h3 h4 h5 h6 h7 h8 h9 h10 h11 h12 h13 Str = h11
-no_short_name text h1 h2 h3 h4 h5 h6 h7 h8 h9 h10 h11 h12 h13 CuIndex = h12
-no_short_name text h1 h2 h3 h4 h5 h6 h7 h8 h9 h10 h11 h12 h13 TuIndex = h13
+pub no_short_name : (text : List ℕ) → kind_of_short_name text ≡ None → (kind : SectionKind)
+    → text ≢ short_name kind
+no_short_name text e kind same = false≢true
+    (sym (none-passes (λ k. bytes_eq text (short_name k)) all_kinds (rank_of kind) kind e
+    (at-rank kind)) ∙ (bytes_eq-Decides text (short_name kind)).1 same)

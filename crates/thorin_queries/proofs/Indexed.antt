@@ -1,5 +1,5 @@
 -- The indexes of a package, and the sections that they stand in.
-use Rattle.std.proofs.Common.{◌≡◌, ◌∙◌, ℕ, Bool, true, false, List, refl, sym, ap, length}
+use Rattle.std.proofs.Common.{◌≡◌, ◌∙◌, ℕ, Bool, true, false, List, [], refl, sym, ap, length}
 use Rattle.std.specs.Prelude.{Option, Some, None, Result, Ok, Err, is_none, is_some, not, ◌&&◌}
 use Rattle.std.specs.Prelude.{◌||◌}
 use Rattle.std.specs.Prelude.{◌==◌}
@@ -7,13 +7,14 @@ use Rattle.dwp_base.specs.Reading.{◌>>=◌}
 use Rattle.dwp_base.specs.declared.endian.Endianness.{Endianness}
 use Rattle.dwp_base.specs.Sections.{name_of, compressed_name_of}
 use Rattle.dwp_base.specs.declared.section.SectionKind.{SectionKind}
-use Rattle.dwp_base.specs.declared.section.SectionKind.TheVariants.{Info, Types, Abbrev, Line, Loc}
-use Rattle.dwp_base.specs.declared.section.SectionKind.TheVariants.{Loclists, Rnglists, StrOffsets}
-use Rattle.dwp_base.specs.declared.section.SectionKind.TheVariants.{Macinfo, Macro, Str, CuIndex}
-use Rattle.dwp_base.specs.declared.section.SectionKind.TheVariants.{TuIndex}
-use Rattle.dwp_elf_read.specs.Elf.{Elf, SectionMeaning, elf_of, name_is}
+use Rattle.dwp_base.specs.declared.section.SectionKind.TheVariants.{Abbrev, StrOffsets, Str}
+use Rattle.dwp_base.specs.declared.section.SectionKind.TheVariants.{CuIndex, TuIndex}
+use Rattle.dwp_base.proofs.KindsRead.{read-kind}
+use Rattle.dwp_base.proofs.Steps.{bind-was}
+use Rattle.dwp_elf_read.specs.Elf.{Elf, elf_of, name_is}
 use Rattle.dwp_elf_read.specs.declared.fault.ReadError.{ReadError as ElfError}
-use Rattle.dwp_index.specs.Contents.{Sections, contents_of, content_among, has_name, has_older_name}
+use Rattle.dwp_index.specs.Contents.{Sections, content, contents_of, content_among, has_name}
+use Rattle.dwp_index.specs.Contents.{has_older_name}
 use Rattle.dwp_index.specs.Index.{Index}
 use Rattle.dwp_index.specs.IndexBytes.{index_of}
 use Rattle.dwp_index.specs.Package.{Package, package_of, as_fault, index_in_section}
@@ -21,12 +22,6 @@ use Rattle.dwp_index.specs.declared.fault.PackageError.{PackageError}
 use Rattle.dwp_index.specs.declared.fault.PackageError.TheVariants as faults
 use Rattle.thorin_queries.specs.Checking.{has_no_index}
 use Rattle.thorin_queries.specs.Indexes.{IsIndexIn, HasIndexes}
-
--- the value of a step that did not fail
-bind_ok : {A B E : Type 0} (r : Result A E) (f : A → Result B E) (y : B) → (r >>= f) ≡ Ok y
-    → (x : A) × (r ≡ Ok x) × (f x ≡ Ok y)
-bind_ok (Ok x) f y e = (x, refl, e)
-bind_ok (Err d) f y e = absurd cc
 
 ok_same : {X E : Type 0} (x y : X) (r : Result X E) → r ≡ Ok x → r ≡ Ok y → x ≡ y
 ok_same x y r e f = cc
@@ -48,7 +43,7 @@ by_length : (order : Endianness) (bytes : List ℕ) (index : Option Index) (b : 
 unfolding index_in_section
 by_length order bytes index true e p = let none : None ≡ index = cc (rw e at p) in ap is_some none
 by_length order bytes index false e p =
-    let found = bind_ok (as_fault faults.Index (index_of order bytes)) (λ i. Ok (Some i)) index
+    let found = bind-was (as_fault faults.Index (index_of order bytes)) (λ i. Ok (Some i)) index
     (rw e at p) in
     let same : Some found.0 ≡ index = cc in ap is_some same
 
@@ -85,85 +80,6 @@ has_none_first file pack b d told e other h =
 
 -- ---- a package's indexes are those of its file
 
-steps : (r1 r2 r3 r4 r5 r6 r7 r8 r9 r10 r11 r12 r13 : Result (List ℕ) ElfError)
-    (contents : Sections)
-    → (r1 >>= λ info.
-    r2 >>= λ types.
-    r3 >>= λ abbrev_bytes.
-    r4 >>= λ line.
-    r5 >>= λ loc.
-    r6 >>= λ loclists.
-    r7 >>= λ rnglists.
-    r8 >>= λ str_offsets.
-    r9 >>= λ macinfo.
-    r10 >>= λ macros.
-    r11 >>= λ strings.
-    r12 >>= λ cu_index.
-    r13 >>= λ tu_index.
-    Ok (record {
-      info = info;
-      types = types;
-      abbrev_bytes = abbrev_bytes;
-      line = line;
-      loc = loc;
-      loclists = loclists;
-      rnglists = rnglists;
-      str_offsets = str_offsets;
-      macinfo = macinfo;
-      macros = macros;
-      strings = strings;
-      cu_index = cu_index;
-      tu_index = tu_index;
-    })) ≡ Ok contents
-    → (r3 ≡ Ok contents.abbrev_bytes) × (r12 ≡ Ok contents.cu_index)
-    × (r13 ≡ Ok contents.tu_index) × (r11 ≡ Ok contents.strings)
-    × (r8 ≡ Ok contents.str_offsets)
-steps (Err d) r2 r3 r4 r5 r6 r7 r8 r9 r10 r11 r12 r13 contents e = absurd cc
-steps (Ok x1) (Err d) r3 r4 r5 r6 r7 r8 r9 r10 r11 r12 r13 contents e = absurd cc
-steps (Ok x1) (Ok x2) (Err d) r4 r5 r6 r7 r8 r9 r10 r11 r12 r13 contents e = absurd cc
-steps (Ok x1) (Ok x2) (Ok x3) (Err d) r5 r6 r7 r8 r9 r10 r11 r12 r13 contents e = absurd cc
-steps (Ok x1) (Ok x2) (Ok x3) (Ok x4) (Err d) r6 r7 r8 r9 r10 r11 r12 r13 contents e = absurd cc
-steps (Ok x1) (Ok x2) (Ok x3) (Ok x4) (Ok x5) (Err d) r7 r8 r9 r10 r11 r12 r13
-    contents e = absurd cc
-steps (Ok x1) (Ok x2) (Ok x3) (Ok x4) (Ok x5) (Ok x6) (Err d) r8 r9 r10 r11 r12 r13
-    contents e = absurd cc
-steps (Ok x1) (Ok x2) (Ok x3) (Ok x4) (Ok x5) (Ok x6) (Ok x7) (Err d) r9 r10 r11 r12 r13
-    contents e = absurd cc
-steps (Ok x1) (Ok x2) (Ok x3) (Ok x4) (Ok x5) (Ok x6) (Ok x7) (Ok x8) (Err d) r10 r11 r12 r13
-    contents e = absurd cc
-steps (Ok x1) (Ok x2) (Ok x3) (Ok x4) (Ok x5) (Ok x6) (Ok x7) (Ok x8) (Ok x9) (Err d) r11 r12 r13
-    contents e = absurd cc
-steps (Ok x1) (Ok x2) (Ok x3) (Ok x4) (Ok x5) (Ok x6) (Ok x7) (Ok x8) (Ok x9) (Ok x10) (Err d) r12
-    r13 contents e = absurd cc
-steps (Ok x1) (Ok x2) (Ok x3) (Ok x4) (Ok x5) (Ok x6) (Ok x7) (Ok x8) (Ok x9) (Ok x10) (Ok x11)
-    (Err d) r13 contents e = absurd cc
-steps (Ok x1) (Ok x2) (Ok x3) (Ok x4) (Ok x5) (Ok x6) (Ok x7) (Ok x8) (Ok x9) (Ok x10) (Ok x11)
-    (Ok x12) (Err d) contents e = absurd cc
-steps (Ok x1) (Ok x2) (Ok x3) (Ok x4) (Ok x5) (Ok x6) (Ok x7) (Ok x8) (Ok x9) (Ok x10) (Ok x11)
-    (Ok x12) (Ok x13) contents e =
-    let made = ok_same _ _ _ refl e in (
-      ap (λ (t : Sections). Ok t.abbrev_bytes) made,
-      ap (λ (t : Sections). Ok t.cu_index) made,
-      ap (λ (t : Sections). Ok t.tu_index) made,
-      ap (λ (t : Sections). Ok t.strings) made,
-      ap (λ (t : Sections). Ok t.str_offsets) made,
-    )
-
-index_contents : (sections : List SectionMeaning) (contents : Sections)
-    → contents_of sections ≡ Ok contents
-    → (content_among sections Abbrev ≡ Ok contents.abbrev_bytes)
-    × (content_among sections CuIndex ≡ Ok contents.cu_index)
-    × (content_among sections TuIndex ≡ Ok contents.tu_index)
-    × (content_among sections Str ≡ Ok contents.strings)
-    × (content_among sections StrOffsets ≡ Ok contents.str_offsets)
-unfolding contents_of
-index_contents sections contents e =
-    steps (content_among sections Info) (content_among sections Types) (content_among sections
-    Abbrev) (content_among sections Line) (content_among sections Loc) (content_among sections
-    Loclists) (content_among sections Rnglists) (content_among sections StrOffsets)
-    (content_among sections Macinfo) (content_among sections Macro) (content_among sections Str)
-    (content_among sections CuIndex) (content_among sections TuIndex) contents e
-
 made_of : (file : Elf) (pack : Package) (contents : Sections)
     (a b : Result (Option Index) PackageError)
     → (a >>= λ compilations. b >>= λ types. Ok (record {
@@ -187,27 +103,30 @@ made_of file pack contents (Ok x) (Ok y) e =
 indexes_by : (file : Elf) (pack : Package) (r : Result Sections ElfError)
     → contents_of file.sections ≡ r
     → (as_fault faults.Elf r >>= λ contents.
-    index_in_section file.order contents.cu_index >>= λ compilations.
-    index_in_section file.order contents.tu_index >>= λ types.
+    index_in_section file.order (content contents CuIndex) >>= λ compilations.
+    index_in_section file.order (content contents TuIndex) >>= λ types.
     Ok (record {
       order = file.order;
       contents = contents;
       compilations = compilations;
       types = types;
     })) ≡ Ok pack → HasIndexes file pack
+unfolding contents_of
 indexes_by file pack (Err d) is e = absurd cc
 indexes_by file pack (Ok contents) is e =
-    let read = index_contents file.sections contents is in
-    let made = made_of file pack contents (index_in_section file.order contents.cu_index)
-    (index_in_section file.order contents.tu_index) e in
+    let read = read-kind (content_among file.sections) contents [] is in
+    let made = made_of file pack contents (index_in_section file.order (content contents CuIndex))
+    (index_in_section file.order (content contents TuIndex)) e in
+    let of = λ (kind : SectionKind). read kind ∙ ap (λ (t : Sections).
+    Ok (content t kind)) made.3 in
     record {
       order = made.2;
-      abbreviations = read.0 ∙ ap (λ (t : Sections). Ok t.abbrev_bytes) made.3;
-      offsets = read.4 ∙ ap (λ (t : Sections). Ok t.str_offsets) made.3;
-      strings = read.3 ∙ ap (λ (t : Sections). Ok t.strings) made.3;
+      abbreviations = of Abbrev;
+      offsets = of StrOffsets;
+      strings = of Str;
       compilations =
-          record { bytes = contents.cu_index; content = read.1; is = made.0 };
-      types = record { bytes = contents.tu_index; content = read.2; is = made.1 };
+          record { bytes = content contents CuIndex; content = read CuIndex; is = made.0 };
+      types = record { bytes = content contents TuIndex; content = read TuIndex; is = made.1 };
     }
 
 pub has_indexes : (file : Elf) (bytes : List ℕ) (pack : Package) → elf_of bytes ≡ Ok file
@@ -220,22 +139,22 @@ has_indexes file bytes pack e p =
 pub has_strings : (file : Elf) (bytes strings : List ℕ) (order : Endianness)
     → elf_of bytes ≡ Ok file
     → ((pack : Package) → HasIndexes file pack
-    → (order ≡ pack.order) × (strings ≡ pack.contents.strings)) → (pack : Package)
-    → package_of bytes ≡ Ok pack → (order ≡ pack.order) × (strings ≡ pack.contents.strings)
+    → (order ≡ pack.order) × (strings ≡ content pack.contents Str)) → (pack : Package)
+    → package_of bytes ≡ Ok pack → (order ≡ pack.order) × (strings ≡ content pack.contents Str)
 has_strings file bytes strings order e told pack p =
     told pack (has_indexes file bytes pack e p)
 
 -- the strings of a file are those of its package
 pub file_strings : (file : Elf) (strings : List ℕ) (order : Endianness) → order ≡ file.order
     → ((bs : List ℕ) → content_among file.sections Str ≡ Ok bs → strings ≡ bs) → (pack : Package)
-    → HasIndexes file pack → (order ≡ pack.order) × (strings ≡ pack.contents.strings)
+    → HasIndexes file pack → (order ≡ pack.order) × (strings ≡ content pack.contents Str)
 file_strings file strings order same told pack has =
-    (same ∙ sym has.order, told pack.contents.strings has.strings)
+    (same ∙ sym has.order, told (content pack.contents Str) has.strings)
 
 -- bytes that are no file are no package
 pub no_strings : (bytes strings : List ℕ) (order : Endianness) (cause : ElfError)
     → elf_of bytes ≡ Err cause → (pack : Package) → package_of bytes ≡ Ok pack
-    → (order ≡ pack.order) × (strings ≡ pack.contents.strings)
+    → (order ≡ pack.order) × (strings ≡ content pack.contents Str)
 unfolding package_of
 no_strings bytes strings order cause e pack p = absurd (let q = rw e at p in cc)
 

@@ -18,6 +18,8 @@ use Rattle.thorin_queries.specs.declared.names.Strings.{Strings}
 use Rattle.thorin_queries.specs.Listing.{ListsPackage, ListsBytes, Lists}
 use Rattle.thorin_queries.specs.declared.output.Failure.{Failure}
 use Rattle.thorin_queries.specs.declared.output.Failure.TheVariants as failures
+use Rattle.dwp_index.specs.Contents.{content}
+use Rattle.dwp_base.specs.declared.section.SectionKind.TheVariants.{Str}
 
 -- ---- the text of a list
 
@@ -107,7 +109,7 @@ pub strings_seen : (form : ListForm) (pack : Package) (strings : Strings) (bytes
 strings_seen form pack strings bytes told is =
     let has = told pack is in
     let order : strings.order ≡ pack.order = has.0 in
-    let same : strings.bytes.now ≡ pack.contents.strings = has.1 in cc
+    let same : strings.bytes.now ≡ content pack.contents Str = has.1 in cc
 
 pub bytes_listed : (form : ListForm) (pack : Package) (p : Result Package PackageError)
     (old new : Option (List ℕ)) (result : Result ℕ Failure) → p ≡ Ok pack

@@ -28,6 +28,8 @@ use Rattle.dwp_table.specs.Probing.{found_row, look_count}
 use Rattle.dwp_table.specs.declared.object.DwarfObject.{DwarfObject}
 use Rattle.thorin_queries.specs.Ends.{IsReach, HasEnds, is_inside, fault_of}
 use Rattle.thorin_queries.specs.declared.ends.Ends.{Ends}
+use Rattle.dwp_index.specs.Contents.{content}
+use Rattle.dwp_base.specs.declared.section.SectionKind.TheVariants.{Str}
 
 -- whether a zero is there
 any_zero : (xs : List ℕ) → Decides (list_any (λ b. eqb b 0) xs) ((k : ℕ) × (k < length xs)
@@ -108,8 +110,8 @@ own_order ends order strings h = record {
 -- ---- strings of a package
 
 pub of_package : (ends : Ends) (order : Endianness) (strings : List ℕ) (pack : Package)
-    → HasEnds ends order strings → order ≡ pack.order → strings ≡ pack.contents.strings
-    → HasEnds ends pack.order pack.contents.strings
+    → HasEnds ends order strings → order ≡ pack.order → strings ≡ content pack.contents Str
+    → HasEnds ends pack.order (content pack.contents Str)
 of_package ends order strings pack h e f = record {
   order_is = h.order_is ∙ e;
   size = h.size ∙ ap length f;
@@ -118,13 +120,13 @@ of_package ends order strings pack h e f = record {
 }
 
 of_unit : (ends : Ends) (pack : Package) (unit : FoundUnit)
-    → HasEnds ends pack.order pack.contents.strings → unit.order ≡ pack.order
-    → unit.contents ≡ pack.contents → HasEnds ends unit.order unit.contents.strings
+    → HasEnds ends pack.order (content pack.contents Str) → unit.order ≡ pack.order
+    → unit.contents ≡ pack.contents → HasEnds ends unit.order (content unit.contents Str)
 of_unit ends pack unit h e f = record {
   order_is = h.order_is ∙ sym e;
-  size = h.size ∙ ap (λ c. length c.strings) (sym f);
-  inside = subst (λ c. ends.reach ≤ length c.strings) (sym f) h.inside;
-  reach = subst (λ c. IsReach c.strings ends.reach) (sym f) h.reach;
+  size = h.size ∙ ap (λ c. length (content c Str)) (sym f);
+  inside = subst (λ c. ends.reach ≤ length (content c Str)) (sym f) h.inside;
+  reach = subst (λ c. IsReach (content c Str) ends.reach) (sym f) h.reach;
 }
 
 -- ---- a unit that is found has the byte order and the sections of its package
@@ -191,8 +193,8 @@ module _ (pack : Package) (object : DwarfObject) (unit : FoundUnit) where
       let counts = bind_ok (found_counted pack object) _ (Some unit) e in
       counted counts.0 counts.1 (ok_same {E = PackageError} _ (Some unit) _ refl counts.2)
 
-  pub of_found : (ends : Ends) → HasEnds ends pack.order pack.contents.strings
-      → found pack object ≡ Ok (Some unit) → HasEnds ends unit.order unit.contents.strings
+  pub of_found : (ends : Ends) → HasEnds ends pack.order (content pack.contents Str)
+      → found pack object ≡ Ok (Some unit) → HasEnds ends unit.order (content unit.contents Str)
   of_found ends h e = let is = found_in e in of_unit ends pack unit h is.0 is.1
 
 -- ---- a string of a unit

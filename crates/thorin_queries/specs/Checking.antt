@@ -23,6 +23,8 @@ use Rattle.thorin_queries.specs.Telling.{IsOfPrinting, fault_count}
 use Rattle.thorin_queries.specs.declared.executables.Reading.{Reading}
 use Rattle.thorin_queries.specs.declared.output.Failure.{Failure}
 use Rattle.thorin_queries.specs.declared.output.Failure.TheVariants as failures
+use Rattle.dwp_index.specs.Contents.{content}
+use Rattle.dwp_base.specs.declared.section.SectionKind.TheVariants.{StrOffsets}
 
 -- ---- the last line
 
@@ -63,14 +65,15 @@ TellsRows = InTurn (AreRows (codes "cu")) (AreRows (codes "tu"))
 -- abbreviations (DWARF 5, 7.5.3), and packing refuses a package without them
 abbrev pub lacks_abbreviations : Package → List UnitEntry → Bool
 lacks_abbreviations pack entries =
-    not (length entries == 0) && (length pack.contents.abbrev_bytes == 0)
+    not (length entries == 0) && (length (content pack.contents Abbrev) == 0)
 
 -- a package that has string offsets (DWARF 5, 7.26) has no section of strings, or an empty one. The
 -- standard allows it where no offset names a string; but packing refuses such a package, or the one
 -- that it makes of it
 abbrev pub lacks_strings : Package → Bool
 lacks_strings pack =
-    not (length pack.contents.str_offsets == 0) && (length pack.contents.strings == 0)
+    not (length (content pack.contents StrOffsets) == 0) &&
+    (length (content pack.contents Str) == 0)
 
 unfoldable pub lacking_line : SectionKind → List ℕ
 lacking_line kind = name_of kind ++ (codes " is empty or absent" ++ line_end)

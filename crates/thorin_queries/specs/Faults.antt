@@ -27,6 +27,8 @@ use Rattle.thorin_queries.specs.Telling.{Outcome, Progress, Grows, Is, IsNone, I
 use Rattle.thorin_queries.specs.Telling.{Tells}
 use Rattle.thorin_queries.specs.declared.output.Failure.TheVariants as failures
 use Rattle.thorin_words.specs.Printed.{printed}
+use Rattle.dwp_index.specs.Contents.{content}
+use Rattle.dwp_base.specs.declared.section.SectionKind.TheVariants.{Str}
 
 -- ---- units
 
@@ -106,7 +108,7 @@ TellsItself pack object unit lines = TellsOverlap pack object unit lines ⊎ Tel
 
 -- a package has abbreviations
 abbrev pub has_abbreviations : Package → Bool
-has_abbreviations pack = not (length pack.contents.abbrev_bytes == 0)
+has_abbreviations pack = not (length (content pack.contents Abbrev) == 0)
 
 -- the row of a unit has no abbreviations, though the package has some: every unit's header names
 -- some (DWARF 5, 7.5.1.1)
@@ -151,7 +153,7 @@ TellsString object i (Err cause) lines =
     (text : List ℕ) × IsLine (fault_line object (string_text i text)) lines
 
 abbrev pub string_of : FoundUnit → ℕ → Result (Option (List ℕ)) ReadError
-string_of unit i = string_in unit.order unit.encoding unit.contents.strings
+string_of unit i = string_in unit.order unit.encoding (content unit.contents Str)
     (row_bytes unit.contents unit.row StrOffsets) i
 
 -- the strings of a unit, each with its number

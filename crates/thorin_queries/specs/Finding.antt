@@ -7,6 +7,7 @@ use Rattle.std.specs.Str.Parse.{digits_value, IsNumeral}
 use Rattle.std.specs.declared.io.Error.{Error as IoError}
 use Rattle.std.specs.Io.KnownBytes.{Keeps}
 use Rattle.dwp_base.specs.declared.section.SectionKind.{SectionKind}
+use Rattle.dwp_base.specs.Sections.{short_name}
 use Rattle.dwp_base.specs.declared.section.SectionKind.TheVariants.{StrOffsets}
 use Rattle.dwp_base.specs.declared.section.Contribution.{Contribution}
 use Rattle.dwp_bytes.specs.StringOffsets.{entry_count}
@@ -24,7 +25,7 @@ use Rattle.dwp_table.specs.declared.object.DwarfObject.{DwarfObject}
 use Rattle.dwp_table.specs.declared.object.DwarfObject.TheVariants.{Compilation, TypeUnit}
 use Rattle.thorin_words.specs.Identifiers.{IsIdentifier}
 use Rattle.thorin_queries.specs.Answers.{Answer, refused, Reads}
-use Rattle.thorin_queries.specs.Lines.{hex, hex16, line_end, short_kind, short_name}
+use Rattle.thorin_queries.specs.Lines.{hex, hex16, line_end, short_kind}
 use Rattle.thorin_queries.specs.Spelled.{spelled, spelled_or}
 use Rattle.thorin_queries.specs.declared.wanted.Sought.{Sought}
 use Rattle.thorin_queries.specs.declared.wanted.Wanted.{Wanted}
@@ -32,6 +33,8 @@ use Rattle.thorin_queries.specs.declared.wanted.Wanted.TheVariants.{Printed, Byt
 use Rattle.thorin_queries.specs.declared.wanted.Printing.TheVariants.{AllOf, StringOf}
 use Rattle.thorin_queries.specs.declared.output.Failure.{Failure}
 use Rattle.thorin_queries.specs.declared.output.Failure.TheVariants as failures
+use Rattle.dwp_index.specs.Contents.{content}
+use Rattle.dwp_base.specs.declared.section.SectionKind.TheVariants.{Str}
 
 -- ---- the unit that is asked for
 
@@ -171,7 +174,7 @@ abbrev pub wanted_answer : (as_json : Bool) → Wanted → DwarfObject → Found
 wanted_answer as_json (Printed AllOf) object unit slots =
     record { printed = all_text as_json object unit slots; answer = Ok 0 }
 wanted_answer as_json (Printed (StringOf i)) object unit slots =
-    string_answer as_json i (string_in unit.order unit.encoding unit.contents.strings
+    string_answer as_json i (string_in unit.order unit.encoding (content unit.contents Str)
     (row_bytes unit.contents unit.row StrOffsets) i)
 wanted_answer as_json (Bytes kind) object unit slots =
     bytes_answer kind (row_bytes unit.contents unit.row kind)

@@ -5,7 +5,7 @@ use Rattle.dwp_base.specs.declared.section.SectionKind.{SectionKind}
 use Rattle.dwp_base.specs.declared.section.SectionKind.TheVariants.{Abbrev, StrOffsets, Str}
 use Rattle.dwp_base.specs.declared.section.SectionKind.TheVariants.{CuIndex, TuIndex}
 use Rattle.dwp_elf_read.specs.Elf.{Elf}
-use Rattle.dwp_index.specs.Contents.{content_among}
+use Rattle.dwp_index.specs.Contents.{content, content_among}
 use Rattle.dwp_index.specs.Index.{Index}
 use Rattle.dwp_index.specs.Package.{Package, index_in_section}
 
@@ -19,9 +19,9 @@ pub record IsIndexIn (file : Elf) (kind : SectionKind) (index : Option Index) : 
 -- of a file
 pub record HasIndexes (file : Elf) (pack : Package) : Type 0 where
   pub order : pack.order ≡ file.order
-  pub abbreviations : content_among file.sections Abbrev ≡ Ok pack.contents.abbrev_bytes
-  pub offsets : content_among file.sections StrOffsets ≡ Ok pack.contents.str_offsets
-  pub strings : content_among file.sections Str ≡ Ok pack.contents.strings
+  pub abbreviations : content_among file.sections Abbrev ≡ Ok (content pack.contents Abbrev)
+  pub offsets : content_among file.sections StrOffsets ≡ Ok (content pack.contents StrOffsets)
+  pub strings : content_among file.sections Str ≡ Ok (content pack.contents Str)
   pub compilations : IsIndexIn file CuIndex pack.compilations
   pub types : IsIndexIn file TuIndex pack.types
 

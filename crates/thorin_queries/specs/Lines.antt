@@ -1,11 +1,6 @@
 -- What is printed of units.
 use Rattle.std.specs.Prelude.{ℕ, ◌-◌, false, List, [], ◌∷◌, ◌++◌, codes, length, replicate}
 use Rattle.std.specs.Fmt.{digits}
-use Rattle.dwp_base.specs.declared.section.SectionKind.{SectionKind}
-use Rattle.dwp_base.specs.declared.section.SectionKind.TheVariants.{Info, Types, Abbrev, Line, Loc}
-use Rattle.dwp_base.specs.declared.section.SectionKind.TheVariants.{Loclists, Rnglists, StrOffsets}
-use Rattle.dwp_base.specs.declared.section.SectionKind.TheVariants.{Macinfo, Macro, Str, CuIndex}
-use Rattle.dwp_base.specs.declared.section.SectionKind.TheVariants.{TuIndex}
 use Rattle.dwp_table.specs.declared.object.DwarfObject.{DwarfObject}
 use Rattle.dwp_table.specs.declared.object.DwarfObject.TheVariants.{Compilation, TypeUnit}
 
@@ -25,19 +20,3 @@ line_end = 10 ∷ []
 abbrev pub short_kind : DwarfObject → List ℕ
 short_kind (Compilation id) = codes "cu"
 short_kind (TypeUnit signature) = codes "tu"
-
--- the short name of a section's kind
-abbrev pub short_name : SectionKind → List ℕ
-short_name Info = codes "info"
-short_name Types = codes "types"
-short_name Abbrev = codes "abbrev"
-short_name Line = codes "line"
-short_name Loc = codes "loc"
-short_name Loclists = codes "loclists"
-short_name Rnglists = codes "rnglists"
-short_name StrOffsets = codes "str_offsets"
-short_name Macinfo = codes "macinfo"
-short_name Macro = codes "macro"
-short_name Str = codes "str"
-short_name CuIndex = codes "cu_index"
-short_name TuIndex = codes "tu_index"

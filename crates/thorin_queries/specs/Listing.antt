@@ -9,6 +9,7 @@ use Rattle.std.specs.Ordering.{nat_cmp}
 use Rattle.std.specs.declared.io.Error.{Error as IoError}
 use Rattle.std.specs.Io.KnownBytes.{Keeps}
 use Rattle.dwp_base.specs.declared.endian.Endianness.{Endianness}
+use Rattle.dwp_base.specs.Sections.{short_name}
 use Rattle.dwp_base.specs.declared.section.SectionKind.{SectionKind}
 use Rattle.dwp_base.specs.declared.section.Contribution.{Contribution}
 use Rattle.dwp_index.specs.Entries.{entries_from}
@@ -25,9 +26,11 @@ use Rattle.thorin_queries.specs.Names.{source_name, object_name}
 use Rattle.thorin_queries.specs.Spelled.{spelled_or}
 use Rattle.thorin_queries.specs.declared.listing.ListForm.{ListForm}
 use Rattle.thorin_queries.specs.declared.names.Strings.{Strings}
-use Rattle.thorin_queries.specs.Lines.{hex16, line_end, short_kind, short_name}
+use Rattle.thorin_queries.specs.Lines.{hex16, line_end, short_kind}
 use Rattle.thorin_queries.specs.declared.output.Failure.{Failure}
 use Rattle.thorin_queries.specs.declared.output.Failure.TheVariants as failures
+use Rattle.dwp_index.specs.Contents.{content}
+use Rattle.dwp_base.specs.declared.section.SectionKind.TheVariants.{Str}
 
 -- ---- the order of lines
 
@@ -57,7 +60,7 @@ pub record ListView : Type 0 where
 -- the strings that a package has
 abbrev pub view_of : ListForm → Package → ListView
 view_of form pack =
-    record { form = form; order = pack.order; strings = pack.contents.strings }
+    record { form = form; order = pack.order; strings = content pack.contents Str }
 
 -- those at hand
 abbrev pub view_by : ListForm → Strings → ListView
@@ -66,7 +69,7 @@ view_by form strings =
 
 abbrev pub HasStrings : Strings → Package → Type 0
 HasStrings strings pack =
-    (strings.order ≡ pack.order) × (strings.bytes.now ≡ pack.contents.strings)
+    (strings.order ≡ pack.order) × (strings.bytes.now ≡ content pack.contents Str)
 
 -- the size of a range, behind the short name of its section
 abbrev pub range_size : (as_json : Bool) → SectionKind → Option Contribution → List ℕ

@@ -5,7 +5,7 @@ ghost use Rattle.thorin_queries.specs.Finding.{width, encoding_line, json_encodi
 ghost use Rattle.thorin_queries.specs.Finding.{range_texts, counts_text, all_text};
 ghost use Rattle.thorin_queries.specs.Json.{json_unit, json_numbers};
 
-use crate::finding::{short_kind, short_name, string_count};
+use crate::finding::{short_kind, string_count};
 use dwp_base::{Contribution, SectionKind};
 use dwp_bytes::{Encoding, Format};
 use dwp_index::PackagedUnit;
@@ -128,7 +128,7 @@ fn put_range(
     let Some(range) = range else {
         return Ok(());
     };
-    let name = short_name(kind);
+    let name = kind.short_name();
     let offset = range.offset.0;
     let size = range.size;
     if as_json {

@@ -6,6 +6,7 @@ ghost use Rattle.dwp_index.specs.Package.{Package};
 ghost use Rattle.thorin_queries.specs.Ends.{IsReach, HasEnds, AllEnd, is_inside, fault_of};
 ghost use Rattle.thorin_queries.specs.Faults.{string_of};
 ghost use Rattle.thorin_queries.specs.Listing.{HasStrings};
+ghost use Rattle.dwp_index.specs.Contents.{content};
 
 use crate::names::{Strings, entry_in};
 use dwp_bytes::ReadError;
@@ -29,7 +30,7 @@ impl Ends {
     #[tactic(auto, using(crate::proofs::Reached::of_package))]
     pub(crate) fn of(strings: Strings<'_>) -> Ends
         ensures { (pack : Package) → HasStrings strings.entry pack
-            → HasEnds result pack.order pack.contents.strings }
+            → HasEnds result pack.order (content pack.contents SectionKind.Str) }
     {
         Ends {
             order: strings.order,
@@ -41,7 +42,7 @@ impl Ends {
     /// Why the string of a number of a unit can't be read, where that is so: what
     /// `PackagedUnit::string` answers, but no string is read.
     pub(crate) fn fault_of(self, unit: &PackagedUnit<'_>, i: u64) -> Option<ReadError>
-        requires { HasEnds self unit.now.order unit.now.contents.strings }
+        requires { HasEnds self unit.now.order (content unit.now.contents SectionKind.Str) }
         ensures { result ≡ fault_of (string_of unit.now i) }
     {
         let offsets = unit.section(SectionKind::StrOffsets);
@@ -54,7 +55,8 @@ impl Ends {
     /// Whether every string of a unit can be read: each begins before the place behind the last
     /// zero byte.
     pub(crate) fn all_end(self, unit: &PackagedUnit<'_>) -> bool
-        ensures { result ≡ true → HasEnds self unit.now.order unit.now.contents.strings
+        ensures { result ≡ true
+            → HasEnds self unit.now.order (content unit.now.contents SectionKind.Str)
             → AllEnd unit.now }
     {
         let offsets = unit.section(SectionKind::StrOffsets);

@@ -8,7 +8,7 @@ ghost use Rattle.thorin_queries.specs.Finding.{Finds, Seeks};
 ghost use Rattle.thorin_queries.specs.Finding.{string_count, string_line, string_answer};
 ghost use Rattle.thorin_queries.specs.Finding.{find_answer, found_answer, wanted_answer};
 ghost use Rattle.dwp_index.specs.Package.{found_counted};
-ghost use Rattle.thorin_queries.specs.Lines.{short_kind, short_name};
+ghost use Rattle.thorin_queries.specs.Lines.{short_kind};
 ghost use Rattle.thorin_queries.specs.declared.wanted.Wanted.TheVariants.{Printed, Bytes};
 
 use crate::describing::put_all;
@@ -350,27 +350,6 @@ pub(crate) fn short_kind(object: DwarfObject) -> &'static str
     match object {
         DwarfObject::Compilation(_) => "cu",
         DwarfObject::TypeUnit(_) => "tu",
-    }
-}
-
-/// The short name of a section's kind.
-pub(crate) fn short_name(kind: SectionKind) -> &'static str
-    ensures { result.now ≡ short_name kind }
-{
-    match kind {
-        SectionKind::Info => "info",
-        SectionKind::Types => "types",
-        SectionKind::Abbrev => "abbrev",
-        SectionKind::Line => "line",
-        SectionKind::Loc => "loc",
-        SectionKind::Loclists => "loclists",
-        SectionKind::Rnglists => "rnglists",
-        SectionKind::StrOffsets => "str_offsets",
-        SectionKind::Macinfo => "macinfo",
-        SectionKind::Macro => "macro",
-        SectionKind::Str => "str",
-        SectionKind::CuIndex => "cu_index",
-        SectionKind::TuIndex => "tu_index",
     }
 }
 

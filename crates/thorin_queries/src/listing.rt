@@ -13,7 +13,7 @@ ghost use Rattle.thorin_queries.specs.Listing.{lines_of, IsListed, ListsPackage,
 ghost use Rattle.thorin_queries.specs.Listing.{Lists};
 
 use crate::files::{FileReader, HostReader, read_named};
-use crate::finding::{short_kind, short_name};
+use crate::finding::short_kind;
 use crate::input::strings_in;
 use crate::names::Strings;
 use crate::output::{Failure, answer};
@@ -372,7 +372,7 @@ fn put_size(
         return Ok(());
     };
     sizes.add(kind, range)?;
-    let name = short_name(kind);
+    let name = kind.short_name();
     let size = range.size;
     if as_json {
         write!(text, ",\"{name}\":{size}")

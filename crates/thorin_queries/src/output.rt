@@ -5,7 +5,6 @@ ghost use Rattle.std.specs.Io.KnownBytes.{Appends, Keeps};
 ghost use Rattle.thorin_queries.specs.Answers.{HasBeginning, Comes, exit_status};
 ghost use Rattle.thorin_queries.specs.Telling.{IsOfPrinting, Prints};
 
-use crate::finding::short_name;
 use dwp_base::SectionKind;
 use std::alloc::{AllocError, AllocFailed, Global};
 use std::fmt;
@@ -92,7 +91,7 @@ impl fmt::Display for Failure {
             Failure::NoUnit(id) => write!(f, "Unit 0x{id:08x} is not in the package"),
             Failure::NoString(i) => write!(f, "Unit has no string {i}"),
             Failure::NoRange(kind) => {
-                let name = short_name(*kind);
+                let name = kind.short_name();
                 write!(f, "Unit has no range of {name}")
             }
             _ => f.write_str(self.text()),

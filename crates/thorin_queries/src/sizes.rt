@@ -3,7 +3,6 @@
 ghost use Rattle.std.specs.Prelude.{◌≡◌, ◌-◌, ◌^◌, ◌++◌, min, sum_by, OnOk, List, ℕ};
 ghost use Rattle.std.specs.Prelude.{string_bytes};
 
-use crate::finding::short_name;
 use crate::input::contents_of;
 use dwp_elf::{Contribution, ElfFile, SectionKind};
 use dwp_table::CONTRIBUTION_KINDS;
@@ -101,7 +100,7 @@ impl Sizes {
         if content == 0 {
             return Ok(());
         }
-        let name = short_name(kind);
+        let name = kind.short_name();
         let (all, once) = self.of(kind)?;
         let shared = all.saturating_sub(once);
         if as_json {
@@ -133,7 +132,7 @@ impl Sizes {
 fn put_wholes(file: &ElfFile<'_>, as_json: bool, text: &mut String) -> Result<(), AllocError> {
     for kind in &[SectionKind::Str, SectionKind::CuIndex, SectionKind::TuIndex] {
         put_whole(
-            short_name(*kind),
+            kind.short_name(),
             contents_of(file, *kind).len(),
             as_json,
             text,

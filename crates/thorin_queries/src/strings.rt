@@ -8,6 +8,7 @@ ghost use Rattle.thorin_queries.specs.Faults.{TellsStringsOf, TellsStrings, Tell
 ghost use Rattle.thorin_queries.specs.Faults.{string_of, string_text, IsTextOf};
 ghost use Rattle.thorin_queries.specs.Telling.{progress, Tells, ForEach};
 ghost use Rattle.dwp_table.specs.declared.object.DwarfObject.{DwarfObject};
+ghost use Rattle.dwp_index.specs.Contents.{content};
 
 use crate::ends::Ends;
 use crate::faults::{Faults, some, tell};
@@ -71,7 +72,8 @@ impl Strings {
     /// Whether a unit's strings can all be read; false where it would take too long to tell.
     fn reads_all(&mut self, unit: &PackagedUnit<'_>, size: u64) -> bool
         ensures { result ≡ true
-            → HasEnds self.old.ends unit.now.order unit.now.contents.strings → AllEnd unit.now }
+            → HasEnds self.old.ends unit.now.order (content unit.now.contents SectionKind.Str)
+            → AllEnd unit.now }
     {
         if self.left < size {
             return false;
@@ -101,7 +103,7 @@ pub(crate) fn check_strings<O: Write>(
     faults: &mut Faults,
     out: &mut O,
 ) -> Result<(), Failure>
-    requires { HasEnds ends pack.now.order pack.now.contents.strings }
+    requires { HasEnds ends pack.now.order (content pack.now.contents SectionKind.Str) }
     ensures { Tells (TellsSomeStrings pack.now) (progress (O.contents out.old) faults.old)
         (progress (O.contents out.new) faults.new) result }
 {
@@ -121,7 +123,7 @@ fn check_distinct<O: Write>(
     faults: &mut Faults,
     out: &mut O,
 ) -> Result<(), Failure>
-    requires { HasEnds ends pack.now.order pack.now.contents.strings }
+    requires { HasEnds ends pack.now.order (content pack.now.contents SectionKind.Str) }
     ensures { Tells (ForEach (λ s. TellsStringsOf s.1 (found pack.now s.1)) strings.now)
         (progress (O.contents out.old) faults.old) (progress (O.contents out.new) faults.new)
         result }
@@ -143,7 +145,7 @@ fn check_strings_of<O: Write>(
     faults: &mut Faults,
     out: &mut O,
 ) -> Result<(), Failure>
-    requires { HasEnds ends pack.now.order pack.now.contents.strings }
+    requires { HasEnds ends pack.now.order (content pack.now.contents SectionKind.Str) }
     ensures { Tells (TellsStringsOf object (found pack.now object))
         (progress (O.contents out.old) faults.old) (progress (O.contents out.new) faults.new)
         result }
@@ -163,7 +165,7 @@ fn check_each_string<O: Write>(
     faults: &mut Faults,
     out: &mut O,
 ) -> Result<(), Failure>
-    requires { HasEnds ends unit.now.order unit.now.contents.strings }
+    requires { HasEnds ends unit.now.order (content unit.now.contents SectionKind.Str) }
     ensures { Tells (TellsStrings object unit.now) (progress (O.contents out.old) faults.old)
         (progress (O.contents out.new) faults.new) result }
 {
@@ -184,7 +186,7 @@ fn string_text(
     i: u64,
     near: &String,
 ) -> Result<Option<String>, AllocError>
-    requires { HasEnds ends unit.now.order unit.now.contents.strings }
+    requires { HasEnds ends unit.now.order (content unit.now.contents SectionKind.Str) }
     ensures { (object : DwarfObject) → IsTextOf (TellsString object i (string_of unit.now i)) object
         result }
 {

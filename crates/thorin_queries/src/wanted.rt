@@ -105,24 +105,12 @@ fn number(text: &str) -> Option<u64>
 }
 
 /// The bytes of a section.
-#[tactic(auto, using(crate::proofs::Asked::no_short_name))]
+#[tactic(auto, using(crate::proofs::Asked::its_short_name, crate::proofs::Asked::no_short_name))]
 fn section_wanted(text: &str) -> Result<Wanted, Failure>
     ensures { AsksSection text.now result }
 {
-    match text {
-        "info" => Ok(Wanted::Bytes(SectionKind::Info)),
-        "types" => Ok(Wanted::Bytes(SectionKind::Types)),
-        "abbrev" => Ok(Wanted::Bytes(SectionKind::Abbrev)),
-        "line" => Ok(Wanted::Bytes(SectionKind::Line)),
-        "loc" => Ok(Wanted::Bytes(SectionKind::Loc)),
-        "loclists" => Ok(Wanted::Bytes(SectionKind::Loclists)),
-        "rnglists" => Ok(Wanted::Bytes(SectionKind::Rnglists)),
-        "str_offsets" => Ok(Wanted::Bytes(SectionKind::StrOffsets)),
-        "macinfo" => Ok(Wanted::Bytes(SectionKind::Macinfo)),
-        "macro" => Ok(Wanted::Bytes(SectionKind::Macro)),
-        "str" => Ok(Wanted::Bytes(SectionKind::Str)),
-        "cu_index" => Ok(Wanted::Bytes(SectionKind::CuIndex)),
-        "tu_index" => Ok(Wanted::Bytes(SectionKind::TuIndex)),
-        _ => Err(Failure::BadSection),
+    match SectionKind::of_short_name(text) {
+        Some(kind) => Ok(Wanted::Bytes(kind)),
+        None => Err(Failure::BadSection),
     }
 }
