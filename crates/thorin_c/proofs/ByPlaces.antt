@@ -2,8 +2,9 @@
 use Rattle.std.proofs.Common.{◌≡◌, ◌∙◌, List, ℕ, Result, Ok, sym, ap}
 use Rattle.dwp_base.specs.Reading.{◌>>=◌}
 use Rattle.dwp_base.specs.declared.endian.Endianness.{Endianness}
+use Rattle.dwp_base.specs.declared.section.SectionKind.TheVariants as kinds
 use Rattle.dwp_elf_read.specs.Elf.{Elf, elf_of}
-use Rattle.dwp_index.specs.Contents.{Sections, contents_of}
+use Rattle.dwp_index.specs.Contents.{Sections, content, contents_of}
 use Rattle.dwp_index.specs.Package.{Package, as_fault, index_in_section, package_of}
 use Rattle.dwp_index.specs.declared.fault.PackageError.{PackageError}
 use Rattle.dwp_index.specs.declared.fault.PackageError.TheVariants as faults
@@ -13,8 +14,8 @@ use Rattle.thorin_c.specs.declared.types.ThorinPackage.{ThorinPackage}
 -- the indexes of a package, once its sections are known
 abbrev indexed : Endianness → Sections → Result Package PackageError
 indexed order contents =
-    index_in_section order contents.cu_index >>= λ compilations.
-    (index_in_section order contents.tu_index >>= λ types. Ok (record {
+    index_in_section order (content contents kinds.CuIndex) >>= λ compilations.
+    (index_in_section order (content contents kinds.TuIndex) >>= λ types. Ok (record {
       order = order;
       contents = contents;
       compilations = compilations;

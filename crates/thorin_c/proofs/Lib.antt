@@ -11,4 +11,5 @@ pub mod Headers
 pub mod ByIndex
 pub mod RowsTold
 pub mod ByPlaces
+pub mod PlacesRead
 pub mod SkeletonLists

@@ -10,6 +10,7 @@ use Rattle.dwp_bytes.specs.declared.fault.ReadError.{ReadError}
 use Rattle.dwp_table.specs.Columns.{contribution_kinds}
 use Rattle.dwp_table.specs.declared.object.DwarfObject.{DwarfObject}
 use Rattle.dwp_table.specs.declared.object.DwarfObject.TheVariants.{Compilation, TypeUnit}
+use Rattle.dwp_index.specs.Contents.{content}
 use Rattle.dwp_index.specs.Index.{Ranges, range_in}
 use Rattle.dwp_index.specs.Package.{Package, FoundUnit, found_counted, row_counted}
 use Rattle.dwp_index.specs.Package.{row_bytes}
@@ -61,39 +62,19 @@ abbrev pub range_of : Option Contribution → ThorinRange
 range_of None = record { offset = 0; size = 0 }
 range_of (Some range) = record { offset = range.offset.0; size = range.size }
 
--- a row of no ranges; the encoding is left out, since it stands in the unit's header
-abbrev pub bare_row : ℕ → ℕ → ThorinUnit
-bare_row number slots = record {
-  info = range_of None;
-  types = range_of None;
-  abbreviations = range_of None;
-  line = range_of None;
-  loc = range_of None;
-  loclists = range_of None;
-  rnglists = range_of None;
-  str_offsets = range_of None;
-  macinfo = range_of None;
-  macros = range_of None;
+-- the ranges of a row, in the order of columns
+abbrev pub ranges_of : Ranges → List ThorinRange
+ranges_of row = map (λ kind. range_of (range_in row kind)) contribution_kinds
+
+-- a row with its ranges; the encoding is left out, since it stands in the unit's header
+abbrev pub row_of : ℕ → Ranges → ℕ → ThorinUnit
+row_of number row slots = record {
+  ranges = ranges_of row;
   row = number;
   slots = slots;
   version = 0;
   offset_size = 0;
   address_size = 0;
-}
-
--- a row with its ranges
-abbrev pub row_of : ℕ → Ranges → ℕ → ThorinUnit
-row_of number row slots = record (bare_row number slots) {
-  info = range_of (range_in row kinds.Info);
-  types = range_of (range_in row kinds.Types);
-  abbreviations = range_of (range_in row kinds.Abbrev);
-  line = range_of (range_in row kinds.Line);
-  loc = range_of (range_in row kinds.Loc);
-  loclists = range_of (range_in row kinds.Loclists);
-  rnglists = range_of (range_in row kinds.Rnglists);
-  str_offsets = range_of (range_in row kinds.StrOffsets);
-  macinfo = range_of (range_in row kinds.Macinfo);
-  macros = range_of (range_in row kinds.Macro);
 }
 
 -- a unit with its ranges and its encoding
@@ -146,7 +127,7 @@ string_or_status (Err fault) = Err (pos 9)
 unfoldable pub string_found : Result Package ℤ → ℕ → ℕ → ℕ → Result (List ℕ) ℤ
 string_found read kind id i = do
   found ← looked_up read kind id
-  string_or_status (string_in found.0.order found.0.encoding found.0.contents.strings
+  string_or_status (string_in found.0.order found.0.encoding (content found.0.contents kinds.Str)
       (row_bytes found.0.contents found.0.row kinds.StrOffsets) i)
 
 -- a call answers 0 and writes what is asked for; or it answers the status, and writes nothing

@@ -1,11 +1,11 @@
 //! Looking up the units of a package.
 
-ghost use Rattle.std.specs.Prelude.{◌≡◌, pos, None, Ok, map, take};
+ghost use Rattle.std.specs.Prelude.{◌≡◌, pos, Ok, map, take};
 ghost use Rattle.dwp_base.specs.Reading.{Answers};
 ghost use Rattle.dwp_index.specs.Package.{package_of, found_counted};
 ghost use Rattle.thorin_c.specs.Finding.{object_of, section_of, as_status, present, range_of};
-ghost use Rattle.thorin_c.specs.Finding.{bare_row, row_of, unit_of, unit_in, looked_up, unit_found};
-ghost use Rattle.thorin_c.specs.Finding.{looked};
+ghost use Rattle.thorin_c.specs.Finding.{ranges_of, row_of, unit_of, unit_in, looked_up, looked};
+ghost use Rattle.thorin_c.specs.Finding.{unit_found};
 ghost use Rattle.thorin_c.specs.Finding.{content_found, string_found, Fills, FillsEach};
 
 use crate::status::{
@@ -255,52 +255,34 @@ fn write_unit(unit: &PackagedUnit<'_>, slots: u32, found: &mut ThorinUnit)
 pub(crate) fn write_row(row: &Row<'_>, number: u32, slots: u32, found: &mut ThorinUnit)
     ensures { found.new ≡ row_of number row.now slots }
 {
-    *found = without_ranges(number, slots);
-    put(row.range(SectionKind::Info), &mut found.info);
-    put(row.range(SectionKind::Types), &mut found.types);
-    put(row.range(SectionKind::Abbrev), &mut found.abbreviations);
-    put(row.range(SectionKind::Line), &mut found.line);
-    put(row.range(SectionKind::Loc), &mut found.loc);
-    put(row.range(SectionKind::Loclists), &mut found.loclists);
-    put(row.range(SectionKind::Rnglists), &mut found.rnglists);
-    put(row.range(SectionKind::StrOffsets), &mut found.str_offsets);
-    put(row.range(SectionKind::Macinfo), &mut found.macinfo);
-    put(row.range(SectionKind::Macro), &mut found.macros);
+    write_ranges(row, &mut found.ranges);
+    found.row = number;
+    found.slots = slots;
+    found.version = 0;
+    found.offset_size = 0;
+    found.address_size = 0;
 }
 
-/// A row of no ranges.
+/// Writes the ranges of a row.
 #[inline(always)]
-fn without_ranges(row: u32, slots: u32) -> ThorinUnit
-    ensures { result ≡ bare_row row slots }
+fn write_ranges(row: &Row<'_>, ranges: &mut [ThorinRange; 10])
+    ensures { ranges.new ≡ ranges_of row.now }
 {
-    let none = ThorinRange { offset: 0, size: 0 };
-    ThorinUnit {
-        info: none,
-        types: none,
-        abbreviations: none,
-        line: none,
-        loc: none,
-        loclists: none,
-        rnglists: none,
-        str_offsets: none,
-        macinfo: none,
-        macros: none,
-        row,
-        slots,
-        version: 0,
-        offset_size: 0,
-        address_size: 0,
+    for i in 0..10 {
+        ranges[i] = range_of(row.range(CONTRIBUTION_KINDS[i]));
     }
 }
 
-/// Writes a range where none stands; nothing where it is absent.
+/// A range; of no bytes where it is absent.
 #[inline(always)]
-fn put(range: Option<Contribution>, at: &mut ThorinRange)
-    requires { at.old ≡ range_of None }
-    ensures { at.new ≡ range_of range }
+fn range_of(range: Option<Contribution>) -> ThorinRange
+    ensures { result ≡ range_of range }
 {
-    if let Some(range) = range {
-        at.offset = range.offset.0;
-        at.size = range.size;
+    match range {
+        None => ThorinRange { offset: 0, size: 0 },
+        Some(range) => ThorinRange {
+            offset: range.offset.0,
+            size: range.size,
+        },
     }
 }

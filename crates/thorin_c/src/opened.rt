@@ -12,7 +12,7 @@ ghost use Rattle.dwp_index.specs.declared.fault.PackageError.TheVariants as faul
 ghost use Rattle.thorin_c.specs.ByIndex.{row_named, row_present, row_encoding};
 ghost use Rattle.thorin_c.specs.Opening.{package_in, order_of};
 
-use crate::sections::{PlacedSections, bytes_at};
+use crate::sections::PlacedSections;
 use crate::status::{ABSENT, status_of};
 use crate::types::ThorinPackage;
 use crate::unit::{Found, encoding_in, kind_of, place_of};
@@ -54,11 +54,12 @@ impl<'p, 'a> Opened<'p, 'a> {
         requires { order ≡ order_of places.now.big_endian }
         ensures { Answers (λ x. x) result (package_in places.now bytes.now) }
     {
-        let compilations = read_index(bytes_at(bytes, places.cu_index), order)?;
-        let types = read_index(bytes_at(bytes, places.tu_index), order)?;
+        let sections = PlacedSections { places, bytes };
+        let compilations = read_index(sections.of(SectionKind::CuIndex), order)?;
+        let types = read_index(sections.of(SectionKind::TuIndex), order)?;
         Ok(Opened {
             order,
-            sections: PlacedSections { places, bytes },
+            sections,
             compilations,
             types,
         })

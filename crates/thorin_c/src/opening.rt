@@ -22,6 +22,9 @@ use dwp_base::{Endianness, SectionKind};
 use dwp_elf_read::{ElfFile, ReadError, Section};
 use dwp_index::PackageError;
 
+/// The place of a section that isn't there.
+const NOWHERE: ThorinRange = ThorinRange { offset: 0, size: 0 };
+
 /// Opens a package: answers 0, and writes where its sections lie. The calls that take `places`
 /// then read nothing but what they look up. Or 3 or 4 where it can't be read, and `places` is left
 /// as it is.
@@ -87,34 +90,16 @@ fn section_places(file: &ElfFile<'_>, bytes: &[u8]) -> Result<ThorinPackage, Rea
     ensures order { IfOk result (λ places. order_of places.big_endian ≡ (elf file.now).order) }
     ensures inside { IfOk result (LieIn bytes.now) }
 {
-    let info = place(file, bytes, SectionKind::Info)?;
-    let types = place(file, bytes, SectionKind::Types)?;
-    let abbreviations = place(file, bytes, SectionKind::Abbrev)?;
-    let line = place(file, bytes, SectionKind::Line)?;
-    let loc = place(file, bytes, SectionKind::Loc)?;
-    let loclists = place(file, bytes, SectionKind::Loclists)?;
-    let rnglists = place(file, bytes, SectionKind::Rnglists)?;
-    let str_offsets = place(file, bytes, SectionKind::StrOffsets)?;
-    let macinfo = place(file, bytes, SectionKind::Macinfo)?;
-    let macros = place(file, bytes, SectionKind::Macro)?;
-    let strings = place(file, bytes, SectionKind::Str)?;
-    let cu_index = place(file, bytes, SectionKind::CuIndex)?;
-    let tu_index = place(file, bytes, SectionKind::TuIndex)?;
+    let mut sections = [NOWHERE; 13];
+    for kind in &SectionKind::ALL {
+        match place(file, bytes, *kind) {
+            Ok(found) => sections[kind.rank() as usize] = found,
+            Err(e) => return Err(e),
+        }
+    }
     let big_endian = number_of(file.endianness());
     Ok(ThorinPackage {
-        info,
-        types,
-        abbreviations,
-        line,
-        loc,
-        loclists,
-        rnglists,
-        str_offsets,
-        macinfo,
-        macros,
-        strings,
-        cu_index,
-        tu_index,
+        sections,
         big_endian,
     })
 }
@@ -137,7 +122,7 @@ fn place(file: &ElfFile<'_>, bytes: &[u8], kind: SectionKind) -> Result<ThorinRa
     ensures inside { IfOk result (IsPlaceIn bytes.now) }
 {
     match first_section(file, kind) {
-        None => Ok(ThorinRange { offset: 0, size: 0 }),
+        None => Ok(NOWHERE),
         Some((number, used)) => used_place(file, bytes, kind, number, &used),
     }
 }

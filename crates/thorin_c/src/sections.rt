@@ -11,6 +11,7 @@ ghost use Rattle.thorin_c.specs.Opening.{bytes_at, sections_at};
 use crate::types::{ThorinPackage, ThorinRange};
 use dwp_base::{Contribution, SectionKind};
 use dwp_index::Row;
+use dwp_table::CONTRIBUTION_KINDS;
 
 /// A package's bytes, and where its sections lie among them.
 #[derive(Clone, Copy)]
@@ -46,23 +47,7 @@ impl<'p, 'a> PlacedSections<'p, 'a> {
     pub(crate) fn of(&self, kind: SectionKind) -> &'a [u8]
         ensures { result.now ≡ content (sections_at self.now.places.now self.now.bytes.now) kind }
     {
-        let places = self.places;
-        let place = match kind {
-            SectionKind::Info => places.info,
-            SectionKind::Types => places.types,
-            SectionKind::Abbrev => places.abbreviations,
-            SectionKind::Line => places.line,
-            SectionKind::Loc => places.loc,
-            SectionKind::Loclists => places.loclists,
-            SectionKind::Rnglists => places.rnglists,
-            SectionKind::StrOffsets => places.str_offsets,
-            SectionKind::Macinfo => places.macinfo,
-            SectionKind::Macro => places.macros,
-            SectionKind::Str => places.strings,
-            SectionKind::CuIndex => places.cu_index,
-            SectionKind::TuIndex => places.tu_index,
-        };
-        bytes_at(self.bytes, place)
+        bytes_at(self.bytes, self.places.sections[kind.rank() as usize])
     }
 
     /// The bytes of a row's range in a section; none where it has no such range.
@@ -82,47 +67,22 @@ impl<'p, 'a> PlacedSections<'p, 'a> {
         ensures { result
             ≡ first_outside (sections_at self.now.places.now self.now.bytes.now) row.now }
     {
-        if self.is_outside(row, SectionKind::Info, self.places.info) {
-            return Some(SectionKind::Info);
-        }
-        if self.is_outside(row, SectionKind::Types, self.places.types) {
-            return Some(SectionKind::Types);
-        }
-        if self.is_outside(row, SectionKind::Abbrev, self.places.abbreviations) {
-            return Some(SectionKind::Abbrev);
-        }
-        if self.is_outside(row, SectionKind::Line, self.places.line) {
-            return Some(SectionKind::Line);
-        }
-        if self.is_outside(row, SectionKind::Loc, self.places.loc) {
-            return Some(SectionKind::Loc);
-        }
-        if self.is_outside(row, SectionKind::Loclists, self.places.loclists) {
-            return Some(SectionKind::Loclists);
-        }
-        if self.is_outside(row, SectionKind::Rnglists, self.places.rnglists) {
-            return Some(SectionKind::Rnglists);
-        }
-        if self.is_outside(row, SectionKind::StrOffsets, self.places.str_offsets) {
-            return Some(SectionKind::StrOffsets);
-        }
-        if self.is_outside(row, SectionKind::Macinfo, self.places.macinfo) {
-            return Some(SectionKind::Macinfo);
-        }
-        if self.is_outside(row, SectionKind::Macro, self.places.macros) {
-            return Some(SectionKind::Macro);
-        }
-        None
+        CONTRIBUTION_KINDS
+            .iter()
+            .copied()
+            .find(|kind| self.is_outside(row, *kind))
     }
 
-    /// Whether a row has a range of a kind that isn't inside the section at a place.
+    /// Whether a row has a range of a kind that isn't inside the section.
     #[inline(always)]
-    fn is_outside(&self, row: &Row<'_>, kind: SectionKind, place: ThorinRange) -> bool
-        ensures { result ≡ is_outside (bytes_at self.now.bytes.now place) (range_in row.now kind) }
+    fn is_outside(&self, row: &Row<'_>, kind: SectionKind) -> bool
+        ensures { result
+            ≡ is_outside (content (sections_at self.now.places.now self.now.bytes.now) kind)
+            (range_in row.now kind) }
     {
         match row.range(kind) {
             None => false,
-            Some(range) => !lies_inside(bytes_at(self.bytes, place), range),
+            Some(range) => !lies_inside(self.of(kind), range),
         }
     }
 }

@@ -22,26 +22,8 @@ pub struct ThorinRange {
 #[repr(C)]
 #[derive(Clone, Copy)]
 pub struct ThorinUnit {
-    /// In `.debug_info.dwo`.
-    pub info: ThorinRange,
-    /// In `.debug_types.dwo`.
-    pub types: ThorinRange,
-    /// In `.debug_abbrev.dwo`.
-    pub abbreviations: ThorinRange,
-    /// In `.debug_line.dwo`.
-    pub line: ThorinRange,
-    /// In `.debug_loc.dwo`.
-    pub loc: ThorinRange,
-    /// In `.debug_loclists.dwo`.
-    pub loclists: ThorinRange,
-    /// In `.debug_rnglists.dwo`.
-    pub rnglists: ThorinRange,
-    /// In `.debug_str_offsets.dwo`.
-    pub str_offsets: ThorinRange,
-    /// In `.debug_macinfo.dwo`.
-    pub macinfo: ThorinRange,
-    /// In `.debug_macro.dwo`.
-    pub macros: ThorinRange,
+    /// Its range in each section that it may have a part of, in the order of `CONTRIBUTION_KINDS`.
+    pub ranges: [ThorinRange; 10],
     /// Its row in the index of its kind, counted from 1.
     pub row: u32,
     /// How many slots of the index were looked at.
@@ -58,32 +40,8 @@ pub struct ThorinUnit {
 #[repr(C)]
 #[derive(Clone, Copy)]
 pub struct ThorinPackage {
-    /// `.debug_info.dwo`.
-    pub info: ThorinRange,
-    /// `.debug_types.dwo`.
-    pub types: ThorinRange,
-    /// `.debug_abbrev.dwo`.
-    pub abbreviations: ThorinRange,
-    /// `.debug_line.dwo`.
-    pub line: ThorinRange,
-    /// `.debug_loc.dwo`.
-    pub loc: ThorinRange,
-    /// `.debug_loclists.dwo`.
-    pub loclists: ThorinRange,
-    /// `.debug_rnglists.dwo`.
-    pub rnglists: ThorinRange,
-    /// `.debug_str_offsets.dwo`.
-    pub str_offsets: ThorinRange,
-    /// `.debug_macinfo.dwo`.
-    pub macinfo: ThorinRange,
-    /// `.debug_macro.dwo`.
-    pub macros: ThorinRange,
-    /// `.debug_str.dwo`.
-    pub strings: ThorinRange,
-    /// `.debug_cu_index`.
-    pub cu_index: ThorinRange,
-    /// `.debug_tu_index`.
-    pub tu_index: ThorinRange,
+    /// Each section, in the order of `SectionKind::ALL`.
+    pub sections: [ThorinRange; 13],
     /// 0 where numbers have their lowest byte first.
     pub big_endian: u64,
 }

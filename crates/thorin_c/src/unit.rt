@@ -5,6 +5,7 @@ ghost use Rattle.std.specs.Option.{option_copied};
 ghost use Rattle.dwp_base.specs.Reading.{Answers};
 ghost use Rattle.dwp_base.specs.declared.section.SectionKind.TheVariants as kinds;
 ghost use Rattle.dwp_dwarf.specs.declared.unit.UnitSection.{UnitSection};
+ghost use Rattle.dwp_index.specs.Contents.{content};
 ghost use Rattle.dwp_index.specs.Package.{row_bytes, kind_of, place_of, encoding_in};
 ghost use Rattle.dwp_index.specs.Strings.{entry_in, string_in};
 
@@ -50,7 +51,7 @@ impl<'p, 'a> Found<'p, 'a> {
     #[tactic(auto, unfolding(dwp_index::specs::Strings::string_in))]
     pub(crate) fn string(&self, i: u64) -> Result<Option<&'a [u8]>, ReadError>
         ensures { Answers option_copied result
-            (string_in self.now.order self.now.encoding self.now.contents.strings
+            (string_in self.now.order self.now.encoding (content self.now.contents kinds.Str)
             (row_bytes self.now.contents self.now.row kinds.StrOffsets) i) }
     {
         let range = self.section(SectionKind::StrOffsets);

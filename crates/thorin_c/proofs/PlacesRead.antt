@@ -1,0 +1,67 @@
+-- The places of sections that are read for each kind, one kind after another.
+use Rattle.std.proofs.Common.{◌≡◌, ℕ, List}
+use Rattle.std.specs.Prelude.{Some, Result, Ok, Err, IfOk, slice_get}
+use Rattle.std.proofs.lemmas.Option.{get_or_from_slice_get}
+use Rattle.dwp_base.specs.ByKind.{value_of}
+use Rattle.dwp_base.specs.Reading.{Answers}
+use Rattle.dwp_base.specs.Sections.{rank_of, all_kinds}
+use Rattle.dwp_base.specs.declared.section.SectionKind.{SectionKind}
+use Rattle.dwp_base.proofs.EveryKind.{value-of}
+use Rattle.dwp_base.proofs.KindsRead.{ReadBelow, read-all, answers-each}
+use Rattle.dwp_base.proofs.Steps.{each-read}
+use Rattle.dwp_elf_read.specs.Elf.{SectionMeaning}
+use Rattle.dwp_elf_read.specs.declared.fault.ReadError.{ReadError}
+use Rattle.dwp_index.specs.Contents.{content, content_among, contents_of}
+use Rattle.thorin_c.specs.Opening.{bytes_at, nowhere, IsPlaceIn, place_in, sections_at}
+use Rattle.thorin_c.specs.declared.types.ThorinPackage.{ThorinPackage}
+use Rattle.thorin_c.specs.declared.types.ThorinRange.{ThorinRange}
+
+-- what is read for a kind is the place of its section, inside the bytes
+abbrev pub IsPlaceOf : List SectionMeaning → List ℕ → SectionKind → Result ThorinRange ReadError
+    → Type 0
+IsPlaceOf sections bytes kind place =
+    Answers (bytes_at bytes) place (content_among sections kind) × IfOk place (IsPlaceIn bytes)
+
+-- what holds of what was read for each kind
+module _ (sections : List SectionMeaning) (bytes : List ℕ) (places : List ThorinRange)
+    (below : ReadBelow (IsPlaceOf sections bytes) places 13) where
+  place_is : (kind : SectionKind)
+      → (content_among sections kind ≡ Ok (bytes_at bytes (value_of nowhere places kind)))
+      × IsPlaceIn bytes (value_of nowhere places kind)
+  place_is kind =
+      let read = read-all {E = ReadError} (IsPlaceOf sections bytes) places below kind in
+      let same : value_of nowhere places kind ≡ read.0 =
+      get_or_from_slice_get places (rank_of kind) read.0 nowhere read.1 in
+      rw same read.2
+
+  pub contents_read : (order : ℕ) → contents_of sections
+      ≡ Ok (sections_at (record { sections = places; big_endian = order }) bytes)
+  unfolding contents_of sections_at
+  contents_read order = each-read (content_among sections) (λ kind. bytes_at bytes
+      (value_of nowhere places kind)) (λ kind. (place_is kind).0) all_kinds
+
+  pub inside_each : (kind : SectionKind) → IsPlaceIn bytes (value_of nowhere places kind)
+  inside_each kind = (place_is kind).1
+
+-- the first that can't be read is the answer
+pub contents_stop : (sections : List SectionMeaning) (bytes : List ℕ) (places : List ThorinRange)
+    (place : ℕ) (kind : SectionKind) (e : ReadError) → slice_get all_kinds place ≡ Some kind
+    → IsPlaceOf sections bytes kind (Err e) → ReadBelow (IsPlaceOf sections bytes) places place
+    → contents_of sections ≡ Err e
+unfolding contents_of
+contents_stop sections bytes places place kind e at fails below =
+    answers-each (bytes_at bytes) (content_among sections) (IsPlaceOf sections bytes)
+    (λ other r means. means.0) (Err e) (
+      place,
+      kind,
+      at,
+      fails,
+      λ before other lt there.
+          let read = below before other lt there in (read.0, read.2),
+    )
+
+-- the content of a kind stands at its place
+pub content_placed : (places : ThorinPackage) (bytes : List ℕ) (kind : SectionKind)
+    → content (sections_at places bytes) kind ≡ bytes_at bytes (place_in places kind)
+unfolding sections_at
+content_placed places bytes kind = value-of (λ k. bytes_at bytes (place_in places k)) _ kind
