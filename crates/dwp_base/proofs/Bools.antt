@@ -16,3 +16,8 @@ or-right false b e = e
 pub is-false : (b : Bool) → not b ≡ true → b ≡ false
 is-false true e = absurd cc
 is-false false e = refl
+
+-- by whether it is true
+pub by-bool : (P : Type 0) (b : Bool) → (b ≡ true → P) → (b ≡ false → P) → P
+by-bool P true left right = left refl
+by-bool P false left right = right refl

@@ -1,13 +1,13 @@
 -- What holds of each kind of section in the list of them holds of every kind.
-use Rattle.std.proofs.Common.{◌≡◌, ℕ, zero, suc, ◌+◌, eqb, Bool, true, false, ◌&&◌, not, List}
-use Rattle.std.proofs.Common.{[], ◌∷◌, map, get_or, refl, sym, ap, ◌∙◌, subst, arith}
+use Rattle.std.proofs.Common.{◌≡◌, ℕ, zero, suc, ◌+◌, eqb, Bool, true, false, ◌&&◌, not, List, []}
+use Rattle.std.proofs.Common.{◌∷◌, map, get_or, refl, sym, ap, ◌∙◌, subst, arith}
 use Rattle.std.specs.Prelude.{Some, slice_get}
 use Rattle.std.specs.List.{list_all}
 use Rattle.std.specs.Str.{bytes_eq}
 use Rattle.std.proofs.lemmas.Bool.{eqb-true}
 use Rattle.std.proofs.lemmas.Option.{same_Some}
-use Rattle.dwp_base.specs.Sections.{name_of, compressed_name_of, is_named, all_kinds}
-use Rattle.dwp_base.specs.Sections.{rank_of, same_kind}
+use Rattle.dwp_base.specs.Sections.{name_of, compressed_name_of, is_named, all_kinds, rank_of}
+use Rattle.dwp_base.specs.Sections.{same_kind, kind_named}
 use Rattle.dwp_base.specs.declared.section.SectionKind.{SectionKind}
 use Rattle.dwp_base.specs.declared.section.SectionKind.TheVariants as kinds
 use Rattle.dwp_base.proofs.Bools.{both, is-false}
@@ -104,7 +104,19 @@ pub value-of : {Y : Type 0} (f : SectionKind → Y) (default : Y) (kind : Sectio
     → get_or (map f all_kinds) (rank_of kind) default ≡ f kind
 value-of f default kind = value-at f all_kinds (rank_of kind) kind default (at-rank kind)
 
+-- what is the same for each of the kinds, as by `refl`, is the same for every kind
+pub same-each : {Y : Type 0} (f g : SectionKind → Y) → map f all_kinds ≡ map g all_kinds
+    → (kind : SectionKind) → f kind ≡ g kind
+same-each f g same kind =
+    sym (value-of f (f kind) kind)
+    ∙ ap (λ values. get_or values (rank_of kind) (f kind)) same
+    ∙ value-of g (f kind) kind
+
 -- ---- names
+
+-- a kind's name names it
+pub kind-named : (kind : SectionKind) → kind_named (name_of kind) ≡ Some kind
+kind-named = same-each (λ k. kind_named (name_of k)) Some refl
 
 -- a kind's name is its own, in the newer spelling alone
 pub named-itself : (kind : SectionKind) → is_named (name_of kind) kind ≡ true

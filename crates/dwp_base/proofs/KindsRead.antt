@@ -1,13 +1,11 @@
 -- Values that are read for each kind, one kind after another.
 use Rattle.std.proofs.Common.{◌≡◌, ℕ, zero, suc, ◌+◌, ◌<◌, List, [], ◌∷◌, map, length, refl, sym}
-use Rattle.std.proofs.Common.{ap, subst, ◌∙◌}
-use Rattle.std.proofs.Common.{◌⊎◌, inl, inr, Bool, true, false, eqb, arith}
+use Rattle.std.proofs.Common.{ap, subst, ◌∙◌, ◌⊎◌, inl, inr, Bool, true, false, eqb, arith}
 use Rattle.std.specs.Prelude.{Some, Result, Ok, Err, slice_get, slice_set}
 use Rattle.std.proofs.lemmas.Bool.{eqb-true, eqb-false}
-use Rattle.std.proofs.lemmas.List.{length-set, get_or-set_same, get_or-set_other}
+use Rattle.std.proofs.lemmas.List.{length-set, get_or-set_same, get_or-set_other, length-map}
 use Rattle.std.proofs.lemmas.Option.{same_Some, slice_get_within, slice_get-get_or}
 use Rattle.std.proofs.lemmas.Option.{get_or_from_slice_get}
-use Rattle.std.proofs.lemmas.List.{length-map}
 use Rattle.dwp_base.specs.ByKind.{values_of, value_of, ReadsEach}
 use Rattle.dwp_base.specs.Reading.{Answers, read_each}
 use Rattle.dwp_base.specs.Sections.{rank_of, all_kinds}

@@ -1,4 +1,5 @@
 pub mod EveryKind
 pub mod Bools
 pub mod Steps
+pub mod Finds
 pub mod KindsRead

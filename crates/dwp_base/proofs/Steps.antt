@@ -1,7 +1,7 @@
 -- Steps that read: what one that answered says of those before it, and what is read for each of a
 -- list.
-use Rattle.std.proofs.Common.{◌≡◌, ℕ, zero, suc, List, [], ◌∷◌, ◌++◌, map}
-use Rattle.std.proofs.Common.{refl, sym, ap, ◌∙◌}
+use Rattle.std.proofs.Common.{◌≡◌, ℕ, zero, suc, Bool, true, false, cond, List, [], ◌∷◌, map, refl}
+use Rattle.std.proofs.Common.{sym, ap, ◌∙◌, ◌⊎◌, inl, inr}
 use Rattle.std.specs.Prelude.{Some, Result, Ok, Err, slice_get}
 use Rattle.dwp_base.specs.Reading.{◌>>=◌, read_each}
 
@@ -10,9 +10,9 @@ pub bind-ok : {A B E : Type 0} (r : Result A E) (x : A) (f : A → Result B E) �
     → (r >>= f) ≡ f x
 bind-ok r x f e = ap (λ s. s >>= f) e
 
-pub bind-err : {A B E : Type 0} (r : Result A E) (fault : E) (f : A → Result B E) → r ≡ Err fault
-    → (r >>= f) ≡ Err fault
-bind-err r fault f e = ap (λ s. s >>= f) e
+pub bind-err : {A B E : Type 0} (r : Result A E) (error : E) (f : A → Result B E) → r ≡ Err error
+    → (r >>= f) ≡ Err error
+bind-err r error f e = ap (λ s. s >>= f) e
 
 -- the value of a step, where what follows it answered
 pub bind-was : {A B E : Type 0} (r : Result A E) (f : A → Result B E) (y : B) → (r >>= f) ≡ Ok y
@@ -22,6 +22,24 @@ bind-was (Err d) f y e = absurd cc
 
 pub same-ok : {A E : Type 0} (x y : A) → ◌≡◌ {A = Result A E} (Ok x) (Ok y) → x ≡ y
 same-ok x y e = cc
+
+-- a test that is to fail
+pub guard-ok : {A E : Type 0} (b : Bool) (d : E) (x y : A) → cond b (Err d) (Ok x) ≡ Ok y
+    → (b ≡ false) × (x ≡ y)
+guard-ok true d x y e = absurd cc
+guard-ok false d x y e = (refl, cc)
+
+-- which of two was chosen
+pub chosen : {A : Type 0} (b : Bool) (x y z : A) → cond b x y ≡ z
+    → ((b ≡ true) × (x ≡ z)) ⊎ ((b ≡ false) × (y ≡ z))
+chosen true x y z e = inl (refl, e)
+chosen false x y z e = inr (refl, e)
+
+-- what follows from either
+pub by-choice : {A : Type 0} (P : Type 0) (b : Bool) (x y z : A) → cond b x y ≡ z → (x ≡ z → P)
+    → (y ≡ z → P) → P
+by-choice P true x y z h left right = left h
+by-choice P false x y z h left right = right h
 
 -- what is read for each, where each is read
 pub each-read : {X Y E : Type 0} (f : X → Result Y E) (g : X → Y) → ((x : X) → f x ≡ Ok (g x))
@@ -44,25 +62,3 @@ read-at f (x' ∷ xs) ys e (suc i) x at =
     let rest = bind-was (read_each f xs) _ ys first.2 in
     let later = read-at f xs rest.0 rest.1 i x at in
     (later.0, later.1, ap (λ l. slice_get l (suc i)) (sym (same-ok _ _ rest.2)) ∙ later.2)
-
--- what is read for the first of some and then for the others
-pub read-append : {X Y E : Type 0} (f : X → Result Y E) (xs zs : List X) (ys : List Y)
-    → read_each f xs ≡ Ok ys
-    → read_each f (xs ++ zs) ≡ (read_each f zs >>= λ more. Ok (ys ++ more))
-read-append f [] zs ys e = nothing (read_each f zs) ys (same-ok _ _ e)
-  where
-    nothing : {Y E : Type 0} (r : Result (List Y) E) (ys : List Y) → ◌≡◌ {A = List Y} [] ys
-        → r ≡ (r >>= λ more. Ok (ys ++ more))
-    nothing (Ok more) ys e = ap (λ l. Ok (l ++ more)) e
-    nothing (Err d) ys e = refl
-read-append f (x ∷ xs) zs ys e =
-    let first = bind-was (f x) _ ys e in
-    let rest = bind-was (read_each f xs) _ ys first.2 in
-    rw (first.1, read-append f xs zs rest.0 rest.1) (put (read_each f zs) first.0 rest.0 ys
-    (same-ok _ _ rest.2))
-  where
-    put : {Y E : Type 0} (r : Result (List Y) E) (y : Y) (front ys : List Y) → y ∷ front ≡ ys
-        → ((r >>= λ more. Ok (front ++ more)) >>= λ later. Ok (y ∷ later))
-        ≡ (r >>= λ more. Ok (ys ++ more))
-    put (Ok more) y front ys e = ap (λ l. Ok (l ++ more)) e
-    put (Err d) y front ys e = refl

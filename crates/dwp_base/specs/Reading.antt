@@ -1,8 +1,8 @@
--- Reading from left to right: the first fault that is met is the answer.
+-- Reading from left to right: the first error that is met is the answer.
 use Rattle.std.specs.Prelude.{◌≡◌, List, [], ◌∷◌, Result, Ok, Err}
 
 infixl 10 ◌>>=◌
--- what comes next, unless there was a fault
+-- what comes next, unless there was an error
 abbrev pub ◌>>=◌ : {A B E : Type 0} → Result A E → (A → Result B E) → Result B E
 (Ok x) >>= f = f x
 (Err e) >>= f = Err e

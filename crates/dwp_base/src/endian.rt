@@ -1,6 +1,6 @@
 //! Byte orders, and the numbers that they write (ELF gABI, "Data Encoding").
 
-ghost use Rattle.std.specs.Prelude.{◌≡◌, ◌≤◌, ◌++◌, length, OnOk, OnErr};
+ghost use Rattle.std.specs.Prelude.{◌≡◌, ◌≤◌, length};
 ghost use Rattle.dwp_base.specs.Numbers.{number, number_bytes};
 
 use byteorder::{BigEndian, ByteOrder, LittleEndian};

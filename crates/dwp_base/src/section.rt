@@ -1,9 +1,8 @@
 //! The kinds of sections of split DWARF, and contributions to them (DWARF 5, 7.3.5).
 
 ghost use Rattle.std.specs.Prelude.{◌≡◌};
-ghost use Rattle.dwp_base.specs.Sections.{name_of, compressed_name_of, is_named, all_kinds};
-ghost use Rattle.dwp_base.specs.Sections.{kind_named, rank_of, same_kind};
-ghost use Rattle.dwp_base.specs.Sections.{short_name, kind_of_short_name};
+ghost use Rattle.dwp_base.specs.Sections.{name_of, compressed_name_of, is_named, kind_named};
+ghost use Rattle.dwp_base.specs.Sections.{rank_of, same_kind, short_name, kind_of_short_name};
 
 use std::fmt::{Debug, Formatter, Write};
 

@@ -1,16 +1,11 @@
 -- Sections taken one after the other, from the last.
-use Rattle.std.proofs.Common.{◌≡◌, ℕ, zero, suc, ◌+◌, ◌<◌, ◌≤◌, Bool, false, ◌||◌, ◌&&◌, List}
-use Rattle.std.proofs.Common.{[], ◌∷◌, length, drop, Some, None, sym, ap, ◌∙◌, arith}
+use Rattle.std.proofs.Common.{◌≡◌, ℕ, zero, suc, ◌+◌, ◌≤◌, Bool, false, ◌||◌, ◌&&◌, List, [], ◌∷◌}
+use Rattle.std.proofs.Common.{length, drop, Some, sym, ap, ◌∙◌, arith}
 use Rattle.std.specs.Prelude.{slice_get, if◌then◌else◌}
 use Rattle.std.specs.List.{list_any}
 use Rattle.std.proofs.lemmas.List.{drop_all}
 use Rattle.dwp_elf_read.specs.Elf.{SectionMeaning}
 use Rattle.dwp_macros.specs.Last.{has_macros, emptied, kept_section, kept_sections, has_several}
-
-pub slice_get_none : {X : Type 0} (xs : List X) (i : ℕ) → i < length xs → slice_get xs i ≡ None → ⊥
-slice_get_none [] i h e = omega arith
-slice_get_none (x ∷ xs) zero h e = cc
-slice_get_none (x ∷ xs) (suc i) h e = slice_get_none xs i (omega arith) e
 
 at_suc : {X : Type 0} (xs : List X) (i : ℕ) (x : X) → slice_get xs i ≡ Some x
     → drop i xs ≡ x ∷ drop (suc i) xs

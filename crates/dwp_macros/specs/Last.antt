@@ -1,13 +1,13 @@
 -- An object in which of the sections of macros only the last counts. A compiler that puts macros
 -- into COMDAT groups (ELF gABI, "Section Groups") leaves several of one name in an object; GNU's
 -- `dwp` and LLVM's `llvm-dwp` have a unit refer to the last of them.
-use Rattle.std.specs.Prelude.{ℕ, List, [], ◌∷◌, Bool, false, ◌&&◌, ◌||◌, ◌==◌, not}
-use Rattle.std.specs.Prelude.{if◌then◌else◌, Option, Some, None, Result, Ok, Err}
+use Rattle.std.specs.Prelude.{ℕ, List, [], ◌∷◌, Bool, false, ◌&&◌, ◌||◌, ◌==◌, not, if◌then◌else◌}
+use Rattle.std.specs.Prelude.{Option, Some, None, Result, Ok, Err}
 use Rattle.std.specs.List.{list_any}
 use Rattle.dwp_base.specs.declared.section.SectionKind.{SectionKind}
 use Rattle.dwp_base.specs.declared.section.SectionKind.TheVariants.{Macro, CuIndex, TuIndex}
 use Rattle.dwp_base.specs.Sections.{name_of, compressed_name_of}
-use Rattle.dwp_elf_read.specs.declared.fault.ReadError.{ReadError}
+use Rattle.dwp_elf_read.specs.declared.error.ReadError.{ReadError}
 use Rattle.dwp_elf_read.specs.Elf.{Elf, SectionMeaning, SHT_NOBITS, is_named, elf_of}
 
 -- a section has bytes, and one of the names of a kind

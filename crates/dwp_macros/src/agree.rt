@@ -6,7 +6,7 @@ ghost use Rattle.dwp_elf_read.specs.View.{elf};
 ghost use Rattle.dwp_macros.specs.Agreement.{with_own};
 ghost use Rattle.dwp_macros.specs.Last.{has_macros, emptied, kept_sections, kept_file};
 
-use crate::sections::{either, has_macros};
+use crate::sections::has_macros;
 use dwp_base::{Class, Endianness};
 use dwp_elf_read::{ElfFile, Section};
 
@@ -174,7 +174,7 @@ fn sections_agree(old: &ElfFile<'_>, new: &ElfFile<'_>) -> bool
         if !is_kept(&before, &after, has_more) {
             return false;
         }
-        has_more = either(has_macros(&before), has_more);
+        has_more = has_macros(&before) | has_more;
     }
     true
 }

@@ -7,7 +7,7 @@ ghost use Rattle.dwp_macros.specs.Last.{kept_file, last_macros_of};
 
 use crate::agree::agrees;
 use crate::change::empty_all_but_last;
-use crate::fault::MacrosError;
+use crate::error::MacrosError;
 use crate::sections::is_changed;
 use dwp_elf_read::ElfFile;
 use std::alloc::Global;

@@ -3,9 +3,9 @@
 
 mod agree;
 mod change;
-mod fault;
+mod error;
 mod last;
 mod sections;
 
-pub use fault::MacrosError;
+pub use error::MacrosError;
 pub use last::{has_several_macros, with_last_macros};

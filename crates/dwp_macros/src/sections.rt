@@ -31,20 +31,6 @@ fn is_index(section: &Section<'_>) -> bool
     holds(SectionKind::CuIndex, section) || holds(SectionKind::TuIndex, section)
 }
 
-/// Either of two.
-pub fn either(a: bool, b: bool) -> bool
-    ensures { result ≡ (a || b) }
-{
-    a || b
-}
-
-/// Both of two.
-fn both(a: bool, b: bool) -> bool
-    ensures { result ≡ (a && b) }
-{
-    a && b
-}
-
 /// Whether several sections of an object have macros; of a package that isn't asked.
 #[tactic(auto, unfolding(crate::specs::Last::is_changed))]
 pub fn is_changed(file: &ElfFile<'_>) -> bool
@@ -59,9 +45,9 @@ pub fn is_changed(file: &ElfFile<'_>) -> bool
         let Some(section) = file.section(left) else {
             return false;
         };
-        several = either(several, both(has_macros(&section), has_more));
-        has_more = either(has_macros(&section), has_more);
-        indexed = either(is_index(&section), indexed);
+        several |= has_macros(&section) & has_more;
+        has_more = has_macros(&section) | has_more;
+        indexed = is_index(&section) | indexed;
     }
     several && !indexed
 }

@@ -32,8 +32,8 @@ loop-left-preserved c =
     ∙ ap (option_map section) c.in-Some-section.is in
     record {
       inside = omega arith;
-      more = c.either-has_more.ensures ∙ any_step has_macros xs i j x c.has_macros.result
-          c.loop-left.has_more next at c.has_macros.ensures c.loop-left.invariant.more;
+      more = any_step has_macros xs i j x c.has_macros-has_more.result
+          c.loop-left.has_more next at c.has_macros-has_more.ensures c.loop-left.invariant.more;
       agree = kept_step xs i j x c.loop-left.has_more next at c.loop-left.invariant.more ys y is
           (c.is_kept.ensures c.if-not-is_kept.false) c.loop-left.invariant.agree;
     }

@@ -1,9 +1,10 @@
-use Rattle.std.proofs.Common.{◌≡◌, ◌+◌, ◌-◌, ◌<◌, ◌≤◌, ◌||◌, Bool, length, sym, ap, ◌∙◌, arith}
+use Rattle.std.proofs.Common.{◌≡◌, ◌+◌, ◌-◌, ◌<◌, ◌≤◌, length, sym, ap, ◌∙◌, arith}
 use Rattle.std.specs.Prelude.{option_map}
 use Rattle.dwp_elf_read.specs.View.{elf, section}
 use Rattle.dwp_macros.specs.Last.{has_macros, is_index}
-use Rattle.dwp_macros.proofs.Walks.{any_step, any_end, several_step, several_end, slice_get_none}
+use Rattle.dwp_macros.proofs.Walks.{any_step, any_end, several_step, several_end}
 use Rattle.dwp_macros.proofs.sections.is_changed.Goals as goal
+use Rattle.dwp_base.proofs.Finds.{slice_get_none}
 
 pub loop-left-init : goal.loop-left-init
 loop-left-init c =
@@ -35,13 +36,11 @@ loop-left-preserved c =
     let more = c.loop-left.invariant.more in
     record {
       inside = omega arith;
-      more = c.either-has_more.ensures ∙ any_step has_macros xs i j x
-          c.has_macros-in-loop-left.result c.loop-left.has_more next at
-          c.has_macros-in-loop-left.ensures more;
-      several = c.either-several.ensures
-          ∙ ap (λ (a : Bool). c.loop-left.several || a) c.both.ensures
-          ∙ several_step xs i j x c.loop-left.has_more next at more c.loop-left.several
+      more = any_step has_macros xs i j x
+          c.has_macros-has_more.result c.loop-left.has_more next at
+          c.has_macros-has_more.ensures more;
+      several = several_step xs i j x c.loop-left.has_more next at more c.loop-left.several
           c.has_macros.result c.loop-left.invariant.several c.has_macros.ensures;
-      indexed = c.either-indexed.ensures ∙ any_step is_index xs i j x c.is_index.result
-          c.loop-left.indexed next at c.is_index.ensures c.loop-left.invariant.indexed;
+      indexed = any_step is_index xs i j x c.is_index-indexed.result
+          c.loop-left.indexed next at c.is_index-indexed.ensures c.loop-left.invariant.indexed;
     }

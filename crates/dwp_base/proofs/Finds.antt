@@ -1,0 +1,35 @@
+-- The first item of a list that passes a test, looked for one after the other.
+use Rattle.std.proofs.Common.{◌≡◌, ℕ, zero, suc, ◌+◌, ◌<◌, ◌≤◌, Bool, true, false, cond, List, []}
+use Rattle.std.proofs.Common.{◌∷◌, length, drop, Some, None, sym, ap, ◌∙◌, arith}
+use Rattle.std.specs.Prelude.{slice_get}
+use Rattle.std.specs.List.{find}
+use Rattle.std.proofs.lemmas.List.{drop_all}
+
+pub find_at : {X : Type 0} (p : X → Bool) (xs : List X) (i : ℕ) (x : X) → slice_get xs i ≡ Some x
+    → find p (drop i xs) ≡ cond (p x) (Some x) (find p (drop (i + 1) xs))
+find_at p xs i x e = let one : i + 1 ≡ suc i = omega arith in at_suc p xs i x e ∙ ap (λ n.
+    cond (p x) (Some x) (find p (drop n xs))) (sym one)
+  where
+    at_suc : {X : Type 0} (p : X → Bool) (xs : List X) (i : ℕ) (x : X) → slice_get xs i ≡ Some x
+        → find p (drop i xs) ≡ cond (p x) (Some x) (find p (drop (suc i) xs))
+    at_suc p [] i x e = absurd cc
+    at_suc p (y ∷ ys) zero x e = let same : y ≡ x = cc in
+        ap (λ z. cond (p z) (Some z) (find p ys)) same
+    at_suc p (y ∷ ys) (suc i) x e = at_suc p ys i x e
+
+pub find_hit : {X : Type 0} (p : X → Bool) (xs : List X) (i : ℕ) (x : X) → slice_get xs i ≡ Some x
+    → p x ≡ true → find p (drop i xs) ≡ Some x
+find_hit p xs i x e h = find_at p xs i x e ∙ ap (λ b. cond b (Some x) (find p (drop (i + 1) xs))) h
+
+pub find_miss : {X : Type 0} (p : X → Bool) (xs : List X) (i : ℕ) (x : X) → slice_get xs i ≡ Some x
+    → p x ≡ false → find p (drop i xs) ≡ find p (drop (i + 1) xs)
+find_miss p xs i x e h = find_at p xs i x e ∙ ap (λ b. cond b (Some x) (find p (drop (i + 1) xs))) h
+
+pub slice_get_none : {X : Type 0} (xs : List X) (i : ℕ) → i < length xs → slice_get xs i ≡ None → ⊥
+slice_get_none [] i h e = omega arith
+slice_get_none (x ∷ xs) zero h e = cc
+slice_get_none (x ∷ xs) (suc i) h e = slice_get_none xs i (omega arith) e
+
+pub find_end : {X : Type 0} (p : X → Bool) (xs : List X) (i : ℕ) → length xs ≤ i
+    → find p (drop i xs) ≡ None
+find_end p xs i h = ap (find p) (drop_all i xs h)
