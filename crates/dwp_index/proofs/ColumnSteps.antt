@@ -8,9 +8,9 @@ use Rattle.std.proofs.lemmas.List.{drop-drop}
 use Rattle.dwp_base.specs.declared.endian.Endianness.{Endianness}
 use Rattle.dwp_base.specs.Numbers.{number}
 use Rattle.dwp_base.specs.Reading.{◌>>=◌}
-use Rattle.dwp_bytes.specs.declared.fault.ReadError.{ReadError}
-use Rattle.dwp_bytes.specs.declared.fault.ReadError.TheVariants.{UnexpectedEof, UnknownColumn}
-use Rattle.dwp_bytes.specs.declared.fault.ReadError.TheVariants.{RepeatedColumn}
+use Rattle.dwp_bytes.specs.declared.error.ReadError.{ReadError}
+use Rattle.dwp_bytes.specs.declared.error.ReadError.TheVariants.{UnexpectedEof, UnknownColumn}
+use Rattle.dwp_bytes.specs.declared.error.ReadError.TheVariants.{RepeatedColumn}
 use Rattle.dwp_table.specs.Columns.{kind_of_column}
 use Rattle.dwp_index.specs.IndexBytes.{numbers, after, new_column, columns_at}
 use Rattle.dwp_index.proofs.NumberLists.{numbers_more}
@@ -27,7 +27,7 @@ step order version before count i rest h = let more : count - i ≡ suc (count -
 after_short : (n : ℕ) (bytes : List ℕ) → length bytes < n → after n bytes ≡ Err UnexpectedEof
 after_short n bytes h = ap (λ b. cond b (Err UnexpectedEof) (Ok (drop n bytes))) (lt-ltb _ _ h)
 
-after_enough : (n : ℕ) (bytes : List ℕ) → n ≤ length bytes → after n bytes ≡ Ok (drop n bytes)
+pub after_enough : (n : ℕ) (bytes : List ℕ) → n ≤ length bytes → after n bytes ≡ Ok (drop n bytes)
 after_enough n bytes h = ap (λ b. cond b (Err UnexpectedEof) (Ok (drop n bytes))) (le-ltb _ _ h)
 
 abbrev Next : Endianness → ℕ → List ℕ → ℕ → ℕ → List ℕ → Result (List ℕ) ReadError

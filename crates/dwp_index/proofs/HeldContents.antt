@@ -6,8 +6,7 @@ use Rattle.std.specs.List.{find}
 use Rattle.std.specs.Option.{ok_or}
 use Rattle.std.proofs.lemmas.Bool.{ne_eqb}
 use Rattle.dwp_base.specs.Reading.{◌>>=◌}
-use Rattle.dwp_base.specs.Sections.{name_of, is_named, kind_named, all_kinds}
-use Rattle.dwp_base.specs.Sections.{same_kind, rank_of}
+use Rattle.dwp_base.specs.Sections.{name_of, is_named, kind_named, all_kinds, same_kind, rank_of}
 use Rattle.dwp_base.specs.declared.section.SectionKind.{SectionKind}
 use Rattle.dwp_base.specs.declared.section.SectionKind.TheVariants.{CuIndex, TuIndex}
 use Rattle.dwp_base.proofs.Bools.{is-false}
@@ -15,15 +14,15 @@ use Rattle.dwp_base.proofs.EveryKind.{every-two, at-rank, is-same, named-itself,
 use Rattle.dwp_base.proofs.EveryKind.{value-of}
 use Rattle.dwp_base.proofs.Steps.{each-read}
 use Rattle.dwp_elf_read.specs.Elf.{Elf, SectionMeaning, SHT_NOBITS, elf_of}
-use Rattle.dwp_elf_read.specs.declared.fault.ReadError.TheVariants.{SectionRange, Compressed}
-use Rattle.dwp_index.specs.declared.fault.PackageError.TheVariants as faults
+use Rattle.dwp_elf_read.specs.declared.error.ReadError.TheVariants.{SectionRange, Compressed}
+use Rattle.dwp_index.specs.declared.error.PackageError.TheVariants as errors
 use Rattle.dwp_index.specs.Contents.{content, has_name, is_of_kind, has_older_name, used_bytes}
 use Rattle.dwp_index.specs.Contents.{bytes_of, content_among, contents_of}
 use Rattle.dwp_base.specs.declared.endian.Endianness.{Endianness}
-use Rattle.dwp_bytes.specs.declared.fault.ReadError.{ReadError as UnitFault}
+use Rattle.dwp_bytes.specs.declared.error.ReadError.{ReadError as UnitError}
 use Rattle.dwp_index.specs.Index.{Index}
 use Rattle.dwp_index.specs.IndexBytes.{index_of}
-use Rattle.dwp_index.specs.Package.{as_fault, index_in_section, package_of}
+use Rattle.dwp_index.specs.Package.{as_error, index_in_section, package_of}
 use Rattle.dwp_index.specs.Holding.{Holds, HasContent, HoldsInOrder, held_of, sections_of}
 
 -- ---- names
@@ -36,7 +35,7 @@ other_name a b e = is-false (is_named (name_of a) b)
     (subst (λ c. (c || not (is_named (name_of a) b)) ≡ true) e (every-two apart refl a b))
 
 -- ---- which sections are of a kind
-not_both : (a : Bool) → (a && false) ≡ false
+pub not_both : (a : Bool) → (a && false) ≡ false
 not_both true = refl
 not_both false = refl
 
@@ -60,7 +59,7 @@ found-step p y ys x false zero go e none at = let same : y ≡ x = cc in ap p (s
 found-step p y ys x false (suc k) go e none at =
     go k (sym (ap (λ b. cond b (Some y) (find p ys)) e) ∙ none) at
 
-found-none : {X : Type 0} (p : X → Bool) (xs : List X) (i : ℕ) (x : X) → find p xs ≡ None
+pub found-none : {X : Type 0} (p : X → Bool) (xs : List X) (i : ℕ) (x : X) → find p xs ≡ None
     → slice_get xs i ≡ Some x → p x ≡ false
 found-none p [] i x none at = absurd cc
 found-none p (y ∷ ys) i x none at = found-step p y ys x (p y) i (λ j n a.
@@ -155,15 +154,15 @@ pub index_there : (order : Endianness) (bytes : List ℕ) (index : Index) → 0 
     → index_of order bytes ≡ Ok index → index_in_section order bytes ≡ Ok (Some index)
 unfolding index_in_section
 index_there order bytes index some e =
-    ap (λ b. cond b (Ok None) (as_fault faults.Index (index_of order bytes) >>= λ i. Ok (Some i)))
+    ap (λ b. cond b (Ok None) (as_error errors.Index (index_of order bytes) >>= λ i. Ok (Some i)))
     (ne_eqb (length bytes) 0 (λ z. omega arith))
-    ∙ ap (λ (r : Result Index UnitFault). as_fault faults.Index r >>= λ i. Ok (Some i)) e
+    ∙ ap (λ (r : Result Index UnitError). as_error errors.Index r >>= λ i. Ok (Some i)) e
 
 pub index_missing : (order : Endianness) (bytes : List ℕ) → bytes ≡ []
     → index_in_section order bytes ≡ Ok None
 unfolding index_in_section
 index_missing order bytes e =
-    ap (λ b. cond (eqb (length b) 0) (Ok None) (as_fault faults.Index (index_of order b) >>=
+    ap (λ b. cond (eqb (length b) 0) (Ok None) (as_error errors.Index (index_of order b) >>=
     λ i. Ok (Some i))) e
 
 pub held_content : (held : SectionKind → List ℕ) (kind : SectionKind) → content (sections_of held)

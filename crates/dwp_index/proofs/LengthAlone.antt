@@ -11,11 +11,11 @@ use Rattle.dwp_base.specs.declared.endian.Endianness.TheVariants.{Little, Big}
 use Rattle.dwp_bytes.specs.Input.{Input, split_at, number_at}
 use Rattle.dwp_bytes.specs.declared.encoding.Format.{Format}
 use Rattle.dwp_bytes.specs.declared.encoding.Format.TheVariants.{Dwarf32, Dwarf64}
-use Rattle.dwp_bytes.specs.declared.fault.ReadError.{ReadError}
-use Rattle.dwp_bytes.specs.declared.fault.ReadError.TheVariants.{UnexpectedEof, ReservedLength}
+use Rattle.dwp_bytes.specs.declared.error.ReadError.{ReadError}
+use Rattle.dwp_bytes.specs.declared.error.ReadError.TheVariants.{UnexpectedEof, ReservedLength}
 use Rattle.dwp_dwarf.specs.Units.{initial_length_at}
-use Rattle.dwp_index.proofs.Steps.{bind_ok, guard_ok, chosen}
 use Rattle.dwp_index.proofs.TwoPlaces.{plain}
+use Rattle.dwp_base.proofs.Steps.{bind-was, guard-ok, chosen}
 
 -- ---- a number at the front of a beginning
 abbrev Reads : Endianness → ℕ → ℕ → List ℕ → Type 0
@@ -100,14 +100,14 @@ number_inverse : (order : Endianness) (n p : ℕ) (bytes : List ℕ) (y : ℕ ×
     → number_at n (plain order p bytes) ≡ Ok y → (n ≤ length bytes)
     × ((number order n bytes, plain order (p + n) (drop n bytes)) ≡ y)
 unfolding number_at
-number_inverse order n p bytes y e = let g = guard_ok (ltb (length bytes) n) UnexpectedEof
+number_inverse order n p bytes y e = let g = guard-ok (ltb (length bytes) n) UnexpectedEof
     (number order n bytes, plain order (p + n) (drop n bytes)) y e in (ltb-false _ _ g.0, g.1)
 
 pub split_inverse : (order : Endianness) (n p : ℕ) (bytes : List ℕ) (y : Input × Input)
     → split_at n (plain order p bytes) ≡ Ok y → (n ≤ length bytes)
     × ((plain order p (take n bytes), plain order (p + n) (drop n bytes)) ≡ y)
 unfolding split_at
-split_inverse order n p bytes y e = let g = guard_ok (ltb (length bytes) n) UnexpectedEof
+split_inverse order n p bytes y e = let g = guard-ok (ltb (length bytes) n) UnexpectedEof
     (plain order p (take n bytes), plain order (p + n) (drop n bytes)) y e in
     (ltb-false _ _ g.0, g.1)
 
@@ -182,7 +182,7 @@ module _ (order : Endianness) (p : ℕ) (bytes : List ℕ) (x : (Format × ℕ) 
       → eqb (number order 4 bytes) 0xffffffff ≡ true → wide (plain order (p + 4) (drop 4 bytes)) ≡
       Ok x → IsLength order p bytes x
   wide_length fits narrow long e =
-      let m = bind_ok (number_at 8 (plain order (p + 4) (drop 4 bytes))) (λ m.
+      let m = bind-was (number_at 8 (plain order (p + 4) (drop 4 bytes))) (λ m.
       Ok ((Dwarf64, m.0), m.1)) x e in
       let inverse = number_inverse order 8 (p + 4) (drop 4 bytes) m.0 m.1 in
       let given : ((Dwarf64, m.0.0), m.0.1) ≡ x = cc in
@@ -209,7 +209,7 @@ module _ (order : Endianness) (p : ℕ) (bytes : List ℕ) (x : (Format × ℕ) 
 
   pub length_is : initial_length_at (plain order p bytes) ≡ Ok x → IsLength order p bytes x
   length_is e =
-      let n = bind_ok (number_at 4 (plain order p bytes)) (λ n. after_four n.0 n.1) x
+      let n = bind-was (number_at 4 (plain order p bytes)) (λ n. after_four n.0 n.1) x
       (sym (by_four (plain order p bytes)) ∙ e) in
       let inverse = number_inverse order 4 p bytes n.0 n.1 in
       let rest = plain order (p + 4) (drop 4 bytes) in

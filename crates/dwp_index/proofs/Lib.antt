@@ -3,15 +3,13 @@ pub mod LookUp
 pub mod NumberLists
 pub mod Views
 pub mod UsedSlots
-pub mod FirstSection
 pub mod FirstUnit
 pub mod PackageLookUp
 pub mod RowsOfUnits
-pub mod Steps
 pub mod TwoPlaces
 pub mod LengthAlone
 pub mod UnitAlone
 pub mod UsedOnce
 pub mod HeldContents
-mod Called
 mod PlacesHeld
+pub mod Called

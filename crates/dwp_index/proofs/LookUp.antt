@@ -6,6 +6,7 @@ use Rattle.std.specs.List.{find, range_with_len}
 use Rattle.std.specs.Option.{option_map_or, option_and_then}
 use Rattle.std.proofs.lemmas.Bool.{ne_eqb}
 use Rattle.dwp_table.specs.Probing.{place, is_end, first_end, found_row, look_count, row_of}
+use Rattle.dwp_base.proofs.Bools.{or-right}
 
 -- from the i-th place on it ends at the first that ends it
 abbrev pub end_from : List ℕ → List ℕ → ℕ → ℕ → Option ℕ
@@ -59,13 +60,9 @@ pub unused_ends : (signatures rows : List ℕ) (x k : ℕ) → get_or rows k 0 �
     → is_end signatures rows x k ≡ true
 unused_ends signatures rows x k e = ap (λ r. eqb r 0 || eqb (get_or signatures k 0) x) e
 
-either : (a b : Bool) → b ≡ true → (a || b) ≡ true
-either true b e = refl
-either false b e = e
-
 pub found_ends : (signatures rows : List ℕ) (x k : ℕ) → get_or signatures k 0 ≡ x
     → is_end signatures rows x k ≡ true
-found_ends signatures rows x k e = either (eqb (get_or rows k 0) 0) (eqb (get_or signatures k 0)
+found_ends signatures rows x k e = or-right (eqb (get_or rows k 0) 0) (eqb (get_or signatures k 0)
     x) (eq-eqb _ _ e)
 
 pub other_goes_on : (signatures rows : List ℕ) (x k : ℕ) → (get_or rows k 0 ≡ 0 → ⊥)

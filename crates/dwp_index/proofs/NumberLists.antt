@@ -2,7 +2,7 @@
 use Rattle.std.proofs.Common.{◌≡◌, ℕ, zero, suc, ◌+◌, ◌-◌, ◌*◌, ◌<◌, Bool, true, false, cond, eqb}
 use Rattle.std.proofs.Common.{◌||◌, List, [], ◌∷◌, ◌++◌, length, get_or, drop, refl, sym, ap, ◌∙◌}
 use Rattle.std.proofs.Common.{eq-eqb, arith}
-use Rattle.std.specs.Prelude.{Option, Some, None, is_some, is_none, not}
+use Rattle.std.specs.Prelude.{Some, is_some}
 use Rattle.std.specs.List.{position_from, list_any}
 use Rattle.std.proofs.lemmas.Bool.{ne_eqb}
 use Rattle.std.proofs.lemmas.List.{drop-drop}
@@ -105,10 +105,3 @@ pub is_some-position : (test : ℕ → Bool) (i : ℕ) (xs : List ℕ) → is_so
     list_any test xs
 is_some-position test i [] = refl
 is_some-position test i (x ∷ xs) = some_by test i xs (test x) (is_some-position test (i + 1) xs)
-
--- what `is_none` says
-pub none_by : {X : Type 0} (o : Option X) (b : Bool) → is_some o ≡ not b → is_none o ≡ b
-none_by None true e = refl
-none_by None false e = sym e
-none_by (Some x) true e = sym e
-none_by (Some x) false e = refl

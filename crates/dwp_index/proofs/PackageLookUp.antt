@@ -10,17 +10,17 @@ use Rattle.dwp_base.specs.Reading.{◌>>=◌, Answers}
 use Rattle.dwp_base.specs.declared.section.SectionKind.{SectionKind}
 use Rattle.dwp_base.specs.declared.section.Contribution.{Contribution}
 use Rattle.dwp_bytes.specs.declared.encoding.Encoding.{Encoding}
-use Rattle.dwp_bytes.specs.declared.fault.ReadError.{ReadError}
+use Rattle.dwp_bytes.specs.declared.error.ReadError.{ReadError}
 use Rattle.dwp_table.specs.Columns.{contribution_kinds}
 use Rattle.dwp_table.specs.Objects.{identifier_of}
 use Rattle.dwp_table.specs.Probing.{found_row, look_count}
 use Rattle.dwp_table.specs.Table.{IsIndex, FindsExactly}
 use Rattle.dwp_table.specs.declared.object.DwarfObject.{DwarfObject}
-use Rattle.dwp_index.specs.declared.fault.PackageError.{PackageError}
-use Rattle.dwp_index.specs.declared.fault.PackageError.TheVariants as faults
+use Rattle.dwp_index.specs.declared.error.PackageError.{PackageError}
+use Rattle.dwp_index.specs.declared.error.PackageError.TheVariants as errors
 use Rattle.dwp_index.specs.Contents.{Sections, content}
 use Rattle.dwp_index.specs.Index.{Index, Ranges, row_in, range_in}
-use Rattle.dwp_index.specs.Package.{Package, FoundUnit, as_fault, is_outside, first_outside}
+use Rattle.dwp_index.specs.Package.{Package, FoundUnit, as_error, is_outside, first_outside}
 use Rattle.dwp_index.specs.Package.{all_inside, encoding_in, part_of, row_bytes, unit_in}
 use Rattle.dwp_index.specs.Package.{unit_at_row, unit_found, found_by, index_for, found_counted}
 use Rattle.dwp_index.specs.Package.{found}
@@ -51,10 +51,10 @@ unit_in-inside : (pack : Package) (object : DwarfObject) (number : ℕ) (row : R
     encoding → unit_in pack object number row ≡ Ok (unit_of pack object number row encoding)
 unfolding unit_in
 unit_in-inside pack object number row encoding inside read =
-    ap (λ (o : Option SectionKind). all_inside o >>= λ x. as_fault faults.Unit
+    ap (λ (o : Option SectionKind). all_inside o >>= λ x. as_error errors.Unit
     (encoding_in pack.order (own_place object row) (own_bytes pack.contents object row)) >>=
     λ e. Ok (unit_of pack object number row e)) (none_outside pack.contents row inside)
-    ∙ ap (λ (r : Result Encoding ReadError). as_fault faults.Unit r >>= λ e.
+    ∙ ap (λ (r : Result Encoding ReadError). as_error errors.Unit r >>= λ e.
     Ok (unit_of pack object number row e)) read
 
 at_row : (pack : Package) (object : DwarfObject) (index : Index) (number count : ℕ) (row : Ranges)
@@ -65,7 +65,7 @@ at_row : (pack : Package) (object : DwarfObject) (index : Index) (number count :
     (Some (unit_of pack object number row encoding), count)
 unfolding unit_at_row
 at_row pack object index number count row encoding there inside read =
-    ap (λ (x : Result Ranges ReadError). as_fault faults.Index x >>= λ y. unit_in pack object number
+    ap (λ (x : Result Ranges ReadError). as_error errors.Index x >>= λ y. unit_in pack object number
     y >>= λ unit. Ok (Some unit, count)) there
     ∙ ap (λ (x : Result FoundUnit PackageError). x >>= λ unit. Ok (Some unit, count))
     (unit_in-inside pack object number row encoding inside read)
@@ -184,18 +184,18 @@ encoded pack object number count row (Err e) unit looked h = absurd cc
 
 ranged : (pack : Package) (object : DwarfObject) (number count : ℕ) (row : Ranges)
     (outside : Option SectionKind) (unit : Option FoundUnit) (looked : ℕ)
-    → ((all_inside outside >>= λ x. as_fault faults.Unit (encoding_in pack.order
+    → ((all_inside outside >>= λ x. as_error errors.Unit (encoding_in pack.order
     (own_place object row) (own_bytes pack.contents object row)) >>= λ e.
     Ok (unit_of pack object number row e)) >>= λ u. Given (Some u) count) ≡ Given unit looked
     → Tells (Some number) count unit looked
 ranged pack object number count row None unit looked h = encoded pack object number count row
-    (as_fault faults.Unit (encoding_in pack.order (own_place object row) (own_bytes pack.contents
+    (as_error errors.Unit (encoding_in pack.order (own_place object row) (own_bytes pack.contents
     object row))) unit looked h
 ranged pack object number count row (Some kind) unit looked h = absurd cc
 
 rowed : (pack : Package) (object : DwarfObject) (number count : ℕ) (row : Result Ranges ReadError)
     (unit : Option FoundUnit) (looked : ℕ)
-    → (as_fault faults.Index row >>= λ x. unit_in pack object number x >>= λ u.
+    → (as_error errors.Index row >>= λ x. unit_in pack object number x >>= λ u.
     Given (Some u) count) ≡ Given unit looked → Tells (Some number) count unit looked
 unfolding unit_in
 rowed pack object number count (Ok row) unit looked h = ranged pack object number count row

@@ -3,13 +3,13 @@ use Rattle.std.proofs.Common.{◌≡◌, ℕ, refl, sym, ap}
 use Rattle.std.specs.Prelude.{Option, Some, None, Result, Ok, Err}
 use Rattle.dwp_base.specs.Reading.{◌>>=◌}
 use Rattle.dwp_base.specs.declared.section.SectionKind.{SectionKind}
-use Rattle.dwp_bytes.specs.declared.fault.ReadError.{ReadError}
+use Rattle.dwp_bytes.specs.declared.error.ReadError.{ReadError}
 use Rattle.dwp_table.specs.Objects.{identifier_of}
 use Rattle.dwp_table.specs.Probing.{found_row, look_count}
 use Rattle.dwp_table.specs.declared.object.DwarfObject.{DwarfObject}
-use Rattle.dwp_index.specs.declared.fault.PackageError.TheVariants as faults
+use Rattle.dwp_index.specs.declared.error.PackageError.TheVariants as errors
 use Rattle.dwp_index.specs.Index.{Index, Ranges, row_in}
-use Rattle.dwp_index.specs.Package.{Package, as_fault, first_outside, all_inside, unit_in}
+use Rattle.dwp_index.specs.Package.{Package, as_error, first_outside, all_inside, unit_in}
 use Rattle.dwp_index.specs.Package.{unit_at_row, unit_found, found_by, index_for, found_counted}
 use Rattle.dwp_index.specs.Package.{row_inside, row_found, row_by, row_counted, unit_of_row}
 use Rattle.dwp_index.specs.Package.{found_by_row}
@@ -26,9 +26,9 @@ module _ (pack : Package) (object : DwarfObject) where
   ranged number count row (Some kind) e = rw e refl
 
   rowed : (number count : ℕ) (row : Result Ranges ReadError)
-      → (as_fault faults.Index row >>= λ x. unit_in pack object number x >>= λ unit.
+      → (as_error errors.Index row >>= λ x. unit_in pack object number x >>= λ unit.
       Ok (Some unit, count))
-      ≡ ((as_fault faults.Index row >>= row_inside pack number count)
+      ≡ ((as_error errors.Index row >>= row_inside pack number count)
       >>= unit_of_row pack object)
   rowed number count (Ok row) = ranged number count row (first_outside pack.contents row) refl
   rowed number count (Err e) = refl

@@ -8,7 +8,7 @@ use Rattle.dwp_bytes.specs.Input.{Input, byte_at, number_at, relocated_at, offse
 use Rattle.dwp_bytes.specs.Input.{is_address_size}
 use Rattle.dwp_bytes.specs.Encoding.{offset_size}
 use Rattle.dwp_bytes.specs.declared.encoding.Format.{Format}
-use Rattle.dwp_bytes.specs.declared.fault.ReadError.{ReadError}
+use Rattle.dwp_bytes.specs.declared.error.ReadError.{ReadError}
 use Rattle.dwp_dwarf.specs.Units.{Unit, address_size_at, type_at, older_type_at, unit_code_at}
 use Rattle.dwp_dwarf.specs.Units.{unit_type_at, older_at, newer_at, header_at}
 use Rattle.dwp_dwarf.specs.declared.unit.UnitSection.{UnitSection}
@@ -50,14 +50,11 @@ agreed : {A : Type 0} (order : Endianness) (a : A) (bytes : List ℕ) (p q : ℕ
     → Agree order (Ok (a, plain order p bytes)) (Ok (a, plain order q bytes))
 agreed order a bytes p q = (refl, record { bytes = bytes; p = p; q = q; left = refl; right = refl })
 
-abbrev fails : {A : Type 0} → ReadError → Result A ReadError
-fails e = Err e
-
 bind : {A C : Type 0} (order : Endianness) (T : Result C ReadError → Result C ReadError → Type 0)
     (r s : Result (A × Input) ReadError) (f g : A × Input → Result C ReadError)
     → ((e : ReadError) → T (Err e) (Err e)) → Agree order r s → ((a : A) (bytes : List ℕ) (p q : ℕ)
     → T (f (a, plain order p bytes)) (g (a, plain order q bytes))) → T (r >>= f) (s >>= g)
-bind {A} {C} order T (Ok x) (Ok y) f g faults h k =
+bind {A} {C} order T (Ok x) (Ok y) f g errors h k =
     let left : (x.0, plain order h.1.p h.1.bytes) ≡ x = ap (λ (i : Input). (x.0, i))
     (sym h.1.left) in
     let right : (x.0, plain order h.1.q h.1.bytes) ≡ y =
@@ -65,11 +62,11 @@ bind {A} {C} order T (Ok x) (Ok y) f g faults h k =
     (sym h.1.right) in
     subst (λ z. T (f z) (g y)) left (subst (λ z. T (f (x.0, plain order h.1.p h.1.bytes)) (g z))
     right (k x.0 h.1.bytes h.1.p h.1.q))
-bind order T (Ok x) (Err e) f g faults h k = absurd h
-bind order T (Err e) (Ok y) f g faults h k = absurd h
-bind order T (Err e) (Err d) f g faults h k = subst (λ z. T (Err e) (Err z)) h (faults e)
+bind order T (Ok x) (Err e) f g errors h k = absurd h
+bind order T (Err e) (Ok y) f g errors h k = absurd h
+bind order T (Err e) (Err d) f g errors h k = subst (λ z. T (Err e) (Err z)) h (errors e)
 
-choice : {C : Type 0} (T : Result C ReadError → Result C ReadError → Type 0) (b : Bool)
+pub choice : {C : Type 0} (T : Result C ReadError → Result C ReadError → Type 0) (b : Bool)
     (r s r' s' : Result C ReadError) → T r s → T r' s' → T (cond b r r') (cond b s s')
 choice T true r s r' s' h h' = h
 choice T false r s r' s' h h' = h'

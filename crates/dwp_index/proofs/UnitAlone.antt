@@ -10,8 +10,8 @@ use Rattle.dwp_base.specs.Reading.{◌>>=◌}
 use Rattle.dwp_base.specs.declared.endian.Endianness.{Endianness}
 use Rattle.dwp_bytes.specs.Input.{Input, section, split_at, number_at, offset_at}
 use Rattle.dwp_bytes.specs.declared.encoding.Format.{Format}
-use Rattle.dwp_bytes.specs.declared.fault.ReadError.{ReadError}
-use Rattle.dwp_bytes.specs.declared.fault.ReadError.TheVariants.{UnknownVersion}
+use Rattle.dwp_bytes.specs.declared.error.ReadError.{ReadError}
+use Rattle.dwp_bytes.specs.declared.error.ReadError.TheVariants.{UnknownVersion}
 use Rattle.dwp_bytes.specs.declared.encoding.Encoding.{Encoding}
 use Rattle.dwp_dwarf.specs.Units.{Unit, initial_length_at, address_size_at, older_type_at, older_at}
 use Rattle.dwp_dwarf.specs.Units.{newer_at, header_at, unit_at, listed, units_within, units}
@@ -19,8 +19,8 @@ use Rattle.dwp_dwarf.specs.Units.{UnitsAreTaken}
 use Rattle.dwp_dwarf.specs.declared.unit.UnitSection.{UnitSection}
 use Rattle.dwp_index.specs.Package.{encoding_in}
 use Rattle.dwp_index.proofs.LengthAlone.{split_goes, split_inverse, Lengths, length_is}
-use Rattle.dwp_index.proofs.Steps.{bind_ok, chosen}
 use Rattle.dwp_index.proofs.TwoPlaces.{plain, SameEncoding, header_agrees}
+use Rattle.dwp_base.proofs.Steps.{bind-was, chosen}
 
 -- ---- a unit
 abbrev Units : Type 0
@@ -33,7 +33,7 @@ from_body place i format body = split_at (body.1.place - i.place) i >>= λ whole
 abbrev from_length : UnitSection → Input → (Format × ℕ) × Input → Units
 from_length place i length = split_at length.0.1 length.1 >>= from_body place i length.0.0
 
-by_length : (place : UnitSection) (i : Input) → unit_at place i ≡ (initial_length_at i >>=
+pub by_length : (place : UnitSection) (i : Input) → unit_at place i ≡ (initial_length_at i >>=
     from_length place i)
 unfolding unit_at
 by_length place i = refl
@@ -105,17 +105,17 @@ module _ (order : Endianness) (place : UnitSection) (p : ℕ) (bytes : List ℕ)
       (u, rest) → IsRead u rest
   is_read u rest e =
       let i = plain order p bytes in
-      let a = bind_ok (initial_length_at i) (from_length place i) (u, rest)
+      let a = bind-was (initial_length_at i) (from_length place i) (u, rest)
       (sym (by_length place i) ∙ e) in
       let first = length_is order p bytes a.0 a.1 in
-      let b = bind_ok (split_at a.0.0.1 a.0.1) (from_body place i a.0.0.0) (u, rest) a.2 in
+      let b = bind-was (split_at a.0.0.1 a.0.1) (from_body place i a.0.0.0) (u, rest) a.2 in
       let body : split_at a.0.0.1 (plain order (p + first.taken) (drop first.taken bytes)) ≡ Ok
       b.0 = subst (λ (x : Input). split_at a.0.0.1 x ≡ Ok b.0) first.left b.1 in
       let inverse = split_inverse order a.0.0.1 (p + first.taken)
       (drop first.taken bytes) b.0 body in
-      let c = bind_ok (split_at (b.0.1.place - p) i) (λ w. header_at place a.0.0.0 w.0 b.0.0 >>=
+      let c = bind-was (split_at (b.0.1.place - p) i) (λ w. header_at place a.0.0.0 w.0 b.0.0 >>=
       λ unit. Ok (unit, b.0.1)) (u, rest) b.2 in
-      let d = bind_ok (header_at place a.0.0.0 c.0.0 b.0.0) (λ unit. Ok (unit, b.0.1))
+      let d = bind-was (header_at place a.0.0.0 c.0.0 b.0.0) (λ unit. Ok (unit, b.0.1))
       (u, rest) c.2 in
       let fits : first.taken + a.0.0.1 ≤ length bytes =
       omega (arith, inverse.0, first.fits, length-drop first.taken bytes) in
@@ -212,9 +212,9 @@ older_version : (place : UnitSection) (format : Format) (version : ℕ) (whole i
     → older_at place format version whole i ≡ Ok u → u.encoding.version ≡ version
 unfolding older_at
 older_version place format version whole i u e =
-    let a = bind_ok (offset_at format i) _ u e in
-    let b = bind_ok (address_size_at a.0.1) _ u a.2 in
-    let c = bind_ok (older_type_at place format b.0.1) _ u b.2 in
+    let a = bind-was (offset_at format i) _ u e in
+    let b = bind-was (address_size_at a.0.1) _ u a.2 in
+    let c = bind-was (older_type_at place format b.0.1) _ u b.2 in
     sym (ap (λ (x : Unit). x.encoding.version) (same_unit _ u c.2))
 
 -- what a version goes on to
@@ -249,7 +249,8 @@ header_anywhere : (place other : UnitSection) (format : Format) (whole i : Input
     → u.encoding.version ≡ 5 → header_at place format whole i ≡ Ok u
     → header_at other format whole i ≡ Ok u
 header_anywhere place other format whole i u five e =
-    let a = bind_ok (number_at 2 i) (λ version. by_version place format whole version.0 version.1) u
+    let a = bind-was (number_at 2 i) (λ version. by_version place format whole version.0 version.1)
+    u
     (sym (header_by place format whole i) ∙ e) in
     header_by other format whole i ∙ ap (λ (r : Result (ℕ × Input) ReadError). r >>= λ version.
     by_version other format whole version.0 version.1) a.1
@@ -269,11 +270,12 @@ goes_to {A} {B} r f a b e h = ap (λ (x : Result A ReadError). x >>= f) e ∙ h
 unit_anywhere : (place other : UnitSection) (i : Input) (x : Unit × Input) → x.0.encoding.version ≡
     5 → unit_at place i ≡ Ok x → unit_at other i ≡ Ok x
 unit_anywhere place other i x five e =
-    let a = bind_ok (initial_length_at i) (from_length place i) x (sym (by_length place i) ∙ e) in
-    let b = bind_ok (split_at a.0.0.1 a.0.1) (from_body place i a.0.0.0) x a.2 in
-    let c = bind_ok (split_at (b.0.1.place - i.place) i) (λ w. header_at place a.0.0.0 w.0 b.0.0 >>=
+    let a = bind-was (initial_length_at i) (from_length place i) x (sym (by_length place i) ∙ e) in
+    let b = bind-was (split_at a.0.0.1 a.0.1) (from_body place i a.0.0.0) x a.2 in
+    let c = bind-was (split_at (b.0.1.place - i.place) i) (λ w.
+    header_at place a.0.0.0 w.0 b.0.0 >>=
     λ unit. Ok (unit, b.0.1)) x b.2 in
-    let d = bind_ok (header_at place a.0.0.0 c.0.0 b.0.0) (λ unit. Ok (unit, b.0.1)) x c.2 in
+    let d = bind-was (header_at place a.0.0.0 c.0.0 b.0.0) (λ unit. Ok (unit, b.0.1)) x c.2 in
     let version : d.0.encoding.version ≡ 5 = ap (λ (y : Unit × Input). y.0.encoding.version)
     (same_pair (d.0, b.0.1) x d.2) ∙ five in
     by_length other i
@@ -289,7 +291,8 @@ pub encoding_anywhere : (order : Endianness) (place other : UnitSection) (bytes 
     → encoding_in order other bytes ≡ Ok encoding
 unfolding encoding_in
 encoding_anywhere order place other bytes encoding five e =
-    let a = bind_ok (unit_at place (section order bytes)) (λ unit. Ok unit.0.encoding) encoding e in
+    let a = bind-was (unit_at place (section order bytes)) (λ unit.
+    Ok unit.0.encoding) encoding e in
     let same : a.0.0.encoding ≡ encoding = cc in
     ap (λ (r : Units). r >>= λ unit. Ok unit.0.encoding) (unit_anywhere place other
     (section order bytes) a.0 (ap (λ (x : Encoding). x.version) same ∙ five) a.1) ∙ a.2

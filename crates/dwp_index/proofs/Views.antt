@@ -5,7 +5,7 @@ use Rattle.std.specs.Prelude.{Some, None, Ok, Err}
 use Rattle.std.specs.Option.{option_and_then}
 use Rattle.std.proofs.lemmas.Bool.{lt-ltb, le-ltb}
 use Rattle.dwp_base.specs.declared.section.SectionKind.{SectionKind}
-use Rattle.dwp_bytes.specs.declared.fault.ReadError.TheVariants.{RowOutOfRange}
+use Rattle.dwp_bytes.specs.declared.error.ReadError.TheVariants.{RowOutOfRange}
 use Rattle.dwp_index.specs.declared.unit_index.UnitIndex.TheInside.{Inside}
 use Rattle.dwp_index.specs.Index.{Index, Ranges, row_in, column_place, contribution, range_in}
 use Rattle.dwp_index.specs.IndexBytes.{numbers, number_rows}

@@ -9,12 +9,11 @@ use Rattle.dwp_base.specs.Reading.{read_each}
 use Rattle.dwp_base.specs.Sections.{is_named, compressed_name_of, all_kinds}
 use Rattle.dwp_base.specs.declared.section.SectionKind.{SectionKind}
 use Rattle.dwp_elf_read.specs.Elf.{SectionMeaning, SHT_NOBITS, has_compressed_flag}
-use Rattle.dwp_elf_read.specs.declared.fault.ReadError.{ReadError}
-use Rattle.dwp_elf_read.specs.declared.fault.ReadError.TheVariants.{SectionRange, Compressed}
+use Rattle.dwp_elf_read.specs.declared.error.ReadError.{ReadError}
+use Rattle.dwp_elf_read.specs.declared.error.ReadError.TheVariants.{SectionRange, Compressed}
 
--- the contents of a package's sections, in the order of `all_kinds`; no bytes where there is no
--- such
--- section
+-- the contents of a package's sections, in the order of `all_kinds`; no bytes where a section is
+-- missing
 abbrev pub Sections : Type 0
 Sections = List (List ℕ)
 

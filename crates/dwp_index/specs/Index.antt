@@ -5,8 +5,8 @@ use Rattle.std.specs.List.{position_from}
 use Rattle.std.specs.Option.{option_and_then}
 use Rattle.dwp_base.specs.declared.section.SectionKind.{SectionKind}
 use Rattle.dwp_base.specs.declared.section.Contribution.{Contribution}
-use Rattle.dwp_bytes.specs.declared.fault.ReadError.{ReadError}
-use Rattle.dwp_bytes.specs.declared.fault.ReadError.TheVariants.{RowOutOfRange}
+use Rattle.dwp_bytes.specs.declared.error.ReadError.{ReadError}
+use Rattle.dwp_bytes.specs.declared.error.ReadError.TheVariants.{RowOutOfRange}
 use Rattle.dwp_table.specs.Columns.{column_of}
 
 -- slot k of the hash table holds the signature at k and the row number at k; row r + 1 has the

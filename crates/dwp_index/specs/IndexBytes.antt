@@ -4,13 +4,13 @@ use Rattle.std.specs.Prelude.{ℕ, zero, suc, ◌*◌, Bool, List, [], ◌∷◌
 use Rattle.std.specs.Prelude.{Ok, Err, is_none, ◌==◌, ◌&&◌, ◌||◌, nat_lt, if◌then◌else◌}
 use Rattle.std.specs.Int.{is_power_of_two}
 use Rattle.std.specs.List.{list_any}
-use Rattle.dwp_base.specs.Numbers.{number}
 use Rattle.dwp_base.specs.Reading.{◌>>=◌}
+use Rattle.dwp_base.specs.Numbers.{number}
 use Rattle.dwp_base.specs.declared.endian.Endianness.{Endianness}
-use Rattle.dwp_bytes.specs.declared.fault.ReadError.{ReadError}
-use Rattle.dwp_bytes.specs.declared.fault.ReadError.TheVariants.{UnexpectedEof, IndexVersion}
-use Rattle.dwp_bytes.specs.declared.fault.ReadError.TheVariants.{SlotCount, UnknownColumn}
-use Rattle.dwp_bytes.specs.declared.fault.ReadError.TheVariants.{RepeatedColumn}
+use Rattle.dwp_bytes.specs.declared.error.ReadError.{ReadError}
+use Rattle.dwp_bytes.specs.declared.error.ReadError.TheVariants.{UnexpectedEof, IndexVersion}
+use Rattle.dwp_bytes.specs.declared.error.ReadError.TheVariants.{SlotCount, UnknownColumn}
+use Rattle.dwp_bytes.specs.declared.error.ReadError.TheVariants.{RepeatedColumn}
 use Rattle.dwp_table.specs.Columns.{kind_of_column}
 use Rattle.dwp_index.specs.Index.{Index}
 

@@ -11,7 +11,7 @@ use Rattle.dwp_base.specs.declared.section.Contribution.{Contribution}
 use Rattle.dwp_elf_read.specs.Elf.{elf_of}
 use Rattle.dwp_bytes.specs.Input.{section}
 use Rattle.dwp_bytes.specs.declared.encoding.Encoding.{Encoding}
-use Rattle.dwp_bytes.specs.declared.fault.ReadError.{ReadError}
+use Rattle.dwp_bytes.specs.declared.error.ReadError.{ReadError}
 use Rattle.dwp_dwarf.specs.Units.{unit_at}
 use Rattle.dwp_dwarf.specs.declared.unit.UnitSection.{UnitSection}
 use Rattle.dwp_dwarf.specs.declared.unit.UnitSection.TheVariants as places
@@ -20,8 +20,8 @@ use Rattle.dwp_table.specs.Objects.{identifier_of}
 use Rattle.dwp_table.specs.Probing.{found_row, look_count}
 use Rattle.dwp_table.specs.declared.object.DwarfObject.{DwarfObject}
 use Rattle.dwp_table.specs.declared.object.DwarfObject.TheVariants.{Compilation, TypeUnit}
-use Rattle.dwp_index.specs.declared.fault.PackageError.{PackageError}
-use Rattle.dwp_index.specs.declared.fault.PackageError.TheVariants as faults
+use Rattle.dwp_index.specs.declared.error.PackageError.{PackageError}
+use Rattle.dwp_index.specs.declared.error.PackageError.TheVariants as errors
 use Rattle.dwp_index.specs.Contents.{Sections, content, contents_of}
 use Rattle.dwp_index.specs.Index.{Index, Ranges, row_in, range_in}
 use Rattle.dwp_index.specs.IndexBytes.{index_of}
@@ -42,22 +42,22 @@ pub record FoundUnit : Type 0 where
   pub bytes : List ℕ
   pub encoding : Encoding
 
--- a fault as one of a package
-abbrev pub as_fault : {X E F : Type 0} → (E → F) → Result X E → Result X F
-as_fault f (Ok x) = Ok x
-as_fault f (Err e) = Err (f e)
+-- an error as one of a package
+abbrev pub as_error : {X E F : Type 0} → (E → F) → Result X E → Result X F
+as_error f (Ok x) = Ok x
+as_error f (Err e) = Err (f e)
 
 -- an index; none in an empty section
 unfoldable pub index_in_section : Endianness → List ℕ → Result (Option Index) PackageError
 index_in_section order bytes =
     if length bytes == 0 then Ok None
-    else (as_fault faults.Index (index_of order bytes) >>= λ index. Ok (Some index))
+    else (as_error errors.Index (index_of order bytes) >>= λ index. Ok (Some index))
 
--- what the bytes of a file mean, or the first fault
+-- what the bytes of a file mean, or the first error
 unfoldable pub package_of : List ℕ → Result Package PackageError
 package_of bytes = do
-  file ← as_fault faults.Elf (elf_of bytes)
-  contents ← as_fault faults.Elf (contents_of file.sections)
+  file ← as_error errors.Elf (elf_of bytes)
+  contents ← as_error errors.Elf (contents_of file.sections)
   compilations ← index_in_section file.order (content contents kinds.CuIndex)
   types ← index_in_section file.order (content contents kinds.TuIndex)
   Ok (record {
@@ -87,7 +87,7 @@ first_outside contents row =
 
 abbrev pub all_inside : Option SectionKind → Result (Unit {0}) PackageError
 all_inside None = Ok tt
-all_inside (Some kind) = Err (faults.Range kind)
+all_inside (Some kind) = Err (errors.Range kind)
 
 -- where a unit's own bytes stand: a type unit's in types where it has a range there
 abbrev pub place_of : DwarfObject → Option Contribution → UnitSection
@@ -113,7 +113,7 @@ unit_in pack object number row = do
   inside ← all_inside (first_outside pack.contents row)
   let place = place_of object (range_in row kinds.Types)
   let bytes = row_bytes pack.contents row (kind_of place)
-  encoding ← as_fault faults.Unit (encoding_in pack.order place bytes)
+  encoding ← as_error errors.Unit (encoding_in pack.order place bytes)
   Ok (record {
     order = pack.order;
     contents = pack.contents;
@@ -132,7 +132,7 @@ index_for pack (TypeUnit signature) = pack.types
 unfoldable pub unit_at_row : Package → DwarfObject → Index → ℕ → ℕ
     → Result (Option FoundUnit × ℕ) PackageError
 unit_at_row pack object index number count = do
-  row ← as_fault faults.Index (row_in index number)
+  row ← as_error errors.Index (row_in index number)
   unit ← unit_in pack object number row
   Ok (Some unit, count)
 
@@ -162,7 +162,7 @@ abbrev pub row_found : Package → Index → Option ℕ → ℕ
     → Result (Option (ℕ × Ranges) × ℕ) PackageError
 row_found pack index None count = Ok (None, count)
 row_found pack index (Some number) count =
-    as_fault faults.Index (row_in index number) >>= row_inside pack number count
+    as_error errors.Index (row_in index number) >>= row_inside pack number count
 
 abbrev pub row_by : Package → DwarfObject → Option Index
     → Result (Option (ℕ × Ranges) × ℕ) PackageError

@@ -1,6 +1,6 @@
 //! The contents of a package's sections (DWARF 5, 7.3.5).
 
-ghost use Rattle.std.specs.Prelude.{◌≡◌, option_map};
+ghost use Rattle.std.specs.Prelude.{◌≡◌, Some, IsTrue, IfSome, option_map, slice_get};
 ghost use Rattle.std.specs.List.{find};
 ghost use Rattle.dwp_base.specs.Reading.{Answers};
 ghost use Rattle.dwp_elf_read.specs.View.{elf, section};
@@ -47,28 +47,35 @@ fn used_bytes<'a>(used: &Section<'a>, kind: SectionKind) -> Result<&'a [u8], Rea
     used.data()
 }
 
-/// The first section of a kind that has bytes.
-fn first_section<'a>(file: &ElfFile<'a>, kind: SectionKind) -> Option<Section<'a>>
-    ensures { option_map section result ≡ find (is_of_kind kind) (elf file.now).sections }
+/// The first section of a kind that has bytes, and its number.
+pub fn section_of_kind<'a>(file: &ElfFile<'a>, kind: SectionKind) -> Option<(usize, Section<'a>)>
+    ensures first { option_map (λ found. section found.1) result
+        ≡ find (is_of_kind kind) (elf file.now).sections }
+    ensures there { IfSome result (λ found.
+        slice_get (elf file.now).sections found.0 ≡ Some (section found.1)) }
+    ensures filled { IfSome result (λ found. IsTrue (is_of_kind kind (section found.1))) }
 {
     for i in 0..file.section_count() {
         if let Some(candidate) = file.section(i) {
             if is_of_kind(&candidate, kind) {
-                return Some(candidate);
+                return Some((i, candidate));
             }
         }
     }
     None
 }
 
-/// The content of the first section of a kind.
+/// The content of the first section of a kind that has bytes; none where there is no such section.
+///
+/// # Errors
+/// `Compressed` where it is compressed, `SectionRange` where it isn't in the file.
 #[tactic(auto, unfolding(crate::specs::Contents::content_among))]
-fn content<'a>(file: &ElfFile<'a>, kind: SectionKind) -> Result<&'a [u8], ReadError>
+pub fn content_of_kind<'a>(file: &ElfFile<'a>, kind: SectionKind) -> Result<&'a [u8], ReadError>
     ensures { Answers (λ bytes. bytes.now) result (content_among (elf file.now).sections kind) }
 {
-    match first_section(file, kind) {
+    match section_of_kind(file, kind) {
         None => Ok(&[]),
-        Some(used) => used_bytes(&used, kind),
+        Some((_, used)) => used_bytes(&used, kind),
     }
 }
 
@@ -81,7 +88,7 @@ impl<'a> Contents<'a> {
     pub fn read(file: &ElfFile<'a>) -> Result<Contents<'a>, ReadError>
         ensures { Answers contents_in result (contents_of (elf file.now).sections) }
     {
-        match ByKind::read(&[][..], |kind| content(file, kind)) {
+        match ByKind::read(&[][..], |kind| content_of_kind(file, kind)) {
             Ok(by_kind) => Ok(Contents { by_kind }),
             Err(e) => Err(e),
         }

@@ -3,7 +3,7 @@
 #![tactic(auto)]
 
 mod contents;
-mod fault;
+mod error;
 pub mod laws;
 mod package;
 mod parsing;
@@ -12,12 +12,13 @@ mod unit;
 mod unit_index;
 mod units;
 
+pub use contents::{content_of_kind, section_of_kind};
 pub use dwp_table::{
     Bucketable, CONTRIBUTION_KINDS, DebugTypeSignature, DwarfObject, DwoId, column_of, first_place,
     kind_of_column, place_after, place_row, slot_count,
 };
-pub use fault::PackageError;
+pub use error::PackageError;
 pub use package::PackageFile;
-pub use unit::PackagedUnit;
+pub use unit::{PackagedUnit, lies_inside, part_of};
 pub use unit_index::{Row, UnitIndex};
 pub use units::{UnitEntry, Units};

@@ -12,15 +12,14 @@ ghost use Rattle.dwp_table.specs.declared.object.DwarfObject.TheVariants.{Compil
 ghost use Rattle.dwp_table.specs.Table.{IsIndex, FindsExactly};
 ghost use Rattle.dwp_index.specs.Finding.{row_number, slots_for};
 ghost use Rattle.dwp_index.specs.Index.{Index, row_in, range_in};
-ghost use Rattle.dwp_index.specs.IndexBytes.{index_of};
-ghost use Rattle.dwp_index.specs.Package.{as_fault, is_outside, package_of, index_in_section};
+ghost use Rattle.dwp_index.specs.Package.{as_error, is_outside, package_of, index_in_section};
 ghost use Rattle.dwp_index.specs.Package.{index_for, first_outside, encoding_in, unit_in};
 ghost use Rattle.dwp_index.specs.Package.{unit_at_row, found_counted, found, first_byte};
 ghost use Rattle.dwp_index.specs.Package.{first_byte_of, row_inside, row_counted};
-ghost use Rattle.dwp_index.specs.declared.fault.PackageError.TheVariants as faults;
+ghost use Rattle.dwp_index.specs.declared.error.PackageError.TheVariants as errors;
 
 use crate::contents::Contents;
-use crate::fault::PackageError;
+use crate::error::PackageError;
 use crate::unit::{PackagedUnit, encoding_in, kind_of, lies_inside, place_of, row_bytes};
 use crate::unit_index::{Row, UnitIndex};
 use crate::units::Units;
@@ -278,7 +277,7 @@ impl<'a> PackageFile<'a> {
 }
 
 fn read_file(bytes: &[u8]) -> Result<ElfFile<'_>, PackageError>
-    ensures { Answers elf result (as_fault faults.Elf (elf_of bytes.now)) }
+    ensures { Answers elf result (as_error errors.Elf (elf_of bytes.now)) }
 {
     match ElfFile::parse(bytes) {
         Ok(file) => Ok(file),
@@ -288,7 +287,7 @@ fn read_file(bytes: &[u8]) -> Result<ElfFile<'_>, PackageError>
 
 fn read_contents<'a>(file: &ElfFile<'a>) -> Result<Contents<'a>, PackageError>
     ensures { Answers contents_in result
-        (as_fault faults.Elf (contents_of (elf file.now).sections)) }
+        (as_error errors.Elf (contents_of (elf file.now).sections)) }
 {
     match Contents::read(file) {
         Ok(contents) => Ok(contents),
@@ -311,7 +310,7 @@ fn read_index<'a>(bytes: &'a [u8], order: Endianness) -> Result<Option<UnitIndex
 }
 
 fn read_row<'a>(index: &UnitIndex<'a>, number: u32) -> Result<Row<'a>, PackageError>
-    ensures { Answers (λ x. x) result (as_fault faults.Index (row_in index.now number)) }
+    ensures { Answers (λ x. x) result (as_error errors.Index (row_in index.now number)) }
 {
     match index.row(number) {
         Ok(row) => Ok(row),
@@ -324,7 +323,7 @@ fn read_encoding(
     order: Endianness,
     place: UnitSection,
 ) -> Result<Encoding, PackageError>
-    ensures { Answers (λ x. x) result (as_fault faults.Unit (encoding_in order place bytes.now)) }
+    ensures { Answers (λ x. x) result (as_error errors.Unit (encoding_in order place bytes.now)) }
 {
     match encoding_in(bytes, order, place) {
         Ok(encoding) => Ok(encoding),

@@ -7,7 +7,7 @@ ghost use Rattle.dwp_base.specs.Numbers.{number};
 ghost use Rattle.dwp_base.specs.Reading.{Answers};
 ghost use Rattle.dwp_index.specs.Index.{column_place};
 ghost use Rattle.dwp_index.specs.IndexBytes.{numbers, after, version_of, counts_of, columns_at};
-ghost use Rattle.dwp_index.specs.IndexBytes.{is_slot_count, Counts};
+ghost use Rattle.dwp_index.specs.IndexBytes.{is_slot_count};
 ghost use Rattle.dwp_index.specs.Places.{ArePlaces};
 
 use crate::unit_index::NO_COLUMN;

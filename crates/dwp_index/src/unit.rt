@@ -104,8 +104,9 @@ impl<'a> PackagedUnit<'a> {
     }
 }
 
-/// The bytes of a range; none where it is absent.
-fn part_of<'a>(bytes: &'a [u8], range: Option<Contribution>) -> &'a [u8]
+/// The bytes of a contribution to a section; none where it is absent, or isn't inside the section.
+#[inline(always)]
+pub fn part_of<'a>(bytes: &'a [u8], range: Option<Contribution>) -> &'a [u8]
     ensures { result.now ≡ part_of bytes.now range }
 {
     match range {
@@ -121,8 +122,9 @@ fn part_of<'a>(bytes: &'a [u8], range: Option<Contribution>) -> &'a [u8]
     }
 }
 
-/// Whether a range lies inside a section of these bytes.
-pub(crate) fn lies_inside(bytes: &[u8], range: Contribution) -> bool
+/// Whether a contribution lies inside a section of these bytes.
+#[inline(always)]
+pub fn lies_inside(bytes: &[u8], range: Contribution) -> bool
     ensures { result ≡ lies_inside bytes.now range }
 {
     let len = bytes.len() as u64;

@@ -165,11 +165,11 @@ fn put_written(writer: &Limited, said: &mut Said) {
 fn watched(row: Row<'_>, said: &mut Said) {
     let mut watched = Watched {
         writer: make_writer(row, said),
-        fault: None,
+        error: None,
     };
     let object = filled(row, 7, said);
     let done = object.write_to(&mut watched);
-    said.put(&watched.fault);
+    said.put(&watched.error);
     put_done(&done, said);
     put_written(&watched.writer, said);
 }

@@ -1,8 +1,8 @@
 //! Calls of `dwp_index`.
 
-use dwp_base::SectionKind;
+use dwp_base::{Contribution, ContributionOffset, SectionKind};
 use dwp_bytes::ReadError;
-use dwp_elf_read::ReadError as ElfReadError;
+use dwp_elf_read::{ElfFile, ReadError as ElfReadError};
 use dwp_index::*;
 use test_rows::{Hex, Row, Said};
 
@@ -10,6 +10,8 @@ use test_rows::{Hex, Row, Said};
 pub fn call(row: Row<'_>, said: &mut Said) {
     match row.word(0) {
         "package" | "packaged" | "units" | "first_byte" => of_package(row, said),
+        "of_kind" => of_kind(row, said),
+        "part" => part(row, said),
         "texts_of_index" => texts_of_index(said),
         "archive" => crate::archived::archived(row, said),
         "inflate" => crate::inflated::inflated(row, said),
@@ -56,6 +58,29 @@ fn of_package(row: Row<'_>, said: &mut Said) {
     match PackageFile::parse(row.bytes(1)) {
         Ok(package) => in_package(&package, row, said),
         Err(fault) => said.err(&fault),
+    }
+}
+
+/// Whether a contribution of an offset and a size is inside a section's bytes, and its bytes.
+fn part(row: Row<'_>, said: &mut Said) {
+    let range = Contribution {
+        offset: ContributionOffset(row.number(2)),
+        size: row.number(3),
+    };
+    said.put(&lies_inside(row.bytes(1), range));
+    said.put(&Hex(part_of(row.bytes(1), Some(range))));
+}
+
+/// The first section of a kind: its number and size, and its content.
+fn of_kind(row: Row<'_>, said: &mut Said) {
+    let Ok(file) = ElfFile::parse(row.bytes(1)) else {
+        return said.word("no ELF file");
+    };
+    let found = section_of_kind(&file, row.kind(2));
+    said.put(&found.map(|(number, section)| (number, section.size())));
+    match content_of_kind(&file, row.kind(2)) {
+        Ok(content) => said.ok(&Hex(content)),
+        Err(error) => said.err(&error),
     }
 }
 

@@ -2,12 +2,12 @@ use Rattle.std.proofs.Common.{sym, ap, ◌∙◌, arith}
 use Rattle.std.specs.Prelude.{option_map}
 use Rattle.dwp_elf_read.specs.View.{elf, section}
 use Rattle.dwp_index.specs.Contents.{is_of_kind}
-use Rattle.dwp_index.proofs.FirstSection.{find_hit, find_miss, slice_get_none, find_end}
-use Rattle.dwp_index.proofs.contents.first_section.Goals as goal
-use Rattle.dwp_index.proofs.contents.first_section.Goals.{in-Some+else-is_of_kind, in_default}
+use Rattle.dwp_base.proofs.Finds.{find_hit, find_miss, slice_get_none, find_end}
+use Rattle.dwp_index.proofs.contents.section_of_kind.Goals as goal
+use Rattle.dwp_index.proofs.contents.section_of_kind.Goals.{in-Some+else-is_of_kind, in_default}
 
-pub returns-then-is_of_kind : goal.returns-then-is_of_kind
-returns-then-is_of_kind c =
+pub returns-then-is_of_kind-clause-first : goal.returns-then-is_of_kind-clause-first
+returns-then-is_of_kind-clause-first c =
     let xs = (elf c.args.file.now).sections in
     let at = sym c.section.ensures.found ∙ ap (option_map section) c.in-Some.is in
     sym (find_hit (is_of_kind c.args.kind) xs c.loop-i.i (section c.in-Some.candidate) at
@@ -25,6 +25,6 @@ loop-i-preserved c =
           (sym c.section.ensures.found ∙ ap (option_map section) w.in_default.is))
     ]
 
-pub returns : goal.returns
-returns c = sym (find_end (is_of_kind c.args.kind) (elf c.args.file.now).sections c.loop-i.i
-    (omega arith)) ∙ c.loop-i.invariant
+pub returns-clause-first : goal.returns-clause-first
+returns-clause-first c = sym (find_end (is_of_kind c.args.kind) (elf c.args.file.now).sections
+    c.loop-i.i (omega arith)) ∙ c.loop-i.invariant
