@@ -1,13 +1,12 @@
 -- Digits taken one after the other.
-use Rattle.std.proofs.Common.{◌≡◌, ℕ, suc, ◌+◌, ◌-◌, ◌*◌, ◌^◌, ◌<◌, ◌≤◌, ◌==◌, Bool, true}
-use Rattle.std.proofs.Common.{false, cond, List, [], ◌∷◌, length, drop, get_or, Some, None, Option}
-use Rattle.std.proofs.Common.{sym, ap, ◌∙◌, refl, arith, drop-cons, add-one}
-use Rattle.std.proofs.Common.{pow-suc}
+use Rattle.std.proofs.Common.{◌≡◌, ℕ, suc, ◌+◌, ◌-◌, ◌*◌, ◌^◌, ◌<◌, ◌≤◌, ◌==◌, Bool, true, false}
+use Rattle.std.proofs.Common.{cond, List, ◌∷◌, length, drop, get_or, Some, None, Option, sym, ap}
+use Rattle.std.proofs.Common.{◌∙◌, arith, drop-cons, add-one, pow-suc}
 use Rattle.std.proofs.Math.Nat.{pow-le-pow_right}
 use Rattle.std.specs.List.{list_all}
 use Rattle.std.proofs.lemmas.Bool.Decides.{nat_tests}
 use Rattle.std.proofs.lemmas.List.{drop_all}
-use Rattle.dwp_archive.specs.Headers.{is_digit, decimal, decimal_from}
+use Rattle.dwp_archive.specs.Headers.{is_digit, decimal_from}
 
 abbrev Number : Type 0
 Number = Option ℕ
@@ -16,22 +15,6 @@ from_here : (field : List ℕ) (i : ℕ) → i < length field
     → drop i field ≡ get_or field i 0 ∷ drop (i + 1) field
 from_here field i h =
     drop-cons field i 0 h ∙ ap (λ (k : ℕ). get_or field i 0 ∷ drop k field) (sym (add-one i))
-
-pub decimal_begins : (field : List ℕ) → 0 < length field → is_digit (get_or field 0 0) ≡ true
-    → decimal_from 0 field ≡ decimal field
-decimal_begins [] h d = absurd (omega arith)
-decimal_begins (b ∷ bytes) h d =
-    sym (ap (λ (t : Bool). cond {A = Number} t (decimal_from 0 (b ∷ bytes)) None) d)
-
-pub decimal_begins_not : (field : List ℕ) → 0 < length field
-    → is_digit (get_or field 0 0) ≡ false → None ≡ decimal field
-decimal_begins_not [] h d = absurd (omega arith)
-decimal_begins_not (b ∷ bytes) h d =
-    sym (ap (λ (t : Bool). cond {A = Number} t (decimal_from 0 (b ∷ bytes)) None) d)
-
-pub decimal_none : (field : List ℕ) → length field ≡ 0 → None ≡ decimal field
-decimal_none [] h = refl
-decimal_none (b ∷ bytes) h = absurd (omega arith)
 
 module _ (field : List ℕ) (n i : ℕ) where
   pub decimal_step : i < length field → is_digit (get_or field i 0) ≡ true

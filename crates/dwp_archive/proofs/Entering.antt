@@ -1,10 +1,10 @@
 -- Entries taken one after the other.
 use Rattle.std.proofs.Common.{◌≡◌, ℕ, zero, suc, ◌+◌, ◌-◌, ◌<◌, ◌≤◌, ◌==◌, true, false, List, []}
-use Rattle.std.proofs.Common.{◌∷◌, ◌++◌, length}
-use Rattle.std.proofs.Common.{Result, Ok, Err, sym, ap, ◌∙◌, refl, arith, append_assoc, append-nil}
+use Rattle.std.proofs.Common.{◌∷◌, ◌++◌, length, Result, Ok, Err, sym, ap, ◌∙◌, refl, arith}
+use Rattle.std.proofs.Common.{append_assoc, append-nil}
 use Rattle.std.proofs.lemmas.Bool.Decides.{nat_tests}
 use Rattle.dwp_base.specs.Reading.{◌>>=◌}
-use Rattle.dwp_archive.specs.declared.fault.ArchiveError.{ArchiveError}
+use Rattle.dwp_archive.specs.declared.error.ArchiveError.{ArchiveError}
 use Rattle.dwp_archive.specs.Entries.{Member, Entry, entry_at}
 use Rattle.dwp_archive.specs.Members.{members_from}
 
@@ -17,10 +17,6 @@ whole members = Ok members
 -- members behind others
 abbrev pub behind : List Member → Members → Members
 behind front rest = rest >>= λ members. Ok (front ++ members)
-
-pub behind_none : (rest : Members) → behind [] rest ≡ rest
-behind_none (Ok members) = refl
-behind_none (Err e) = refl
 
 some_more : (front more : List Member) (rest : Members)
     → behind front (rest >>= λ members. Ok (more ++ members)) ≡ behind (front ++ more) rest

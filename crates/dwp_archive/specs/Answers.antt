@@ -1,7 +1,7 @@
 -- What a call answers, beside what its definition says.
 use Rattle.std.specs.Prelude.{◌≡◌, ◌≢◌, Result, Ok, Err}
-use Rattle.dwp_archive.specs.declared.fault.ArchiveError.{ArchiveError}
-use Rattle.dwp_archive.specs.declared.fault.ArchiveError.TheVariants.{Memory}
+use Rattle.dwp_archive.specs.declared.error.ArchiveError.{ArchiveError}
+use Rattle.dwp_archive.specs.declared.error.ArchiveError.TheVariants.{Memory}
 
 -- what a call answered, seen by view, is what the definition says; memory may run out besides
 abbrev pub Gives : {X Y : Type 0} → (X → Y) → Result X ArchiveError → Result Y ArchiveError → Type 0

@@ -1,12 +1,12 @@
 -- What the entries of an archive are (ar(5), the variants of System V, GNU and BSD): members, the
 -- table of long names, and tables of symbols.
-use Rattle.std.specs.Prelude.{ℕ, ◌%◌, ◌||◌, Bool, nat_lt, nat_eq, List, [], ◌∷◌, length}
-use Rattle.std.specs.Prelude.{take, drop, codes, if◌then◌else◌, Result, Ok, Err}
+use Rattle.std.specs.Prelude.{ℕ, ◌%◌, ◌||◌, Bool, nat_lt, nat_eq, List, [], ◌∷◌, length, take, drop}
+use Rattle.std.specs.Prelude.{codes, if◌then◌else◌, Result, Ok, Err}
 use Rattle.std.specs.List.{starts_with}
 use Rattle.std.specs.Option.{ok_or}
 use Rattle.dwp_base.specs.Reading.{◌>>=◌}
-use Rattle.dwp_archive.specs.declared.fault.ArchiveError.{ArchiveError}
-use Rattle.dwp_archive.specs.declared.fault.ArchiveError.TheVariants.{Name, PastNames, NameTooLong}
+use Rattle.dwp_archive.specs.declared.error.ArchiveError.{ArchiveError}
+use Rattle.dwp_archive.specs.declared.error.ArchiveError.TheVariants.{Name, PastNames, NameTooLong}
 use Rattle.dwp_archive.specs.Headers.{decimal, is_padded, size_at}
 use Rattle.dwp_archive.specs.Names.{short_name, long_name, own_name}
 

@@ -1,15 +1,15 @@
 -- The header of a member (ar(5)): 60 bytes of text. Its name has 16, and behind date, owner, group
 -- and mode the size of the content has the ten from 48 on, decimal; then come a grave accent and a
 -- line feed.
-use Rattle.std.specs.Prelude.{ℕ, ◌+◌, ◌-◌, ◌*◌, Bool, ◌&&◌, ◌==◌, nat_lt, nat_le, nat_eq, not}
-use Rattle.std.specs.Prelude.{List, [], ◌∷◌, length, drop, slice_range, if◌then◌else◌}
-use Rattle.std.specs.Prelude.{Option, Some, None, Result, Ok, Err}
+use Rattle.std.specs.Prelude.{ℕ, ◌+◌, ◌-◌, ◌*◌, Bool, ◌&&◌, ◌==◌, nat_lt, nat_le, nat_eq, not, List}
+use Rattle.std.specs.Prelude.{[], ◌∷◌, length, drop, slice_range, if◌then◌else◌, Option, Some, None}
+use Rattle.std.specs.Prelude.{Result, Ok, Err}
 use Rattle.std.specs.List.{starts_with, list_all}
 use Rattle.std.specs.Option.{ok_or}
 use Rattle.dwp_base.specs.Reading.{◌>>=◌}
-use Rattle.dwp_archive.specs.declared.fault.ArchiveError.{ArchiveError}
-use Rattle.dwp_archive.specs.declared.fault.ArchiveError.TheVariants.{HeaderTooShort, HeaderEnd}
-use Rattle.dwp_archive.specs.declared.fault.ArchiveError.TheVariants.{Size, PastEnd}
+use Rattle.dwp_archive.specs.declared.error.ArchiveError.{ArchiveError}
+use Rattle.dwp_archive.specs.declared.error.ArchiveError.TheVariants.{HeaderTooShort, HeaderEnd}
+use Rattle.dwp_archive.specs.declared.error.ArchiveError.TheVariants.{Size, PastEnd}
 
 -- `0` to `9`
 abbrev pub is_digit : ℕ → Bool

@@ -3,8 +3,8 @@ use Rattle.std.specs.Prelude.{ℕ, zero, suc, List, [], ◌∷◌, ◌++◌, len
 use Rattle.std.specs.Prelude.{if◌then◌else◌, Result, Ok, Err}
 use Rattle.std.specs.List.{starts_with}
 use Rattle.dwp_base.specs.Reading.{◌>>=◌}
-use Rattle.dwp_archive.specs.declared.fault.ArchiveError.{ArchiveError}
-use Rattle.dwp_archive.specs.declared.fault.ArchiveError.TheVariants.{NotArchive, Thin}
+use Rattle.dwp_archive.specs.declared.error.ArchiveError.{ArchiveError}
+use Rattle.dwp_archive.specs.declared.error.ArchiveError.TheVariants.{NotArchive, Thin}
 use Rattle.dwp_archive.specs.Entries.{Member, entry_at}
 
 -- the first line of an archive, and of a thin one
@@ -30,7 +30,7 @@ members_from (suc n) names (b ∷ bytes) = do
   members ← members_from n entry.names entry.rest
   Ok (entry.members ++ members)
 
--- the members of an archive, or its first fault
+-- the members of an archive, or its first error
 unfoldable pub members_of : List ℕ → Result (List Member) ArchiveError
 members_of bytes = do
   entries ← entries_of bytes

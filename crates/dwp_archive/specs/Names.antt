@@ -1,6 +1,5 @@
 -- How names of members are written (ar(5), the variants of System V, GNU and BSD).
-use Rattle.std.specs.Prelude.{ℕ, ◌-◌, ◌==◌, nat_lt, List, length, take, slice_index}
-use Rattle.std.specs.Prelude.{if◌then◌else◌}
+use Rattle.std.specs.Prelude.{ℕ, ◌-◌, ◌==◌, nat_lt, List, length, take, slice_index, if◌then◌else◌}
 use Rattle.std.specs.List.{before_first}
 
 -- in the header: up to a slash (System V, GNU), and without one up to a blank (BSD)

@@ -7,7 +7,7 @@ ghost use Rattle.dwp_archive.specs.Entries.{content_at, entry_at};
 ghost use Rattle.dwp_archive.specs.Names.{short_name};
 ghost use Rattle.dwp_archive.specs.View.{listed, entry};
 
-use crate::fault::ArchiveError;
+use crate::error::ArchiveError;
 use crate::header::{decimal, is_padded, size_at};
 use crate::member::{Member, NameForm, own_name, short_name};
 

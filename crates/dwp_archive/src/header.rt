@@ -5,7 +5,7 @@ ghost use Rattle.std.specs.List.{list_all};
 ghost use Rattle.dwp_base.specs.Reading.{Answers};
 ghost use Rattle.dwp_archive.specs.Headers.{is_digit, decimal, is_padded, size_at};
 
-use crate::fault::ArchiveError;
+use crate::error::ArchiveError;
 
 /// Whether a byte is a decimal digit.
 fn is_digit(byte: u8) -> bool

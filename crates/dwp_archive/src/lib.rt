@@ -2,11 +2,11 @@
 #![tactic(auto)]
 
 mod entry;
-mod fault;
+mod error;
 mod header;
 mod member;
 mod reading;
 
-pub use fault::ArchiveError;
+pub use error::ArchiveError;
 pub use member::Member;
 pub use reading::members;

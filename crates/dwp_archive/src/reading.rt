@@ -7,7 +7,7 @@ ghost use Rattle.dwp_archive.specs.Members.{entries_of, members_from, members_of
 ghost use Rattle.dwp_archive.specs.View.{member, listed};
 
 use crate::entry::entry_at;
-use crate::fault::ArchiveError;
+use crate::error::ArchiveError;
 use crate::member::Member;
 use std::alloc::{AllocError, Global};
 
@@ -59,7 +59,7 @@ fn members_in(alloc: Global, most: usize, entries: &[u8]) -> Result<Vec<Member<'
 /// The members of an archive, in order, as bytes of it. Tables of symbols and of names are none.
 ///
 /// # Errors
-/// The first fault, and `Memory`.
+/// The first error, and `Memory`.
 #[tactic(auto, unfolding(crate::specs::Members::members_of))]
 pub fn members(alloc: Global, bytes: &[u8]) -> Result<Vec<Member<'_>>, ArchiveError>
     ensures { Gives (λ members. map member members.items) result (members_of bytes.now) }

@@ -1,14 +1,13 @@
 -- Reading an unsigned number of variable length byte by byte.
 use Rattle.std.proofs.Common.{◌≡◌, ℕ, suc, ◌+◌, ◌*◌, ◌-◌, ◌^◌, ◌<◌, ◌≤◌, Result, Ok, Err, refl, sym}
-use Rattle.std.proofs.Common.{ap, ◌∙◌, arith, ltb, true, false}
+use Rattle.std.proofs.Common.{ap, ◌∙◌, arith, ltb, true, false, inl, inr}
 use Rattle.std.proofs.Math.Nat.{pow-le-pow_right, mul-le-mul_right}
 use Rattle.std.proofs.lemmas.Grind.{pow_more}
 use Rattle.std.proofs.lemmas.Bool.{cases_lt, le-ltb, lt-ltb}
 use Rattle.std.specs.Prelude.{if◌then◌else◌, nat_lt}
-use Rattle.std.proofs.Common.{inl, inr}
 use Rattle.dwp_base.specs.Reading.{◌>>=◌}
-use Rattle.dwp_bytes.specs.declared.fault.ReadError.{ReadError}
-use Rattle.dwp_bytes.specs.declared.fault.ReadError.TheVariants.{BigLeb}
+use Rattle.dwp_bytes.specs.declared.error.ReadError.{ReadError}
+use Rattle.dwp_bytes.specs.declared.error.ReadError.TheVariants.{BigLeb}
 use Rattle.dwp_bytes.specs.Input.{Input, byte_at}
 use Rattle.dwp_bytes.specs.Leb.{leb_at, uleb_at}
 
@@ -21,10 +20,6 @@ pub record SoFar (first i : Input) (k value scale : ℕ) : Type 0 where
   pub scaled : scale ≡ 128 ^ k
   pub below : value < scale
   pub rest : carried value scale (leb_at (10 - k) i) ≡ leb_at 10 first
-
-carried_none : (r : Result (ℕ × Input) ReadError) → carried 0 1 r ≡ r
-carried_none (Ok x) = ap (λ (n : ℕ). Ok (n, x.1)) (omega arith)
-carried_none (Err e) = refl
 
 carried_twice : (value scale low : ℕ) (r : Result (ℕ × Input) ReadError) → carried value scale
     (r >>= λ rest. Ok (low + 128 * rest.0, rest.1)) ≡ carried (value + low * scale) (scale * 128) r
@@ -41,9 +36,6 @@ one_byte n i b j read = rw read refl
 no_byte : (n : ℕ) (i : Input) (e : ReadError) → byte_at i ≡ Err e → leb_at (suc n) i ≡ Err e
 unfolding leb_at
 no_byte n i e read = rw read refl
-
-pub start : (first : Input) → SoFar first first 0 0 1
-start first = record { scaled = refl; below = omega arith; rest = carried_none (leb_at 10 first) }
 
 pub small : (k scale : ℕ) → scale ≡ 128 ^ k → k < 9 → scale ≤ 128 ^ 8
 small k scale e lt = let here : 128 ^ k ≤ 128 ^ 8 = pow-le-pow_right {n = 128} (omega arith) {i = k}

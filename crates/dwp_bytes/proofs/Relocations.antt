@@ -1,6 +1,6 @@
 -- An ascending list of relocations is searched by halves.
-use Rattle.std.proofs.Common.{◌≡◌, ◌≢◌, inl, inr, ℕ, zero, suc, ◌<◌, ◌≤◌, Bool, true, false, eqb}
-use Rattle.std.proofs.Common.{◌&&◌, List, [], ◌∷◌, length, get_or, Some, None, Ok, Err, refl, arith}
+use Rattle.std.proofs.Common.{◌≡◌, ◌≢◌, inl, inr, ℕ, zero, suc, ◌<◌, ◌≤◌, true, false, eqb, List}
+use Rattle.std.proofs.Common.{[], ◌∷◌, length, get_or, Some, None, Ok, Err, refl, arith}
 use Rattle.std.proofs.lemmas.Bool.{ltb-true, cases_lt}
 use Rattle.std.proofs.lemmas.Bool.Decides.{nat_tests}
 use Rattle.std.specs.Ordering.{nat_cmp, ordering_index}
@@ -8,10 +8,7 @@ use Rattle.std.specs.declared.cmp.Ordering.TheVariants.{Less, Equal, Greater}
 use Rattle.std.specs.List.Sorted.{IsBinarySearchResult, IsNonDecreasingBy}
 use Rattle.dwp_bytes.specs.declared.relocation.RelocationEntry.{RelocationEntry}
 use Rattle.dwp_bytes.specs.Relocation.{ascends, begins_past, relocation_at, relocated_by, value_of}
-
-both : (a b : Bool) → (a && b) ≡ true → (a ≡ true) × (b ≡ true)
-both true b e = (refl, e)
-both false b e = absurd cc
+use Rattle.dwp_base.proofs.Bools.{both}
 
 past_all : (n : ℕ) (xs : List RelocationEntry) (k : ℕ) (d : RelocationEntry) → begins_past n xs ≡
     true → ascends xs ≡ true → k < length xs → n < (get_or xs k d).offset

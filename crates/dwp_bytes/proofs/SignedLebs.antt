@@ -1,16 +1,15 @@
 -- Reading a signed number of variable length byte by byte.
 use Rattle.std.proofs.Common.{◌≢◌, ◌≡◌, ℕ, suc, ◌+◌, ◌*◌, ◌-◌, ◌^◌, ◌<◌, ◌≤◌, Result, Ok, Err, refl}
-use Rattle.std.proofs.Common.{sym, ap, ◌∙◌, arith, ltb, true, false, inl, inr}
+use Rattle.std.proofs.Common.{sym, ap, ◌∙◌, arith, ltb, true, false, inl, inr, to_z, of_z, w64}
 use Rattle.std.proofs.Math.Nat.{mul-le-mul_right}
 use Rattle.std.proofs.lemmas.Grind.{pow_more}
 use Rattle.std.proofs.lemmas.Int.{ints}
 use Rattle.std.proofs.Math.IntN.{pos-*ℤ-pos, pos-*ℤ-negsuc}
-use Rattle.std.proofs.Common.{to_z, of_z, w64}
 use Rattle.std.proofs.lemmas.Bool.{cases_lt, le-ltb, lt-ltb}
 use Rattle.std.specs.Prelude.{if◌then◌else◌, nat_lt, ℤ, pos, negsuc, ◌+ℤ◌, ◌-ℤ◌, ◌*ℤ◌}
 use Rattle.dwp_base.specs.Reading.{◌>>=◌}
-use Rattle.dwp_bytes.specs.declared.fault.ReadError.{ReadError}
-use Rattle.dwp_bytes.specs.declared.fault.ReadError.TheVariants.{BigLeb}
+use Rattle.dwp_bytes.specs.declared.error.ReadError.{ReadError}
+use Rattle.dwp_bytes.specs.declared.error.ReadError.TheVariants.{BigLeb}
 use Rattle.dwp_bytes.specs.Input.{Input, byte_at}
 use Rattle.dwp_bytes.specs.Leb.{signed_leb_at, sleb_at, is_i64}
 use Rattle.dwp_bytes.proofs.Lebs.{below_scale}
@@ -24,9 +23,6 @@ pub record SignedSoFar (first i : Input) (k value scale : ℕ) : Type 0 where
   pub scaled : scale ≡ 128 ^ k
   pub below : value < scale
   pub rest : carried value scale (signed_leb_at (10 - k) i) ≡ signed_leb_at 10 first
-
-one_times : (z : ℤ) → pos 0 +ℤ pos 1 *ℤ z ≡ z
-one_times z = omega (arith, ints)
 
 -- a difference, so many times
 scaled_less : (s a b : ℕ) → pos s *ℤ (pos a -ℤ pos b) ≡ pos (s * a) -ℤ pos (s * b)
@@ -65,10 +61,6 @@ last_high value scale b le =
     let p : ((128 - b) + b) * scale ≡ 128 * scale = ap (λ (x : ℕ). x * scale) h in
     ap (λ (z : ℤ). pos value +ℤ z) (scaled_less scale b 128) ∙ omega (arith, ints, p)
 
-carried_none : (r : Result (ℤ × Input) ReadError) → carried 0 1 r ≡ r
-carried_none (Ok x) = ap (λ (z : ℤ). Ok (z, x.1)) (one_times x.0)
-carried_none (Err e) = refl
-
 carried_twice : (value scale low : ℕ) (r : Result (ℤ × Input) ReadError) → carried value scale
     (r >>= λ rest. Ok (pos low +ℤ pos 128 *ℤ rest.0, rest.1)) ≡ carried
     (value + low * scale) (scale * 128) r
@@ -90,14 +82,6 @@ no_byte n i e read = rw read refl
 none_left : (i : Input) → signed_leb_at 0 i ≡ Err BigLeb
 unfolding signed_leb_at
 none_left i = refl
-
-pub start : (first : Input) → SignedSoFar first first 0 0 1
-start first = record {
-  scaled = refl;
-  below = omega arith;
-  rest =
-      carried_none (signed_leb_at 10 first);
-}
 
 goes_on : (n : ℕ) (i : Input) (b : ℕ) (j : Input) → byte_at i ≡ Ok (b, j) → 128 ≤ b
     → signed_leb_at (suc n) i ≡ (signed_leb_at n j >>= λ rest.

@@ -8,7 +8,7 @@ use Rattle.std.proofs.lemmas.List.Sums.{position_or_len_is}
 use Rattle.std.proofs.lemmas.Bool.{le-ltb, false_from_ne_true, eq-eqb, eqb-true}
 use Rattle.std.proofs.lemmas.Bool.Decides.{Decides-by_or, Decides-eqb}
 use Rattle.memchr.specs.Find.{IsFirstByte, is_byte}
-use Rattle.dwp_bytes.specs.declared.fault.ReadError.TheVariants.{NoTerminator}
+use Rattle.dwp_bytes.specs.declared.error.ReadError.TheVariants.{NoTerminator}
 use Rattle.dwp_bytes.specs.StringOffsets.{string_at}
 
 -- what a search for the first zero says of the bytes before it

@@ -6,9 +6,9 @@ use Rattle.std.specs.Option.{ok_or}
 use Rattle.dwp_base.specs.declared.endian.Endianness.{Endianness}
 use Rattle.dwp_base.specs.Numbers.{number}
 use Rattle.dwp_bytes.specs.declared.encoding.Format.{Format}
-use Rattle.dwp_bytes.specs.declared.fault.ReadError.{ReadError}
-use Rattle.dwp_bytes.specs.declared.fault.ReadError.TheVariants.{UnexpectedEof, AddressSize}
-use Rattle.dwp_bytes.specs.declared.fault.ReadError.TheVariants.{NoTerminator}
+use Rattle.dwp_bytes.specs.declared.error.ReadError.{ReadError}
+use Rattle.dwp_bytes.specs.declared.error.ReadError.TheVariants.{UnexpectedEof, AddressSize}
+use Rattle.dwp_bytes.specs.declared.error.ReadError.TheVariants.{NoTerminator}
 use Rattle.dwp_bytes.specs.Encoding.{offset_size}
 
 -- what a reader has left

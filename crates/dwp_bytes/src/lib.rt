@@ -2,7 +2,7 @@
 #![tactic(auto)]
 
 mod encoding;
-mod fault;
+mod error;
 pub mod laws;
 mod reader;
 mod relocate;
@@ -11,7 +11,7 @@ mod slice;
 mod string_offsets;
 
 pub use encoding::{Encoding, Format};
-pub use fault::{ReadError, WriteError};
+pub use error::{ReadError, WriteError};
 pub use reader::Reader;
 pub use relocate::Relocate;
 pub use relocation::{Relocation, RelocationEntry};

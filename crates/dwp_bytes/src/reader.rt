@@ -8,7 +8,7 @@ ghost use Rattle.dwp_bytes.specs.Input.{Input, front, found_at, bytes_at, split_
 ghost use Rattle.dwp_bytes.specs.Input.{truncate_at, byte_at, number_at, sized_at, offset_at};
 
 use crate::encoding::Format;
-use crate::fault::ReadError;
+use crate::error::ReadError;
 use byteorder::{BigEndian, ByteOrder, LittleEndian};
 use dwp_base::Endianness;
 use memchr::memchr;

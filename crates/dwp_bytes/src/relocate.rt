@@ -4,7 +4,7 @@ ghost use Rattle.std.specs.Prelude.{◌≡◌, ◌≤◌, IsTrue, ⊤};
 ghost use Rattle.dwp_bytes.specs.Relocation.{ascends, relocated_input};
 
 use crate::encoding::Format;
-use crate::fault::ReadError;
+use crate::error::ReadError;
 use crate::reader::Reader;
 use crate::relocation::{RelocationEntry, relocated};
 use dwp_base::Endianness;

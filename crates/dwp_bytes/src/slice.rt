@@ -5,7 +5,7 @@ ghost use Rattle.dwp_base.specs.Reading.{Reads};
 ghost use Rattle.dwp_bytes.specs.Input.{section, sized_at};
 
 use crate::encoding::Format;
-use crate::fault::ReadError;
+use crate::error::ReadError;
 use crate::reader::Reader;
 use dwp_base::Endianness;
 

@@ -5,7 +5,7 @@ ghost use Rattle.dwp_base.specs.Reading.{Answers};
 ghost use Rattle.dwp_bytes.specs.StringOffsets.{header_size, entry_count, string_at};
 
 use crate::encoding::{Encoding, Format};
-use crate::fault::ReadError;
+use crate::error::ReadError;
 use memchr::memchr;
 
 impl Encoding {

@@ -1,7 +1,7 @@
 -- Sections that are compared.
 use Rattle.std.proofs.Common.{◌≡◌, ℕ, zero, suc, ◌+◌, ◌<◌, ◌≤◌, Bool, true, false, List, [], ◌∷◌}
-use Rattle.std.proofs.Common.{◌++◌, length, take, drop, map, get_or, Some, None, Option, Ok}
-use Rattle.std.proofs.Common.{Err, sym, ap, ◌∙◌, refl, arith, cond}
+use Rattle.std.proofs.Common.{◌++◌, length, take, drop, map, get_or, Some, None, Option, Ok, Err}
+use Rattle.std.proofs.Common.{sym, ap, ◌∙◌, refl, arith, cond}
 use Rattle.std.specs.Global.{Vec}
 use Rattle.std.specs.Prelude.{slice_get, option_map, codes}
 use Rattle.std.specs.Option.{ok_or}

@@ -1,7 +1,7 @@
 -- Sections taken one after the other.
-use Rattle.std.proofs.Common.{◌≡◌, ℕ, zero, suc, ◌+◌, ◌<◌, ◌≤◌, Bool, true, false, ◌||◌, List, []}
-use Rattle.std.proofs.Common.{◌∷◌, ◌++◌, length, drop, Some, None, Option, Result, Ok, Err, sym, ap}
-use Rattle.std.proofs.Common.{◌∙◌, refl, arith, append_assoc, append-nil, cond}
+use Rattle.std.proofs.Common.{◌≡◌, ℕ, zero, suc, ◌+◌, ◌≤◌, Bool, true, false, ◌||◌, List, [], ◌∷◌}
+use Rattle.std.proofs.Common.{◌++◌, length, drop, Some, Option, Result, Ok, Err, sym, ap, ◌∙◌, refl}
+use Rattle.std.proofs.Common.{arith, append_assoc, append-nil, cond}
 use Rattle.std.specs.Global.{Vec}
 use Rattle.std.specs.Prelude.{slice_get, option_map, codes}
 use Rattle.std.specs.List.{list_any}
@@ -10,7 +10,7 @@ use Rattle.dwp_base.specs.Reading.{◌>>=◌}
 use Rattle.dwp_base.specs.declared.class.Class.{Class}
 use Rattle.dwp_base.specs.declared.endian.Endianness.{Endianness}
 use Rattle.dwp_elf_read.specs.Elf.{SectionMeaning}
-use Rattle.dwp_decompress.specs.declared.fault.DecompressError.{DecompressError}
+use Rattle.dwp_decompress.specs.declared.error.DecompressError.{DecompressError}
 use Rattle.dwp_decompress.specs.Headers.{content_of}
 use Rattle.dwp_decompress.specs.Compressed.{is_older, is_compressed}
 use Rattle.dwp_decompress.specs.Names.{plain_name, added_name, added_name_of, added_names}
@@ -26,11 +26,6 @@ drop_step xs i x e = let one : i + 1 ≡ suc i = omega arith in at_suc xs i x e 
     at_suc [] i x e = absurd cc
     at_suc (y ∷ ys) zero x e = let same : y ≡ x = cc in ap (λ z. z ∷ ys) same
     at_suc (y ∷ ys) (suc i) x e = at_suc ys i x e
-
-pub slice_get_none : {X : Type 0} (xs : List X) (i : ℕ) → i < length xs → slice_get xs i ≡ None → ⊥
-slice_get_none [] i h e = omega arith
-slice_get_none (x ∷ xs) zero h e = cc
-slice_get_none (x ∷ xs) (suc i) h e = slice_get_none xs i (omega arith) e
 
 -- some item from the i-th on passes
 pub any_step : {X : Type 0} (p : X → Bool) (xs : List X) (i : ℕ) (x : X) → slice_get xs i ≡ Some x

@@ -1,13 +1,13 @@
 -- What a call answers, beside what its definition says.
 use Rattle.std.specs.Prelude.{◌≡◌, ◌≢◌, Result, Ok, Err}
-use Rattle.dwp_elf_read.specs.declared.fault.ReadError.{ReadError}
-use Rattle.dwp_inflate.specs.declared.fault.InflateError.{InflateError}
-use Rattle.dwp_inflate.specs.declared.fault.InflateError.TheVariants as inflating
-use Rattle.dwp_decompress.specs.declared.fault.DecompressError.{DecompressError}
-use Rattle.dwp_decompress.specs.declared.fault.Refusal.{Refusal}
-use Rattle.dwp_decompress.specs.declared.fault.Refusal.TheVariants as refusing
-use Rattle.dwp_decompress.specs.declared.fault.DecompressError.TheVariants.{Read, Stream, Memory}
-use Rattle.dwp_decompress.specs.declared.fault.DecompressError.TheVariants.{Unrepresentable}
+use Rattle.dwp_elf_read.specs.declared.error.ReadError.{ReadError}
+use Rattle.dwp_inflate.specs.declared.error.InflateError.{InflateError}
+use Rattle.dwp_inflate.specs.declared.error.InflateError.TheVariants as inflating
+use Rattle.dwp_decompress.specs.declared.error.DecompressError.{DecompressError}
+use Rattle.dwp_decompress.specs.declared.error.Refusal.{Refusal}
+use Rattle.dwp_decompress.specs.declared.error.Refusal.TheVariants as refusing
+use Rattle.dwp_decompress.specs.declared.error.DecompressError.TheVariants.{Read, Stream, Memory}
+use Rattle.dwp_decompress.specs.declared.error.DecompressError.TheVariants.{Unrepresentable}
 
 -- what a call answered, seen by view, is what the definition says; memory may run out besides
 abbrev pub Gives : {X Y : Type 0} → (X → Y) → Result X DecompressError → Result Y DecompressError
@@ -21,20 +21,20 @@ abbrev pub GivesFile : {X Y : Type 0} → (X → Y) → Result X DecompressError
 GivesFile view (Ok x) meaning = meaning ≡ Ok (view x)
 GivesFile view (Err e) meaning = e ≢ Memory → e ≢ Unrepresentable → meaning ≡ Err e
 
--- what the ELF reader found, with its fault as ours
+-- what the ELF reader found, with its error as ours
 abbrev pub reading : {X : Type 0} → Result X ReadError → Result X DecompressError
 reading (Ok x) = Ok x
 reading (Err e) = Err (Read e)
 
--- the fault of a stream as ours
-abbrev pub stream_fault : InflateError → DecompressError
-stream_fault inflating.Memory = Memory
-stream_fault e = Stream e
+-- the error of a stream as ours
+abbrev pub stream_error : InflateError → DecompressError
+stream_error inflating.Memory = Memory
+stream_error e = Stream e
 
--- what a stream writes, with its fault as ours
+-- what a stream writes, with its error as ours
 abbrev pub writing : {X : Type 0} → Result X InflateError → Result X DecompressError
 writing (Ok x) = Ok x
-writing (Err e) = Err (stream_fault e)
+writing (Err e) = Err (stream_error e)
 
 -- a file that can't be written
 abbrev pub refusal : Refusal → DecompressError

@@ -4,17 +4,17 @@ use Rattle.std.specs.Prelude.{ℕ, ◌*◌, List, drop, length, nat_lt, nat_eq, 
 use Rattle.std.specs.Prelude.{if◌then◌else◌, Result, Ok, Err, Option, Some, None}
 use Rattle.std.specs.List.{starts_with}
 use Rattle.std.specs.Option.{ok_or}
+use Rattle.dwp_base.specs.Reading.{◌>>=◌}
 use Rattle.dwp_base.specs.declared.class.Class.{Class}
 use Rattle.dwp_base.specs.declared.endian.Endianness.{Endianness}
 use Rattle.dwp_base.specs.declared.endian.Endianness.TheVariants.{Big}
-use Rattle.dwp_base.specs.Reading.{◌>>=◌}
-use Rattle.dwp_elf_read.specs.declared.fault.ReadError.TheVariants.{SectionRange}
+use Rattle.dwp_elf_read.specs.declared.error.ReadError.TheVariants.{SectionRange}
 use Rattle.dwp_elf_read.specs.Layout.{word_size, number_at}
 use Rattle.dwp_elf_read.specs.Elf.{SectionMeaning, has_compressed_flag}
 use Rattle.dwp_inflate.specs.Streams.{inflated}
-use Rattle.dwp_decompress.specs.declared.fault.DecompressError.{DecompressError}
-use Rattle.dwp_decompress.specs.declared.fault.DecompressError.TheVariants.{Header, Zstd}
-use Rattle.dwp_decompress.specs.declared.fault.DecompressError.TheVariants.{UnknownType}
+use Rattle.dwp_decompress.specs.declared.error.DecompressError.{DecompressError}
+use Rattle.dwp_decompress.specs.declared.error.DecompressError.TheVariants.{Header, Zstd}
+use Rattle.dwp_decompress.specs.declared.error.DecompressError.TheVariants.{UnknownType}
 use Rattle.dwp_decompress.specs.declared.stream.Packed as declared
 use Rattle.dwp_decompress.specs.Answers.{reading, writing}
 use Rattle.dwp_decompress.specs.Compressed.{is_compressed}

@@ -1,15 +1,14 @@
 -- The file with plain sections in place of compressed ones.
-use Rattle.std.specs.Prelude.{ℕ, ◌+◌, ◌-◌, List, [], ◌∷◌, ◌++◌, length, ◌==◌, option_map}
-use Rattle.std.specs.Prelude.{if◌then◌else◌, Option, Some, None, Result, Ok}
-use Rattle.std.specs.Prelude.{map}
+use Rattle.std.specs.Prelude.{ℕ, ◌+◌, List, [], ◌∷◌, ◌++◌, length, ◌==◌, option_map, if◌then◌else◌}
+use Rattle.std.specs.Prelude.{Option, Some, None, Result, Ok, map}
 use Rattle.std.specs.Global.{Vec}
 use Rattle.std.specs.Int.Bits.{bit_and}
+use Rattle.dwp_base.specs.Reading.{◌>>=◌}
 use Rattle.dwp_base.specs.declared.class.Class.{Class}
 use Rattle.dwp_base.specs.declared.endian.Endianness.{Endianness}
-use Rattle.dwp_base.specs.Reading.{◌>>=◌}
-use Rattle.dwp_elf_read.specs.declared.fault.ReadError.{ReadError}
+use Rattle.dwp_elf_read.specs.declared.error.ReadError.{ReadError}
 use Rattle.dwp_elf_read.specs.Elf.{Elf, SectionMeaning, elf_of}
-use Rattle.dwp_decompress.specs.declared.fault.DecompressError.{DecompressError}
+use Rattle.dwp_decompress.specs.declared.error.DecompressError.{DecompressError}
 use Rattle.dwp_decompress.specs.Answers.{reading}
 use Rattle.dwp_decompress.specs.Compressed.{has_compressed}
 use Rattle.dwp_decompress.specs.Headers.{content_of}
@@ -49,7 +48,7 @@ result_sections names added (section ∷ sections) [] = []
 result_sections names added (section ∷ sections) (content ∷ contents) =
     result_section names added section content ∷ result_sections names added sections contents
 
--- the contents of all sections, in order, up to the first fault
+-- the contents of all sections, in order, up to the first error
 unfoldable pub contents_of : Class → Endianness → List SectionMeaning
     → Result (List (Option (List ℕ))) DecompressError
 contents_of class order [] = Ok []

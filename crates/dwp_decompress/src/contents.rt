@@ -8,7 +8,7 @@ ghost use Rattle.dwp_decompress.specs.Headers.{plain_of, content_of};
 ghost use Rattle.dwp_decompress.specs.Result.{contents_of, plain_contents};
 
 use crate::compressed::is_compressed;
-use crate::fault::DecompressError;
+use crate::error::DecompressError;
 use crate::stream::packed_in;
 use dwp_base::{Class, Endianness};
 use dwp_elf_read::{ElfFile, Section};

@@ -10,7 +10,7 @@ ghost use Rattle.dwp_decompress.specs.Result.{plain_file, decompressed_of};
 use crate::agree::Expected;
 use crate::compressed::has_compressed;
 use crate::contents::contents;
-use crate::fault::{DecompressError, Refusal};
+use crate::error::{DecompressError, Refusal};
 use crate::file::Change;
 use crate::names::{added_names, names_number};
 use dwp_elf_read::ElfFile;
@@ -72,7 +72,7 @@ fn with_plain(alloc: Global, bytes: &[u8], file: &ElfFile<'_>) -> Result<Vec<u8>
 ///
 /// # Errors
 /// `Read` where the file can't be read, or a compressed section lies outside of it; then, for the
-/// first section that has a fault, `Header`, `Zstd`, `UnknownType` or `Stream`; `Unrepresentable`
+/// first section that has an error, `Header`, `Zstd`, `UnknownType` or `Stream`; `Unrepresentable`
 /// where the result's numbers don't fit the class, or the table of names is itself compressed; and
 /// `Memory`. The result is read again and compared before it is given: where it were to mean
 /// anything else, the answer would be `Unrepresentable` too.

@@ -3,7 +3,7 @@
 
 use crate::agree::Expected;
 use crate::compressed::is_older;
-use crate::fault::Refusal;
+use crate::error::Refusal;
 use crate::header::{Header, Manner};
 use dwp_base::Class;
 use dwp_elf_read::{ElfFile, Section};

@@ -3,7 +3,7 @@
 ghost use Rattle.std.specs.Prelude.{◌≡◌, ◌*◌, ◌+◌, length, IfSome};
 ghost use Rattle.dwp_elf_read.specs.Layout.{word_size};
 
-use crate::fault::Refusal;
+use crate::error::Refusal;
 use crate::stream::{word_at, word_size_of};
 use dwp_base::{Class, Endianness};
 

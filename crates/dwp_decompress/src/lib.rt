@@ -5,11 +5,11 @@ mod agree;
 mod compressed;
 mod contents;
 mod convert;
-mod fault;
+mod error;
 mod file;
 mod header;
 mod names;
 mod stream;
 
 pub use convert::decompressed;
-pub use fault::DecompressError;
+pub use error::DecompressError;

@@ -6,7 +6,7 @@ ghost use Rattle.dwp_elf_read.specs.Layout.{word_size, number_at};
 ghost use Rattle.dwp_elf_read.specs.View as view;
 ghost use Rattle.dwp_decompress.specs.Headers.{packed, with_type, headed, older, packed_in};
 
-use crate::fault::DecompressError;
+use crate::error::DecompressError;
 use dwp_base::{Class, Endianness};
 use dwp_elf_read::Section;
 

@@ -1,25 +1,25 @@
 -- What is read of a table of abbreviations is read too where bytes behind it are missing.
 use Rattle.std.proofs.Common.{◌≡◌, ◌∙◌, ℕ, zero, suc, ◌+◌, ◌-◌, ◌*◌, ◌^◌, ◌≤◌, Bool, true, false}
-use Rattle.std.proofs.Common.{cond, eqb, ltb, List, [], ◌∷◌, ◌++◌, length, Result, Ok, Err}
-use Rattle.std.proofs.Common.{Some, None, refl, sym, ap, subst, arith, true≢false, length-append}
+use Rattle.std.proofs.Common.{cond, eqb, ltb, List, [], ◌∷◌, ◌++◌, length, Result, Ok, Err, Some}
+use Rattle.std.proofs.Common.{None, refl, sym, ap, subst, arith, true≢false, length-append}
 use Rattle.std.specs.Prelude.{ℤ, pos, ◌+ℤ◌, ◌-ℤ◌, ◌*ℤ◌}
 use Rattle.std.proofs.lemmas.Bool.{le-ltb, ne_eqb}
 use Rattle.dwp_base.specs.declared.endian.Endianness.{Endianness}
 use Rattle.dwp_base.specs.Reading.{◌>>=◌}
 use Rattle.dwp_bytes.specs.Input.{Input, byte_at}
 use Rattle.dwp_bytes.specs.Leb.{LebsTakeBytes, leb_at, uleb_at, signed_leb_at, sleb_at, is_i64}
-use Rattle.dwp_bytes.specs.declared.fault.ReadError.{ReadError}
-use Rattle.dwp_bytes.specs.declared.fault.ReadError.TheVariants.{UnexpectedEof, BigLeb, ZeroTag}
-use Rattle.dwp_bytes.specs.declared.fault.ReadError.TheVariants.{BadChildren}
+use Rattle.dwp_bytes.specs.declared.error.ReadError.{ReadError}
+use Rattle.dwp_bytes.specs.declared.error.ReadError.TheVariants.{UnexpectedEof, BigLeb, ZeroTag}
+use Rattle.dwp_bytes.specs.declared.error.ReadError.TheVariants.{BadChildren}
 use Rattle.dwp_dwarf.specs.Abbreviations.{Specification, Declaration, constant_at, specification_at}
 use Rattle.dwp_dwarf.specs.Abbreviations.{is_last, specifications_within, specifications_at, tag_at}
 use Rattle.dwp_dwarf.specs.Abbreviations.{children_at, declaration_at, code_at}
 use Rattle.dwp_dwarf.specs.Grammar.{next_at}
-use Rattle.dwp_dwarf.proofs.Forward.{bind_ok, guard_ok, by_choice, no_value, goes_shorter}
-use Rattle.dwp_dwarf.proofs.Forward.{byte_shorter}
+use Rattle.dwp_dwarf.proofs.Forward.{no_value, goes_shorter, byte_shorter}
 use Rattle.dwp_dwarf.proofs.TableForward.{list_enough}
-use Rattle.dwp_dwarf.proofs.Grammar.{by_answer, by_bool, next-end, next-is, next-fault}
-use Rattle.dwp_dwarf.proofs.Grammar.{next-bad_code}
+use Rattle.dwp_dwarf.proofs.Grammar.{by_answer, next-end, next-is, next-error, next-bad_code}
+use Rattle.dwp_base.proofs.Steps.{bind-was, guard-ok, by-choice}
+use Rattle.dwp_base.proofs.Bools.{by-bool}
 
 -- the input with more bytes behind
 abbrev pub more : Input → List ℕ → Input
@@ -64,7 +64,7 @@ byte_cut order relocated place (b ∷ bs) rest x h le =
     in
     let j : Input = record { order = order; relocated = relocated; place = place + 1; bytes = bs }
     in
-    let g = guard_ok (ltb (suc (length (bs ++ rest))) 1) UnexpectedEof (b, more j rest) x h in
+    let g = guard-ok (ltb (suc (length (bs ++ rest))) 1) UnexpectedEof (b, more j rest) x h in
     subst (λ (y : ℕ × Input). ReadWithout byte_at i rest y) g.1 (
       j,
       refl,
@@ -84,7 +84,7 @@ then_reads : {A B : Type 0} (read : Input → Answer A) → Reads A read
     → Reads B (λ i. read i >>= λ a. next a.0 a.1)
 then_reads {A} {B} read first next second = record {
   cut = λ i rest x h le.
-      let s = bind_ok (read (more i rest)) _ x h in
+      let s = bind-was (read (more i rest)) _ x h in
       let left = (second s.0.0).forward s.0.1 x s.2 in
       let one = first.cut i rest s.0 s.1 (omega arith) in
       let two = (second s.0.0).cut one.0 rest x
@@ -94,7 +94,7 @@ then_reads {A} {B} read first next second = record {
         ap (λ (r : Answer A). r >>= λ a. next a.0 a.1) one.2 ∙ two.2,
       );
   forward = λ i x h.
-      let s = bind_ok (read i) _ x h in
+      let s = bind-was (read i) _ x h in
       omega (arith, first.forward i s.0 s.1, (second s.0.0).forward s.0.1 x s.2);
 }
 
@@ -109,8 +109,8 @@ reads_value {A} a = record {
   forward = λ i x h. value_of (λ y. length y.1.bytes ≤ length i.bytes) (a, i) x h (omega arith);
 }
 
-reads_fault : {A : Type 0} (e : ReadError) → Reads A (λ i. Err e)
-reads_fault {A} e = record {
+reads_error : {A : Type 0} (e : ReadError) → Reads A (λ i. Err e)
+reads_error {A} e = record {
   cut = λ i rest x h le. no_value (ReadWithout (λ j. Err e) i rest x) e x h;
   forward = λ i x h. no_value (length x.1.bytes ≤ length i.bytes) e x h;
 }
@@ -124,7 +124,7 @@ if_reads false one other f g = g
 
 reads_leb : (n : ℕ) → Reads ℕ (leb_at n)
 unfolding leb_at
-reads_leb zero = reads_fault BigLeb
+reads_leb zero = reads_error BigLeb
 reads_leb (suc n) =
     then_reads byte_at reads_byte (λ b i. cond (ltb b 128) (Ok (b, i)) (leb_at n i >>= λ r.
     Ok (b - 128 + 128 * r.0, r.1)))
@@ -138,11 +138,11 @@ unfolding uleb_at
 reads_uleb = then_reads (leb_at 10) (reads_leb 10) (λ n i. cond (ltb n (2 ^ 64))
     (Ok (n, i)) (Err BigLeb))
     (λ n. if_reads (ltb n (2 ^ 64)) (λ i. Ok (n, i)) (λ i. Err BigLeb) (reads_value n)
-    (reads_fault BigLeb))
+    (reads_error BigLeb))
 
 reads_signed : (n : ℕ) → Reads ℤ (signed_leb_at n)
 unfolding signed_leb_at
-reads_signed zero = reads_fault BigLeb
+reads_signed zero = reads_error BigLeb
 reads_signed (suc n) =
     then_reads byte_at reads_byte (λ b i. cond (ltb b 64) (Ok (pos b, i))
     (cond (ltb b 128) (Ok (pos b -ℤ pos 128, i)) (signed_leb_at n i >>= λ r.
@@ -159,7 +159,7 @@ unfolding sleb_at
 reads_sleb = then_reads (signed_leb_at 10) (reads_signed 10) (λ n i.
     cond (is_i64 n) (Ok (n, i)) (Err BigLeb))
     (λ n. if_reads (is_i64 n) (λ i. Ok (n, i)) (λ i. Err BigLeb) (reads_value n)
-    (reads_fault BigLeb))
+    (reads_error BigLeb))
 
 -- ---- a declaration
 
@@ -182,7 +182,7 @@ reads_specification =
 
 reads_within : (n : ℕ) → Reads (List Specification) (specifications_within n)
 unfolding specifications_within
-reads_within zero = reads_fault UnexpectedEof
+reads_within zero = reads_error UnexpectedEof
 reads_within (suc n) =
     then_reads specification_at reads_specification (λ first i. cond (is_last first) (Ok ([], i))
     (specifications_within n i >>= λ others. Ok (first ∷ others.0, others.1)))
@@ -194,7 +194,7 @@ reads_within (suc n) =
 reads_tag : Reads ℕ tag_at
 unfolding tag_at
 reads_tag = then_reads uleb_at reads_uleb (λ tag i. cond (eqb tag 0) (Err ZeroTag) (Ok (tag, i)))
-    (λ tag. if_reads (eqb tag 0) (λ i. Err ZeroTag) (λ i. Ok (tag, i)) (reads_fault ZeroTag)
+    (λ tag. if_reads (eqb tag 0) (λ i. Err ZeroTag) (λ i. Ok (tag, i)) (reads_error ZeroTag)
     (reads_value tag))
 
 reads_children : Reads Bool children_at
@@ -204,7 +204,7 @@ reads_children = then_reads byte_at reads_byte (λ byte i. cond (eqb byte 0) (Ok
     (λ byte. if_reads (eqb byte 0) (λ i. Ok (false, i)) (λ i. cond (eqb byte 1) (Ok (true, i))
     (Err BadChildren)) (reads_value false)
     (if_reads (eqb byte 1) (λ i. Ok (true, i)) (λ i. Err BadChildren) (reads_value true)
-    (reads_fault BadChildren)))
+    (reads_error BadChildren)))
 
 -- ---- by what the lower crate's law says of numbers of variable length
 module _ (lebs : LebsTakeBytes) where
@@ -245,7 +245,7 @@ module _ (lebs : LebsTakeBytes) where
       → eqb x.0 0 ≡ false → length rest ≤ length x.1.bytes → ReadWithout code_at i rest x
   unfolding code_at
   code_cut i rest x h some le =
-      by_choice (ReadWithout code_at i rest x) (eqb (length (i.bytes ++ rest)) 0)
+      by-choice (ReadWithout code_at i rest x) (eqb (length (i.bytes ++ rest)) 0)
       (Ok (0, more i rest)) (uleb_at (more i rest)) (Ok x) h
       (λ none. let same : (0, more i rest) ≡ x = cc in
       absurd (true≢false (ap (λ (y : ℕ × Input). eqb y.0 0) same ∙ some)))
@@ -277,7 +277,7 @@ module _ (lebs : LebsTakeBytes) where
       let P : Type 0 = NextWithout i rest x in
       let j : Input = more i rest in
       by_answer P (code_at j)
-      (λ c h. by_bool P (eqb c.0 0)
+      (λ c h. by-bool P (eqb c.0 0)
       (λ none. let never : Ok None ≡ Ok (Some x) = sym (next-end j c h none) ∙ e in absurd cc)
       (λ some. by_answer P (declaration_at c.1)
       (λ d r.
@@ -285,5 +285,5 @@ module _ (lebs : LebsTakeBytes) where
       let is : ((c.0, d.0), d.1) ≡ x = cc in
       subst (NextWithout i rest) is (declared_cut i rest c d h some r
       (subst (λ (y : (ℕ × Declaration) × Input). length rest ≤ length y.1.bytes) (sym is) le)))
-      (λ f r. let never : Err f ≡ Ok (Some x) = sym (next-fault j c f h some r) ∙ e in absurd cc)))
+      (λ f r. let never : Err f ≡ Ok (Some x) = sym (next-error j c f h some r) ∙ e in absurd cc)))
       (λ f h. let never : Err f ≡ Ok (Some x) = sym (next-bad_code j f h) ∙ e in absurd cc)

@@ -2,8 +2,8 @@
 use Rattle.std.proofs.Common.{◌≡◌, ℕ, zero, suc, ◌<◌, ◌≤◌, true, false, cond, length, Result, Ok}
 use Rattle.std.proofs.Common.{Err, eqb, refl, ap, sym, arith}
 use Rattle.dwp_base.specs.Reading.{◌>>=◌}
-use Rattle.dwp_bytes.specs.declared.fault.ReadError.{ReadError}
-use Rattle.dwp_bytes.specs.declared.fault.ReadError.TheVariants.{UnexpectedEof, UnknownForm}
+use Rattle.dwp_bytes.specs.declared.error.ReadError.{ReadError}
+use Rattle.dwp_bytes.specs.declared.error.ReadError.TheVariants.{UnexpectedEof, UnknownForm}
 use Rattle.dwp_bytes.specs.Input.{Input, byte_at}
 use Rattle.dwp_bytes.specs.Leb.{LebsTakeBytes, leb_at, uleb_at}
 use Rattle.dwp_dwarf.specs.Forms.{named_within, named_form_at}
@@ -62,9 +62,9 @@ module _ (lebs : LebsTakeBytes) where
       i ≡ Ok (form, i)
   named_form-own form i own = rw (named_form-cases form i, own) refl
 
-  pub named_form-fault : (form : ℕ) (i : Input) (f : ReadError) → eqb form 0x16 ≡ true
+  pub named_form-error : (form : ℕ) (i : Input) (f : ReadError) → eqb form 0x16 ≡ true
       → uleb_at i ≡ Err f → named_form_at form i ≡ Err f
-  named_form-fault form i f indirect e = rw (named_form-cases form i, indirect, e) refl
+  named_form-error form i f indirect e = rw (named_form-cases form i, indirect, e) refl
 
   pub named_form-constant : (form : ℕ) (i : Input) (x : ℕ × Input) → eqb form 0x16 ≡ true
       → uleb_at i ≡ Ok x → eqb x.0 0x21 ≡ true → named_form_at form i ≡ Err UnknownForm

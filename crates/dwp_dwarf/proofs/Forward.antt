@@ -1,37 +1,12 @@
 -- Reading goes forward: what is left is what was there, without what was read.
 use Rattle.std.proofs.Common.{◌≡◌, ℕ, ◌+◌, ◌<◌, ◌≤◌, Bool, true, false, cond, length, drop, Result}
-use Rattle.std.proofs.Common.{Ok, Err, ltb, refl, ap, sym, subst, ◌∙◌, ◌⊎◌, inl, inr, add_assoc}
-use Rattle.std.proofs.Common.{arith}
+use Rattle.std.proofs.Common.{Ok, Err, ltb, refl, ap, sym, subst, ◌∙◌, add_assoc, arith}
 use Rattle.std.specs.Prelude.{slice_index}
 use Rattle.std.proofs.lemmas.Bool.{ltb-false}
 use Rattle.std.proofs.lemmas.List.{drop-drop, length-drop}
-use Rattle.dwp_base.specs.Reading.{◌>>=◌}
-use Rattle.dwp_bytes.specs.declared.fault.ReadError.TheVariants.{UnexpectedEof}
+use Rattle.dwp_bytes.specs.declared.error.ReadError.TheVariants.{UnexpectedEof}
 use Rattle.dwp_bytes.specs.Input.{Input, Goes, front, after, split_at, byte_at, number_at}
-
--- the value of a step that did not fail
-pub bind_ok : {A B E : Type 0} (r : Result A E) (f : A → Result B E) (y : B) → (r >>= f) ≡ Ok y
-    → (x : A) × (r ≡ Ok x) × (f x ≡ Ok y)
-bind_ok (Ok x) f y e = (x, refl, e)
-bind_ok (Err d) f y e = absurd cc
-
--- a test that did not fail
-pub guard_ok : {A E : Type 0} (b : Bool) (d : E) (x y : A) → cond b (Err d) (Ok x) ≡ Ok y
-    → (b ≡ false) × (x ≡ y)
-guard_ok true d x y e = absurd cc
-guard_ok false d x y e = (refl, cc)
-
--- a choice that did not fail
-pub chosen : {A : Type 0} (b : Bool) (x y z : A) → cond b x y ≡ z → ((b ≡ true) × (x ≡ z))
-    ⊎ ((b ≡ false) × (y ≡ z))
-chosen true x y z e = inl (refl, e)
-chosen false x y z e = inr (refl, e)
-
--- the same, with what follows from either
-pub by_choice : {A : Type 0} (P : Type 0) (b : Bool) (x y z : A) → cond b x y ≡ z → (x ≡ z → P)
-    → (y ≡ z → P) → P
-by_choice P true x y z e left right = left e
-by_choice P false x y z e left right = right e
+use Rattle.dwp_base.proofs.Steps.{guard-ok}
 
 -- the same, with which way the test went
 pub by_test : {A : Type 0} (P : Type 0) (b : Bool) (x y z : A) → cond b x y ≡ z
@@ -39,11 +14,11 @@ pub by_test : {A : Type 0} (P : Type 0) (b : Bool) (x y z : A) → cond b x y �
 by_test P true x y z e left right = left refl e
 by_test P false x y z e left right = right refl e
 
-abbrev fault_of : {A E : Type 0} → E → A → Result A E
-fault_of f x = Err f
+abbrev error_of : {A E : Type 0} → E → A → Result A E
+error_of f x = Err f
 
--- a fault is no value
-pub no_value : {A E : Type 0} (P : Type 0) (f : E) (x : A) → fault_of f x ≡ Ok x → P
+-- an error is no value
+pub no_value : {A E : Type 0} (P : Type 0) (f : E) (x : A) → error_of f x ≡ Ok x → P
 no_value P f x e = absurd cc
 
 -- j is what is left of i behind n bytes
@@ -68,7 +43,7 @@ pub split_is : (n : ℕ) (i : Input) (p : Input × Input) → split_at n i ≡ O
     × IsBehind n i p.1
 unfolding split_at
 split_is n i p e =
-    let g = guard_ok (ltb (length i.bytes) n) UnexpectedEof (front n i, after n i) p e in (
+    let g = guard-ok (ltb (length i.bytes) n) UnexpectedEof (front n i, after n i) p e in (
       ap (λ (x : Input × Input). x.0) (sym g.1),
       record {
         fits = ltb-false _ _ g.0;
@@ -80,7 +55,7 @@ split_is n i p e =
 pub number_is : (n : ℕ) (i : Input) (p : ℕ × Input) → number_at n i ≡ Ok p → IsBehind n i p.1
 unfolding number_at
 number_is n i p e =
-    let g = guard_ok (ltb (length i.bytes) n) UnexpectedEof _ p e in
+    let g = guard-ok (ltb (length i.bytes) n) UnexpectedEof _ p e in
     record { fits = ltb-false _ _ g.0; is = ap (λ (x : ℕ × Input). x.1) (sym g.1) }
 
 -- what is left behind at least a byte is shorter
@@ -93,7 +68,7 @@ pub byte_shorter : (i : Input) (p : ℕ × Input) → byte_at i ≡ Ok p
     → length p.1.bytes < length i.bytes
 unfolding byte_at
 byte_shorter i p e =
-    let g = guard_ok (ltb (length i.bytes) 1) UnexpectedEof (
+    let g = guard-ok (ltb (length i.bytes) 1) UnexpectedEof (
       slice_index i.bytes 0,
       after 1 i,
     ) p e in

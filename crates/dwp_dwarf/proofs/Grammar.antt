@@ -1,29 +1,26 @@
 -- A table's declarations one after the other, and which of them a look-up finds.
-use Rattle.std.proofs.Common.{◌≡◌, ◌≢◌, ℕ, zero, suc, ◌<◌, Bool, true, false, cond, List, [], ◌∷◌}
-use Rattle.std.proofs.Common.{length, Option, Some, None, Result, Ok, Err, eqb, refl, ap, sym}
-use Rattle.std.proofs.Common.{subst, ◌∙◌, arith, eq-eqb}
+use Rattle.std.proofs.Common.{◌≡◌, ◌≢◌, ℕ, zero, suc, ◌<◌, true, false, cond, List, [], ◌∷◌, length}
+use Rattle.std.proofs.Common.{Option, Some, None, Result, Ok, Err, eqb, refl, ap, sym, subst, ◌∙◌}
+use Rattle.std.proofs.Common.{arith, eq-eqb}
 use Rattle.std.specs.List.{AllByRecursion}
 use Rattle.std.proofs.lemmas.Bool.{eqb-true, eqb-false, ne_eqb}
 use Rattle.dwp_base.specs.Reading.{◌>>=◌}
-use Rattle.dwp_bytes.specs.declared.fault.ReadError.{ReadError}
+use Rattle.dwp_bytes.specs.declared.error.ReadError.{ReadError}
 use Rattle.dwp_bytes.specs.Input.{Input}
 use Rattle.dwp_bytes.specs.Leb.{LebsTakeBytes}
 use Rattle.dwp_dwarf.specs.Abbreviations.{Declaration, code_at, declaration_at, declaration}
 use Rattle.dwp_dwarf.specs.Grammar.{next_at, DeclarationsLie, IsBehindOthers, FoundIsFirst}
-use Rattle.dwp_dwarf.specs.Grammar.{AbsentIsNowhere, FaultIsBefore}
+use Rattle.dwp_dwarf.specs.Grammar.{AbsentIsNowhere, ErrorIsBefore}
 use Rattle.dwp_dwarf.proofs.TableForward.{declaration_shorter, code_no_longer, declaration-bad_code}
-use Rattle.dwp_dwarf.proofs.TableForward.{declaration-none, declaration-fault, declaration-found}
+use Rattle.dwp_dwarf.proofs.TableForward.{declaration-none, declaration-error, declaration-found}
 use Rattle.dwp_dwarf.proofs.TableForward.{declaration-other}
+use Rattle.dwp_base.proofs.Bools.{by-bool}
 
 -- either way, with how it went
 pub by_answer : {A E : Type 0} (P : Type 0) (r : Result A E) → ((x : A) → r ≡ Ok x → P)
     → ((e : E) → r ≡ Err e → P) → P
 by_answer P (Ok x) ok err = ok x refl
 by_answer P (Err e) ok err = err e refl
-
-pub by_bool : (P : Type 0) (b : Bool) → (b ≡ true → P) → (b ≡ false → P) → P
-by_bool P true left right = left refl
-by_bool P false left right = right refl
 
 abbrev Next : Type 0
 Next = Option ((ℕ × Declaration) × Input)
@@ -42,10 +39,10 @@ pub next-end : (i : Input) (c : ℕ × Input) → code_at i ≡ Ok c → eqb c.0
 unfolding next_at
 next-end i c h none = rw (h, none) refl
 
-pub next-fault : (i : Input) (c : ℕ × Input) (e : ReadError) → code_at i ≡ Ok c → eqb c.0 0 ≡ false
+pub next-error : (i : Input) (c : ℕ × Input) (e : ReadError) → code_at i ≡ Ok c → eqb c.0 0 ≡ false
     → declaration_at c.1 ≡ Err e → next_at i ≡ Err e
 unfolding next_at
-next-fault i c e h some r = rw (h, some, r) refl
+next-error i c e h some r = rw (h, some, r) refl
 
 pub next-is : (i : Input) (c : ℕ × Input) (d : Declaration × Input) → code_at i ≡ Ok c
     → eqb c.0 0 ≡ false → declaration_at c.1 ≡ Ok d → next_at i ≡ Ok (Some ((c.0, d.0), d.1))
@@ -59,22 +56,22 @@ module _ (lebs : LebsTakeBytes) where
   declaration-next code i =
       let P : Type 0 = declaration code i ≡ (next_at i >>= chosen code) in
       by_answer P (code_at i)
-      (λ c h. by_bool P (eqb c.0 0)
+      (λ c h. by-bool P (eqb c.0 0)
       (λ none. rw (next-end i c h none) (declaration-none lebs code i c h none))
       (λ some. by_answer P (declaration_at c.1)
       (λ d r. rw (next-is i c d h some r)
-      (by_bool (declaration code i ≡ chosen code (Some ((c.0, d.0), d.1))) (eqb c.0 code)
+      (by-bool (declaration code i ≡ chosen code (Some ((c.0, d.0), d.1))) (eqb c.0 code)
       (λ here. rw here (declaration-found lebs code i c d h some r here))
       (λ other. rw other (declaration-other lebs code i c d h some r other))))
-      (λ e r. rw (next-fault i c e h some r) (declaration-fault lebs code i c e h some r))))
+      (λ e r. rw (next-error i c e h some r) (declaration-error lebs code i c e h some r))))
       (λ e h. rw (next-bad_code i e h) (declaration-bad_code lebs code i e h))
 
   pub look_up-end : (code : ℕ) (i : Input) → next_at i ≡ Ok None → declaration code i ≡ Ok None
   look_up-end code i h = rw (declaration-next code i, h) refl
 
-  pub look_up-fault : (code : ℕ) (i : Input) (e : ReadError) → next_at i ≡ Err e
+  pub look_up-error : (code : ℕ) (i : Input) (e : ReadError) → next_at i ≡ Err e
       → declaration code i ≡ Err e
-  look_up-fault code i e h = rw (declaration-next code i, h) refl
+  look_up-error code i e h = rw (declaration-next code i, h) refl
 
   pub look_up-here : (code : ℕ) (i : Input) (x : (ℕ × Declaration) × Input)
       → next_at i ≡ Ok (Some x) → eqb x.0.0 code ≡ true → declaration code i ≡ Ok (Some x.0.1)
@@ -90,7 +87,7 @@ module _ (lebs : LebsTakeBytes) where
   next_shorter i x e =
       let P : Type 0 = length x.1.bytes < length i.bytes in
       by_answer P (code_at i)
-      (λ c h. by_bool P (eqb c.0 0)
+      (λ c h. by-bool P (eqb c.0 0)
       (λ none. let never : Ok None ≡ Ok (Some x) = sym (next-end i c h none) ∙ e in absurd cc)
       (λ some. by_answer P (declaration_at c.1)
       (λ d r.
@@ -103,7 +100,7 @@ module _ (lebs : LebsTakeBytes) where
         ap
             (λ (y : (ℕ × Declaration) × Input). length y.1.bytes) is,
       ))
-      (λ f r. let never : Err f ≡ Ok (Some x) = sym (next-fault i c f h some r) ∙ e in absurd cc)))
+      (λ f r. let never : Err f ≡ Ok (Some x) = sym (next-error i c f h some r) ∙ e in absurd cc)))
       (λ f h. let never : Err f ≡ Ok (Some x) = sym (next-bad_code i f h) ∙ e in absurd cc)
 
   -- declarations of other codes are passed over
@@ -144,7 +141,7 @@ module _ (lebs : LebsTakeBytes) where
       → eqb y.0.0 code ≡ false → P) → P
   by_next P code i None h ended found others = ended i (none_before code i) h
   by_next P code i (Some x) h ended found others =
-      by_bool P (eqb x.0.0 code)
+      by-bool P (eqb x.0.0 code)
       (λ here. let is : x.0.0 ≡ code = eqb-true _ _ here in found i x.1 x.0.1 (none_before code i)
       (subst (λ (c : ℕ). next_at i ≡ Ok (Some ((c, x.0.1), x.1))) is h))
       (λ other. others x h other)
@@ -165,10 +162,10 @@ module _ (lebs : LebsTakeBytes) where
   end_is code i rest behind h = passed_over code behind.others i rest behind.lie behind.other ∙
       look_up-end code rest h
 
-  fault_is : (code : ℕ) (i : Input) (rest : Input) (e : ReadError) → IsBehindOthers code i rest
+  error_is : (code : ℕ) (i : Input) (rest : Input) (e : ReadError) → IsBehindOthers code i rest
       → next_at rest ≡ Err e → declaration code i ≡ Err e
-  fault_is code i rest e behind h = passed_over code behind.others i rest behind.lie behind.other ∙
-      look_up-fault code rest e h
+  error_is code i rest e behind h = passed_over code behind.others i rest behind.lie behind.other ∙
+      look_up-error code rest e h
 
   found_is : (code : ℕ) (i : Input) (rest next : Input) (d : Declaration) → IsBehindOthers code i
       rest → next_at rest ≡ Ok (Some ((code, d), next)) → declaration code i ≡ Ok (Some d)
@@ -183,7 +180,7 @@ module _ (lebs : LebsTakeBytes) where
             (λ rest behind h. let never : Ok None ≡ Ok (Some d) = sym (end_is code i rest behind h)
             ∙ e in absurd cc)
             (λ rest f behind h. let never : Err f ≡ Ok (Some d) =
-            sym (fault_is code i rest f behind h) ∙ e in absurd cc)
+            sym (error_is code i rest f behind h) ∙ e in absurd cc)
             (λ rest next b behind h.
             let same : Ok (Some b) ≡ Ok (Some d) = sym (found_is code i rest next b behind h) ∙ e in
             let is : b ≡ d = cc in (
@@ -203,24 +200,24 @@ module _ (lebs : LebsTakeBytes) where
       let P : Type 0 = (rest : Input) × IsBehindOthers code i rest × (next_at rest ≡ Ok None) in (
         (λ e. by_first (suc (length i.bytes)) P code i (omega arith)
             (λ rest behind h. (rest, behind, h))
-            (λ rest f behind h. let never : Err f ≡ Ok None = sym (fault_is code i rest f behind h)
+            (λ rest f behind h. let never : Err f ≡ Ok None = sym (error_is code i rest f behind h)
             ∙ e in absurd cc)
             (λ rest next b behind h. let never : Ok (Some b) ≡ Ok None =
             sym (found_is code i rest next b behind h) ∙ e in absurd cc)),
         (λ p. end_is code i p.0 p.1 p.2),
       )
 
-  pub fault_before : FaultIsBefore
-  fault_before code i f =
+  pub error_before : ErrorIsBefore
+  error_before code i f =
       let P : Type 0 = (rest : Input) × IsBehindOthers code i rest × (next_at rest ≡ Err f) in (
         (λ e. by_first (suc (length i.bytes)) P code i (omega arith)
             (λ rest behind h. let never : Ok None ≡ Err f = sym (end_is code i rest behind h)
             ∙ e in absurd cc)
             (λ rest g behind h.
-            let same : Err g ≡ Err f = sym (fault_is code i rest g behind h) ∙ e in
+            let same : Err g ≡ Err f = sym (error_is code i rest g behind h) ∙ e in
             let is : g ≡ f = cc in
             (rest, behind, subst (λ (x : ReadError). next_at rest ≡ Err x) is h))
             (λ rest next b behind h. let never : Ok (Some b) ≡ Err f =
             sym (found_is code i rest next b behind h) ∙ e in absurd cc)),
-        (λ p. fault_is code i p.0 f p.1 p.2),
+        (λ p. error_is code i p.0 f p.1 p.2),
       )

@@ -1,7 +1,7 @@
 -- A new version has what the older one has but for one key, and older versions stay.
-use Rattle.std.proofs.Common.{◌≡◌, ◌≢◌, ℕ, zero, suc, ◌<◌, ◌≤◌, ◌-◌, ◌%◌, true, false, cond}
-use Rattle.std.proofs.Common.{List, [], ◌∷◌, ◌++◌, length, Option, Some, None, eqb, ltb, refl}
-use Rattle.std.proofs.Common.{ap, sym, subst, ◌∙◌, arith, append_assoc, eq-eqb}
+use Rattle.std.proofs.Common.{◌≡◌, ◌≢◌, ℕ, zero, suc, ◌<◌, ◌≤◌, ◌-◌, ◌%◌, true, false, cond, List}
+use Rattle.std.proofs.Common.{[], ◌∷◌, ◌++◌, length, Option, Some, None, eqb, ltb, refl, ap, sym}
+use Rattle.std.proofs.Common.{subst, ◌∙◌, arith, append_assoc, eq-eqb}
 use Rattle.std.specs.Prelude.{slice_get}
 use Rattle.std.specs.Option.{IfSome}
 use Rattle.std.proofs.lemmas.Bool.{eqb-true, eqb-false, ne_eqb, lt-ltb, ltb-true}
@@ -11,7 +11,7 @@ use Rattle.std.proofs.Math.Nat.{div-add-mod}
 use Rattle.dwp_dwarf.specs.Versions.{node_of, held, side_of, half, older, copy_by, copy_of}
 use Rattle.dwp_dwarf.specs.Versions.{value_below, Grows}
 use Rattle.dwp_dwarf.specs.declared.versions.Node.{Node}
-use Rattle.dwp_dwarf.proofs.Grammar.{by_bool}
+use Rattle.dwp_base.proofs.Bools.{by-bool}
 
 pub grows_none : (nodes : List Node) → Grows nodes nodes
 grows_none nodes = record { more = []; is = sym (append-nil nodes) }
@@ -50,7 +50,7 @@ node_within nodes zero node e = omega arith
 node_within nodes (suc i) node e = omega (arith, slice_get_within nodes i node e)
 
 pub older_within : (version other : ℕ) → older version other ≤ version
-older_within version other = by_bool (older version other ≤ version) (ltb other version)
+older_within version other = by-bool (older version other ≤ version) (ltb other version)
     (λ e. rw e (omega (arith, ltb-true other version e))) (λ e. rw e (omega arith))
 
 pub older_is : (version other : ℕ) → other < version → older version other ≡ other
@@ -92,7 +92,7 @@ value_stays (suc n) old new version key g p =
     (node_of old version)
     (λ none. below_none (suc n) new version key (same ∙ none)
     ∙ sym (below_none (suc n) old version key none))
-    (λ node some. by_bool (value_below (suc n) new version key ≡ value_below (suc n) old
+    (λ node some. by-bool (value_below (suc n) new version key ≡ value_below (suc n) old
     version key) (eqb key 0)
     (λ here. below_here n new version key node (same ∙ some) here
     ∙ sym (below_here n old version key node some here))
@@ -112,11 +112,11 @@ odd_side node key e = rw e refl
 copy_side : (version key : ℕ) (node : Node) → side_of (copy_by version (Some node)) key ≡
     older version (side_of node key)
 copy_side version key node =
-    by_bool (side_of (copy_by version (Some node)) key ≡ older version (side_of node key))
+    by-bool (side_of (copy_by version (Some node)) key ≡ older version (side_of node key))
     (eqb (key % 2) 0) (λ e. rw e refl) (λ e. rw e refl)
 
 none_side : (version key : ℕ) → side_of (copy_by version None) key ≡ 0
-none_side version key = by_bool (side_of (copy_by version None) key ≡ 0) (eqb (key % 2) 0)
+none_side version key = by-bool (side_of (copy_by version None) key ≡ 0) (eqb (key % 2) 0)
     (λ e. rw e refl) (λ e. rw e refl)
 
 copy_here : (n : ℕ) (nodes : List Node) (version key : ℕ) → eqb key 0 ≡ true
@@ -218,10 +218,10 @@ others_beside : (n : ℕ) (old mid new : List Node) (version added low key other
 others_beside n old mid new version added low key other b some apart now values side sides before
     after fits above same =
     let P : Type 0 = value_below (suc n) new added other ≡ value_below (suc n) old version other in
-    by_bool P (eqb other 0)
+    by-bool P (eqb other 0)
     (λ e. below_here n new added other b now e ∙ ap held values
     ∙ sym (copy_here n old version other e))
-    (λ behind. by_bool P (eqb (other % 2) (key % 2))
+    (λ behind. by-bool P (eqb (other % 2) (key % 2))
     (λ e.
     let alike : other % 2 ≡ key % 2 = eqb-true _ _ e in
     added_other n mid new added other low b now behind (side_alike b other key alike ∙ side) after
@@ -336,7 +336,7 @@ other_even a b key k even same differs =
 pub other_odd : (a b : Node) (key k : ℕ) → eqb (key % 2) 0 ≡ false → a.even ≡ b.even
     → eqb (k % 2) (key % 2) ≡ false → side_of a k ≡ side_of b k
 other_odd a b key k odd same differs =
-    let even : eqb (k % 2) 0 ≡ true = by_bool (eqb (k % 2) 0 ≡ true) (eqb (k % 2) 0) (λ e. e)
+    let even : eqb (k % 2) 0 ≡ true = by-bool (eqb (k % 2) 0 ≡ true) (eqb (k % 2) 0) (λ e. e)
     (λ e. let alike : k % 2 ≡ key % 2 = omega (
       arith,
       eqb-false _ _ e,

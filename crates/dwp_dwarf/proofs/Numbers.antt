@@ -1,26 +1,25 @@
 -- Attributes whose values have no bytes have no number and name no place, and leave an entry's
 -- bytes as they are.
-use Rattle.std.proofs.Common.{◌≡◌, ℕ, zero, suc, ◌-◌, true, false, List, [], ◌∷◌, length}
-use Rattle.std.proofs.Common.{Bool, Result, Ok, Err, Option, Some, None, eqb}
-use Rattle.std.proofs.Common.{refl, ap, sym, subst, ◌∙◌, arith}
+use Rattle.std.proofs.Common.{◌≡◌, ℕ, zero, suc, ◌-◌, true, false, List, [], ◌∷◌, length, Bool}
+use Rattle.std.proofs.Common.{Result, Ok, Err, Option, Some, None, eqb, refl, ap, sym, subst, ◌∙◌}
+use Rattle.std.proofs.Common.{arith}
 use Rattle.std.specs.Prelude.{◌||◌}
 use Rattle.std.proofs.lemmas.Bool.{eqb-true, le-ltb}
 use Rattle.std.proofs.Math.Nat.{sub_self}
 use Rattle.dwp_bytes.specs.Input.{Input, front, skip_at, split_at}
 use Rattle.dwp_bytes.specs.declared.encoding.Encoding.{Encoding}
 use Rattle.dwp_bytes.specs.declared.encoding.Format.{Format}
-use Rattle.dwp_bytes.specs.declared.fault.ReadError.{ReadError}
+use Rattle.dwp_bytes.specs.declared.error.ReadError.{ReadError}
 use Rattle.dwp_dwarf.specs.declared.form.Layout.TheVariants.{Fixed}
 use Rattle.dwp_dwarf.specs.Abbreviations.{Specification}
-use Rattle.dwp_dwarf.specs.Forms.{layout_of, past_value, value_at, named_within}
-use Rattle.dwp_dwarf.specs.Forms.{named_form_at}
+use Rattle.dwp_dwarf.specs.Forms.{layout_of, past_value, value_at, named_within, named_form_at}
 use Rattle.dwp_dwarf.specs.Entries.{DebugAttribute, attribute_at, attributes, number_of, place_of}
 use Rattle.dwp_dwarf.specs.Units.{listed}
 use Rattle.dwp_dwarf.specs.Needed.{is_needed, met, needed}
 use Rattle.dwp_dwarf.specs.declared.needed.UnmetNames.{UnmetNames}
 use Rattle.dwp_dwarf.specs.Numbers.{named_number, number_or, first_number, has_bytes}
-use Rattle.dwp_dwarf.proofs.Grammar.{by_bool}
 use Rattle.dwp_dwarf.proofs.Values.{after-zero}
+use Rattle.dwp_base.proofs.Bools.{by-bool}
 
 -- ---- a value of no bytes
 
@@ -94,10 +93,10 @@ constant_empty encoding name i = record {
 
 pub is_empty : (encoding : Encoding) (s : Specification) (i : Input) → has_bytes s ≡ false
     → IsEmpty encoding s i
-is_empty encoding s i none = by_bool (IsEmpty encoding s i) (eqb s.form 0x19)
+is_empty encoding s i none = by-bool (IsEmpty encoding s i) (eqb s.form 0x19)
     (λ present. subst (λ (form : ℕ). IsEmpty encoding (record { name = s.name; form = form }) i)
     (sym (eqb-true _ _ present)) (present_empty encoding s.name i))
-    (λ other. by_bool (IsEmpty encoding s i) (eqb s.form 0x21)
+    (λ other. by-bool (IsEmpty encoding s i) (eqb s.form 0x21)
     (λ constant. subst (λ (form : ℕ). IsEmpty encoding (record { name = s.name; form = form }) i)
     (sym (eqb-true _ _ constant)) (constant_empty encoding s.name i))
     (λ neither. let never : true ≡ false = sym (rw (other, neither) refl) ∙ none in absurd cc))
@@ -110,10 +109,10 @@ or_left true b e = absurd cc
 
 numberless_or : (name : ℕ) (a : DebugAttribute) (others : Result (Option ℕ) ReadError)
     → number_of a ≡ None → number_or (named_number name a) others ≡ others
-numberless_or name a others none = by_bool (number_or (named_number name a) others ≡ others)
+numberless_or name a others none = by-bool (number_or (named_number name a) others ≡ others)
     (eqb a.name name) (λ e. rw (e, none) refl) (λ e. rw e refl)
 
--- the first number of the attributes behind one that was read, or at its fault
+-- the first number of the attributes behind one that was read, or at its error
 with_read : (name : ℕ) (r : Result (DebugAttribute × Input) ReadError)
     (f g : Input → List (Result DebugAttribute ReadError))
     → ((i : Input) → first_number name (f i) ≡ first_number name (g i))
@@ -126,7 +125,7 @@ pub first_needed : (name : ℕ) (encoding : Encoding) (unmet : UnmetNames) (ss :
     (i : Input) → first_number name (attributes encoding (needed unmet ss) i)
     ≡ first_number name (attributes encoding ss i)
 first_needed name encoding unmet [] i = refl
-first_needed name encoding unmet (s ∷ ss) i = by_bool
+first_needed name encoding unmet (s ∷ ss) i = by-bool
     (first_number name (attributes encoding (needed unmet (s ∷ ss)) i)
     ≡ first_number name (attributes encoding (s ∷ ss) i)) (is_needed unmet s)
     (λ some. rw some (with_read name (attribute_at encoding s i)

@@ -1,6 +1,6 @@
 -- Past the end of a section nothing stands.
 use Rattle.std.proofs.Common.{◌≡◌, ℕ, ◌<◌, length, Err, refl, lt-ltb}
-use Rattle.dwp_bytes.specs.declared.fault.ReadError.TheVariants.{OffsetOutOfRange}
+use Rattle.dwp_bytes.specs.declared.error.ReadError.TheVariants.{OffsetOutOfRange}
 use Rattle.dwp_bytes.specs.Input.{Input}
 use Rattle.dwp_dwarf.specs.Offsets.{from_at}
 

@@ -1,21 +1,22 @@
 -- Where the declaration of a code ends: what a table says of the code doesn't need the bytes
 -- behind.
-use Rattle.std.proofs.Common.{◌≡◌, ℕ, ◌+◌, ◌-◌, ◌≤◌, false, List, length, take, drop}
-use Rattle.std.proofs.Common.{Option, Some, Result, Ok, eqb, refl, ap, sym, subst, ◌∙◌, eq-eqb, ltb}
-use Rattle.std.proofs.Common.{arith, length-append}
+use Rattle.std.proofs.Common.{◌≡◌, ℕ, ◌+◌, ◌-◌, ◌≤◌, false, List, length, take, drop, Option, Some}
+use Rattle.std.proofs.Common.{Result, Ok, eqb, refl, ap, sym, subst, ◌∙◌, eq-eqb, ltb, arith}
+use Rattle.std.proofs.Common.{length-append}
 use Rattle.std.proofs.lemmas.Bool.{ltb-true, ltb-false}
 use Rattle.std.proofs.lemmas.List.{take-append-drop, take-append-le, take_all, drop-take}
 use Rattle.std.proofs.lemmas.List.{length-take, length-drop}
 use Rattle.dwp_bytes.specs.Input.{Input, front, after}
 use Rattle.dwp_bytes.specs.Leb.{LebsTakeBytes}
-use Rattle.dwp_bytes.specs.declared.fault.ReadError.{ReadError}
+use Rattle.dwp_bytes.specs.declared.error.ReadError.{ReadError}
 use Rattle.dwp_dwarf.specs.Abbreviations.{Declaration, declaration}
 use Rattle.dwp_dwarf.specs.Chains.{from_end, StaysBefore, StaysBehind}
 use Rattle.dwp_dwarf.specs.Grammar.{next_at}
 use Rattle.dwp_dwarf.specs.Offsets.{from_at}
 use Rattle.dwp_dwarf.proofs.Cut.{more, next_cut}
 use Rattle.dwp_dwarf.proofs.Goes.{from_is}
-use Rattle.dwp_dwarf.proofs.Grammar.{by_bool, look_up-here, look_up-other, next_shorter}
+use Rattle.dwp_dwarf.proofs.Grammar.{look_up-here, look_up-other, next_shorter}
+use Rattle.dwp_base.proofs.Bools.{by-bool}
 
 abbrev pub Next : Type 0
 Next = (ℕ × Declaration) × Input
@@ -72,7 +73,7 @@ module _ (lebs : LebsTakeBytes) where
       → length i.bytes ≤ n + length behind.bytes
       → declaration code (front n i) ≡ declaration code i
   here_ends n i behind code declared h enough =
-      by_bool (declaration code (front n i) ≡ declaration code i) (ltb n (length i.bytes))
+      by-bool (declaration code (front n i) ≡ declaration code i) (ltb n (length i.bytes))
       (λ less.
       let s = shortened i n ((code, declared), behind) h
       (omega (arith, ltb-true _ _ less)) enough in
@@ -86,7 +87,7 @@ module _ (lebs : LebsTakeBytes) where
       → left ≤ length behind.bytes → StaysBefore behind wanted left
       → length i.bytes ≤ n + left → declaration wanted (front n i) ≡ declaration wanted i
   further_ends n i behind wanted code left declared h apart fits ends enough =
-      by_bool (declaration wanted (front n i) ≡ declaration wanted i) (ltb n (length i.bytes))
+      by-bool (declaration wanted (front n i) ≡ declaration wanted i) (ltb n (length i.bytes))
       (λ less.
       let s = shortened i n ((code, declared), behind) h (omega (arith, ltb-true _ _ less))
       (omega (arith, enough, fits)) in

@@ -12,8 +12,8 @@ use Rattle.dwp_bytes.specs.Input.{Input}
 use Rattle.dwp_dwarf.specs.Abbreviations.{Specification, Declaration, declaration, code_at, tag_at}
 use Rattle.dwp_dwarf.specs.Abbreviations.{children_at, declaration_at, specifications_at, pairs_in}
 use Rattle.dwp_dwarf.specs.Abbreviations.{past_specifications}
-use Rattle.dwp_dwarf.specs.Chains.{StandsAt, ListedAt, ListsPlaces}
-use Rattle.dwp_dwarf.specs.Chains.{RemembersPlace, RemembersPlaces, RemembersChains, FirstAt}
+use Rattle.dwp_dwarf.specs.Chains.{StandsAt, ListedAt, ListsPlaces, RemembersPlace, RemembersChains}
+use Rattle.dwp_dwarf.specs.Chains.{FirstAt}
 use Rattle.dwp_dwarf.specs.Codes.{Numbered}
 use Rattle.dwp_dwarf.specs.Offsets.{from_at}
 use Rattle.dwp_dwarf.specs.declared.codes.Codes.{Codes}
@@ -22,9 +22,10 @@ use Rattle.dwp_dwarf.specs.declared.abbrev.AttributeSpecification.{AttributeSpec
 use Rattle.dwp_dwarf.specs.declared.chains.Chains.{Chains}
 use Rattle.dwp_dwarf.specs.declared.chains.Place.{Place}
 use Rattle.dwp_dwarf.specs.declared.versions.Versions.{Versions}
-use Rattle.dwp_dwarf.proofs.Forward.{bind_ok}
-use Rattle.dwp_dwarf.proofs.Grammar.{by_answer, by_bool, next-end, next-fault, next-is}
+use Rattle.dwp_dwarf.proofs.Grammar.{by_answer, next-end, next-error, next-is}
 use Rattle.dwp_dwarf.proofs.TableForward.{passed_list}
+use Rattle.dwp_base.proofs.Steps.{bind-was}
+use Rattle.dwp_base.proofs.Bools.{by-bool}
 
 same_ok : {A E : Type 0} (r : Result A E) (x y : A) → r ≡ Ok x → r ≡ Ok y → x ≡ y
 same_ok r x y p q = cc
@@ -47,9 +48,9 @@ behind_code : (i : Input) (tag : ℕ × Input) (children : Bool × Input) (d : D
     → d.0 ≡ declared_as tag.0 children.0 (pairs_in children.1)
 unfolding declaration_at
 behind_code i tag children d t c e =
-    let tagged = bind_ok (tag_at i) _ d e in
-    let byte = bind_ok (children_at tagged.0.1) _ d tagged.2 in
-    let list = bind_ok (specifications_at byte.0.1) _ d byte.2 in
+    let tagged = bind-was (tag_at i) _ d e in
+    let byte = bind-was (children_at tagged.0.1) _ d tagged.2 in
+    let list = bind-was (specifications_at byte.0.1) _ d byte.2 in
     let tags : tagged.0 ≡ tag = same_ok (tag_at i) tagged.0 tag tagged.1 t in
     let bytes : byte.0 ≡ children = same_ok (children_at tag.1) byte.0 children
     (subst (λ (y : ℕ × Input). children_at y.1 ≡ Ok byte.0) tags byte.1) c in
@@ -67,7 +68,7 @@ pub known_is : (i : Input) (code tag : ℕ × Input) (children : Bool × Input)
     → x.0.1 ≡ declared_as tag.0 children.0 (pairs_in children.1)
 known_is i code tag children x h t c e =
     let P : Type 0 = x.0.1 ≡ declared_as tag.0 children.0 (pairs_in children.1) in
-    by_bool P (eqb code.0 0)
+    by-bool P (eqb code.0 0)
     (λ none. let never : Ok None ≡ Ok (Some x) = sym (next-end i code h none) ∙ e in absurd cc)
     (λ some. by_answer P (declaration_at code.1)
     (λ d r.
@@ -75,7 +76,7 @@ known_is i code tag children x h t c e =
     let is : ((code.0, d.0), d.1) ≡ x = cc in
     subst (λ (y : (ℕ × Declaration) × Input). y.0.1 ≡ declared_as tag.0 children.0
     (pairs_in children.1)) is (behind_code code.1 tag children d t c r))
-    (λ f r. let never : Err f ≡ Ok (Some x) = sym (next-fault i code f h some r) ∙ e in absurd cc))
+    (λ f r. let never : Err f ≡ Ok (Some x) = sym (next-error i code f h some r) ∙ e in absurd cc))
 
 pub none_listed : (section : Input) (lists : BTreeMap ℕ (Vec AttributeSpecification Global))
     → lists.entries ≡ [] → ListsPlaces section lists
@@ -102,7 +103,7 @@ pub one_more_listed : (section : Input) (left : ℕ)
     → ((q : ℕ) → q ≢ left → get nat_cmp new q ≡ get nat_cmp old q)
     → ListsPlaces section old → ListsPlaces section new
 one_more_listed section left old new list is here others has q =
-    by_bool (IfSome (get nat_cmp new q) (ListedAt section q)) (eqb left q)
+    by-bool (IfSome (get nat_cmp new q) (ListedAt section q)) (eqb left q)
     (λ e. subst (λ (k : ℕ). IfSome (get nat_cmp new k) (ListedAt section k))
     (eqb-true _ _ e)
     (subst (λ (o : Option (Vec AttributeSpecification Global)). IfSome o (ListedAt section left))
@@ -110,16 +111,6 @@ one_more_listed section left old new list is here others has q =
     (λ apart. subst (λ (o : Option (Vec AttributeSpecification Global)).
     IfSome o (ListedAt section q)) (sym (others q (λ e.
     let never : true ≡ false = sym (eq-eqb left q (sym e)) ∙ apart in absurd cc))) (has q))
-
--- more places alone
-pub chains_learned : (section : Input) (old new : Chains)
-    → (RemembersPlaces section old → RemembersPlaces section new) → new.lists ≡ old.lists
-    → RemembersChains section old → RemembersChains section new
-chains_learned section old new kept same r = record {
-  places = kept r.places;
-  lists = subst (λ (ls : BTreeMap ℕ (Vec AttributeSpecification Global)). ListsPlaces section ls)
-      (sym same) r.lists;
-}
 
 -- more lists alone
 pub chains_listed : (section : Input) (old new : Chains) → new.places ≡ old.places

@@ -1,7 +1,7 @@
 -- What is remembered of a place of a section of abbreviations, from what is remembered of the next.
-use Rattle.std.proofs.Common.{◌≡◌, ◌≢◌, ℕ, ◌≤◌, ◌-◌, List, [], length, Bool, true}
-use Rattle.std.proofs.Common.{false, Option, Some, None}
-use Rattle.std.proofs.Common.{Result, Ok, Err, eqb, refl, ap, sym, subst, ◌∙◌, eq-eqb, arith}
+use Rattle.std.proofs.Common.{◌≡◌, ◌≢◌, ℕ, ◌≤◌, ◌-◌, List, [], length, Bool, true, false, Option}
+use Rattle.std.proofs.Common.{Some, None, Result, Ok, Err, eqb, refl, ap, sym, subst, ◌∙◌, eq-eqb}
+use Rattle.std.proofs.Common.{arith}
 use Rattle.std.specs.Option.{IfSome}
 use Rattle.std.specs.Map.{lookup}
 use Rattle.std.specs.Ordering.{nat_cmp}
@@ -9,13 +9,12 @@ use Rattle.std.specs.BTreeMap.{BTreeMap, get, is_at}
 use Rattle.std.proofs.lemmas.Bool.{eqb-true}
 use Rattle.dwp_bytes.specs.Input.{Input}
 use Rattle.dwp_bytes.specs.Leb.{LebsTakeBytes}
-use Rattle.dwp_bytes.specs.declared.fault.ReadError.{ReadError}
+use Rattle.dwp_bytes.specs.declared.error.ReadError.{ReadError}
 use Rattle.dwp_dwarf.specs.Abbreviations.{Declaration, declaration}
-use Rattle.dwp_dwarf.specs.Chains.{from_end, absent_by, StandsAt, DeclaredAt, SaidBy}
-use Rattle.dwp_dwarf.specs.Chains.{EndsBefore, StaysBefore, StaysBehind}
-use Rattle.dwp_dwarf.specs.Chains.{RemembersPlace, RemembersPlaces, RemembersChains, FirstAt}
+use Rattle.dwp_dwarf.specs.Chains.{from_end, absent_by, StandsAt, DeclaredAt, SaidBy, EndsBefore}
+use Rattle.dwp_dwarf.specs.Chains.{StaysBefore, StaysBehind, RemembersPlace, RemembersPlaces}
+use Rattle.dwp_dwarf.specs.Chains.{RemembersChains, FirstAt, first_by, first_in}
 use Rattle.dwp_dwarf.specs.Declarations.{found_of}
-use Rattle.dwp_dwarf.specs.Chains.{first_by, first_in}
 use Rattle.dwp_dwarf.specs.Codes.{Numbered, KeptOrNew, GrowsCodes}
 use Rattle.dwp_dwarf.specs.Grammar.{next_at}
 use Rattle.dwp_dwarf.specs.Versions.{value_in, Grows}
@@ -29,10 +28,10 @@ use Rattle.dwp_base.specs.Reading.{Answers}
 use Rattle.dwp_dwarf.specs.Offsets.{from_at}
 use Rattle.dwp_dwarf.proofs.CodeNumbers.{none_numbered}
 use Rattle.dwp_dwarf.proofs.Goes.{end_behind}
-use Rattle.dwp_dwarf.proofs.Grammar.{by_bool, look_up-end, look_up-fault, look_up-here}
-use Rattle.dwp_dwarf.proofs.Grammar.{look_up-other}
+use Rattle.dwp_dwarf.proofs.Grammar.{look_up-end, look_up-error, look_up-here, look_up-other}
 use Rattle.dwp_dwarf.proofs.PlaceEnds.{Next, one_input, one_next, ends_here, ends_further}
 use Rattle.dwp_dwarf.proofs.NewVersions.{below_none, value_stays, grows_length}
+use Rattle.dwp_base.proofs.Bools.{by-bool}
 
 abbrev Said : Type 0
 Said = Result (Option Declaration) ReadError
@@ -67,7 +66,7 @@ place_stays section old new nodes grown left place c g r = record {
   fits = omega (arith, r.fits, grows_length nodes grown g);
   none = λ number over. value_stays 33 nodes grown place.version number g r.fits
       ∙ r.none number (omega (arith, c.count, over));
-  same = λ code. subst (λ (o : Option ℕ). SaidBy section place.fault o (declaration code r.table))
+  same = λ code. subst (λ (o : Option ℕ). SaidBy section place.error o (declaration code r.table))
       (sym (number_stays old.count (get nat_cmp old.numbers code) (get nat_cmp new.numbers code)
       nodes grown place.version (c.kept code) g r.fits r.none)) (r.same code);
   ends = λ code. subst (λ (o : Option ℕ). IfSome o (StaysBehind section r.table code))
@@ -127,8 +126,8 @@ place_put section old new left place added firsts codes here others refused is r
     new.codes new.firsts.nodes.items k) in
     record {
       numbered = subst (λ (c : Codes). Numbered c) (sym codes) r.numbered;
-      each = λ q. by_bool (P q) added
-          (λ yes. by_bool (P q) (eqb left q)
+      each = λ q. by-bool (P q) added
+          (λ yes. by-bool (P q) (eqb left q)
           (λ e. subst P (eqb-true _ _ e)
           (subst (λ (o : Option Place). IfSome o
           (RemembersPlace section new.codes new.firsts.nodes.items left)) (sym (here yes))
@@ -147,9 +146,9 @@ place_put section old new left place added firsts codes here others refused is r
 not_next : (r : Result (Option Next) ReadError) (x : Next) → r ≡ Ok None → r ≡ Ok (Some x) → ⊥
 not_next r x p q = absurd cc
 
-not_fault : (r : Result (Option Next) ReadError) (e : ReadError) (x : Next) → r ≡ Err e
+not_error : (r : Result (Option Next) ReadError) (e : ReadError) (x : Next) → r ≡ Err e
     → r ≡ Ok (Some x) → ⊥
-not_fault r e x p q = absurd cc
+not_error r e x p q = absurd cc
 
 -- at a place one declaration stands
 pub one_stands : (section : Input) (left : ℕ) (d e : Declaration) → StandsAt section left d
@@ -163,13 +162,13 @@ one_stands section left d e p q =
 -- what is said of a code by the place where the table begins
 pub said_of : (section table : Input) (chains : Chains) (left code : ℕ) (place : Place)
     → get nat_cmp chains.places left ≡ Some place → RemembersPlaces section chains
-    → from_end left section ≡ Ok table → SaidBy section place.fault
+    → from_end left section ≡ Ok table → SaidBy section place.error
     (first_in chains.codes chains.firsts.nodes.items place.version code) (declaration code table)
 said_of section table chains left code place here all is =
     let p = if_there (RemembersPlace section chains.codes chains.firsts.nodes.items left)
     (get nat_cmp chains.places left) place here (all.each left) in
     let same : p.table ≡ table = one_input (from_end left section) p.table table p.is is in
-    subst (λ (t : Input). SaidBy section place.fault (first_in chains.codes
+    subst (λ (t : Input). SaidBy section place.error (first_in chains.codes
     chains.firsts.nodes.items place.version code) (declaration code t)) same (p.same code)
 
 same_offset : (section : Input) (offset size : ℕ) → size ≡ length section.bytes → offset ≤ size
@@ -197,7 +196,7 @@ first_is section chains offset size code first place is fits here some all =
       table = p.table;
       is = subst (λ (k : ℕ). from_at k section ≡ Ok p.table)
           (sym (same_offset section offset size is fits)) p.is;
-      declares = subst (λ (o : Option ℕ). SaidBy section place.fault o (declaration code p.table))
+      declares = subst (λ (o : Option ℕ). SaidBy section place.error o (declaration code p.table))
           some (p.same code);
     }
 
@@ -214,7 +213,7 @@ end_is section table chains left code first place declared here some there all i
     (get nat_cmp chains.places first) declared there (all.each first) in
     let same : p.table ≡ table = one_input (from_end left section) p.table table p.is is in
     let said : DeclaredAt section first (declaration code p.table) =
-    subst (λ (o : Option ℕ). SaidBy section place.fault o (declaration code p.table)) some
+    subst (λ (o : Option ℕ). SaidBy section place.error o (declaration code p.table)) some
     (p.same code) in
     let stands = said.stands in
     let inside = if_there (StaysBehind section p.table code)
@@ -237,7 +236,7 @@ module _ {R : Type 0} (input : R → Input) where
 
   pub said_is : (o : Option Read) (section : Input) (chains : Chains) (left code : ℕ)
       (place : Place) → get nat_cmp chains.places left ≡ Some place
-      → ((said : Said) → SaidBy section place.fault (first_in chains.codes
+      → ((said : Said) → SaidBy section place.error (first_in chains.codes
       chains.firsts.nodes.items place.version code) said
       → IfSome o (λ r. Answers (found_of input) r said))
       → IfSome o (λ r. RemembersPlaces section chains → (table : Input)
@@ -273,10 +272,10 @@ first_none (Some number) nodes place zero = value_none nodes place number zero
 
 -- a version without the code
 said_none : (section : Input) (place : Place) (codes : Codes) (nodes : List Node) (code : ℕ)
-    (said : Said) → place.version ≡ 0 → said ≡ absent_by place.fault
-    → SaidBy section place.fault (first_in codes nodes place.version code) said
+    (said : Said) → place.version ≡ 0 → said ≡ absent_by place.error
+    → SaidBy section place.error (first_in codes nodes place.version code) said
 said_none section place codes nodes code said zero is =
-    subst (λ (o : Option ℕ). SaidBy section place.fault o said)
+    subst (λ (o : Option ℕ). SaidBy section place.error o said)
     (sym (first_none (get nat_cmp codes.numbers code) nodes place zero)) is
 
 first_apart : (o : Option ℕ) (nodes grown : List Node) (version changed number : ℕ)
@@ -308,7 +307,7 @@ module _ (lebs : LebsTakeBytes) where
   -- at the end of a table
   pub place_end : (section i : Input) (codes : Codes) (nodes : List Node) (left : ℕ)
       (place : Place) → from_end left section ≡ Ok i → next_at i ≡ Ok None → place.version ≡ 0
-      → place.fault ≡ None → RemembersPlace section codes nodes left place
+      → place.error ≡ None → RemembersPlace section codes nodes left place
   place_end section i codes nodes left place is end zero none = record {
     table = i;
     is = is;
@@ -320,19 +319,19 @@ module _ (lebs : LebsTakeBytes) where
     behind = λ x h. absurd (not_next (next_at i) x end h);
   }
 
-  -- at a fault
-  pub place_fault : (section i : Input) (codes : Codes) (nodes : List Node) (left : ℕ)
+  -- at an error
+  pub place_error : (section i : Input) (codes : Codes) (nodes : List Node) (left : ℕ)
       (place : Place) (e : ReadError) → from_end left section ≡ Ok i → next_at i ≡ Err e
-      → place.version ≡ 0 → place.fault ≡ Some e → RemembersPlace section codes nodes left place
-  place_fault section i codes nodes left place e is fails zero some = record {
+      → place.version ≡ 0 → place.error ≡ Some e → RemembersPlace section codes nodes left place
+  place_error section i codes nodes left place e is fails zero some = record {
     table = i;
     is = is;
     fits = omega (arith, zero);
     none = λ number _. value_none nodes place number zero;
     same = λ code. said_none section place codes nodes code (declaration code i) zero
-        (look_up-fault lebs code i e fails ∙ ap absent_by (sym some));
+        (look_up-error lebs code i e fails ∙ ap absent_by (sym some));
     ends = λ code. ends_none section i place codes nodes code zero;
-    behind = λ x h. absurd (not_fault (next_at i) e x fails h);
+    behind = λ x h. absurd (not_error (next_at i) e x fails h);
   }
 
   said_here : (section i behind : Input) (left code : ℕ) (declared : Declaration)
@@ -350,13 +349,13 @@ module _ (lebs : LebsTakeBytes) where
       → from_end left section ≡ Ok i
       → next_at i ≡ Ok (Some ((code, declared), behind)) → Numbered codes
       → get nat_cmp codes.numbers code ≡ Some number
-      → RemembersPlace section codes nodes (length behind.bytes) next → place.fault ≡ next.fault
+      → RemembersPlace section codes nodes (length behind.bytes) next → place.error ≡ next.error
       → place.behind ≡ length behind.bytes
       → place.version ≤ length grown → value_in grown place.version number ≡ Some left
       → ((other : ℕ) → other ≢ number → value_in grown place.version other ≡ value_in nodes
       next.version other) → RemembersPlace section codes grown left place
   place_next section i behind codes nodes grown left code number declared next place is h numbered
-      number_is r fault end fits value others = record {
+      number_is r error end fits value others = record {
         table = i;
         is = is;
         fits = fits;
@@ -366,11 +365,11 @@ module _ (lebs : LebsTakeBytes) where
           over,
           e,
         ))) ∙ r.none n over;
-        same = λ c. by_bool (SaidBy section place.fault (first_in codes grown place.version c)
+        same = λ c. by-bool (SaidBy section place.error (first_in codes grown place.version c)
             (declaration c i)) (eqb code c)
-            (λ e. subst (λ (k : ℕ). SaidBy section place.fault (first_in codes grown place.version
+            (λ e. subst (λ (k : ℕ). SaidBy section place.error (first_in codes grown place.version
             k) (declaration k i)) (eqb-true _ _ e)
-            (subst (λ (o : Option ℕ). SaidBy section place.fault o (declaration code i))
+            (subst (λ (o : Option ℕ). SaidBy section place.error o (declaration code i))
             (sym (ap (λ (o : Option ℕ). first_by o grown place.version) number_is ∙ value))
             (said_here section i behind left code declared is h)))
             (λ apart.
@@ -384,11 +383,11 @@ module _ (lebs : LebsTakeBytes) where
             let says : declaration c r.table ≡ declaration c i = ap (declaration c) table
             ∙ sym (look_up-other lebs c i ((code, declared), behind) h apart) in
             subst (λ (f : Option ReadError). SaidBy section f (first_in codes grown place.version c)
-            (declaration c i)) (sym fault)
-            (subst (λ (o : Option ℕ). SaidBy section next.fault o (declaration c i)) (sym other)
-            (subst (λ (d : Said). SaidBy section next.fault (first_in codes nodes next.version c) d)
+            (declaration c i)) (sym error)
+            (subst (λ (o : Option ℕ). SaidBy section next.error o (declaration c i)) (sym other)
+            (subst (λ (d : Said). SaidBy section next.error (first_in codes nodes next.version c) d)
             says (r.same c))));
-        ends = λ c. by_bool (IfSome (first_in codes grown place.version c)
+        ends = λ c. by-bool (IfSome (first_in codes grown place.version c)
             (StaysBehind section i c)) (eqb code c)
             (λ e. subst (λ (k : ℕ). IfSome (first_in codes grown place.version k)
             (StaysBehind section i k)) (eqb-true _ _ e)

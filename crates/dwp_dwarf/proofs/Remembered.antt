@@ -1,18 +1,16 @@
 -- What is remembered of a table and the rest of it say the same after each declaration that is
 -- read.
 use Rattle.std.proofs.Common.{◌≡◌, ◌≢◌, ℕ, List, [], length, OnOk, true, false, Option, Some, None}
-use Rattle.std.proofs.Common.{Vec}
-use Rattle.std.proofs.Common.{Result, Ok, Err, eqb, refl, ap, sym, subst, ◌∙◌, eq-eqb, arith}
+use Rattle.std.proofs.Common.{Vec, Result, Ok, Err, eqb, refl, ap, sym, subst, ◌∙◌, eq-eqb, arith}
 use Rattle.std.specs.Result.{is_ok}
 use Rattle.std.specs.Map.{lookup}
-use Rattle.std.specs.Option.{IfSome}
+use Rattle.std.specs.Option.{IfSome, is_some}
 use Rattle.std.specs.declared.alloc.Global.{Global}
 use Rattle.std.proofs.lemmas.Grind.{common_steps}
-use Rattle.std.specs.Option.{is_some}
 use Rattle.std.specs.Ordering.{nat_cmp}
 use Rattle.std.specs.BTreeMap.{BTreeMap, get, is_at}
 use Rattle.std.proofs.lemmas.Bool.{eqb-true, ne_eqb, le-ltb}
-use Rattle.dwp_bytes.specs.declared.fault.ReadError.{ReadError}
+use Rattle.dwp_bytes.specs.declared.error.ReadError.{ReadError}
 use Rattle.dwp_bytes.specs.Input.{Input, skip_at}
 use Rattle.dwp_bytes.specs.Leb.{LebsTakeBytes}
 use Rattle.dwp_dwarf.specs.Abbreviations.{Declaration, declaration}
@@ -24,8 +22,9 @@ use Rattle.dwp_dwarf.specs.Remembered.{RemembersTables}
 use Rattle.dwp_dwarf.specs.declared.abbrev.AttributeSpecification.{AttributeSpecification}
 use Rattle.dwp_dwarf.specs.declared.abbrev.Abbreviation.{Abbreviation}
 use Rattle.dwp_dwarf.specs.declared.read_table.ReadTable.{ReadTable}
-use Rattle.dwp_dwarf.proofs.Grammar.{by_bool, look_up-here, look_up-other}
+use Rattle.dwp_dwarf.proofs.Grammar.{look_up-here, look_up-other}
 use Rattle.dwp_dwarf.proofs.Values.{after-zero}
+use Rattle.dwp_base.proofs.Bools.{by-bool}
 
 pub on_ok : {A E : Type 0} (P : Type 0) (r : Result A E) → is_ok r ≡ true → OnOk r P → P
 on_ok P (Ok x) e p = p
@@ -59,7 +58,7 @@ pub one_more_list : (code : ℕ) (table : Input) (old new : BTreeMap ℕ (Vec At
     → ListsNeeded code table list → get nat_cmp new code ≡ Some list
     → ((q : ℕ) → q ≢ code → get nat_cmp new q ≡ get nat_cmp old q) → HasLists table new
 one_more_list code table old new list has is here others other =
-    by_bool (IfSome (get nat_cmp new other) (ListsNeeded other table)) (eqb code other)
+    by-bool (IfSome (get nat_cmp new other) (ListsNeeded other table)) (eqb code other)
     (λ e. subst (λ (c : ℕ). IfSome (get nat_cmp new c) (ListsNeeded c table)) (eqb-true _ _ e)
     (subst (λ (o : Option (Vec AttributeSpecification Global)). IfSome o (ListsNeeded code table))
     (sym here) is))
@@ -128,7 +127,7 @@ module _ {R : Type 0} (input : R → Input) where
       record {
         table = r.table;
         is = r.is;
-        same = λ q. by_bool (remembered input new.known (input new.rest) q ≡ declaration q r.table)
+        same = λ q. by-bool (remembered input new.known (input new.rest) q ≡ declaration q r.table)
             (eqb code q)
             (λ e. subst (λ (c : ℕ). remembered input new.known (input new.rest) c ≡ declaration c
             r.table) (eqb-true _ _ e)
@@ -178,7 +177,7 @@ module _ {R : Type 0} (input : R → Input) where
         → ((q : ℕ) → q ≢ x.0.0 → get nat_cmp new q ≡ get nat_cmp old q)
         → (other : ℕ) → remembered input new x.1 other ≡ remembered input old i other
     inserted old new i x a h is none some others other =
-        by_bool (remembered input new x.1 other ≡ remembered input old i other) (eqb x.0.0 other)
+        by-bool (remembered input new x.1 other ≡ remembered input old i other) (eqb x.0.0 other)
         (λ here.
         let same : x.0.0 ≡ other = eqb-true _ _ here in
         let now : remembered input new x.1 x.0.0 ≡ Ok (Some (declaration_of input a)) =

@@ -1,14 +1,14 @@
 -- Of each name that may name a split object the first attribute, one attribute after the other; it
 -- is among those that are needed.
-use Rattle.std.proofs.Common.{◌≡◌, ◌∙◌, ℕ, Bool, true, false, cond, List, [], ◌∷◌}
-use Rattle.std.proofs.Common.{Option, Some, None, Result, Ok, Err, eqb, refl, ap, sym}
+use Rattle.std.proofs.Common.{◌≡◌, ◌∙◌, ℕ, Bool, true, false, cond, List, [], ◌∷◌, Option, Some}
+use Rattle.std.proofs.Common.{None, Result, Ok, Err, eqb, refl, ap, sym}
 use Rattle.std.specs.Prelude.{find, ◌&&◌, ◌||◌, if◌then◌else◌}
 use Rattle.std.specs.Option.{option_or, is_none}
 use Rattle.dwp_base.specs.Reading.{◌>>=◌}
 use Rattle.dwp_bytes.specs.Input.{Input, front}
 use Rattle.dwp_bytes.specs.declared.encoding.Encoding.{Encoding}
 use Rattle.dwp_bytes.specs.declared.encoding.Format.{Format}
-use Rattle.dwp_bytes.specs.declared.fault.ReadError.{ReadError}
+use Rattle.dwp_bytes.specs.declared.error.ReadError.{ReadError}
 use Rattle.dwp_dwarf.specs.Abbreviations.{Specification}
 use Rattle.dwp_dwarf.specs.Entries.{DebugAttribute, attribute_at, attributes, place_of}
 use Rattle.dwp_dwarf.specs.Forms.{value_at, named_form_at}
@@ -18,9 +18,10 @@ use Rattle.dwp_dwarf.specs.Split.{all_read, base_in, first_base, is_attribute, n
 use Rattle.dwp_dwarf.specs.Split.{DW_AT_dwo_name, DW_AT_GNU_dwo_name, DW_AT_comp_dir}
 use Rattle.dwp_dwarf.specs.Split.{DW_AT_str_offsets_base}
 use Rattle.dwp_dwarf.specs.declared.needed.UnmetNames.{UnmetNames}
-use Rattle.dwp_dwarf.proofs.Forward.{bind_ok}
-use Rattle.dwp_dwarf.proofs.Grammar.{by_answer, by_bool}
+use Rattle.dwp_dwarf.proofs.Grammar.{by_answer}
 use Rattle.dwp_dwarf.proofs.Numbers.{is_empty, or_left}
+use Rattle.dwp_base.proofs.Steps.{bind-was}
+use Rattle.dwp_base.proofs.Bools.{by-bool}
 
 -- the first of each name, before and among others
 abbrev pub joined : SplitAttributes → SplitAttributes → SplitAttributes
@@ -70,15 +71,6 @@ joined-first format before a rest =
           (first_base format rest),
     )
 
-pub after-end : (format : Format) (before : SplitAttributes) → after format before [] ≡ Ok before
-after-end format before = rw (
-  or-none before.dwo_name,
-  or-none before.gnu_dwo_name,
-  or-none
-      before.comp_dir,
-  or-none before.str_offsets_base,
-)
-
 after-read : (format : Format) (before : SplitAttributes) (a : DebugAttribute)
     (rest : Result (List DebugAttribute) ReadError)
     → ((rest >>= λ others. Ok (a ∷ others)) >>= λ attributes.
@@ -101,10 +93,6 @@ pub after-listed : (format : Format) (encoding : Encoding) (before : SplitAttrib
     ≡ after format (with_attribute format before a) (attributes encoding ss j)
 after-listed format encoding before s ss i j a is =
     rw is (after-first format before a (attributes encoding ss j))
-
-pub after-fault : (format : Format) (before : SplitAttributes) (e : ReadError)
-    (rest : List (Result DebugAttribute ReadError)) → after format before (Err e ∷ rest) ≡ Err e
-after-fault format before e rest = refl
 
 -- ---- those that are needed
 
@@ -167,8 +155,8 @@ has_name : (encoding : Encoding) (s : Specification) (i : Input) (x : DebugAttri
     → attribute_at encoding s i ≡ Ok x → x.0.name ≡ s.name
 unfolding attribute_at
 has_name encoding s i x is =
-    let form = bind_ok (named_form_at s.form i) _ x is in
-    let value = bind_ok (value_at encoding form.0.0 form.0.1) _ x form.2 in
+    let form = bind-was (named_form_at s.form i) _ x is in
+    let value = bind-was (value_at encoding form.0.0 form.0.1) _ x form.2 in
     let made : DebugAttribute × Input = (
       record { name = s.name; form = form.0.0; value = value.0.0 },
       value.0.1,
@@ -182,7 +170,7 @@ after_needed : (format : Format) (encoding : Encoding) (before : SplitAttributes
     → after format before (attributes encoding (needed (unmet_of before) ss) i)
     ≡ after format before (attributes encoding ss i)
 after_needed format encoding before [] i = refl
-after_needed format encoding before (s ∷ ss) i = by_bool
+after_needed format encoding before (s ∷ ss) i = by-bool
     (after format before (attributes encoding (needed (unmet_of before) (s ∷ ss)) i)
     ≡ after format before (attributes encoding (s ∷ ss) i)) (is_needed (unmet_of before) s)
     (λ some. by_answer

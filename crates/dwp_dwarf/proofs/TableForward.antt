@@ -3,9 +3,9 @@ use Rattle.std.proofs.Common.{◌≡◌, ℕ, zero, suc, ◌<◌, ◌≤◌, Boo
 use Rattle.std.proofs.Common.{length, Option, Some, None, Result, Ok, Err, eqb, refl, ap, sym}
 use Rattle.std.proofs.Common.{subst, ◌∙◌, arith}
 use Rattle.dwp_base.specs.Reading.{◌>>=◌}
-use Rattle.dwp_bytes.specs.declared.fault.ReadError.{ReadError}
-use Rattle.dwp_bytes.specs.declared.fault.ReadError.TheVariants.{UnexpectedEof, ZeroTag}
-use Rattle.dwp_bytes.specs.declared.fault.ReadError.TheVariants.{BadChildren}
+use Rattle.dwp_bytes.specs.declared.error.ReadError.{ReadError}
+use Rattle.dwp_bytes.specs.declared.error.ReadError.TheVariants.{UnexpectedEof, ZeroTag}
+use Rattle.dwp_bytes.specs.declared.error.ReadError.TheVariants.{BadChildren}
 use Rattle.dwp_bytes.specs.Input.{Input, byte_at}
 use Rattle.dwp_bytes.specs.Leb.{LebsTakeBytes, leb_at, uleb_at, sleb_at}
 use Rattle.dwp_dwarf.specs.Abbreviations.{Specification, Declaration, constant_at, specification_at}
@@ -13,8 +13,8 @@ use Rattle.dwp_dwarf.specs.Abbreviations.{specifications_within, specifications_
 use Rattle.dwp_dwarf.specs.Abbreviations.{past_specifications, pairs_from, pairs_within, pairs_in}
 use Rattle.dwp_dwarf.specs.Abbreviations.{is_last, tag_at, children_at, declaration_at, code_at}
 use Rattle.dwp_dwarf.specs.Abbreviations.{declaration_within, declaration}
-use Rattle.dwp_dwarf.proofs.Forward.{bind_ok, by_choice, by_test, no_value, goes_shorter}
-use Rattle.dwp_dwarf.proofs.Forward.{byte_shorter}
+use Rattle.dwp_dwarf.proofs.Forward.{by_test, no_value, goes_shorter, byte_shorter}
+use Rattle.dwp_base.proofs.Steps.{bind-was, by-choice}
 
 -- steps that go on alike are alike
 pub bind_alike : {A B E : Type 0} (r : Result A E) (f g : A → Result B E)
@@ -62,7 +62,7 @@ pairs_are : (n : ℕ) (i : Input) (p : List Specification × Input) → specific
 unfolding specifications_within pairs_within
 pairs_are zero i p e = absurd cc
 pairs_are (suc n) i p e =
-    let first = bind_ok (specification_at i) _ p e in
+    let first = bind-was (specification_at i) _ p e in
     let others : Result (List Specification × Input) ReadError = specifications_within n first.0.1
     >>= λ rest. Ok (first.0.0 ∷ rest.0, rest.1) in
     by_test (pairs_from (specification_at i) (pairs_within n) ≡ p.0) (is_last first.0.0)
@@ -71,7 +71,7 @@ pairs_are (suc n) i p e =
     let same : ([], first.0.1) ≡ p = cc in
     rw (first.1, last) (ap (λ (x : List Specification × Input). x.0) same))
     (λ other more.
-    let rest = bind_ok (specifications_within n first.0.1) _ p more in
+    let rest = bind-was (specifications_within n first.0.1) _ p more in
     let same : (first.0.0 ∷ rest.0.0, rest.0.1) ≡ p = cc in
     rw (first.1, other) (ap (λ (l : List Specification). first.0.0 ∷ l)
     (pairs_are n first.0.1 rest.0 rest.1) ∙ ap (λ (x : List Specification × Input). x.0) same))
@@ -81,7 +81,7 @@ pub passed_list : (i j : Input) → past_specifications i ≡ Ok j → specifica
     Ok (pairs_in i, j)
 unfolding specifications_at pairs_in
 passed_list i j e =
-    let list = bind_ok (specifications_within (length i.bytes) i) _ j e in
+    let list = bind-was (specifications_within (length i.bytes) i) _ j e in
     let end : list.0.1 ≡ j = passed_ok list.0.1 j list.2 in
     list.1 ∙ ap (λ (x : List Specification × Input). Ok x) (ap (λ (l : List Specification).
     (l, list.0.1)) (sym (pairs_are (length i.bytes) i list.0 list.1)) ∙ ap (λ (k : Input).
@@ -91,15 +91,15 @@ children_shorter : (i : Input) (p : Bool × Input) → children_at i ≡ Ok p
     → length p.1.bytes < length i.bytes
 unfolding children_at
 children_shorter i p e =
-    let byte = bind_ok (byte_at i) _ p e in
+    let byte = bind-was (byte_at i) _ p e in
     let shorter = byte_shorter i byte.0 byte.1 in
     let some : Result (Bool × Input) ReadError = cond (eqb byte.0.0 1) (Ok (true, byte.0.1))
     (Err BadChildren) in
-    by_choice (length p.1.bytes < length i.bytes) (eqb byte.0.0 0) (Ok (false, byte.0.1))
+    by-choice (length p.1.bytes < length i.bytes) (eqb byte.0.0 0) (Ok (false, byte.0.1))
     some (Ok p) byte.2
     (λ none. let same : (false, byte.0.1) ≡ p = cc in subst (λ (x : Bool × Input).
     length x.1.bytes < length i.bytes) same shorter)
-    (λ other. by_choice (length p.1.bytes < length i.bytes) (eqb byte.0.0 1) (Ok (true, byte.0.1))
+    (λ other. by-choice (length p.1.bytes < length i.bytes) (eqb byte.0.0 1) (Ok (true, byte.0.1))
     (Err BadChildren) (Ok p) other
     (λ one. let same : (true, byte.0.1) ≡ p = cc in subst (λ (x : Bool × Input).
     length x.1.bytes < length i.bytes) same shorter)
@@ -123,10 +123,10 @@ module _ (lebs : LebsTakeBytes) where
       → length p.1.bytes ≤ length i.bytes
   unfolding constant_at
   constant_keeps form i p e =
-      by_choice (length p.1.bytes ≤ length i.bytes) (eqb form 0x21) (sleb_at i >>= λ x.
+      by-choice (length p.1.bytes ≤ length i.bytes) (eqb form 0x21) (sleb_at i >>= λ x.
       Ok (tt, x.1)) (Ok (tt, i)) (Ok p) e
       (λ constant.
-      let x = bind_ok (sleb_at i) _ p constant in
+      let x = bind-was (sleb_at i) _ p constant in
       let same : (tt, x.0.1) ≡ p = cc in
       omega (
         arith,
@@ -141,9 +141,9 @@ module _ (lebs : LebsTakeBytes) where
       → length p.1.bytes < length i.bytes
   unfolding specification_at
   specification_shorter i p e =
-      let name = bind_ok (uleb_at i) _ p e in
-      let form = bind_ok (uleb_at name.0.1) _ p name.2 in
-      let rest = bind_ok (constant_at form.0.0 form.0.1) _ p form.2 in
+      let name = bind-was (uleb_at i) _ p e in
+      let form = bind-was (uleb_at name.0.1) _ p name.2 in
+      let rest = bind-was (constant_at form.0.0 form.0.1) _ p form.2 in
       let made : Specification × Input = (record { name = name.0.0; form = form.0.0 }, rest.0.1) in
       let same : made ≡ p = cc in
       omega (
@@ -195,9 +195,9 @@ module _ (lebs : LebsTakeBytes) where
   past-other i first e other = rw (specifications-cases i, e, other)
       (past_other first.0 (specifications_at first.1))
 
-  pub past-fault : (i : Input) (f : ReadError) → specification_at i ≡ Err f
+  pub past-error : (i : Input) (f : ReadError) → specification_at i ≡ Err f
       → past_specifications i ≡ Err f
-  past-fault i f e = rw (specifications-cases i, e) refl
+  past-error i f e = rw (specifications-cases i, e) refl
 
   -- ---- the pairs themselves
 
@@ -233,17 +233,17 @@ module _ (lebs : LebsTakeBytes) where
       → is_last x.0 ≡ true → pairs_in i ≡ []
   pairs-last i x e last = rw (pairs-cases i, e, last) refl
 
-  pub pairs-fault : (i : Input) (f : ReadError) → specification_at i ≡ Err f → pairs_in i ≡ []
-  pairs-fault i f e = rw (pairs-cases i, e) refl
+  pub pairs-error : (i : Input) (f : ReadError) → specification_at i ≡ Err f → pairs_in i ≡ []
+  pairs-error i f e = rw (pairs-cases i, e) refl
 
   -- ---- the declarations of a table, by cases on what stands first
 
   tag_shorter : (i : Input) (p : ℕ × Input) → tag_at i ≡ Ok p → length p.1.bytes < length i.bytes
   unfolding tag_at
   tag_shorter i p e =
-      let tag = bind_ok (uleb_at i) _ p e in
+      let tag = bind-was (uleb_at i) _ p e in
       let shorter = goes_shorter i tag.0.1 (lebs.unsigned i tag.0 tag.1) in
-      by_choice (length p.1.bytes < length i.bytes) (eqb tag.0.0 0) (Err ZeroTag)
+      by-choice (length p.1.bytes < length i.bytes) (eqb tag.0.0 0) (Err ZeroTag)
       (Ok tag.0) (Ok p) tag.2
       (no_value (length p.1.bytes < length i.bytes) ZeroTag p)
       (λ some. let same : tag.0 ≡ p = cc in subst (λ (x : ℕ × Input). length x.1.bytes < length
@@ -254,17 +254,17 @@ module _ (lebs : LebsTakeBytes) where
   unfolding specifications_within
   list_shorter zero i p e = absurd cc
   list_shorter (suc n) i p e =
-      let first = bind_ok (specification_at i) _ p e in
+      let first = bind-was (specification_at i) _ p e in
       let shorter = specification_shorter i first.0 first.1 in
       let others : Result (List Specification × Input) ReadError = specifications_within n first.0.1
       >>= λ rest. Ok (first.0.0 ∷ rest.0, rest.1) in
-      by_choice (length p.1.bytes ≤ length i.bytes) (is_last first.0.0) (Ok ([], first.0.1))
+      by-choice (length p.1.bytes ≤ length i.bytes) (is_last first.0.0) (Ok ([], first.0.1))
       others (Ok p) first.2
       (λ ended.
       let same : ([], first.0.1) ≡ p = cc in
       omega (arith, ap (λ (x : List Specification × Input). length x.1.bytes) same))
       (λ more.
-      let rest = bind_ok (specifications_within n first.0.1) _ p more in
+      let rest = bind-was (specifications_within n first.0.1) _ p more in
       let same : (first.0.0 ∷ rest.0.0, rest.0.1) ≡ p = cc in
       omega (
         arith,
@@ -277,9 +277,9 @@ module _ (lebs : LebsTakeBytes) where
       → length p.1.bytes < length i.bytes
   unfolding declaration_at specifications_at
   declaration_shorter i p e =
-      let tag = bind_ok (tag_at i) _ p e in
-      let children = bind_ok (children_at tag.0.1) _ p tag.2 in
-      let list = bind_ok (specifications_within (length children.0.1.bytes) children.0.1)
+      let tag = bind-was (tag_at i) _ p e in
+      let children = bind-was (children_at tag.0.1) _ p tag.2 in
+      let list = bind-was (specifications_within (length children.0.1.bytes) children.0.1)
       _ p children.2 in
       let made : Declaration × Input = (
         record {
@@ -303,7 +303,7 @@ module _ (lebs : LebsTakeBytes) where
       → length p.1.bytes ≤ length i.bytes
   unfolding code_at
   code_no_longer i p e =
-      by_choice (length p.1.bytes ≤ length i.bytes) (eqb (length i.bytes) 0) (Ok (0, i))
+      by-choice (length p.1.bytes ≤ length i.bytes) (eqb (length i.bytes) 0) (Ok (0, i))
       (uleb_at i) (Ok p) e
       (λ none. let same : (0, i) ≡ p = cc in
       omega (arith, ap (λ (x : ℕ × Input). length x.1.bytes) same))
@@ -360,10 +360,10 @@ module _ (lebs : LebsTakeBytes) where
       → eqb code.0 0 ≡ true → declaration wanted i ≡ Ok None
   declaration-none wanted i code e none = rw (declaration-cases wanted i, e, none) refl
 
-  pub declaration-fault : (wanted : ℕ) (i : Input) (code : ℕ × Input) (f : ReadError)
+  pub declaration-error : (wanted : ℕ) (i : Input) (code : ℕ × Input) (f : ReadError)
       → code_at i ≡ Ok code → eqb code.0 0 ≡ false → declaration_at code.1 ≡ Err f
       → declaration wanted i ≡ Err f
-  declaration-fault wanted i code f e some r = rw (declaration-cases wanted i, e, some, r) refl
+  declaration-error wanted i code f e some r = rw (declaration-cases wanted i, e, some, r) refl
 
   pub declaration-found : (wanted : ℕ) (i : Input) (code : ℕ × Input) (d : Declaration × Input)
       → code_at i ≡ Ok code → eqb code.0 0 ≡ false → declaration_at code.1 ≡ Ok d

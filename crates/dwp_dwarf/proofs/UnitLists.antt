@@ -9,7 +9,7 @@ use Rattle.std.proofs.lemmas.List.{nil_from_length}
 use Rattle.std.proofs.lemmas.List.Concat.{flat_map-cons}
 use Rattle.std.proofs.lemmas.Bool.{eqb-true, ne_eqb}
 use Rattle.dwp_base.specs.Reading.{Reads}
-use Rattle.dwp_bytes.specs.declared.fault.ReadError.{ReadError}
+use Rattle.dwp_bytes.specs.declared.error.ReadError.{ReadError}
 use Rattle.dwp_bytes.specs.Input.{Input, Goes, front, after}
 use Rattle.dwp_dwarf.specs.declared.unit.UnitSection.{UnitSection}
 use Rattle.dwp_dwarf.specs.declared.unit.UnitHeader.{UnitHeader}
@@ -70,7 +70,7 @@ cases_of (suc m) section i e = ap (cond (eqb (length i.bytes) 0) [])
     (λ x r. let shorter = unit_shorter section i x r in within_enough m (length x.1.bytes) section
     x.1 (omega arith) (omega arith)))
 
--- the units by cases: the end, the first fault, a unit and those after it
+-- the units by cases: the end, the first error, a unit and those after it
 pub units-cases : (section : UnitSection) (i : Input)
     → units section i ≡ (cond (eqb (length i.bytes) 0) [] (listed (unit_at section i)
     (units section)))
@@ -85,7 +85,7 @@ pub first_unit : {R : Type 0} (input : R → Input) (section : UnitSection) (i j
 first_unit input section i j (Ok h) some reads = units-cases section i ∙ rw (some, reads) refl
 first_unit input section i j (Err f) some reads = units-cases section i ∙ rw (some, reads.0) refl
 
--- an iterator that gave a unit or a fault has fewer items left
+-- an iterator that gave a unit or an error has fewer items left
 pub goes_on : {A : Type 0} (old new : List A) (x : A) → old ≡ x ∷ new → length new < length old
 goes_on old new x e = omega (arith, ap length e)
 
@@ -111,10 +111,10 @@ listed_ok : (r : Result (Unit × Input) ReadError) (others : Input → List (Res
 listed_ok (Ok x) others u l e = (x, refl, cc, cc)
 listed_ok (Err f) others u l e = absurd cc
 
-listed_fault : (r : Result (Unit × Input) ReadError) (others : Input → List (Result Unit ReadError))
+listed_error : (r : Result (Unit × Input) ReadError) (others : Input → List (Result Unit ReadError))
     (f : ReadError) (l : List (Result Unit ReadError)) → listed r others ≡ Err f ∷ l → r ≡ Err f
-listed_fault (Ok x) others f l e = absurd cc
-listed_fault (Err g) others f l e = cc
+listed_error (Ok x) others f l e = absurd cc
+listed_error (Err g) others f l e = cc
 
 listed_none : (r : Result (Unit × Input) ReadError) (others : Input → List (Result Unit ReadError))
     → listed r others ≡ [] → ⊥
@@ -196,17 +196,17 @@ units_whole section i read e =
     sym (append-nil (flat_map unit_bytes read)) ∙ ap (λ (l : List ℕ). flat_map unit_bytes read ++ l)
     (sym (no_byte section r.0 r.2)) ∙ r.1
 
-pub units_fault : (section : UnitSection) (i : Input) (read : List Unit) (f : ReadError)
+pub units_error : (section : UnitSection) (i : Input) (read : List Unit) (f : ReadError)
     → units section i ≡ map Ok read ++ Err f ∷ []
     → (flat_map unit_bytes read ++ drop (length (flat_map unit_bytes read)) i.bytes ≡ i.bytes)
     × (unit_at section (after (length (flat_map unit_bytes read)) i) ≡ Err f)
-units_fault section i read f e =
+units_error section i read f e =
     let r = units_behind section read (Err f ∷ []) i e in
-    let fault = listed_fault (unit_at section r.0) (units section) f [] (some_listed section r.0
+    let error = listed_error (unit_at section r.0) (units section) f [] (some_listed section r.0
     (Err f) [] r.2) in (
       ap (λ (x : Input). flat_map unit_bytes read ++ x.bytes) (sym r.3.is) ∙ r.1,
       ap
-          (unit_at section) (sym r.3.is) ∙ fault,
+          (unit_at section) (sym r.3.is) ∙ error,
     )
 
 -- ---- the one list

@@ -14,10 +14,10 @@ use Rattle.dwp_bytes.specs.Encoding.{offset_size}
 use Rattle.dwp_bytes.specs.Leb.{LebsTakeBytes, uleb_at, sleb_at}
 use Rattle.dwp_bytes.specs.declared.encoding.Encoding.{Encoding}
 use Rattle.dwp_bytes.specs.declared.encoding.Format.{Format}
-use Rattle.dwp_bytes.specs.declared.fault.ReadError.{ReadError}
-use Rattle.dwp_bytes.specs.declared.fault.ReadError.TheVariants.{UnexpectedEof, UnknownForm}
-use Rattle.dwp_bytes.specs.declared.fault.ReadError.TheVariants.{UnknownCode, AddressSize}
-use Rattle.dwp_bytes.specs.declared.fault.ReadError.TheVariants.{UnknownVersion, UnknownUnitType}
+use Rattle.dwp_bytes.specs.declared.error.ReadError.{ReadError}
+use Rattle.dwp_bytes.specs.declared.error.ReadError.TheVariants.{UnexpectedEof, UnknownForm}
+use Rattle.dwp_bytes.specs.declared.error.ReadError.TheVariants.{UnknownCode, AddressSize}
+use Rattle.dwp_bytes.specs.declared.error.ReadError.TheVariants.{UnknownVersion, UnknownUnitType}
 use Rattle.dwp_dwarf.specs.declared.form.Layout.{Layout}
 use Rattle.dwp_dwarf.specs.declared.form.Layout.TheVariants.{Fixed, Block, Text, Unsigned, Signed}
 use Rattle.dwp_dwarf.specs.declared.form.BlockLength.{BlockLength}
@@ -37,11 +37,11 @@ use Rattle.dwp_dwarf.specs.Units.{Unit, initial_length_at, address_size_at, type
 use Rattle.dwp_dwarf.specs.Units.{unit_code_at, unit_type_at, older_at, newer_at, header_at}
 use Rattle.dwp_dwarf.specs.Units.{unit_at}
 use Rattle.dwp_dwarf.specs.Values.{LiesFirst, ValuesLie, RootValuesLie}
-use Rattle.dwp_dwarf.proofs.Forward.{bind_ok, guard_ok, by_choice, no_value, IsBehind}
-use Rattle.dwp_dwarf.proofs.Forward.{IsBehind-then, split_is, number_is}
+use Rattle.dwp_dwarf.proofs.Forward.{no_value, IsBehind, IsBehind-then, split_is, number_is}
 use Rattle.dwp_dwarf.proofs.FormsForward.{named_form-own}
 use Rattle.dwp_dwarf.proofs.UnitsForward.{initial_length_is, header_keeps}
 use Rattle.dwp_dwarf.proofs.Grammar.{by_answer}
+use Rattle.dwp_base.proofs.Steps.{bind-was, guard-ok, by-choice}
 
 -- j stands behind some bytes of i
 abbrev Behind : Input → Input → Type 0
@@ -66,13 +66,13 @@ same_behind {A} i x y e p = subst (λ (z : A × Input). Behind i z.1) e p
 skip_is : (n : ℕ) (i : Input) (p : ⊤ × Input) → skip_at n i ≡ Ok p → IsBehind n i p.1
 unfolding skip_at
 skip_is n i p e =
-    let g = guard_ok (ltb (length i.bytes) n) UnexpectedEof (tt, after n i) p e in
+    let g = guard-ok (ltb (length i.bytes) n) UnexpectedEof (tt, after n i) p e in
     record { fits = ltb-false _ _ g.0; is = ap (λ (x : ⊤ × Input). x.1) (sym g.1) }
 
 byte_is : (i : Input) (p : ℕ × Input) → byte_at i ≡ Ok p → IsBehind 1 i p.1
 unfolding byte_at
 byte_is i p e =
-    let g = guard_ok (ltb (length i.bytes) 1) UnexpectedEof (
+    let g = guard-ok (ltb (length i.bytes) 1) UnexpectedEof (
       slice_index i.bytes 0,
       after 1 i,
     ) p e in
@@ -81,7 +81,7 @@ byte_is i p e =
 relocated_is : (n : ℕ) (i : Input) (p : ℕ × Input) → relocated_at n i ≡ Ok p → IsBehind n i p.1
 unfolding relocated_at
 relocated_is n i p e =
-    let g = guard_ok (ltb (length i.bytes) n) UnexpectedEof _ p e in
+    let g = guard-ok (ltb (length i.bytes) n) UnexpectedEof _ p e in
     record { fits = ltb-false _ _ g.0; is = ap (λ (x : ℕ × Input). x.1) (sym g.1) }
 
 offset_is : (format : Format) (i : Input) (p : ℕ × Input) → offset_at format i ≡ Ok p → Behind i p.1
@@ -91,9 +91,9 @@ offset_is format i p e = (offset_size format, relocated_is (offset_size format) 
 text_is : (i : Input) (p : Input × Input) → text_at i ≡ Ok p → Behind i p.1
 unfolding text_at
 text_is i p e =
-    let n = bind_ok (found_at 0 i.bytes) _ p e in
-    let text = bind_ok (split_at n.0 i) _ p n.2 in
-    let end = bind_ok (skip_at 1 text.0.1) _ p text.2 in
+    let n = bind-was (found_at 0 i.bytes) _ p e in
+    let text = bind-was (split_at n.0 i) _ p n.2 in
+    let end = bind-was (skip_at 1 text.0.1) _ p text.2 in
     let same : (text.0.0, end.0.1) ≡ p = cc in
     same_behind i (text.0.0, end.0.1) p same (then_behind i text.0.1 end.0.1
     (n.0, (split_is n.0 i text.0 text.1).1) (1, skip_is 1 text.0.1 end.0 end.1))
@@ -107,8 +107,8 @@ found_some (Some x) d e = cc
 address_size_is : (i : Input) (p : ℕ × Input) → address_size_at i ≡ Ok p → Behind i p.1
 unfolding address_size_at
 address_size_is i p e =
-    let n = bind_ok (byte_at i) _ p e in
-    by_choice (Behind i p.1) (is_address_size n.0.0) (Ok n.0) (Err AddressSize) (Ok p) n.2
+    let n = bind-was (byte_at i) _ p e in
+    by-choice (Behind i p.1) (is_address_size n.0.0) (Ok n.0) (Err AddressSize) (Ok p) n.2
     (λ some. let same : n.0 ≡ p = cc in same_behind i n.0 p same (1, byte_is i n.0 n.1))
     (no_value (Behind i p.1) AddressSize p)
 
@@ -116,8 +116,8 @@ type_is : (format : Format) (i : Input) (p : (ℕ × ℕ) × Input) → type_at 
     p → Behind i p.1
 unfolding type_at
 type_is format i p e =
-    let signature = bind_ok (number_at 8 i) _ p e in
-    let offset = bind_ok (offset_at format signature.0.1) _ p signature.2 in
+    let signature = bind-was (number_at 8 i) _ p e in
+    let offset = bind-was (offset_at format signature.0.1) _ p signature.2 in
     let same : ((signature.0.0, offset.0.0), offset.0.1) ≡ p = cc in
     same_behind i ((signature.0.0, offset.0.0), offset.0.1) p same
     (then_behind i signature.0.1 offset.0.1 (8, number_is 8 i signature.0 signature.1)
@@ -127,7 +127,7 @@ type_is format i p e =
 signed_is : (format : Format) (i : Input) (make : ℕ → ℕ → UnitType) (p : UnitType × Input)
     → (type_at format i >>= λ t. Ok (make t.0.0 t.0.1, t.1)) ≡ Ok p → Behind i p.1
 signed_is format i make p e =
-    let t = bind_ok (type_at format i) _ p e in
+    let t = bind-was (type_at format i) _ p e in
     let same : (make t.0.0.0 t.0.0.1, t.0.1) ≡ p = cc in
     same_behind i (make t.0.0.0 t.0.0.1, t.0.1) p same (type_is format i t.0 t.1)
 
@@ -141,8 +141,8 @@ older_type_is Types format i p e = signed_is format i TypeUnit p e
 unit_code_is : (i : Input) (p : ℕ × Input) → unit_code_at i ≡ Ok p → Behind i p.1
 unfolding unit_code_at
 unit_code_is i p e =
-    let n = bind_ok (byte_at i) _ p e in
-    by_choice (Behind i p.1) (leb 1 n.0.0 && leb n.0.0 6) (Ok n.0) (Err UnknownUnitType) (Ok p) n.2
+    let n = bind-was (byte_at i) _ p e in
+    by-choice (Behind i p.1) (leb 1 n.0.0 && leb n.0.0 6) (Ok n.0) (Err UnknownUnitType) (Ok p) n.2
     (λ some. let same : n.0 ≡ p = cc in same_behind i n.0 p same (1, byte_is i n.0 n.1))
     (no_value (Behind i p.1) UnknownUnitType p)
 
@@ -156,7 +156,7 @@ plain_is i type p e = let same : (type, i) ≡ p = cc in same_behind i (type, i)
 numbered_is : (i : Input) (make : ℕ → UnitType) (p : UnitType × Input) → (number_at 8 i >>= λ n.
     Ok (make n.0, n.1)) ≡ Ok p → Behind i p.1
 numbered_is i make p e =
-    let n = bind_ok (number_at 8 i) _ p e in
+    let n = bind-was (number_at 8 i) _ p e in
     let same : (make n.0.0, n.0.1) ≡ p = cc in
     same_behind i (make n.0.0, n.0.1) p same (8, number_is 8 i n.0 n.1)
 
@@ -172,19 +172,19 @@ unit_type_is code format i p e =
     let five : Types_at = number_at 8 i >>= λ n. Ok (SplitCompilation n.0, n.1) in
     let four : Types_at = number_at 8 i >>= λ n. Ok (Skeleton n.0, n.1) in
     let two : Types_at = type_at format i >>= λ t. Ok (TypeUnit t.0.0 t.0.1, t.1) in
-    by_choice P (eqb code 1) (Ok (Compilation, i))
+    by-choice P (eqb code 1) (Ok (Compilation, i))
     (cond (eqb code 2) two (cond (eqb code 3) (Ok (Partial, i)) (cond (eqb code 4) four
     (cond (eqb code 5) five six)))) (Ok p) e
     (plain_is i Compilation p)
-    (λ e2. by_choice P (eqb code 2) two (cond (eqb code 3) (Ok (Partial, i)) (cond (eqb code 4) four
+    (λ e2. by-choice P (eqb code 2) two (cond (eqb code 3) (Ok (Partial, i)) (cond (eqb code 4) four
     (cond (eqb code 5) five six))) (Ok p) e2
     (signed_is format i TypeUnit p)
-    (λ e3. by_choice P (eqb code 3) (Ok (Partial, i)) (cond (eqb code 4) four
+    (λ e3. by-choice P (eqb code 3) (Ok (Partial, i)) (cond (eqb code 4) four
     (cond (eqb code 5) five six)) (Ok p) e3
     (plain_is i Partial p)
-    (λ e4. by_choice P (eqb code 4) four (cond (eqb code 5) five six) (Ok p) e4
+    (λ e4. by-choice P (eqb code 4) four (cond (eqb code 5) five six) (Ok p) e4
     (numbered_is i Skeleton p)
-    (λ e5. by_choice P (eqb code 5) five six (Ok p) e5
+    (λ e5. by-choice P (eqb code 5) five six (Ok p) e5
     (numbered_is i SplitCompilation p)
     (signed_is format i SplitType p)))))
 
@@ -192,9 +192,9 @@ older_entries : (section : UnitSection) (format : Format) (version : ℕ) (whole
     → older_at section format version whole i ≡ Ok u → Behind i u.entries
 unfolding older_at
 older_entries section format version whole i u e =
-    let a = bind_ok (offset_at format i) _ u e in
-    let b = bind_ok (address_size_at a.0.1) _ u a.2 in
-    let c = bind_ok (older_type_at section format b.0.1) _ u b.2 in
+    let a = bind-was (offset_at format i) _ u e in
+    let b = bind-was (address_size_at a.0.1) _ u a.2 in
+    let c = bind-was (older_type_at section format b.0.1) _ u b.2 in
     let same : c.0.1 ≡ u.entries = cc in
     subst (Behind i) same
     (then_behind i a.0.1 c.0.1 (offset_is format i a.0 a.1) (then_behind a.0.1 b.0.1 c.0.1
@@ -204,10 +204,10 @@ newer_entries : (format : Format) (whole i : Input) (u : Unit) → newer_at form
     → Behind i u.entries
 unfolding newer_at
 newer_entries format whole i u e =
-    let a = bind_ok (unit_code_at i) _ u e in
-    let b = bind_ok (address_size_at a.0.1) _ u a.2 in
-    let c = bind_ok (offset_at format b.0.1) _ u b.2 in
-    let d = bind_ok (unit_type_at a.0.0 format c.0.1) _ u c.2 in
+    let a = bind-was (unit_code_at i) _ u e in
+    let b = bind-was (address_size_at a.0.1) _ u a.2 in
+    let c = bind-was (offset_at format b.0.1) _ u b.2 in
+    let d = bind-was (unit_type_at a.0.0 format c.0.1) _ u c.2 in
     let same : d.0.1 ≡ u.entries = cc in
     subst (Behind i) same
     (then_behind i a.0.1 d.0.1 (unit_code_is i a.0 a.1)
@@ -220,14 +220,14 @@ header_entries : (section : UnitSection) (format : Format) (whole i : Input) (u 
 unfolding header_at
 header_entries section format whole i u e =
     let P : Type 0 = Behind i u.entries in
-    let a = bind_ok (number_at 2 i) _ u e in
+    let a = bind-was (number_at 2 i) _ u e in
     let two : Behind i a.0.1 = (2, number_is 2 i a.0 a.1) in
     let older : Result Unit ReadError = older_at section format a.0.0 whole a.0.1 in
     let others : Result Unit ReadError = cond (leb 2 a.0.0 && leb a.0.0 4) older
     (Err UnknownVersion) in
-    by_choice P (eqb a.0.0 5) (newer_at format whole a.0.1) others (Ok u) a.2
+    by-choice P (eqb a.0.0 5) (newer_at format whole a.0.1) others (Ok u) a.2
     (λ five. then_behind i a.0.1 u.entries two (newer_entries format whole a.0.1 u five))
-    (λ other. by_choice P (leb 2 a.0.0 && leb a.0.0 4) older (Err UnknownVersion) (Ok u) other
+    (λ other. by-choice P (leb 2 a.0.0 && leb a.0.0 4) older (Err UnknownVersion) (Ok u) other
     (λ old. then_behind i a.0.1 u.entries two (older_entries section format a.0.0
     whole a.0.1 u old))
     (no_value P UnknownVersion u))
@@ -250,10 +250,10 @@ unit_entries : (section : UnitSection) (i : Input) (p : Unit × Input) → unit_
     → Behind p.0.whole p.0.entries
 unfolding unit_at
 unit_entries section i p e =
-    let a = bind_ok (initial_length_at i) _ p e in
-    let b = bind_ok (split_at a.0.0.1 a.0.1) _ p a.2 in
-    let c = bind_ok (split_at (b.0.1.place - i.place) i) _ p b.2 in
-    let d = bind_ok (header_at section a.0.0.0 c.0.0 b.0.0) _ p c.2 in
+    let a = bind-was (initial_length_at i) _ p e in
+    let b = bind-was (split_at a.0.0.1 a.0.1) _ p a.2 in
+    let c = bind-was (split_at (b.0.1.place - i.place) i) _ p b.2 in
+    let d = bind-was (header_at section a.0.0.0 c.0.0 b.0.0) _ p c.2 in
     let first = initial_length_is i a.0 a.1 in
     let body = split_is a.0.0.1 a.0.1 b.0 b.1 in
     let behind : IsBehind (first.0 + a.0.0.1) i b.0.1 = IsBehind-then first.0 a.0.0.1 i a.0.1 b.0.1
@@ -288,25 +288,25 @@ module _ (lebs : LebsTakeBytes) where
   past_is : (layout : Layout) (i rest : Input) → past_value layout i ≡ Ok rest → Behind i rest
   unfolding past_value
   past_is (Fixed size) i rest e =
-      let r = bind_ok (skip_at size i) _ rest e in
+      let r = bind-was (skip_at size i) _ rest e in
       let same : r.0.1 ≡ rest = cc in
       subst (Behind i) same (size, skip_is size i r.0 r.1)
   past_is (Block wide) i rest e =
-      let n = bind_ok (block_length_at wide i) _ rest e in
-      let r = bind_ok (skip_at n.0.0 n.0.1) _ rest n.2 in
+      let n = bind-was (block_length_at wide i) _ rest e in
+      let r = bind-was (skip_at n.0.0 n.0.1) _ rest n.2 in
       let same : r.0.1 ≡ rest = cc in
       subst (Behind i) same (then_behind i n.0.1 r.0.1 (block_length_is wide i n.0 n.1)
       (n.0.0, skip_is n.0.0 n.0.1 r.0 r.1))
   past_is Text i rest e =
-      let t = bind_ok (text_at i) _ rest e in
+      let t = bind-was (text_at i) _ rest e in
       let same : t.0.1 ≡ rest = cc in
       subst (Behind i) same (text_is i t.0 t.1)
   past_is Unsigned i rest e =
-      let n = bind_ok (uleb_at i) _ rest e in
+      let n = bind-was (uleb_at i) _ rest e in
       let same : n.0.1 ≡ rest = cc in
       subst (Behind i) same (goes_behind i n.0.1 (lebs.unsigned i n.0 n.1))
   past_is Signed i rest e =
-      let n = bind_ok (sleb_at i) _ rest e in
+      let n = bind-was (sleb_at i) _ rest e in
       let same : n.0.1 ≡ rest = cc in
       subst (Behind i) same (goes_behind i n.0.1 (lebs.signed i n.0 n.1))
 
@@ -314,9 +314,9 @@ module _ (lebs : LebsTakeBytes) where
       → value_at encoding form i ≡ Ok p → (n : ℕ) × (p.0 ≡ front n i) × IsBehind n i p.1
   unfolding value_at
   value_is encoding form i p e =
-      let layout = bind_ok (ok_or (layout_of encoding form) UnknownForm) _ p e in
-      let rest = bind_ok (past_value layout.0 i) _ p layout.2 in
-      let value = bind_ok (split_at (rest.0.place - i.place) i) _ p rest.2 in
+      let layout = bind-was (ok_or (layout_of encoding form) UnknownForm) _ p e in
+      let rest = bind-was (past_value layout.0 i) _ p layout.2 in
+      let value = bind-was (split_at (rest.0.place - i.place) i) _ p rest.2 in
       let behind = past_is layout.0 i rest.0 rest.1 in
       let place : rest.0.place - i.place ≡ behind.0 =
       omega (arith, ap (λ (x : Input). x.place) behind.1.is) in
@@ -332,16 +332,16 @@ module _ (lebs : LebsTakeBytes) where
   named_is : (n form : ℕ) (i : Input) (p : ℕ × Input) → named_within n form i ≡ Ok p → Behind i p.1
   unfolding named_within
   named_is zero form i p e =
-      by_choice (Behind i p.1) (eqb form 0x16) (Err UnexpectedEof) (Ok (form, i)) (Ok p) e
+      by-choice (Behind i p.1) (eqb form 0x16) (Err UnexpectedEof) (Ok (form, i)) (Ok p) e
       (no_value (Behind i p.1) UnexpectedEof p)
       (λ own. let same : (form, i) ≡ p = cc in same_behind i (form, i) p same (0, none_behind i))
   named_is (suc n) form i p e =
       let P : Type 0 = Behind i p.1 in
-      by_choice P (eqb form 0x16) (uleb_at i >>= λ named. cond (eqb named.0 0x21) (Err UnknownForm)
+      by-choice P (eqb form 0x16) (uleb_at i >>= λ named. cond (eqb named.0 0x21) (Err UnknownForm)
       (named_within n named.0 named.1)) (Ok (form, i)) (Ok p) e
       (λ indirect.
-      let x = bind_ok (uleb_at i) _ p indirect in
-      by_choice P (eqb x.0.0 0x21) (Err UnknownForm) (named_within n x.0.0 x.0.1) (Ok p) x.2
+      let x = bind-was (uleb_at i) _ p indirect in
+      by-choice P (eqb x.0.0 0x21) (Err UnknownForm) (named_within n x.0.0 x.0.1) (Ok p) x.2
       (no_value P UnknownForm p)
       (λ other. then_behind i x.0.1 p.1 (goes_behind i x.0.1 (lebs.unsigned i x.0 x.1))
       (named_is n x.0.0 x.0.1 p other)))
@@ -357,8 +357,8 @@ module _ (lebs : LebsTakeBytes) where
       → attribute_at encoding s i ≡ Ok p → LiesFirst s i p.0 p.1
   unfolding attribute_at
   attribute_is encoding s i p e =
-      let form = bind_ok (named_form_at s.form i) _ p e in
-      let value = bind_ok (value_at encoding form.0.0 form.0.1) _ p form.2 in
+      let form = bind-was (named_form_at s.form i) _ p e in
+      let value = bind-was (value_at encoding form.0.0 form.0.1) _ p form.2 in
       let names = named_form_is s.form i form.0 form.1 in
       let is = value_is encoding form.0.0 form.0.1 value.0 value.1 in
       let made : DebugAttribute × Input = (
@@ -415,15 +415,15 @@ module _ (lebs : LebsTakeBytes) where
   code_is : (i : Input) (p : ℕ × Input) → code_at i ≡ Ok p → Behind i p.1
   unfolding code_at
   code_is i p e =
-      by_choice (Behind i p.1) (eqb (length i.bytes) 0) (Ok (0, i)) (uleb_at i) (Ok p) e
+      by-choice (Behind i p.1) (eqb (length i.bytes) 0) (Ok (0, i)) (uleb_at i) (Ok p) e
       (λ none. let same : (0, i) ≡ p = cc in same_behind i (0, i) p same (0, none_behind i))
       (λ some. goes_behind i p.1 (lebs.unsigned i p some))
 
   root_code_is : (i : Input) (p : ℕ × Input) → root_code_at i ≡ Ok (Some p) → Behind i p.1
   unfolding root_code_at
   root_code_is i p e =
-      let code = bind_ok (code_at i) _ (Some p) e in
-      by_choice (Behind i p.1) (eqb code.0.0 0) (Ok None) (Ok (Some code.0)) (Ok (Some p)) code.2
+      let code = bind-was (code_at i) _ (Some p) e in
+      by-choice (Behind i p.1) (eqb code.0.0 0) (Ok None) (Ok (Some code.0)) (Ok (Some p)) code.2
       (λ none. absurd cc)
       (λ some. let same : code.0 ≡ p = cc in same_behind i code.0 p same (code_is i code.0 code.1))
 
@@ -440,9 +440,9 @@ module _ (lebs : LebsTakeBytes) where
   unfolding entry_at
   root_of_code_is u table None e c r = absurd cc
   root_of_code_is u table (Some code) e c r =
-      let root = bind_ok (entry_at u.encoding table code) _ (Some e) r in
-      let found = bind_ok (declaration code.0 table) _ root.0 root.1 in
-      let d = bind_ok (ok_or found.0 UnknownCode) _ root.0 found.2 in
+      let root = bind-was (entry_at u.encoding table code) _ (Some e) r in
+      let found = bind-was (declaration code.0 table) _ root.0 root.1 in
+      let d = bind-was (ok_or found.0 UnknownCode) _ root.0 found.2 in
       let same : root.0 ≡ e = cc in
       let made : entry u.encoding d.0 code.1 ≡ root.0 = cc in
       record {
@@ -457,7 +457,7 @@ module _ (lebs : LebsTakeBytes) where
       → IsRoot u table e
   unfolding root_at
   root_is u table e h =
-      let code = bind_ok (root_code_at u.entries) (root_of_code u.encoding table) (Some e) h in
+      let code = bind-was (root_code_at u.entries) (root_of_code u.encoding table) (Some e) h in
       root_of_code_is u table code.0 e code.1 code.2
 
   pub root_values_lie : RootValuesLie

@@ -5,9 +5,9 @@ use Rattle.std.specs.Prelude.{None, Result, Ok, Err, ◌==◌, ◌&&◌, if◌th
 use Rattle.dwp_base.specs.Reading.{◌>>=◌}
 use Rattle.dwp_bytes.specs.Input.{Input, byte_at}
 use Rattle.dwp_bytes.specs.Leb.{uleb_at, sleb_at}
-use Rattle.dwp_bytes.specs.declared.fault.ReadError.{ReadError}
-use Rattle.dwp_bytes.specs.declared.fault.ReadError.TheVariants.{UnexpectedEof, ZeroTag}
-use Rattle.dwp_bytes.specs.declared.fault.ReadError.TheVariants.{BadChildren}
+use Rattle.dwp_bytes.specs.declared.error.ReadError.{ReadError}
+use Rattle.dwp_bytes.specs.declared.error.ReadError.TheVariants.{UnexpectedEof, ZeroTag}
+use Rattle.dwp_bytes.specs.declared.error.ReadError.TheVariants.{BadChildren}
 
 -- an attribute and its form
 pub record Specification : Type 0 where
@@ -35,7 +35,7 @@ specification_at i = do
 abbrev pub is_last : Specification → Bool
 is_last s = s.name == 0 && s.form == 0
 
--- a pair and those after it; none at the end and at a fault
+-- a pair and those after it; none at the end and at an error
 abbrev pub pairs_from : Result (Specification × Input) ReadError → (Input → List Specification)
     → List Specification
 pairs_from (Ok first) others = if is_last first.0 then [] else first.0 ∷ others first.1
@@ -54,12 +54,12 @@ specifications_within (suc n) i = do
 unfoldable pub specifications_at : Input → Result (List Specification × Input) ReadError
 specifications_at i = specifications_within (length i.bytes) i
 
--- of at most n pairs those before the end of the list, or before the first fault
+-- of at most n pairs those before the end of the list, or before the first error
 unfoldable pub pairs_within : ℕ → Input → List Specification
 pairs_within zero i = []
 pairs_within (suc n) i = pairs_from (specification_at i) (pairs_within n)
 
--- the pairs before the end of the list, or before the first fault
+-- the pairs before the end of the list, or before the first error
 unfoldable pub pairs_in : Input → List Specification
 pairs_in i = pairs_within (length i.bytes) i
 

@@ -1,7 +1,7 @@
 -- What the readers of attributes show.
 use Rattle.std.specs.Prelude.{ℕ, List, [], Option, Some, None, Result, Ok, Err, if◌then◌else◌}
 use Rattle.dwp_bytes.specs.Input.{Input}
-use Rattle.dwp_bytes.specs.declared.fault.ReadError.{ReadError}
+use Rattle.dwp_bytes.specs.declared.error.ReadError.{ReadError}
 use Rattle.dwp_dwarf.specs.Abbreviations.{pairs_in}
 use Rattle.dwp_dwarf.specs.Entries.{DebugAttribute, DebugEntry, attributes}
 use Rattle.dwp_dwarf.specs.declared.entry.Attribute.{Attribute}
@@ -18,7 +18,7 @@ abbrev pub attribute_seen : {R : Type 0} → (R → Input) → Result (Attribute
 attribute_seen input (Ok a) = Ok (attribute_of input a)
 attribute_seen input (Err e) = Err e
 
--- what that iterator has left: nothing after a fault
+-- what that iterator has left: nothing after an error
 abbrev pub attributes_left : {R : Type 0} → (R → Input) → Attributes R
     → List (Result DebugAttribute ReadError)
 attributes_left input a = if a.ended then []

@@ -6,7 +6,7 @@ use Rattle.std.specs.declared.alloc.Global.{Global}
 use Rattle.std.specs.Ordering.{nat_cmp}
 use Rattle.std.specs.BTreeMap.{BTreeMap, get}
 use Rattle.dwp_bytes.specs.Input.{Input, front}
-use Rattle.dwp_bytes.specs.declared.fault.ReadError.{ReadError}
+use Rattle.dwp_bytes.specs.declared.error.ReadError.{ReadError}
 use Rattle.dwp_dwarf.specs.Abbreviations.{Declaration, declaration}
 use Rattle.dwp_dwarf.specs.Codes.{Numbered}
 use Rattle.dwp_dwarf.specs.Declarations.{specification_of}
@@ -24,7 +24,7 @@ use Rattle.dwp_dwarf.specs.declared.versions.Node.{Node}
 abbrev pub from_end : ℕ → Input → Result Input ReadError
 from_end left section = from_at (length section.bytes - left) section
 
--- what a table without the code says, by the fault at its end
+-- what a table without the code says, by the error at its end
 abbrev pub absent_by : Option ReadError → Result (Option Declaration) ReadError
 absent_by None = Ok None
 absent_by (Some e) = Err e
@@ -47,8 +47,8 @@ pub record DeclaredAt (section : Input) (left : ℕ) (said : Result (Option Decl
 -- what is said is the declaration at the place that was found, or that there is none
 abbrev pub SaidBy : Input → Option ReadError → Option ℕ → Result (Option Declaration) ReadError
     → Type 0
-SaidBy section fault None said = said ≡ absent_by fault
-SaidBy section fault (Some left) said = DeclaredAt section left said
+SaidBy section error None said = said ≡ absent_by error
+SaidBy section error (Some left) said = DeclaredAt section left said
 
 -- the value that a version has for a number, if there is one
 abbrev pub first_by : Option ℕ → List Node → ℕ → Option ℕ
@@ -89,7 +89,7 @@ pub record RemembersPlace (section : Input) (codes : Codes) (nodes : List Node) 
   pub is : from_end left section ≡ Ok table
   pub fits : place.version ≤ length nodes
   pub none : (number : ℕ) → codes.count ≤ number → value_in nodes place.version number ≡ None
-  pub same : (code : ℕ) → SaidBy section place.fault (first_in codes nodes place.version code)
+  pub same : (code : ℕ) → SaidBy section place.error (first_in codes nodes place.version code)
       (declaration code table)
   pub ends : (code : ℕ) → IfSome (first_in codes nodes place.version code)
       (StaysBehind section table code)

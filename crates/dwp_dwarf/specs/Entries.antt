@@ -8,8 +8,8 @@ use Rattle.dwp_bytes.specs.Input.{Input, byte_at, number_at, offset_at}
 use Rattle.dwp_bytes.specs.Leb.{uleb_at}
 use Rattle.dwp_bytes.specs.declared.encoding.Format.{Format}
 use Rattle.dwp_bytes.specs.declared.encoding.Encoding.{Encoding}
-use Rattle.dwp_bytes.specs.declared.fault.ReadError.{ReadError}
-use Rattle.dwp_bytes.specs.declared.fault.ReadError.TheVariants.{UnknownCode}
+use Rattle.dwp_bytes.specs.declared.error.ReadError.{ReadError}
+use Rattle.dwp_bytes.specs.declared.error.ReadError.TheVariants.{UnknownCode}
 use Rattle.dwp_dwarf.specs.Abbreviations.{Specification, Declaration, code_at, declaration}
 use Rattle.dwp_dwarf.specs.Forms.{value_at, named_form_at}
 use Rattle.dwp_dwarf.specs.Units.{Unit, listed}
@@ -33,7 +33,7 @@ attribute_at encoding s i = do
   value ← value_at encoding form.0 form.1
   Ok (record { name = s.name; form = form.0; value = value.0 }, value.1)
 
--- the attributes one after the other, up to the end or the first fault
+-- the attributes one after the other, up to the end or the first error
 abbrev pub attributes : Encoding → List Specification → Input
     → List (Result DebugAttribute ReadError)
 attributes encoding [] i = []

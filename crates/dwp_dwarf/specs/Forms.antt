@@ -8,8 +8,8 @@ use Rattle.dwp_bytes.specs.Encoding.{offset_size}
 use Rattle.dwp_bytes.specs.Input.{Input, byte_at, number_at, skip_at, split_at, found_at}
 use Rattle.dwp_bytes.specs.Leb.{uleb_at, sleb_at}
 use Rattle.dwp_bytes.specs.declared.encoding.Encoding.{Encoding}
-use Rattle.dwp_bytes.specs.declared.fault.ReadError.{ReadError}
-use Rattle.dwp_bytes.specs.declared.fault.ReadError.TheVariants.{UnexpectedEof, UnknownForm}
+use Rattle.dwp_bytes.specs.declared.error.ReadError.{ReadError}
+use Rattle.dwp_bytes.specs.declared.error.ReadError.TheVariants.{UnexpectedEof, UnknownForm}
 use Rattle.dwp_dwarf.specs.declared.form.Layout.{Layout}
 use Rattle.dwp_dwarf.specs.declared.form.Layout.TheVariants.{Fixed, Block, Text, Unsigned, Signed}
 use Rattle.dwp_dwarf.specs.declared.form.BlockLength.{BlockLength}

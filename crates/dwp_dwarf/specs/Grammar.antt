@@ -5,7 +5,7 @@ use Rattle.std.specs.Prelude.{◌==◌, if◌then◌else◌}
 use Rattle.std.specs.List.{AllByRecursion}
 use Rattle.dwp_base.specs.Reading.{◌>>=◌}
 use Rattle.dwp_bytes.specs.Input.{Input}
-use Rattle.dwp_bytes.specs.declared.fault.ReadError.{ReadError}
+use Rattle.dwp_bytes.specs.declared.error.ReadError.{ReadError}
 use Rattle.dwp_dwarf.specs.Abbreviations.{Declaration, code_at, declaration_at, declaration}
 
 -- the next declaration with its code, and what comes behind it; None at the end of the table
@@ -39,7 +39,7 @@ abbrev pub AbsentIsNowhere : Type 0
 AbsentIsNowhere = (code : ℕ) (i : Input) → (declaration code i ≡ Ok None)
     ↔ ((rest : Input) × IsBehindOthers code i rest × (next_at rest ≡ Ok None))
 
--- it has a fault where the first declaration that can't be read comes before one of the code
-abbrev pub FaultIsBefore : Type 0
-FaultIsBefore = (code : ℕ) (i : Input) (e : ReadError) → (declaration code i ≡ Err e)
+-- it has an error where the first declaration that can't be read comes before one of the code
+abbrev pub ErrorIsBefore : Type 0
+ErrorIsBefore = (code : ℕ) (i : Input) (e : ReadError) → (declaration code i ≡ Err e)
     ↔ ((rest : Input) × IsBehindOthers code i rest × (next_at rest ≡ Err e))

@@ -1,7 +1,6 @@
 -- Which attributes of a declaration tell the numbers of an entry and what names its split object:
 -- those whose values have bytes, and of each name that may name the object the first.
-use Rattle.std.specs.Prelude.{ℕ, List, [], ◌∷◌, Bool, true, false, ◌==◌, ◌&&◌, ◌||◌}
-use Rattle.std.specs.Prelude.{if◌then◌else◌}
+use Rattle.std.specs.Prelude.{ℕ, List, [], ◌∷◌, Bool, true, false, ◌==◌, ◌&&◌, ◌||◌, if◌then◌else◌}
 use Rattle.dwp_dwarf.specs.Abbreviations.{Specification}
 use Rattle.dwp_dwarf.specs.Numbers.{has_bytes}
 use Rattle.dwp_dwarf.specs.Split.{DW_AT_comp_dir, DW_AT_dwo_name, DW_AT_GNU_dwo_name}

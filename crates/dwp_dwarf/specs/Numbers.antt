@@ -4,7 +4,7 @@ use Rattle.std.specs.Prelude.{Result, Ok, Err, option_map}
 use Rattle.dwp_base.specs.Reading.{◌>>=◌}
 use Rattle.dwp_bytes.specs.Input.{Input}
 use Rattle.dwp_bytes.specs.declared.encoding.Encoding.{Encoding}
-use Rattle.dwp_bytes.specs.declared.fault.ReadError.{ReadError}
+use Rattle.dwp_bytes.specs.declared.error.ReadError.{ReadError}
 use Rattle.dwp_dwarf.specs.Abbreviations.{Specification, declaration}
 use Rattle.dwp_dwarf.specs.Entries.{DebugAttribute, DebugEntry, entry, number_of}
 use Rattle.dwp_dwarf.specs.Forms.{is_one_of}
@@ -19,7 +19,7 @@ abbrev pub number_or : Option ℕ → Result (Option ℕ) ReadError → Result (
 number_or (Some n) others = Ok (Some n)
 number_or None others = others
 
--- the first such number, up to the first fault
+-- the first such number, up to the first error
 abbrev pub first_number : ℕ → List (Result DebugAttribute ReadError)
     → Result (Option ℕ) ReadError
 first_number name [] = Ok None

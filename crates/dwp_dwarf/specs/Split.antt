@@ -7,7 +7,7 @@ use Rattle.dwp_base.specs.Reading.{◌>>=◌}
 use Rattle.dwp_bytes.specs.Input.{Input}
 use Rattle.dwp_bytes.specs.declared.encoding.Format.{Format}
 use Rattle.dwp_bytes.specs.declared.encoding.Encoding.{Encoding}
-use Rattle.dwp_bytes.specs.declared.fault.ReadError.{ReadError}
+use Rattle.dwp_bytes.specs.declared.error.ReadError.{ReadError}
 use Rattle.dwp_dwarf.specs.Abbreviations.{Declaration, declaration}
 use Rattle.dwp_dwarf.specs.Attributes.{attribute_of}
 use Rattle.dwp_dwarf.specs.Entries.{DebugAttribute, entry, place_of}
@@ -26,7 +26,7 @@ DW_AT_dwo_name = 0x76
 abbrev pub DW_AT_GNU_dwo_name : ℕ
 DW_AT_GNU_dwo_name = 0x2130
 
--- all attributes, or the first fault
+-- all attributes, or the first error
 abbrev pub all_read : List (Result DebugAttribute ReadError)
     → Result (List DebugAttribute) ReadError
 all_read [] = Ok []

@@ -9,9 +9,9 @@ use Rattle.dwp_bytes.specs.Input.{offset_at, is_address_size}
 use Rattle.dwp_bytes.specs.declared.encoding.Encoding.{Encoding}
 use Rattle.dwp_bytes.specs.declared.encoding.Format.{Format}
 use Rattle.dwp_bytes.specs.declared.encoding.Format.TheVariants.{Dwarf32, Dwarf64}
-use Rattle.dwp_bytes.specs.declared.fault.ReadError.{ReadError}
-use Rattle.dwp_bytes.specs.declared.fault.ReadError.TheVariants.{ReservedLength, UnknownVersion}
-use Rattle.dwp_bytes.specs.declared.fault.ReadError.TheVariants.{UnknownUnitType, AddressSize}
+use Rattle.dwp_bytes.specs.declared.error.ReadError.{ReadError}
+use Rattle.dwp_bytes.specs.declared.error.ReadError.TheVariants.{ReservedLength, UnknownVersion}
+use Rattle.dwp_bytes.specs.declared.error.ReadError.TheVariants.{UnknownUnitType, AddressSize}
 use Rattle.dwp_dwarf.specs.declared.unit.UnitType.{UnitType}
 use Rattle.dwp_dwarf.specs.declared.unit.UnitType.TheVariants.{Compilation, Partial, Skeleton}
 use Rattle.dwp_dwarf.specs.declared.unit.UnitType.TheVariants.{SplitCompilation, TypeUnit}
@@ -153,13 +153,13 @@ unit_at section i = do
   unit ← header_at section length.0.0 whole.0 body.0
   Ok (unit, body.1)
 
--- what was read first and the others, or the first fault and nothing after it
+-- what was read first and the others, or the first error and nothing after it
 abbrev pub listed : {A E : Type 0} → Result (A × Input) E → (Input → List (Result A E))
     → List (Result A E)
 listed (Ok x) others = Ok x.0 ∷ others x.1
 listed (Err e) others = Err e ∷ []
 
--- at most n units one after the other, up to the end or the first fault
+-- at most n units one after the other, up to the end or the first error
 unfoldable pub units_within : ℕ → UnitSection → Input → List (Result Unit ReadError)
 units_within zero section i = []
 units_within (suc n) section i =
@@ -169,7 +169,7 @@ units_within (suc n) section i =
 unfoldable pub units : UnitSection → Input → List (Result Unit ReadError)
 units section i = units_within (length i.bytes) section i
 
--- what an iterator over the units has left: nothing after a fault
+-- what an iterator over the units has left: nothing after an error
 abbrev pub units_left : {R : Type 0} → (R → Input) → UnitHeaders R → List (Result Unit ReadError)
 units_left input headers =
     if headers.ended then [] else units headers.section (input headers.reader)
@@ -189,15 +189,15 @@ abbrev pub UnitsAreTaken : Type 0
 UnitsAreTaken = (section : UnitSection) (i rest : Input) (u : Unit)
     → unit_at section i ≡ Ok (u, rest) → (goes : Goes 1 i rest) × (u.whole ≡ front goes.taken i)
 
--- a section without a fault is the bytes of its units, joined
+-- a section without an error is the bytes of its units, joined
 abbrev pub UnitsAreSection : Type 0
 UnitsAreSection = (section : UnitSection) (i : Input) (read : List Unit)
     → units section i ≡ map Ok read → flat_map unit_bytes read ≡ i.bytes
 
--- before the first fault of a section stand the bytes of its units, joined; the next unit, from
--- there on, has that fault
-abbrev pub FaultIsNext : Type 0
-FaultIsNext = (section : UnitSection) (i : Input) (read : List Unit) (e : ReadError)
+-- before the first error of a section stand the bytes of its units, joined; the next unit, from
+-- there on, has that error
+abbrev pub ErrorIsNext : Type 0
+ErrorIsNext = (section : UnitSection) (i : Input) (read : List Unit) (e : ReadError)
     → units section i ≡ map Ok read ++ Err e ∷ []
     → (flat_map unit_bytes read ++ drop (length (flat_map unit_bytes read)) i.bytes ≡ i.bytes)
     × (unit_at section (after (length (flat_map unit_bytes read)) i) ≡ Err e)

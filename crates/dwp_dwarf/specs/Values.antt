@@ -3,7 +3,7 @@
 use Rattle.std.specs.Prelude.{◌≡◌, ◌≢◌, ◌≤◌, ℕ, ◌+◌, List, [], ◌∷◌, ◌++◌, length, map, Some, Result}
 use Rattle.std.specs.Prelude.{Ok, ⊤}
 use Rattle.dwp_bytes.specs.Input.{Input, front, after}
-use Rattle.dwp_bytes.specs.declared.fault.ReadError.{ReadError}
+use Rattle.dwp_bytes.specs.declared.error.ReadError.{ReadError}
 use Rattle.dwp_dwarf.specs.declared.unit.UnitSection.{UnitSection}
 use Rattle.dwp_dwarf.specs.Abbreviations.{Specification, Declaration, declaration}
 use Rattle.dwp_dwarf.specs.Entries.{DebugAttribute, DebugEntry, root_at}
@@ -39,7 +39,7 @@ pub record LiesInUnit (table : Input) (u : Unit) (e : DebugEntry)
   pub tag : e.tag ≡ declared.tag
   pub lie : ValuesLie read declared.specifications (after start u.whole)
 
--- the attributes that a root entry begins with, up to a fault or the end, lie in its unit
+-- the attributes that a root entry begins with, up to an error or the end, lie in its unit
 abbrev pub RootValuesLie : Type 0
 RootValuesLie = (section : UnitSection) (i rest table : Input) (u : Unit) (e : DebugEntry)
     (read : List DebugAttribute) (others : List (Result DebugAttribute ReadError))

@@ -4,9 +4,8 @@ ghost use Rattle.std.specs.Prelude.{◌≡◌, ℕ, Ok, Some, IfOk};
 ghost use Rattle.dwp_base.specs.Reading.{Answers, Reads};
 ghost use Rattle.dwp_bytes.specs.Input.{Input};
 ghost use Rattle.dwp_dwarf.specs.Abbreviations.{constant_at, specification_at, past_specifications};
-ghost use Rattle.dwp_dwarf.specs.Abbreviations.{specifications_at, tag_at, children_at};
-ghost use Rattle.dwp_dwarf.specs.Abbreviations.{declaration_at, code_at, declaration, is_last};
-ghost use Rattle.dwp_dwarf.specs.Abbreviations.{Declaration};
+ghost use Rattle.dwp_dwarf.specs.Abbreviations.{tag_at, children_at, declaration_at, code_at};
+ghost use Rattle.dwp_dwarf.specs.Abbreviations.{declaration, is_last, Declaration};
 ghost use Rattle.dwp_dwarf.specs.Grammar.{next_at};
 ghost use Rattle.dwp_dwarf.specs.Offsets.{from_at};
 ghost use Rattle.dwp_dwarf.specs.Declarations.{specification_of, declaration_of, table_of};
@@ -171,10 +170,10 @@ impl<R: Reader> Abbreviations<R> {
     }
 
     /// The first declaration of a code; None where the table has none. The table is read no
-    /// further, so that faults after it don't count.
+    /// further, so that errors after it don't count.
     ///
     /// # Errors
-    /// `ZeroTag`, `BadChildren`, `BigLeb` or `UnexpectedEof` for a fault before the declaration and
+    /// `ZeroTag`, `BadChildren`, `BigLeb` or `UnexpectedEof` for an error before the declaration and
     /// before the table's end.
     pub fn get(&self, code: u64) -> Result<Option<Abbreviation<R>>, ReadError>
         ensures { Answers (found_of R.input) result (declaration code (table_of R.input self.now)) }

@@ -3,7 +3,7 @@
 ghost use Rattle.std.specs.Prelude.{◌≡◌, Result, Ok, Err, Some, None, true, false, option_map};
 ghost use Rattle.dwp_base.specs.Reading.{Answers};
 ghost use Rattle.dwp_bytes.specs.Input.{Input, front};
-ghost use Rattle.dwp_bytes.specs.declared.fault.ReadError.{ReadError};
+ghost use Rattle.dwp_bytes.specs.declared.error.ReadError.{ReadError};
 ghost use Rattle.dwp_dwarf.specs.Abbreviations.{declaration};
 ghost use Rattle.dwp_dwarf.specs.Chains.{IsDeclared};
 ghost use Rattle.dwp_dwarf.specs.Declarations.{found_of};
@@ -39,7 +39,7 @@ pub struct AbbreviationCache<R: Reader> {
 pub struct EntryNumber {
     /// What the entry describes, as `DW_TAG_compile_unit`, 0x11.
     pub tag: u64,
-    /// The number, or the first fault before it. None where no attribute of the name has a number.
+    /// The number, or the first error before it. None where no attribute of the name has a number.
     pub number: Result<Option<u64>, ReadError>,
 }
 

@@ -1,12 +1,12 @@
 //! Tables of abbreviations that overlap (DWARF 5, 7.5.3).
 
-ghost use Rattle.std.specs.Prelude.{◌≡◌, ◌≢◌, ℕ, Option, Result, Ok, Some, true, false, []};
-ghost use Rattle.std.specs.Prelude.{IfSome, length};
+ghost use Rattle.std.specs.Prelude.{◌≡◌, ◌≢◌, ℕ, Option, Result, Ok, Some, true, false, [], IfSome};
+ghost use Rattle.std.specs.Prelude.{length};
 ghost use Rattle.std.specs.Ordering.{nat_cmp};
 ghost use Rattle.std.specs.BTreeMap.{get};
 ghost use Rattle.dwp_base.specs.Reading.{Answers};
 ghost use Rattle.dwp_bytes.specs.Input.{Input};
-ghost use Rattle.dwp_bytes.specs.declared.fault.ReadError.{ReadError};
+ghost use Rattle.dwp_bytes.specs.declared.error.ReadError.{ReadError};
 ghost use Rattle.dwp_dwarf.specs.Abbreviations.{Declaration, declaration};
 ghost use Rattle.dwp_dwarf.specs.Chains.{from_end, absent_by, StandsAt, SaidBy, RemembersPlace};
 ghost use Rattle.dwp_dwarf.specs.Chains.{RemembersPlaces, ListsPlaces, RemembersChains, FirstAt};
@@ -37,8 +37,8 @@ use std::collections::BTreeMap;
 pub(crate) struct Place {
     // The version that has, by its code, the place of the first declaration from there on.
     pub(crate) version: u32,
-    // The fault at their end.
-    pub(crate) fault: Option<ReadError>,
+    // The error at their end.
+    pub(crate) error: Option<ReadError>,
     // How many bytes of the section are left behind the declaration there; 0 where there is none.
     pub(crate) behind: u32,
 }
@@ -279,11 +279,11 @@ impl Chains {
         code: u64,
     ) -> Option<Result<Option<Abbreviation<R>>, ReadError>>
         ensures { (said : Result (Option Declaration) ReadError) → SaidBy (R.input section)
-            place.fault (first_in self.now.codes self.now.firsts.nodes.items place.version code) said
+            place.error (first_in self.now.codes self.now.firsts.nodes.items place.version code) said
             → IfSome result (λ found. Answers (found_of R.input) found said) }
     {
         let Some(first) = self.first_in(place.version, code) else {
-            return Some(absent(place.fault));
+            return Some(absent(place.error));
         };
         let declared = declared_at(section, first)?;
         Some(Ok(Some(declared)))
@@ -389,18 +389,18 @@ impl Chains {
                 let version = self.firsts.insert(next.version, number, first)?;
                 Some(Place {
                     version,
-                    fault: next.fault,
+                    error: next.error,
                     behind: end,
                 })
             }
             Ok(None) => Some(Place {
                 version: 0,
-                fault: None,
+                error: None,
                 behind: 0,
             }),
-            Err(fault) => Some(Place {
+            Err(error) => Some(Place {
                 version: 0,
-                fault: Some(fault),
+                error: Some(error),
                 behind: 0,
             }),
         }
@@ -434,12 +434,12 @@ fn declared_at<R: Reader>(section: R, left: u64) -> Option<Abbreviation<R>>
     known_declaration(at).ok()
 }
 
-/// What a table says of a code that it doesn't have, by the fault at its end.
-fn absent<R: Reader>(fault: Option<ReadError>) -> Result<Option<Abbreviation<R>>, ReadError>
-    ensures { Answers (found_of R.input) result (absent_by fault) }
+/// What a table says of a code that it doesn't have, by the error at its end.
+fn absent<R: Reader>(error: Option<ReadError>) -> Result<Option<Abbreviation<R>>, ReadError>
+    ensures { Answers (found_of R.input) result (absent_by error) }
 {
-    match fault {
-        Some(fault) => Err(fault),
+    match error {
+        Some(error) => Err(error),
         None => Ok(None),
     }
 }

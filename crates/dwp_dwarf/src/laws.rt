@@ -1,18 +1,18 @@
 //! What declarations, values of attributes and units are, as laws.
 
-ghost use Rattle.dwp_dwarf.specs.Grammar.{FoundIsFirst, AbsentIsNowhere, FaultIsBefore};
-ghost use Rattle.dwp_dwarf.specs.Units.{UnitsAreTaken, UnitsAreSection, FaultIsNext, UnitsAreOne};
+ghost use Rattle.dwp_dwarf.specs.Grammar.{FoundIsFirst, AbsentIsNowhere, ErrorIsBefore};
+ghost use Rattle.dwp_dwarf.specs.Units.{UnitsAreTaken, UnitsAreSection, ErrorIsNext, UnitsAreOne};
 ghost use Rattle.dwp_dwarf.specs.Values.{RootValuesLie};
 
 use dwp_bytes::laws::lebs_take_bytes;
 
 /// What a table of abbreviations declares for a code is its first declaration of that code; it
-/// declares nothing where all up to its end are of other codes, and has a fault where the first
+/// declares nothing where all up to its end are of other codes, and has an error where the first
 /// that can't be read comes before. It does nothing.
 pub fn declarations_are_found_first()
     ensures found { FoundIsFirst }
     ensures absent { AbsentIsNowhere }
-    ensures fault { FaultIsBefore }
+    ensures error { ErrorIsBefore }
 {
     lebs_take_bytes();
 }
@@ -31,6 +31,6 @@ pub fn root_values_lie_in_the_unit()
 pub fn units_have_all_bytes()
     ensures taken { UnitsAreTaken }
     ensures whole { UnitsAreSection }
-    ensures fault { FaultIsNext }
+    ensures error { ErrorIsNext }
     ensures one { UnitsAreOne }
 {}

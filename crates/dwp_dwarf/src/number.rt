@@ -10,7 +10,7 @@ use crate::abbrev::AttributeSpecification;
 use crate::entry::{RootEntry, read_attribute};
 use dwp_bytes::{Encoding, ReadError, Reader};
 
-/// The first number of an attribute of a name in an entry, up to the first fault.
+/// The first number of an attribute of a name in an entry, up to the first error.
 pub(crate) fn number_read<R: Reader>(
     entry: RootEntry<R>,
     name: u64,

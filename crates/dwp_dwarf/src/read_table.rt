@@ -96,7 +96,7 @@ impl<R: Reader> ReadTable<R> {
                 Ok(Some(abbreviation))
             }
             Ok(None) => Ok(None),
-            Err(fault) => Err(fault),
+            Err(error) => Err(error),
         }
     }
 

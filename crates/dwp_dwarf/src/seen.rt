@@ -49,11 +49,11 @@ impl SeenTables {
         self.read > section.len().saturating_mul(READ_AT_MOST)
     }
 
-    /// Counts what was read where so many bytes were left; at a fault as much as can be.
-    fn count(&mut self, before: usize, is_fault: bool, after: usize)
+    /// Counts what was read where so many bytes were left; at an error as much as can be.
+    fn count(&mut self, before: usize, is_error: bool, after: usize)
         ensures { self.new.chains ≡ self.old.chains }
     {
-        let read = if is_fault {
+        let read = if is_error {
             before
         } else {
             before.saturating_sub(after)

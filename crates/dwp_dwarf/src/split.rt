@@ -2,7 +2,7 @@
 
 ghost use Rattle.std.specs.Prelude.{◌≡◌, Result, map, option_map};
 ghost use Rattle.dwp_base.specs.Reading.{Answers};
-ghost use Rattle.dwp_bytes.specs.declared.fault.ReadError.{ReadError};
+ghost use Rattle.dwp_bytes.specs.declared.error.ReadError.{ReadError};
 ghost use Rattle.dwp_dwarf.specs.Attributes.{attribute_of, entry_of};
 ghost use Rattle.dwp_dwarf.specs.Declarations.{specification_of};
 ghost use Rattle.dwp_dwarf.specs.Entries.{attributes};
@@ -75,7 +75,7 @@ impl<R: Reader> SplitAttributes<R> {
     }
 }
 
-/// Those of an entry, up to the first fault.
+/// Those of an entry, up to the first error.
 #[tactic(auto, unfolding(crate::specs::Split::split_in))]
 pub(crate) fn split_read<R: Reader>(
     entry: RootEntry<R>,

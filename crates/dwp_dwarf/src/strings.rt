@@ -1,6 +1,6 @@
 //! The strings of attributes (DWARF 5, 7.5.5 and 7.26).
 
-ghost use Rattle.std.specs.Prelude.{◌≡◌, ◌+◌, ◌*◌};
+ghost use Rattle.std.specs.Prelude.{◌+◌, ◌*◌};
 ghost use Rattle.dwp_base.specs.Reading.{Answers};
 ghost use Rattle.dwp_bytes.specs.Encoding.{offset_size};
 ghost use Rattle.dwp_dwarf.specs.Offsets.{from_at};

@@ -1,6 +1,6 @@
 //! Units and their headers (DWARF 5, 7.5.1).
 
-ghost use Rattle.std.specs.Prelude.{◌≡◌, ◌≤◌, length};
+ghost use Rattle.std.specs.Prelude.{◌≡◌, length};
 ghost use Rattle.std.specs.Iterator.{YieldsFirstBy, item_count};
 ghost use Rattle.dwp_base.specs.Reading.{Answers, Reads};
 ghost use Rattle.dwp_dwarf.specs.Units.{initial_length_at, address_size_at, type_at, older_type_at};

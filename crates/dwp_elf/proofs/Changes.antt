@@ -172,9 +172,6 @@ cut_more xs cs ns i x y e h k is kind content =
     ∙ ap (set (cut i cs ns) i) (pair_of _ _ _ _ kind content)
     ∙ sym (cut-suc i cs ns (x.0, x.1.items) h k at) ∙ ap (λ k. cut k cs ns) (sym (add-one i))
 
-pub cut_none : (cs : List (SectionKind × List ℕ)) (ns : List ℕ) → cs ≡ cut 0 cs ns
-cut_none cs ns = refl
-
 pub cut_all : (i : ℕ) (cs : List (SectionKind × List ℕ)) (ns : List ℕ) → length cs ≤ i
     → length cs ≤ length ns → cut i cs ns ≡ truncated cs ns
 cut_all zero [] ns h k = refl

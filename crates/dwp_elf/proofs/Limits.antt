@@ -19,7 +19,7 @@ use Rattle.dwp_elf.specs.FileText.{Object, file_header, section_header, content_
 use Rattle.dwp_elf.specs.FileText.{headers_from, null_header, section_count, names_end, zeros_after}
 use Rattle.dwp_elf.specs.FileText.{headers_place, file_text}
 use Rattle.dwp_elf.specs.Numbers.{places_from, offsets_and_sizes, Fits}
-use Rattle.dwp_elf_read.specs.declared.fault.WriteError.{WriteError}
+use Rattle.dwp_elf_read.specs.declared.error.WriteError.{WriteError}
 use Rattle.dwp_elf.specs.declared.places.Places.{Places}
 use Rattle.dwp_elf.specs.Places.{file_length, PassesLimit, ArePlaces}
 

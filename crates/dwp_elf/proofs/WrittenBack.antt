@@ -6,7 +6,7 @@ use Rattle.dwp_base.specs.declared.class.Class.{Class}
 use Rattle.dwp_base.specs.declared.class.Class.TheVariants.{Elf32, Elf64}
 use Rattle.dwp_elf_read.specs.Layout.{word_size}
 use Rattle.dwp_elf_read.specs.Elf.{elf_of}
-use Rattle.dwp_elf_read.specs.declared.fault.WriteError.{WriteError}
+use Rattle.dwp_elf_read.specs.declared.error.WriteError.{WriteError}
 use Rattle.dwp_elf.specs.declared.places.Places.{Places}
 use Rattle.dwp_elf.specs.Contents.{KindsDiffer}
 use Rattle.dwp_elf.specs.FileText.{Object, headers_place, file_text}

@@ -1,8 +1,7 @@
 -- Reading one written section: its content and its name.
 use Rattle.std.proofs.Common.{◌≡◌, ℕ, zero, suc, ◌+◌, ◌-◌, ◌<◌, ◌==◌, nat_lt, nat_le, Bool, true}
-use Rattle.std.proofs.Common.{not, ◌&&◌}
-use Rattle.std.proofs.Common.{false, cond, List, [], ◌∷◌, ◌++◌, Some, None, length, take, drop}
-use Rattle.std.proofs.Common.{position, refl, ap, ◌∙◌, arith, length-append}
+use Rattle.std.proofs.Common.{not, ◌&&◌, false, cond, List, [], ◌∷◌, ◌++◌, Some, None, length, take}
+use Rattle.std.proofs.Common.{drop, position, refl, ap, ◌∙◌, arith, length-append}
 use Rattle.std.specs.Prelude.{codes}
 use Rattle.std.specs.List.{list_all, position_or_len, slice_range}
 use Rattle.std.specs.Option.{option_and_then}

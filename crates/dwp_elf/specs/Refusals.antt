@@ -3,8 +3,8 @@ use Rattle.std.specs.Prelude.{ℕ, List, Option, ⊤}
 use Rattle.std.specs.Io.KnownBytes.{Keeps}
 use Rattle.std.specs.IoError.{error_kind}
 use Rattle.std.specs.declared.io.ErrorKind.{ErrorKind}
-use Rattle.dwp_elf_read.specs.declared.fault.WriteError.{WriteError}
-use Rattle.dwp_elf_read.specs.declared.fault.WriteError.TheVariants.{NumberTooLarge, Memory, Io}
+use Rattle.dwp_elf_read.specs.declared.error.WriteError.{WriteError}
+use Rattle.dwp_elf_read.specs.declared.error.WriteError.TheVariants.{NumberTooLarge, Memory, Io}
 use Rattle.dwp_elf.specs.FileText.{Object, file_text}
 use Rattle.dwp_elf.specs.Numbers.{Fits}
 use Rattle.dwp_elf.specs.Writing.{AppendsPart}

@@ -11,15 +11,15 @@ pub record AppendsPart (old new : Option (List ℕ)) (bs : List ℕ) : Type 0 wh
   pub part : count < length bs
   pub appended : Appends old new (take count bs)
 
--- bs was written, or at a fault a beginning of it
+-- bs was written, or at an error a beginning of it
 abbrev pub Writes : {X E : Type 0} → Result X E → Option (List ℕ) → Option (List ℕ)
     → List ℕ → Type 0
 Writes (Ok x) old new bs = Appends old new bs
 Writes (Err e) old new bs = AppendsPart old new bs
 
--- a fault is one at which a write failed; without a fault no write failed; `old` and `new` are the
--- kinds of error at which one has failed before and after
-abbrev pub Faults : {X : Type 0} → Result X Error → (ErrorKind → Type 0)
+-- an error is one at which a write failed; without an error no write failed; `old` and `new` are
+-- the kinds of error at which one has failed before and after
+abbrev pub Errors : {X : Type 0} → Result X Error → (ErrorKind → Type 0)
     → (ErrorKind → Type 0) → Type 0
-Faults (Ok x) old new = (kind : ErrorKind) → new kind → old kind
-Faults (Err e) old new = new (error_kind e)
+Errors (Ok x) old new = (kind : ErrorKind) → new kind → old kind
+Errors (Err e) old new = new (error_kind e)

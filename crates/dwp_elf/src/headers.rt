@@ -1,6 +1,6 @@
 //! The headers of a file and of its sections (ELF gABI, "ELF Header" and "Sections").
 
-ghost use Rattle.std.specs.Prelude.{◌≡◌, ◌+◌, ◌*◌, ◌^◌, ◌<◌, ◌≤◌};
+ghost use Rattle.std.specs.Prelude.{◌≡◌, ◌*◌, ◌^◌, ◌<◌, ◌≤◌};
 ghost use Rattle.dwp_elf_read.specs.Layout.{header_size, entry_size, word_size};
 ghost use Rattle.dwp_elf.specs.FileText.{identification, file_header, section_header};
 

@@ -1,17 +1,17 @@
 //! Objects that are made section by section, and written as ELF files.
 
-ghost use Rattle.std.specs.Prelude.{◌≡◌, ℕ, ◌+◌, ◌≤◌, ◌<◌, ◌^◌, ◌*◌, [], List, length, IfOk, IfErr};
-ghost use Rattle.std.specs.Prelude.{OnOk, OnErr, MatchResult, Some, None, Ok, Err, OkIff};
+ghost use Rattle.std.specs.Prelude.{◌≡◌, ◌+◌, ◌<◌, [], length, IfOk, IfErr, OnOk, OnErr, Some};
+ghost use Rattle.std.specs.Prelude.{None, Ok, Err, OkIff};
 ghost use Rattle.std.specs.Io.KnownBytes.{Appends};
 ghost use Rattle.std.specs.declared.io.ErrorKind.{ErrorKind};
 ghost use Rattle.dwp_elf_read.specs.Elf.{elf_of};
-ghost use Rattle.dwp_elf_read.specs.declared.fault.WriteError.TheVariants.{NumberTooLarge, Memory};
+ghost use Rattle.dwp_elf_read.specs.declared.error.WriteError.TheVariants.{NumberTooLarge, Memory};
 ghost use Rattle.dwp_elf.specs.Contents.{KindsDiffer, contents_of, content_of, appended, truncated};
 ghost use Rattle.dwp_elf.specs.FileText.{file_text};
 ghost use Rattle.dwp_elf.specs.Numbers.{Fits};
 ghost use Rattle.dwp_elf.specs.Places.{ArePlaces};
 ghost use Rattle.dwp_elf.specs.Refusals.{RefusesFile, RefusesWriter, Blames};
-ghost use Rattle.dwp_elf.specs.Writing.{Writes, Faults};
+ghost use Rattle.dwp_elf.specs.Writing.{Writes, Errors};
 ghost use Rattle.dwp_elf.specs.Written.{written_elf};
 
 use crate::contents::{append_to, move_to, truncate_to};
@@ -215,7 +215,7 @@ impl WritableObject {
         ensures refused { IfErr result
             (RefusesWriter self.now (O.contents out.old) (O.contents out.new)) }
         ensures blamed { IfErr result (Blames (O.failed out.new)) }
-        ensures no_fault { OnOk result ((kind : ErrorKind) → O.failed out.new kind
+        ensures no_error { OnOk result ((kind : ErrorKind) → O.failed out.new kind
             → O.failed out.old kind) }
         ensures untouched { result ≡ Err NumberTooLarge → out.new ≡ out.old }
     {
@@ -240,7 +240,7 @@ impl WritableObject {
         requires { ArePlaces self.now.class self.now.contents places.now }
         ensures text { Writes result (O.contents out.old) (O.contents out.new)
             (file_text self.now) }
-        ensures fault { Faults result (O.failed out.old) (O.failed out.new) }
+        ensures error { Errors result (O.failed out.old) (O.failed out.new) }
     {
         let count = self.sections.len() as u16 + 2;
         let header = file_header(

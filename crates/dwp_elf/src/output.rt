@@ -1,10 +1,10 @@
 //! Writing the parts of a file to a writer.
 
-ghost use Rattle.std.specs.Prelude.{◌≡◌, ◌+◌, ◌*◌, ◌^◌, ◌<◌, ◌≤◌, length, replicate};
+ghost use Rattle.std.specs.Prelude.{◌+◌, ◌*◌, ◌^◌, ◌<◌, ◌≤◌, length, replicate};
 ghost use Rattle.dwp_elf.specs.Contents.{contents_of};
 ghost use Rattle.dwp_elf_read.specs.Layout.{header_size, word_size};
 ghost use Rattle.dwp_elf.specs.FileText.{content_bytes, names_of, name_table, headers_from};
-ghost use Rattle.dwp_elf.specs.Writing.{Writes, Faults};
+ghost use Rattle.dwp_elf.specs.Writing.{Writes, Errors};
 
 use crate::headers::{header_size, section_header};
 use crate::writer::Output;
@@ -28,7 +28,7 @@ pub const NAMES: &[u8; 10] = b".shstrtab\0";
 /// It stops at the first call that fails or takes no bytes.
 pub fn write_whole<O: Output>(out: &mut O, bytes: &[u8]) -> io::Result<()>
     ensures text { Writes result (O.contents out.old) (O.contents out.new) bytes.now }
-    ensures fault { Faults result (O.failed out.old) (O.failed out.new) }
+    ensures error { Errors result (O.failed out.old) (O.failed out.new) }
 {
     let mut rest = bytes;
     while !rest.is_empty() {
@@ -45,7 +45,7 @@ pub fn write_whole<O: Output>(out: &mut O, bytes: &[u8]) -> io::Result<()>
 pub fn write_zeros<O: Output>(out: &mut O, count: usize) -> io::Result<()>
     requires { count ≤ 64 }
     ensures text { Writes result (O.contents out.old) (O.contents out.new) (replicate count 0) }
-    ensures fault { Faults result (O.failed out.old) (O.failed out.new) }
+    ensures error { Errors result (O.failed out.old) (O.failed out.new) }
 {
     write_whole(out, &ZEROS[..count])
 }
@@ -54,7 +54,7 @@ pub fn write_zeros<O: Output>(out: &mut O, count: usize) -> io::Result<()>
 pub fn write_contents<O: Output>(out: &mut O, sections: &[(SectionKind, Vec<u8>)]) -> io::Result<()>
     ensures text { Writes result (O.contents out.old) (O.contents out.new)
         (content_bytes (contents_of sections.now)) }
-    ensures fault { Faults result (O.failed out.old) (O.failed out.new) }
+    ensures error { Errors result (O.failed out.old) (O.failed out.new) }
 {
     for section in sections {
         write_whole(out, &section.1)?;
@@ -66,7 +66,7 @@ pub fn write_contents<O: Output>(out: &mut O, sections: &[(SectionKind, Vec<u8>)
 fn write_names<O: Output>(out: &mut O, sections: &[(SectionKind, Vec<u8>)]) -> io::Result<()>
     ensures text { Writes result (O.contents out.old) (O.contents out.new)
         (names_of (contents_of sections.now)) }
-    ensures fault { Faults result (O.failed out.old) (O.failed out.new) }
+    ensures error { Errors result (O.failed out.old) (O.failed out.new) }
 {
     for section in sections {
         write_whole(out, section.0.name().as_bytes())?;
@@ -82,7 +82,7 @@ pub fn write_name_table<O: Output>(
 ) -> io::Result<()>
     ensures text { Writes result (O.contents out.old) (O.contents out.new)
         (name_table (contents_of sections.now)) }
-    ensures fault { Faults result (O.failed out.old) (O.failed out.new) }
+    ensures error { Errors result (O.failed out.old) (O.failed out.new) }
 {
     write_whole(out, &[0])?;
     write_names(out, sections)?;
@@ -104,7 +104,7 @@ pub fn write_section_headers<O: Output>(
     ensures text { Writes result (O.contents out.old) (O.contents out.new)
         (headers_from class endianness names_size 1 (header_size class)
         (contents_of sections.now)) }
-    ensures fault { Faults result (O.failed out.old) (O.failed out.new) }
+    ensures error { Errors result (O.failed out.old) (O.failed out.new) }
 {
     let mut name = 1;
     let mut place = u64::from(header_size(class));

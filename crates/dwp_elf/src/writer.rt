@@ -1,6 +1,6 @@
 //! What a file is handed to, and whether a write of it failed.
 
-ghost use Rattle.std.specs.Prelude.{◌≡◌, ℕ, ◌<◌, List, length, Option, Some, None, IfOk, IfErr, ⊤};
+ghost use Rattle.std.specs.Prelude.{◌≡◌, ℕ, ◌<◌, List, length, Option, Some, IfOk, IfErr, ⊤};
 ghost use Rattle.std.specs.Io.{WritesAtMost};
 ghost use Rattle.std.specs.Io.KnownBytes.{WriteAppends};
 ghost use Rattle.std.specs.IoError.{error_kind};
@@ -31,7 +31,7 @@ pub trait Output {
             → failed self.old kind) };
 }
 
-/// A writer tells nothing of its faults.
+/// A writer tells nothing of its errors.
 impl<W: Write> Output for W {
     ghost contents = { λ w. W.contents w };
 
@@ -47,21 +47,21 @@ impl<W: Write> Output for W {
 pub struct Watched<W> {
     /// The writer.
     pub writer: W,
-    /// The kind of its last fault, if it had one.
-    pub fault: Option<ErrorKind>,
+    /// The kind of its last error, if it had one.
+    pub error: Option<ErrorKind>,
 }
 
 impl<W: Write> Output for Watched<W> {
     ghost contents = { λ w. W.contents w.writer };
 
-    ghost failed = { λ w kind. w.fault ≡ Some kind };
+    ghost failed = { λ w kind. w.error ≡ Some kind };
 
     fn put(&mut self, bytes: &[u8]) -> io::Result<usize> {
         let answer = self.writer.write(bytes);
         match &answer {
-            Ok(0) => self.fault = Some(ErrorKind::WriteZero),
+            Ok(0) => self.error = Some(ErrorKind::WriteZero),
             Ok(_) => {}
-            Err(fault) => self.fault = Some(fault.kind()),
+            Err(error) => self.error = Some(error.kind()),
         }
         answer
     }

@@ -6,7 +6,7 @@ use Rattle.std.proofs.lemmas.List.{length-map}
 use Rattle.std.proofs.lemmas.List.FromFn.{length-map-range_with_len}
 use Rattle.std.proofs.lemmas.Option.{slice_get_past}
 use Rattle.dwp_elf_read.proofs.Ranges.{range-more, range-done, slice_get-range}
-use Rattle.dwp_elf_read.specs.declared.fault.ReadError.{ReadError}
+use Rattle.dwp_elf_read.specs.declared.error.ReadError.{ReadError}
 use Rattle.dwp_elf_read.specs.declared.file.ElfFile.{ElfFile}
 use Rattle.dwp_elf_read.specs.declared.relocation.RawRelocation.{RawRelocation}
 use Rattle.dwp_elf_read.specs.declared.relocations.Relocations.{Relocations}

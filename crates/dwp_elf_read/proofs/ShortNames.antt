@@ -11,6 +11,7 @@ use Rattle.std.proofs.lemmas.List.Sums.{position_or_len_is, fails_before_first, 
 use Rattle.std.proofs.lemmas.Slice.Eq.{bytes_eq-Decides}
 use Rattle.dwp_base.specs.Sections.{all_kinds, compressed_name_of, kind_named, name_of}
 use Rattle.dwp_elf_read.specs.Elf.{text_of, text_at, name_is}
+use Rattle.dwp_base.proofs.Bools.{by-bool}
 
 abbrev zero_byte : ℕ → Bool
 zero_byte b = b == 0
@@ -23,15 +24,11 @@ by_option : (P : Type 0) (o : Option ℕ) → (o ≡ None → P) → ((n : ℕ) 
 by_option P None none some = none refl
 by_option P (Some n) none some = some n refl
 
-by_test : (P : Type 0) (b : Bool) → (b ≡ true → P) → (b ≡ false → P) → P
-by_test P true left right = left refl
-by_test P false left right = right refl
-
 -- the first zero byte is there, and stands there
 found_is : (bytes : List ℕ) (n : ℕ) → position zero_byte bytes ≡ Some n → (n < length bytes)
     × (position_or_len zero_byte bytes ≡ n)
 found_is bytes n e =
-    by_test ((n < length bytes) × (position_or_len zero_byte bytes ≡ n))
+    by-bool ((n < length bytes) × (position_or_len zero_byte bytes ≡ n))
     (nat_lt (position_or_len zero_byte bytes) (length bytes))
     (λ yes.
     let same : Some (position_or_len zero_byte bytes) ≡ Some n =
@@ -46,7 +43,7 @@ found_is bytes n e =
 none_is : (bytes : List ℕ) → position zero_byte bytes ≡ None → (k : ℕ) → k < length bytes
     → zero_byte (get_or bytes k 0) ≡ false
 none_is bytes e k below =
-    by_test (zero_byte (get_or bytes k 0) ≡ false)
+    by-bool (zero_byte (get_or bytes k 0) ≡ false)
     (nat_lt (position_or_len zero_byte bytes) (length bytes))
     (λ yes. let never : Some (position_or_len zero_byte bytes) ≡ None =
     sym (ap (λ (b : Bool). cond b (Some (position_or_len zero_byte bytes)) None) yes)
@@ -80,7 +77,7 @@ not_before m bytes n fits none e =
     let found = found_is bytes n e in
     let here : zero_byte (get_or bytes n 0) ≡ true = subst (λ (i : ℕ). zero_byte (get_or bytes i 0)
     ≡ true) found.1 (passes_at_first zero_byte bytes 0 (omega (arith, found.0, found.1))) in
-    by_test (m ≤ n) (ltb n m)
+    by-bool (m ≤ n) (ltb n m)
     (λ yes.
     let below : n < m = ltb-true _ _ yes in
     let gone : zero_byte (get_or (take m bytes) n 0) ≡ false = none_is (take m bytes) none n
@@ -93,7 +90,7 @@ not_before m bytes n fits none e =
 -- a text of another length is another
 other_length : (own text : List ℕ) → length text < length own → bytes_eq own text ≡ false
 other_length own text longer =
-    by_test (bytes_eq own text ≡ false) (bytes_eq own text)
+    by-bool (bytes_eq own text ≡ false) (bytes_eq own text)
     (λ yes. let same : own ≡ text = (bytes_eq-Decides own text).0 yes in
     absurd (omega (arith, ap length same)))
     (λ not. not)
@@ -101,7 +98,7 @@ other_length own text longer =
 longer_text : (own text : List ℕ) → length text < length own → name_is text (text_of own) ≡ false
 unfolding text_of
 longer_text own text longer =
-    by_test (name_is text (cond (is_utf8 own) (Some own) None) ≡ false) (is_utf8 own)
+    by-bool (name_is text (cond (is_utf8 own) (Some own) None) ≡ false) (is_utf8 own)
     (λ yes. rw yes (other_length own text longer))
     (λ not. rw not refl)
 

@@ -6,12 +6,12 @@ use Rattle.std.specs.Option.{option_and_then}
 use Rattle.std.specs.List.{range_with_len}
 use Rattle.std.specs.Str.{is_utf8, bytes_eq}
 use Rattle.std.specs.Int.Bits.{bit_and}
+use Rattle.dwp_base.specs.Reading.{◌>>=◌}
 use Rattle.dwp_base.specs.declared.class.Class.{Class}
 use Rattle.dwp_base.specs.declared.endian.Endianness.{Endianness}
-use Rattle.dwp_base.specs.Reading.{◌>>=◌}
-use Rattle.dwp_elf_read.specs.declared.fault.ReadError.{ReadError}
-use Rattle.dwp_elf_read.specs.declared.fault.ReadError.TheVariants.{SectionTable, SectionEntrySize}
-use Rattle.dwp_elf_read.specs.declared.fault.ReadError.TheVariants.{NameTable}
+use Rattle.dwp_elf_read.specs.declared.error.ReadError.{ReadError}
+use Rattle.dwp_elf_read.specs.declared.error.ReadError.TheVariants.{SectionTable, SectionEntrySize}
+use Rattle.dwp_elf_read.specs.declared.error.ReadError.TheVariants.{NameTable}
 use Rattle.dwp_elf_read.specs.declared.header.FileHeader.{FileHeader}
 use Rattle.dwp_elf_read.specs.declared.header.SectionHeader.{SectionHeader}
 use Rattle.dwp_elf_read.specs.Layout.{word_size, entry_size, is_inside, file_header_of}
@@ -135,7 +135,7 @@ name_table class order bytes header count = do
   number ← name_table_number class order bytes header
   name_table_numbered class order bytes header count number
 
--- what the bytes mean, or the first fault
+-- what the bytes mean, or the first error
 unfoldable pub elf_of : List ℕ → Result Elf ReadError
 elf_of bytes = do
   identity ← identity_of bytes

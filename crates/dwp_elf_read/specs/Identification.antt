@@ -2,14 +2,14 @@
 use Rattle.std.specs.Prelude.{ℕ, List, [], ◌∷◌, Result, Ok, Err, length, nat_lt, nat_eq, ◌==◌}
 use Rattle.std.specs.Prelude.{slice_index, codes, if◌then◌else◌, ◌++◌}
 use Rattle.std.specs.List.{starts_with}
+use Rattle.dwp_base.specs.Reading.{◌>>=◌}
 use Rattle.dwp_base.specs.declared.class.Class.{Class}
 use Rattle.dwp_base.specs.declared.class.Class.TheVariants as classes
 use Rattle.dwp_base.specs.declared.endian.Endianness.{Endianness}
 use Rattle.dwp_base.specs.declared.endian.Endianness.TheVariants.{Little, Big}
-use Rattle.dwp_base.specs.Reading.{◌>>=◌}
-use Rattle.dwp_elf_read.specs.declared.fault.ReadError.{ReadError}
-use Rattle.dwp_elf_read.specs.declared.fault.ReadError.TheVariants.{TooShort, NotElf, ByteOrder}
-use Rattle.dwp_elf_read.specs.declared.fault.ReadError.TheVariants.{Version}
+use Rattle.dwp_elf_read.specs.declared.error.ReadError.{ReadError}
+use Rattle.dwp_elf_read.specs.declared.error.ReadError.TheVariants.{TooShort, NotElf, ByteOrder}
+use Rattle.dwp_elf_read.specs.declared.error.ReadError.TheVariants.{Version}
 use Rattle.dwp_elf_read.specs.declared.kind.FileKind.{FileKind}
 use Rattle.dwp_elf_read.specs.declared.kind.FileKind.TheVariants.{Archive, Elf32, Elf64}
 use Rattle.dwp_elf_read.specs.Layout.{header_size}

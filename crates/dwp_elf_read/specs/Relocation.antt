@@ -5,12 +5,12 @@ use Rattle.std.specs.Prelude.{if◌then◌else◌}
 use Rattle.std.specs.Option.{ok_or}
 use Rattle.std.specs.List.{range_with_len}
 use Rattle.std.specs.Int.{w32, w64, cast_signed}
+use Rattle.dwp_base.specs.Reading.{◌>>=◌}
 use Rattle.dwp_base.specs.declared.class.Class.{Class}
 use Rattle.dwp_base.specs.declared.class.Class.TheVariants.{Elf32, Elf64}
 use Rattle.dwp_base.specs.declared.endian.Endianness.{Endianness}
-use Rattle.dwp_base.specs.Reading.{◌>>=◌}
-use Rattle.dwp_elf_read.specs.declared.fault.ReadError.{ReadError}
-use Rattle.dwp_elf_read.specs.declared.fault.ReadError.TheVariants.{RelocationTable}
+use Rattle.dwp_elf_read.specs.declared.error.ReadError.{ReadError}
+use Rattle.dwp_elf_read.specs.declared.error.ReadError.TheVariants.{RelocationTable}
 use Rattle.dwp_elf_read.specs.declared.relocation.RawRelocation.{RawRelocation}
 use Rattle.dwp_elf_read.specs.Layout.{word_size, number_at}
 use Rattle.dwp_elf_read.specs.Elf.{Elf, SectionMeaning}

@@ -6,8 +6,8 @@ use Rattle.dwp_base.specs.declared.class.Class.{Class}
 use Rattle.dwp_base.specs.declared.class.Class.TheVariants.{Elf32, Elf64}
 use Rattle.dwp_base.specs.declared.endian.Endianness.{Endianness}
 use Rattle.dwp_base.specs.Reading.{◌>>=◌}
-use Rattle.dwp_elf_read.specs.declared.fault.ReadError.{ReadError}
-use Rattle.dwp_elf_read.specs.declared.fault.ReadError.TheVariants.{SymbolTable, SymbolIndex}
+use Rattle.dwp_elf_read.specs.declared.error.ReadError.{ReadError}
+use Rattle.dwp_elf_read.specs.declared.error.ReadError.TheVariants.{SymbolTable, SymbolIndex}
 use Rattle.dwp_elf_read.specs.Layout.{word_size, number_at}
 use Rattle.dwp_elf_read.specs.Elf.{Elf, SectionMeaning}
 

@@ -1,7 +1,7 @@
 -- What the values of this crate stand for.
 use Rattle.std.specs.Prelude.{ℕ, ◌-◌, List, [], ◌∷◌, ◌++◌, map, Result, Ok, Err}
 use Rattle.std.specs.Option.{option_copied}
-use Rattle.dwp_elf_read.specs.declared.fault.ReadError.{ReadError}
+use Rattle.dwp_elf_read.specs.declared.error.ReadError.{ReadError}
 use Rattle.dwp_elf_read.specs.declared.file.ElfFile.{ElfFile}
 use Rattle.dwp_elf_read.specs.declared.section.Section.{Section}
 use Rattle.dwp_elf_read.specs.declared.section.Sections.{Sections}

@@ -3,7 +3,7 @@
 ghost use Rattle.std.specs.Prelude.{◌+◌, ◌*◌, ◌≤◌, length};
 ghost use Rattle.dwp_elf_read.specs.Layout.{entry_size};
 
-use crate::fault::ReadError;
+use crate::error::ReadError;
 use crate::image::Image;
 use crate::kind::identity;
 use crate::section::{Section, Sections};

@@ -5,7 +5,7 @@ ghost use Rattle.dwp_base.specs.Reading.{Answers};
 ghost use Rattle.dwp_elf_read.specs.Layout.{header_size};
 ghost use Rattle.dwp_elf_read.specs.Identification.{kind_of, identity_of};
 
-use crate::fault::ReadError;
+use crate::error::ReadError;
 use dwp_base::{Class, Endianness};
 
 /// What a file is, as its first 16 bytes say.

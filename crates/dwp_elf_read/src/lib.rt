@@ -4,7 +4,7 @@
 //! is allocated.
 #![tactic(auto)]
 
-mod fault;
+mod error;
 mod file;
 mod header;
 mod image;
@@ -17,7 +17,7 @@ mod sections;
 mod symbol;
 mod table;
 
-pub use fault::{ReadError, WriteError};
+pub use error::{ReadError, WriteError};
 pub use file::ElfFile;
 pub use kind::FileKind;
 pub use relocation::RawRelocation;

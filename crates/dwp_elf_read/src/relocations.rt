@@ -5,10 +5,10 @@ ghost use Rattle.dwp_base.specs.Reading.{Answers};
 ghost use Rattle.dwp_elf_read.specs.Relocation.{table_of, relocates, entries_then};
 ghost use Rattle.dwp_elf_read.specs.View as view;
 ghost use Rattle.dwp_elf_read.specs.View.{begun};
-ghost use Rattle.dwp_elf_read.specs.declared.fault.ReadError.{ReadError};
+ghost use Rattle.dwp_elf_read.specs.declared.error.ReadError.{ReadError};
 ghost use Rattle.dwp_elf_read.specs.declared.relocation.RawRelocation.{RawRelocation};
 
-use crate::fault::ReadError;
+use crate::error::ReadError;
 use crate::file::ElfFile;
 use crate::relocation::{RawRelocation, size_of_entry};
 use crate::section::Section;
@@ -103,7 +103,7 @@ impl<'a> Relocations<'a> {
         ensures ok { OnOk result (relocations_left self.new ≡ relocations_left self.old) }
         ensures progress { OnOk result (self.new.section ≡ self.old.section + 1) }
         ensures file { self.new.file ≡ self.old.file }
-        ensures fault { IfErr result (λ e. relocations_left self.old ≡ Err e ∷ []) }
+        ensures error { IfErr result (λ e. relocations_left self.old ≡ Err e ∷ []) }
         ensures end { OnErr result (relocations_left self.new ≡ []) }
     {
         let count = self.file.count;
@@ -118,9 +118,9 @@ impl<'a> Relocations<'a> {
                 self.table = table;
                 Ok(())
             }
-            Err(fault) => {
+            Err(error) => {
                 self.section = count;
-                Err(fault)
+                Err(error)
             }
         }
     }
@@ -144,8 +144,8 @@ impl<'a> Iterator for Relocations<'a> {
             if self.section >= self.file.count {
                 return None;
             }
-            if let Err(fault) = self.pass_section() {
-                return Some(Err(fault));
+            if let Err(error) = self.pass_section() {
+                return Some(Err(error));
             }
         }
     }

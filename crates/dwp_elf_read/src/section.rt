@@ -1,6 +1,6 @@
 //! Sections of a file (ELF gABI, "Sections").
 
-use crate::fault::ReadError;
+use crate::error::ReadError;
 use crate::file::ElfFile;
 use crate::header::{SHT_NOBITS, SectionHeader};
 use crate::name::{is_text_at, text_in};
@@ -20,9 +20,9 @@ pub struct Section<'a> {
 
 #[tactic(auto, unfolding(crate::specs::View::section, crate::specs::Elf::section_of))]
 impl<'a> Section<'a> {
-    ghost use Rattle.dwp_elf_read.specs.declared.fault.ReadError.TheVariants.{NameRange};
-    ghost use Rattle.dwp_elf_read.specs.declared.fault.ReadError.TheVariants.{SectionRange};
-    ghost use Rattle.std.specs.Prelude.{◌≡◌, ◌↔◌, ◌||◌, ◌==◌, IsTrue, find};
+    ghost use Rattle.dwp_elf_read.specs.declared.error.ReadError.TheVariants.{NameRange};
+    ghost use Rattle.dwp_elf_read.specs.declared.error.ReadError.TheVariants.{SectionRange};
+    ghost use Rattle.std.specs.Prelude.{◌≡◌, ◌||◌, ◌==◌, find};
     ghost use Rattle.std.specs.Option.{ok_or, option_and_then};
     ghost use Rattle.dwp_base.specs.Sections.{all_kinds, compressed_name_of, kind_named, name_of};
     ghost use Rattle.dwp_base.specs.Reading.{Answers};

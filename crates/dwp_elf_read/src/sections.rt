@@ -6,7 +6,7 @@ ghost use Rattle.dwp_base.specs.Reading.{Answers};
 ghost use Rattle.dwp_elf_read.specs.Layout.{entry_size};
 ghost use Rattle.dwp_elf_read.specs.Elf.{named_count, section_count, name_table_number, name_table};
 
-use crate::fault::ReadError;
+use crate::error::ReadError;
 use crate::header::FileHeader;
 use crate::image::{Image, entry_size_of};
 

@@ -1,11 +1,11 @@
 //! The values of symbols (ELF gABI, "Symbol Table").
 
-ghost use Rattle.std.specs.Prelude.{◌≡◌, option_map};
+ghost use Rattle.std.specs.Prelude.{option_map};
 ghost use Rattle.dwp_base.specs.Reading.{Answers};
-ghost use Rattle.dwp_elf_read.specs.Symbol.{symbol_size, value_place, symbols_of, value_in};
+ghost use Rattle.dwp_elf_read.specs.Symbol.{symbols_of, value_in};
 ghost use Rattle.dwp_elf_read.specs.View.{section};
 
-use crate::fault::ReadError;
+use crate::error::ReadError;
 use crate::image::Image;
 use crate::section::Section;
 use dwp_base::Class;

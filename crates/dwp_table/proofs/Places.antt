@@ -2,8 +2,8 @@
 use Rattle.std.proofs.Common.{◌≡◌, ℕ, ◌+◌, ◌-◌, ◌*◌, ◌/◌, ◌%◌, ◌^◌, ◌<◌, sym, ap, subst, ◌∙◌, arith}
 use Rattle.std.specs.Prelude.{bit_and, bit_or, IsTrue}
 use Rattle.std.specs.Int.{is_power_of_two}
-use Rattle.std.proofs.lemmas.Nat.{and_mask, and_le_r, pow_pos}
-use Rattle.std.proofs.Math.Nat.{mod-lt, mod-eq_of_lt, mod-add-mod}
+use Rattle.std.proofs.lemmas.Nat.{and_mask, pow_pos}
+use Rattle.std.proofs.Math.Nat.{mod-lt, mod-add-mod}
 use Rattle.dwp_table.specs.Probing.{step, place}
 use Rattle.dwp_table.proofs.Numbers.{exponent, odd-or_one, one_slot, OneToOne}
 
@@ -18,14 +18,6 @@ masked size n power =
 pub place-lt : (size x i : ℕ) → IsTrue (is_power_of_two size) → place size x i < size
 unfolding place
 place-lt size x i power = mod-lt _ (positive size power)
-
-pub place-zero : (size x : ℕ) → IsTrue (is_power_of_two size)
-    → place size x 0 ≡ bit_and x (size - 1)
-unfolding place
-place-zero size x power =
-    let first : bit_and x (size - 1) + 0 * step size x ≡ bit_and x (size - 1) = omega arith in
-    ap (λ n. n % size) first ∙ mod-eq_of_lt
-    (omega (arith, and_le_r x (size - 1), positive size power))
 
 pub place-next : (size x i : ℕ) → IsTrue (is_power_of_two size) → place size x (i + 1) ≡ bit_and
     (place size x i + step size x) (size - 1)

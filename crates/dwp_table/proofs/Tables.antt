@@ -10,6 +10,7 @@ use Rattle.dwp_table.specs.Table.{IsPlacedAfter, IsHashTable, IsIndex, FindsExac
 use Rattle.dwp_table.proofs.Finding.{IsFirst, first_or_none, find-first, find-none}
 use Rattle.dwp_table.proofs.Numbers.{pigeonhole}
 use Rattle.dwp_table.proofs.Places.{place-lt, places_apart}
+use Rattle.dwp_base.proofs.Bools.{or-right}
 
 -- the row at the place of x after j others
 abbrev pub row_at : List ℕ → ℕ → ℕ → ℕ
@@ -69,12 +70,8 @@ has_free ids rows x table =
 unused_ends : (row signature x : ℕ) → row ≡ 0 → (eqb row 0 || eqb signature x) ≡ true
 unused_ends row signature x e = subst (λ r. (eqb r 0 || eqb signature x) ≡ true) (sym e) refl
 
-either_true : (a b : Bool) → b ≡ true → (a || b) ≡ true
-either_true true b e = refl
-either_true false b e = e
-
 found_ends : (row signature x : ℕ) → signature ≡ x → (eqb row 0 || eqb signature x) ≡ true
-found_ends row signature x e = either_true (eqb row 0) (eqb signature x) (eq-eqb signature x e)
+found_ends row signature x e = or-right (eqb row 0) (eqb signature x) (eq-eqb signature x e)
 
 goes_on : (row signature x : ℕ) → 0 < row → signature ≢ x → (eqb row 0 || eqb signature x) ≡ false
 goes_on row signature x h ne = let used : eqb row 0 ≡ false = ne_eqb row 0 (λ e. omega arith) in

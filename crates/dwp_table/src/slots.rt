@@ -1,6 +1,6 @@
 //! How many slots a hash table has (DWARF 5, 7.3.5.3).
 
-ghost use Rattle.std.specs.Prelude.{◌≡◌, ◌+◌, ◌*◌, ◌≤◌, ◌<◌, ◌^◌, IsTrue};
+ghost use Rattle.std.specs.Prelude.{◌*◌, ◌≤◌, ◌<◌, IsTrue};
 ghost use Rattle.std.specs.Int.{is_power_of_two};
 ghost use Rattle.dwp_table.specs.Table.{HasSlots};
 

@@ -1,5 +1,5 @@
-use Rattle.std.proofs.Common.{◌∙◌, ◌+◌, ◌-◌, ◌*◌, ◌==◌, ℕ, sym, ap, arith}
-use Rattle.std.proofs.Common.{true, false, get_or, drop}
+use Rattle.std.proofs.Common.{◌∙◌, ◌+◌, ◌-◌, ◌*◌, ◌==◌, ℕ, sym, ap, arith, true, false, get_or}
+use Rattle.std.proofs.Common.{drop}
 use Rattle.std.specs.List.{list_all}
 use Rattle.dwp_archive.specs.Headers.{decimal, decimal_from}
 use Rattle.dwp_archive.proofs.Decimals.{decimal_step, decimal_end, stops, digit_small, digits_fit}

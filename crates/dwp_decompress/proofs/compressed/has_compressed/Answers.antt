@@ -2,10 +2,11 @@ use Rattle.std.proofs.Common.{sym, ap, ◌∙◌, arith}
 use Rattle.std.specs.Prelude.{option_map}
 use Rattle.dwp_elf_read.specs.View.{elf, section}
 use Rattle.dwp_decompress.specs.Compressed.{is_compressed}
-use Rattle.dwp_decompress.proofs.Walks.{any_hit, any_miss, any_end, slice_get_none}
+use Rattle.dwp_decompress.proofs.Walks.{any_hit, any_miss, any_end}
 use Rattle.dwp_decompress.proofs.compressed.has_compressed.Goals as goal
 use Rattle.dwp_decompress.proofs.compressed.has_compressed.Goals.{in-Some+else-is_compressed}
 use Rattle.dwp_decompress.proofs.compressed.has_compressed.Goals.{in_default}
+use Rattle.dwp_base.proofs.Finds.{slice_get_none}
 
 pub returns-then-is_compressed : goal.returns-then-is_compressed
 returns-then-is_compressed c =

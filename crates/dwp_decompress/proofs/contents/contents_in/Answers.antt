@@ -5,10 +5,11 @@ use Rattle.std.proofs.lemmas.Result.{err_from_is_err_and}
 use Rattle.dwp_elf_read.specs.View.{elf, section}
 use Rattle.dwp_decompress.specs.Result.{contents_of, plain_contents}
 use Rattle.dwp_decompress.proofs.Walks.{Contents, behind, behind_none, contents_step, contents_fail}
-use Rattle.dwp_decompress.proofs.Walks.{contents_end, slice_get_none, plain_more}
+use Rattle.dwp_decompress.proofs.Walks.{contents_end, plain_more}
 use Rattle.dwp_decompress.proofs.contents.contents_in.Goals as goal
 use Rattle.dwp_decompress.proofs.contents.contents_in.Goals.{in-Some+in_ok-content+in_ok-push}
 use Rattle.dwp_decompress.proofs.contents.contents_in.Goals.{in_default}
+use Rattle.dwp_base.proofs.Finds.{slice_get_none}
 
 pub loop-i-init : goal.loop-i-init
 loop-i-init c =

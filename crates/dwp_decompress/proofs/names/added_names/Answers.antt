@@ -3,9 +3,10 @@ use Rattle.std.specs.Global.{Vec}
 use Rattle.std.specs.Prelude.{option_map}
 use Rattle.dwp_elf_read.specs.View.{elf, section}
 use Rattle.dwp_decompress.specs.Names.{added_names}
-use Rattle.dwp_decompress.proofs.Walks.{names_step, names_end, slice_get_none}
+use Rattle.dwp_decompress.proofs.Walks.{names_step, names_end}
 use Rattle.dwp_decompress.proofs.names.added_names.Goals as goal
 use Rattle.dwp_decompress.proofs.names.added_names.Goals.{in-Some+in_ok-add_name_of, in_default}
+use Rattle.dwp_base.proofs.Finds.{slice_get_none}
 
 pub loop-i-preserved : goal.loop-i-preserved
 loop-i-preserved c =

@@ -1,12 +1,12 @@
 use Rattle.std.proofs.Common.{sym, ◌∙◌}
 use Rattle.std.proofs.lemmas.Result.{err_from_is_err_and}
-use Rattle.dwp_dwarf.proofs.TableForward.{specification_shorter, past-last, past-other, past-fault}
+use Rattle.dwp_dwarf.proofs.TableForward.{specification_shorter, past-last, past-other, past-error}
 use Rattle.dwp_dwarf.proofs.abbrev.after_specifications.Goals as goal
 
 pub returns-in_err-specification : goal.returns-in_err-specification
 returns-in_err-specification g c =
     let p = err_from_is_err_and c.from_residual.result c.from_residual.ensures.1 in
-    rw (p.1, p.2) (sym c.loop-specification.invariant ∙ past-fault c.lebs_take_bytes.ensures _ _
+    rw (p.1, p.2) (sym c.loop-specification.invariant ∙ past-error c.lebs_take_bytes.ensures _ _
     c.in_err-specification.ensures.0)
 
 pub returns-then-is_last : goal.returns-then-is_last

@@ -1,11 +1,11 @@
-use Rattle.dwp_dwarf.proofs.UnitLists.{unit_taken, units_whole, units_fault, units_one}
+use Rattle.dwp_dwarf.proofs.UnitLists.{unit_taken, units_whole, units_error, units_one}
 use Rattle.dwp_dwarf.proofs.laws.units_have_all_bytes.Goals as goal
 
 pub returns-clause-whole : goal.returns-clause-whole
 returns-clause-whole c = units_whole
 
-pub returns-clause-fault : goal.returns-clause-fault
-returns-clause-fault c = units_fault
+pub returns-clause-error : goal.returns-clause-error
+returns-clause-error c = units_error
 
 pub returns-clause-one : goal.returns-clause-one
 returns-clause-one c = units_one

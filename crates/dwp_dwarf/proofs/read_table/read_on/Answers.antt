@@ -2,7 +2,7 @@ use Rattle.std.proofs.Common.{◌≡◌, sym, ◌∙◌, Ok, Some, None, eq-eqb}
 use Rattle.std.proofs.lemmas.Result.{err_from_is_err_and}
 use Rattle.dwp_dwarf.specs.Declarations.{declaration_of}
 use Rattle.dwp_dwarf.specs.Grammar.{next_at}
-use Rattle.dwp_dwarf.proofs.Grammar.{next_shorter, look_up-end, look_up-fault, look_up-here}
+use Rattle.dwp_dwarf.proofs.Grammar.{next_shorter, look_up-end, look_up-error, look_up-here}
 use Rattle.dwp_dwarf.proofs.Remembered.{rest_says}
 use Rattle.dwp_dwarf.proofs.read_table.read_on.Goals as goal
 
@@ -12,7 +12,7 @@ returns-in_err-found-clause-declared g c =
     let same = rest_says g.R.Reader.input c.loop-found.known c.args.known.now
     (g.R.Reader.input c.loop-found.rest) (g.R.Reader.input c.args.rest.now) c.args.code
     c.loop-found.invariant.none c.requires (c.loop-found.invariant.said c.args.code) in
-    rw (p.1, p.2) (sym same ∙ look_up-fault c.lebs_take_bytes.ensures c.args.code _ _
+    rw (p.1, p.2) (sym same ∙ look_up-error c.lebs_take_bytes.ensures c.args.code _ _
     c.in_err-found.ensures)
 
 pub returns-then-found-code-clause-declared : goal.returns-then-found-code-clause-declared

@@ -3,14 +3,14 @@ use Rattle.std.proofs.lemmas.Bool.{ne_eqb}
 use Rattle.std.proofs.lemmas.Result.{err_from_is_err_and}
 use Rattle.dwp_dwarf.specs.Declarations.{declaration_of}
 use Rattle.dwp_dwarf.specs.Grammar.{next_at}
-use Rattle.dwp_dwarf.proofs.Grammar.{next_shorter, look_up-end, look_up-fault, look_up-here}
+use Rattle.dwp_dwarf.proofs.Grammar.{next_shorter, look_up-end, look_up-error, look_up-here}
 use Rattle.dwp_dwarf.proofs.Grammar.{look_up-other}
 use Rattle.dwp_dwarf.proofs.seen.read_to.Goals as goal
 
 pub returns-in_err-found : goal.returns-in_err-found
 returns-in_err-found g c =
     let p = err_from_is_err_and c.from_residual.result c.from_residual.ensures.1 in
-    rw (p.1, p.2) (sym c.loop-found.invariant ∙ look_up-fault c.lebs_take_bytes.ensures c.args.code
+    rw (p.1, p.2) (sym c.loop-found.invariant ∙ look_up-error c.lebs_take_bytes.ensures c.args.code
     _ _ c.in_err-found.ensures)
 
 pub returns-then-code-found : goal.returns-then-code-found

@@ -2,7 +2,7 @@ use Rattle.std.proofs.Common.{sym, ◌∙◌, eq-eqb}
 use Rattle.std.proofs.lemmas.Bool.{ne_eqb}
 use Rattle.std.proofs.lemmas.Result.{err_from_is_err_and}
 use Rattle.dwp_dwarf.proofs.Forward.{goes_shorter}
-use Rattle.dwp_dwarf.proofs.FormsForward.{named_form-own, named_form-fault, named_form-constant}
+use Rattle.dwp_dwarf.proofs.FormsForward.{named_form-own, named_form-error, named_form-constant}
 use Rattle.dwp_dwarf.proofs.FormsForward.{named_form-other}
 use Rattle.dwp_dwarf.proofs.value.named_form.Goals as goal
 
@@ -18,7 +18,7 @@ loop-named-preserved g c = sym (named_form-other c.lebs_take_bytes.ensures _ _ _
 pub returns-in_err-named : goal.returns-in_err-named
 returns-in_err-named g c =
     let p = err_from_is_err_and c.from_residual.result c.from_residual.ensures.1 in
-    rw (p.1, p.2) (sym c.loop-named.invariant ∙ named_form-fault c.lebs_take_bytes.ensures _ _ _
+    rw (p.1, p.2) (sym c.loop-named.invariant ∙ named_form-error c.lebs_take_bytes.ensures _ _ _
     (eq-eqb _ _ c.loop-named-test.true) c.in_err-named.ensures.0)
 
 pub returns-then-named-eq-IMPLICIT_CONST : goal.returns-then-named-eq-IMPLICIT_CONST

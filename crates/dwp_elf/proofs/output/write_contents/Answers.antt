@@ -16,8 +16,8 @@ loop-section-preserved g c =
       text = so_far_more _ _ _ _ c.loop-section.invariant.text (content_bytes-drop _ _ _
           c.loop-section-test.true c.section-item.is)
           (rw c.deref.ensures.value at c.in_ok-write_whole.ensures.text);
-      fault = λ kind f. c.loop-section.invariant.fault kind
-          (c.in_ok-write_whole.ensures.fault kind f);
+      error = λ kind f. c.loop-section.invariant.error kind
+          (c.in_ok-write_whole.ensures.error kind f);
     }
 
 pub returns-clause-text : goal.returns-clause-text

@@ -10,5 +10,5 @@ invariant-loop-section g l = record {
   text : SoFar (g.O.Output.contents l.initial.out) (g.O.Output.contents l.out)
       (content_bytes (contents_of l.sections))
       (content_bytes (contents_of (drop l.section-index l.sections)));
-  fault : (kind : ErrorKind) → g.O.Output.failed l.out kind → g.O.Output.failed l.initial.out kind;
+  error : (kind : ErrorKind) → g.O.Output.failed l.out kind → g.O.Output.failed l.initial.out kind;
 }

@@ -48,8 +48,8 @@ loop-section-preserved g c =
     c.in_ok-write_whole.ensures.text in
     record {
       text = so_far_more _ _ (0 ∷ []) after named refl c.in_ok-write_whole-2.ensures.text;
-      fault = λ kind f. c.loop-section.invariant.fault kind (c.in_ok-write_whole.ensures.fault kind
-          (c.in_ok-write_whole-2.ensures.fault kind f));
+      error = λ kind f. c.loop-section.invariant.error kind (c.in_ok-write_whole.ensures.error kind
+          (c.in_ok-write_whole-2.ensures.error kind f));
     }
 
 pub returns-clause-text : goal.returns-clause-text

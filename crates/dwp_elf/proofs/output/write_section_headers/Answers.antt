@@ -72,8 +72,8 @@ loop-section-preserved g c =
     record {
       written = so_far_more _ _ _ _ c.loop-section.invariant.written split
           (rw header at c.in_ok-write_whole.ensures.text);
-      fault = λ kind f. c.loop-section.invariant.fault kind
-          (c.in_ok-write_whole.ensures.fault kind f);
+      error = λ kind f. c.loop-section.invariant.error kind
+          (c.in_ok-write_whole.ensures.error kind f);
       place_left = omega (arith, step, size, c.loop-section.invariant.place_left);
       name_small = omega (arith, name, length-name_of x.0, c.loop-section.invariant.name_small);
     }

@@ -13,7 +13,7 @@ invariant-loop-section g l = record {
       (contents_of l.sections))
       (headers_from l.class l.endianness l.names_size l.name l.place
       (contents_of (drop l.section-index l.sections)));
-  fault : (kind : ErrorKind) → g.O.Output.failed l.out kind → g.O.Output.failed l.initial.out kind;
+  error : (kind : ErrorKind) → g.O.Output.failed l.out kind → g.O.Output.failed l.initial.out kind;
   place_left : l.place + length (content_bytes (contents_of (drop l.section-index l.sections)))
       ≡ header_size l.class + length (content_bytes (contents_of l.sections));
   name_small : l.name ≤ 1 + 25 * l.section-index;

@@ -6,7 +6,7 @@ use Rattle.dwp_elf.proofs.SoFar.{so_far_none, so_far_more, so_far_stop, Keeps-fr
 use Rattle.dwp_elf.proofs.output.write_whole.Goals as goal
 
 pub loop-rest-init : goal.loop-rest-init
-loop-rest-init g c = record { text = so_far_none _ _; fault = λ kind f. f }
+loop-rest-init g c = record { text = so_far_none _ _; error = λ kind f. f }
 
 pub returns-in_err-taken-clause-text : goal.returns-in_err-taken-clause-text
 returns-in_err-taken-clause-text g c =
@@ -29,5 +29,5 @@ loop-rest-preserved g c =
       text = so_far_more _ rest (take n rest) _ c.loop-rest.invariant.text
           (sym (take-append-drop n rest) ∙ ap (λ l. take n rest ++ l) (sym (take_rest rest n)))
           c.in_ok-taken.ensures.bytes;
-      fault = λ kind f. c.loop-rest.invariant.fault kind (c.in_ok-taken.ensures.some some kind f);
+      error = λ kind f. c.loop-rest.invariant.error kind (c.in_ok-taken.ensures.some some kind f);
     }

@@ -7,7 +7,7 @@ abbrev pub invariant-loop-rest : goal.invariant-loop-rest
 invariant-loop-rest g l = record {
   text : SoFar (g.O.Output.contents l.initial.out) (g.O.Output.contents l.out)
       l.initial.rest l.rest;
-  fault : (kind : ErrorKind) → g.O.Output.failed l.out kind → g.O.Output.failed l.initial.out kind;
+  error : (kind : ErrorKind) → g.O.Output.failed l.out kind → g.O.Output.failed l.initial.out kind;
 }
 
 abbrev pub decreases-loop-rest : goal.decreases-loop-rest

@@ -6,7 +6,7 @@ use Rattle.dwp_elf_read.specs.Elf.{text_of}
 use Rattle.dwp_elf_read.proofs.Names.{text_of-some, text_of-none}
 use Rattle.dwp_elf_read.proofs.name.text.Goals as goal
 
--- what `from_utf8` answers, its fault left out
+-- what `from_utf8` answers, its error left out
 text-of-result : {T E : Type 0} (view : T → List ℕ) (F : E → Type 0) (bytes : List ℕ)
     (r : Result T E) → MatchResult r (λ s. (view s ≡ bytes) × IsUtf8 bytes) (λ e. (¬ IsUtf8 bytes)
     × F e) → option_map view (result_ok r) ≡ text_of bytes

@@ -2,7 +2,7 @@ use Rattle.std.proofs.Common.{sym, ◌∙◌, arith, eq-eqb}
 use Rattle.std.proofs.lemmas.Bool.{ne_eqb}
 use Rattle.std.proofs.lemmas.Result.{err_from_is_err_and}
 use Rattle.dwp_dwarf.proofs.TableForward.{declaration_shorter, code_no_longer, declaration-bad_code}
-use Rattle.dwp_dwarf.proofs.TableForward.{declaration-none, declaration-fault, declaration-found}
+use Rattle.dwp_dwarf.proofs.TableForward.{declaration-none, declaration-error, declaration-found}
 use Rattle.dwp_dwarf.proofs.TableForward.{declaration-other}
 use Rattle.dwp_dwarf.proofs.abbrev.Abbreviations.get.Goals as goal
 
@@ -20,7 +20,7 @@ pub returns-in_err-abbreviation : goal.returns-in_err-abbreviation
 returns-in_err-abbreviation g c =
     let p = err_from_is_err_and c.from_residual-in_err-abbreviation.result
     c.from_residual-in_err-abbreviation.ensures.1 in
-    rw (p.1, p.2) (sym c.loop-found.invariant ∙ declaration-fault c.lebs_take_bytes.ensures
+    rw (p.1, p.2) (sym c.loop-found.invariant ∙ declaration-error c.lebs_take_bytes.ensures
     c.args.code _ _ _ c.in_ok-found.ensures (ne_eqb _ _ c.if-found-eq0.false)
     c.in_err-abbreviation.ensures.0)
 

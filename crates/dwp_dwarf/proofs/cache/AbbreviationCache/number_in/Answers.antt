@@ -1,6 +1,6 @@
 use Rattle.std.proofs.Common.{◌≡◌, ℕ, Option, Result, Ok, Some, ap, sym}
 use Rattle.dwp_bytes.specs.Input.{Input}
-use Rattle.dwp_bytes.specs.declared.fault.ReadError.{ReadError}
+use Rattle.dwp_bytes.specs.declared.error.ReadError.{ReadError}
 use Rattle.dwp_dwarf.specs.Abbreviations.{declaration}
 use Rattle.dwp_dwarf.specs.Chains.{StandsAt}
 use Rattle.dwp_dwarf.specs.Declarations.{declaration_of}

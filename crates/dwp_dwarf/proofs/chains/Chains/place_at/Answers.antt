@@ -4,8 +4,7 @@ use Rattle.std.specs.BTreeMap.{get}
 use Rattle.dwp_dwarf.specs.Chains.{RemembersPlace}
 use Rattle.dwp_dwarf.specs.Declarations.{declaration_of}
 use Rattle.dwp_dwarf.specs.Grammar.{next_at}
-use Rattle.dwp_dwarf.proofs.Places.{if_there, place_stays, place_end, place_fault}
-use Rattle.dwp_dwarf.proofs.Places.{place_next}
+use Rattle.dwp_dwarf.proofs.Places.{if_there, place_stays, place_end, place_error, place_next}
 use Rattle.dwp_dwarf.proofs.NewVersions.{grows_none}
 use Rattle.dwp_dwarf.specs.Versions.{value_in}
 use Rattle.dwp_dwarf.proofs.chains.Chains.place_at.Goals as goal
@@ -50,7 +49,7 @@ returns-in-Ok-None-clause-place g c = λ section all is.
 
 pub returns-in-Err-clause-place : goal.returns-in-Err-clause-place
 returns-in-Err-clause-place g c = λ section all is.
-    place_fault c.lebs_take_bytes.ensures section (g.R.Reader.input c.args.at)
-    c.args.self.now.codes c.args.self.now.firsts.nodes.items c.args.left _ c.in-Err.fault is
+    place_error c.lebs_take_bytes.ensures section (g.R.Reader.input c.args.at)
+    c.args.self.now.codes c.args.self.now.firsts.nodes.items c.args.left _ c.in-Err.error is
     c.in-Err.ensures refl
     refl

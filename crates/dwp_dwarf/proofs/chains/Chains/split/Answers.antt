@@ -4,7 +4,7 @@ use Rattle.std.specs.Ordering.{nat_cmp}
 use Rattle.std.specs.BTreeMap.{get}
 use Rattle.std.specs.declared.alloc.Global.{Global}
 use Rattle.dwp_base.specs.Reading.{Answers}
-use Rattle.dwp_bytes.specs.declared.fault.ReadError.{ReadError}
+use Rattle.dwp_bytes.specs.declared.error.ReadError.{ReadError}
 use Rattle.dwp_dwarf.specs.Abbreviations.{Declaration, Specification}
 use Rattle.dwp_dwarf.specs.Chains.{ListedAt}
 use Rattle.dwp_dwarf.specs.Declarations.{specification_of, declaration_of}

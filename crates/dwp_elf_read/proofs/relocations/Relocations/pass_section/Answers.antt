@@ -1,5 +1,5 @@
 use Rattle.std.proofs.Common.{◌+◌, ◌++◌, List, Result, sym, ◌∙◌, ap, arith}
-use Rattle.dwp_elf_read.specs.declared.fault.ReadError.{ReadError}
+use Rattle.dwp_elf_read.specs.declared.error.ReadError.{ReadError}
 use Rattle.dwp_elf_read.specs.declared.relocation.RawRelocation.{RawRelocation}
 use Rattle.dwp_elf_read.specs.View.{relocations_left}
 use Rattle.dwp_elf_read.proofs.Places.{others, left-passed, left-entered, left-done}
@@ -22,8 +22,8 @@ returns-in-Ok-clause-ok c =
     ∙ sym (left-entered it _ c.requires.table c.requires.next c.section_at-section.ensures.value
     (sym c.names.ensures ∙ c.if-not-names.false))
 
-pub returns-in-Err-clause-fault : goal.returns-in-Err-clause-fault
-returns-in-Err-clause-fault c =
+pub returns-in-Err-clause-error : goal.returns-in-Err-clause-error
+returns-in-Err-clause-error c =
     let it = c.args.self.now in
     left-entered it _ c.requires.table c.requires.next c.section_at-section.ensures.value
     (sym c.names.ensures ∙ c.if-not-names.false)

@@ -1,5 +1,5 @@
 use Rattle.std.proofs.Common.{◌≡◌, ◌∷◌, ◌++◌, length, List, Result, Ok, Err, ap, sym, ◌∙◌, rules}
-use Rattle.dwp_elf_read.specs.declared.fault.ReadError.{ReadError}
+use Rattle.dwp_elf_read.specs.declared.error.ReadError.{ReadError}
 use Rattle.dwp_elf_read.specs.declared.relocation.RawRelocation.{RawRelocation}
 use Rattle.dwp_elf_read.specs.View.{relocations_left}
 use Rattle.dwp_elf_read.proofs.Places.{others, left-done, left-same}
@@ -29,23 +29,23 @@ returns-then-self-clause-steps c =
       left-done (record it { table = c.next_entry.new.self }) ended.1 c.if-self.true,
     )
 
-gives-fault : (c : goal.In-Err) → relocations_left c.args.self.now ≡ Err c.in-Err.fault ∷
+gives-error : (c : goal.In-Err) → relocations_left c.args.self.now ≡ Err c.in-Err.error ∷
     relocations_left c.pass_section.new.self
-gives-fault c =
-    let fault : List (Result RawRelocation ReadError) → List (Result RawRelocation ReadError) =
-    λ rest. Err c.in-Err.fault ∷ rest in
+gives-error c =
+    let error : List (Result RawRelocation ReadError) → List (Result RawRelocation ReadError) =
+    λ rest. Err c.in-Err.error ∷ rest in
     let ended = c.in_default.ensures in
     sym c.loop-entry.invariant
     ∙ left-same c.loop-entry.self c.next_entry.new.self ended.0 ended.1
-    ∙ c.in-Err.ensures.fault
-    ∙ ap fault (sym c.in-Err.ensures.end)
+    ∙ c.in-Err.ensures.error
+    ∙ ap error (sym c.in-Err.ensures.end)
 
 pub returns-in-Err-clause-steps : goal.returns-in-Err-clause-steps
-returns-in-Err-clause-steps c = gives-fault c
+returns-in-Err-clause-steps c = gives-error c
 
 pub returns-in-Err-clause-goes : goal.returns-in-Err-clause-goes
 returns-in-Err-clause-goes c =
-    let shorter = ap length (gives-fault c) in
+    let shorter = ap length (gives-error c) in
     search rules
 
 pub loop-entry-preserved : goal.loop-entry-preserved

@@ -2,7 +2,7 @@
 
 ghost use Rattle.std.specs.Prelude.{◌≡◌};
 ghost use Rattle.dwp_decompress.specs.Answers as spec;
-ghost use Rattle.dwp_decompress.specs.declared.fault.DecompressError.TheVariants.{Memory, Read};
+ghost use Rattle.dwp_decompress.specs.declared.error.DecompressError.TheVariants.{Memory, Read};
 
 use dwp_elf_read::ReadError;
 use dwp_inflate::InflateError;
@@ -52,7 +52,7 @@ impl From<AllocError> for Refusal {
 }
 
 impl From<Refusal> for DecompressError {
-    ghost from_gives = { λ e fault. fault ≡ spec.refusal e };
+    ghost from_gives = { λ e error. error ≡ spec.refusal e };
 
     fn from(e: Refusal) -> DecompressError {
         match e {
@@ -63,7 +63,7 @@ impl From<Refusal> for DecompressError {
 }
 
 impl From<AllocError> for DecompressError {
-    ghost from_gives = { λ _ fault. fault ≡ Memory };
+    ghost from_gives = { λ _ error. error ≡ Memory };
 
     fn from(_e: AllocError) -> DecompressError {
         DecompressError::Memory
@@ -71,7 +71,7 @@ impl From<AllocError> for DecompressError {
 }
 
 impl<T: Drop> From<AllocFailed<T>> for DecompressError {
-    ghost from_gives = { λ _ fault. fault ≡ Memory };
+    ghost from_gives = { λ _ error. error ≡ Memory };
 
     fn from(_e: AllocFailed<T>) -> DecompressError {
         DecompressError::Memory
@@ -79,7 +79,7 @@ impl<T: Drop> From<AllocFailed<T>> for DecompressError {
 }
 
 impl From<ReadError> for DecompressError {
-    ghost from_gives = { λ e fault. fault ≡ Read e };
+    ghost from_gives = { λ e error. error ≡ Read e };
 
     fn from(e: ReadError) -> DecompressError {
         DecompressError::Read(e)
@@ -87,7 +87,7 @@ impl From<ReadError> for DecompressError {
 }
 
 impl From<InflateError> for DecompressError {
-    ghost from_gives = { λ e fault. fault ≡ spec.stream_fault e };
+    ghost from_gives = { λ e error. error ≡ spec.stream_error e };
 
     fn from(e: InflateError) -> DecompressError {
         match e {

@@ -1,7 +1,7 @@
 //! What is wrong with an archive.
 
 ghost use Rattle.std.specs.Prelude.{◌≡◌};
-ghost use Rattle.dwp_archive.specs.declared.fault.ArchiveError.TheVariants.{Memory};
+ghost use Rattle.dwp_archive.specs.declared.error.ArchiveError.TheVariants.{Memory};
 
 use std::alloc::{AllocError, AllocFailed};
 use thiserror::Error;
@@ -42,7 +42,7 @@ pub enum ArchiveError {
 }
 
 impl From<AllocError> for ArchiveError {
-    ghost from_gives = { λ _ fault. fault ≡ Memory };
+    ghost from_gives = { λ _ error. error ≡ Memory };
 
     fn from(_e: AllocError) -> ArchiveError {
         ArchiveError::Memory
@@ -50,7 +50,7 @@ impl From<AllocError> for ArchiveError {
 }
 
 impl<T: Drop> From<AllocFailed<T>> for ArchiveError {
-    ghost from_gives = { λ _ fault. fault ≡ Memory };
+    ghost from_gives = { λ _ error. error ≡ Memory };
 
     fn from(_e: AllocFailed<T>) -> ArchiveError {
         ArchiveError::Memory
