@@ -1,27 +1,27 @@
--- Each fault has a text.
+-- Each error has a text.
 use Rattle.std.proofs.Common.{◌≡◌, false, refl, sym}
 use Rattle.std.specs.Prelude.{IsSome}
 use Rattle.std.proofs.lemmas.Bool.{false≢true}
-use Rattle.thorin_errors.specs.Fault.{Fault, ReadInput, ParseFileKind, ParseObjectFile}
-use Rattle.thorin_errors.specs.Fault.{InvalidInputKind, DecompressData, NamelessSection}
-use Rattle.thorin_errors.specs.Fault.{RelocationWithInvalidSymbol, MultipleRelocations}
-use Rattle.thorin_errors.specs.Fault.{UnsupportedRelocation, MissingDwoName, NoCompilationUnits}
-use Rattle.thorin_errors.specs.Fault.{NoDie, TopLevelDieNotUnit, MissingRequiredSection}
-use Rattle.thorin_errors.specs.Fault.{ParseUnitAbbreviations, ParseUnitHeader, ParseUnit}
-use Rattle.thorin_errors.specs.Fault.{IncompatibleIndexVersion, OffsetAtIndex, StrAtOffset}
-use Rattle.thorin_errors.specs.Fault.{ParseIndex, UnitNotInIndex, RowNotInIndex, SectionNotInRow}
-use Rattle.thorin_errors.specs.Fault.{EmptyUnit, MultipleDebugInfoSection}
-use Rattle.thorin_errors.specs.Fault.{MultipleDebugTypesSection, NotSplitUnit, DuplicateUnit}
-use Rattle.thorin_errors.specs.Fault.{MissingReferencedUnit, NoOutputObjectCreated}
-use Rattle.thorin_errors.specs.Fault.{MixedInputEncodings, Io, ObjectRead, ObjectWrite, GimliRead}
-use Rattle.thorin_errors.specs.Fault.{GimliWrite, Memory, NumberTooLarge, BadContribution}
-use Rattle.thorin_errors.specs.Fault.{SectionOutsideFormat, RepeatedSection, BadStringOffsets}
-use Rattle.thorin_errors.specs.Fault.{OverlappingStringOffsets}
-use Rattle.thorin_errors.specs.Text.{fault_text, is_passed_on}
+use Rattle.thorin_errors.specs.Errors.{ErrorValue, ReadInput, ParseFileKind, ParseObjectFile}
+use Rattle.thorin_errors.specs.Errors.{InvalidInputKind, DecompressData, NamelessSection}
+use Rattle.thorin_errors.specs.Errors.{RelocationWithInvalidSymbol, MultipleRelocations}
+use Rattle.thorin_errors.specs.Errors.{UnsupportedRelocation, MissingDwoName, NoCompilationUnits}
+use Rattle.thorin_errors.specs.Errors.{NoDie, TopLevelDieNotUnit, MissingRequiredSection}
+use Rattle.thorin_errors.specs.Errors.{ParseUnitAbbreviations, ParseUnitHeader, ParseUnit}
+use Rattle.thorin_errors.specs.Errors.{IncompatibleIndexVersion, OffsetAtIndex, StrAtOffset}
+use Rattle.thorin_errors.specs.Errors.{ParseIndex, UnitNotInIndex, RowNotInIndex, SectionNotInRow}
+use Rattle.thorin_errors.specs.Errors.{EmptyUnit, MultipleDebugInfoSection}
+use Rattle.thorin_errors.specs.Errors.{MultipleDebugTypesSection, NotSplitUnit, DuplicateUnit}
+use Rattle.thorin_errors.specs.Errors.{MissingReferencedUnit, NoOutputObjectCreated}
+use Rattle.thorin_errors.specs.Errors.{MixedInputEncodings, Io, ObjectRead, ObjectWrite, GimliRead}
+use Rattle.thorin_errors.specs.Errors.{GimliWrite, Memory, NumberTooLarge, BadContribution}
+use Rattle.thorin_errors.specs.Errors.{SectionOutsideFormat, RepeatedSection, BadStringOffsets}
+use Rattle.thorin_errors.specs.Errors.{OverlappingStringOffsets}
+use Rattle.thorin_errors.specs.Text.{error_text, is_passed_on}
 
-pub has_text : (fault : Fault) → is_passed_on fault ≡ false → IsSome (fault_text fault)
-has_text fault =
-    elim fault as (λ f. is_passed_on f ≡ false → IsSome (fault_text f)) [
+pub has_text : (error : ErrorValue) → is_passed_on error ≡ false → IsSome (error_text error)
+has_text error =
+    elim error as (λ f. is_passed_on f ≡ false → IsSome (error_text f)) [
       | ReadInput a ↦ λ h. refl
       | ParseFileKind a ↦ λ h. refl
       | ParseObjectFile a ↦ λ h. refl

@@ -16,7 +16,7 @@ input_error_at _ cause = input.Io cause
 abbrev pub input_error_of : IoError → InputError
 input_error_of cause = input_error_at (error_kind cause) cause
 
--- the fault of packaging for an input that can't be read
-abbrev pub input_fault : InputError → Error
-input_fault (input.Io cause) = error.ReadInput cause
-input_fault input.Memory = error.Memory
+-- the error of packaging for an input that can't be read
+abbrev pub input_error : InputError → Error
+input_error (input.Io cause) = error.ReadInput cause
+input_error input.Memory = error.Memory

@@ -1,4 +1,4 @@
-pub mod Fault
+pub mod Errors
 pub mod Answers
 pub mod Inputs
 pub mod Text

@@ -1,30 +1,30 @@
--- The texts of faults.
+-- The texts of errors.
 use Rattle.std.specs.Prelude.{ℕ, ◌-◌, Bool, true, false, List, ◌++◌, Option, Some, None, codes}
 use Rattle.std.specs.Prelude.{length, replicate}
 use Rattle.std.specs.Fmt.{digits, decimal}
-use Rattle.thorin_errors.specs.Fault.{Fault, ReadInput, ParseFileKind, ParseObjectFile}
-use Rattle.thorin_errors.specs.Fault.{InvalidInputKind, DecompressData, NamelessSection}
-use Rattle.thorin_errors.specs.Fault.{RelocationWithInvalidSymbol, MultipleRelocations}
-use Rattle.thorin_errors.specs.Fault.{UnsupportedRelocation, MissingDwoName, NoCompilationUnits}
-use Rattle.thorin_errors.specs.Fault.{NoDie, TopLevelDieNotUnit, MissingRequiredSection}
-use Rattle.thorin_errors.specs.Fault.{ParseUnitAbbreviations, ParseUnitHeader, ParseUnit}
-use Rattle.thorin_errors.specs.Fault.{IncompatibleIndexVersion, OffsetAtIndex, StrAtOffset}
-use Rattle.thorin_errors.specs.Fault.{ParseIndex, UnitNotInIndex, RowNotInIndex, SectionNotInRow}
-use Rattle.thorin_errors.specs.Fault.{EmptyUnit, MultipleDebugInfoSection}
-use Rattle.thorin_errors.specs.Fault.{MultipleDebugTypesSection, NotSplitUnit, DuplicateUnit}
-use Rattle.thorin_errors.specs.Fault.{MissingReferencedUnit, NoOutputObjectCreated}
-use Rattle.thorin_errors.specs.Fault.{MixedInputEncodings, Io, ObjectRead, ObjectWrite, GimliRead}
-use Rattle.thorin_errors.specs.Fault.{GimliWrite, Memory, NumberTooLarge, BadContribution}
-use Rattle.thorin_errors.specs.Fault.{SectionOutsideFormat, RepeatedSection, BadStringOffsets}
-use Rattle.thorin_errors.specs.Fault.{OverlappingStringOffsets}
+use Rattle.thorin_errors.specs.Errors.{ErrorValue, ReadInput, ParseFileKind, ParseObjectFile}
+use Rattle.thorin_errors.specs.Errors.{InvalidInputKind, DecompressData, NamelessSection}
+use Rattle.thorin_errors.specs.Errors.{RelocationWithInvalidSymbol, MultipleRelocations}
+use Rattle.thorin_errors.specs.Errors.{UnsupportedRelocation, MissingDwoName, NoCompilationUnits}
+use Rattle.thorin_errors.specs.Errors.{NoDie, TopLevelDieNotUnit, MissingRequiredSection}
+use Rattle.thorin_errors.specs.Errors.{ParseUnitAbbreviations, ParseUnitHeader, ParseUnit}
+use Rattle.thorin_errors.specs.Errors.{IncompatibleIndexVersion, OffsetAtIndex, StrAtOffset}
+use Rattle.thorin_errors.specs.Errors.{ParseIndex, UnitNotInIndex, RowNotInIndex, SectionNotInRow}
+use Rattle.thorin_errors.specs.Errors.{EmptyUnit, MultipleDebugInfoSection}
+use Rattle.thorin_errors.specs.Errors.{MultipleDebugTypesSection, NotSplitUnit, DuplicateUnit}
+use Rattle.thorin_errors.specs.Errors.{MissingReferencedUnit, NoOutputObjectCreated}
+use Rattle.thorin_errors.specs.Errors.{MixedInputEncodings, Io, ObjectRead, ObjectWrite, GimliRead}
+use Rattle.thorin_errors.specs.Errors.{GimliWrite, Memory, NumberTooLarge, BadContribution}
+use Rattle.thorin_errors.specs.Errors.{SectionOutsideFormat, RepeatedSection, BadStringOffsets}
+use Rattle.thorin_errors.specs.Errors.{OverlappingStringOffsets}
 
 -- at least eight lower-case hexadecimal digits, with zeros in front
 unfoldable pub hex8 : ℕ → List ℕ
 hex8 n = let digits_of_n = digits 16 false n in replicate (8 - length digits_of_n) 48 ++ digits_of_n
 
--- the texts of faults of sections and of what a package is made of; of the faults that only pass on
+-- the texts of errors of sections and of what a package is made of; of the errors that only pass on
 -- a cause it is the cause's text, which isn't stated here
-abbrev pub section_text : Fault → Option (List ℕ)
+abbrev pub section_text : ErrorValue → Option (List ℕ)
 section_text (MissingRequiredSection section) =
     Some (codes "Input object missing required section `" ++ (section ++ codes "`"))
 section_text MultipleDebugInfoSection = Some (codes "Multiple `.debug_info.dwo` sections")
@@ -48,7 +48,7 @@ section_text (RepeatedSection section) = Some (codes "Repeated section " ++ sect
 section_text _ = None
 
 -- those of indexes and string offsets, and of the former
-abbrev pub index_text : Fault → Option (List ℕ)
+abbrev pub index_text : ErrorValue → Option (List ℕ)
 index_text (IncompatibleIndexVersion section expected found) =
     Some (codes "Incompatible `" ++ (section ++ (codes "` index version: found version "
     ++ (decimal found ++ (codes ", expected version " ++ decimal expected)))))
@@ -66,10 +66,10 @@ index_text SectionNotInRow = Some (codes "Section not found in unit's row in ind
 index_text (BadStringOffsets place) = Some (codes "Bad string offsets at offset 0x" ++ hex8 place)
 index_text (OverlappingStringOffsets place) =
     Some (codes "Overlapping string offsets at offset 0x" ++ hex8 place)
-index_text fault = section_text fault
+index_text error = section_text error
 
 -- those of units, and of the former
-abbrev pub unit_text : Fault → Option (List ℕ)
+abbrev pub unit_text : ErrorValue → Option (List ℕ)
 unit_text (MissingDwoName unit) =
     Some (codes "Missing path attribute to DWARF object (0x" ++ (hex8 unit ++ codes ")"))
 unit_text NoCompilationUnits = Some (codes "Input object has no compilation units")
@@ -86,28 +86,28 @@ unit_text (DuplicateUnit unit) =
     Some (codes "Duplicate split compilation unit (0x" ++ (hex8 unit ++ codes ")"))
 unit_text (MissingReferencedUnit unit) =
     Some (codes "Unit 0x" ++ (hex8 unit ++ codes " referenced by executable was not found"))
-unit_text fault = index_text fault
+unit_text error = index_text error
 
--- the text of a fault: those of inputs and relocations, and the former
-abbrev pub fault_text : Fault → Option (List ℕ)
-fault_text (ReadInput _) = Some (codes "Failed to read input file")
-fault_text (ParseFileKind _) = Some (codes "Failed to parse input file kind")
-fault_text (ParseObjectFile _) = Some (codes "Failed to parse input object file")
-fault_text InvalidInputKind = Some (codes "Input is not an archive or elf object")
-fault_text (DecompressData _) = Some (codes "Failed to decompress compressed section")
-fault_text (NamelessSection _ place) =
+-- the text of an error: those of inputs and relocations, and the former
+abbrev pub error_text : ErrorValue → Option (List ℕ)
+error_text (ReadInput _) = Some (codes "Failed to read input file")
+error_text (ParseFileKind _) = Some (codes "Failed to parse input file kind")
+error_text (ParseObjectFile _) = Some (codes "Failed to parse input object file")
+error_text InvalidInputKind = Some (codes "Input is not an archive or elf object")
+error_text (DecompressData _) = Some (codes "Failed to decompress compressed section")
+error_text (NamelessSection _ place) =
     Some (codes "Section without name at offset 0x" ++ hex8 place)
-fault_text (RelocationWithInvalidSymbol section place) =
+error_text (RelocationWithInvalidSymbol section place) =
     Some (codes "Relocation with invalid symbol for section `"
     ++ (section ++ (codes "` at offset 0x" ++ hex8 place)))
-fault_text (MultipleRelocations section place) = Some (codes "Multiple relocations for section `"
+error_text (MultipleRelocations section place) = Some (codes "Multiple relocations for section `"
     ++ (section ++ (codes "` at offset 0x" ++ hex8 place)))
-fault_text (UnsupportedRelocation section place) = Some (codes "Unsupported relocation for section "
+error_text (UnsupportedRelocation section place) = Some (codes "Unsupported relocation for section "
     ++ (section ++ (codes " at offset 0x" ++ hex8 place)))
-fault_text fault = unit_text fault
+error_text error = unit_text error
 
--- a fault that only passes on a cause
-abbrev pub is_passed_on : Fault → Bool
+-- an error that only passes on a cause
+abbrev pub is_passed_on : ErrorValue → Bool
 is_passed_on (Io _) = true
 is_passed_on (ObjectRead _) = true
 is_passed_on (ObjectWrite _) = true

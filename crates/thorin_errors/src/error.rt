@@ -3,8 +3,8 @@
 ghost use Rattle.std.specs.Prelude.{◌≡◌, ◌↔◌, IsTrue};
 ghost use Rattle.thorin_errors.specs.declared.error.Error.TheVariants.{Io, ObjectRead, GimliRead};
 ghost use Rattle.thorin_errors.specs.declared.error.Error.TheVariants.{GimliWrite, Memory};
-ghost use Rattle.thorin_errors.specs.Answers.{written_fault};
-ghost use Rattle.thorin_errors.specs.Inputs.{input_error_of, input_fault};
+ghost use Rattle.thorin_errors.specs.Answers.{written_error};
+ghost use Rattle.thorin_errors.specs.Inputs.{input_error_of, input_error};
 ghost use Rattle.thorin_errors.specs.declared.error.InputError.TheVariants as input;
 
 use dwp_bytes::{ReadError as DwarfReadError, WriteError as DwarfWriteError};
@@ -112,7 +112,7 @@ pub enum Error {
 }
 
 impl From<io::Error> for Error {
-    ghost from_gives = { λ e fault. fault ≡ Io e };
+    ghost from_gives = { λ e error. error ≡ Io e };
 
     fn from(e: io::Error) -> Error {
         Error::Io(e)
@@ -120,7 +120,7 @@ impl From<io::Error> for Error {
 }
 
 impl From<ElfReadError> for Error {
-    ghost from_gives = { λ e fault. fault ≡ ObjectRead e };
+    ghost from_gives = { λ e error. error ≡ ObjectRead e };
 
     fn from(e: ElfReadError) -> Error {
         Error::ObjectRead(e)
@@ -129,7 +129,7 @@ impl From<ElfReadError> for Error {
 
 /// Want of memory is `Memory`, whoever met it.
 impl From<ElfWriteError> for Error {
-    ghost from_gives = { λ e fault. fault ≡ written_fault e };
+    ghost from_gives = { λ e error. error ≡ written_error e };
 
     fn from(e: ElfWriteError) -> Error {
         match e {
@@ -140,7 +140,7 @@ impl From<ElfWriteError> for Error {
 }
 
 impl From<DwarfReadError> for Error {
-    ghost from_gives = { λ e fault. fault ≡ GimliRead e };
+    ghost from_gives = { λ e error. error ≡ GimliRead e };
 
     fn from(e: DwarfReadError) -> Error {
         Error::GimliRead(e)
@@ -148,7 +148,7 @@ impl From<DwarfReadError> for Error {
 }
 
 impl From<DwarfWriteError> for Error {
-    ghost from_gives = { λ e fault. fault ≡ GimliWrite e };
+    ghost from_gives = { λ e error. error ≡ GimliWrite e };
 
     fn from(e: DwarfWriteError) -> Error {
         Error::GimliWrite(e)
@@ -156,7 +156,7 @@ impl From<DwarfWriteError> for Error {
 }
 
 impl From<AllocError> for Error {
-    ghost from_gives = { λ _ fault. fault ≡ Memory };
+    ghost from_gives = { λ _ error. error ≡ Memory };
 
     fn from(_e: AllocError) -> Error {
         Error::Memory
@@ -164,7 +164,7 @@ impl From<AllocError> for Error {
 }
 
 impl<T: Drop> From<AllocFailed<T>> for Error {
-    ghost from_gives = { λ _ fault. fault ≡ Memory };
+    ghost from_gives = { λ _ error. error ≡ Memory };
 
     fn from(_e: AllocFailed<T>) -> Error {
         Error::Memory
@@ -191,7 +191,7 @@ pub enum MissingReferencedObjectBehaviour {
 
 /// Want of memory is `Memory`, also where a read tells it by its kind.
 impl From<io::Error> for InputError {
-    ghost from_gives = { λ cause fault. fault ≡ input_error_of cause };
+    ghost from_gives = { λ cause error. error ≡ input_error_of cause };
 
     fn from(cause: io::Error) -> InputError {
         match cause.kind() {
@@ -202,7 +202,7 @@ impl From<io::Error> for InputError {
 }
 
 impl From<AllocError> for InputError {
-    ghost from_gives = { λ _ fault. fault ≡ input.Memory };
+    ghost from_gives = { λ _ error. error ≡ input.Memory };
 
     fn from(_e: AllocError) -> InputError {
         InputError::Memory
@@ -211,7 +211,7 @@ impl From<AllocError> for InputError {
 
 /// An input that can't be read is `ReadInput`, and want of memory is `Memory`.
 impl From<InputError> for Error {
-    ghost from_gives = { λ e fault. fault ≡ input_fault e };
+    ghost from_gives = { λ e error. error ≡ input_error e };
 
     fn from(e: InputError) -> Error {
         match e {

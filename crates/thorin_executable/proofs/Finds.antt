@@ -1,27 +1,18 @@
 -- The first element of a list that does, from a place on.
 use Rattle.std.proofs.Common.{◌≡◌, ◌∙◌, ℕ, ◌+◌, ◌<◌, ◌≤◌, ◌⊎◌, inl, inr, Bool, true, false, cond}
-use Rattle.std.proofs.Common.{List, length, drop, find, get_or, ◌∷◌, Some, None, ap, sym, suc}
-use Rattle.std.proofs.Common.{add-one, arith}
+use Rattle.std.proofs.Common.{List, length, drop, find, get_or, Some, None, ap, sym, arith}
 use Rattle.std.specs.List.{slice_get}
-use Rattle.std.proofs.Math.Seq.{drop-cons}
-use Rattle.std.proofs.lemmas.Option.{slice_get_within, get_or_from_slice_get, slice_get_cases}
-
-from-place : {X : Type 0} (p : X → Bool) (xs : List X) (i : ℕ) (x : X) → slice_get xs i ≡ Some x
-    → find p (drop i xs) ≡ cond (p x) (Some x) (find p (drop (i + 1) xs))
-from-place p xs i x here =
-    let first : drop i xs ≡ x ∷ drop (i + 1) xs =
-    rw add-one (drop-cons xs i x (slice_get_within xs i x here) ∙ ap (λ y. y ∷ drop (suc i) xs)
-    (get_or_from_slice_get xs i x x here)) in
-    ap (find p) first
+use Rattle.std.proofs.lemmas.Option.{slice_get_cases}
+use Rattle.dwp_base.proofs.Finds.{find_at}
 
 pub find-hit : {X : Type 0} (p : X → Bool) (xs : List X) (i : ℕ) (x : X) → Some x ≡ slice_get xs i
     → p x ≡ true → find p (drop i xs) ≡ Some x
-find-hit p xs i x here does = from-place p xs i x (sym here) ∙ ap (λ (b : Bool).
+find-hit p xs i x here does = find_at p xs i x (sym here) ∙ ap (λ (b : Bool).
     cond b (Some x) (find p (drop (i + 1) xs))) does
 
 pub find-miss : {X : Type 0} (p : X → Bool) (xs : List X) (i : ℕ) (x : X) → Some x ≡ slice_get xs i
     → p x ≡ false → find p (drop i xs) ≡ find p (drop (i + 1) xs)
-find-miss p xs i x here does = from-place p xs i x (sym here) ∙ ap (λ (b : Bool).
+find-miss p xs i x here does = find_at p xs i x (sym here) ∙ ap (λ (b : Bool).
     cond b (Some x) (find p (drop (i + 1) xs))) does
 
 no-element : {X : Type 0} (xs : List X) (i : ℕ) → None ≡ slice_get xs i → i < length xs

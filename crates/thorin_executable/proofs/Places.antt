@@ -5,7 +5,7 @@ use Rattle.dwp_bytes.specs.declared.encoding.Format.{Format}
 use Rattle.dwp_dwarf.specs.Entries.{DebugAttribute}
 use Rattle.dwp_dwarf.specs.Split.{SplitAttributes}
 use Rattle.dwp_dwarf.specs.Strings.{Strings}
-use Rattle.thorin_errors.specs.Fault.{Fault}
+use Rattle.thorin_errors.specs.Errors.{ErrorValue}
 use Rattle.thorin_executable.specs.Paths.{base_of, object_path}
 use Rattle.thorin_executable.specs.Places.{IsStringAt, IsPathAt, IsKept, path_at}
 use Rattle.thorin_executable.specs.declared.last.StringIndex.{StringIndex}
@@ -31,7 +31,7 @@ module _ (strings : Strings) (format : Format) (root : SplitAttributes) (name : 
 
 -- what is kept is the path of the places that are asked for
 pub kept_is : (strings : Strings) (last : LastPath) (p : PathPlaces)
-    (path : Result (List ℕ) Fault) → IsKept strings last → last.places ≡ Some p
+    (path : Result (List ℕ) ErrorValue) → IsKept strings last → last.places ≡ Some p
     → path ≡ path_at strings p → path ≡ Ok (string_bytes last.text)
 kept_is strings last p path kept is same = same ∙ subst (λ o.
     IfSome o (λ q. path_at strings q ≡ Ok (string_bytes last.text))) is kept

@@ -4,11 +4,11 @@ use Rattle.std.specs.Str.{IsUtf8, is_utf8}
 use Rattle.std.proofs.lemmas.Bool.{false_from_ne_true}
 use Rattle.std.proofs.lemmas.Str.{IsUtf8-from_is_utf8, is_utf8-from_IsUtf8}
 use Rattle.dwp_bytes.specs.Input.{Input}
-use Rattle.dwp_bytes.specs.declared.fault.ReadError.TheVariants.{BadUtf8}
-use Rattle.thorin_errors.specs.Fault.{Fault, GimliRead}
+use Rattle.dwp_bytes.specs.declared.error.ReadError.TheVariants.{BadUtf8}
+use Rattle.thorin_errors.specs.Errors.{ErrorValue, GimliRead}
 use Rattle.thorin_executable.specs.Paths.{text_of}
 
-text_by : List ℕ → Bool → Result (List ℕ) Fault
+text_by : List ℕ → Bool → Result (List ℕ) ErrorValue
 text_by bytes b = cond b (Ok bytes) (Err (GimliRead BadUtf8))
 
 pub text_of-some : (i : Input) → IsUtf8 i.bytes → text_of i ≡ Ok i.bytes

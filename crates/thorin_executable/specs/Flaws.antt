@@ -1,13 +1,12 @@
--- The faults of a relocation, by their names in the code.
+-- The errors of a relocation, by their names in the code.
 use Rattle.std.specs.Prelude.{ℕ, List}
-use Rattle.thorin_errors.specs.Fault.{Fault, UnsupportedRelocation, RelocationWithInvalidSymbol}
-use Rattle.thorin_errors.specs.Fault.{MultipleRelocations}
+use Rattle.thorin_errors.specs.Errors.{ErrorValue, UnsupportedRelocation}
+use Rattle.thorin_errors.specs.Errors.{RelocationWithInvalidSymbol, MultipleRelocations}
 use Rattle.thorin_executable.specs.declared.relocations.Flaw.{Flaw}
 use Rattle.thorin_executable.specs.declared.relocations.Flaw.TheVariants.{Unsupported}
-use Rattle.thorin_executable.specs.declared.relocations.Flaw.TheVariants.{InvalidSymbol}
-use Rattle.thorin_executable.specs.declared.relocations.Flaw.TheVariants.{Repeated}
+use Rattle.thorin_executable.specs.declared.relocations.Flaw.TheVariants.{InvalidSymbol, Repeated}
 
-abbrev pub flaw_fault : Flaw → List ℕ → ℕ → Fault
-flaw_fault Unsupported = UnsupportedRelocation
-flaw_fault InvalidSymbol = RelocationWithInvalidSymbol
-flaw_fault Repeated = MultipleRelocations
+abbrev pub flaw_error : Flaw → List ℕ → ℕ → ErrorValue
+flaw_error Unsupported = UnsupportedRelocation
+flaw_error InvalidSymbol = RelocationWithInvalidSymbol
+flaw_error Repeated = MultipleRelocations

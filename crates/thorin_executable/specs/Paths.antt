@@ -9,12 +9,12 @@ use Rattle.std.specs.Str.{is_utf8}
 use Rattle.dwp_base.specs.Reading.{◌>>=◌}
 use Rattle.dwp_bytes.specs.Input.{Input}
 use Rattle.dwp_bytes.specs.declared.encoding.Format.{Format}
-use Rattle.dwp_bytes.specs.declared.fault.ReadError.TheVariants.{BadUtf8}
+use Rattle.dwp_bytes.specs.declared.error.ReadError.TheVariants.{BadUtf8}
 use Rattle.dwp_dwarf.specs.Entries.{DebugAttribute}
 use Rattle.dwp_dwarf.specs.Split.{SplitAttributes}
 use Rattle.dwp_dwarf.specs.Strings.{Strings, string_of}
-use Rattle.thorin_errors.specs.Fault.{Fault, GimliRead}
-use Rattle.thorin_errors.specs.Answers.{as_fault}
+use Rattle.thorin_errors.specs.Errors.{ErrorValue, GimliRead}
+use Rattle.thorin_errors.specs.Answers.{as_error}
 
 -- `/`
 abbrev pub slash : List ℕ
@@ -31,11 +31,11 @@ path_in directory name =
     if starts_with nat_eq name slash then name else path_front directory ++ name
 
 -- a string that is text
-unfoldable pub text_of : Input → Result (List ℕ) Fault
+unfoldable pub text_of : Input → Result (List ℕ) ErrorValue
 text_of string = if is_utf8 string.bytes then Ok string.bytes else Err (GimliRead BadUtf8)
 
 -- the same of one that may be absent, which is as an empty one
-abbrev pub text_if : Option Input → Result (List ℕ) Fault
+abbrev pub text_if : Option Input → Result (List ℕ) ErrorValue
 text_if None = Ok []
 text_if (Some string) = text_of string
 
@@ -50,9 +50,9 @@ directory_of strings format root =
 
 -- the path of the split object that an attribute names
 unfoldable pub object_path : Strings → Format → SplitAttributes → DebugAttribute
-    → Result (List ℕ) Fault
+    → Result (List ℕ) ErrorValue
 object_path strings format root attribute = do
-  string ← as_fault GimliRead (string_of strings format (base_of root) attribute)
+  string ← as_error GimliRead (string_of strings format (base_of root) attribute)
   name ← text_of string
   directory ← text_if (directory_of strings format root)
   Ok (path_in directory name)

@@ -6,12 +6,12 @@ use Rattle.std.specs.Result.{result_ok}
 use Rattle.dwp_base.specs.Reading.{◌>>=◌}
 use Rattle.dwp_bytes.specs.Input.{Input}
 use Rattle.dwp_bytes.specs.declared.encoding.Format.{Format}
-use Rattle.dwp_bytes.specs.declared.fault.ReadError.{ReadError}
+use Rattle.dwp_bytes.specs.declared.error.ReadError.{ReadError}
 use Rattle.dwp_dwarf.specs.Entries.{DebugAttribute}
 use Rattle.dwp_dwarf.specs.Split.{SplitAttributes}
 use Rattle.dwp_dwarf.specs.Strings.{Strings, string_at, indexed_at, string_of}
-use Rattle.thorin_errors.specs.Fault.{Fault, GimliRead}
-use Rattle.thorin_errors.specs.Answers.{as_fault}
+use Rattle.thorin_errors.specs.Errors.{ErrorValue, GimliRead}
+use Rattle.thorin_errors.specs.Answers.{as_error}
 use Rattle.thorin_executable.specs.Paths.{text_of, text_if, path_in, object_path}
 use Rattle.thorin_executable.specs.declared.last.StringPlace.{StringPlace}
 use Rattle.thorin_executable.specs.declared.last.StringPlace.TheVariants.{Str, LineStr, Indexed}
@@ -25,9 +25,9 @@ string_in strings (LineStr offset) = string_at strings.debug_line_str offset
 string_in strings (Indexed i) = indexed_at strings i.format i.base i.index
 
 -- the path whose strings stand at these places
-unfoldable pub path_at : Strings → PathPlaces → Result (List ℕ) Fault
+unfoldable pub path_at : Strings → PathPlaces → Result (List ℕ) ErrorValue
 path_at strings places = do
-  string ← as_fault GimliRead (string_in strings places.name)
+  string ← as_error GimliRead (string_in strings places.name)
   name ← text_of string
   directory ← text_if (option_and_then (λ p. result_ok (string_in strings p)) places.directory)
   Ok (path_in directory name)

@@ -7,15 +7,15 @@ use Rattle.std.specs.Int.{w64, cast_unsigned}
 use Rattle.std.specs.BTreeMap.{insert_entry, is_at}
 use Rattle.std.specs.Map.{lookup}
 use Rattle.dwp_base.specs.Reading.{◌>>=◌}
-use Rattle.dwp_elf_read.specs.declared.fault.ReadError.{ReadError}
-use Rattle.dwp_elf_read.specs.declared.fault.ReadError.TheVariants.{NameRange}
+use Rattle.dwp_elf_read.specs.declared.error.ReadError.{ReadError}
+use Rattle.dwp_elf_read.specs.declared.error.ReadError.TheVariants.{NameRange}
 use Rattle.dwp_elf_read.specs.declared.relocation.RawRelocation.{RawRelocation}
 use Rattle.dwp_elf_read.specs.Elf.{Elf}
 use Rattle.dwp_elf_read.specs.Symbol.{symbol_value_of}
 use Rattle.dwp_bytes.specs.declared.relocation.Relocation.{Relocation}
 use Rattle.dwp_bytes.specs.declared.relocation.RelocationEntry.{RelocationEntry}
-use Rattle.thorin_errors.specs.Fault.{Fault, NamelessSection, UnsupportedRelocation}
-use Rattle.thorin_errors.specs.Fault.{RelocationWithInvalidSymbol, MultipleRelocations, ObjectRead}
+use Rattle.thorin_errors.specs.Errors.{ErrorValue, NamelessSection, UnsupportedRelocation}
+use Rattle.thorin_errors.specs.Errors.{RelocationWithInvalidSymbol, MultipleRelocations, ObjectRead}
 
 -- machines, and their relocations that store a symbol's value plus an addend (the processor
 -- supplements of the ELF specification)
@@ -71,19 +71,19 @@ is_absolute machine kind =
     || kind == R_AARCH64_ABS16
     else false))
 
--- a fault of a relocation names its section and its place; without a name the fault is that
-abbrev pub at_place : (List ℕ → ℕ → Fault) → Option (List ℕ) → ℕ → Fault
-at_place fault None place = NamelessSection NameRange place
-at_place fault (Some name) place = fault name place
+-- an error of a relocation names its section and its place; without a name the error is that
+abbrev pub at_place : (List ℕ → ℕ → ErrorValue) → Option (List ℕ) → ℕ → ErrorValue
+at_place error None place = NamelessSection NameRange place
+at_place error (Some name) place = error name place
 
 -- the value of a relocation's symbol
-abbrev pub symbol_or : Fault → Result ℕ ReadError → Result ℕ Fault
-symbol_or fault (Ok value) = Ok value
-symbol_or fault (Err e) = Err fault
+abbrev pub symbol_or : ErrorValue → Result ℕ ReadError → Result ℕ ErrorValue
+symbol_or error (Ok value) = Ok value
+symbol_or error (Err e) = Err error
 
 -- what a relocation makes of the number at its place: its type is absolute, and its symbol can be
 -- read
-unfoldable pub relocation_of : Elf → Option (List ℕ) → RawRelocation → Result Relocation Fault
+unfoldable pub relocation_of : Elf → Option (List ℕ) → RawRelocation → Result Relocation ErrorValue
 relocation_of file name raw =
     if is_absolute file.machine raw.kind then (do
       value ← symbol_or (at_place RelocationWithInvalidSymbol name raw.offset)
@@ -100,7 +100,7 @@ is_taken found place = is_some (lookup (is_at (nat_cmp place)) found)
 
 -- the relocations by their places, in order, and one more; no second stands at a place
 unfoldable pub with_relocation : Elf → Option (List ℕ) → RawRelocation → List (ℕ × Relocation)
-    → Result (List (ℕ × Relocation)) Fault
+    → Result (List (ℕ × Relocation)) ErrorValue
 with_relocation file name raw found = do
   relocation ← relocation_of file name raw
   if is_taken found raw.offset then Err (at_place MultipleRelocations name raw.offset)
@@ -108,7 +108,7 @@ with_relocation file name raw found = do
 
 -- the same for each relocation that a file has, in its order; a table that can't be read ends them
 unfoldable pub with_relocations : Elf → Option (List ℕ) → List (Result RawRelocation ReadError)
-    → List (ℕ × Relocation) → Result (List (ℕ × Relocation)) Fault
+    → List (ℕ × Relocation) → Result (List (ℕ × Relocation)) ErrorValue
 with_relocations file name [] found = Ok found
 with_relocations file name (Err e ∷ rest) found = Err (ObjectRead e)
 with_relocations file name (Ok raw ∷ rest) found =

@@ -1,11 +1,11 @@
 -- The sections of an executable that say which split objects it was made with (DWARF 5, 7.3.2 and
 -- Appendix B; ELF gABI, "Sections").
-use Rattle.std.specs.Prelude.{ℕ, List, [], codes, map, Bool, ◌&&◌, ◌||◌, ◌==◌, not}
-use Rattle.std.specs.Prelude.{if◌then◌else◌, Option, Some, None, Result, Ok, Err, find}
+use Rattle.std.specs.Prelude.{ℕ, List, [], codes, map, Bool, ◌&&◌, ◌||◌, ◌==◌, not, if◌then◌else◌}
+use Rattle.std.specs.Prelude.{Option, Some, None, Result, Ok, Err, find}
 use Rattle.std.specs.Option.{ok_or, option_or}
-use Rattle.dwp_base.specs.declared.endian.Endianness.{Endianness}
 use Rattle.dwp_base.specs.Reading.{◌>>=◌}
-use Rattle.dwp_elf_read.specs.declared.fault.ReadError.TheVariants.{Compressed, SectionRange}
+use Rattle.dwp_base.specs.declared.endian.Endianness.{Endianness}
+use Rattle.dwp_elf_read.specs.declared.error.ReadError.TheVariants.{Compressed, SectionRange}
 use Rattle.dwp_elf_read.specs.Elf.{Elf, SectionMeaning, elf_of, SHT_NOBITS, has_compressed_flag}
 use Rattle.dwp_elf_read.specs.Elf.{is_named}
 use Rattle.dwp_elf_read.specs.Relocation.{relocations_of}
@@ -14,8 +14,8 @@ use Rattle.dwp_bytes.specs.declared.relocation.RelocationEntry.{RelocationEntry}
 use Rattle.dwp_bytes.specs.Input.{Input, section}
 use Rattle.dwp_bytes.specs.Relocation.{relocated_input}
 use Rattle.dwp_dwarf.specs.Strings.{Strings}
-use Rattle.thorin_errors.specs.Fault.{Fault, ParseObjectFile, DecompressData, ObjectRead}
-use Rattle.thorin_errors.specs.Answers.{as_fault}
+use Rattle.thorin_errors.specs.Errors.{ErrorValue, ParseObjectFile, DecompressData, ObjectRead}
+use Rattle.thorin_errors.specs.Answers.{as_error}
 use Rattle.thorin_executable.specs.Relocations.{with_relocations}
 use Rattle.thorin_executable.specs.declared.loading.DebugSection.{DebugSection}
 use Rattle.thorin_executable.specs.declared.loading.DebugSection.TheVariants.{Abbrev, Info, LineStr}
@@ -53,11 +53,11 @@ section_read kind sections =
     (find (is_used (compressed_debug_name_of kind)) sections)
 
 -- a section's content, which may not be compressed
-unfoldable pub debug_content : DebugSection → SectionMeaning → Result (List ℕ) Fault
+unfoldable pub debug_content : DebugSection → SectionMeaning → Result (List ℕ) ErrorValue
 debug_content kind section =
     if has_compressed_flag section || is_named (compressed_debug_name_of kind) section
     then Err (DecompressData Compressed)
-    else as_fault ObjectRead (ok_or section.content SectionRange)
+    else as_error ObjectRead (ok_or section.content SectionRange)
 
 -- what becomes of the number at a place
 abbrev pub entry_of : ℕ × Relocation → RelocationEntry
@@ -69,19 +69,19 @@ relocated_section order bytes relocations =
     relocated_input (map entry_of relocations) 0 (section order bytes)
 
 -- what there is to read of a section: its content is tested before its relocations
-unfoldable pub loaded : Elf → DebugSection → SectionMeaning → Result Input Fault
+unfoldable pub loaded : Elf → DebugSection → SectionMeaning → Result Input ErrorValue
 loaded file kind section = do
   bytes ← debug_content kind section
   relocations ← with_relocations file section.name (relocations_of file section.number) []
   Ok (relocated_section file.order bytes relocations)
 
 -- the same of a section that may be absent, which is as an empty one
-abbrev pub loaded_if : Elf → DebugSection → Option SectionMeaning → Result Input Fault
+abbrev pub loaded_if : Elf → DebugSection → Option SectionMeaning → Result Input ErrorValue
 loaded_if file kind None = Ok (relocated_section file.order [] [])
 loaded_if file kind (Some section) = loaded file kind section
 
 -- what there is to read of the section of a kind
-unfoldable pub loaded_first : Elf → DebugSection → Result Input Fault
+unfoldable pub loaded_first : Elf → DebugSection → Result Input ErrorValue
 loaded_first file kind = loaded_if file kind (section_read kind file.sections)
 
 -- the units of an executable, their abbreviations and their strings
@@ -91,7 +91,7 @@ pub record DebugData : Type 0 where
   pub strings : Strings
 
 -- those of an ELF file
-unfoldable pub debug_data : Elf → Result DebugData Fault
+unfoldable pub debug_data : Elf → Result DebugData ErrorValue
 debug_data file = do
   debug_abbrev ← loaded_first file Abbrev
   debug_info ← loaded_first file Info
@@ -109,7 +109,7 @@ debug_data file = do
   })
 
 -- those of the bytes of a file
-unfoldable pub debug_data_of : List ℕ → Result DebugData Fault
+unfoldable pub debug_data_of : List ℕ → Result DebugData ErrorValue
 debug_data_of bytes = do
-  file ← as_fault ParseObjectFile (elf_of bytes)
+  file ← as_error ParseObjectFile (elf_of bytes)
   debug_data file

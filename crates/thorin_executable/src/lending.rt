@@ -34,7 +34,7 @@ pub struct NamedUnits<'a> {
 impl<'a> Model for NamedUnits<'a> {
     ghost use Rattle.thorin_executable.specs.Skeletons.{NamedLeft};
 
-    // Contracts see those that are left, the fault behind them, and the path that came last.
+    // Contracts see those that are left, the error behind them, and the path that came last.
     ghost Value = { NamedLeft };
 
     ghost view = { λ s. s.left };

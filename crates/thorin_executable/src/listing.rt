@@ -1,14 +1,14 @@
 //! The split units of an executable, up to the first error.
 
-ghost use Rattle.std.specs.Prelude.{◌≡◌, [], None, Ok, map, option_map, OnErr, string_bytes};
+ghost use Rattle.std.specs.Prelude.{◌≡◌, [], None, Ok, option_map, OnErr, string_bytes};
 ghost use Rattle.dwp_dwarf.specs.Sections.{strings_of};
 ghost use Rattle.dwp_dwarf.specs.Units.{unit_of, unit_seen, units_left};
 ghost use Rattle.thorin_errors.specs.Answers.{Gives};
 ghost use Rattle.thorin_executable.specs.Skeletons as spec;
 ghost use Rattle.thorin_executable.specs.Places.{IsKept};
-ghost use Rattle.thorin_executable.specs.View.{data_of, listed, IsFront, UnlessMemory};
-ghost use Rattle.thorin_executable.specs.View.{named_at, IsOpened, IsNext, IsNextNamed};
-ghost use Rattle.thorin_executable.specs.View.{IsPathAfter, IsPushed};
+ghost use Rattle.thorin_executable.specs.View.{data_of, listed, IsFront, UnlessMemory, named_at};
+ghost use Rattle.thorin_executable.specs.View.{IsOpened, IsNext, IsNextNamed, IsPathAfter};
+ghost use Rattle.thorin_executable.specs.View.{IsPushed};
 
 use crate::last::LastPath;
 use crate::lending::NamedUnit;
@@ -178,7 +178,7 @@ pub(crate) struct UnitsLeft<R: Reader> {
     abbreviations: AbbreviationCache<R>,
     headers: UnitHeaders<R>,
     nameless: NamelessUnits,
-    // A fault was met: nothing comes after it.
+    // An error was met: nothing comes after it.
     ended: bool,
 }
 
@@ -190,7 +190,7 @@ impl<R: Reader> Model for UnitsLeft<R> {
     ghost use Rattle.thorin_executable.specs.Skeletons.{NamedLeft, skeletons_from};
     ghost use Rattle.thorin_executable.specs.View.{data_of};
 
-    // Contracts see the split units that they stand for, with the fault behind them, and the path.
+    // Contracts see the split units that they stand for, with the error behind them, and the path.
     ghost Value = { NamedLeft };
 
     ghost view = { λ u. record {
@@ -265,7 +265,7 @@ pub struct SkeletonUnits<'a> {
 impl<'a> Model for SkeletonUnits<'a> {
     ghost use Rattle.thorin_executable.specs.Skeletons.{Listed};
 
-    // Contracts see those that are left, and the fault behind them.
+    // Contracts see those that are left, and the error behind them.
     ghost Value = { Listed };
 
     ghost view = { λ s. s.left.listed };
@@ -359,7 +359,7 @@ pub fn skeletons<'a, Sess: Session<RelocationEntry>>(
     let mut units = Vec::new(alloc);
     let fault = match SkeletonUnits::read(alloc, session, bytes) {
         Ok(mut left) => push_all(&mut left, &mut units).err(),
-        Err(fault) => Some(fault),
+        Err(error) => Some(error),
     };
     SkeletonList { units, fault }
 }

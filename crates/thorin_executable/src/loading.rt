@@ -150,7 +150,7 @@ fn load_first<'a, Sess: Session<RelocationEntry>>(
 }
 
 impl<'a> DebugData<SectionReader<'a>> {
-    /// Those of an ELF file: the first fault of a section, in the order in which they are read.
+    /// Those of an ELF file: the first error of a section, in the order in which they are read.
     #[tactic(auto, unfolding(crate::specs::Sections::debug_data))]
     fn of_file<Sess: Session<RelocationEntry>>(
         alloc: Global,
@@ -181,7 +181,7 @@ impl<'a> DebugData<SectionReader<'a>> {
     ///
     /// # Errors
     /// `ParseObjectFile`, then of the sections of abbreviations, units, strings of line tables,
-    /// strings and offsets of strings, in this order, `DecompressData`, `ObjectRead` and the faults
+    /// strings and offsets of strings, in this order, `DecompressData`, `ObjectRead` and the errors
     /// of relocations; `Memory`.
     #[tactic(auto, unfolding(crate::specs::Sections::debug_data_of))]
     pub fn read<Sess: Session<RelocationEntry>>(

@@ -5,10 +5,11 @@ ghost use Rattle.dwp_elf_read.specs.Relocation.{relocations_of};
 ghost use Rattle.dwp_elf_read.specs.View.{elf, file, section};
 ghost use Rattle.dwp_bytes.specs.Relocation.{ascends};
 ghost use Rattle.thorin_errors.specs.Answers.{Gives, MemoryAside};
-ghost use Rattle.thorin_errors.specs.Fault.{fault_of};
-ghost use Rattle.thorin_executable.specs.Relocations.{at_place, is_absolute, pair_of, relocation_of};
-ghost use Rattle.thorin_executable.specs.Relocations.{with_relocation, with_relocations};
-ghost use Rattle.thorin_executable.specs.Flaws.{flaw_fault};
+ghost use Rattle.thorin_errors.specs.Errors.{error_of};
+ghost use Rattle.thorin_executable.specs.Relocations.{at_place, is_absolute, pair_of};
+ghost use Rattle.thorin_executable.specs.Relocations.{relocation_of, with_relocation};
+ghost use Rattle.thorin_executable.specs.Relocations.{with_relocations};
+ghost use Rattle.thorin_executable.specs.Flaws.{flaw_error};
 
 use dwp_bytes::{Relocation, RelocationEntry};
 use dwp_elf_read::{ElfFile, RawRelocation, Section};
@@ -156,12 +157,12 @@ fn is_absolute(machine: u16, kind: u32) -> bool
 
 /// The error of a relocation, with the section's name.
 fn flawed(alloc: Global, target: &Section, flaw: Flaw, place: usize) -> Error
-    ensures { MemoryAside result (fault_of result
-        ≡ at_place (flaw_fault flaw) (section target.now).name place) }
+    ensures { MemoryAside result (error_of result
+        ≡ at_place (flaw_error flaw) (section target.now).name place) }
 {
     let name = match target.name() {
         Ok(name) => name,
-        Err(fault) => return Error::NamelessSection(fault, place),
+        Err(error) => return Error::NamelessSection(error, place),
     };
     let Ok(name) = String::from_str(alloc, name) else {
         return Error::Memory;

@@ -12,7 +12,7 @@ use thorin_errors::Error;
 /// The attributes of a unit's root entry that name its split object.
 ///
 /// # Errors
-/// `NoDie` where it has none, `ParseUnit` for any fault in it.
+/// `NoDie` where it has none, `ParseUnit` for any error in it.
 #[tactic(auto, unfolding(crate::specs::Roots::root_attributes))]
 pub(crate) fn root_attributes<R: Reader>(
     debug_abbrev: &mut AbbreviationCache<R>,

@@ -5,8 +5,8 @@ use Rattle.std.proofs.Common.{Some, None, Result, Ok, Err, eqb, ltb, refl, ap, s
 use Rattle.std.proofs.Math.Nat.{add-zero}
 use Rattle.dwp_base.specs.Reading.{◌>>=◌}
 use Rattle.dwp_base.specs.declared.endian.Endianness.{Endianness}
-use Rattle.dwp_bytes.specs.declared.fault.ReadError.{ReadError}
-use Rattle.dwp_bytes.specs.declared.fault.ReadError.TheVariants.{UnexpectedEof, BigLeb}
+use Rattle.dwp_bytes.specs.declared.error.ReadError.{ReadError}
+use Rattle.dwp_bytes.specs.declared.error.ReadError.TheVariants.{UnexpectedEof, BigLeb}
 use Rattle.dwp_bytes.specs.Input.{Input, byte_at, section}
 use Rattle.dwp_bytes.specs.Leb.{leb_at, uleb_at, signed_leb_at, sleb_at, is_i64}
 use Rattle.dwp_dwarf.specs.Abbreviations.{constant_at, specification_at, specifications_within}

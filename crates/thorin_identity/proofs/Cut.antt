@@ -1,12 +1,12 @@
 -- What is left of a reader's bytes when it is cut.
-use Rattle.std.proofs.Common.{◌≡◌, ℕ, true, false, length, take, drop, []}
-use Rattle.std.proofs.Common.{Result, Ok, Err, is_err, refl, ap, sym, ◌∙◌, arith, inl, inr}
+use Rattle.std.proofs.Common.{◌≡◌, ℕ, true, false, length, take, drop, [], Result, Ok, Err, is_err}
+use Rattle.std.proofs.Common.{refl, ap, sym, ◌∙◌, arith, inl, inr}
 use Rattle.std.proofs.lemmas.Bool.{cases_lt, le-ltb, lt-ltb}
 use Rattle.std.proofs.lemmas.List.{drop_all, take_all}
 use Rattle.dwp_base.specs.Reading.{Reads}
 use Rattle.dwp_bytes.specs.Input.{Input, after, front, truncate_at, skip_at}
-use Rattle.dwp_bytes.specs.declared.fault.ReadError.{ReadError}
-use Rattle.dwp_bytes.specs.declared.fault.ReadError.TheVariants.{UnexpectedEof}
+use Rattle.dwp_bytes.specs.declared.error.ReadError.{ReadError}
+use Rattle.dwp_bytes.specs.declared.error.ReadError.TheVariants.{UnexpectedEof}
 
 abbrev Cutting : Type 0
 Cutting = Input → Result (Unit {0} × Input) ReadError

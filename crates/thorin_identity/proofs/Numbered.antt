@@ -5,23 +5,23 @@ use Rattle.dwp_base.specs.Reading.{◌>>=◌}
 use Rattle.dwp_bytes.specs.Input.{Input}
 use Rattle.dwp_bytes.specs.declared.encoding.Encoding.{Encoding}
 use Rattle.std.specs.Option.{ok_or}
-use Rattle.dwp_bytes.specs.declared.fault.ReadError.{ReadError}
-use Rattle.dwp_bytes.specs.declared.fault.ReadError.TheVariants.{UnknownCode}
+use Rattle.dwp_bytes.specs.declared.error.ReadError.{ReadError}
+use Rattle.dwp_bytes.specs.declared.error.ReadError.TheVariants.{UnknownCode}
 use Rattle.dwp_dwarf.specs.Abbreviations.{Declaration, declaration}
 use Rattle.dwp_dwarf.specs.Entries.{DebugAttribute, DebugEntry, entry, root_code_at}
 use Rattle.dwp_dwarf.specs.Numbers.{first_number, number_or, numbered, numbered_at}
 use Rattle.dwp_dwarf.specs.Offsets.{from_at}
 use Rattle.dwp_dwarf.specs.Units.{Unit}
 use Rattle.dwp_table.specs.declared.object.DwarfObject.{DwarfObject}
-use Rattle.thorin_errors.specs.Fault.{Fault, GimliRead, ParseUnitAbbreviations}
-use Rattle.thorin_errors.specs.Answers.{as_fault}
+use Rattle.thorin_errors.specs.Errors.{ErrorValue, GimliRead, ParseUnitAbbreviations}
+use Rattle.thorin_errors.specs.Answers.{as_error}
 use Rattle.thorin_identity.specs.Identity.{compilation, DW_AT_GNU_dwo_id, identifier_in, found_or}
 use Rattle.thorin_identity.specs.Identity.{first_identifier, entry_identity, numbered_identity}
 use Rattle.thorin_identity.specs.Identity.{root_identity}
 
 -- the identity that a number is
-abbrev by_number : Result (Option ℕ) ReadError → Result (Option DwarfObject) Fault
-by_number number = as_fault GimliRead number >>= λ id. Ok (option_map compilation id)
+abbrev by_number : Result (Option ℕ) ReadError → Result (Option DwarfObject) ErrorValue
+by_number number = as_error GimliRead number >>= λ id. Ok (option_map compilation id)
 
 found_alike : (o : Option ℕ) (r : Result (Option ℕ) ReadError)
     → by_number (number_or o r) ≡ found_or o (by_number r)
@@ -46,7 +46,7 @@ declared_is : (encoding : Encoding) (values : Input) (said : Result (Option Decl
     (found : ℕ × Result (Option ℕ) ReadError)
     → (said >>= λ o. Ok (option_map (λ (d : Declaration). numbered DW_AT_GNU_dwo_id
     (entry encoding d values)) o)) ≡ Ok (Some found)
-    → (as_fault ParseUnitAbbreviations said >>= λ o. ok_or o (GimliRead UnknownCode) >>= λ d.
+    → (as_error ParseUnitAbbreviations said >>= λ o. ok_or o (GimliRead UnknownCode) >>= λ d.
     entry_identity (entry encoding d values)) ≡ numbered_identity found
 declared_is encoding values (Err e) found is = absurd cc
 declared_is encoding values (Ok None) found is = absurd cc

@@ -1,22 +1,21 @@
 -- The identity by a part of a section: tables of the same bytes give the same, and so does the
 -- section's table where it says the same of the root entry's code.
-use Rattle.std.proofs.Common.{◌≡◌, ℕ, ◌+◌, ◌<◌, ◌≤◌, min, length, take, drop, Option, Some}
-use Rattle.std.proofs.Common.{Result, Ok, Err, refl, ap, sym, ◌∙◌, arith, inl, inr}
+use Rattle.std.proofs.Common.{◌≡◌, ℕ, ◌+◌, ◌<◌, ◌≤◌, min, length, take, drop, Option, Some, Result}
+use Rattle.std.proofs.Common.{Ok, Err, refl, ap, sym, ◌∙◌, arith, inl, inr}
 use Rattle.std.proofs.lemmas.Bool.{cases_lt, le-ltb, lt-ltb}
 use Rattle.std.proofs.lemmas.List.{drop-drop, length-drop, length-take-le, take_min}
 use Rattle.std.specs.Option.{ok_or}
 use Rattle.dwp_base.specs.Reading.{◌>>=◌}
-use Rattle.dwp_bytes.specs.declared.fault.ReadError.TheVariants.{OffsetOutOfRange, UnknownCode}
+use Rattle.dwp_bytes.specs.declared.error.ReadError.TheVariants.{OffsetOutOfRange, UnknownCode}
 use Rattle.dwp_bytes.specs.Input.{Input, after, front, skip_at}
 use Rattle.dwp_dwarf.specs.Abbreviations.{declaration}
 use Rattle.dwp_dwarf.specs.Entries.{entry, root_code_at}
 use Rattle.dwp_dwarf.specs.Offsets.{from_at}
 use Rattle.dwp_dwarf.specs.Units.{Unit}
 use Rattle.dwp_table.specs.declared.object.DwarfObject.{DwarfObject}
-use Rattle.thorin_errors.specs.Fault.{Fault, NoDie, GimliRead, ParseUnitAbbreviations}
-use Rattle.thorin_errors.specs.Answers.{as_fault}
-use Rattle.thorin_identity.specs.Identity.{entry_identity, root_identity, part_between}
-use Rattle.thorin_identity.specs.Identity.{with_offset}
+use Rattle.thorin_errors.specs.Errors.{ErrorValue, NoDie, GimliRead, ParseUnitAbbreviations}
+use Rattle.thorin_errors.specs.Answers.{as_error}
+use Rattle.thorin_identity.specs.Identity.{entry_identity, root_identity, part_between, with_offset}
 use Rattle.thorin_identity.proofs.Anywhere.{declared_anywhere}
 
 from_inside : (offset : ℕ) (i : Input) → offset ≤ length i.bytes → from_at offset i ≡ Ok
@@ -30,17 +29,17 @@ unfolding from_at
 from_outside offset i h = rw (lt-ltb (length i.bytes) offset h) refl
 
 abbrev Identity : Type 0
-Identity = Result (Option DwarfObject) Fault
+Identity = Result (Option DwarfObject) ErrorValue
 
 -- by the code of the root entry
 abbrev by_code : Unit → Input → ℕ × Input → Identity
 by_code unit table code =
-    as_fault ParseUnitAbbreviations (declaration code.0 table) >>= λ found.
+    as_error ParseUnitAbbreviations (declaration code.0 table) >>= λ found.
     ok_or found (GimliRead UnknownCode) >>= λ d. entry_identity (entry unit.encoding d code.1)
 
 abbrev by_table : Unit → Input → Identity
 by_table unit table =
-    as_fault GimliRead (root_code_at unit.entries) >>= λ read. ok_or read NoDie
+    as_error GimliRead (root_code_at unit.entries) >>= λ read. ok_or read NoDie
     >>= by_code unit table
 
 bind_alike : {A B E : Type 0} (r : Result A E) (f g : A → Result B E) → ((x : A) → f x ≡ g x)
@@ -51,7 +50,7 @@ bind_alike (Err d) f g e = refl
 -- tables of the same bytes
 table_alike : (unit : Unit) (i j : Input) → i.bytes ≡ j.bytes → by_table unit i ≡ by_table unit j
 table_alike unit i j e =
-    bind_alike (as_fault GimliRead (root_code_at unit.entries)) _ _ (λ read. bind_alike
+    bind_alike (as_error GimliRead (root_code_at unit.entries)) _ _ (λ read. bind_alike
     (ok_or read NoDie) (by_code unit i) (by_code unit j) (λ code.
     rw (declared_anywhere code.0 i j e) refl))
 

@@ -1,12 +1,11 @@
 -- The columns of an index that was written are known, and none stands twice.
-use Rattle.std.proofs.Common.{◌≡◌, ℕ, suc, ◌^◌, ◌<◌, ◌≤◌, Bool, true, false, ◌||◌, ◌&&◌, not, cond}
-use Rattle.std.proofs.Common.{eqb, ltb, Option, List, [], ◌∷◌, ◌++◌, length, drop, map, filter, Ok}
-use Rattle.std.proofs.Common.{◌⊎◌, inl}
+use Rattle.std.proofs.Common.{◌≡◌, ℕ, suc, ◌^◌, ◌<◌, Bool, true, false, ◌||◌, ◌&&◌, not, cond, eqb}
+use Rattle.std.proofs.Common.{ltb, Option, List, [], ◌∷◌, ◌++◌, length, map, filter, Ok, ◌⊎◌, inl}
 use Rattle.std.proofs.Common.{inr, refl, sym, ap, subst, ◌∙◌, append_assoc, arith}
 use Rattle.std.specs.Prelude.{is_none, is_some, unwrap_or}
 use Rattle.std.specs.List.{flat_map, AllByRecursion, list_any}
 use Rattle.std.proofs.lemmas.List.{append-nil, length-append}
-use Rattle.std.proofs.lemmas.Bool.{le-ltb, ltb-true, false≢true}
+use Rattle.std.proofs.lemmas.Bool.{ltb-true, false≢true}
 use Rattle.dwp_base.specs.declared.endian.Endianness.{Endianness}
 use Rattle.dwp_base.specs.declared.section.SectionKind.{SectionKind}
 use Rattle.dwp_base.specs.Numbers.{number_bytes}
@@ -16,6 +15,7 @@ use Rattle.dwp_table.specs.Columns.{column_of, kind_of_column, contribution_kind
 use Rattle.dwp_table.specs.Columns.{gnu_column}
 use Rattle.dwp_index.specs.IndexBytes.{after, new_column, columns_at}
 use Rattle.thorin_index.proofs.Again.{width_4}
+use Rattle.dwp_index.proofs.ColumnSteps.{after_enough}
 
 -- a further column is known, and isn't among those before it
 abbrev pub IsNew : ℕ → List ℕ → ℕ → Type 0
@@ -32,9 +32,6 @@ new_ok : (version : ℕ) (before : List ℕ) (n : ℕ) → IsNew version before 
 unfolding new_column
 new_ok version before n h = rw (h.0, h.1) refl
 
-after_ok : (n : ℕ) (bytes : List ℕ) → n ≤ length bytes → after n bytes ≡ Ok (drop n bytes)
-after_ok n bytes h = rw (le-ltb (length bytes) n h) refl
-
 pub columns_read : (order : Endianness) (version : ℕ) (before ns rest : List ℕ)
     → AllByRecursion (λ n. n < 2 ^ 32) ns → AreNew version before ns → columns_at order version
     before (length ns) (flat_map (number_bytes order 4) ns ++ rest) ≡ Ok (before ++ ns, rest)
@@ -46,7 +43,7 @@ columns_read order version before (n ∷ ns) rest fit new =
     let regrouped : flat_map (number_bytes order 4) (n ∷ ns) ++ rest ≡ number_bytes order 4 n ++
     tail = append_assoc (number_bytes order 4 n) (flat_map (number_bytes order 4) ns) rest in
     let first : after 4 (number_bytes order 4 n ++ tail) ≡ Ok tail =
-    after_ok 4 (number_bytes order 4 n ++ tail)
+    after_enough 4 (number_bytes order 4 n ++ tail)
     (omega (arith, length-append (number_bytes order 4 n) tail, width_4.len order n)) ∙ ap
     (λ (l : List ℕ). Ok l) (width_4.past order n tail) in
     let again = width_4.again order n tail fit.0 in

@@ -10,7 +10,7 @@ use Rattle.dwp_base.proofs.Steps.{bind-was}
 use Rattle.dwp_base.specs.declared.section.SectionKind.{SectionKind}
 use Rattle.dwp_base.specs.declared.section.SectionKind.TheVariants.{Info}
 use Rattle.dwp_base.specs.declared.section.Contribution.{Contribution}
-use Rattle.thorin_errors.specs.Fault.{Fault}
+use Rattle.thorin_errors.specs.Errors.{ErrorValue}
 use Rattle.thorin_index.specs.declared.entry.IndexEntry.{IndexEntry}
 use Rattle.dwp_table.specs.Columns.{contribution_kinds}
 use Rattle.thorin_index.specs.Entries.{contribution_to}
@@ -60,7 +60,7 @@ placed kind = by (is_column kind) refl
         (every (λ k. is_column k || is_none (contribution_to k entry)) refl kind) has))
 
 -- each test passed where all did
-pub each_passed : {X : Type 0} (test : X → Result (Unit {0}) Fault) (xs : List X)
+pub each_passed : {X : Type 0} (test : X → Result (Unit {0}) ErrorValue) (xs : List X)
     → each test xs ≡ Ok tt → (k : ℕ) (d : X) → k < length xs → test (get_or xs k d) ≡ Ok tt
 each_passed test [] e k d h = absurd (omega arith)
 each_passed test (x ∷ xs) e zero d h = let first = bind-was (test x) (λ _. each test xs) tt e in
@@ -69,33 +69,35 @@ each_passed test (x ∷ xs) e (suc k) d h = let first = bind-was (test x) (λ _.
     each_passed test xs first.2 k d (omega arith)
 
 -- what is left of some tests, where the next one passes, and where it fails
-pub next_passes : {X : Type 0} (test : X → Result (Unit {0}) Fault) (xs : List X) (i : ℕ) (x : X)
+pub next_passes : {X : Type 0} (test : X → Result (Unit {0}) ErrorValue)
+    (xs : List X) (i : ℕ) (x : X)
     → i < length xs → x ≡ get_or xs i x → test x ≡ Ok tt
     → each test (drop i xs) ≡ each test (drop (i + 1) xs)
 next_passes test xs i x within at passes =
     let here : test (get_or xs i x) ≡ Ok tt = ap test (sym at) ∙ passes in
     ap (each test) (drop_more xs i x within) ∙ rw here refl
 
-pub next_fails : {X : Type 0} (test : X → Result (Unit {0}) Fault) (xs : List X) (i : ℕ) (x : X)
-    (fault : Fault) → i < length xs → x ≡ get_or xs i x → each test (drop i xs) ≡ each test xs
-    → test x ≡ Err fault → each test xs ≡ Err fault
-next_fails test xs i x fault within at left fails =
-    let here : test (get_or xs i x) ≡ Err fault = ap test (sym at) ∙ fails in
+pub next_fails : {X : Type 0} (test : X → Result (Unit {0}) ErrorValue)
+    (xs : List X) (i : ℕ) (x : X)
+    (error : ErrorValue) → i < length xs → x ≡ get_or xs i x → each test (drop i xs) ≡ each test xs
+    → test x ≡ Err error → each test xs ≡ Err error
+next_fails test xs i x error within at left fails =
+    let here : test (get_or xs i x) ≡ Err error = ap test (sym at) ∙ fails in
     sym left ∙ ap (each test) (drop_more xs i x within) ∙ rw here refl
 
-abbrev tested : Bool → Fault → Result (Unit {0}) Fault
-tested b fault = cond b (Ok tt) (Err fault)
+abbrev tested : Bool → ErrorValue → Result (Unit {0}) ErrorValue
+tested b error = cond b (Ok tt) (Err error)
 
-number_fits_at : (b : Bool) (n : ℕ) (fault : Fault) → ltb n (2 ^ 32) ≡ b
-    → tested b fault ≡ Ok tt → n < 2 ^ 32
-number_fits_at true n fault is e = ltb-true n (2 ^ 32) is
-number_fits_at false n fault is e = absurd cc
+number_fits_at : (b : Bool) (n : ℕ) (error : ErrorValue) → ltb n (2 ^ 32) ≡ b
+    → tested b error ≡ Ok tt → n < 2 ^ 32
+number_fits_at true n error is e = ltb-true n (2 ^ 32) is
+number_fits_at false n error is e = absurd cc
 
 pub number_fits : (what : List ℕ) (n : ℕ) → number_test what n ≡ Ok tt → n < 2 ^ 32
 number_fits what n e = number_fits_at (ltb n (2 ^ 32)) n _ refl e
 
 -- a test that passed all parts of an entry passed the part of each section
-pub kind_test : (test : SectionKind → Option Contribution → Result (Unit {0}) Fault)
+pub kind_test : (test : SectionKind → Option Contribution → Result (Unit {0}) ErrorValue)
     (entry : IndexEntry) → parts_test test entry ≡ Ok tt → ((kind : SectionKind)
     → test kind None ≡ Ok tt) → (kind : SectionKind)
     → test kind (contribution_to kind entry) ≡ Ok tt

@@ -11,7 +11,7 @@ use Rattle.dwp_base.specs.declared.endian.Endianness.TheVariants.{Little, Big}
 use Rattle.dwp_base.specs.declared.section.SectionKind.{SectionKind}
 use Rattle.dwp_base.specs.declared.section.Contribution.{Contribution}
 use Rattle.dwp_base.specs.Numbers.{number, number_bytes}
-use Rattle.dwp_bytes.specs.declared.fault.ReadError.{ReadError}
+use Rattle.dwp_bytes.specs.declared.error.ReadError.{ReadError}
 use Rattle.dwp_table.specs.Columns.{column_of}
 use Rattle.dwp_table.specs.Table.{signature_of}
 use Rattle.dwp_index.specs.Index.{Index}

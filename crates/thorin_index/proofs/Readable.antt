@@ -18,7 +18,7 @@ use Rattle.dwp_table.specs.Objects.{identifier_of}
 use Rattle.dwp_table.specs.Columns.{contribution_kinds}
 use Rattle.dwp_table.specs.Table.{signature_of}
 use Rattle.dwp_index.specs.IndexBytes.{is_slot_count, index_of}
-use Rattle.thorin_errors.specs.Fault.{Fault}
+use Rattle.thorin_errors.specs.Errors.{ErrorValue}
 use Rattle.thorin_index.specs.declared.entry.IndexEntry.{IndexEntry}
 use Rattle.thorin_index.specs.Entries.{contribution_to, offset_or_0, size_or_0}
 use Rattle.thorin_index.specs.EntryTests.{each, count_test, encoding_test, format_test, offset_test}
@@ -39,12 +39,12 @@ either false = inr refl
 pub version_either : (v : ℕ) → (index_version_of v ≡ 5) ⊎ (index_version_of v ≡ 2)
 version_either v = either (leb 5 v)
 
-abbrev tested : Bool → Fault → Result (Unit {0}) Fault
-tested b fault = cond b (Ok tt) (Err fault)
+abbrev tested : Bool → ErrorValue → Result (Unit {0}) ErrorValue
+tested b error = cond b (Ok tt) (Err error)
 
-passed : (b : Bool) (fault : Fault) → tested b fault ≡ Ok tt → b ≡ true
-passed true fault e = refl
-passed false fault e = absurd cc
+passed : (b : Bool) (error : ErrorValue) → tested b error ≡ Ok tt → b ≡ true
+passed true error e = refl
+passed false error e = absurd cc
 
 pub part_known : (version : ℕ) (kind : SectionKind) (part : Option Contribution)
     → format_test version kind part ≡ Ok tt → is_some part ≡ true → has_number version kind ≡ true

@@ -1,6 +1,5 @@
 -- The rows of an index as they are held: what they stand for where more is shared.
-use Rattle.std.proofs.Common.{◌≡◌, ◌∙◌, ℕ, suc, ◌<◌, ◌≤◌, List, [], ◌∷◌, ◌++◌, length, map}
-use Rattle.std.proofs.Common.{get_or}
+use Rattle.std.proofs.Common.{◌≡◌, ◌∙◌, ℕ, suc, ◌<◌, ◌≤◌, List, [], ◌∷◌, ◌++◌, length, map, get_or}
 use Rattle.std.proofs.Common.{take, min, Some, Result, Ok, Err, ap, sym, refl, arith}
 use Rattle.std.specs.Prelude.{All, OnErr, slice_get}
 use Rattle.std.proofs.lemmas.List.{get_or-take, length-take, map-append}
@@ -16,7 +15,7 @@ use Rattle.thorin_index.specs.IndexText.{entry_ids}
 use Rattle.thorin_index.specs.Rows.{row_of, with_own, blank}
 
 -- a list that begins with another isn't shorter
-at_least : {A : Type 0} (front all : List A) → take (length front) all ≡ front
+pub at_least : {A : Type 0} (front all : List A) → take (length front) all ≡ front
     → length front ≤ length all
 at_least front all h =
     let e : length front ≡ min (length front) (length all) =

@@ -1,8 +1,7 @@
 -- The rows of an index of entries have the entries' parts.
 use Rattle.std.proofs.Common.{◌≡◌, ℕ, zero, suc, ◌+◌, ◌-◌, ◌^◌, ◌<◌, Bool, true, false, ◌||◌, not}
-use Rattle.std.proofs.Common.{cond}
-use Rattle.std.proofs.Common.{eqb, ltb, List, [], ◌∷◌, ◌++◌, length, get_or, map, filter, Option}
-use Rattle.std.proofs.Common.{Some, None, Ok, ◌⊎◌, inl, inr, refl, sym, ap, subst, ◌∙◌}
+use Rattle.std.proofs.Common.{cond, eqb, ltb, List, [], ◌∷◌, ◌++◌, length, get_or, map, filter}
+use Rattle.std.proofs.Common.{Option, Some, None, Ok, ◌⊎◌, inl, inr, refl, sym, ap, subst, ◌∙◌}
 use Rattle.std.proofs.Common.{append_assoc, arith, length-append}
 use Rattle.std.specs.Prelude.{is_some, unwrap_or}
 use Rattle.std.specs.List.{AllByRecursion, list_any, position_from, slice_get}
@@ -22,7 +21,7 @@ use Rattle.dwp_index.specs.Index.{Index, Ranges, row_in, column_place, contribut
 use Rattle.thorin_index.specs.declared.entry.IndexEntry.{IndexEntry}
 use Rattle.thorin_index.specs.Entries.{contribution_to, offset_or_0, size_or_0}
 use Rattle.thorin_index.specs.IndexText.{is_used, used_sections, column_numbers, row_numbers}
-use Rattle.thorin_index.specs.IndexText.{entry_ids}
+use Rattle.thorin_index.specs.IndexText.{entry_ids, IsIndexText}
 use Rattle.thorin_index.specs.ReadBack.{index_with}
 use Rattle.thorin_index.specs.ReadRows.{non_empty, HasEntries}
 use Rattle.dwp_base.specs.Reading.{◌>>=◌}
@@ -32,10 +31,8 @@ use Rattle.dwp_bytes.specs.Encoding.{index_version_of}
 use Rattle.dwp_index.specs.IndexBytes.{index_of}
 use Rattle.thorin_index.specs.EntryTests.{each, count_test, encoding_test, format_test, offset_test}
 use Rattle.thorin_index.specs.EntryTests.{size_test, parts_test, tests_under}
-use Rattle.thorin_index.specs.IndexText.{IsIndexText}
 use Rattle.thorin_index.proofs.Each.{each_passed, kind_test, placed}
-use Rattle.thorin_index.proofs.Readable.{part_known, used_known, version_either}
-use Rattle.thorin_index.proofs.Readable.{index_is_read}
+use Rattle.thorin_index.proofs.Readable.{part_known, used_known, version_either, index_is_read}
 use Rattle.thorin_index.proofs.Columns.{number_of, has_number}
 
 -- ---- a column's number names one section

@@ -1,9 +1,7 @@
 //! Writing an index (DWARF 5, 7.3.5.3; the GNU page DebugFissionDWP).
 
-ghost use Rattle.std.specs.Prelude.{◌≡◌, ◌<◌, ◌≤◌, ◌^◌, ◌++◌, [], ◌∷◌, length, map, filter, All};
-ghost use Rattle.std.specs.Prelude.{IfOk, OnOk, get_or, vec_len};
-ghost use Rattle.std.specs.List.{flat_map};
-ghost use Rattle.dwp_base.specs.Numbers.{number_bytes};
+ghost use Rattle.std.specs.Prelude.{◌≡◌, ◌<◌, ◌≤◌, ◌^◌, ◌++◌, [], ◌∷◌, length, filter, All, IfOk};
+ghost use Rattle.std.specs.Prelude.{OnOk, get_or, vec_len};
 ghost use Rattle.dwp_table.specs.Table.{signature_of};
 ghost use Rattle.thorin_errors.specs.Answers.{Gives};
 ghost use Rattle.thorin_index.specs.Entries.{offset_or_0, size_or_0};

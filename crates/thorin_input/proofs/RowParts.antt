@@ -1,7 +1,6 @@
 -- The rows that units get, put together of the parts that are read for each kind of section.
-use Rattle.std.proofs.Common.{◌≡◌, ◌∙◌, Bool, true, false, cond, List, [], ◌∷◌, refl}
-use Rattle.std.proofs.Common.{sym, ap, subst}
-use Rattle.std.proofs.Common.{Option, None, Some, Result, Ok, Err}
+use Rattle.std.proofs.Common.{◌≡◌, ◌∙◌, Bool, true, false, cond, List, [], ◌∷◌, refl, sym, ap}
+use Rattle.std.proofs.Common.{subst, Option, None, Some, Result, Ok, Err}
 use Rattle.std.specs.Prelude.{slice_get}
 use Rattle.std.specs.List.{list_any}
 use Rattle.std.proofs.lemmas.List.{map-id}
@@ -19,7 +18,7 @@ use Rattle.dwp_bytes.specs.declared.encoding.Encoding.{Encoding}
 use Rattle.dwp_table.specs.Columns.{contribution_kinds}
 use Rattle.dwp_table.specs.declared.object.DwarfObject.{DwarfObject}
 use Rattle.dwp_table.specs.declared.object.DwarfObject.TheVariants.{Compilation}
-use Rattle.thorin_errors.specs.Fault.{Fault, fault_of}
+use Rattle.thorin_errors.specs.Errors.{ErrorValue, error_of}
 use Rattle.thorin_errors.specs.declared.error.Error.{Error}
 use Rattle.thorin_index.specs.Entries.{contribution_to, entry_by}
 use Rattle.thorin_index.specs.declared.entry.IndexEntry.{IndexEntry}
@@ -112,42 +111,42 @@ plain-row indexes whole name compilations types =
     stays kind false = refl
 
 module _ (indexes : Indexes) (whole : IndexEntry) (name : DwarfObject) where
-  abbrev part : SectionKind → Result (Option Contribution) Fault
+  abbrev part : SectionKind → Result (Option Contribution) ErrorValue
   part kind = unit_part indexes name kind (contribution_to kind whole)
 
   -- what a call answered for a kind is what the definition says
   abbrev pub PartRead : SectionKind → Result (Option Contribution) Error → Type 0
   PartRead kind r = GivesExactly r (part kind)
 
-  -- what a call refused, as the fault that it stands for
-  FaultRead : SectionKind → Result (Option Contribution) Fault → Type 0
-  FaultRead kind (Ok part) = PartRead kind (Ok part)
-  FaultRead kind (Err fault) = (e : Error) × (fault ≡ fault_of e) × PartRead kind (Err e)
+  -- what a call refused, as the error that it stands for
+  ErrorRead : SectionKind → Result (Option Contribution) ErrorValue → Type 0
+  ErrorRead kind (Ok part) = PartRead kind (Ok part)
+  ErrorRead kind (Err error) = (e : Error) × (error ≡ error_of e) × PartRead kind (Err e)
 
-  answers : (kind : SectionKind) (r : Result (Option Contribution) Fault) → FaultRead kind r
+  answers : (kind : SectionKind) (r : Result (Option Contribution) ErrorValue) → ErrorRead kind r
       → Answers (λ part. part) r (part kind)
-  unfolding FaultRead
+  unfolding ErrorRead
   answers kind (Ok part) read = read
-  answers kind (Err fault) read = read.2 ∙ ap Err (sym read.1)
+  answers kind (Err error) read = read.2 ∙ ap Err (sym read.1)
 
   pub row-read : (parts : ByKind (Option Contribution)) → ReadsEach PartRead (Ok parts)
       → unit_row indexes whole name
       ≡ Ok (entry_by whole.encoding name (value_of None (values_of parts)))
-  unfolding unit_row FaultRead
+  unfolding unit_row ErrorRead
   row-read parts read = bind-ok _ (values_of parts) (λ values.
       Ok (entry_by whole.encoding name (value_of None values)))
       (answers-each (λ part. part) (λ kind. unit_part indexes name kind
       (contribution_to kind whole))
-      FaultRead answers (Ok parts) read ∙ ap Ok (map-id (values_of parts)))
+      ErrorRead answers (Ok parts) read ∙ ap Ok (map-id (values_of parts)))
 
   pub row-refused : (e : Error) → ReadsEach PartRead (Err e) → unit_row indexes whole name
-      ≡ Err (fault_of e)
-  unfolding unit_row FaultRead
-  row-refused e read = bind-err _ (fault_of e) (λ values.
+      ≡ Err (error_of e)
+  unfolding unit_row ErrorRead
+  row-refused e read = bind-err _ (error_of e) (λ values.
       Ok (entry_by whole.encoding name (value_of None values)))
       (answers-each (λ part. part) (λ kind. unit_part indexes name kind
       (contribution_to kind whole))
-      FaultRead answers (Err (fault_of e)) (
+      ErrorRead answers (Err (error_of e)) (
         read.0,
         read.1,
         read.2,

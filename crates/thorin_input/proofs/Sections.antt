@@ -2,7 +2,7 @@
 use Rattle.std.proofs.Common.{◌≡◌, List, [], ◌∷◌, map, refl, ap, Ok, Err}
 use Rattle.dwp_elf_read.specs.Elf.{Elf, SectionMeaning}
 use Rattle.dwp_elf_read.specs.View.{Placed, placed_sections}
-use Rattle.thorin_errors.specs.Fault.{Fault}
+use Rattle.thorin_errors.specs.Errors.{ErrorValue}
 use Rattle.thorin_input.specs.Used.{Used, with_used, used_kind, used_from}
 
 -- the sections alone
@@ -20,11 +20,12 @@ unfolding used_from
 used_from-step u v l rest p h step = rw (h, step)
 
 -- a section that can't be used
-pub used_from-fault : (u : List Used) (l rest : List Placed) (p : Placed) (f : Fault) → l ≡ p ∷ rest
+pub used_from-error : (u : List Used) (l rest : List Placed) (p : Placed)
+    (f : ErrorValue) → l ≡ p ∷ rest
     → with_used u p.section (used_kind p.section) ≡ Err f
     → used_from u (map (λ (q : Placed). q.section) l) ≡ Err f
 unfolding used_from
-used_from-fault u l rest p f h step = rw (h, step)
+used_from-error u l rest p f h step = rw (h, step)
 
 -- no section is left
 pub used_from-end : (u : List Used) (l : List Placed) → l ≡ []

@@ -11,14 +11,14 @@ use Rattle.dwp_base.specs.declared.section.SectionKind.{SectionKind}
 use Rattle.dwp_base.specs.declared.section.SectionKind.TheVariants as kinds
 use Rattle.dwp_base.specs.Reading.{◌>>=◌}
 use Rattle.dwp_base.proofs.Steps.{bind-ok}
-use Rattle.dwp_base.specs.Sections.{name_of, compressed_name_of, kind_named, all_kinds, same_kind}
-use Rattle.dwp_elf_read.specs.declared.fault.ReadError.TheVariants.{Compressed, SectionRange}
+use Rattle.dwp_base.specs.Sections.{compressed_name_of, kind_named, all_kinds, same_kind}
+use Rattle.dwp_elf_read.specs.declared.error.ReadError.TheVariants.{Compressed, SectionRange}
 use Rattle.dwp_elf_read.specs.Elf.{Elf, SectionMeaning, SHT_NOBITS, name_is, has_compressed_flag}
 use Rattle.dwp_elf_read.specs.View.{Placed}
 use Rattle.dwp_index.specs.Contents as contents
-use Rattle.dwp_index.specs.Contents.{has_name, has_older_name, is_of_kind}
-use Rattle.thorin_errors.specs.Fault.{Fault, fault_of, DecompressData, ObjectRead}
-use Rattle.thorin_errors.specs.Answers.{Gives, MemoryAside, as_fault}
+use Rattle.dwp_index.specs.Contents.{has_name, is_of_kind}
+use Rattle.thorin_errors.specs.Errors.{ErrorValue, error_of, DecompressData, ObjectRead}
+use Rattle.thorin_errors.specs.Answers.{Gives, MemoryAside, as_error}
 use Rattle.thorin_errors.specs.declared.error.Error.{Error}
 use Rattle.thorin_input.specs.Encodings.{is_index, is_plain}
 use Rattle.thorin_input.specs.Used.{Used, InputFile, is_present, used_kind, unusable, used_bytes}
@@ -27,15 +27,10 @@ use Rattle.thorin_input.specs.View as view
 use Rattle.thorin_input.specs.declared.object.InputObject.{InputObject}
 use Rattle.thorin_input.specs.declared.object.UsedSection.{UsedSection}
 use Rattle.thorin_input.specs.declared.walk.Taken.{Taken}
-use Rattle.thorin_input.proofs.Sections.{used_from-step, used_from-fault, used_from-end}
+use Rattle.thorin_input.proofs.Sections.{used_from-step, used_from-error, used_from-end}
+use Rattle.dwp_index.proofs.Called.{called_is_older}
 
 -- ---- one section
-
--- the two spellings of a name
-pub called_is_of : (kind : SectionKind) (name : Option (List ℕ))
-    → (name_is (name_of kind) name || name_is (compressed_name_of kind) name) ≡ has_name kind name
-called_is_of kind None = refl
-called_is_of kind (Some own) = refl
 
 -- the kind of a section without bytes, and of one that has some
 pub kind-empty : (s : SectionMeaning) → (eqb s.size 0 || eqb s.kind SHT_NOBITS) ≡ true
@@ -54,25 +49,19 @@ unfolding used_kind is_of_kind
 kind-full s h = ap (λ e. find (λ kind. not e && has_name kind s.name) all_kinds) h ∙
     full-kind s.name
 
--- the content of a compressed section, and of another
-older : (kind : SectionKind) (name : Option (List ℕ)) → name_is (compressed_name_of kind) name ≡
-    has_older_name kind name
-older kind None = refl
-older kind (Some own) = refl
-
-range-fault : (content : Option (List ℕ)) → as_fault unusable (ok_or content SectionRange) ≡
-    as_fault ObjectRead (ok_or content SectionRange)
-range-fault None = refl
-range-fault (Some bytes) = refl
+range-error : (content : Option (List ℕ)) → as_error unusable (ok_or content SectionRange) ≡
+    as_error ObjectRead (ok_or content SectionRange)
+range-error None = refl
+range-error (Some bytes) = refl
 
 choice : (kind : SectionKind) (s : SectionMeaning) (b : Bool)
     → (has_compressed_flag s || name_is (compressed_name_of kind) s.name) ≡ b
-    → used_bytes kind s ≡ as_fault unusable (cond b (Err Compressed) (ok_or s.content SectionRange))
+    → used_bytes kind s ≡ as_error unusable (cond b (Err Compressed) (ok_or s.content SectionRange))
 unfolding used_bytes contents.used_bytes
 choice kind s b h =
-    ap (λ n. as_fault unusable (cond (has_compressed_flag s || n) (Err Compressed)
-    (ok_or s.content SectionRange))) (sym (older kind s.name))
-    ∙ ap (λ c. as_fault unusable (cond c (Err Compressed) (ok_or s.content SectionRange))) h
+    ap (λ n. as_error unusable (cond (has_compressed_flag s || n) (Err Compressed)
+    (ok_or s.content SectionRange))) (sym (called_is_older kind s.name))
+    ∙ ap (λ c. as_error unusable (cond c (Err Compressed) (ok_or s.content SectionRange))) h
 
 pub bytes-compressed : (kind : SectionKind) (s : SectionMeaning)
     → (has_compressed_flag s || name_is (compressed_name_of kind) s.name) ≡ true
@@ -81,8 +70,8 @@ bytes-compressed kind s h = choice kind s true h
 
 pub bytes-plain : (kind : SectionKind) (s : SectionMeaning)
     → (has_compressed_flag s || name_is (compressed_name_of kind) s.name) ≡ false
-    → used_bytes kind s ≡ as_fault ObjectRead (ok_or s.content SectionRange)
-bytes-plain kind s h = choice kind s false h ∙ range-fault s.content
+    → used_bytes kind s ≡ as_error ObjectRead (ok_or s.content SectionRange)
+bytes-plain kind s h = choice kind s false h ∙ range-error s.content
 
 -- ---- kinds among those that are used
 
@@ -142,28 +131,30 @@ pub any-end : (test : SectionMeaning → Bool) (b : Bool) (l : List Placed)
 any-end test b l all e h = sym (or-false b) ∙ ap (λ x.
     b || list_any test (map (λ (q : Placed). q.section) x)) (sym e) ∙ h
 
--- the used sections so far, with those that are left; or the fault of the first that can't be used
+-- the used sections so far, with those that are left; or the error of the first that can't be used
 abbrev pub taken : Taken → List Used
 taken t = map view.used t.sections.items
 
-abbrev pub GoesOn : Result Taken Error → List SectionMeaning → Result (List Used) Fault → Type 0
+abbrev pub GoesOn : Result Taken Error → List SectionMeaning → Result (List Used)
+    ErrorValue → Type 0
 GoesOn (Ok t) rest all = used_from (taken t) rest ≡ all
-GoesOn (Err e) rest all = MemoryAside e (all ≡ Err (fault_of e))
+GoesOn (Err e) rest all = MemoryAside e (all ≡ Err (error_of e))
 
 pub taken-step : (t n : Result Taken Error) (l rest : List Placed) (p : Placed)
-    (all : Result (List Used) Fault) → l ≡ p ∷ rest
+    (all : Result (List Used) ErrorValue) → l ≡ p ∷ rest
     → MatchResult t (λ before. Gives taken n (with_used (taken before) p.section
     (used_kind p.section))) (λ e. n ≡ Err e)
     → GoesOn t (map (λ (q : Placed). q.section) l) all
     → GoesOn n (map (λ (q : Placed). q.section) rest) all
 taken-step (Ok t) (Ok n) l rest p all h next goes = used_from-step (taken t) (taken n) l
     rest p h next ∙ goes
-taken-step (Ok t) (Err e) l rest p all h next goes = λ aside. sym goes ∙ used_from-fault (taken t) l
-    rest p (fault_of e) h (next aside)
+taken-step (Ok t) (Err e) l rest p all h next goes = λ aside. sym goes ∙ used_from-error (taken t) l
+    rest p (error_of e) h (next aside)
 taken-step (Err e) n l rest p all h next goes =
     subst (λ m. GoesOn m (map (λ (q : Placed). q.section) rest) all) (sym next) goes
 
-pub taken-end : (t : Result Taken Error) (l : List Placed) (all : Result (List Used) Fault) → l ≡ []
+pub taken-end : (t : Result Taken Error) (l : List Placed) (all : Result (List Used) ErrorValue)
+    → l ≡ []
     → GoesOn t (map (λ (q : Placed). q.section) l) all → Gives taken t all
 taken-end (Ok t) l all h goes = sym goes ∙ used_from-end (taken t) l h
 taken-end (Err e) l all h goes = goes
@@ -182,10 +173,10 @@ input-is : (used : List Used) (file : Elf) (object : InputFile)
 unfolding input_file_of
 input-is used file object h same = bind-ok (used_from [] file.sections) used _ h ∙ ap Ok (sym same)
 
-no-input : (fault : Fault) (file : Elf) → used_from [] file.sections ≡ Err fault
-    → input_file_of file ≡ Err fault
+no-input : (error : ErrorValue) (file : Elf) → used_from [] file.sections ≡ Err error
+    → input_file_of file ≡ Err error
 unfolding input_file_of
-no-input fault file h = ap (λ r. r >>= λ sections.
+no-input error file h = ap (λ r. r >>= λ sections.
     Ok (record {
       order = file.order;
       sections = sections;
@@ -235,5 +226,5 @@ walk-gives (Ok t) (Err e) order strings abbreviations file ho hs ha used made = 
     input-is (taken t) file _ used (same-object order (taken t) strings abbreviations file ho hs
     ha) ∙ made aside
 walk-gives (Err e) r order strings abbreviations file ho hs ha used made =
-    subst (λ x. Gives view.object x (input_file_of file)) (sym made) (λ aside. no-input (fault_of e)
+    subst (λ x. Gives view.object x (input_file_of file)) (sym made) (λ aside. no-input (error_of e)
     file (used aside))

@@ -11,9 +11,9 @@ use Rattle.dwp_table.specs.declared.object.DwarfObject.TheVariants.{Compilation,
 use Rattle.dwp_table.specs.Objects.{identifier_of}
 use Rattle.dwp_table.specs.Probing.{found_row}
 use Rattle.dwp_index.specs.Index.{Index, Ranges, row_in, column_place, range_in}
-use Rattle.thorin_errors.specs.Fault.{Fault, fault_of, UnitNotInIndex, RowNotInIndex}
-use Rattle.thorin_errors.specs.Fault.{SectionNotInRow, BadContribution}
-use Rattle.thorin_errors.specs.Answers.{as_fault}
+use Rattle.thorin_errors.specs.Errors.{ErrorValue, error_of, UnitNotInIndex, RowNotInIndex}
+use Rattle.thorin_errors.specs.Errors.{SectionNotInRow, BadContribution}
+use Rattle.thorin_errors.specs.Answers.{as_error}
 use Rattle.thorin_errors.specs.declared.error.Error.{Error}
 
 -- the indexes of an input, those that it has, and one of its sections
@@ -37,12 +37,12 @@ looked_up None id = None
 looked_up (Some index) id = found_row index.signatures index.rows id
 
 -- the row of a look-up's answer
-abbrev pub row_found : Index → ℕ → Option ℕ → Result Ranges Fault
+abbrev pub row_found : Index → ℕ → Option ℕ → Result Ranges ErrorValue
 row_found index id None = Err (UnitNotInIndex id)
-row_found index id (Some r) = as_fault (λ fault. RowNotInIndex fault r) (row_in index r)
+row_found index id (Some r) = as_error (λ error. RowNotInIndex error r) (row_in index r)
 
 -- a unit's row
-unfoldable pub row_of : Option Index → ℕ → Result Ranges Fault
+unfoldable pub row_of : Option Index → ℕ → Result Ranges ErrorValue
 row_of None id = Err (UnitNotInIndex id)
 row_of (Some index) id = row_found index id (found_row index.signatures index.rows id)
 
@@ -53,7 +53,7 @@ has_column_for kind (Some index) = is_some (column_place index.version index.col
 
 -- a range inside a section, from the place on where the section now begins
 unfoldable pub moved : SectionKind → ℕ → Contribution → Option Contribution
-    → Result (Option Contribution) Fault
+    → Result (Option Contribution) ErrorValue
 moved kind id range None = Err (BadContribution (name_of kind) id)
 moved kind id range (Some whole) =
     if nat_le (range.offset.0 + range.size) whole.size
@@ -63,19 +63,19 @@ moved kind id range (Some whole) =
 
 -- the same of a range that may be absent
 abbrev pub moved_range : SectionKind → ℕ → Option Contribution → Option Contribution
-    → Result (Option Contribution) Fault
+    → Result (Option Contribution) ErrorValue
 moved_range kind id None whole = Ok None
 moved_range kind id (Some range) whole = moved kind id range whole
 
 -- a section that no index has a column for is not to be there
-abbrev pub without_column : Option Contribution → Result (Option Contribution) Fault
+abbrev pub without_column : Option Contribution → Result (Option Contribution) ErrorValue
 without_column None = Ok None
 without_column (Some whole) = Err SectionNotInRow
 
 -- the unit's part, by its row: its index has the section's column, or the other index has it, or
 -- neither
 abbrev pub part_by_row : Adjustor → DwarfObject → Option Contribution → Ranges
-    → Result (Option Contribution) Fault
+    → Result (Option Contribution) ErrorValue
 part_by_row a unit whole row =
     if has_column_for a.section (own_index a unit)
     then moved_range a.section (identifier_of unit) (range_in row a.section) whole
@@ -84,12 +84,12 @@ part_by_row a unit whole row =
 
 -- the unit's part of the section, which as a whole lies there in the output
 unfoldable pub adjusted : Adjustor → DwarfObject → Option Contribution
-    → Result (Option Contribution) Fault
+    → Result (Option Contribution) ErrorValue
 adjusted a unit whole =
     if is_none a.compilation && is_none a.types then Ok whole
     else (row_of (own_index a unit) (identifier_of unit) >>= part_by_row a unit whole)
 
 -- what a call that takes no memory answered is what the definition says
-abbrev pub GivesExactly : {X : Type 0} → Result X Error → Result X Fault → Type 0
+abbrev pub GivesExactly : {X : Type 0} → Result X Error → Result X ErrorValue → Type 0
 GivesExactly (Ok x) meaning = meaning ≡ Ok x
-GivesExactly (Err e) meaning = meaning ≡ Err (fault_of e)
+GivesExactly (Err e) meaning = meaning ≡ Err (error_of e)

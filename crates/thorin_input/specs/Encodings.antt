@@ -3,30 +3,30 @@
 use Rattle.std.specs.Prelude.{ℕ, Bool, true, false, not, ◌&&◌, ◌||◌, List, [], ◌∷◌, Option, Some}
 use Rattle.std.specs.Prelude.{None, Result, Ok, Err, if◌then◌else◌}
 use Rattle.std.specs.List.{list_all, list_any}
+use Rattle.dwp_base.specs.Reading.{◌>>=◌}
 use Rattle.dwp_base.specs.declared.endian.Endianness.{Endianness}
 use Rattle.dwp_base.specs.declared.section.SectionKind.TheVariants.{Info, CuIndex, TuIndex}
-use Rattle.dwp_base.specs.Reading.{◌>>=◌}
 use Rattle.dwp_base.specs.Sections.{same_kind}
 use Rattle.dwp_elf_read.specs.Elf.{Elf}
 use Rattle.dwp_bytes.specs.Input.{section}
 use Rattle.dwp_bytes.specs.declared.encoding.Encoding.{Encoding}
-use Rattle.dwp_bytes.specs.declared.fault.ReadError.{ReadError}
+use Rattle.dwp_bytes.specs.declared.error.ReadError.{ReadError}
 use Rattle.dwp_dwarf.specs.Units.{Unit, units}
 use Rattle.dwp_dwarf.specs.declared.unit.UnitSection.{UnitSection}
 use Rattle.dwp_dwarf.specs.declared.unit.UnitSection.TheVariants as places
 use Rattle.thorin_index.specs.EntryTests.{same_encoding}
-use Rattle.thorin_errors.specs.Fault.{Fault, ParseUnitHeader, NoCompilationUnits}
+use Rattle.thorin_errors.specs.Errors.{ErrorValue, ParseUnitHeader, NoCompilationUnits}
 use Rattle.thorin_input.specs.Indexes.{Source}
 use Rattle.thorin_input.specs.NewUnits.{unit_section}
 use Rattle.thorin_input.specs.Used.{Used, InputFile, opened, has_info, input_file_of, first}
 
 -- the encoding of an input is that of its first unit
-abbrev pub first_encoding : List (Result Unit ReadError) → Result Encoding Fault
+abbrev pub first_encoding : List (Result Unit ReadError) → Result Encoding ErrorValue
 first_encoding [] = Err NoCompilationUnits
 first_encoding (Ok unit ∷ others) = Ok unit.encoding
 first_encoding (Err e ∷ others) = Err (ParseUnitHeader e)
 
-unfoldable pub encoding_of : InputFile → Result Encoding Fault
+unfoldable pub encoding_of : InputFile → Result Encoding ErrorValue
 encoding_of object =
     first_encoding (units places.Info (section object.order (first Info object.sections)))
 
@@ -62,14 +62,14 @@ one_encoding object encoding =
     if is_plain object.sections && list_all (section_has encoding object.order) object.sections
     then Some encoding else None
 
-unfoldable pub file_encoding : Elf → Result (Option Encoding) Fault
+unfoldable pub file_encoding : Elf → Result (Option Encoding) ErrorValue
 file_encoding file = do
   object ← input_file_of file
   encoding ← encoding_of object
   Ok (one_encoding object encoding)
 
 -- the same of an input's bytes; without an info section there is none
-unfoldable pub own_encoding : List ℕ → Result (Option Encoding) Fault
+unfoldable pub own_encoding : List ℕ → Result (Option Encoding) ErrorValue
 own_encoding bytes = do
   file ← opened bytes
   if has_info file then file_encoding file else Ok None

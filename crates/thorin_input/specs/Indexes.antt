@@ -13,8 +13,8 @@ use Rattle.dwp_index.specs.Index.{Index}
 use Rattle.dwp_index.specs.IndexBytes.{index_of}
 use Rattle.dwp_table.specs.declared.object.DwarfObject.{DwarfObject}
 use Rattle.dwp_table.specs.declared.object.DwarfObject.TheVariants.{Compilation, TypeUnit}
-use Rattle.thorin_errors.specs.Fault.{Fault, ParseIndex, IncompatibleIndexVersion}
-use Rattle.thorin_errors.specs.Answers.{as_fault}
+use Rattle.thorin_errors.specs.Errors.{ErrorValue, ParseIndex, IncompatibleIndexVersion}
+use Rattle.thorin_errors.specs.Answers.{as_error}
 pub use Rattle.thorin_input.specs.Adjusting.{looked_up}
 use Rattle.thorin_input.specs.Used.{InputFile, first}
 
@@ -34,14 +34,14 @@ abbrev pub is_package : Indexes → Bool
 is_package indexes = is_some indexes.compilations || is_some indexes.types
 
 -- the index that bytes are; no bytes are none
-unfoldable pub index_in : Endianness → SectionKind → List ℕ → Result (Option Index) Fault
+unfoldable pub index_in : Endianness → SectionKind → List ℕ → Result (Option Index) ErrorValue
 index_in order kind bytes =
     if length bytes == 0 then Ok None
-    else (as_fault (λ e. ParseIndex e (name_of kind)) (index_of order bytes) >>=
+    else (as_error (λ e. ParseIndex e (name_of kind)) (index_of order bytes) >>=
     λ index. Ok (Some index))
 
 -- an index has a version that goes with the input's encoding
-abbrev pub version_test : Encoding → SectionKind → Option Index → Result (Unit {0}) Fault
+abbrev pub version_test : Encoding → SectionKind → Option Index → Result (Unit {0}) ErrorValue
 version_test encoding kind None = Ok tt
 version_test encoding kind (Some index) =
     if is_compatible encoding.version index.version then Ok tt
@@ -49,7 +49,7 @@ version_test encoding kind (Some index) =
     (IncompatibleIndexVersion (name_of kind) (index_version_of encoding.version) index.version)
 
 -- the indexes of an input; both are read before either's version is tested
-unfoldable pub indexes_of : InputFile → Encoding → Result Indexes Fault
+unfoldable pub indexes_of : InputFile → Encoding → Result Indexes ErrorValue
 indexes_of object encoding = do
   compilations ← index_in object.order CuIndex (first CuIndex object.sections)
   types ← index_in object.order TuIndex (first TuIndex object.sections)

@@ -8,7 +8,7 @@ use Rattle.dwp_base.specs.declared.section.SectionKind.{SectionKind}
 use Rattle.dwp_base.specs.declared.section.SectionKind.TheVariants as kinds
 use Rattle.dwp_base.specs.Reading.{◌>>=◌}
 use Rattle.dwp_bytes.specs.Input.{section}
-use Rattle.dwp_bytes.specs.declared.fault.ReadError.{ReadError}
+use Rattle.dwp_bytes.specs.declared.error.ReadError.{ReadError}
 use Rattle.dwp_dwarf.specs.Units.{Unit as Header, units}
 use Rattle.dwp_dwarf.specs.declared.unit.UnitSection.{UnitSection}
 use Rattle.dwp_dwarf.specs.declared.unit.UnitSection.TheVariants as places
@@ -16,10 +16,10 @@ use Rattle.dwp_table.specs.Objects.{identifier_of}
 use Rattle.dwp_table.specs.declared.object.DwarfObject.{DwarfObject}
 use Rattle.dwp_table.specs.declared.object.DwarfObject.TheVariants.{Compilation, TypeUnit}
 use Rattle.thorin_index.specs.declared.entry.IndexEntry.{IndexEntry}
-use Rattle.thorin_errors.specs.Fault.{Fault, ParseUnitHeader, NotSplitUnit, DuplicateUnit}
-use Rattle.thorin_errors.specs.Fault.{EmptyUnit, MultipleDebugInfoSection}
-use Rattle.thorin_errors.specs.Fault.{MultipleDebugTypesSection}
-use Rattle.thorin_errors.specs.Answers.{as_fault}
+use Rattle.thorin_errors.specs.Errors.{ErrorValue, ParseUnitHeader, NotSplitUnit, DuplicateUnit}
+use Rattle.thorin_errors.specs.Errors.{EmptyUnit, MultipleDebugInfoSection}
+use Rattle.thorin_errors.specs.Errors.{MultipleDebugTypesSection}
+use Rattle.thorin_errors.specs.Answers.{as_error}
 use Rattle.thorin_identity.specs.Identity.{identity}
 use Rattle.thorin_input.specs.Indexes.{Source, is_package}
 use Rattle.thorin_input.specs.Names.{same_name}
@@ -61,7 +61,7 @@ place_for (TypeUnit signature) kinds.Types = places.Types
 place_for _ _ = places.Info
 
 -- the units with one more, whose name none has
-unfoldable pub with_first : Adding → Used → DwarfObject → Header → New → Result New Fault
+unfoldable pub with_first : Adding → Used → DwarfObject → Header → New → Result New ErrorValue
 with_first adding from name unit new =
     if from.address == 0
     then (row_test adding.source.indexes from.kind name unit >>= λ _.
@@ -76,7 +76,7 @@ with_first adding from name unit new =
 
 -- one more unit. A second compilation unit of a name is refused, a second type unit passed over
 unfoldable pub with_unit : Option (List ℕ) → Adding → Used → DwarfObject → Header → New
-    → Result New Fault
+    → Result New ErrorValue
 with_unit (Some kept) adding from (Compilation id) unit new = Err (DuplicateUnit id.0)
 with_unit (Some kept) adding from (TypeUnit signature) unit new =
     Ok (if bytes_eq kept unit.whole.bytes then new
@@ -84,22 +84,22 @@ with_unit (Some kept) adding from (TypeUnit signature) unit new =
 with_unit None adding from name unit new = with_first adding from name unit new
 
 -- the name of a unit that was read in a section
-unfoldable pub name_for : Source → SectionKind → Header → Result DwarfObject Fault
+unfoldable pub name_for : Source → SectionKind → Header → Result DwarfObject ErrorValue
 name_for source kind unit = do
   abbreviations ← abbreviations_for source kind unit
   found ← identity (section source.object.order abbreviations) unit
   ok_or found NotSplitUnit
 
 -- what is read next of a section's units
-unfoldable pub with_read : Adding → Used → New → Result Header ReadError → Result New Fault
+unfoldable pub with_read : Adding → Used → New → Result Header ReadError → Result New ErrorValue
 with_read adding from new read = do
-  unit ← as_fault ParseUnitHeader read
+  unit ← as_error ParseUnitHeader read
   name ← name_for adding.source from.kind unit
   with_unit (kept_bytes adding.held new.units name) adding from name unit new
 
 -- all that is read of them
 unfoldable pub with_each_read : Adding → Used → New → List (Result Header ReadError)
-    → Result New Fault
+    → Result New ErrorValue
 with_each_read adding from new [] = Ok new
 with_each_read adding from new (read ∷ rest) = do
   next ← with_read adding from new read
@@ -128,16 +128,17 @@ with_met places.Info met = record met { info = true }
 with_met places.Types met = record met { types = true }
 
 -- a package has one section of units of each kind
-abbrev pub second_section : UnitSection → Fault
+abbrev pub second_section : UnitSection → ErrorValue
 second_section places.Info = MultipleDebugInfoSection
 second_section places.Types = MultipleDebugTypesSection
 
-unfoldable pub once_test : Adding → UnitSection → Met → Result (Unit {0}) Fault
+unfoldable pub once_test : Adding → UnitSection → Met → Result (Unit {0}) ErrorValue
 once_test adding place met = if is_package adding.source.indexes && is_met place met
     then Err (second_section place) else Ok tt
 
 -- the units of a section of units
-unfoldable pub with_section_at : Adding → Used → UnitSection → Met × New → Result (Met × New) Fault
+unfoldable pub with_section_at : Adding → Used → UnitSection → Met × New
+    → Result (Met × New) ErrorValue
 with_section_at adding from place before = do
   _ ← once_test adding place before.0
   new ← with_each_read adding from before.1
@@ -146,22 +147,22 @@ with_section_at adding from place before = do
 
 -- the units of a section; those of other kinds have none
 abbrev pub with_section_in : Adding → Used → Option UnitSection → Met × New
-    → Result (Met × New) Fault
+    → Result (Met × New) ErrorValue
 with_section_in adding from None before = Ok before
 with_section_in adding from (Some place) before = with_section_at adding from place before
 
-unfoldable pub with_section : Adding → Met × New → Used → Result (Met × New) Fault
+unfoldable pub with_section : Adding → Met × New → Used → Result (Met × New) ErrorValue
 with_section adding before from = with_section_in adding from (unit_section from.kind) before
 
 -- those of each of these sections, in file order
-unfoldable pub with_each_section : Adding → Met × New → List Used → Result (Met × New) Fault
+unfoldable pub with_each_section : Adding → Met × New → List Used → Result (Met × New) ErrorValue
 with_each_section adding before [] = Ok before
 with_each_section adding before (from ∷ others) = do
   next ← with_section adding before from
   with_each_section adding next others
 
--- the units that an input adds to what is there, or its first fault
-unfoldable pub new_units : Adding → Result New Fault
+-- the units that an input adds to what is there, or its first error
+unfoldable pub new_units : Adding → Result New ErrorValue
 new_units adding = do
   all ← with_each_section adding (
     none_met,

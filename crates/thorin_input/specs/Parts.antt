@@ -7,8 +7,8 @@ use Rattle.dwp_base.specs.declared.section.SectionKind.{SectionKind}
 use Rattle.dwp_base.specs.declared.section.SectionKind.TheVariants.{StrOffsets, Str}
 use Rattle.dwp_base.specs.Reading.{◌>>=◌}
 use Rattle.dwp_base.specs.Sections.{name_of, same_kind}
-use Rattle.thorin_errors.specs.Fault.{Fault, MissingRequiredSection, RepeatedSection}
-use Rattle.thorin_errors.specs.Fault.{SectionOutsideFormat}
+use Rattle.thorin_errors.specs.Errors.{ErrorValue, MissingRequiredSection, RepeatedSection}
+use Rattle.thorin_errors.specs.Errors.{SectionOutsideFormat}
 use Rattle.thorin_input.specs.Format.{is_in_format, is_copied}
 use Rattle.thorin_input.specs.Growing.{Contents}
 use Rattle.thorin_input.specs.Indexes.{Source, is_package}
@@ -30,14 +30,14 @@ stands_once source kind =
     is_package source.indexes || (nat_le 5 source.encoding.version && same_kind kind StrOffsets)
 
 -- the parts with string offsets
-unfoldable pub with_offsets : Source → Parts → List ℕ → Result Parts Fault
+unfoldable pub with_offsets : Source → Parts → List ℕ → Result Parts ErrorValue
 with_offsets source before bytes =
     if not source.object.has_strings then Err (MissingRequiredSection (name_of Str))
     else (rewritten source bytes before.1 >>= λ written.
     Ok (before.0 ++ (StrOffsets, written.0) ∷ [], written.1))
 
 -- the parts with what a section adds
-unfoldable pub with_part : Source → Parts → Used → Result Parts Fault
+unfoldable pub with_part : Source → Parts → Used → Result Parts ErrorValue
 with_part source before section =
     if stands_once source section.kind && has_part section.kind before.0
     then Err (RepeatedSection (name_of section.kind))
@@ -49,12 +49,12 @@ with_part source before section =
     else Ok before)))
 
 -- the same for each of these sections, in file order
-unfoldable pub with_each_part : Source → Parts → List Used → Result Parts Fault
+unfoldable pub with_each_part : Source → Parts → List Used → Result Parts ErrorValue
 with_each_part source before [] = Ok before
 with_each_part source before (section ∷ sections) = do
   next ← with_part source before section
   with_each_part source next sections
 
 -- the parts of an input, and the distinct strings after those before
-abbrev pub parts_of : Source → List (List ℕ) → Result Parts Fault
+abbrev pub parts_of : Source → List (List ℕ) → Result Parts ErrorValue
 parts_of source strings = with_each_part source ([], strings) source.object.sections

@@ -22,8 +22,8 @@ use Rattle.thorin_input.specs.Format.{is_shared}
 use Rattle.thorin_index.specs.Entries.{contribution_to, entry_by}
 use Rattle.thorin_index.specs.declared.entry.IndexEntry.{IndexEntry}
 use Rattle.thorin_packaged.specs.RowPlaces.{row_by_place}
-use Rattle.thorin_errors.specs.Fault.{Fault, UnitNotInIndex, RowNotInIndex, BadContribution}
-use Rattle.thorin_errors.specs.Answers.{as_fault}
+use Rattle.thorin_errors.specs.Errors.{ErrorValue, UnitNotInIndex, RowNotInIndex, BadContribution}
+use Rattle.thorin_errors.specs.Answers.{as_error}
 use Rattle.thorin_input.specs.Growing.{Contents, joined_parts, range_put}
 use Rattle.thorin_input.specs.Indexes.{Indexes, Source, is_package, index_for, looked_up}
 use Rattle.thorin_input.specs.Used.{first}
@@ -36,7 +36,7 @@ whole_row encoding before parts = entry_by encoding (Compilation (record { 0 = 0
 
 -- a unit's part of a section which as a whole lies there in the package
 abbrev pub adjusted_part : Indexes → DwarfObject → SectionKind → Option Contribution
-    → Result (Option Contribution) Fault
+    → Result (Option Contribution) ErrorValue
 adjusted_part indexes name kind whole = adjusted (record {
   compilation = indexes.compilations;
   types = indexes.types;
@@ -46,12 +46,12 @@ adjusted_part indexes name kind whole = adjusted (record {
 -- a unit's part of a section: adjusted where units share the section, else that of the whole row as
 -- it is
 abbrev pub unit_part : Indexes → DwarfObject → SectionKind → Option Contribution
-    → Result (Option Contribution) Fault
+    → Result (Option Contribution) ErrorValue
 unit_part indexes name kind whole =
     if is_shared kind then adjusted_part indexes name kind whole else Ok whole
 
 -- the row of a unit but for its own bytes: its part of each section that units share
-unfoldable pub unit_row : Indexes → IndexEntry → DwarfObject → Result IndexEntry Fault
+unfoldable pub unit_row : Indexes → IndexEntry → DwarfObject → Result IndexEntry ErrorValue
 unit_row indexes whole name = do
   parts ← read_each (λ kind. unit_part indexes name kind (contribution_to kind whole)) all_kinds
   Ok (entry_by whole.encoding name (value_of None parts))
@@ -71,24 +71,26 @@ is_same_row (Some a) (Some b) = a == b
 is_same_row _ _ = false
 
 -- in a package the row by place is the one that looking the unit's identifier up gives
-unfoldable pub row_test : Indexes → SectionKind → DwarfObject → Header → Result (Unit {0}) Fault
+unfoldable pub row_test : Indexes → SectionKind → DwarfObject → Header
+    → Result (Unit {0}) ErrorValue
 row_test indexes kind name unit =
     if not (is_package indexes) then Ok tt
     else (if is_same_row (number_by_place indexes kind name unit)
     (looked_up (index_for indexes name) (identifier_of name)) then Ok tt
     else Err (UnitNotInIndex (identifier_of name)))
 
--- the abbreviations of a row; none where it has none. Before its unit's identity is known, faults
+-- the abbreviations of a row; none where it has none. Before its unit's identity is known, errors
 -- have the number 0
-unfoldable pub row_abbreviations : List ℕ → Ranges → Result (List ℕ) Fault
+unfoldable pub row_abbreviations : List ℕ → Ranges → Result (List ℕ) ErrorValue
 row_abbreviations bytes row =
     if is_outside bytes (range_in row Abbrev) then Err (BadContribution (name_of Abbrev) 0)
     else Ok (part_of bytes (range_in row Abbrev))
 
 -- those of the row of a number of an index; a number by place is that of a row
-unfoldable pub numbered_abbreviations : List ℕ → Option Index → Option ℕ → Result (List ℕ) Fault
+unfoldable pub numbered_abbreviations : List ℕ → Option Index → Option ℕ
+    → Result (List ℕ) ErrorValue
 numbered_abbreviations bytes (Some index) (Some number) = do
-  row ← as_fault (λ e. RowNotInIndex e number) (row_in index number)
+  row ← as_error (λ e. RowNotInIndex e number) (row_in index number)
   row_abbreviations bytes row
 numbered_abbreviations bytes _ _ = Err (UnitNotInIndex 0)
 
@@ -99,7 +101,7 @@ is_compile _ = false
 
 -- the abbreviations that a unit's identity is read with: those of the first section, for a compile
 -- unit of a package those of its row by place
-unfoldable pub abbreviations_for : Source → SectionKind → Header → Result (List ℕ) Fault
+unfoldable pub abbreviations_for : Source → SectionKind → Header → Result (List ℕ) ErrorValue
 abbreviations_for source kind unit =
     if is_package source.indexes && is_compile unit.unit_type
     then numbered_abbreviations (first Abbrev source.object.sections) source.indexes.compilations

@@ -3,14 +3,14 @@
 use Rattle.std.specs.Prelude.{ℕ, List, [], ◌∷◌, ◌++◌, Bool, ◌&&◌, ◌||◌, if◌then◌else◌, Option, Some}
 use Rattle.std.specs.Prelude.{None, Result, Ok, Err, find, is_some}
 use Rattle.std.specs.List.{list_any}
+use Rattle.dwp_base.specs.Reading.{◌>>=◌}
 use Rattle.dwp_base.specs.declared.endian.Endianness.{Endianness}
 use Rattle.dwp_base.specs.declared.section.SectionKind.{SectionKind}
 use Rattle.dwp_base.specs.declared.section.SectionKind.TheVariants.{Info, Abbrev, Str, CuIndex}
 use Rattle.dwp_base.specs.declared.section.SectionKind.TheVariants.{TuIndex}
-use Rattle.dwp_base.specs.Reading.{◌>>=◌}
 use Rattle.dwp_base.specs.Sections.{name_of, all_kinds, same_kind}
-use Rattle.dwp_elf_read.specs.declared.fault.ReadError.{ReadError}
-use Rattle.dwp_elf_read.specs.declared.fault.ReadError.TheVariants.{Compressed}
+use Rattle.dwp_elf_read.specs.declared.error.ReadError.{ReadError}
+use Rattle.dwp_elf_read.specs.declared.error.ReadError.TheVariants.{Compressed}
 use Rattle.dwp_elf_read.specs.declared.kind.FileKind.{FileKind}
 use Rattle.dwp_elf_read.specs.declared.kind.FileKind.TheVariants.{Archive, Elf32, Elf64}
 use Rattle.dwp_elf_read.specs.Elf as elf
@@ -18,9 +18,9 @@ use Rattle.dwp_elf_read.specs.Elf.{Elf, SectionMeaning, elf_of}
 use Rattle.dwp_elf_read.specs.Identification as identification
 use Rattle.dwp_index.specs.Contents as contents
 use Rattle.dwp_index.specs.Contents.{has_name, is_of_kind}
-use Rattle.thorin_errors.specs.Fault.{Fault, ParseFileKind, InvalidInputKind, ParseObjectFile}
-use Rattle.thorin_errors.specs.Fault.{DecompressData, ObjectRead}
-use Rattle.thorin_errors.specs.Answers.{as_fault}
+use Rattle.thorin_errors.specs.Errors.{ErrorValue, ParseFileKind, InvalidInputKind, ParseObjectFile}
+use Rattle.thorin_errors.specs.Errors.{DecompressData, ObjectRead}
+use Rattle.thorin_errors.specs.Answers.{as_error}
 
 -- a section that is used: its kind, its content and its address
 pub record Used : Type 0 where
@@ -29,15 +29,15 @@ pub record Used : Type 0 where
   pub address : ℕ
 
 -- the ELF file that is in a file of some kind
-abbrev pub elf_in : List ℕ → FileKind → Result Elf Fault
+abbrev pub elf_in : List ℕ → FileKind → Result Elf ErrorValue
 elf_in bytes Archive = Err InvalidInputKind
-elf_in bytes Elf32 = as_fault ParseObjectFile (elf_of bytes)
-elf_in bytes Elf64 = as_fault ParseObjectFile (elf_of bytes)
+elf_in bytes Elf32 = as_error ParseObjectFile (elf_of bytes)
+elf_in bytes Elf64 = as_error ParseObjectFile (elf_of bytes)
 
 -- the ELF file that an input is
-unfoldable pub opened : List ℕ → Result Elf Fault
+unfoldable pub opened : List ℕ → Result Elf ErrorValue
 opened bytes = do
-  kind ← as_fault ParseFileKind (identification.kind_of bytes)
+  kind ← as_error ParseFileKind (identification.kind_of bytes)
   elf_in bytes kind
 
 -- a section has one of the names of a kind
@@ -61,20 +61,21 @@ abbrev pub counts_once : SectionKind → Bool
 counts_once kind = same_kind kind Str || same_kind kind CuIndex || same_kind kind TuIndex
 
 -- a section that can't be used is compressed, or lies outside the file
-abbrev pub unusable : ReadError → Fault
+abbrev pub unusable : ReadError → ErrorValue
 unusable Compressed = DecompressData Compressed
-unusable fault = ObjectRead fault
+unusable error = ObjectRead error
 
 -- the content of a section that is used
-unfoldable pub used_bytes : SectionKind → SectionMeaning → Result (List ℕ) Fault
-used_bytes kind section = as_fault unusable (contents.used_bytes kind section)
+unfoldable pub used_bytes : SectionKind → SectionMeaning → Result (List ℕ) ErrorValue
+used_bytes kind section = as_error unusable (contents.used_bytes kind section)
 
 -- a kind is that of a section
 abbrev pub has_kind : SectionKind → Used → Bool
 has_kind kind used = same_kind used.kind kind
 
 -- the used sections with one more, where it is used
-abbrev pub with_used : List Used → SectionMeaning → Option SectionKind → Result (List Used) Fault
+abbrev pub with_used : List Used → SectionMeaning → Option SectionKind
+    → Result (List Used) ErrorValue
 with_used used section None = Ok used
 with_used used section (Some kind) =
     if counts_once kind && is_some (find (has_kind kind) used) then Ok used else (do
@@ -82,7 +83,7 @@ with_used used section (Some kind) =
       Ok (used ++ (record { kind = kind; bytes = bytes; address = section.address }) ∷ []))
 
 -- the used sections of a file, in order, after those before
-unfoldable pub used_from : List Used → List SectionMeaning → Result (List Used) Fault
+unfoldable pub used_from : List Used → List SectionMeaning → Result (List Used) ErrorValue
 used_from used [] = Ok used
 used_from used (section ∷ sections) = do
   with ← with_used used section (used_kind section)
@@ -96,7 +97,7 @@ pub record InputFile : Type 0 where
   pub has_abbreviations : Bool
 
 -- the sections of an ELF file that are used
-unfoldable pub input_file_of : Elf → Result InputFile Fault
+unfoldable pub input_file_of : Elf → Result InputFile ErrorValue
 input_file_of file = do
   sections ← used_from [] file.sections
   Ok (record {

@@ -1,7 +1,7 @@
 //! Where a unit's contribution to a section of an input package comes to lie: its row is sought in
 //! the index of the input by its identifier (DWARF 5, 7.3.5.3).
 
-ghost use Rattle.std.specs.Prelude.{◌≡◌, ◌+◌, ◌<◌, ◌^◌, Ok, Result, is_some};
+ghost use Rattle.std.specs.Prelude.{◌≡◌, ◌+◌, ◌<◌, ◌^◌, Ok, Result};
 ghost use Rattle.std.specs.Option.{ForSome, option_copied};
 ghost use Rattle.dwp_table.specs.Objects.{identifier_of};
 ghost use Rattle.thorin_input.specs.Adjusting.{
@@ -161,7 +161,7 @@ fn numbered_row<'a>(
         None => Err(Error::UnitNotInIndex(identifier)),
         Some(number) => match index.row(number) {
             Ok(row) => Ok(row),
-            Err(fault) => Err(Error::RowNotInIndex(fault, number)),
+            Err(error) => Err(Error::RowNotInIndex(error, number)),
         },
     }
 }

@@ -1,6 +1,6 @@
 //! Which sections of an input are used, and what they hold.
 
-ghost use Rattle.std.specs.Prelude.{◌≡◌, ◌||◌, not, map, find, option_map};
+ghost use Rattle.std.specs.Prelude.{◌≡◌, ◌||◌, not, find, option_map};
 ghost use Rattle.std.specs.List.{list_any};
 ghost use Rattle.dwp_base.specs.Sections.{same_kind};
 ghost use Rattle.dwp_base.specs.declared.section.SectionKind.TheVariants as kinds;

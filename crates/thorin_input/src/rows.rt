@@ -10,7 +10,6 @@ ghost use Rattle.thorin_errors.specs.Answers.{Gives};
 ghost use Rattle.thorin_input.specs.Adjusting.{GivesExactly};
 ghost use Rattle.thorin_index.specs.Entries.{contribution_to};
 ghost use Rattle.thorin_input.specs.Format.{is_shared};
-ghost use Rattle.thorin_packaged.specs.RowPlaces.{row_by_place};
 ghost use Rattle.thorin_input.specs.Growing.{joined_parts, range_put};
 ghost use Rattle.thorin_input.specs.Indexes.{index_for, looked_up};
 ghost use Rattle.thorin_input.specs.Rows as spec;

@@ -52,7 +52,7 @@ struct Taken<'a> {
 }
 
 /// Whether a section has one of the names of a kind.
-#[tactic(auto, using(crate::proofs::Walking::called_is_of))]
+#[tactic(auto, using(dwp_index::proofs::Called::called_is_named))]
 fn is_of(section: &Section<'_>, kind: SectionKind) -> bool
     ensures { result ≡ spec.is_of kind (meaning section.now) }
 {
@@ -230,7 +230,7 @@ fn input_of<'a>(
 }
 
 impl<'a> Walked<'a> {
-    /// What the sections of a file give. Without an info section no fault of another section
+    /// What the sections of a file give. Without an info section no error of another section
     /// counts, so it is kept aside.
     pub fn over(alloc: Global, file: &ElfFile<'a>) -> Walked<'a>
         ensures units { result.with_units ≡ spec.has_info (elf file.now) }

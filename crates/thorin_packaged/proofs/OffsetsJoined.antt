@@ -18,7 +18,8 @@ use Rattle.dwp_bytes.specs.StringOffsets.{header_size, entry_count}
 use Rattle.dwp_index.specs.Strings.{entry_in, string_for, string_in}
 
 -- a number in front doesn't depend on what follows it
-number_front : (order : Endianness) (format : Format) (xs ys : List ℕ) → offset_size format ≤ length
+pub number_front : (order : Endianness) (format : Format) (xs ys : List ℕ)
+    → offset_size format ≤ length
     xs → number order (offset_size format) (xs ++ ys) ≡ number order (offset_size format) xs
 number_front Little Dwarf32 xs ys within =
     let at = λ (k : ℕ) (h : k < 4). get_or_append_left xs ys 0 k (omega arith) in
@@ -53,7 +54,7 @@ number_front Big Dwarf64 xs ys within =
       at 7 (omega arith),
     ) refl
 
-no_header : (encoding : Encoding) → encoding.version < 5 → header_size encoding ≡ 0
+pub no_header : (encoding : Encoding) → encoding.version < 5 → header_size encoding ≡ 0
 no_header encoding old =
     let gnu : leb 5 encoding.version ≡ false = lt-leb 5 encoding.version old in
     rw gnu refl

@@ -13,7 +13,7 @@ use Rattle.dwp_bytes.specs.declared.encoding.Encoding.{Encoding}
 use Rattle.dwp_bytes.specs.Encoding.{offset_size}
 use Rattle.dwp_bytes.specs.StringOffsets.{header_size}
 use Rattle.dwp_index.specs.Index.{Index}
-use Rattle.thorin_errors.specs.Fault.{Fault}
+use Rattle.thorin_errors.specs.Errors.{ErrorValue}
 use Rattle.thorin_strings.specs.Rewritten.{NamesTheSame}
 use Rattle.thorin_strings.specs.StringOffsets.{remapped}
 use Rattle.thorin_strings.specs.Strings.{IsTable, data_of}
@@ -21,8 +21,9 @@ use Rattle.thorin_packaged.specs.ReadStrings.{ReadsAlike}
 use Rattle.thorin_packaged.specs.PackagedOffsets.{offset_ranges, packaged_offsets, ranges_test}
 use Rattle.thorin_packaged.specs.PackagedOffsets.{rewritten_from}
 use Rattle.thorin_packaged.specs.PackagedReading.{PackageReadsAlike, RangeReadsAlike, range_bytes}
-use Rattle.thorin_packaged.proofs.RewriteSteps.{IsNext, kept_more, next_passed}
+use Rattle.thorin_packaged.proofs.RewriteSteps.{IsNext, next_passed}
 use Rattle.thorin_packaged.proofs.RowRanges.{IsIn, compilation_there, type_there}
+use Rattle.thorin_strings.proofs.RemapLemmas.{kept_more}
 
 -- ---- parts of lists
 slice_front : (front range rest : List ℕ) (a b : ℕ) → length front ≡ a → length range ≡ b - a
@@ -43,7 +44,7 @@ slice_length : (bytes : List ℕ) (a b : ℕ) → a ≤ b → b ≤ length bytes
 slice_length bytes a b less within = length-take-le (b - a) (drop a bytes)
     (omega (arith, length-drop a bytes))
 
-pub bind_ok : {A B : Type 0} (r : Result A Fault) (f : A → Result B Fault) (y : B)
+pub bind_ok : {A B : Type 0} (r : Result A ErrorValue) (f : A → Result B ErrorValue) (y : B)
     → (r >>= f) ≡ Ok y
     → (x : A) × (r ≡ Ok x) × (f x ≡ Ok y)
 bind_ok (Ok x) f y e = (x, refl, e)
@@ -174,7 +175,7 @@ module _ (names : NamesLaw) (order : Endianness) (encoding : Encoding)
   abbrev Pair : Type 0
   Pair = List ℕ × List (List ℕ)
 
-  abbrev answer : Pair → Result (List ℕ × List (List ℕ)) Fault
+  abbrev answer : Pair → Result (List ℕ × List (List ℕ)) ErrorValue
   answer p = Ok p
 
   same_pair : (p q : Pair) → answer p ≡ answer q → p ≡ q

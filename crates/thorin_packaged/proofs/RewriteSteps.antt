@@ -3,17 +3,17 @@ use Rattle.std.proofs.Common.{◌≡◌, ℕ, ◌+◌, ◌-◌, ◌%◌, ◌<◌
 use Rattle.std.proofs.Common.{leb, not, ◌&&◌, List, [], ◌∷◌, ◌++◌, length, get_or, take, drop}
 use Rattle.std.proofs.Common.{slice_range, Ok, Err, Result, ap, sym, refl, ◌∙◌, append_assoc, arith}
 use Rattle.std.proofs.lemmas.Bool.{and_parts, leb-true, ltb-false, eqb-true}
-use Rattle.std.proofs.lemmas.List.{take-take, take_all, length-take, get_or_default, at_drop_more}
-use Rattle.std.proofs.lemmas.List.{at_drop_all}
+use Rattle.std.proofs.lemmas.List.{take_all, get_or_default, at_drop_more, at_drop_all}
 use Rattle.dwp_base.specs.declared.endian.Endianness.{Endianness}
 use Rattle.dwp_base.specs.declared.section.Contribution.{Contribution}
 use Rattle.dwp_base.specs.Reading.{◌>>=◌}
 use Rattle.dwp_bytes.specs.declared.encoding.Encoding.{Encoding}
 use Rattle.dwp_bytes.specs.Encoding.{offset_size}
 use Rattle.dwp_bytes.specs.StringOffsets.{header_size}
-use Rattle.thorin_errors.specs.Fault.{Fault}
+use Rattle.thorin_errors.specs.Errors.{ErrorValue}
 use Rattle.thorin_strings.specs.StringOffsets.{remapped}
 use Rattle.thorin_packaged.specs.PackagedOffsets.{is_whole_range, ranges_test, rewritten_from}
+use Rattle.thorin_strings.proofs.RemapLemmas.{kept_more}
 
 -- ---- what the tests say of the next range
 pub record IsNext (encoding : Encoding) (size last : ℕ) (r : Contribution)
@@ -24,7 +24,7 @@ pub record IsNext (encoding : Encoding) (size last : ℕ) (r : Contribution)
   pub behind : last ≤ r.offset.0
   pub others : ranges_test encoding size (r.offset.0 + r.size) rs ≡ Ok tt
 
-passed_by : (a b : Bool) (first second : Fault) (rest : Result (Unit {0}) Fault)
+passed_by : (a b : Bool) (first second : ErrorValue) (rest : Result (Unit {0}) ErrorValue)
     → cond (not a) (Err first) (cond b (Err second) rest) ≡ Ok tt → (a ≡ true) × (b ≡ false)
     × (rest ≡ Ok tt)
 passed_by true false first second rest h = (refl, refl, h)
@@ -51,10 +51,10 @@ next_passed encoding size last r rs h =
 
 -- ---- what was written, in front of what is to come
 abbrev Rewriting : Type 0
-Rewriting = Result (List ℕ × List (List ℕ)) Fault
+Rewriting = Result (List ℕ × List (List ℕ)) ErrorValue
 
-abbrev pub onto : List ℕ → Result (List ℕ × List (List ℕ)) Fault
-    → Result (List ℕ × List (List ℕ)) Fault
+abbrev pub onto : List ℕ → Result (List ℕ × List (List ℕ)) ErrorValue
+    → Result (List ℕ × List (List ℕ)) ErrorValue
 onto front (Ok p) = Ok (front ++ p.0, p.1)
 onto front (Err e) = Err e
 
@@ -71,14 +71,6 @@ pub record IsSoFar (order : Endianness) (encoding : Encoding) (section bytes : L
   pub passed : ranges_test encoding (length bytes) at (drop n ranges) ≡ Ok tt
   pub all : onto out (rewritten_from order encoding section bytes at (drop n ranges) strings) ≡
       rewritten_from order encoding section bytes 0 ranges before
-
--- what keeps the strings before it keeps those before them
-pub kept_more : (old now new : List (List ℕ)) → take (length old) now ≡ old → take (length now) new
-    ≡ now → take (length old) new ≡ old
-kept_more old now new first second =
-    let short : length old ≤ length now =
-    omega (arith, ap length first, length-take (length old) now) in
-    sym (take-take (length old) (length now) new short) ∙ ap (take (length old)) second ∙ first
 
 module _ (order : Endianness) (encoding : Encoding) (section bytes : List ℕ)
     (ranges : List Contribution) (before : List (List ℕ)) where
@@ -131,15 +123,16 @@ module _ (order : Endianness) (encoding : Encoding) (section bytes : List ℕ)
           ∙ sym (at_drop_more (λ rs. onto out (rewritten_from order encoding section bytes at rs
           strings)) ranges n r less) ∙ so_far.all
 
-      refuses_by : (fault : Fault) → range_of_next ≡ Err fault
+      refuses_by : (error : ErrorValue) → range_of_next ≡ Err error
           → onto out (rewritten_from order encoding section bytes at (r ∷ drop (n + 1) ranges)
-          strings) ≡ Err fault
+          strings) ≡ Err error
       unfolding rewritten_from
-      refuses_by fault refused = rw refused refl
+      refuses_by error refused = rw refused refl
 
-      pub one_refused : (fault : Fault) → range_of_next ≡ Err fault → rewritten_from order encoding
-          section bytes 0 ranges before ≡ Err fault
-      one_refused fault refused = sym from_next ∙ refuses_by fault refused
+      pub one_refused : (error : ErrorValue) → range_of_next ≡ Err error
+          → rewritten_from order encoding
+          section bytes 0 ranges before ≡ Err error
+      one_refused error refused = sym from_next ∙ refuses_by error refused
 
       onto_more : (front range : List ℕ) (rest : Rewriting) → onto ((out ++ front) ++ range) rest ≡
           onto out (rest >>= λ p. Ok (front ++ range ++ p.0, p.1))

@@ -1,30 +1,25 @@
 -- A rewritten range of string offsets reads as it read before.
 use Rattle.std.proofs.Common.{◌≡◌, ℕ, ◌+◌, ◌*◌, ◌<◌, ◌≤◌, Bool, true, false, cond, ltb, List}
-use Rattle.std.proofs.Common.{length, take, drop, Some, None, Result, Ok, Err, sym, refl, ◌∙◌}
-use Rattle.std.proofs.Common.{⊎_elim, arith}
+use Rattle.std.proofs.Common.{length, take, drop, Some, None, Ok, Err, sym, refl, ◌∙◌, ⊎_elim}
+use Rattle.std.proofs.Common.{arith}
 use Rattle.std.proofs.lemmas.Bool.{cases_lt, lt-ltb, le-ltb}
 use Rattle.dwp_base.specs.declared.endian.Endianness.{Endianness}
 use Rattle.dwp_base.specs.Numbers.{number}
 use Rattle.dwp_bytes.specs.declared.encoding.Encoding.{Encoding}
 use Rattle.dwp_bytes.specs.declared.encoding.Format.{Format}
-use Rattle.dwp_bytes.specs.declared.fault.ReadError.TheVariants.{UnexpectedEof}
+use Rattle.dwp_bytes.specs.declared.error.ReadError.TheVariants.{UnexpectedEof}
 use Rattle.dwp_bytes.specs.Encoding.{offset_size}
 use Rattle.dwp_bytes.specs.StringOffsets.{header_size, entry_count, string_at}
 use Rattle.dwp_index.specs.Strings.{entry_in, string_in}
-use Rattle.thorin_errors.specs.Fault.{Fault}
-use Rattle.thorin_errors.specs.Answers.{as_fault}
+use Rattle.thorin_errors.specs.Answers.{as_error}
 use Rattle.thorin_strings.specs.Strings.{data_of, IsTable}
 use Rattle.thorin_strings.specs.StringOffsets.{offset_at, named_at}
 use Rattle.thorin_strings.specs.Rewritten.{NamesTheSame}
 use Rattle.thorin_packaged.proofs.ReadAlike.{bind_ok}
 use Rattle.thorin_packaged.specs.ReadStrings.{ReadsAlike}
+use Rattle.thorin_strings.proofs.NamedEntries.{as_error_ok}
 
 -- ---- the string of an entry
-as_fault_ok : {A E : Type 0} (f : E → Fault) (r : Result A E) (x : A)
-    → as_fault f r ≡ Ok x → r ≡ Ok x
-as_fault_ok f (Ok y) x h = cc
-as_fault_ok f (Err e) x h = absurd cc
-
 read_by : (b : Bool) (n m : ℕ) → cond b (Err UnexpectedEof) (Ok n) ≡ Ok m → n ≡ m
 read_by true n m h = absurd cc
 read_by false n m h = cc
@@ -42,13 +37,13 @@ named_read : (order : Endianness) (encoding : Encoding) (section bytes : List �
 unfolding string_in entry_in named_at
 named_read order encoding section bytes i string less h =
     let width = offset_size encoding.format in
-    let offset = bind_ok (as_fault _ (offset_at order encoding.format bytes (header_size encoding +
+    let offset = bind_ok (as_error _ (offset_at order encoding.format bytes (header_size encoding +
     i * width))) _ string h in
     let there : ltb i (entry_count encoding (length bytes)) ≡ true = lt-ltb i _ less in
     let number_is : number order width (drop (header_size encoding + i * width) bytes) ≡ offset.0 =
     offset_is order encoding.format bytes (header_size encoding + i * width) offset.0
-    (as_fault_ok _ _ offset.0 offset.1) in
-    let read : string_at section offset.0 ≡ Ok string = as_fault_ok _ (string_at section offset.0)
+    (as_error_ok _ _ offset.0 offset.1) in
+    let read : string_at section offset.0 ≡ Ok string = as_error_ok _ (string_at section offset.0)
     string offset.2 in
     rw (there, number_is, read) refl
 

@@ -6,15 +6,15 @@ use Rattle.std.specs.Prelude.{Some, None, Result, Ok, Err}
 use Rattle.std.specs.Ordering.{nat_cmp, ordering_then}
 use Rattle.std.specs.declared.cmp.Ordering.{Ordering}
 use Rattle.std.specs.BTreeSet.{insert_key}
+use Rattle.dwp_base.specs.Reading.{◌>>=◌}
 use Rattle.dwp_base.specs.declared.endian.Endianness.{Endianness}
 use Rattle.dwp_base.specs.declared.section.SectionKind.TheVariants.{StrOffsets}
 use Rattle.dwp_base.specs.declared.section.Contribution.{Contribution}
-use Rattle.dwp_base.specs.Reading.{◌>>=◌}
 use Rattle.dwp_bytes.specs.declared.encoding.Encoding.{Encoding}
 use Rattle.dwp_bytes.specs.Encoding.{offset_size}
 use Rattle.dwp_bytes.specs.StringOffsets.{header_size}
 use Rattle.dwp_index.specs.Index.{Index}
-use Rattle.thorin_errors.specs.Fault.{Fault, BadStringOffsets, OverlappingStringOffsets}
+use Rattle.thorin_errors.specs.Errors.{ErrorValue, BadStringOffsets, OverlappingStringOffsets}
 use Rattle.thorin_strings.specs.StringOffsets.{remapped}
 use Rattle.thorin_packaged.specs.RowPlaces.{ranges_of}
 
@@ -47,7 +47,7 @@ is_whole_range encoding size range =
 
 -- range by range: each is whole, and begins at the end of the one before it or behind
 unfoldable pub ranges_test : Encoding → (size last_end : ℕ) → List Contribution
-    → Result (Unit {0}) Fault
+    → Result (Unit {0}) ErrorValue
 ranges_test encoding size last_end [] = Ok tt
 ranges_test encoding size last_end (r ∷ rs) =
     if not (is_whole_range encoding size r)
@@ -59,7 +59,7 @@ ranges_test encoding size last_end (r ∷ rs) =
 -- the section from a place on, with these ranges rewritten in turn and the bytes between them as
 -- they are, and the distinct strings after it
 unfoldable pub rewritten_from : Endianness → Encoding → (section bytes : List ℕ) → ℕ
-    → List Contribution → List (List ℕ) → Result (List ℕ × List (List ℕ)) Fault
+    → List Contribution → List (List ℕ) → Result (List ℕ × List (List ℕ)) ErrorValue
 rewritten_from order encoding section bytes at [] strings = Ok (drop at bytes, strings)
 rewritten_from order encoding section bytes at (r ∷ rs) strings = do
   range ← remapped order encoding section
@@ -70,7 +70,7 @@ rewritten_from order encoding section bytes at (r ∷ rs) strings = do
 -- the string offsets of a package with these indexes, once their strings are among the distinct
 -- ones, and these strings
 unfoldable pub packaged_offsets : Endianness → Encoding → (compilations types : Option Index)
-    → (section bytes : List ℕ) → List (List ℕ) → Result (List ℕ × List (List ℕ)) Fault
+    → (section bytes : List ℕ) → List (List ℕ) → Result (List ℕ × List (List ℕ)) ErrorValue
 packaged_offsets order encoding compilations types section bytes strings = do
   _ ← ranges_test encoding (length bytes) 0 (offset_ranges compilations types)
   rewritten_from order encoding section bytes 0 (offset_ranges compilations types) strings

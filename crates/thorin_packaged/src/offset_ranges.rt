@@ -1,8 +1,8 @@
 //! The ranges of string offsets that the rows of a package have.
 
-ghost use Rattle.std.specs.Prelude.{◌≡◌, ◌≢◌, [], map, OnOk, IfOk, IfErr};
+ghost use Rattle.std.specs.Prelude.{◌≡◌, ◌≢◌, map, OnOk, IfOk, IfErr};
 ghost use Rattle.std.specs.Option.{option_copied};
-ghost use Rattle.thorin_errors.specs.Answers.{Gives, MemoryAside};
+ghost use Rattle.thorin_errors.specs.Answers.{Gives};
 ghost use Rattle.thorin_packaged.specs.PackagedOffsets.{is_whole_range, offset_ranges, ranges_test};
 ghost use Rattle.thorin_packaged.specs.PackagedOffsets.{with_rows};
 ghost use Rattle.thorin_packaged.specs.RangeKeys.{range_at};

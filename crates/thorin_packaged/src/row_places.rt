@@ -1,6 +1,6 @@
 //! Rows of an index by their range in one section.
 
-ghost use Rattle.std.specs.Prelude.{◌≡◌, ◌<◌, ◌≤◌, length, IfOk, IfErr, OnOk};
+ghost use Rattle.std.specs.Prelude.{◌≡◌, ◌<◌, IfOk, IfErr};
 ghost use Rattle.std.specs.Option.{option_copied};
 ghost use Rattle.thorin_packaged.specs.RowPlaces.{range_of_row, row_by_place};
 

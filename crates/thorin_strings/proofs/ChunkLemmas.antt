@@ -6,9 +6,9 @@ use Rattle.std.proofs.Common.{add-one}
 use Rattle.std.specs.List.{concat}
 use Rattle.std.proofs.lemmas.List.{append-nil, get_or_append_left, get_or-append-add}
 use Rattle.std.proofs.lemmas.List.{get_or-append_right, get_or_at, get_or-map, get_or-drop, set_at}
-use Rattle.std.proofs.lemmas.List.{take_at, take_all, take_more, take-append-drop, drop_all}
-use Rattle.std.proofs.lemmas.List.{drop_more, map_more, length-map, length-take, length-take-le}
-use Rattle.std.proofs.lemmas.List.{length-drop, length-set}
+use Rattle.std.proofs.lemmas.List.{take_all, take_more, take-append-drop, drop_all, drop_more}
+use Rattle.std.proofs.lemmas.List.{map_more, length-map, length-take, length-take-le, length-drop}
+use Rattle.std.proofs.lemmas.List.{length-set}
 use Rattle.std.proofs.lemmas.List.Edits.{insert-append_left, insert-append_right, length-insert}
 use Rattle.std.proofs.lemmas.List.Elements.{filter-append, All-nil, All-cons, All-weaker}
 use Rattle.std.proofs.lemmas.List.Sums.{length-filter, count_by-le-length}

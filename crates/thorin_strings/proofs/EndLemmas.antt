@@ -1,15 +1,14 @@
 -- The string at the front of some bytes, up to the first zero.
-use Rattle.std.proofs.Common.{◌≡◌, ℕ, ◌<◌, ◌≤◌, true, false, ltb, eqb, List}
-use Rattle.std.proofs.Common.{length, take, drop, Some, Ok, Decides, ap, sym, refl, ◌∙◌}
-use Rattle.std.proofs.Common.{arith, ◌+◌, [], ◌∷◌, ◌++◌, Bool, cond, not, get_or, subst, add-one}
+use Rattle.std.proofs.Common.{◌≡◌, ℕ, ◌<◌, ◌≤◌, true, false, ltb, eqb, List, length, take, drop}
+use Rattle.std.proofs.Common.{Some, Ok, Decides, ap, sym, refl, ◌∙◌, arith, ◌+◌, [], ◌∷◌, ◌++◌}
+use Rattle.std.proofs.Common.{Bool, cond, not, get_or, subst, add-one}
 use Rattle.std.proofs.Math.Seq.{take-suc}
-use Rattle.std.proofs.lemmas.Bool.{false≢true}
-use Rattle.std.proofs.lemmas.List.{take-append-drop, take_more_same}
+use Rattle.std.proofs.lemmas.Bool.{false≢true, le-ltb, eq-eqb, eqb-true, ne_eqb}
+use Rattle.std.proofs.lemmas.List.{take-append-drop, take_more_same, get_or_default, get_or-take}
+use Rattle.std.proofs.lemmas.List.{length-take}
 use Rattle.thorin_strings.proofs.CompareLemmas.{front_string, front_string-cons}
 use Rattle.std.specs.List.{before_first, list_any, HoldsAt}
-use Rattle.std.proofs.lemmas.List.{get_or_default, get_or-take, length-take}
 use Rattle.std.proofs.lemmas.List.Sums.{position_or_len_is}
-use Rattle.std.proofs.lemmas.Bool.{le-ltb, eq-eqb, eqb-true, ne_eqb}
 use Rattle.std.proofs.lemmas.Bool.Decides.{Decides-by_or, Decides-eqb}
 use Rattle.memchr.specs.Find.{IsFirstByte, is_byte}
 use Rattle.dwp_bytes.specs.StringOffsets.{string_at}

@@ -1,19 +1,16 @@
 -- Strings that are found by their hashes, or else by their order.
-use Rattle.std.proofs.Common.{◌≡◌, ◌≢◌, ℕ, zero, suc, ◌+◌, ◌<◌, Bool, true, false, cond, eqb, ltb}
-use Rattle.std.proofs.Common.{List}
-use Rattle.std.proofs.Common.{[]}
-use Rattle.std.proofs.Common.{◌∷◌, ◌++◌, length, take, drop, map, filter, get_or}
-use Rattle.std.proofs.Common.{Contains, insert, Some, None, inl, inr, ⊎_elim, ap, sym, subst}
-use Rattle.std.proofs.Common.{refl, ◌∙◌, arith, length-append, Result, Ok, Err, IfOk, IfErr}
-use Rattle.std.proofs.Common.{OnOk, OnErr}
+use Rattle.std.proofs.Common.{◌≡◌, ◌≢◌, ℕ, suc, ◌+◌, ◌<◌, Bool, true, false, cond, eqb, ltb, List}
+use Rattle.std.proofs.Common.{[], ◌∷◌, ◌++◌, length, take, drop, map, filter, get_or, Contains}
+use Rattle.std.proofs.Common.{insert, Some, None, inl, inr, ⊎_elim, ap, sym, subst, refl, ◌∙◌}
+use Rattle.std.proofs.Common.{arith, length-append, Result, Ok, Err, IfOk, IfErr, OnOk, OnErr}
 use Rattle.std.specs.declared.alloc.AllocError.{AllocError}
 use Rattle.std.proofs.lemmas.Result.{IfOk-at_ok}
-use Rattle.std.proofs.lemmas.List.{take-append-drop, get_or_at, get_or_append_left}
-use Rattle.std.proofs.lemmas.List.{get_or-map, length-map, map-append}
+use Rattle.std.proofs.lemmas.List.{take-append-drop, get_or_at, get_or_append_left, get_or-map}
+use Rattle.std.proofs.lemmas.List.{length-map, map-append}
 use Rattle.std.proofs.lemmas.List.Elements.{All-contains, Contains-get_or}
 use Rattle.std.proofs.lemmas.List.Sorted.{IsPermutation-insert, Contains-permutation}
 use Rattle.std.proofs.lemmas.Bool.{cases_lt, lt-ltb}
-use Rattle.dwp_bytes.specs.declared.fault.ReadError.TheVariants.{OffsetOutOfRange, NoTerminator}
+use Rattle.dwp_bytes.specs.declared.error.ReadError.TheVariants.{OffsetOutOfRange, NoTerminator}
 use Rattle.dwp_bytes.specs.StringOffsets.{string_from, string_at}
 use Rattle.std.specs.List.{list_any}
 use Rattle.thorin_strings.specs.declared.places.Slot.{Slot}
@@ -21,14 +18,12 @@ use Rattle.thorin_strings.specs.Places.{hash, place_of, shared, IsOrdered, IsFou
 use Rattle.thorin_strings.specs.Places.{AreFound}
 use Rattle.thorin_strings.specs.Strings.{terminated, data_of, offset_of, strings_in, offsets_from}
 use Rattle.thorin_strings.specs.Strings.{IsZeroFree, IsTable, IsIndexed, StandsAt, BeginsAt}
-use Rattle.thorin_strings.specs.Strings.{IsWithinDigits}
 use Rattle.thorin_strings.specs.declared.entries.Entries.{Entries}
 use Rattle.thorin_strings.specs.Hashed.{IsFindable, IsHashed, held}
 use Rattle.thorin_strings.proofs.StringLemmas.{zero_free-strings_in}
 use Rattle.thorin_strings.proofs.Filters.{Contains-filter}
-use Rattle.thorin_strings.proofs.OffsetLemmas.{has_Decides, offset_of-at}
-use Rattle.thorin_strings.proofs.OffsetLemmas.{offsets_from-append, offsets_from-below}
-use Rattle.thorin_strings.proofs.OffsetLemmas.{length-offsets_from}
+use Rattle.thorin_strings.proofs.OffsetLemmas.{has_Decides, offset_of-at, offsets_from-append}
+use Rattle.thorin_strings.proofs.OffsetLemmas.{offsets_from-below, length-offsets_from}
 use Rattle.thorin_strings.proofs.TableLemmas.{strings_push, stands_apart, indexed_more}
 use Rattle.thorin_strings.proofs.TableLemmas.{indexed_take}
 use Rattle.thorin_strings.proofs.PlacesLemmas.{same_or}

@@ -1,15 +1,14 @@
 -- What is remembered of strings that were read.
 use Rattle.std.proofs.Common.{◌≡◌, ℕ, ◌+◌, ◌<◌, ◌≤◌, Bool, true, false, cond, ltb, List, [], ◌∷◌}
-use Rattle.std.proofs.Common.{◌++◌, length, take, drop, codes, arith}
-use Rattle.std.proofs.Common.{Option, None, Some}
-use Rattle.std.proofs.Common.{Result, Ok, Err, ap, ap₂, sym, subst, refl, ◌∙◌}
+use Rattle.std.proofs.Common.{◌++◌, length, take, drop, codes, arith, Option, None, Some, Result}
+use Rattle.std.proofs.Common.{Ok, Err, ap, ap₂, sym, subst, refl, ◌∙◌}
 use Rattle.std.proofs.lemmas.List.{take-append-drop}
 use Rattle.std.proofs.lemmas.List.Elements.{All-weaker}
 use Rattle.std.proofs.lemmas.Bool.{cond-true, lt-ltb}
 use Rattle.dwp_base.specs.declared.endian.Endianness.{Endianness}
 use Rattle.dwp_base.specs.Reading.{◌>>=◌}
 use Rattle.dwp_bytes.specs.declared.encoding.Encoding.{Encoding}
-use Rattle.thorin_errors.specs.Fault.{Fault, NumberTooLarge}
+use Rattle.thorin_errors.specs.Errors.{ErrorValue, NumberTooLarge}
 use Rattle.std.specs.Option.{IfSome, IsSomeAnd}
 use Rattle.std.specs.Str.{bytes_eq}
 use Rattle.thorin_strings.specs.Strings.{data_of, offset_of, with_string}
@@ -17,9 +16,9 @@ use Rattle.thorin_strings.specs.StringOffsets.{offset_limit, entry_at, string_re
 use Rattle.thorin_strings.specs.StringOffsets.{fitting_offset, remapped_entry}
 use Rattle.thorin_strings.specs.Known.{offset_read, IsKnown, AreKnown}
 use Rattle.thorin_strings.proofs.Named.{has, has_more, offset_kept, there_once_used, there_if_same}
-use Rattle.thorin_strings.proofs.NamedEntries.{bind_ok}
 use Rattle.thorin_strings.proofs.UsedLemmas.{entry_used}
 use Rattle.thorin_strings.proofs.OffsetLemmas.{length-data_of-cons}
+use Rattle.dwp_base.proofs.Steps.{bind-was}
 
 -- a string that was read and used
 pub record WasRead (section : List ℕ) (at place : ℕ) (old new : List (List ℕ)) : Type 0 where
@@ -32,7 +31,7 @@ pub was_read : (section : List ℕ) (at place : ℕ) (old new : List (List ℕ))
     old ≡ Ok (place, new) → WasRead section at place old new
 unfolding offset_read
 was_read section at place old new h =
-    let string = bind_ok (string_read section at) _ (place, new) h in
+    let string = bind-was (string_read section at) _ (place, new) h in
     let whole : (offset_of old string.0, with_string old string.0) ≡ (place, new) = cc in
     record {
       string = string.0;
@@ -128,20 +127,21 @@ unread (Ok x) f e h = absurd cc
 unread (Err d) f e h = cc
 
 pub entry_unread : (order : Endianness) (encoding : Encoding) (section bytes : List ℕ)
-    (index named : ℕ) (old : List (List ℕ)) (fault : Fault) → entry_at order encoding bytes index ≡
-    Ok named → offset_read section named old ≡ Err fault → remapped_entry order encoding section
-    bytes index old ≡ Err fault
+    (index named : ℕ) (old : List (List ℕ)) (error : ErrorValue)
+    → entry_at order encoding bytes index ≡
+    Ok named → offset_read section named old ≡ Err error → remapped_entry order encoding section
+    bytes index old ≡ Err error
 unfolding named_at remapped_entry offset_read
-entry_unread order encoding section bytes index named old fault entry h =
-    let none : string_read section named ≡ Err fault = unread (string_read section named) (λ string.
-    (offset_of old string, with_string old string)) fault h in
+entry_unread order encoding section bytes index named old error entry h =
+    let none : string_read section named ≡ Err error = unread (string_read section named) (λ string.
+    (offset_of old string, with_string old string)) error h in
     rw (entry, none) refl
 
 pub entry_none : (order : Endianness) (encoding : Encoding) (section bytes : List ℕ) (index : ℕ)
-    (old : List (List ℕ)) (fault : Fault) → entry_at order encoding bytes index ≡ Err fault
-    → remapped_entry order encoding section bytes index old ≡ Err fault
+    (old : List (List ℕ)) (error : ErrorValue) → entry_at order encoding bytes index ≡ Err error
+    → remapped_entry order encoding section bytes index old ≡ Err error
 unfolding named_at remapped_entry
-entry_none order encoding section bytes index old fault entry = rw entry refl
+entry_none order encoding section bytes index old error entry = rw entry refl
 
 -- no string has its offset past the section's end
 pub offset_within : (strings : List (List ℕ)) (string : List ℕ) → offset_of strings string ≤ length

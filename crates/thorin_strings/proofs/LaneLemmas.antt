@@ -6,9 +6,8 @@ use Rattle.std.proofs.lemmas.List.{ext_get_or, get_or-take, length-take-le, leng
 use Rattle.std.specs.Int.{bit_at, trailing_zeros}
 use Rattle.std.specs.Int.Count.{trailing_of_zero}
 use Rattle.std.specs.Simd.Lanes.{zip2, sel_l, mask_l, top}
-use Rattle.std.proofs.lemmas.Simd.{length-zip2, get_or-zip2, get_or-replicate}
-use Rattle.std.proofs.lemmas.Simd.{bit_mask_l, tops_compared, mask_l-mod}
-use Rattle.std.proofs.lemmas.Simd.{length-sel_l, get_or-sel_l}
+use Rattle.std.proofs.lemmas.Simd.{length-zip2, get_or-zip2, get_or-replicate, bit_mask_l}
+use Rattle.std.proofs.lemmas.Simd.{tops_compared, mask_l-mod, length-sel_l, get_or-sel_l}
 use Rattle.std.proofs.lemmas.Nat.Bits.{bit_at-trailing_zeros}
 use Rattle.std.proofs.lemmas.Bool.{eqb-false, eqb-true, ltb-false, ltb-true, cases_lt}
 

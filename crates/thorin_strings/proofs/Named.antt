@@ -23,14 +23,14 @@ use Rattle.thorin_strings.proofs.OffsetLemmas.{has_Decides}
 abbrev pub has : List (List ℕ) → List ℕ → Bool
 has ss s = list_any (λ t. bytes_eq t s) ss
 
-itself : (s : List ℕ) → bytes_eq s s ≡ true
+pub itself : (s : List ℕ) → bytes_eq s s ≡ true
 itself s = (bytes_eq-Decides s s).1 refl
 
 or_right : (b c : Bool) → c ≡ true → (b || c) ≡ true
 or_right true c h = refl
 or_right false c h = h
 
-has_by : (b r q : Bool) → (b || r) ≡ true → (r ≡ true → q ≡ true) → (b || q) ≡ true
+pub has_by : (b r q : Bool) → (b || r) ≡ true → (r ≡ true → q ≡ true) → (b || q) ≡ true
 has_by true r q h more = refl
 has_by false r q h more = more h
 
@@ -44,7 +44,8 @@ has_last [] s = rw (itself s) refl
 has_last (t ∷ ss) s = or_right (bytes_eq t s) (has (ss ++ s ∷ []) s) (has_last ss s)
 
 -- and keeps its offset
-offset_by : (b r : Bool) (n x y : ℕ) → (b || r) ≡ true → (r ≡ true → x ≡ y) → cond b 0 (n + 1 + x) ≡
+pub offset_by : (b r : Bool) (n x y : ℕ) → (b || r) ≡ true → (r ≡ true → x ≡ y)
+    → cond b 0 (n + 1 + x) ≡
     cond b 0 (n + 1 + y)
 offset_by true r n x y h same = refl
 offset_by false r n x y h same = ap (λ m. n + 1 + m) (same h)

@@ -17,7 +17,7 @@ use Rattle.dwp_bytes.specs.declared.encoding.Encoding.{Encoding}
 use Rattle.dwp_bytes.specs.declared.encoding.Format.{Format}
 use Rattle.dwp_bytes.specs.declared.encoding.Format.TheVariants.{Dwarf32, Dwarf64}
 use Rattle.dwp_bytes.specs.Encoding.{offset_size}
-use Rattle.thorin_errors.specs.Fault.{Fault}
+use Rattle.thorin_errors.specs.Errors.{ErrorValue}
 use Rattle.thorin_strings.specs.Strings.{IsTable}
 use Rattle.dwp_bytes.specs.StringOffsets.{length_size, header_size, entry_count}
 use Rattle.thorin_strings.specs.StringOffsets.{offset_limit, initial_length, header_of, offset_at}
@@ -25,10 +25,11 @@ use Rattle.thorin_strings.specs.StringOffsets.{named_at, remapped_entries, entry
 use Rattle.thorin_strings.specs.Rewritten.{NamesOneString, NamesTheSame}
 use Rattle.thorin_strings.proofs.OffsetLemmas.{has_Decides}
 use Rattle.thorin_strings.proofs.Named.{read_later}
-use Rattle.thorin_strings.proofs.NamedEntries.{bind_ok, EntryNames, entries_keep}
+use Rattle.thorin_strings.proofs.NamedEntries.{EntryNames, entries_keep}
+use Rattle.dwp_base.proofs.Steps.{bind-was}
 
 -- ---- one number
-written_long : (order : Endianness) (format : Format) (x : ℕ)
+pub written_long : (order : Endianness) (format : Format) (x : ℕ)
     → length (number_bytes order (offset_size format) x) ≡ offset_size format
 written_long Little Dwarf32 x = refl
 written_long Little Dwarf64 x = refl
@@ -46,7 +47,7 @@ again Big Dwarf64 x rest h = omega (arith, from_be_bytes-to_be_bytes_8 x (omega 
 one_more : (n width : ℕ) → suc n * width ≡ width + n * width
 one_more n width = omega (arith, suc-mul n width)
 
-entries_long : (order : Endianness) (format : Format) (offsets : List ℕ)
+pub entries_long : (order : Endianness) (format : Format) (offsets : List ℕ)
     → length (entry_bytes order format offsets) ≡ length offsets * offset_size format
 entries_long order format [] = sym (zero-mul (offset_size format))
 entries_long order format (x ∷ xs) =
@@ -86,10 +87,11 @@ halves_long : (order : Endianness) → length (number_bytes order 2 5 ++ number_
 halves_long Little = refl
 halves_long Big = refl
 
-standard_by : (b : Bool) (fault : Fault) (bytes header : List ℕ) → cond b (Err fault) (Ok bytes) ≡
+standard_by : (b : Bool) (error : ErrorValue) (bytes header : List ℕ)
+    → cond b (Err error) (Ok bytes) ≡
     Ok header → bytes ≡ header
-standard_by true fault bytes header h = absurd cc
-standard_by false fault bytes header h = cc
+standard_by true error bytes header h = absurd cc
+standard_by false error bytes header h = cc
 
 pub header_long : (order : Endianness) (encoding : Encoding) (size : ℕ) (header : List ℕ)
     → header_of order encoding size ≡ Ok header → length header ≡ header_size encoding
@@ -183,15 +185,16 @@ module _ (order : Endianness) (encoding : Encoding) (section bytes : List ℕ) w
             (keep.each i less);
       }
 
-  by_size : (none short : Bool) (size : ℕ) (before : List (List ℕ)) (fault : Fault) (range : List ℕ
+  by_size : (none short : Bool) (size : ℕ) (before : List (List ℕ))
+      (error : ErrorValue) (range : List ℕ
       × List (List ℕ)) → eqb size 0 ≡ none → IsTable before
-      → cond none (Ok ([], before)) (cond short (Err fault) (header_of order encoding
+      → cond none (Ok ([], before)) (cond short (Err error) (header_of order encoding
       (entry_count encoding size * offset_size encoding.format) >>= λ header.
       remapped_entries order encoding section bytes (entry_count encoding size) before >>=
       λ entries. Ok (header ++ entry_bytes order encoding.format entries.0, entries.1))) ≡ Ok
       range
       → NamesTheSame order encoding section bytes size before range.0 range.1
-  by_size true short size before fault range empty table h =
+  by_size true short size before error range empty table h =
       let is_zero : size ≡ 0 = eqb-true size 0 empty in
       let whole : ([], before) ≡ range = cc in
       let none : entry_count encoding 0 ≡ 0 = count_none encoding.format (header_size encoding) in
@@ -205,11 +208,11 @@ module _ (order : Endianness) (encoding : Encoding) (section bytes : List ℕ) w
         long = λ some. absurd (some is_zero);
         named = λ i less. absurd (omega (arith, no_entry));
       })
-  by_size false true size before fault range some table h = absurd cc
-  by_size false false size before fault range some table h =
-      let header = bind_ok (header_of order encoding (entry_count encoding size * offset_size
+  by_size false true size before error range some table h = absurd cc
+  by_size false false size before error range some table h =
+      let header = bind-was (header_of order encoding (entry_count encoding size * offset_size
       encoding.format)) _ range h in
-      let entries = bind_ok (remapped_entries order encoding section bytes
+      let entries = bind-was (remapped_entries order encoding section bytes
       (entry_count encoding size) before) _ range header.2 in
       let whole : (header.0 ++ entry_bytes order encoding.format entries.0.0, entries.0.1) ≡ range =
       cc in

@@ -5,29 +5,24 @@ use Rattle.std.proofs.Common.{sym, subst, refl, ◌∙◌, ⊎_elim, arith, leng
 use Rattle.std.proofs.lemmas.List.{take_all, take-append-drop, get_or_append_left, get_or_at}
 use Rattle.std.proofs.lemmas.Bool.{cases_eq, ltb-false}
 use Rattle.dwp_base.specs.declared.endian.Endianness.{Endianness}
-use Rattle.dwp_base.specs.Reading.{◌>>=◌}
 use Rattle.dwp_bytes.specs.declared.encoding.Encoding.{Encoding}
 use Rattle.dwp_bytes.specs.declared.encoding.Format.{Format}
-use Rattle.dwp_bytes.specs.declared.fault.ReadError.TheVariants.{OffsetOutOfRange, NoTerminator}
+use Rattle.dwp_bytes.specs.declared.error.ReadError.TheVariants.{OffsetOutOfRange, NoTerminator}
 use Rattle.dwp_bytes.specs.Encoding.{offset_size}
-use Rattle.thorin_errors.specs.Fault.{Fault}
-use Rattle.thorin_errors.specs.Answers.{as_fault}
+use Rattle.thorin_errors.specs.Errors.{ErrorValue}
+use Rattle.thorin_errors.specs.Answers.{as_error}
 use Rattle.dwp_bytes.specs.StringOffsets.{header_size, string_from, string_at}
 use Rattle.thorin_strings.specs.Strings.{offset_of, with_string, IsZeroFree, IsTable}
 use Rattle.thorin_strings.specs.StringOffsets.{offset_limit, offset_at, named_at, fitting_offset}
 use Rattle.thorin_strings.specs.StringOffsets.{remapped_entry, remapped_entries}
 use Rattle.thorin_strings.proofs.Named.{has, has_more, offset_kept, read_free, used}
 use Rattle.thorin_strings.proofs.RemapLemmas.{kept_more}
+use Rattle.dwp_base.proofs.Steps.{bind-was}
 
-pub bind_ok : {A B E : Type 0} (r : Result A E) (f : A → Result B E) (y : B) → (r >>= f) ≡ Ok y
-    → (x : A) × (r ≡ Ok x) × (f x ≡ Ok y)
-bind_ok (Ok x) f y e = (x, refl, e)
-bind_ok (Err d) f y e = absurd cc
-
-as_fault_ok : {A E : Type 0} (f : E → Fault) (r : Result A E) (x : A)
-    → as_fault f r ≡ Ok x → r ≡ Ok x
-as_fault_ok f (Ok y) x h = cc
-as_fault_ok f (Err e) x h = absurd cc
+pub as_error_ok : {A E : Type 0} (f : E → ErrorValue) (r : Result A E) (x : A)
+    → as_error f r ≡ Ok x → r ≡ Ok x
+as_error_ok f (Ok y) x h = cc
+as_error_ok f (Err e) x h = absurd cc
 
 string_by : (a b : Bool) (s string : List ℕ) → cond a (Err OffsetOutOfRange)
     (cond b (Ok s) (Err NoTerminator)) ≡ Ok string → s ≡ string
@@ -46,14 +41,14 @@ named_free : (order : Endianness) (encoding : Encoding) (section bytes : List �
     (string : List ℕ) → named_at order encoding section bytes index ≡ Ok string → IsZeroFree string
 unfolding named_at
 named_free order encoding section bytes index string h =
-    let offset = bind_ok (as_fault _ (offset_at order encoding.format bytes (header_size encoding +
+    let offset = bind-was (as_error _ (offset_at order encoding.format bytes (header_size encoding +
     index * offset_size encoding.format))) _ string h in
-    string_free section offset.0 string (as_fault_ok _ (string_at section offset.0) string offset.2)
+    string_free section offset.0 string (as_error_ok _ (string_at section offset.0) string offset.2)
 
-fitting_by : (b : Bool) (limit n m : ℕ) (fault : Fault) → ltb limit n ≡ b → cond b (Err fault)
+fitting_by : (b : Bool) (limit n m : ℕ) (error : ErrorValue) → ltb limit n ≡ b → cond b (Err error)
     (Ok n) ≡ Ok m → (n ≡ m) × (n ≤ limit)
-fitting_by true limit n m fault test h = absurd cc
-fitting_by false limit n m fault test h = (cc, ltb-false limit n test)
+fitting_by true limit n m error test h = absurd cc
+fitting_by false limit n m error test h = (cc, ltb-false limit n test)
 
 fitting_is : (format : Format) (n m : ℕ) → fitting_offset format n ≡ Ok m → (n ≡ m)
     × (n ≤ offset_limit format)
@@ -99,8 +94,8 @@ module _ (order : Endianness) (encoding : Encoding) (section bytes : List ℕ) w
       → EntryKeeps index strings entry.1 entry.0
   unfolding remapped_entry
   entry_keeps index strings entry table h =
-      let named = bind_ok (named_at order encoding section bytes index) _ entry h in
-      let fit = bind_ok (fitting_offset encoding.format (offset_of strings named.0)) _
+      let named = bind-was (named_at order encoding section bytes index) _ entry h in
+      let fit = bind-was (fitting_offset encoding.format (offset_of strings named.0)) _
       entry named.2 in
       let is = fitting_is encoding.format (offset_of strings named.0) fit.0 fit.1 in
       let whole : (fit.0, with_string strings named.0) ≡ entry = cc in
@@ -140,8 +135,8 @@ module _ (order : Endianness) (encoding : Encoding) (section bytes : List ℕ) w
         each = λ i less. absurd (omega arith);
       })
   entries_keep (suc n) before entries table h =
-      let first = bind_ok (remapped_entries order encoding section bytes n before) _ entries h in
-      let entry = bind_ok (remapped_entry order encoding section bytes n first.0.1) _
+      let first = bind-was (remapped_entries order encoding section bytes n before) _ entries h in
+      let entry = bind-was (remapped_entry order encoding section bytes n first.0.1) _
       entries first.2 in
       let whole : (first.0.0 ++ entry.0.0 ∷ [], entry.0.1) ≡ entries = cc in
       let all = entries_keep n before first.0 table first.1 in

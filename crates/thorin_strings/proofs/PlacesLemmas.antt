@@ -1,7 +1,7 @@
 -- Places of strings by their hashes, in slots.
-use Rattle.std.proofs.Common.{◌≡◌, ◌≢◌, ℕ, zero, suc, ◌+◌, ◌-◌, ◌<◌, ◌≤◌, List, [], ◌++◌}
-use Rattle.std.proofs.Common.{length, take, drop, get_or, set, Some, None, ap, ap₂, sym, subst}
-use Rattle.std.proofs.Common.{refl, ◌∙◌, ⊎_elim, arith}
+use Rattle.std.proofs.Common.{◌≡◌, ◌≢◌, ℕ, zero, suc, ◌+◌, ◌-◌, ◌<◌, ◌≤◌, List, ◌++◌, length, take}
+use Rattle.std.proofs.Common.{drop, get_or, set, Some, None, ap, ap₂, sym, subst, refl, ◌∙◌, ⊎_elim}
+use Rattle.std.proofs.Common.{arith}
 use Rattle.std.proofs.lemmas.Grind.{get_or-set_at}
 use Rattle.std.proofs.lemmas.List.{get_or-set_other, get_or_past, take_at}
 use Rattle.std.proofs.lemmas.Bool.{cond-true, cond-false, ne_eqb, eq-eqb, cases_order, cases_lt}
@@ -41,12 +41,6 @@ pub begun : (slots : List Slot) (size h at n : ℕ) → at ≡ home size h → n
     → place_of slots size h ≡ place_from slots at n h
 unfolding place_of
 begun slots size h at n is_at is_n = ap₂ (λ a k. place_from slots a k h) (sym is_at) (sym is_n)
-
--- no slots, no places
-pub none_of : (slots : List Slot) (size h : ℕ) → slots ≡ [] → place_of slots size h ≡ None
-unfolding place_of
-none_of slots size h none = at_free slots (home size h) 128 h (ap (λ (s : Slot). s.behind)
-    (ap (λ l. get_or l (home size h) free) none ∙ get_or_past [] (home size h) free (omega arith)))
 
 -- a slot that was free has its place
 put_from : (slots : List Slot) (s : Slot) (k at n : ℕ) → k < length slots → at ≤ k → k < at + n

@@ -1,8 +1,7 @@
 -- Rewriting one entry after another.
 use Rattle.std.proofs.Common.{◌≡◌, ℕ, zero, suc, ◌+◌, ◌*◌, ◌<◌, ◌≤◌, false, eqb, ltb, List, [], ◌∷◌}
 use Rattle.std.proofs.Common.{◌++◌, length, take, Ok, Err, ap, ap₂, sym, subst, refl, ◌∙◌, ⊎_elim}
-use Rattle.std.proofs.Common.{arith, append_assoc, add-one, length-append, drop, ◌-◌}
-use Rattle.std.proofs.Common.{◌/◌, ◌^◌}
+use Rattle.std.proofs.Common.{arith, append_assoc, add-one, length-append, drop, ◌-◌, ◌/◌, ◌^◌}
 use Rattle.dwp_base.specs.declared.endian.Endianness.{Endianness}
 use Rattle.dwp_base.specs.declared.endian.Endianness.TheVariants.{Little}
 use Rattle.dwp_base.specs.Numbers.{number, number_bytes}
@@ -10,10 +9,10 @@ use Rattle.dwp_bytes.specs.Encoding.{offset_size}
 use Rattle.dwp_bytes.specs.declared.encoding.Format.{Format}
 use Rattle.dwp_bytes.specs.declared.encoding.Format.TheVariants.{Dwarf32}
 use Rattle.dwp_bytes.specs.declared.encoding.Encoding.{Encoding}
-use Rattle.thorin_errors.specs.Fault.{Fault, OffsetAtIndex}
-use Rattle.thorin_errors.specs.Answers.{as_fault}
-use Rattle.std.proofs.lemmas.List.{take-take, append-nil, length-take, take_all, take_at}
-use Rattle.std.proofs.lemmas.List.{length-drop, length-take-le}
+use Rattle.thorin_errors.specs.Errors.{ErrorValue, OffsetAtIndex}
+use Rattle.thorin_errors.specs.Answers.{as_error}
+use Rattle.std.proofs.lemmas.List.{take-take, append-nil, length-take, take_at, length-drop}
+use Rattle.std.proofs.lemmas.List.{length-take-le}
 use Rattle.std.proofs.lemmas.List.Concat.{flat_map-append}
 use Rattle.std.proofs.lemmas.Bool.{cases_eq, ne_eqb, le-ltb}
 use Rattle.dwp_bytes.specs.StringOffsets.{header_size, entry_count}
@@ -33,22 +32,23 @@ entries_more order encoding section bytes i old now new before offset so_far ent
 
 -- an entry that refuses, in as many entries as there are
 pub entries_fail : (order : Endianness) (encoding : Encoding) (section bytes : List ℕ) (i n : ℕ)
-    (old now : List (List ℕ)) (before : List ℕ) (fault : Fault) → remapped_entries order encoding
+    (old now : List (List ℕ)) (before : List ℕ) (error : ErrorValue)
+    → remapped_entries order encoding
     section bytes i old ≡ Ok (before, now) → remapped_entry order encoding section bytes i now ≡ Err
-    fault → i < n → remapped_entries order encoding section bytes n old ≡ Err fault
+    error → i < n → remapped_entries order encoding section bytes n old ≡ Err error
 unfolding remapped_entries
-entries_fail order encoding section bytes i zero old now before fault so_far entry less =
+entries_fail order encoding section bytes i zero old now before error so_far entry less =
     absurd (omega arith)
-entries_fail order encoding section bytes i (suc n) old now before fault so_far entry less =
+entries_fail order encoding section bytes i (suc n) old now before error so_far entry less =
     ⊎_elim
     (λ same. let here : remapped_entries order encoding section bytes n old ≡ Ok (before, now) =
     subst (λ m. remapped_entries order encoding section bytes m old ≡ Ok (before, now)) same
     so_far in
-    let refuses : remapped_entry order encoding section bytes n now ≡ Err fault =
-    subst (λ m. remapped_entry order encoding section bytes m now ≡ Err fault) same entry in
+    let refuses : remapped_entry order encoding section bytes n now ≡ Err error =
+    subst (λ m. remapped_entry order encoding section bytes m now ≡ Err error) same entry in
     rw (here, refuses) refl)
-    (λ other. let earlier : remapped_entries order encoding section bytes n old ≡ Err fault =
-    entries_fail order encoding section bytes i n old now before fault so_far entry
+    (λ other. let earlier : remapped_entries order encoding section bytes n old ≡ Err error =
+    entries_fail order encoding section bytes i n old now before error so_far entry
     (omega arith) in
     rw earlier refl)
     (cases_eq i n)
@@ -60,14 +60,14 @@ entries_none order encoding section bytes old = refl
 
 -- a range in which an entry refuses
 pub remapped_refuses : (order : Endianness) (encoding : Encoding) (section bytes : List ℕ)
-    (size count width i : ℕ) (old now : List (List ℕ)) (header before : List ℕ) (fault : Fault)
+    (size count width i : ℕ) (old now : List (List ℕ)) (header before : List ℕ) (error : ErrorValue)
     → count ≡ entry_count encoding size → width ≡ offset_size encoding.format → (size ≡ 0 → ⊥)
     → header_size encoding ≤ size → header_of order encoding (count * width) ≡ Ok header
     → remapped_entries order encoding section bytes i old ≡ Ok (before, now) → remapped_entry order
-    encoding section bytes i now ≡ Err fault → i < count → remapped order encoding section bytes
-    size old ≡ Err fault
+    encoding section bytes i now ≡ Err error → i < count → remapped order encoding section bytes
+    size old ≡ Err error
 unfolding remapped
-remapped_refuses order encoding section bytes size count width i old now header before fault
+remapped_refuses order encoding section bytes size count width i old now header before error
     is_count is_width some fits has_header so_far entry less =
     let some_bytes : eqb size 0 ≡ false = ne_eqb size 0 some in
     let whole : ltb size (header_size encoding) ≡ false = le-ltb size (header_size encoding) fits in
@@ -75,8 +75,8 @@ remapped_refuses order encoding section bytes size count width i old now header 
     ≡ Ok header = ap₂ (λ n m. header_of order encoding (n * m)) (sym is_count)
     (sym is_width) ∙ has_header in
     let refuses : remapped_entries order encoding section bytes (entry_count encoding size)
-    old ≡ Err fault =
-    entries_fail order encoding section bytes i (entry_count encoding size) old now before fault
+    old ≡ Err error =
+    entries_fail order encoding section bytes i (entry_count encoding size) old now before error
     so_far entry (subst (λ n. i < n) is_count less) in
     rw (some_bytes, whole, headed, refuses) refl
 
@@ -151,8 +151,8 @@ word_read encoding bytes rest index at word form is_at within is_rest is =
     (omega (arith, is_at)) in
     let there : offset_at Little Dwarf32 bytes at ≡ Ok word = rw inside
     (ap Ok (ap (number Little 4) (sym is_rest) ∙ sym is)) in
-    ap₂ (λ f n. as_fault (λ e. OffsetAtIndex e index) (offset_at Little f bytes n)) form place
-    ∙ ap (as_fault (λ e. OffsetAtIndex e index)) there
+    ap₂ (λ f n. as_error (λ e. OffsetAtIndex e index) (offset_at Little f bytes n)) form place
+    ∙ ap (as_error (λ e. OffsetAtIndex e index)) there
 
 -- a number of four bytes fits
 pub fits_word : (encoding : Encoding) (offset : ℕ) → encoding.format ≡ Dwarf32

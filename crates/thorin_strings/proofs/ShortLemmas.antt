@@ -3,6 +3,7 @@ use Rattle.std.proofs.Common.{◌≡◌, ℕ, suc, ◌+◌, ◌/◌, ◌<◌, �
 use Rattle.std.proofs.Common.{drop, get_or, set, map, filter, insert, ap, sym, subst, ◌∙◌, arith}
 use Rattle.std.proofs.Common.{add-one}
 use Rattle.std.proofs.lemmas.List.{length-set, length-take-le, length-drop, get_or-set_same}
+use Rattle.std.proofs.lemmas.List.{take-append-drop}
 use Rattle.std.proofs.lemmas.List.Edits.{length-insert, get_or-insert_below, get_or-insert_at}
 use Rattle.std.proofs.lemmas.List.Edits.{get_or-insert_above}
 use Rattle.std.proofs.lemmas.List.Elements.{All-set, All-map, All-weaker, All-cons}
@@ -10,7 +11,6 @@ use Rattle.std.proofs.lemmas.List.Sums.{length-filter, count_by-le-length}
 use Rattle.std.proofs.lemmas.List.Sorted.{IsPermutation-insert, All-permutation}
 use Rattle.thorin_strings.specs.Chunks.{starts_from, IsPieceOf, AreShort, IsHalved}
 use Rattle.thorin_strings.proofs.ChunkLemmas.{length-starts_from, starts_cut}
-use Rattle.std.proofs.lemmas.List.{take-append-drop}
 
 short_insert : (ps : List (List ℕ)) (at : ℕ) (q : List ℕ) → AreShort ps → length q ≤ 1024
     → AreShort (insert ps at q)

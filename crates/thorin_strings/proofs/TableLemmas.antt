@@ -1,8 +1,7 @@
 -- Some positions of a table's strings, in the strings' order.
-use Rattle.std.proofs.Common.{◌≡◌, ◌≢◌, ℕ, ◌+◌, ◌-◌, ◌<◌, ◌≤◌, ltb, List, [], ◌∷◌, ◌++◌}
-use Rattle.std.proofs.Common.{length, take, drop, get_or, map, filter, insert, All, AllPairs}
-use Rattle.std.proofs.Common.{length-append, Contains, Less, Equal, ap, sym, subst, refl, ◌∙◌}
-use Rattle.std.proofs.Common.{⊎_elim, arith}
+use Rattle.std.proofs.Common.{◌≡◌, ◌≢◌, ℕ, ◌+◌, ◌-◌, ◌<◌, ◌≤◌, ltb, List, [], ◌∷◌, ◌++◌, length}
+use Rattle.std.proofs.Common.{take, drop, get_or, map, filter, insert, All, AllPairs, length-append}
+use Rattle.std.proofs.Common.{Contains, Less, Equal, ap, sym, subst, refl, ◌∙◌, ⊎_elim, arith}
 use Rattle.std.specs.Ordering.{nat_cmp}
 use Rattle.std.specs.Cmp.Lexicographic.{slice_cmp}
 use Rattle.std.proofs.lemmas.List.{append-nil, take-append-drop, get_or-map, get_or_default}
@@ -22,17 +21,16 @@ use Rattle.std.proofs.lemmas.Bool.{cases_lt, cases_order}
 use Rattle.std.proofs.lemmas.Bool.Decides.{Decides-eqb}
 use Rattle.std.proofs.lemmas.Cmp.{nat_list_cmp_total, nat_eq_equiv, tied_itself}
 use Rattle.dwp_bytes.specs.StringOffsets.{string_from}
-use Rattle.thorin_strings.specs.Strings.{terminated, data_of, offset_of, IsZeroFree}
-use Rattle.thorin_strings.specs.Strings.{strings_in, offsets_from, IsWithinDigits}
-use Rattle.thorin_strings.specs.Strings.{IsBefore, IsIndexed, StandsAt}
+use Rattle.thorin_strings.specs.Strings.{terminated, data_of, offset_of, IsZeroFree, strings_in}
+use Rattle.thorin_strings.specs.Strings.{offsets_from, IsWithinDigits, IsBefore, IsIndexed}
+use Rattle.thorin_strings.specs.Strings.{StandsAt}
 use Rattle.thorin_strings.proofs.StringLemmas.{strings_in-data_of, zero_free-strings_in}
 use Rattle.thorin_strings.proofs.StringLemmas.{string_from-ended}
 use Rattle.thorin_strings.proofs.Filters.{Contains-filter}
 use Rattle.thorin_strings.proofs.OffsetLemmas.{data_of-push, data_of-append, map-string_from}
 use Rattle.thorin_strings.proofs.OffsetLemmas.{length-offsets_from, offset_of-at}
-use Rattle.thorin_strings.proofs.OffsetLemmas.{length-data_of-cons}
-use Rattle.thorin_strings.proofs.OffsetLemmas.{offsets_from-append, offsets_from-below}
-use Rattle.thorin_strings.proofs.OffsetLemmas.{filter-offsets_from}
+use Rattle.thorin_strings.proofs.OffsetLemmas.{length-data_of-cons, offsets_from-append}
+use Rattle.thorin_strings.proofs.OffsetLemmas.{offsets_from-below, filter-offsets_from}
 
 -- the strings that begin at the offsets are the section's
 pub strings_at : (bytes rest : List ℕ) → data_of (strings_in bytes) ≡ bytes

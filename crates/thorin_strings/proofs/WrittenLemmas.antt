@@ -1,6 +1,6 @@
 -- String offsets of four bytes, of which the first are rewritten.
-use Rattle.std.proofs.Common.{◌≡◌, ◌∙◌, ℕ, ◌+◌, ◌*◌, ◌++◌, [], ◌∷◌, List, take, Ok, ap}
-use Rattle.std.proofs.Common.{sym, refl, arith}
+use Rattle.std.proofs.Common.{◌≡◌, ◌∙◌, ℕ, ◌+◌, ◌*◌, ◌++◌, [], ◌∷◌, List, take, Ok, ap, sym, refl}
+use Rattle.std.proofs.Common.{arith}
 use Rattle.std.proofs.lemmas.List.{append-nil}
 use Rattle.dwp_base.specs.declared.endian.Endianness.TheVariants.{Little}
 use Rattle.dwp_base.specs.Numbers.{number_bytes}

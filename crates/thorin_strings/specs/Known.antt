@@ -1,13 +1,13 @@
 -- What is remembered of strings that were read: where each begins in its section, and its offset.
 use Rattle.std.specs.Prelude.{◌≡◌, ℕ, List, All, Result, Ok}
 use Rattle.dwp_base.specs.Reading.{◌>>=◌}
-use Rattle.thorin_errors.specs.Fault.{Fault}
+use Rattle.thorin_errors.specs.Errors.{ErrorValue}
 use Rattle.thorin_strings.specs.Strings.{offset_of, with_string}
 use Rattle.thorin_strings.specs.StringOffsets.{string_read}
 
 -- the offset of the string at an offset of a section once it is among the distinct ones, and these
 -- strings
-unfoldable pub offset_read : List ℕ → ℕ → List (List ℕ) → Result (ℕ × List (List ℕ)) Fault
+unfoldable pub offset_read : List ℕ → ℕ → List (List ℕ) → Result (ℕ × List (List ℕ)) ErrorValue
 offset_read section at strings = do
   string ← string_read section at
   Ok (offset_of strings string, with_string strings string)

@@ -1,8 +1,7 @@
 //! Strings behind one another, each of which is found by its hash, or else by its order.
 
 ghost use Rattle.std.specs.Prelude.{◌≡◌, ◌≢◌, ◌<◌, ◌≤◌, ◌^◌, [], length, take, OnOk, OnErr, IfOk};
-ghost use Rattle.std.specs.Prelude.{IfSome, IsNone, Contains};
-ghost use Rattle.std.specs.Prelude.{slice_index, None, Some, false};
+ghost use Rattle.std.specs.Prelude.{IfSome, IsNone, Contains, slice_index, None, Some, false};
 ghost use Rattle.dwp_bytes.specs.StringOffsets.{string_from};
 ghost use Rattle.thorin_strings.specs.Strings.{IsZeroFree, BeginsAt};
 ghost use Rattle.thorin_strings.specs.Hashed.{held, IsHashed, IsPlaced};

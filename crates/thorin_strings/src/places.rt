@@ -1,8 +1,9 @@
 //! Places of strings by their hashes, none of which is lost.
 
-ghost use Rattle.std.specs.Prelude.{◌≡◌, ◌≢◌, ◌<◌, ◌≤◌, ◌+◌, ◌-◌, ◌^◌, [], ℕ, length, Some, None, IfSome, IsTrue};
-ghost use Rattle.std.specs.Prelude.{OnErr, IfOk, IfErr, true, false, slice_index_or};
-ghost use Rattle.thorin_strings.specs.Places.{free, place_from, place_of, home, shared, IsNext};
+ghost use Rattle.std.specs.Prelude.{◌≡◌, ◌≢◌, ◌<◌, ◌≤◌, ◌+◌, ◌-◌, ◌^◌, ℕ, length, Some, None};
+ghost use Rattle.std.specs.Prelude.{IfSome, IsTrue, OnErr, IfOk, IfErr, true, false};
+ghost use Rattle.std.specs.Prelude.{slice_index_or};
+ghost use Rattle.thorin_strings.specs.Places.{free, place_of, home, shared, IsNext};
 
 use std::alloc::Global;
 

@@ -1,7 +1,7 @@
 //! The table of distinct strings of a package (DWARF 5, 7.26).
 
-ghost use Rattle.std.specs.Prelude.{◌≡◌, ◌↔◌, ◌+◌, ◌<◌, ◌≤◌, ◌^◌, ℕ, List, [], length, take};
-ghost use Rattle.std.specs.Prelude.{OnOk, IfOk, IfErr, IsSome, IfSome, IsTrue, Contains};
+ghost use Rattle.std.specs.Prelude.{◌≡◌, ◌↔◌, ◌<◌, ℕ, List, [], length, take, OnOk, IfOk, IfErr};
+ghost use Rattle.std.specs.Prelude.{IsSome, IfSome, IsTrue, Contains};
 ghost use Rattle.thorin_strings.specs.Strings.{data_of, offset_of, with_string, IsZeroFree};
 ghost use Rattle.thorin_strings.specs.Strings.{IsTable, IsWithinDigits};
 ghost use Rattle.thorin_strings.specs.Marks.{mark_of};

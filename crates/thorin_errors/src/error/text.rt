@@ -2,7 +2,7 @@
 
 ghost use Rattle.std.specs.Prelude.{◌++◌, Some};
 ghost use Rattle.std.specs.Fmt.{DisplaysOnOk};
-ghost use Rattle.thorin_errors.specs.Text.{fault_text, hex8};
+ghost use Rattle.thorin_errors.specs.Text.{error_text, hex8};
 
 use super::Error;
 use std::fmt;
@@ -59,9 +59,9 @@ fn write_place<W: fmt::Write>(
 }
 
 impl fmt::Display for Error {
-    ghost use Rattle.thorin_errors.specs.Fault.{fault_of};
+    ghost use Rattle.thorin_errors.specs.Errors.{error_of};
 
-    ghost output = { λ e. fault_text (fault_of e) };
+    ghost output = { λ e. error_text (error_of e) };
 
     fn fmt<W: fmt::Write>(&self, f: &mut fmt::Formatter<W>) -> fmt::Result {
         match self {
@@ -101,13 +101,13 @@ impl fmt::Display for Error {
 
 impl Error {
     ghost use Rattle.std.specs.Fmt.{DisplaysOnOk};
-    ghost use Rattle.thorin_errors.specs.Fault.{fault_of};
+    ghost use Rattle.thorin_errors.specs.Errors.{error_of};
     ghost use Rattle.thorin_errors.specs.Text.{unit_text, index_text, section_text};
 
     /// The texts of errors of units.
     fn write_unit_text<W: fmt::Write>(&self, f: &mut fmt::Formatter<W>) -> fmt::Result
         ensures { DisplaysOnOk W.write_str_gives f.old result
-            (unit_text (fault_of self.now)) f.new }
+            (unit_text (error_of self.now)) f.new }
     {
         match self {
             Error::MissingDwoName(unit) => {
@@ -147,7 +147,7 @@ impl Error {
     /// The texts of errors of indexes and string offsets.
     fn write_index_text<W: fmt::Write>(&self, f: &mut fmt::Formatter<W>) -> fmt::Result
         ensures { DisplaysOnOk W.write_str_gives f.old result
-            (index_text (fault_of self.now)) f.new }
+            (index_text (error_of self.now)) f.new }
     {
         match self {
             Error::IncompatibleIndexVersion(section, expected, found) => write!(
@@ -196,7 +196,7 @@ impl Error {
     #[tactic(auto, using(crate::proofs::Hex::hex8_written))]
     fn write_section_text<W: fmt::Write>(&self, f: &mut fmt::Formatter<W>) -> fmt::Result
         ensures { DisplaysOnOk W.write_str_gives f.old result
-            (section_text (fault_of self.now)) f.new }
+            (section_text (error_of self.now)) f.new }
     {
         match self {
             Error::MissingRequiredSection(section) => {

@@ -1,6 +1,6 @@
 //! A session for inputs that are bytes.
 
-ghost use Rattle.std.specs.Prelude.{◌≡◌, ◌≢◌, IfErr, Err};
+ghost use Rattle.std.specs.Prelude.{◌≢◌, IfErr, Err};
 ghost use Rattle.thorin_sessions.specs.Sessions.{IsOffered, IsNoWantOfMemory, OffersNone};
 
 use crate::session::Session;

@@ -1,14 +1,14 @@
 use Rattle.std.proofs.Common.{◌∙◌, ℕ, List, Option, Result, Ok, ap, sym, subst}
 use Rattle.std.specs.Prelude.{option_map, string_bytes}
 use Rattle.std.proofs.lemmas.Result.{err_from_is_err_and}
-use Rattle.thorin_errors.specs.Fault.{Fault}
+use Rattle.thorin_errors.specs.Errors.{ErrorValue}
 use Rattle.thorin_executable.specs.Skeletons.{Named}
 use Rattle.thorin_executable.specs.View.{named_at, IsPathAfter}
 use Rattle.thorin_executable.specs.declared.lending.NamedUnit.{NamedUnit}
 use Rattle.thorin_executable.proofs.NamedSteps.{first-then}
 use Rattle.thorin_executable.proofs.listing.next_named.Goals as goal
 
-abbrev as_named : List ℕ → Option NamedUnit → Result (Option Named) Fault
+abbrev as_named : List ℕ → Option NamedUnit → Result (Option Named) ErrorValue
 as_named path found = Ok (option_map (named_at path) found)
 
 pub returns-in_err-skeleton-clause-next : goal.returns-in_err-skeleton-clause-next

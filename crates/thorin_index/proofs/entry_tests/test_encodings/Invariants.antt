@@ -2,7 +2,7 @@ use Rattle.std.proofs.Common.{◌≡◌, drop}
 use Rattle.thorin_index.specs.EntryTests.{each, encoding_test}
 use Rattle.thorin_index.proofs.entry_tests.test_encodings.Given as goal
 
--- what is left has the first fault of all
+-- what is left has the first error of all
 abbrev pub invariant-loop-place : goal.invariant-loop-place
 invariant-loop-place l = each (encoding_test l.encoding) (drop l.place l.rows) ≡ each
     (encoding_test l.encoding) l.rows

@@ -3,8 +3,7 @@ use Rattle.std.proofs.lemmas.List.{get_or_past}
 use Rattle.std.proofs.lemmas.Bool.{cases_lt}
 use Rattle.thorin_strings.specs.declared.places.Slot.{Slot}
 use Rattle.thorin_strings.specs.Places.{free, place_from}
-use Rattle.thorin_strings.proofs.PlacesLemmas.{begun, at_free, at_hash, at_other, next_for}
-use Rattle.thorin_strings.proofs.PlacesLemmas.{same_or}
+use Rattle.thorin_strings.proofs.PlacesLemmas.{begun, at_free, at_hash, at_other, next_for, same_or}
 use Rattle.thorin_strings.proofs.places.seek.Goals as goal
 
 pub loop-number-init : goal.loop-number-init

@@ -1,5 +1,4 @@
-use Rattle.std.proofs.Common.{◌≤◌, ◌-◌, ◌++◌, ◌∙◌, take, drop, length, ap, sym, arith}
-use Rattle.std.proofs.Common.{append_assoc}
+use Rattle.std.proofs.Common.{◌≤◌, ◌-◌, ◌++◌, ◌∙◌, take, drop, length, ap, sym, arith, append_assoc}
 use Rattle.std.proofs.Math.Seq.{take-add}
 use Rattle.thorin_strings.proofs.words.append_by_pieces.Goals as goal
 use Rattle.thorin_strings.proofs.words.append_by_pieces.Goals.{then-bytes-at-lt-PIECE}

@@ -2,8 +2,7 @@ use Rattle.std.proofs.Common.{◌≡◌, ◌++◌, ◌∙◌, inl, length, ap, s
 use Rattle.thorin_strings.specs.Strings.{terminated, BeginsAt}
 use Rattle.thorin_strings.specs.Hashed.{held}
 use Rattle.thorin_strings.proofs.UsedLemmas.{used_new, kept_last, two_pushes}
-use Rattle.thorin_strings.proofs.HashedLemmas.{hashed_push, misplaced, found_over}
-use Rattle.thorin_strings.proofs.HashedLemmas.{begins_at_offset}
+use Rattle.thorin_strings.proofs.HashedLemmas.{hashed_push, misplaced, found_over, begins_at_offset}
 use Rattle.std.proofs.lemmas.Bool.{false≢true}
 use Rattle.thorin_strings.proofs.TableLemmas.{strings_few, indexed_push}
 use Rattle.thorin_strings.proofs.entries.Entries.add_over.Goals as goal

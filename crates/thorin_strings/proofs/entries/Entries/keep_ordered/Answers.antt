@@ -1,8 +1,8 @@
 use Rattle.std.proofs.Common.{◌∙◌, length, Contains, ap, sym, subst, refl, arith}
 use Rattle.thorin_strings.specs.Hashed.{held}
 use Rattle.thorin_strings.proofs.PlaceLemmas.{offset_there, known_place_in}
-use Rattle.thorin_strings.proofs.HashedLemmas.{hashed_kept, found_among, found_there}
-use Rattle.thorin_strings.proofs.HashedLemmas.{absent_there, string_there, inserted_or}
+use Rattle.thorin_strings.proofs.HashedLemmas.{hashed_kept, found_among, found_there, absent_there}
+use Rattle.thorin_strings.proofs.HashedLemmas.{string_there, inserted_or}
 use Rattle.thorin_strings.proofs.TableLemmas.{strings_few, positions_few}
 use Rattle.thorin_strings.proofs.entries.Entries.keep_ordered.Goals as goal
 

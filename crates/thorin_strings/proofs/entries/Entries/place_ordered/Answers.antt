@@ -1,5 +1,5 @@
-use Rattle.std.proofs.Common.{◌≡◌, ◌++◌, ◌∙◌, inr, length, insert, ap, sym, subst, refl}
-use Rattle.std.proofs.Common.{Contains, arith}
+use Rattle.std.proofs.Common.{◌≡◌, ◌++◌, ◌∙◌, inr, length, insert, ap, sym, subst, refl, Contains}
+use Rattle.std.proofs.Common.{arith}
 use Rattle.thorin_strings.specs.Strings.{terminated, IsIndexed}
 use Rattle.thorin_strings.specs.Hashed.{held}
 use Rattle.thorin_strings.proofs.UsedLemmas.{used_found, used_new, kept_last, two_pushes}

@@ -1,6 +1,5 @@
 use Rattle.std.proofs.Common.{ap, length, arith}
-use Rattle.thorin_strings.proofs.KnownLemmas.{read_used, known_read, are_known_later}
-use Rattle.thorin_strings.proofs.KnownLemmas.{offset_within}
+use Rattle.thorin_strings.proofs.KnownLemmas.{read_used, known_read, are_known_later, offset_within}
 use Rattle.thorin_strings.proofs.table.PackageStringTable.offset_told.Goals as goal
 
 pub returns-then-known-limit-clause-meaning : goal.returns-then-known-limit-clause-meaning

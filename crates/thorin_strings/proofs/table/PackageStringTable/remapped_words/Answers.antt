@@ -7,9 +7,8 @@ use Rattle.dwp_bytes.specs.Encoding.{offset_size}
 use Rattle.thorin_strings.proofs.KnownLemmas.{are_known_later}
 use Rattle.dwp_bytes.specs.StringOffsets.{header_size}
 use Rattle.thorin_strings.proofs.NamedBytes.{header_long}
-use Rattle.thorin_strings.proofs.RemapLemmas.{kept_more, remapped_refuses}
-use Rattle.thorin_strings.proofs.RemapLemmas.{room_made, same_room, length_part}
-use Rattle.thorin_strings.proofs.RemapLemmas.{entries_within}
+use Rattle.thorin_strings.proofs.RemapLemmas.{kept_more, remapped_refuses, room_made, same_room}
+use Rattle.thorin_strings.proofs.RemapLemmas.{length_part, entries_within}
 use Rattle.thorin_strings.proofs.WrittenLemmas.{none_written, one_written}
 use Rattle.thorin_strings.proofs.table.PackageStringTable.remapped_words.Goals as goal
 
