@@ -1,3 +1,4 @@
 -- An input that is taken joins its units to a package.
+pub mod Taken
 pub mod Source
 pub mod Input

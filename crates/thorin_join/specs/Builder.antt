@@ -1,14 +1,14 @@
--- What a package builder does with each input, from its bytes on, with the first fault; and what is
+-- What a package builder does with each input, from its bytes on, with the first error; and what is
 -- written of the package (DWARF 5, 7.3.5; the GNU page DebugFissionDWP).
 use Rattle.std.specs.Prelude.{◌≡◌, ℕ, ◌<◌, ◌^◌, Bool, true, false, not, List, [], ◌∷◌, Option, Some}
 use Rattle.std.specs.Prelude.{None, Result, Ok, Err, unwrap_or, filter, find, length, nat_lt}
 use Rattle.std.specs.Prelude.{if◌then◌else◌}
 use Rattle.std.specs.List.{list_any}
 use Rattle.std.specs.Option.{ok_or}
+use Rattle.dwp_base.specs.Reading.{◌>>=◌}
 use Rattle.dwp_base.specs.declared.endian.Endianness.{Endianness}
 use Rattle.dwp_base.specs.declared.endian.Endianness.TheVariants.{Little, Big}
 use Rattle.dwp_base.specs.declared.section.SectionKind.TheVariants.{Str, CuIndex, TuIndex}
-use Rattle.dwp_base.specs.Reading.{◌>>=◌}
 use Rattle.dwp_elf.specs.FileText.{Object as File}
 use Rattle.dwp_elf_read.specs.Elf.{Elf}
 use Rattle.dwp_bytes.specs.declared.encoding.Encoding.{Encoding}
@@ -18,8 +18,8 @@ use Rattle.thorin_strings.specs.Strings.{data_of}
 use Rattle.thorin_index.specs.declared.entry.IndexEntry.{IndexEntry}
 use Rattle.thorin_index.specs.EntryTests.{index_tests}
 use Rattle.thorin_index.specs.IndexText.{IsIndexOf}
-use Rattle.thorin_errors.specs.Fault.{Fault, MixedInputEncodings, MissingReferencedUnit}
-use Rattle.thorin_errors.specs.Fault.{NoOutputObjectCreated}
+use Rattle.thorin_errors.specs.Errors.{ErrorValue, MixedInputEncodings, MissingReferencedUnit}
+use Rattle.thorin_errors.specs.Errors.{NoOutputObjectCreated}
 use Rattle.thorin_input.specs.Encodings.{encoding_of, own_encoding, common}
 use Rattle.thorin_input.specs.Growing.{with_bytes}
 use Rattle.thorin_input.specs.Indexes.{Source, indexes_of}
@@ -56,19 +56,19 @@ abbrev pub order_of : Option InProgress → Endianness → Endianness
 order_of None order = order
 order_of (Some made) order = made.file.order
 
-unfoldable pub order_test : Endianness → Option InProgress → Result (Unit {0}) Fault
+unfoldable pub order_test : Endianness → Option InProgress → Result (Unit {0}) ErrorValue
 order_test order begun =
     if same_order (order_of begun order) order then Ok tt else Err MixedInputEncodings
 
 -- the package with the units of an input, which it may begin
 unfoldable pub with_source_or_new : Elf → Source → Option InProgress
-    → Result (Option InProgress) Fault
+    → Result (Option InProgress) ErrorValue
 with_source_or_new file source begun = do
   made ← with_source source (package_or_new file begun)
   Ok (Some made)
 
 -- what an input with units makes of a package
-unfoldable pub with_units : Elf → Option InProgress → Result (Option InProgress) Fault
+unfoldable pub with_units : Elf → Option InProgress → Result (Option InProgress) ErrorValue
 with_units file begun = do
   object ← input_file_of file
   encoding ← encoding_of object
@@ -76,9 +76,9 @@ with_units file begun = do
   indexes ← indexes_of object encoding
   with_source_or_new file (record { object = object; encoding = encoding; indexes = indexes }) begun
 
--- what an object's bytes make of a package, or the first fault; without an info section they only
+-- what an object's bytes make of a package, or the first error; without an info section they only
 -- begin it
-unfoldable pub with_input : List ℕ → Option InProgress → Result (Option InProgress) Fault
+unfoldable pub with_input : List ℕ → Option InProgress → Result (Option InProgress) ErrorValue
 with_input bytes begun = do
   file ← opened bytes
   if has_info file then with_units file begun else Ok (Some (package_or_new file begun))
@@ -108,7 +108,7 @@ own_after state begun encoding =
     then with_own state.begun state.own encoding else None
 
 -- the state once an object was taken
-unfoldable pub taken : List ℕ → State → Result State Fault
+unfoldable pub taken : List ℕ → State → Result State ErrorValue
 taken bytes state = do
   begun ← with_input bytes state.begun
   encoding ← own_encoding bytes
@@ -137,21 +137,21 @@ IdentifiersFit (row ∷ rows) = (identifier_of row.id < 2 ^ 64) × IdentifiersFi
 abbrev pub is_missing : List DwarfObject → DwarfObject → Bool
 is_missing names target = not (list_any (same_name target) names)
 
-abbrev pub none_missing : Option DwarfObject → Result (Unit {0}) Fault
+abbrev pub none_missing : Option DwarfObject → Result (Unit {0}) ErrorValue
 none_missing None = Ok tt
 none_missing (Some target) = Err (MissingReferencedUnit (identifier_of target))
 
-unfoldable pub targets_test : List DwarfObject → List DwarfObject → Result (Unit {0}) Fault
+unfoldable pub targets_test : List DwarfObject → List DwarfObject → Result (Unit {0}) ErrorValue
 targets_test names targets = none_missing (find (is_missing names) targets)
 
 -- the tests of both indexes, the compilation index first
-unfoldable pub indexes_test : InProgress → Result (Unit {0}) Fault
+unfoldable pub indexes_test : InProgress → Result (Unit {0}) ErrorValue
 indexes_test made = do
   _ ← index_tests (compilations made.rows)
   index_tests (type_units made.rows)
 
 -- what is tested before a package is finished
-unfoldable pub finish_test : State → Result (Unit {0}) Fault
+unfoldable pub finish_test : State → Result (Unit {0}) ErrorValue
 finish_test state = do
   _ ← targets_test (names_in state.begun) state.targets
   made ← ok_or state.begun NoOutputObjectCreated

@@ -3,12 +3,12 @@
 use Rattle.std.specs.Prelude.{◌≡◌, ◌≢◌, AllPairs, ℕ, List, [], ◌∷◌, ◌++◌, Option, Some, None}
 use Rattle.std.specs.Prelude.{Result, Ok, if◌then◌else◌}
 use Rattle.std.specs.Result.{result_unwrap_or}
+use Rattle.dwp_base.specs.Reading.{◌>>=◌}
 use Rattle.dwp_base.specs.declared.section.Contribution.{Contribution}
 use Rattle.dwp_base.specs.declared.section.SectionKind.TheVariants.{Str, StrOffsets}
 use Rattle.dwp_base.specs.Sections.{same_kind}
-use Rattle.dwp_base.specs.Reading.{◌>>=◌}
 use Rattle.dwp_elf_read.specs.Elf.{Elf}
-use Rattle.thorin_errors.specs.Fault.{Fault}
+use Rattle.thorin_errors.specs.Errors.{ErrorValue}
 use Rattle.thorin_packaged.specs.PackagedOffsets.{offset_ranges}
 use Rattle.thorin_packaged.specs.PackagedReading.{range_bytes}
 use Rattle.thorin_strings.specs.Strings.{with_string}
@@ -55,14 +55,14 @@ strings_begun None = []
 strings_begun (Some made) = made.strings
 
 -- the strings that an input's bytes name, in order; without an info section none
-unfoldable pub named_in_file : Elf → Result (List (List ℕ)) Fault
+unfoldable pub named_in_file : Elf → Result (List (List ℕ)) ErrorValue
 named_in_file file = do
   object ← input_file_of file
   encoding ← encoding_of object
   indexes ← indexes_of object encoding
   Ok (named_in (record { object = object; encoding = encoding; indexes = indexes }) object.sections)
 
-unfoldable pub used_by : List ℕ → Result (List (List ℕ)) Fault
+unfoldable pub used_by : List ℕ → Result (List (List ℕ)) ErrorValue
 used_by bytes = do
   file ← opened bytes
   if has_info file then named_in_file file else Ok []

@@ -5,7 +5,7 @@ use Rattle.std.specs.Prelude.{not, map, length, filter, slice_get, Option, Some,
 use Rattle.std.specs.Prelude.{IsPermutation, MatchOption}
 use Rattle.std.specs.Map.{lookup}
 use Rattle.dwp_base.specs.declared.section.SectionKind.{SectionKind}
-use Rattle.dwp_base.specs.declared.section.SectionKind.TheVariants.{StrOffsets}
+use Rattle.dwp_base.specs.declared.section.SectionKind.TheVariants.{StrOffsets, Str}
 use Rattle.dwp_elf.specs.Contents.{KindsDiffer}
 use Rattle.dwp_elf.specs.FileText.{Object as File, file_text}
 use Rattle.dwp_elf.specs.Written.{written_elf}
@@ -18,12 +18,10 @@ use Rattle.dwp_index.specs.Naming.{entries_of}
 use Rattle.dwp_table.specs.Objects.{identifier_of}
 use Rattle.dwp_table.specs.declared.object.DwarfObject.{DwarfObject}
 use Rattle.dwp_table.specs.declared.object.DwarfObject.TheVariants.{Compilation, TypeUnit}
-use Rattle.thorin_join.specs.Meaning.{Meaning, Members, keys, input_meaning, joining}
-use Rattle.thorin_join.specs.Meaning.{can_join}
+use Rattle.thorin_join.specs.Meaning.{Meaning, Members, keys, input_meaning, joining, can_join}
 use Rattle.thorin_input.specs.Names.{same_name, is_compilation}
 use Rattle.thorin_input.specs.Format.{is_copied}
 use Rattle.dwp_index.specs.Contents.{content as section_content}
-use Rattle.dwp_base.specs.declared.section.SectionKind.TheVariants.{Str}
 
 -- an input joins its units to those before: a type unit whose name is there is passed over, no
 -- compilation unit is, and all that belongs to each unit that is added is there

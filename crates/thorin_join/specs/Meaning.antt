@@ -1,9 +1,8 @@
 -- What an input means: its units by name, in file order, with all that belongs to each; and how
 -- such lists are joined (DWARF 5, 7.3.5; the GNU page DebugFissionDWP).
 use Rattle.std.specs.Prelude.{◌≡◌, ℕ, Bool, true, not, ◌&&◌, ◌+◌, ◌*◌, List, [], ◌∷◌, ◌++◌, map}
-use Rattle.std.specs.Prelude.{take}
-use Rattle.std.specs.Prelude.{filter, length, find, is_none, Option, Some, None, Result, Ok, Err}
-use Rattle.std.specs.Prelude.{if◌then◌else◌}
+use Rattle.std.specs.Prelude.{take, filter, length, find, is_none, Option, Some, None, Result, Ok}
+use Rattle.std.specs.Prelude.{Err, if◌then◌else◌}
 use Rattle.std.specs.List.{list_any}
 use Rattle.std.specs.Option.{option_and_then}
 use Rattle.dwp_base.specs.declared.section.SectionKind.{SectionKind}
@@ -15,7 +14,7 @@ use Rattle.dwp_bytes.specs.Encoding.{offset_size}
 use Rattle.dwp_bytes.specs.Input.{section}
 use Rattle.dwp_bytes.specs.StringOffsets.{header_size, entry_count}
 use Rattle.dwp_bytes.specs.declared.encoding.Encoding.{Encoding}
-use Rattle.dwp_bytes.specs.declared.fault.ReadError.{ReadError}
+use Rattle.dwp_bytes.specs.declared.error.ReadError.{ReadError}
 use Rattle.dwp_dwarf.specs.Units.{Unit as Header, units}
 use Rattle.dwp_dwarf.specs.declared.unit.UnitSection.{UnitSection}
 use Rattle.dwp_index.specs.Index.{Index, Ranges, row_in, range_in}
@@ -23,8 +22,8 @@ use Rattle.dwp_index.specs.Package.{part_of, is_outside}
 use Rattle.dwp_table.specs.Columns.{contribution_kinds}
 use Rattle.dwp_table.specs.declared.object.DwarfObject.{DwarfObject}
 use Rattle.thorin_packaged.specs.RowPlaces.{row_by_place}
-use Rattle.thorin_errors.specs.Fault.{Fault, ParseUnitHeader}
-use Rattle.thorin_errors.specs.Answers.{as_fault}
+use Rattle.thorin_errors.specs.Errors.{ErrorValue, ParseUnitHeader}
+use Rattle.thorin_errors.specs.Answers.{as_error}
 use Rattle.thorin_input.specs.Encodings.{encoding_of}
 use Rattle.thorin_input.specs.Format.{is_copied, is_shared}
 use Rattle.thorin_input.specs.Indexes.{Source, is_package, index_for, indexes_of}
@@ -34,9 +33,8 @@ use Rattle.thorin_input.specs.Rows.{own_range}
 use Rattle.thorin_join.specs.Strings.{strings_of}
 use Rattle.thorin_input.specs.Used.{Used, InputFile, opened, has_info, input_file_of, first}
 
--- a unit's part of each kind of section that is kept as it is; the proof is asked so that nothing
--- is
--- said of other kinds
+-- a unit's part of each kind of section that is kept as it is; the proof is asked for, so that
+-- nothing is said of other kinds
 abbrev pub Pieces : Type 0
 Pieces = (kind : SectionKind) → is_copied kind ≡ true → List ℕ
 
@@ -142,15 +140,15 @@ unit_meaning source read =
 
 -- a unit that was read, by its name
 unfoldable pub named_unit : Source → SectionKind → Result Header ReadError
-    → Result (DwarfObject × UnitRead) Fault
+    → Result (DwarfObject × UnitRead) ErrorValue
 named_unit source kind read = do
-  unit ← as_fault ParseUnitHeader read
+  unit ← as_error ParseUnitHeader read
   name ← name_for source kind unit
   Ok (name, record { from = kind; unit = unit })
 
 -- all that were read of a section
 unfoldable pub named_each : Source → SectionKind → List (Result Header ReadError)
-    → Result (List (DwarfObject × UnitRead)) Fault
+    → Result (List (DwarfObject × UnitRead)) ErrorValue
 named_each source kind [] = Ok []
 named_each source kind (read ∷ rest) = do
   unit ← named_unit source kind read
@@ -158,13 +156,14 @@ named_each source kind (read ∷ rest) = do
   Ok (unit ∷ others)
 
 abbrev pub named_at : Source → Used → Option UnitSection
-    → Result (List (DwarfObject × UnitRead)) Fault
+    → Result (List (DwarfObject × UnitRead)) ErrorValue
 named_at source from None = Ok []
 named_at source from (Some place) =
     named_each source from.kind (units place (section source.object.order from.bytes))
 
 -- those of each of these sections, in file order
-unfoldable pub named_sections : Source → List Used → Result (List (DwarfObject × UnitRead)) Fault
+unfoldable pub named_sections : Source → List Used
+    → Result (List (DwarfObject × UnitRead)) ErrorValue
 named_sections source [] = Ok []
 named_sections source (from ∷ rest) = do
   here ← named_at source from (unit_section from.kind)
@@ -172,27 +171,27 @@ named_sections source (from ∷ rest) = do
   Ok (here ++ others)
 
 -- the units of an input by their names, in file order
-abbrev pub source_units : Source → Result (List (DwarfObject × UnitRead)) Fault
+abbrev pub source_units : Source → Result (List (DwarfObject × UnitRead)) ErrorValue
 source_units source = named_sections source source.object.sections
 
 -- each with all that belongs to it, if it has that
 abbrev pub meant : Source → DwarfObject × UnitRead → DwarfObject × Option Meaning
 meant source read = (read.0, unit_meaning source read)
 
-unfoldable pub source_meaning : Source → Result (List (DwarfObject × Option Meaning)) Fault
+unfoldable pub source_meaning : Source → Result (List (DwarfObject × Option Meaning)) ErrorValue
 source_meaning source = do
   units ← source_units source
   Ok (map {B = DwarfObject × Option Meaning} (meant source) units)
 
 -- the same of an input with units, whose sections, encoding and indexes are read first
-unfoldable pub object_meaning : InputFile → Result (List (DwarfObject × Option Meaning)) Fault
+unfoldable pub object_meaning : InputFile → Result (List (DwarfObject × Option Meaning)) ErrorValue
 object_meaning object = do
   encoding ← encoding_of object
   indexes ← indexes_of object encoding
   source_meaning (record { object = object; encoding = encoding; indexes = indexes })
 
 -- what an input's bytes mean; without an info section they mean no units
-unfoldable pub input_meaning : List ℕ → Result (List (DwarfObject × Option Meaning)) Fault
+unfoldable pub input_meaning : List ℕ → Result (List (DwarfObject × Option Meaning)) ErrorValue
 input_meaning bytes = do
   file ← opened bytes
   if has_info file then (input_file_of file >>= object_meaning) else Ok []

@@ -10,7 +10,7 @@ use Rattle.dwp_elf_read.specs.Elf.{Elf}
 use Rattle.dwp_table.specs.Table.{HasSlots}
 use Rattle.thorin_index.specs.declared.entry.IndexEntry.{IndexEntry}
 use Rattle.thorin_index.specs.IndexText.{used_sections}
-use Rattle.thorin_errors.specs.Fault.{Fault}
+use Rattle.thorin_errors.specs.Errors.{ErrorValue}
 use Rattle.thorin_input.specs.Growing.{Contents}
 use Rattle.thorin_input.specs.Used.{Used, opened, has_info, counts_once, input_file_of, first}
 use Rattle.thorin_join.specs.Builder.{with_input, compilations, type_units}
@@ -27,14 +27,14 @@ abbrev pub bytes_begun : Option InProgress → ℕ
 bytes_begun begun = bytes_of_contents (contents_begun begun)
 
 -- the used sections of an ELF file; an input without an info section has none
-unfoldable pub sections_in : Elf → Result (List Used) Fault
+unfoldable pub sections_in : Elf → Result (List Used) ErrorValue
 sections_in file =
     if has_info file then (input_file_of file >>= λ object. Ok object.sections) else Ok []
 
 -- none where an input can't be opened, or one of them can't be used
-abbrev pub or_none : Result (List Used) Fault → List Used
+abbrev pub or_none : Result (List Used) ErrorValue → List Used
 or_none (Ok sections) = sections
-or_none (Err fault) = []
+or_none (Err error) = []
 
 unfoldable pub sections_of_input : List ℕ → List Used
 sections_of_input bytes = or_none (opened bytes >>= sections_in)
@@ -60,8 +60,9 @@ offsets_size bytes = sum_by offsets_used (sections_of_input bytes)
 abbrev pub strings_size : List ℕ → ℕ
 strings_size bytes = length (first Str (sections_of_input bytes))
 
--- what inputs make of a package, one after another, or the first fault
-unfoldable pub with_inputs : List (List ℕ) → Option InProgress → Result (Option InProgress) Fault
+-- what inputs make of a package, one after another, or the first error
+unfoldable pub with_inputs : List (List ℕ) → Option InProgress
+    → Result (Option InProgress) ErrorValue
 with_inputs [] begun = Ok begun
 with_inputs (bytes ∷ inputs) begun = do
   next ← with_input bytes begun

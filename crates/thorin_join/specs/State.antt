@@ -1,13 +1,13 @@
 -- A package while it is made: its fields, and the steps that add the units and rows of an input
 -- whose sections are known (DWARF 5, 7.3.5; the GNU page DebugFissionDWP).
-use Rattle.std.specs.Prelude.{◌≡◌, ℕ, List, [], ◌∷◌, ◌++◌, map, take, length}
-use Rattle.std.specs.Prelude.{Result, Ok, Err, if◌then◌else◌}
+use Rattle.std.specs.Prelude.{◌≡◌, ℕ, List, [], ◌∷◌, ◌++◌, map, take, length, Result, Ok, Err}
+use Rattle.std.specs.Prelude.{if◌then◌else◌}
 use Rattle.std.specs.List.{list_any}
+use Rattle.dwp_base.specs.Reading.{◌>>=◌}
 use Rattle.dwp_base.specs.declared.class.Class.{Class}
 use Rattle.dwp_base.specs.declared.endian.Endianness.{Endianness}
 use Rattle.dwp_base.specs.declared.section.SectionKind.{SectionKind}
 use Rattle.dwp_base.specs.declared.section.SectionKind.TheVariants as kinds
-use Rattle.dwp_base.specs.Reading.{◌>>=◌}
 use Rattle.dwp_base.specs.Sections.{name_of}
 use Rattle.dwp_elf.specs.Contents.{content_of}
 use Rattle.dwp_elf.specs.FileText.{Object as File}
@@ -17,7 +17,7 @@ use Rattle.dwp_index.specs.Package.{part_of, place_of}
 use Rattle.dwp_table.specs.declared.object.DwarfObject.{DwarfObject}
 use Rattle.thorin_index.specs.Entries.{contribution_to}
 use Rattle.thorin_index.specs.declared.entry.IndexEntry.{IndexEntry}
-use Rattle.thorin_errors.specs.Fault.{Fault, MissingRequiredSection}
+use Rattle.thorin_errors.specs.Errors.{ErrorValue, MissingRequiredSection}
 use Rattle.thorin_input.specs.Growing.{Contents, IsGrown, lengths, with_bytes, range_put}
 use Rattle.thorin_input.specs.Growing.{with_parts}
 use Rattle.thorin_input.specs.Indexes.{Source}
@@ -81,7 +81,7 @@ with_new_units made [] = made
 with_new_units made (unit ∷ units) = with_new_units (with_new_unit made unit) units
 
 -- a section of abbreviations is there
-unfoldable pub abbreviations_test : InputFile → Result (Unit {0}) Fault
+unfoldable pub abbreviations_test : InputFile → Result (Unit {0}) ErrorValue
 abbreviations_test object =
     if object.has_abbreviations then Ok tt else Err (MissingRequiredSection (name_of kinds.Abbrev))
 
@@ -104,8 +104,8 @@ with_all made parts new =
     })
     new.units
 
--- the package with the units of an input, or its first fault
-unfoldable pub with_source : Source → InProgress → Result InProgress Fault
+-- the package with the units of an input, or its first error
+unfoldable pub with_source : Source → InProgress → Result InProgress ErrorValue
 with_source source made = do
   parts ← parts_of source made.strings
   _ ← abbreviations_test source.object

@@ -1,12 +1,12 @@
 -- The list of strings that a range of string offsets names (DWARF 5, 7.26).
 use Rattle.std.specs.Prelude.{ℕ, zero, suc, ◌+◌, ◌*◌, List, [], ◌∷◌, length, drop, Result, Ok}
-use Rattle.dwp_base.specs.Numbers.{number}
 use Rattle.dwp_base.specs.Reading.{◌>>=◌}
+use Rattle.dwp_base.specs.Numbers.{number}
 use Rattle.dwp_base.specs.declared.endian.Endianness.{Endianness}
 use Rattle.dwp_bytes.specs.Encoding.{offset_size}
 use Rattle.dwp_bytes.specs.StringOffsets.{header_size, entry_count, string_at}
 use Rattle.dwp_bytes.specs.declared.encoding.Encoding.{Encoding}
-use Rattle.dwp_bytes.specs.declared.fault.ReadError.{ReadError}
+use Rattle.dwp_bytes.specs.declared.error.ReadError.{ReadError}
 
 -- what a function gives of so many numbers, from a number on
 abbrev pub each_from : (ℕ → ℕ) → ℕ → ℕ → List ℕ
@@ -23,7 +23,7 @@ abbrev pub offsets_in : Endianness → Encoding → List ℕ → List ℕ
 offsets_in order encoding range =
     each_from (offset_of_entry order encoding range) 0 (entry_count encoding (length range))
 
--- the strings at these offsets of a section, or the first fault
+-- the strings at these offsets of a section, or the first error
 unfoldable pub strings_at : List ℕ → List ℕ → Result (List (List ℕ)) ReadError
 strings_at section [] = Ok []
 strings_at section (offset ∷ offsets) = do
@@ -31,7 +31,7 @@ strings_at section (offset ∷ offsets) = do
   others ← strings_at section offsets
   Ok (string ∷ others)
 
--- the strings that a range names in a section, or the first fault
+-- the strings that a range names in a section, or the first error
 abbrev pub strings_of : Endianness → Encoding → (section range : List ℕ)
     → Result (List (List ℕ)) ReadError
 strings_of order encoding section range = strings_at section (offsets_in order encoding range)

@@ -19,6 +19,7 @@ use Rattle.dwp_index.specs.Contents.{is_of_kind}
 use Rattle.dwp_index.specs.Holding.{HasContent, sections_of}
 use Rattle.dwp_index.specs.Index.{Index}
 use Rattle.dwp_index.specs.Package.{package_of, index_in_section}
+use Rattle.dwp_base.proofs.Bools.{by-bool}
 
 -- ---- the laws that it follows from, as they are ensured
 
@@ -64,7 +65,7 @@ NoBytes = (section : SectionMeaning) (kind : SectionKind) → section.size ≡ 0
 
 -- ---- the headers' place
 
-fitting : (class : Class) (machine : ℕ) (order : Endianness) (cs : List (SectionKind × List ℕ))
+pub fitting : (class : Class) (machine : ℕ) (order : Endianness) (cs : List (SectionKind × List ℕ))
     → Fits (record { class = class; machine = machine; order = order; contents = cs })
     → headers_place class cs < 256 ^ word_size class
 unfolding Fits
@@ -74,17 +75,13 @@ fitting Elf64 machine order cs fits = let second = fits 1 0 (omega arith) in ome
 -- ---- the sections of a written file
 
 -- where no content is of a kind
-nothing_at : (kind : SectionKind) (c : SectionKind × List ℕ) (cs : List (SectionKind × List ℕ))
-    (b : Bool) → same_kind c.0 kind ≡ b
-    → cond b 1 0 + count_of kind cs ≡ 0 → (count_of kind cs ≡ 0 → content_of kind cs ≡ [])
-    → cond b c.1 (content_of kind cs) ≡ []
-nothing_at kind c cs true e h rest = absurd (omega (arith, h))
-nothing_at kind c cs false e h rest = rest (omega (arith, h))
-
 pub nothing : (kind : SectionKind) (cs : List (SectionKind × List ℕ)) → count_of kind cs ≡ 0
     → content_of kind cs ≡ []
 nothing kind [] h = refl
-nothing kind (c ∷ cs) h = nothing_at kind c cs (same_kind c.0 kind) refl h (λ z. nothing kind cs z)
+nothing kind (c ∷ cs) h =
+    by-bool _ (same_kind c.0 kind)
+    (λ same. let one = rw same at h in absurd (omega (arith, one)))
+    (λ other. let none = rw other at h in rw other (nothing kind cs (omega (arith, none))))
 
 -- a content of the kind: the section has it, or it has no bytes and nothing follows
 here : NoBytes → (kind : SectionKind) (number : ℕ) (names : List ℕ) (k : SectionKind)
@@ -105,17 +102,6 @@ here empty kind number names k (b ∷ bs) cs same none rest =
       stored = refl;
     })
 
-held_at : OtherKind → NoBytes → (kind : SectionKind) (number : ℕ) (names : List ℕ) (c : SectionKind
-    × List ℕ) (cs : List (SectionKind × List ℕ)) (b : Bool)
-    → same_kind c.0 kind ≡ b → cond b 1 0 + count_of kind cs ≤ 1
-    → HasContent (written_sections (number + 1) names cs) kind (content_of kind cs)
-    → HasContent (plain_section number 1 (name_of c.0) c.1 ∷ written_sections (number + 1) names cs)
-    kind (cond b c.1 (content_of kind cs))
-held_at other empty kind number names c cs true e h rest =
-    here empty kind number names c.0 c.1 cs (is-same c.0 kind e) (omega (arith, h)) rest
-held_at other empty kind number names c cs false e h rest =
-    inr (other (plain_section number 1 (name_of c.0) c.1) kind c.0 refl e, rest)
-
 pub fewer-one : (b : Bool) (n : ℕ) → cond b 1 0 + n ≤ 1 → n ≤ 1
 fewer-one true n h = omega (arith, h)
 fewer-one false n h = omega (arith, h)
@@ -130,9 +116,14 @@ held_from other foreign empty kind number names [] h =
       refl,
     )
 held_from other foreign empty kind number names (c ∷ cs) h =
-    held_at other empty kind number names c cs (same_kind c.0 kind) refl h
-    (held_from other foreign empty kind (number + 1) names cs (fewer-one (same_kind c.0 kind)
-    (count_of kind cs) h))
+    let rest = held_from other foreign empty kind (number + 1) names cs
+    (fewer-one (same_kind c.0 kind) (count_of kind cs) h) in
+    by-bool _ (same_kind c.0 kind)
+    (λ same. let one = rw same at h in rw same (here empty kind number names c.0 c.1 cs
+    (is-same c.0 kind same) (omega (arith, one)) rest))
+    (λ apart. rw apart (
+    inr (other (plain_section number 1 (name_of c.0) c.1) kind c.0 refl apart, rest)
+    ))
 
 -- each kind has its content
 held : OtherKind → ForeignName → NoBytes → (o : Object) → KindsDiffer o.contents

@@ -18,7 +18,7 @@ use Rattle.thorin_strings.specs.Strings.{data_of}
 use Rattle.thorin_index.specs.declared.entry.IndexEntry.{IndexEntry}
 use Rattle.thorin_index.specs.EntryTests.{index_tests}
 use Rattle.thorin_index.specs.IndexText.{entry_ids}
-use Rattle.thorin_errors.specs.Fault.{NoOutputObjectCreated}
+use Rattle.thorin_errors.specs.Errors.{NoOutputObjectCreated}
 use Rattle.thorin_join.specs.Builder.{State, IdentifiersFit, IsFinished, IsFinishedState}
 use Rattle.thorin_join.specs.Builder.{finish_test, targets_test, indexes_test, names_in, rows_of}
 use Rattle.thorin_join.specs.Builder.{compilations}
@@ -36,31 +36,23 @@ use Rattle.thorin_join.proofs.Parts.Appended.{content-with_bytes}
 use Rattle.thorin_join.proofs.Files.Contents.{ContentsRead, OtherKind, ForeignName, NoBytes}
 use Rattle.thorin_join.proofs.Files.Contents.{package_held}
 use Rattle.thorin_join.proofs.Files.RowsFound.{chosen-compilations, chosen-types}
-use Rattle.thorin_join.proofs.Steps.{ok-eq, bind-inv}
+use Rattle.dwp_base.proofs.Steps.{bind-was, same-ok}
 
 -- the tests of finishing
-some-ok : {X E : Type 0} (e : E) (x y : X) → ok_or (Some x) e ≡ Ok y → x ≡ y
-some-ok e x y h = ok-eq x y h
-
 pub record Tested (made : InProgress) : Type 0 where
   pub compilation_rows : index_tests (rows_of true made.rows) ≡ Ok tt
   pub type_rows : index_tests (rows_of false made.rows) ≡ Ok tt
 
-tested-indexes : (made : InProgress) → indexes_test made ≡ Ok tt → Tested made
-unfolding indexes_test
-tested-indexes made h =
-    let s = bind-inv (index_tests (compilations made.rows)) _ tt h in
-    record { compilation_rows = s.1; type_rows = s.2 }
-
 pub tested-state : (state : State) (made : InProgress) → state.begun ≡ Some made
     → finish_test state ≡ Ok tt → Tested made
-unfolding finish_test
+unfolding finish_test indexes_test
 tested-state state made begun h =
-    let s1 = bind-inv (targets_test (names_in state.begun) state.targets) _ tt h in
-    let s2 = bind-inv (ok_or state.begun NoOutputObjectCreated) _ tt s1.2 in
-    let same : made ≡ s2.0 = some-ok NoOutputObjectCreated made s2.0
+    let s1 = bind-was (targets_test (names_in state.begun) state.targets) _ tt h in
+    let s2 = bind-was (ok_or state.begun NoOutputObjectCreated) _ tt s1.2 in
+    let same : made ≡ s2.0 = same-ok made s2.0
     (sym (ap (λ b. ok_or b NoOutputObjectCreated) begun) ∙ s2.1) in
-    tested-indexes made (subst (λ m. indexes_test m ≡ Ok tt) (sym same) s2.2)
+    let s3 = bind-was (index_tests (compilations s2.0.rows)) _ tt s2.2 in
+    subst Tested (sym same) (record { compilation_rows = s3.1; type_rows = s3.2 })
 
 -- the contents of the finished file
 module _ (made : InProgress) (file : File) (f : IsFinished made file) where
@@ -132,71 +124,74 @@ index-ids : (index : Option Index) (rows : List IndexEntry) → HasRows index ro
 index-ids None rows has = ap entry_ids has
 index-ids (Some index) rows has = has.1.slots
 
--- the file of a finished package is a package of its units
-package-is : IndexIsRead → IndexHasEntries → SomeIndex → NoIndex → ContentsRead → OtherKind
-    → ForeignName → NoBytes → PresentLaw → AbsentLaw → NoIndexLaw → NamedOnce
-    → (made : InProgress) (file : File) → IsSound made → Tested made → IdentifiersFit made.rows
-    → IsFinished made file → IsPackageOnceWritten (units_of made) file
-package-is is_read has_entries some_index none_index contents other foreign empty present absent
-    none once made file sound tested fits f differ back =
-    let ms = units_of made in
-    let units = sound.units in
-    let c = index-read is_read has_entries some_index none_index made.file.order
-    (rows_of true made.rows) f.compilation_index f.compilations tested.compilation_rows
-    (distinct_chosen true made.rows (names_of made) refl sound.apart)
-    (chosen-fit true made.rows fits) in
-    let t = index-read is_read has_entries some_index none_index made.file.order
-    (rows_of false made.rows) f.type_index f.types tested.type_rows
-    (distinct_chosen false made.rows (names_of made) refl sound.apart)
-    (chosen-fit false made.rows fits) in
-    let order = finished-order made file f in
-    let c_read : index_in_section file.order (content_of kinds.CuIndex file.contents) ≡ Ok c.index =
-    (λ i. index_in_section (order i) (finished-compilations made file f units.no_compilations i)) ∙
-    c.read in
-    let t_read : index_in_section file.order (content_of kinds.TuIndex file.contents) ≡ Ok t.index =
-    (λ i. index_in_section (order i) (finished-types made file f units.no_types i)) ∙ t.read in
-    let pack : Pack = record {
-      order = file.order;
-      contents =
-          sections_of (λ kind. content_of kind file.contents);
-      compilations = c.index;
-      types = t.index;
-    } in
-    let read : IsRead pack made.file.order file.contents made.rows made.strings = record {
-      order_is = order;
-      contents_are = refl;
-      strings_are = finished-strings made file f units.no_strings;
-      compilations = c.has;
-      types = t.has;
-    } in
-    let rows = keep-rows made.file.order made.file.contents file.contents made.strings made.strings
-    made.rows ms (finished-grows made file f) (take-length made.strings) units.rows in
-    record {
-      pack = pack;
-      parsed = package_held contents other foreign empty (file_text file) file differ back c.index
-          t.index c_read t_read;
-      named = rw (
-        ← chosen-compilations made.file.order made.file.contents made.strings made.rows ms
-            units.rows,
-        ← chosen-types made.file.order made.file.contents made.strings
-            made.rows ms units.rows,
-      )
-          (once c.index t.index (entry_ids (rows_of true made.rows))
-          (entry_ids (rows_of false made.rows)) (index-ids c.index (rows_of true made.rows)
-          c.has) (index-ids t.index (rows_of false made.rows) t.has));
-      finds = package-finds present absent none pack made.file.order file.contents made.rows
-          made.strings ms read units.table rows;
-    }
+module _ (is_read : IndexIsRead) (has_entries : IndexHasEntries) (some_index : SomeIndex)
+    (none_index : NoIndex) (contents : ContentsRead) (other : OtherKind) (foreign : ForeignName)
+    (empty : NoBytes) (present : PresentLaw) (absent : AbsentLaw) (none : NoIndexLaw)
+    (once : NamedOnce) where
+  -- the file of a finished package is a package of its units
+  package-is : (made : InProgress) (file : File) → IsSound made → Tested made
+      → IdentifiersFit made.rows
+      → IsFinished made file → IsPackageOnceWritten (units_of made) file
+  package-is made file sound tested fits f differ back =
+      let ms = units_of made in
+      let units = sound.units in
+      let c = index-read is_read has_entries some_index none_index made.file.order
+      (rows_of true made.rows) f.compilation_index f.compilations tested.compilation_rows
+      (distinct_chosen true made.rows (names_of made) refl sound.apart)
+      (chosen-fit true made.rows fits) in
+      let t = index-read is_read has_entries some_index none_index made.file.order
+      (rows_of false made.rows) f.type_index f.types tested.type_rows
+      (distinct_chosen false made.rows (names_of made) refl sound.apart)
+      (chosen-fit false made.rows fits) in
+      let order = finished-order made file f in
+      let c_read : index_in_section file.order (content_of kinds.CuIndex file.contents) ≡ Ok
+      c.index =
+      (λ i. index_in_section (order i) (finished-compilations made file f units.no_compilations i))
+      ∙
+      c.read in
+      let t_read : index_in_section file.order (content_of kinds.TuIndex file.contents) ≡ Ok
+      t.index =
+      (λ i. index_in_section (order i) (finished-types made file f units.no_types i)) ∙ t.read in
+      let pack : Pack = record {
+        order = file.order;
+        contents =
+            sections_of (λ kind. content_of kind file.contents);
+        compilations = c.index;
+        types = t.index;
+      } in
+      let read : IsRead pack made.file.order file.contents made.rows made.strings = record {
+        order_is = order;
+        contents_are = refl;
+        strings_are = finished-strings made file f units.no_strings;
+        compilations = c.has;
+        types = t.has;
+      } in
+      let rows = keep-rows made.file.order made.file.contents file.contents
+      made.strings made.strings
+      made.rows ms (finished-grows made file f) (take-length made.strings) units.rows in
+      record {
+        pack = pack;
+        parsed = package_held contents other foreign empty (file_text file) file differ back c.index
+            t.index c_read t_read;
+        named = rw (
+          ← chosen-compilations made.file.order made.file.contents made.strings made.rows ms
+              units.rows,
+          ← chosen-types made.file.order made.file.contents made.strings
+              made.rows ms units.rows,
+        )
+            (once c.index t.index (entry_ids (rows_of true made.rows))
+            (entry_ids (rows_of false made.rows)) (index-ids c.index (rows_of true made.rows)
+            c.has) (index-ids t.index (rows_of false made.rows) t.has));
+        finds = package-finds present absent none pack made.file.order file.contents made.rows
+            made.strings ms read units.table rows;
+      }
 
--- so is that of a finished state
-pub finished-is : IndexIsRead → IndexHasEntries → SomeIndex → NoIndex → ContentsRead → OtherKind
-    → ForeignName → NoBytes → PresentLaw → AbsentLaw → NoIndexLaw → NamedOnce
-    → (state : State) (file : File) → IsSoundBegun state.begun → finish_test state ≡ Ok tt
-    → IsFinishedState state file → IsPackageOnceWritten (units_in state) file
-finished-is is_read has_entries some_index none_index contents other foreign empty present absent
-    none once state file sound tested f =
-    let is_sound : IsSound f.made = subst IsSoundBegun f.begun sound in
-    let is = package-is is_read has_entries some_index none_index contents other foreign empty
-    present absent none once
-    f.made file is_sound (tested-state state f.made f.begun tested) f.identifiers f.finished in
-    subst (λ begun. IsPackageOnceWritten (units_begun begun) file) (sym f.begun) is
+  -- so is that of a finished state
+  pub finished-is : (state : State) (file : File) → IsSoundBegun state.begun
+      → finish_test state ≡ Ok tt
+      → IsFinishedState state file → IsPackageOnceWritten (units_in state) file
+  finished-is state file sound tested f =
+      let is_sound : IsSound f.made = subst IsSoundBegun f.begun sound in
+      let is = package-is f.made file is_sound (tested-state state f.made f.begun tested)
+      f.identifiers f.finished in
+      subst (λ begun. IsPackageOnceWritten (units_begun begun) file) (sym f.begun) is

@@ -1,12 +1,11 @@
 -- The indexes of a finished package, as they are read.
-use Rattle.std.proofs.Common.{◌≡◌, ◌∙◌, ℕ, zero, suc, ◌<◌, ◌^◌, Bool, true, false, cond, List, []}
-use Rattle.std.proofs.Common.{◌∷◌, length, sym, refl, Ok, Err, Option, Some, None, arith}
+use Rattle.std.proofs.Common.{◌≡◌, ◌∙◌, ℕ, zero, suc, ◌<◌, ◌^◌, Bool, List, [], ◌∷◌, length, sym}
+use Rattle.std.proofs.Common.{refl, Ok, Err, Option, Some, None, arith}
 use Rattle.std.specs.Prelude.{slice_index}
 use Rattle.dwp_base.specs.declared.endian.Endianness.{Endianness}
 use Rattle.dwp_bytes.specs.Encoding.{index_version_of}
 use Rattle.dwp_bytes.specs.declared.encoding.Encoding.{Encoding}
-use Rattle.dwp_bytes.specs.declared.fault.ReadError.TheVariants.{UnexpectedEof}
-use Rattle.dwp_table.specs.Objects.{identifier_of}
+use Rattle.dwp_bytes.specs.declared.error.ReadError.TheVariants.{UnexpectedEof}
 use Rattle.dwp_table.specs.Table.{AreDistinct}
 use Rattle.dwp_index.specs.Index.{Index}
 use Rattle.dwp_index.specs.IndexBytes.{index_of, version_of}
@@ -18,6 +17,7 @@ use Rattle.thorin_index.specs.ReadBack.{index_with}
 use Rattle.thorin_index.specs.ReadRows.{HasEntries}
 use Rattle.thorin_join.specs.Builder.{IdentifiersFit, rows_of, is_chosen}
 use Rattle.thorin_join.proofs.Steps.{err-ok}
+use Rattle.dwp_base.proofs.Bools.{by-bool}
 
 -- the laws of written indexes
 abbrev pub IndexIsRead : Type 0
@@ -90,16 +90,13 @@ index-read is_read has some none order (row ∷ rows) bytes text tested distinct
     }
 
 -- the identifiers of chosen rows have 64 bits
-fit-cond : (row : IndexEntry) (rows : List IndexEntry) (e : Bool) → identifier_of row.id < 2 ^ 64
-    → IdentifiersFit rows → IdentifiersFit (cond e (row ∷ rows) rows)
-fit-cond row rows true h k = (h, k)
-fit-cond row rows false h k = k
-
 fit-chosen : (b : Bool) (rows : List IndexEntry) → IdentifiersFit rows
     → IdentifiersFit (rows_of b rows)
 fit-chosen b [] h = tt
-fit-chosen b (row ∷ rows) h = fit-cond row (rows_of b rows) (is_chosen b row) h.0
-    (fit-chosen b rows h.1)
+fit-chosen b (row ∷ rows) h =
+    by-bool _ (is_chosen b row)
+    (λ chosen. rw chosen (h.0, fit-chosen b rows h.1))
+    (λ other. rw other (fit-chosen b rows h.1))
 
 fit-at : (rows : List IndexEntry) → IdentifiersFit rows → (r : ℕ)
     → slice_index (entry_ids rows) r < 2 ^ 64

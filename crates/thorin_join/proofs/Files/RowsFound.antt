@@ -1,7 +1,7 @@
 -- The row of a name, and the names without one.
 use Rattle.std.proofs.Common.{◌≡◌, ◌∙◌, ℕ, zero, suc, ◌<◌, Bool, true, false, cond, not, true≢false}
-use Rattle.std.proofs.Common.{List, [], ◌∷◌, length, map, filter, ap, sym, refl, subst, Some, None}
-use Rattle.std.proofs.Common.{arith}
+use Rattle.std.proofs.Common.{List, [], ◌∷◌, length, map, filter, ap, sym, refl, Some, None, arith}
+use Rattle.std.proofs.Common.{subst₂}
 use Rattle.std.specs.Prelude.{slice_index, slice_get}
 use Rattle.std.specs.Map.{lookup}
 use Rattle.std.proofs.lemmas.Option.{none-some, same_Some}
@@ -20,6 +20,8 @@ use Rattle.thorin_join.specs.Meaning.{Meaning, Members}
 use Rattle.thorin_input.specs.Names.{same_name, is_compilation}
 use Rattle.thorin_join.specs.Represents.{IsRowOf, AreRowsOf}
 use Rattle.thorin_join.proofs.Units.NamesApart.{same_name-true}
+use Rattle.dwp_base.proofs.Bools.{by-bool}
+use Rattle.std.proofs.lemmas.List.{length-map}
 
 -- a row is among those of its sort
 sort-chosen : (name : DwarfObject) (row : IndexEntry) → is_chosen (is_compilation name) row ≡
@@ -54,29 +56,18 @@ found-here : (order : Endianness) (contents : Contents) (strings : List (List �
 found-here order contents strings row rows name unit chosen is = record {
   place = 0;
   row = row;
-  at = ap (λ e. slice_get (cond e (row ∷ rows_of (is_compilation name) rows)
-      (rows_of (is_compilation name) rows)) 0) chosen;
+  at = rw chosen refl;
   is = is;
 }
 
 found-later : (order : Endianness) (contents : Contents) (strings : List (List ℕ))
-    (row : IndexEntry) (rows : List IndexEntry) (name : DwarfObject) (unit : Meaning) (e : Bool)
-    → is_chosen (is_compilation name) row ≡ e → RowFound order contents strings rows name unit
+    (row : IndexEntry) (rows : List IndexEntry) (name : DwarfObject) (unit : Meaning)
+    → RowFound order contents strings rows name unit
     → RowFound order contents strings (row ∷ rows) name unit
-found-later order contents strings row rows name unit true chosen f = record {
-  place = suc f.place;
-  row = f.row;
-  at = ap (λ e. slice_get (cond e (row ∷ rows_of (is_compilation name) rows)
-      (rows_of (is_compilation name) rows)) (suc f.place)) chosen ∙ f.at;
-  is = f.is;
-}
-found-later order contents strings row rows name unit false chosen f = record {
-  place = f.place;
-  row = f.row;
-  at = ap (λ e. slice_get (cond e (row ∷ rows_of (is_compilation name) rows)
-      (rows_of (is_compilation name) rows)) f.place) chosen ∙ f.at;
-  is = f.is;
-}
+found-later order contents strings row rows name unit f =
+    by-bool _ (is_chosen (is_compilation name) row)
+    (λ chosen. record { place = suc f.place; row = f.row; at = rw chosen f.at; is = f.is })
+    (λ other. record { place = f.place; row = f.row; at = rw other f.at; is = f.is })
 
 pub find-row : (order : Endianness) (contents : Contents) (strings : List (List ℕ))
     (rows : List IndexEntry) (ms : Members) (name : DwarfObject) (unit : Meaning)
@@ -85,23 +76,16 @@ pub find-row : (order : Endianness) (contents : Contents) (strings : List (List 
 find-row order contents strings [] [] name unit are h = absurd (none-some unit h)
 find-row order contents strings [] (m ∷ ms) name unit are h = absurd are
 find-row order contents strings (r ∷ rs) [] name unit are h = absurd are
-find-row order contents strings (r ∷ rs) (m ∷ ms) name unit are h = by (same_name name m.0) refl h
-    (λ k. find-row order contents strings rs ms name unit are.1 k)
-  where
-    by : (e : Bool) → same_name name m.0 ≡ e → cond e (Some m.1)
-        (lookup (same_name name) ms) ≡ Some unit
-        → (lookup (same_name name) ms ≡ Some unit → RowFound order contents strings rs name unit)
-        → RowFound order contents strings (r ∷ rs) name unit
-    by true same k rest =
-        let name_is : name ≡ m.0 = same_name-true name m.0 same in
-        let unit_is : m.1 ≡ unit = same_Some _ _ k in
-        let is : IsRowOf order contents strings r (name, unit) =
-        subst (λ u. IsRowOf order contents strings r (name, u)) unit_is
-        (subst (λ n. IsRowOf order contents strings r (n, m.1)) (sym name_is) are.0) in
-        found-here order contents strings r rs name unit (sort-chosen name r ∙ ap (same_sort name)
-        is.name ∙ sort-self name) is
-    by false other k rest = found-later order contents strings r rs name unit
-        (is_chosen (is_compilation name) r) refl (rest k)
+find-row order contents strings (r ∷ rs) (m ∷ ms) name unit are h =
+    by-bool _ (same_name name m.0)
+    (λ same. let name_is : name ≡ m.0 = same_name-true name m.0 same in
+    let unit_is : m.1 ≡ unit = same_Some _ _ (rw same at h) in
+    let is : IsRowOf order contents strings r (name, unit) =
+    subst₂ (λ n u. IsRowOf order contents strings r (n, u)) (sym name_is) unit_is are.0 in
+    found-here order contents strings r rs name unit (sort-chosen name r ∙ ap (same_sort name)
+    is.name ∙ sort-self name) is)
+    (λ other. found-later order contents strings r rs name unit
+    (find-row order contents strings rs ms name unit are.1 (rw other at h)))
 
 -- the identifier at the place of a row
 pub id-at : (rows : List IndexEntry) (place : ℕ) (row : IndexEntry) → slice_get rows place ≡ Some
@@ -141,69 +125,60 @@ pub no-row : (order : Endianness) (contents : Contents) (strings : List (List �
 no-row order contents strings [] [] name are h = λ r within same. absurd (omega arith)
 no-row order contents strings [] (m ∷ ms) name are h = absurd are
 no-row order contents strings (r ∷ rs) [] name are h = absurd are
-no-row order contents strings (r ∷ rs) (m ∷ ms) name are h = by (same_name name m.0) refl h (λ k.
-    no-row order contents strings rs ms name are.1 k)
-  where
-    by : (e : Bool) → same_name name m.0 ≡ e → cond e (Some m.1) (lookup (same_name name) ms) ≡ None
-        → (lookup (same_name name) ms ≡ None
-        → IsNotNamed name (entry_ids (rows_of (is_compilation name) rs)))
-        → IsNotNamed name (entry_ids (rows_of (is_compilation name) (r ∷ rs)))
-    by true same k rest = absurd (none-some m.1 (sym k))
-    by false other k rest = absent-cond name r rs (is_chosen (is_compilation name) r) refl
-        (ap (same_name name) are.0.name ∙ other) (rest k)
-
--- there are as many rows of a sort as units
-count-cond : (row : IndexEntry) (m : DwarfObject × Meaning) (rows : List IndexEntry) (ms : Members)
-    (e : Bool) → length rows ≡ length ms → length (cond e (row ∷ rows) rows) ≡ length
-    (cond e (m ∷ ms) ms)
-count-cond row m rows ms true h = ap suc h
-count-cond row m rows ms false h = h
-
-pub rows-counted : (order : Endianness) (contents : Contents) (strings : List (List ℕ))
-    (rows : List IndexEntry) (ms : Members) (name : DwarfObject)
-    → AreRowsOf order contents strings rows ms → length (rows_of (is_compilation name) rows) ≡
-    length (filter (λ u. same_sort name u.0) ms)
-rows-counted order contents strings [] [] name are = refl
-rows-counted order contents strings [] (m ∷ ms) name are = absurd are
-rows-counted order contents strings (r ∷ rs) [] name are = absurd are
-rows-counted order contents strings (r ∷ rs) (m ∷ ms) name are =
-    ap (λ e. length (cond e (r ∷ rows_of (is_compilation name) rs) (rows_of (is_compilation name)
-    rs))) (sort-chosen name r ∙ ap (same_sort name) are.0.name)
-    ∙ count-cond r m (rows_of (is_compilation name) rs) (filter (λ u. same_sort name u.0) ms)
-    (same_sort name m.0) (rows-counted order contents strings rs ms name are.1)
+no-row order contents strings (r ∷ rs) (m ∷ ms) name are h =
+    by-bool _ (same_name name m.0)
+    (λ same. absurd (none-some m.1 (sym (rw same at h))))
+    (λ other. absent-cond name r rs (is_chosen (is_compilation name) r) refl
+    (ap (same_name name) are.0.name ∙ other)
+    (no-row order contents strings rs ms name are.1 (rw other at h)))
 
 pub ids-counted : (rows : List IndexEntry) → length (entry_ids rows) ≡ length rows
 ids-counted [] = refl
 ids-counted (r ∷ rs) = ap suc (ids-counted rs)
 
 -- the identifiers of the rows of a sort are those of the units
-chosen-by : (b : Bool) (row : IndexEntry) (m : DwarfObject × Meaning) (rows : List IndexEntry)
-    (ms : Members) (e : Bool) → row.id ≡ m.0
+chosen-by : (row : IndexEntry) (m : DwarfObject × Meaning) (rows : List IndexEntry) (ms : Members)
+    (e : Bool) → row.id ≡ m.0
     → entry_ids rows ≡ map (λ u. identifier_of u.0) ms → entry_ids (cond e (row ∷ rows) rows) ≡ map
     (λ u. identifier_of u.0) (cond e (m ∷ ms) ms)
-chosen-by b row m rows ms true same h = λ i. identifier_of (same i) ∷ h i
-chosen-by b row m rows ms false same h = h
+chosen-by row m rows ms true same h = λ i. identifier_of (same i) ∷ h i
+chosen-by row m rows ms false same h = h
+
+ids-chosen : (passes : DwarfObject → Bool) (order : Endianness) (contents : Contents)
+    (strings : List (List ℕ)) (rows : List IndexEntry) (ms : Members)
+    → AreRowsOf order contents strings rows ms → entry_ids (filter (λ r. passes r.id) rows) ≡ map
+    (λ u. identifier_of u.0) (filter (λ u. passes u.0) ms)
+ids-chosen passes order contents strings [] [] are = refl
+ids-chosen passes order contents strings [] (m ∷ ms) are = absurd are
+ids-chosen passes order contents strings (r ∷ rs) [] are = absurd are
+ids-chosen passes order contents strings (r ∷ rs) (m ∷ ms) are =
+    let others = filter (λ x. passes x.id) rs in
+    ap (λ e. entry_ids (cond e (r ∷ others) others)) (ap passes are.0.name)
+    ∙ chosen-by r m others (filter (λ u. passes u.0) ms) (passes m.0) are.0.name
+    (ids-chosen passes order contents strings rs ms are.1)
 
 pub chosen-compilations : (order : Endianness) (contents : Contents) (strings : List (List ℕ))
     (rows : List IndexEntry) (ms : Members)
     → AreRowsOf order contents strings rows ms → entry_ids (rows_of true rows) ≡ identifiers ms
-chosen-compilations order contents strings [] [] are = refl
-chosen-compilations order contents strings [] (m ∷ ms) are = absurd are
-chosen-compilations order contents strings (r ∷ rs) [] are = absurd are
-chosen-compilations order contents strings (r ∷ rs) (m ∷ ms) are =
-    ap (λ e. entry_ids (cond e (r ∷ rows_of true rs) (rows_of true rs)))
-    (ap is_compilation are.0.name)
-    ∙ chosen-by true r m (rows_of true rs) (filter (λ u. is_compilation u.0) ms)
-    (is_compilation m.0) are.0.name (chosen-compilations order contents strings rs ms are.1)
+chosen-compilations order contents strings rows ms are = ids-chosen is_compilation order contents
+    strings rows ms are
 
 pub chosen-types : (order : Endianness) (contents : Contents) (strings : List (List ℕ))
     (rows : List IndexEntry) (ms : Members)
     → AreRowsOf order contents strings rows ms → entry_ids (rows_of false rows) ≡ signatures ms
-chosen-types order contents strings [] [] are = refl
-chosen-types order contents strings [] (m ∷ ms) are = absurd are
-chosen-types order contents strings (r ∷ rs) [] are = absurd are
-chosen-types order contents strings (r ∷ rs) (m ∷ ms) are =
-    ap (λ e. entry_ids (cond e (r ∷ rows_of false rs) (rows_of false rs)))
-    (ap (λ n. not (is_compilation n)) are.0.name)
-    ∙ chosen-by false r m (rows_of false rs) (filter (λ u. not (is_compilation u.0)) ms)
-    (not (is_compilation m.0)) are.0.name (chosen-types order contents strings rs ms are.1)
+chosen-types order contents strings rows ms are =
+    ids-chosen (λ name. not (is_compilation name)) order
+    contents strings rows ms are
+
+-- there are as many rows of a sort as units
+pub rows-counted : (order : Endianness) (contents : Contents) (strings : List (List ℕ))
+    (rows : List IndexEntry) (ms : Members) (name : DwarfObject)
+    → AreRowsOf order contents strings rows ms → length (rows_of (is_compilation name) rows) ≡
+    length (filter (λ u. same_sort name u.0) ms)
+rows-counted order contents strings rows ms name are =
+    let same : is_chosen (is_compilation name) ≡ (λ (row : IndexEntry). same_sort name row.id) =
+    λ i row. sort-chosen name row i in
+    ap (λ p. length (filter p rows)) same
+    ∙ sym (ids-counted (filter (λ row. same_sort name row.id) rows))
+    ∙ ap length (ids-chosen (same_sort name) order contents strings rows ms are)
+    ∙ length-map (filter (λ u. same_sort name u.0) ms) (λ u. identifier_of u.0)

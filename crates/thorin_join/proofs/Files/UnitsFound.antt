@@ -40,7 +40,7 @@ use Rattle.thorin_join.specs.State.{kind_at}
 use Rattle.thorin_join.proofs.Files.Indexes.{HasRows}
 use Rattle.thorin_join.proofs.Files.RowsFound.{RowFound, find-row, id-at, no-row, rows-counted}
 use Rattle.thorin_join.proofs.Files.RowsFound.{ids-counted}
-use Rattle.thorin_join.proofs.EachKind.{same-each}
+use Rattle.dwp_index.proofs.HeldContents.{held_content}
 
 -- the laws of look-ups in packages
 abbrev pub PresentLaw : Type 0
@@ -68,10 +68,6 @@ pub record IsRead (pack : Package) (order : Endianness) (contents : Contents)
   pub strings_are : content_of kinds.Str contents ≡ data_of strings
   pub compilations : HasRows pack.compilations (rows_of true rows)
   pub types : HasRows pack.types (rows_of false rows)
-
-content-is : (held : SectionKind → List ℕ) (kind : SectionKind) → content (sections_of held)
-    kind ≡ held kind
-content-is held = same-each (content (sections_of held)) held refl
 
 -- the index of a name's sort
 sort-rows : (pack : Package) (order : Endianness) (contents : Contents) (rows : List IndexEntry)
@@ -108,7 +104,7 @@ module _ (pack : Package) (order : Endianness) (contents : Contents) (rows : Lis
   range-is kind = parts.parts kind ∙ part-there (contribution_to kind f.row) (f.is.lie.some kind)
 
   held-is : (kind : SectionKind) → content pack.contents kind ≡ content_of kind contents
-  held-is kind = ap (λ s. content s kind) read.contents_are ∙ content-is (λ k.
+  held-is kind = ap (λ s. content s kind) read.contents_are ∙ held_content (λ k.
       content_of k contents) kind
 
   bytes-are : (kind : SectionKind) → row_bytes pack.contents parts.row kind ≡ part_of

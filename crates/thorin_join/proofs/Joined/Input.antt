@@ -1,7 +1,7 @@
 -- An input that is taken joins its units to those of the package, and all of them can be found and
 -- read.
 use Rattle.std.proofs.Common.{◌≡◌, ◌∙◌, ℕ, Bool, true, false, cond, true≢false, List, [], ◌++◌, ap}
-use Rattle.std.proofs.Common.{sym, refl, subst, Result, Ok, Err, Option, Some, None, arith}
+use Rattle.std.proofs.Common.{sym, refl, subst, Ok, Option, Some, None, arith, inl, inr}
 use Rattle.std.proofs.lemmas.List.{append-nil}
 use Rattle.dwp_base.specs.Reading.{◌>>=◌}
 use Rattle.dwp_base.specs.declared.class.Class.{Class}
@@ -12,9 +12,8 @@ use Rattle.dwp_bytes.specs.declared.encoding.Encoding.{Encoding}
 use Rattle.dwp_dwarf.specs.Units.{UnitsAreTaken}
 use Rattle.dwp_table.specs.declared.object.DwarfObject.{DwarfObject}
 use Rattle.thorin_strings.specs.Strings.{IsTable}
-use Rattle.thorin_errors.specs.Fault.{Fault, MixedInputEncodings}
-use Rattle.thorin_join.specs.Builder.{package_or_new, order_of, same_order, order_test}
-use Rattle.thorin_join.specs.Builder.{with_source_or_new, with_units, with_input}
+use Rattle.thorin_errors.specs.Errors.{MixedInputEncodings}
+use Rattle.thorin_join.specs.Builder.{package_or_new, order_of, same_order, order_test, with_input}
 use Rattle.thorin_input.specs.Encodings.{encoding_of}
 use Rattle.thorin_input.specs.Indexes.{Indexes, Source, indexes_of}
 use Rattle.thorin_join.specs.Join.{Joins}
@@ -23,15 +22,17 @@ use Rattle.thorin_join.specs.Meaning.{Meaning, Members, source_meaning, object_m
 use Rattle.thorin_join.specs.Meaning.{input_meaning}
 use Rattle.thorin_join.specs.Represents.{Represents, AreApart, IsSound, IsSoundBegun, units_of}
 use Rattle.thorin_join.specs.Represents.{units_begun}
-use Rattle.thorin_join.specs.State.{InProgress, empty, names_of, with_source}
+use Rattle.thorin_join.specs.State.{InProgress, empty, names_of}
 use Rattle.thorin_input.specs.Used.{InputFile, opened, has_info, input_file_of, used_from}
 use Rattle.thorin_join.proofs.Units.NamesApart.{apart-none}
-use Rattle.thorin_join.proofs.Units.HeadersRead.{ReadAlone, ReadAnywhere}
+use Rattle.thorin_join.proofs.Units.HeadersRead.{ReadAlone}
 use Rattle.thorin_join.proofs.Parts.Strings.{PartsLaw}
 use Rattle.thorin_join.proofs.Rows.Shares.{RowsLaw}
 use Rattle.thorin_join.proofs.Joined.Source.{source-joins}
-use Rattle.thorin_join.proofs.Steps.{err-ok, ok-eq, bind-ok, bind-inv}
 use Rattle.thorin_join.proofs.Units.InRows.{units-are, keys-units}
+use Rattle.dwp_base.proofs.Steps.{bind-was, bind-ok, same-ok}
+use Rattle.thorin_join.proofs.Steps.{kept}
+use Rattle.thorin_join.proofs.Joined.Taken.{TakesUnits, takes}
 
 order-eq : (a b : Endianness) → same_order a b ≡ true → a ≡ b
 order-eq Little Little h = refl
@@ -39,23 +40,18 @@ order-eq Big Big h = refl
 order-eq Little Big h = absurd (true≢false (sym h))
 order-eq Big Little h = absurd (true≢false (sym h))
 
-order-cond : (b : Bool) → ◌≡◌ {A = Result (Unit {0}) Fault}
-    (cond b (Ok tt) (Err MixedInputEncodings)) (Ok tt) → b ≡ true
-order-cond true h = refl
-order-cond false h = absurd (err-ok MixedInputEncodings tt h)
-
 tested-order : (order : Endianness) (begun : Option InProgress) → order_test order begun ≡ Ok tt
     → order_of begun order ≡ order
 unfolding order_test
 tested-order order begun h = order-eq (order_of begun order) order
-    (order-cond (same_order (order_of begun order) order) h)
+    (kept (same_order (order_of begun order) order) (Ok tt) MixedInputEncodings tt h).0
 
 object-order : (file : Elf) (object : InputFile) → input_file_of file ≡ Ok object
     → object.order ≡ file.order
 unfolding input_file_of
 object-order file object h =
-    let s = bind-inv (used_from [] file.sections) _ object h in
-    sym (ap (λ (o : InputFile). o.order) (ok-eq _ object s.2))
+    let s = bind-was (used_from [] file.sections) _ object h in
+    sym (ap (λ (o : InputFile). o.order) (same-ok _ object s.2))
 
 pub made-order : (file : Elf) (object : InputFile) (begun : Option InProgress) → input_file_of file
     ≡ Ok object → order_test object.order begun ≡ Ok tt
@@ -128,46 +124,43 @@ sound-of made ms rep apart laid = record {
   laid = laid;
 }
 
-units-keep : PartsLaw → RowsLaw → ReadAlone → ReadAnywhere → UnitsAreTaken
+units-keep : PartsLaw → RowsLaw → ReadAlone → UnitsAreTaken
     → (bytes : List ℕ) (file : Elf) (begun now : Option InProgress)
-    → IsSoundBegun begun → opened bytes ≡ Ok file → has_info file ≡ true → with_units file begun ≡
-    Ok now → InputKeeps bytes begun now
-unfolding with_units with_source_or_new
-units-keep parts_law rows_law alone anywhere reads bytes file begun now sound opens info h =
-    let s1 = bind-inv (input_file_of file) _ now h in
-    let s2 = bind-inv (encoding_of s1.0) _ now s1.2 in
-    let s3 = bind-inv (order_test s1.0.order begun) _ now s2.2 in
-    let s4 = bind-inv (indexes_of s1.0 s2.0) _ now s3.2 in
-    let source : Source = record { object = s1.0; encoding = s2.0; indexes = s4.0 } in
-    let s5 = bind-inv (with_source source (package_or_new file begun)) _ now s4.2 in
+    → IsSoundBegun begun → opened bytes ≡ Ok file → has_info file ≡ true
+    → TakesUnits file begun now → InputKeeps bytes begun now
+units-keep parts_law rows_law alone reads bytes file begun now sound opens info u =
+    let source : Source = record {
+      object = u.object;
+      encoding = u.encoding;
+      indexes = u.indexes;
+    } in
     let before = package_or_new file begun in
     let fine = new-sound file begun sound in
     let ms = units_of before in
-    let j = source-joins parts_law rows_law alone anywhere reads source before s5.0 ms fine.units
-    (sym (keys-units before)) fine.apart fine.laid (made-order file s1.0 begun
-    s1.1 s3.1) s5.1 in
+    let j = source-joins parts_law rows_law alone reads source before u.made ms fine.units
+    (sym (keys-units before)) fine.apart fine.laid (made-order file u.object begun
+    u.object_is u.order_is) u.with in
     let was : ms ≡ units_begun begun = new-units file begun in
-    let is : Some s5.0 ≡ now = ok-eq _ now s5.2 in
     record {
-      sound = subst IsSoundBegun is (sound-of s5.0 (ms ++ j.added) j.has j.apart j.laid);
-      joins = subst (λ n. Joins bytes (units_begun begun) (units_begun n)) is
-          (subst (λ m. Joins bytes m (units_of s5.0)) was (record {
+      sound = subst IsSoundBegun u.is (sound-of u.made (ms ++ j.added) j.has j.apart j.laid);
+      joins = subst (λ n. Joins bytes (units_begun begun) (units_begun n)) u.is
+          (subst (λ m. Joins bytes m (units_of u.made)) was (record {
             units = j.units;
-            meaning = meaning-at bytes file true opens info ∙ bind-ok (input_file_of file) s1.0 _
-                s1.1 ∙ object-means s1.0 s2.0 s4.0 j.units s2.1 s4.1 j.meaning;
+            meaning = meaning-at bytes file true opens info ∙ bind-ok
+                (input_file_of file) u.object _
+                u.object_is ∙ object-means u.object u.encoding u.indexes j.units u.encoding_is
+                u.indexes_are j.meaning;
             defined = j.defined;
             added = j.added;
             joined = j.joined;
-            is = sym (units-are s5.0 (ms ++ j.added) j.has);
+            is = sym (units-are u.made (ms ++ j.added) j.has);
           }));
     }
 
 none-keep : (bytes : List ℕ) (file : Elf) (begun now : Option InProgress)
     → IsSoundBegun begun → opened bytes ≡ Ok file → has_info file ≡ false
-    → ◌≡◌ {A = Result (Option InProgress) Fault} (Ok (Some (package_or_new file begun))) (Ok now)
-    → InputKeeps bytes begun now
-none-keep bytes file begun now sound opens info h =
-    let is : Some (package_or_new file begun) ≡ now = ok-eq _ now h in
+    → Some (package_or_new file begun) ≡ now → InputKeeps bytes begun now
+none-keep bytes file begun now sound opens info is =
     record {
       sound = subst IsSoundBegun is (new-sound file begun sound);
       joins = subst (λ n. Joins bytes (units_begun begun) (units_begun n)) is (record {
@@ -180,21 +173,13 @@ none-keep bytes file begun now sound opens info h =
       });
     }
 
-by-info : PartsLaw → RowsLaw → ReadAlone → ReadAnywhere → UnitsAreTaken
-    → (bytes : List ℕ) (file : Elf) (begun now : Option InProgress) (b : Bool)
-    → IsSoundBegun begun → opened bytes ≡ Ok file → has_info file ≡ b
-    → cond b (with_units file begun) (Ok (Some (package_or_new file begun))) ≡ Ok now
-    → InputKeeps bytes begun now
-by-info parts_law rows_law alone anywhere reads bytes file begun now true sound opens info h =
-    units-keep parts_law rows_law alone anywhere reads bytes file begun now sound opens info h
-by-info parts_law rows_law alone anywhere reads bytes file begun now false sound opens info h =
-    none-keep bytes file begun now sound opens info h
-
-pub input-keeps : PartsLaw → RowsLaw → ReadAlone → ReadAnywhere → UnitsAreTaken
+pub input-keeps : PartsLaw → RowsLaw → ReadAlone → UnitsAreTaken
     → (bytes : List ℕ) (begun now : Option InProgress) → IsSoundBegun begun → with_input bytes begun
     ≡ Ok now → InputKeeps bytes begun now
-unfolding with_input
-input-keeps parts_law rows_law alone anywhere reads bytes begun now sound h =
-    let s = bind-inv (opened bytes) _ now h in
-    by-info parts_law rows_law alone anywhere reads bytes s.0 begun now (has_info s.0)
-    sound s.1 refl s.2
+input-keeps parts_law rows_law alone reads bytes begun now sound h =
+    let t = takes bytes begun now h in
+    elim t.does [
+      | inl u ↦ units-keep parts_law rows_law alone reads bytes t.file begun now sound t.opens u.0
+          u.1
+      | inr n ↦ none-keep bytes t.file begun now sound t.opens n.0 n.1
+    ]

@@ -1,19 +1,21 @@
 -- A package with the units of an input has them beside its own.
-use Rattle.std.proofs.Common.{◌≡◌, ◌∙◌, ℕ, ◌<◌, Bool, true, false, cond, not, ◌&&◌, List, [], ◌∷◌}
-use Rattle.std.proofs.Common.{◌++◌, length, map, ap, ap₂, sym, subst, refl, Option, Some, Ok}
+use Rattle.std.proofs.Common.{◌≡◌, ◌∙◌, ℕ, true, cond, not, ◌&&◌, List, [], ◌∷◌, ◌++◌, map, ap, ap₂}
+use Rattle.std.proofs.Common.{sym, subst, refl, Option, Some, Ok}
 use Rattle.std.specs.List.{list_any}
 use Rattle.std.proofs.lemmas.List.{append-nil}
 use Rattle.dwp_base.specs.declared.section.SectionKind.{SectionKind}
 use Rattle.dwp_base.specs.declared.section.SectionKind.TheVariants as kinds
 use Rattle.dwp_elf.specs.Contents.{content_of}
-use Rattle.dwp_dwarf.specs.Units.{UnitsAreTaken}
+use Rattle.dwp_bytes.specs.Input.{section}
+use Rattle.dwp_dwarf.specs.Units.{UnitsAreTaken, unit_at}
+use Rattle.dwp_dwarf.specs.declared.unit.UnitSection.{UnitSection}
+use Rattle.dwp_base.specs.declared.endian.Endianness.{Endianness}
 use Rattle.dwp_index.specs.Package.{encoding_in}
 use Rattle.dwp_table.specs.declared.object.DwarfObject.{DwarfObject}
 use Rattle.thorin_strings.specs.Strings.{IsTable}
-use Rattle.thorin_index.specs.declared.entry.IndexEntry.{IndexEntry}
 use Rattle.thorin_input.specs.Growing.{Contents, with_parts, joined_parts}
 use Rattle.thorin_input.specs.Indexes.{Source}
-use Rattle.thorin_join.specs.Laid.{IsLaid}
+use Rattle.thorin_join.specs.Laid.{IsLaid, IsWhole}
 use Rattle.thorin_join.specs.Meaning.{Meaning, Members, UnitRead, keys, meant, source_units}
 use Rattle.thorin_join.specs.Meaning.{source_meaning, joining, can_join}
 use Rattle.thorin_input.specs.Names.{same_name, is_compilation}
@@ -23,39 +25,30 @@ use Rattle.thorin_join.specs.Represents.{Represents, AreApart, AreRowsOf}
 use Rattle.thorin_join.specs.State.{InProgress, names_of, held_units, unit_bytes, adding}
 use Rattle.thorin_join.specs.State.{abbreviations_test, with_all, with_source, with_new_units}
 use Rattle.thorin_join.proofs.Units.NamesApart.{joined_distinct}
-use Rattle.thorin_join.proofs.Units.HeadersRead.{ReadAlone, ReadAnywhere, HasHeader, AllHeaders}
-use Rattle.thorin_join.proofs.Units.HeadersRead.{headers-joining, headers_read}
 use Rattle.thorin_join.proofs.Units.JoinedByName.{IsAdded, AreAdded, units-joined, added-keys}
 use Rattle.thorin_join.proofs.Rows.Stay.{Grows, keep-rows}
-use Rattle.thorin_join.proofs.Rows.LieInTurn.{AllCanLie, units-lie, all-can-lie, parts-lie}
+use Rattle.thorin_join.proofs.Rows.LieInTurn.{AllCanLie, units-lie, can-lie, all-can-lie, parts-lie}
 use Rattle.thorin_join.proofs.Parts.Appended.{content-with_parts, parts-none}
 use Rattle.thorin_join.proofs.Parts.Strings.{PartsKept, PartsLaw}
 use Rattle.thorin_join.proofs.Rows.Shares.{RowShares, RowsLaw}
-use Rattle.thorin_join.proofs.Steps.{bind-ok, bind-inv, ok-eq}
 use Rattle.thorin_join.proofs.Rows.AllAdded.{AllNew, joined-new, new-by-keys, CanBeAdded}
-use Rattle.thorin_join.proofs.Rows.AllAdded.{AllCanBeAdded, Added, units-added, str-other, cu-other}
-use Rattle.thorin_join.proofs.Rows.AllAdded.{tu-other}
-use Rattle.thorin_join.proofs.Units.Whole.{go-joining, units-go}
+use Rattle.thorin_join.proofs.Rows.AllAdded.{AllCanBeAdded, Added, units-added, other-kind}
+use Rattle.thorin_join.proofs.Units.Whole.{Goes, AllGo, go-joining, units-go}
+use Rattle.dwp_base.proofs.Steps.{bind-was, bind-ok, same-ok}
+use Rattle.thorin_join.proofs.Units.HeadersRead.{ReadAlone}
+use Rattle.dwp_base.proofs.Bools.{by-bool}
+use Rattle.thorin_join.proofs.Units.InRows.{rows-keys}
 
 -- ---- joining keeps what belongs to units
-
-joining-cond : (source : Source) (u : DwarfObject × UnitRead) (a b : List (DwarfObject × UnitRead))
-    (c d : List (DwarfObject × Option Meaning)) (e : Bool)
-    → c ≡ map {B = DwarfObject × Option Meaning} (meant source) a → d ≡ map {B = DwarfObject
-    × Option Meaning} (meant source) b
-    → cond e c (meant source u ∷ d) ≡ map {B = DwarfObject × Option Meaning} (meant source)
-    (cond e a (u ∷ b))
-joining-cond source u a b c d true h k = h
-joining-cond source u a b c d false h k = ap (λ l. meant source u ∷ l) k
 
 joining-meant : (source : Source) (names : List DwarfObject) (us : List (DwarfObject × UnitRead))
     → joining names (map {B = DwarfObject × Option Meaning} (meant source) us) ≡ map {B =
     DwarfObject × Option Meaning} (meant source) (joining names us)
 joining-meant source names [] = refl
 joining-meant source names (u ∷ us) =
-    joining-cond source u (joining names us) (joining (names ++ u.0 ∷ []) us) _ _
-    (list_any (same_name u.0) names)
-    (joining-meant source names us) (joining-meant source (names ++ u.0 ∷ []) us)
+    by-bool _ (list_any (same_name u.0) names)
+    (λ there. rw there (joining-meant source names us))
+    (λ new. rw new (ap (λ l. meant source u ∷ l) (joining-meant source (names ++ u.0 ∷ []) us)))
 
 can_join-meant : (source : Source) (names : List DwarfObject) (us : List (DwarfObject × UnitRead))
     → can_join names (map {B = DwarfObject × Option Meaning} (meant source) us) ≡ can_join names us
@@ -76,57 +69,54 @@ record Ready (source : Source) (c : Contents) (after : List (List ℕ))
   are : map {B = DwarfObject × Option Meaning} (meant source) rs ≡ all_there members
   can : AllCanBeAdded source.object.order c after ns members
 
+-- a whole unit's header can be read
+whole-header : (order : Endianness) (place : UnitSection) (name : DwarfObject) (bytes : List ℕ)
+    (whole : IsWhole order place name bytes)
+    → encoding_in order place bytes ≡ Ok whole.unit.encoding
+unfolding encoding_in
+whole-header order place name bytes whole =
+    bind-ok (unit_at place (section order bytes)) (whole.unit, whole.rest) _ whole.read
+
 one-can : (source : Source) (before : InProgress) (parts : Contents) (after : List (List ℕ))
     (n : DwarfObject × NewUnit) (r : DwarfObject × UnitRead)
-    → IsAdded (adding source before parts) n r → HasHeader source.object.order r
+    → IsAdded (adding source before parts) n r → Goes source.object.order r
     → (s : RowShares source before.file.contents parts after r n.1.row)
     → CanBeAdded source.object.order (with_parts parts before.file.contents) after n (r.0, s.unit)
-one-can source before parts after n r is header s = record {
-  name = is.name;
-  bytes = is.bytes ∙ sym s.bytes;
-  encoded = s.encoding;
-  lie = s.lie;
-  shares = s.shares;
-  fits = record {
-    no_types = s.no_types;
-    some = subst (λ b. 0 < length b) (sym is.bytes) header.some;
-    types_only = λ h. let t = header.types_only (sym is.place ∙ h) in (t.0, is.name ∙ t.1);
-  };
-  encoding = header.encoding;
-  header = (λ i. encoding_in source.object.order (is.place i) (is.bytes i)) ∙ header.header;
-}
+one-can source before parts after n r is goes s =
+    let lies = can-lie source before parts n r is goes in
+    record {
+      name = is.name;
+      bytes = is.bytes ∙ sym s.bytes_are;
+      encoded = s.encoding;
+      lie = s.lie;
+      shares = s.shares;
+      fits = lies.fits;
+      encoding = lies.whole.unit.encoding;
+      header = whole-header source.object.order n.1.place n.0 n.1.bytes lies.whole;
+    }
 
 ready : RowsLaw → (source : Source) (before : InProgress) (parts : Contents) (after : List (List ℕ))
     (ns : List (DwarfObject × NewUnit)) (rs : List (DwarfObject × UnitRead))
     → IsTable before.strings → parts_of source before.strings ≡ Ok (parts, after)
-    → AreAdded (adding source before parts) ns rs → AllHeaders source.object.order rs
+    → AreAdded (adding source before parts) ns rs → AllGo source.object.order rs
     → Ready source (with_parts parts before.file.contents) after ns rs
-ready rows_law source before parts after [] [] table h are headers = record {
-  members = [];
-  are =
-      refl;
-  can = tt;
-}
-ready rows_law source before parts after [] (r ∷ rs) table h are headers = absurd are
-ready rows_law source before parts after (n ∷ ns) [] table h are headers = absurd are
-ready rows_law source before parts after (n ∷ ns) (r ∷ rs) table h are headers =
+ready rows_law source before parts after [] [] table h are go =
+    record { members = []; are = refl; can = tt }
+ready rows_law source before parts after [] (r ∷ rs) table h are go = absurd are
+ready rows_law source before parts after (n ∷ ns) [] table h are go = absurd are
+ready rows_law source before parts after (n ∷ ns) (r ∷ rs) table h are go =
     let s = rows_law source before.file.contents before.strings parts after r n.1.row table h
     are.0.tested are.0.row in
-    let rest = ready rows_law source before parts after ns rs table h are.1 headers.1 in
+    let rest = ready rows_law source before parts after ns rs table h are.1 go.1 in
     record {
       members = (r.0, s.unit) ∷ rest.members;
-      are = λ i. (r.0, s.meaning i) ∷ rest.are i;
-      can = (one-can source before parts after n r are.0 headers.0 s, rest.can);
+      are = λ i. (r.0, s.meaning_is i) ∷ rest.are i;
+      can = (one-can source before parts after n r are.0 go.0 s, rest.can);
     }
 
 -- the names of a package's units
 pub keys-held : (made : InProgress) → keys (held_units made) ≡ names_of made
-keys-held made = by made.file.contents made.rows
-  where
-    by : (c : Contents) (rows : List IndexEntry) → keys (map {B = DwarfObject × List ℕ} (λ row.
-        (row.id, unit_bytes c row)) rows) ≡ map (λ row. row.id) rows
-    by c [] = refl
-    by c (row ∷ rows) = ap (λ l. row.id ∷ l) (by c rows)
+keys-held made = rows-keys (unit_bytes made.file.contents) made.rows
 
 -- a section that nothing is added to
 none-added : (kind : SectionKind) (parts c : Contents) → joined_parts kind parts ≡ []
@@ -170,11 +160,13 @@ represents-added p parts after differing us ms all rep kept a =
     let c = p.file.contents in
     record {
       table = subst IsTable (sym a.strings) kept.table;
-      no_strings = a.other kinds.Str str-other ∙ none-added kinds.Str parts c
+      no_strings = a.other kinds.Str (other-kind kinds.Str refl refl) ∙ none-added kinds.Str parts c
           kept.no_strings rep.no_strings;
-      no_compilations = a.other kinds.CuIndex cu-other ∙ none-added kinds.CuIndex parts c
+      no_compilations = a.other kinds.CuIndex (other-kind kinds.CuIndex refl refl) ∙ none-added
+          kinds.CuIndex parts c
           kept.no_compilations rep.no_compilations;
-      no_types = a.other kinds.TuIndex tu-other ∙ none-added kinds.TuIndex parts c
+      no_types = a.other kinds.TuIndex (other-kind kinds.TuIndex refl refl) ∙ none-added
+          kinds.TuIndex parts c
           kept.no_types rep.no_types;
       rows = subst (λ o. AreRowsOf o r.file.contents r.strings r.rows all) (sym a.order)
           (subst (λ s. AreRowsOf q.file.order r.file.contents s r.rows all) (sym a.strings) a.rows);
@@ -187,27 +179,25 @@ grows-with_parts parts c kind = record {
       content-with_parts kind parts c;
 }
 
-pub source-joins : PartsLaw → RowsLaw → ReadAlone → ReadAnywhere → UnitsAreTaken
+pub source-joins : PartsLaw → RowsLaw → ReadAlone → UnitsAreTaken
     → (source : Source) (before now : InProgress) (ms : Members)
     → Represents before ms → names_of before ≡ keys ms → AreApart (names_of before) → IsLaid before
     → source.object.order ≡ before.file.order → with_source source before ≡ Ok now
     → SourceJoins source now ms
 unfolding with_source source_meaning
-source-joins parts_law rows_law alone anywhere taken source before now ms rep named
-    apart laid same h =
-    let s1 = bind-inv (parts_of source before.strings) _ now h in
-    let s2 = bind-inv (abbreviations_test source.object) _ now s1.2 in
-    let s3 = bind-inv (new_units (adding source before s1.0.0)) _ now s2.2 in
+source-joins parts_law rows_law alone taken source before now ms rep named apart laid same h =
+    let s1 = bind-was (parts_of source before.strings) _ now h in
+    let s2 = bind-was (abbreviations_test source.object) _ now s1.2 in
+    let s3 = bind-was (new_units (adding source before s1.0.0)) _ now s2.2 in
     let parts = s1.0.0 in
     let after = s1.0.1 in
     let new = s3.0 in
     let j = units-joined (adding source before parts) new s3.1 in
     let held = keys (held_units before) in
     let kept = parts_law source before.strings parts after rep.table s1.1 in
-    let headers = headers-joining source.object.order held j.all (headers_read alone anywhere
-    source j.all j.is) in
+    let go = go-joining source.object.order held j.all (units-go taken alone source j.all j.is) in
     let r = ready rows_law source before parts after new.units (joining held j.all) rep.table s1.1
-    j.are headers in
+    j.are go in
     let c = with_parts parts before.file.contents in
     let q = with_all_parts before parts after (before.differing ++ new.differing) in
     let can : AllCanBeAdded q.file.order q.file.contents q.strings new.units r.members =
@@ -219,7 +209,6 @@ source-joins parts_law rows_law alone anywhere taken source before now ms rep na
     let rows = keep-rows before.file.order before.file.contents c before.strings after before.rows
     ms (grows-with_parts parts before.file.contents) kept.longer rep.rows in
     let a = units-added q new.units ms r.members fresh can rows in
-    let go = go-joining source.object.order held j.all (units-go taken alone source j.all j.is) in
     let can_lie : AllCanLie q.file.order new.units = subst (λ o. AllCanLie o new.units) same
     (all-can-lie source before parts new.units (joining held j.all) j.are go) in
     let parted = parts-lie before.file.order before.rows parts before.file.contents
@@ -228,7 +217,7 @@ source-joins parts_law rows_law alone anywhere taken source before now ms rep na
     (record { info = laid.info; types = laid.types; once = laid.once }) in
     let lie = units-lie q new.units fresh can_lie parted in
     let is : with_new_units q new.units ≡ now = sym (all-is before parts after new) ∙
-    ok-eq _ now s3.2 in
+    same-ok _ now s3.2 in
     let names : held ≡ keys ms = keys-held before ∙ named in
     record {
       units = map {B = DwarfObject × Option Meaning} (meant source) j.all;

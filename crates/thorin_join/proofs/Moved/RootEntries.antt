@@ -1,8 +1,8 @@
 -- A unit's root entry is read alike wherever its bytes stand.
-use Rattle.std.proofs.Common.{◌≡◌, ◌∙◌, ℕ, zero, suc, ◌+◌, ◌-◌, ◌*◌, ◌^◌, Bool, true, false, cond}
-use Rattle.std.proofs.Common.{eqb, ltb, List, [], ◌∷◌, length, drop, Result, Ok, Err, Option, Some}
-use Rattle.std.proofs.Common.{None, refl, ap, ap₂, arith}
-use Rattle.std.specs.Prelude.{ℤ, pos, ◌+ℤ◌, ◌-ℤ◌, ◌*ℤ◌, slice_index}
+use Rattle.std.proofs.Common.{◌≡◌, ◌∙◌, ℕ, zero, suc, ◌+◌, ◌-◌, ◌^◌, Bool, true, false, cond, eqb}
+use Rattle.std.proofs.Common.{ltb, List, [], ◌∷◌, length, drop, Result, Ok, Err, Option, Some, None}
+use Rattle.std.proofs.Common.{refl, ap, ap₂, arith}
+use Rattle.std.specs.Prelude.{ℤ, slice_index}
 use Rattle.std.specs.Option.{ok_or}
 use Rattle.dwp_base.specs.Numbers.{number}
 use Rattle.dwp_base.specs.Reading.{◌>>=◌}
@@ -10,9 +10,9 @@ use Rattle.dwp_bytes.specs.Input.{Input, front, after, byte_at, number_at, skip_
 use Rattle.dwp_bytes.specs.Input.{found_at}
 use Rattle.dwp_bytes.specs.Leb.{leb_at, uleb_at, signed_leb_at, sleb_at, is_i64}
 use Rattle.dwp_bytes.specs.declared.encoding.Encoding.{Encoding}
-use Rattle.dwp_bytes.specs.declared.fault.ReadError.{ReadError}
-use Rattle.dwp_bytes.specs.declared.fault.ReadError.TheVariants.{UnexpectedEof, BigLeb, UnknownForm}
-use Rattle.dwp_bytes.specs.declared.fault.ReadError.TheVariants.{UnknownCode}
+use Rattle.dwp_bytes.specs.declared.error.ReadError.{ReadError}
+use Rattle.dwp_bytes.specs.declared.error.ReadError.TheVariants.{UnexpectedEof, UnknownForm}
+use Rattle.dwp_bytes.specs.declared.error.ReadError.TheVariants.{UnknownCode}
 use Rattle.dwp_dwarf.specs.Abbreviations.{Specification, Declaration, code_at, declaration}
 use Rattle.dwp_dwarf.specs.Entries.{DebugAttribute, attribute_at, attributes, entry, root_code_at}
 use Rattle.dwp_dwarf.specs.Entries.{number_read, number_of}
@@ -24,9 +24,9 @@ use Rattle.dwp_dwarf.specs.Units.{Unit as Header, listed}
 use Rattle.dwp_dwarf.specs.declared.unit.UnitType.{UnitType}
 use Rattle.dwp_dwarf.specs.declared.unit.UnitType.TheVariants as unit_types
 use Rattle.dwp_table.specs.declared.object.DwarfObject.{DwarfObject}
-use Rattle.thorin_errors.specs.Fault.{Fault, NoDie, TopLevelDieNotUnit, ParseUnitAbbreviations}
-use Rattle.thorin_errors.specs.Fault.{GimliRead}
-use Rattle.thorin_errors.specs.Answers.{as_fault}
+use Rattle.thorin_errors.specs.Errors.{ErrorValue, NoDie, TopLevelDieNotUnit}
+use Rattle.thorin_errors.specs.Errors.{ParseUnitAbbreviations, GimliRead}
+use Rattle.thorin_errors.specs.Answers.{as_error}
 use Rattle.thorin_identity.specs.Identity.{DW_AT_GNU_dwo_id, is_unit_tag, identifier_in, found_or}
 use Rattle.thorin_identity.specs.Identity.{first_identifier, entry_identity, root_identity}
 use Rattle.thorin_identity.specs.Identity.{identity_by, identity}
@@ -38,9 +38,27 @@ shifted d i = record i { place = d + i.place }
 abbrev Answer : Type 0 → Type 0
 Answer A = Result (A × Input) ReadError
 
+-- what was read, with another value
+abbrev moved_by : {A : Type 0} → (A → A) → Result A ReadError → Result A ReadError
+moved_by f (Ok x) = Ok (f x)
+moved_by f (Err e) = Err e
+
+-- the same where it was read of the other place: the rest, and both of two inputs
+abbrev rest_moved : {A : Type 0} → ℕ → A × Input → A × Input
+rest_moved d x = (x.0, shifted d x.1)
+
+abbrev both_moved : ℕ → Input × Input → Input × Input
+both_moved d x = (shifted d x.0, shifted d x.1)
+
 abbrev moved : {A : Type 0} → ℕ → Answer A → Answer A
-moved d (Ok x) = Ok (x.0, shifted d x.1)
-moved d (Err e) = Err e
+moved d = moved_by (rest_moved d)
+
+-- what follows a reading
+then-moved : {A B : Type 0} (f : A → A) (g : B → B) (r s : Result A ReadError)
+    (next after : A → Result B ReadError) → s ≡ moved_by f r
+    → ((a : A) → after (f a) ≡ moved_by g (next a)) → (s >>= after) ≡ moved_by g (r >>= next)
+then-moved f g (Ok x) s next after h k = ap (λ t. t >>= after) h ∙ k x
+then-moved f g (Err e) s next after h k = ap (λ t. t >>= after) h
 
 -- a reading gives the same at the other place
 abbrev Shifts : (A : Type 0) → (Input → Answer A) → Type 0
@@ -70,120 +88,59 @@ shifts-skip n d i = one-shifts d n i tt (ltb (length i.bytes) n)
 
 -- ---- steps
 
-then-shifts : {A B : Type 0} (read : Input → Answer A) → Shifts A read
-    → (next : A → Input → Answer B) → ((a : A) → Shifts B (next a))
-    → Shifts B (λ i. read i >>= λ a. next a.0 a.1)
-then-shifts {A} {B} read first next second d i = ap (λ r. r >>= λ a. next a.0 a.1)
-    (first d i) ∙ by (read i)
-  where
-    by : (r : Answer A) → (moved d r >>= λ a. next a.0 a.1) ≡ moved d (r >>= λ a. next a.0 a.1)
-    by (Ok x) = second x.0 d x.1
-    by (Err e) = refl
-
-same-shifts : {A : Type 0} (a : A) → Shifts A (λ i. Ok (a, i))
-same-shifts a d i = refl
-
-fault-shifts : {A : Type 0} (e : ReadError) → Shifts A (λ i. Err e)
-fault-shifts e d i = refl
-
-if-shifts : {A : Type 0} (b : Bool) (one other : Input → Answer A) → Shifts A one → Shifts A other
-    → Shifts A (λ i. cond b (one i) (other i))
-if-shifts true one other f g = f
-if-shifts false one other f g = g
+-- either of two
+either-moved : {A : Type 0} (f : A → A) (b : Bool) (x y v w : Result A ReadError)
+    → v ≡ moved_by f x → w ≡ moved_by f y → cond b v w ≡ moved_by f (cond b x y)
+either-moved f true x y v w p q = p
+either-moved f false x y v w p q = q
 
 shifts-leb : (n : ℕ) → Shifts ℕ (leb_at n)
 unfolding leb_at
-shifts-leb zero = fault-shifts BigLeb
-shifts-leb (suc n) =
-    then-shifts byte_at shifts-byte (λ b i. cond (ltb b 128) (Ok (b, i)) (leb_at n i >>= λ r.
-    Ok (b - 128 + 128 * r.0, r.1)))
-    (λ b. if-shifts (ltb b 128) (λ i. Ok (b, i)) (λ i. leb_at n i >>= λ r.
-    Ok (b - 128 + 128 * r.0, r.1)) (same-shifts b)
-    (then-shifts (leb_at n) (shifts-leb n) (λ r i. Ok (b - 128 + 128 * r, i)) (λ r.
-    same-shifts (b - 128 + 128 * r))))
+shifts-leb zero d i = refl
+shifts-leb (suc n) d i = then-moved (rest_moved d) (rest_moved d) (byte_at i) _ _ _
+    (shifts-byte d i) (λ b. either-moved (rest_moved d) (ltb b.0 128) _ _ _ _ refl
+    (then-moved (rest_moved d) (rest_moved d) (leb_at n b.1) _ _ _
+    (shifts-leb n d b.1) (λ r. refl)))
 
 shifts-uleb : Shifts ℕ uleb_at
 unfolding uleb_at
-shifts-uleb = then-shifts (leb_at 10) (shifts-leb 10) (λ n i. cond (ltb n (2 ^ 64))
-    (Ok (n, i)) (Err BigLeb))
-    (λ n. if-shifts (ltb n (2 ^ 64)) (λ i. Ok (n, i)) (λ i. Err BigLeb) (same-shifts n)
-    (fault-shifts BigLeb))
+shifts-uleb d i = then-moved (rest_moved d) (rest_moved d) (leb_at 10 i) _ _ _
+    (shifts-leb 10 d i) (λ n. either-moved (rest_moved d) (ltb n.0 (2 ^ 64)) _ _ _ _ refl refl)
 
 shifts-signed : (n : ℕ) → Shifts ℤ (signed_leb_at n)
 unfolding signed_leb_at
-shifts-signed zero = fault-shifts BigLeb
-shifts-signed (suc n) =
-    then-shifts byte_at shifts-byte (λ b i. cond (ltb b 64) (Ok (pos b, i))
-    (cond (ltb b 128) (Ok (pos b -ℤ pos 128, i)) (signed_leb_at n i >>= λ r.
-    Ok (pos (b - 128) +ℤ pos 128 *ℤ r.0, r.1))))
-    (λ b. if-shifts (ltb b 64) (λ i. Ok (pos b, i)) (λ i.
-    cond (ltb b 128) (Ok (pos b -ℤ pos 128, i)) (signed_leb_at n i >>= λ r.
-    Ok (pos (b - 128) +ℤ pos 128 *ℤ r.0, r.1))) (same-shifts (pos b))
-    (if-shifts (ltb b 128) (λ i. Ok (pos b -ℤ pos 128, i)) (λ i. signed_leb_at n i >>= λ r.
-    Ok (pos (b - 128) +ℤ pos 128 *ℤ r.0, r.1)) (same-shifts (pos b -ℤ pos 128))
-    (then-shifts (signed_leb_at n) (shifts-signed n) (λ r i. Ok (pos (b - 128) +ℤ pos 128 *ℤ r, i))
-    (λ r. same-shifts (pos (b - 128) +ℤ pos 128 *ℤ r)))))
+shifts-signed zero d i = refl
+shifts-signed (suc n) d i = then-moved (rest_moved d) (rest_moved d) (byte_at i) _ _ _
+    (shifts-byte d i) (λ b. either-moved (rest_moved d) (ltb b.0 64) _ _ _ _ refl
+    (either-moved (rest_moved d) (ltb b.0 128) _ _ _ _ refl (then-moved (rest_moved d)
+    (rest_moved d) (signed_leb_at n b.1) _ _ _ (shifts-signed n d b.1) (λ r. refl))))
 
 shifts-sleb : Shifts ℤ sleb_at
 unfolding sleb_at
-shifts-sleb = then-shifts (signed_leb_at 10) (shifts-signed 10) (λ n i.
-    cond (is_i64 n) (Ok (n, i)) (Err BigLeb))
-    (λ n. if-shifts (is_i64 n) (λ i. Ok (n, i)) (λ i. Err BigLeb) (same-shifts n)
-    (fault-shifts BigLeb))
+shifts-sleb d i = then-moved (rest_moved d) (rest_moved d) (signed_leb_at 10 i) _ _ _
+    (shifts-signed 10 d i) (λ n. either-moved (rest_moved d) (is_i64 n.0) _ _ _ _ refl refl)
 
 -- ---- values, which are inputs themselves
 
 abbrev moved_rest : ℕ → Result Input ReadError → Result Input ReadError
-moved_rest d (Ok i) = Ok (shifted d i)
-moved_rest d (Err e) = Err e
+moved_rest d = moved_by (shifted d)
 
 abbrev moved_both : ℕ → Result (Input × Input) ReadError → Result (Input × Input) ReadError
-moved_both d (Ok x) = Ok (shifted d x.0, shifted d x.1)
-moved_both d (Err e) = Err e
-
-split-by : (n d : ℕ) (i : Input) (short : Bool)
-    → cond {A = Result (Input × Input) ReadError} short (Err UnexpectedEof)
-    (Ok (front n (shifted d i), after n (shifted d i))) ≡ moved_both d
-    (cond {A = Result (Input × Input) ReadError} short (Err UnexpectedEof)
-    (Ok (front n i, after n i)))
-split-by n d i true = refl
-split-by n d i false = ap (λ j. Ok (shifted d (front n i), j)) (after-shifted n d i)
+moved_both d = moved_by (both_moved d)
 
 split-shifts : (n d : ℕ) (i : Input) → split_at n (shifted d i) ≡ moved_both d (split_at n i)
 unfolding split_at
-split-shifts n d i = split-by n d i (ltb (length i.bytes) n)
+split-shifts n d i = either-moved (both_moved d) (ltb (length i.bytes) n) _ _ _ _ refl
+    (ap (λ j. Ok (shifted d (front n i), j)) (after-shifted n d i))
 
 -- what is left behind a reading
 left-shifts : {A : Type 0} (read : Input → Answer A) → Shifts A read → (d : ℕ) (i : Input)
     → (read (shifted d i) >>= λ x. Ok x.1) ≡ moved_rest d (read i >>= λ x. Ok x.1)
-left-shifts {A} read first d i = ap (λ r. r >>= λ x. Ok x.1) (first d i) ∙ by (read i)
-  where
-    by : (r : Answer A) → (moved d r >>= λ x. Ok x.1) ≡ moved_rest d (r >>= λ x. Ok x.1)
-    by (Ok x) = refl
-    by (Err e) = refl
+left-shifts read first d i = then-moved (rest_moved d) (shifted d) (read i) _ _ _ (first d i)
+    (λ x. refl)
 
 abbrev from_text : Input → ℕ → Result (Input × Input) ReadError
 from_text i n = split_at n i >>= λ text. skip_at 1 text.1 >>= λ zero_byte. Ok (text.0, zero_byte.1)
-
-end-shifts : (d : ℕ) (text : Input × Input) → (skip_at 1 (shifted d text.1) >>= λ z.
-    Ok (shifted d text.0, z.1)) ≡ moved_both d (skip_at 1 text.1 >>= λ z. Ok (text.0, z.1))
-end-shifts d text = ap (λ r. r >>= λ z. Ok (shifted d text.0, z.1)) (shifts-skip 1 d text.1) ∙ by
-    (skip_at 1 text.1)
-  where
-    by : (r : Answer (Unit {0})) → (moved d r >>= λ z. Ok (shifted d text.0, z.1)) ≡ moved_both d
-        (r >>= λ z. Ok (text.0, z.1))
-    by (Ok x) = refl
-    by (Err e) = refl
-
-from-shifts : (d : ℕ) (i : Input) (n : ℕ) → from_text (shifted d i) n ≡ moved_both d (from_text i n)
-from-shifts d i n = ap (λ r. r >>= λ text. skip_at 1 text.1 >>= λ z. Ok (text.0, z.1))
-    (split-shifts n d i) ∙ by (split_at n i)
-  where
-    by : (r : Result (Input × Input) ReadError) → (moved_both d r >>= λ text. skip_at 1 text.1 >>=
-        λ z. Ok (text.0, z.1)) ≡ moved_both d (r >>= λ text. skip_at 1 text.1 >>= λ z.
-        Ok (text.0, z.1))
-    by (Ok x) = end-shifts d x
-    by (Err e) = refl
 
 text-shifts : (d : ℕ) (i : Input) → text_at (shifted d i) ≡ moved_both d (text_at i)
 unfolding text_at
@@ -191,28 +148,21 @@ text-shifts d i = by (found_at 0 i.bytes)
   where
     by : (r : Result ℕ ReadError) → (r >>= from_text (shifted d i)) ≡ moved_both d
         (r >>= from_text i)
-    by (Ok n) = from-shifts d i n
+    by (Ok n) = then-moved (both_moved d) (both_moved d) (split_at n i) _ _ _ (split-shifts n d i)
+        (λ text. then-moved (rest_moved d) (both_moved d) (skip_at 1 text.1) _ _ _
+        (shifts-skip 1 d text.1) (λ z. refl))
     by (Err e) = refl
 
 text-left : (d : ℕ) (i : Input) → (text_at (shifted d i) >>= λ t. Ok t.1) ≡ moved_rest d
     (text_at i >>= λ t. Ok t.1)
-text-left d i = ap (λ r. r >>= λ t. Ok t.1) (text-shifts d i) ∙ by (text_at i)
-  where
-    by : (r : Result (Input × Input) ReadError) → (moved_both d r >>= λ t. Ok t.1) ≡ moved_rest d
-        (r >>= λ t. Ok t.1)
-    by (Ok x) = refl
-    by (Err e) = refl
+text-left d i = then-moved (both_moved d) (shifted d) (text_at i) _ _ _
+    (text-shifts d i) (λ t. refl)
 
 block-shifts : (read : Input → Answer ℕ) → Shifts ℕ read → (d : ℕ) (i : Input)
     → (read (shifted d i) >>= λ n. skip_at n.0 n.1 >>= λ rest. Ok rest.1) ≡ moved_rest d
     (read i >>= λ n. skip_at n.0 n.1 >>= λ rest. Ok rest.1)
-block-shifts read first d i = ap (λ r. r >>= λ n. skip_at n.0 n.1 >>= λ rest. Ok rest.1)
-    (first d i) ∙ by (read i)
-  where
-    by : (r : Answer ℕ) → (moved d r >>= λ n. skip_at n.0 n.1 >>= λ rest. Ok rest.1) ≡ moved_rest d
-        (r >>= λ n. skip_at n.0 n.1 >>= λ rest. Ok rest.1)
-    by (Ok x) = left-shifts (skip_at x.0) (shifts-skip x.0) d x.1
-    by (Err e) = refl
+block-shifts read first d i = then-moved (rest_moved d) (shifted d) (read i) _ _ _ (first d i)
+    (λ n. left-shifts (skip_at n.0) (shifts-skip n.0) d n.1)
 
 abbrev from_past : Input → Input → Result (Input × Input) ReadError
 from_past i rest = split_at (rest.place - i.place) i >>= λ value. Ok (value.0, rest)
@@ -222,23 +172,12 @@ from-past : (d : ℕ) (i rest : Input) → from_past (shifted d i) (shifted d re
 from-past d i rest =
     let size : d + rest.place - (d + i.place) ≡ rest.place - i.place = omega arith in
     ap (λ n. split_at n (shifted d i) >>= λ value. Ok (value.0, shifted d rest)) size
-    ∙ ap (λ r. r >>= λ value. Ok (value.0, shifted d rest))
-    (split-shifts (rest.place - i.place) d i)
-    ∙ by (split_at (rest.place - i.place) i)
-  where
-    by : (r : Result (Input × Input) ReadError) → (moved_both d r >>= λ value.
-        Ok (value.0, shifted d rest)) ≡ moved_both d (r >>= λ value. Ok (value.0, rest))
-    by (Ok x) = refl
-    by (Err e) = refl
+    ∙ then-moved (both_moved d) (both_moved d) (split_at (rest.place - i.place) i) _ _ _
+    (split-shifts (rest.place - i.place) d i) (λ value. refl)
 
 laid-by : (d : ℕ) (i : Input) (there here : Result Input ReadError) → there ≡ moved_rest d here
     → (there >>= from_past (shifted d i)) ≡ moved_both d (here >>= from_past i)
-laid-by d i there here h = ap (λ r. r >>= from_past (shifted d i)) h ∙ by here
-  where
-    by : (r : Result Input ReadError) → (moved_rest d r >>= from_past (shifted d i)) ≡ moved_both d
-        (r >>= from_past i)
-    by (Ok rest) = from-past d i rest
-    by (Err e) = refl
+laid-by d i there here h = then-moved (shifted d) (both_moved d) here there _ _ h (from-past d i)
 
 -- a value of a layout, if there is one
 abbrev Lays : {L : Type 0} → (L → Input → Result Input ReadError) → ℕ → Input → Option L → Type 0
@@ -290,16 +229,11 @@ value-shifts encoding form d i =
 
 shifts-named : (n form : ℕ) → Shifts ℕ (named_within n form)
 unfolding named_within
-shifts-named zero form = if-shifts (eqb form 0x16) (λ i. Err UnexpectedEof) (λ i. Ok (form, i))
-    (fault-shifts UnexpectedEof) (same-shifts form)
-shifts-named (suc n) form =
-    if-shifts (eqb form 0x16) (λ i. uleb_at i >>= λ named. cond (eqb named.0 0x21) (Err UnknownForm)
-    (named_within n named.0 named.1)) (λ i. Ok (form, i))
-    (then-shifts uleb_at shifts-uleb (λ named i. cond (eqb named 0x21) (Err UnknownForm)
-    (named_within n named i))
-    (λ named. if-shifts (eqb named 0x21) (λ i. Err UnknownForm) (named_within n named)
-    (fault-shifts UnknownForm) (shifts-named n named)))
-    (same-shifts form)
+shifts-named zero form d i = either-moved (rest_moved d) (eqb form 0x16) _ _ _ _ refl refl
+shifts-named (suc n) form d i = either-moved (rest_moved d) (eqb form 0x16) _ _ _ _
+    (then-moved (rest_moved d) (rest_moved d) (uleb_at i) _ _ _ (shifts-uleb d i) (λ named.
+    either-moved (rest_moved d) (eqb named.0 0x21) _ _ _ _ refl
+    (shifts-named n named.0 d named.1))) refl
 
 shifts-form : (form : ℕ) → Shifts ℕ (named_form_at form)
 unfolding named_form_at
@@ -310,45 +244,20 @@ shifts-form form d i = shifts-named (length i.bytes) form d i
 abbrev shifted_attribute : ℕ → DebugAttribute → DebugAttribute
 shifted_attribute d a = record a { value = shifted d a.value }
 
+abbrev attribute_moved : ℕ → DebugAttribute × Input → DebugAttribute × Input
+attribute_moved d x = (shifted_attribute d x.0, shifted d x.1)
+
 abbrev moved_attribute : ℕ → Answer DebugAttribute → Answer DebugAttribute
-moved_attribute d (Ok x) = Ok (shifted_attribute d x.0, shifted d x.1)
-moved_attribute d (Err e) = Err e
-
-abbrev from_form : Encoding → ℕ → ℕ × Input → Answer DebugAttribute
-from_form encoding name form = value_at encoding form.0 form.1 >>= λ value.
-    Ok (record { name = name; form = form.0; value = value.0 }, value.1)
-
-form-shifts : (encoding : Encoding) (name d : ℕ) (form : ℕ × Input) → from_form encoding name
-    (form.0, shifted d form.1) ≡ moved_attribute d (from_form encoding name form)
-form-shifts encoding name d form = ap (λ r. r >>= λ value.
-    Ok (record { name = name; form = form.0; value = value.0 }, value.1))
-    (value-shifts encoding form.0 d form.1) ∙ by (value_at encoding form.0 form.1)
-  where
-    by : (r : Result (Input × Input) ReadError)
-        → ◌≡◌ {A = Answer DebugAttribute} (moved_both d r >>= λ value.
-        Ok (record { name = name; form = form.0; value = value.0 }, value.1))
-        (moved_attribute d (r >>= λ value. Ok (
-          record {
-            name = name;
-            form = form.0;
-            value =
-                value.0;
-          },
-          value.1,
-        )))
-    by (Ok x) = refl
-    by (Err e) = refl
+moved_attribute d = moved_by (attribute_moved d)
 
 attribute-shifts : (encoding : Encoding) (s : Specification) (d : ℕ) (i : Input)
     → attribute_at encoding s (shifted d i) ≡ moved_attribute d (attribute_at encoding s i)
 unfolding attribute_at
-attribute-shifts encoding s d i = ap (λ r. r >>= from_form encoding s.name) (shifts-form s.form d i)
-    ∙ by (named_form_at s.form i)
-  where
-    by : (r : Answer ℕ) → (moved d r >>= from_form encoding s.name) ≡ moved_attribute d
-        (r >>= from_form encoding s.name)
-    by (Ok x) = form-shifts encoding s.name d x
-    by (Err e) = refl
+attribute-shifts encoding s d i =
+    then-moved (rest_moved d) (attribute_moved d) (named_form_at s.form i) _ _ _
+    (shifts-form s.form d i)
+    (λ form. then-moved (both_moved d) (attribute_moved d) (value_at encoding form.0 form.1) _ _ _
+    (value-shifts encoding form.0 d form.1) (λ value. refl))
 
 read-same : (d : ℕ) (r : Answer ℕ) → number_read (moved d r) ≡ number_read r
 read-same d (Ok x) = refl
@@ -401,26 +310,22 @@ entry-same encoding decl d i = ap (λ r. cond (is_unit_tag decl.tag) r (Err TopL
 
 shifts-code : Shifts ℕ code_at
 unfolding code_at
-shifts-code d i = by (eqb (length i.bytes) 0)
-  where
-    by : (b : Bool) → cond {A = Answer ℕ} b (Ok (0, shifted d i)) (uleb_at (shifted d i)) ≡ moved d
-        (cond {A = Answer ℕ} b (Ok (0, i)) (uleb_at i))
-    by true = refl
-    by false = shifts-uleb d i
+shifts-code d i = either-moved (rest_moved d) (eqb (length i.bytes) 0) _ _ _ _ refl
+    (shifts-uleb d i)
 
 abbrev Code : Type 0
 Code = Result (Option (ℕ × Input)) ReadError
 
 -- what comes of a root code
-abbrev from_code : Encoding → Input → Code → Result (Option DwarfObject) Fault
+abbrev from_code : Encoding → Input → Code → Result (Option DwarfObject) ErrorValue
 from_code encoding table r = do
-  read ← as_fault GimliRead r
+  read ← as_error GimliRead r
   code ← ok_or read NoDie
-  found ← as_fault ParseUnitAbbreviations (declaration code.0 table)
+  found ← as_error ParseUnitAbbreviations (declaration code.0 table)
   d ← ok_or found (GimliRead UnknownCode)
   entry_identity (entry encoding d code.1)
 
-declared-same : (encoding : Encoding) (found : Result (Option Declaration) Fault)
+declared-same : (encoding : Encoding) (found : Result (Option Declaration) ErrorValue)
     (d : ℕ) (i : Input)
     → (found >>= λ f. ok_or f (GimliRead UnknownCode) >>= λ decl.
     entry_identity (entry encoding decl (shifted d i))) ≡ (found >>= λ f.
@@ -433,7 +338,7 @@ code-same : (encoding : Encoding) (table : Input) (d : ℕ) (code : ℕ × Input
     → from_code encoding table (cond {A = Code} b (Ok None) (Ok (Some (code.0, shifted d code.1))))
     ≡ from_code encoding table (cond {A = Code} b (Ok None) (Ok (Some code)))
 code-same encoding table d code true = refl
-code-same encoding table d code false = declared-same encoding (as_fault ParseUnitAbbreviations
+code-same encoding table d code false = declared-same encoding (as_error ParseUnitAbbreviations
     (declaration code.0 table)) d code.1
 
 code-by : (encoding : Encoding) (table : Input) (d : ℕ) (i : Input) → from_code encoding table
@@ -459,11 +364,11 @@ root-same : (section : Input) (d : ℕ) (unit other : Header) → IsShifted d un
     → root_identity section other ≡ root_identity section unit
 unfolding root_identity
 root-same section d unit other h =
-    (λ i. as_fault ParseUnitAbbreviations (from_at (h.offset i) section) >>= λ table.
+    (λ i. as_error ParseUnitAbbreviations (from_at (h.offset i) section) >>= λ table.
     from_code (h.encoding i) table (root_code_at (h.entries i)))
-    ∙ by (as_fault ParseUnitAbbreviations (from_at unit.abbrev_offset section))
+    ∙ by (as_error ParseUnitAbbreviations (from_at unit.abbrev_offset section))
   where
-    by : (r : Result Input Fault) → (r >>= λ table. from_code unit.encoding table
+    by : (r : Result Input ErrorValue) → (r >>= λ table. from_code unit.encoding table
         (root_code_at (shifted d unit.entries))) ≡ (r >>= λ table. from_code unit.encoding table
         (root_code_at unit.entries))
     by (Ok table) = code-by unit.encoding table d unit.entries

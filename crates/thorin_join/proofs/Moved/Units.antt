@@ -1,16 +1,15 @@
 -- A unit is read alike wherever its bytes stand, and whatever follows them.
-use Rattle.std.proofs.Common.{◌≡◌, ◌∙◌, ℕ, ◌+◌, ◌-◌, ◌≤◌, Bool, true, false, true≢false, cond, ltb}
-use Rattle.std.proofs.Common.{leb, eqb, ◌&&◌, List, [], ◌++◌, length, take, drop, Result, Ok, Err}
-use Rattle.std.proofs.Common.{ap, sym, refl, subst, arith, length-append}
-use Rattle.std.proofs.lemmas.Bool.{le-ltb, ltb-false, eq-eqb}
+use Rattle.std.proofs.Common.{◌≡◌, ◌∙◌, ℕ, ◌+◌, ◌-◌, ◌≤◌, true≢false, leb, eqb, ◌&&◌, List, []}
+use Rattle.std.proofs.Common.{◌++◌, length, take, drop, Result, Ok, Err, ap, sym, refl, subst}
+use Rattle.std.proofs.Common.{arith, length-append, inl, inr}
+use Rattle.std.proofs.lemmas.Bool.{eq-eqb}
 use Rattle.std.proofs.lemmas.List.{append-nil, take-append-le, length-take-le}
 use Rattle.dwp_base.specs.Reading.{◌>>=◌}
 use Rattle.dwp_base.specs.declared.endian.Endianness.{Endianness}
-use Rattle.dwp_base.proofs.Steps.{bind-was, same-ok}
+use Rattle.dwp_base.proofs.Steps.{bind-was, same-ok, chosen, bind-ok}
 use Rattle.dwp_bytes.specs.Input.{Input, after, split_at, number_at, offset_at}
 use Rattle.dwp_bytes.specs.declared.encoding.Format.{Format}
-use Rattle.dwp_bytes.specs.declared.fault.ReadError.{ReadError}
-use Rattle.dwp_bytes.specs.declared.fault.ReadError.TheVariants.{UnexpectedEof, UnknownVersion}
+use Rattle.dwp_bytes.specs.declared.error.ReadError.{ReadError}
 use Rattle.dwp_dwarf.specs.Units.{Unit as Header, UnitsAreTaken, initial_length_at, address_size_at}
 use Rattle.dwp_dwarf.specs.Units.{older_type_at, unit_code_at, unit_type_at, older_at, newer_at}
 use Rattle.dwp_dwarf.specs.Units.{header_at, unit_at}
@@ -18,39 +17,11 @@ use Rattle.dwp_dwarf.specs.declared.unit.UnitSection.{UnitSection}
 use Rattle.thorin_join.proofs.Moved.Readings.{plain, Alike, Agree, SameHeader, header_agrees}
 use Rattle.thorin_join.proofs.Moved.Readings.{length_agrees}
 use Rattle.thorin_join.proofs.Moved.RootEntries.{shifted}
+use Rattle.dwp_index.proofs.LengthAlone.{split_inverse, split_goes}
+use Rattle.dwp_index.proofs.UnitAlone.{by_length}
+use Rattle.thorin_join.proofs.Steps.{kept}
 
 -- ---- a unit
-
-split-inverse : (order : Endianness) (n p : ℕ) (bytes : List ℕ) (y : Input × Input)
-    → split_at n (plain order p bytes) ≡ Ok y
-    → (n ≤ length bytes) × ((plain order p (take n bytes), plain order (p + n) (drop n bytes)) ≡ y)
-unfolding split_at
-split-inverse order n p bytes y e = by (ltb (length bytes) n) refl e
-  where
-    by : (short : Bool) → ltb (length bytes) n ≡ short → ◌≡◌ {A = Result (Input × Input) ReadError}
-        (cond short (Err UnexpectedEof) (Ok (
-          plain order p (take n bytes),
-          plain order (p + n)
-              (drop n bytes),
-        ))) (Ok y)
-        → (n ≤ length bytes)
-        × ((plain order p (take n bytes), plain order (p + n) (drop n bytes)) ≡ y)
-    by true h k = absurd cc
-    by false h k = (ltb-false _ _ h, cc)
-
-split-goes : (order : Endianness) (n p : ℕ) (bytes : List ℕ) → n ≤ length bytes
-    → split_at n (plain order p bytes) ≡ Ok (
-      plain order p (take n bytes),
-      plain order
-          (p + n) (drop n bytes),
-    )
-unfolding split_at
-split-goes order n p bytes h =
-    ap (λ b. cond b (Err UnexpectedEof) (Ok (
-      plain order p (take n bytes),
-      plain order (p + n)
-          (drop n bytes),
-    ))) (le-ltb _ _ h)
 
 abbrev Units : Type 0
 Units = Result (Header × Input) ReadError
@@ -62,11 +33,6 @@ from_body place i format body = split_at (body.1.place - i.place) i >>= λ whole
 
 abbrev from_length : UnitSection → Input → (Format × ℕ) × Input → Units
 from_length place i length = split_at length.0.1 length.1 >>= from_body place i length.0.0
-
-by_length : (place : UnitSection) (i : Input) → unit_at place i ≡ (initial_length_at i >>=
-    from_length place i)
-unfolding unit_at
-by_length place i = refl
 
 -- the same unit, read where its bytes stand behind others and before more
 pub record Moved (order : Endianness) (place : UnitSection) (own more : List ℕ) (d : ℕ)
@@ -86,24 +52,10 @@ pub record Moved (order : Endianness) (place : UnitSection) (own more : List ℕ
   pub entries : unit.entries ≡ shifted d u.entries
 
 header-there : (order : Endianness) (d : ℕ) (more : List ℕ) (whole whole' : Input)
-    (r s : Result Header ReadError) (u : Header) → SameHeader order d more whole
-    whole' r s → r ≡ Ok u
-    → (v : Header) × (s ≡ Ok v) × (u.encoding ≡ v.encoding) × (u.unit_type ≡ v.unit_type)
-    × (u.whole ≡ whole) × (v.whole ≡ whole') × (v.abbrev_offset ≡ u.abbrev_offset)
-    × Alike order d more u.entries v.entries
-header-there order d more whole whole' (Ok x) (Ok y) u h e =
-    let same : x ≡ u = cc in (
-      y,
-      refl,
-      ap (λ (z : Header). z.encoding) (sym same) ∙ h.0,
-      ap (λ (z : Header). z.unit_type) (sym same) ∙ h.1,
-      ap (λ (z : Header). z.whole) (sym same) ∙ h.2,
-      h.3,
-      h.4 ∙ ap (λ (z : Header). z.abbrev_offset) same,
-      subst (λ (z : Header). Alike order d more z.entries y.entries) same h.5,
-    )
-header-there order d more whole whole' (Ok x) (Err f) u h e = absurd h
-header-there order d more whole whole' (Err f) s u h e = absurd cc
+    (s : Result Header ReadError) (u : Header) → SameHeader order d more whole whole' (Ok u) s
+    → (v : Header) × (s ≡ Ok v) × SameHeader order d more whole whole' (Ok u) (Ok v)
+header-there order d more whole whole' (Ok v) u h = (v, refl, h)
+header-there order d more whole whole' (Err f) u h = absurd h
 
 -- the same entries at the other place
 entries-shifted : (order : Endianness) (d : ℕ) (i j : Input) → Alike order d [] i j
@@ -111,19 +63,11 @@ entries-shifted : (order : Endianness) (d : ℕ) (i j : Input) → Alike order d
 entries-shifted order d i j a = a.right ∙ ap (plain order (d + a.p)) (append-nil a.bytes) ∙ ap
     (shifted d) (sym a.left)
 
-agree-there : {A : Type 0} (order : Endianness) (d : ℕ) (more : List ℕ) (r s : Result (A × Input)
-    ReadError) (x : A × Input) → Agree order d more r s → r ≡ Ok x
+agree-there : {A : Type 0} (order : Endianness) (d : ℕ) (more : List ℕ) (s : Result (A × Input)
+    ReadError) (x : A × Input) → Agree order d more (Ok x) s
     → (y : A × Input) × (s ≡ Ok y) × (x.0 ≡ y.0) × Alike order d more x.1 y.1
-agree-there {A} order d more (Ok a) (Ok b) x h e =
-    let same : a ≡ x = cc in (
-      b,
-      refl,
-      ap (λ (z : A × Input). z.0) (sym same) ∙ h.0,
-      subst (λ i. Alike order d more i b.1)
-          (ap (λ (z : A × Input). z.1) same) h.1,
-    )
-agree-there order d more (Ok a) (Err f) x h e = absurd h
-agree-there order d more (Err f) s x h e = absurd cc
+agree-there order d more (Ok y) x h = (y, refl, h.0, h.1)
+agree-there order d more (Err f) x h = absurd h
 
 module _ (taken : UnitsAreTaken) (order : Endianness) (place : UnitSection) (own more : List ℕ)
     (d : ℕ) (u : Header) (r : Input) where
@@ -143,11 +87,11 @@ module _ (taken : UnitsAreTaken) (order : Endianness) (place : UnitSection) (own
       let i = plain order 0 own in
       let j = plain order d (own ++ more) in
       let s1 = bind-was (split_at n (plain order p bs)) (from_body place i format) (u, r) h in
-      let c1 = split-inverse order n p bs s1.0 s1.1 in
+      let c1 = split_inverse order n p bs s1.0 s1.1 in
       let h2 : from_body place i format (plain order p (take n bs), plain order (p + n) (drop n bs))
       ≡ Ok (u, r) = subst (λ b. from_body place i format b ≡ Ok (u, r)) (sym c1.1) s1.2 in
       let s2 = bind-was (split_at (p + n - 0) i) _ (u, r) h2 in
-      let c2 = split-inverse order (p + n - 0) 0 own s2.0 s2.1 in
+      let c2 = split_inverse order (p + n - 0) 0 own s2.0 s2.1 in
       let s3 = bind-was (header_at place format s2.0.0 (plain order p (take n bs))) _ (u, r) s2.2 in
       let m : ℕ = p + n in
       let same_m : p + n - 0 ≡ m = omega arith in
@@ -163,7 +107,9 @@ module _ (taken : UnitsAreTaken) (order : Endianness) (place : UnitSection) (own
       (plain order p (take n bs))) (header_at place format whole' (plain order (d + p) l)))
       (append-nil (take n bs))
       (header_agrees order d [] s2.0.0 whole' place format (take n bs) p) in
-      let there = header-there order d [] s2.0.0 whole' _ _ s3.0 agree s3.1 in
+      let there = header-there order d [] s2.0.0 whole' _ u (subst (λ r.
+      SameHeader order d [] s2.0.0 whole' r (header_at place format whole'
+      (plain order (d + p) (take n bs)))) (s3.1 ∙ ap Ok unit_is) agree) in
       let v = there.0 in
       let long : n ≤ length (bs ++ more) = omega (arith, length-append bs more, c1.0) in
       let wide : m ≤ length (own ++ more) = omega (arith, length-append own more, fits) in
@@ -171,31 +117,27 @@ module _ (taken : UnitsAreTaken) (order : Endianness) (place : UnitSection) (own
       let rest = plain order (d + p + n) (drop n (bs ++ more)) in
       let body : split_at n (plain order (d + p) (bs ++ more)) ≡ Ok
       (plain order (d + p) (take n bs), rest) =
-      split-goes order n (d + p) (bs ++ more) long ∙ ap (λ l. Ok (plain order (d + p) l, rest))
+      split_goes order n (d + p) (bs ++ more) long ∙ ap (λ l. Ok (plain order (d + p) l, rest))
       (take-append-le n bs more c1.0) in
       let all : split_at (d + p + n - d) j ≡ Ok (
         whole',
         plain order (d + m)
             (drop m (own ++ more)),
       ) =
-      ap (λ k. split_at k j) back ∙ split-goes order m d (own ++ more) wide ∙ ap (λ l.
+      ap (λ k. split_at k j) back ∙ split_goes order m d (own ++ more) wide ∙ ap (λ l.
       Ok (plain order d l, plain order (d + m) (drop m (own ++ more))))
       (take-append-le m own more fits) in (
         v,
         rest,
         m,
         fits,
-        ap (λ (x : Result (Input × Input) ReadError). x >>= from_body place j format) body
-            ∙ ap (λ (x : Result (Input × Input) ReadError). x >>= λ whole. header_at place format
-            whole.0 (plain order (d + p) (take n bs)) >>= λ unit. Ok (unit, rest)) all
-            ∙ ap (λ (x : Result Header ReadError). x >>= λ unit. Ok (unit, rest)) there.1,
-        ap (λ (z : Header). z.encoding) (sym unit_is) ∙ there.2,
-        ap (λ (z : Header). z.unit_type) (sym unit_is) ∙ there.3,
-        ap (λ (z : Header). z.whole) (sym unit_is) ∙ there.4 ∙ whole_is,
-        there.5,
-        there.6 ∙ ap (λ (z : Header). z.abbrev_offset) unit_is,
-        entries-shifted order d s3.0.entries v.entries there.7 ∙ ap (λ (z : Header).
-            shifted d z.entries) unit_is,
+        bind-ok _ _ (from_body place j format) body ∙ bind-ok _ _ _ all ∙ bind-ok _ v _ there.1,
+        there.2.0,
+        there.2.1,
+        there.2.2 ∙ whole_is,
+        there.2.3,
+        there.2.4,
+        entries-shifted order d u.entries v.entries there.2.5,
       )
 
   -- a unit of some bytes alone is read alike at another place, with more behind them
@@ -205,7 +147,9 @@ module _ (taken : UnitsAreTaken) (order : Endianness) (place : UnitSection) (own
       let j = plain order d (own ++ more) in
       let s1 = bind-was (initial_length_at i) (from_length place i) (u, r)
       (sym (by_length place i) ∙ h) in
-      let there = agree-there order d more _ _ s1.0 (length_agrees order d more own 0) s1.1 in
+      let there = agree-there order d more _ s1.0 (subst (λ r. Agree order d more r
+      (initial_length_at (plain order (d + 0) (own ++ more)))) s1.1
+      (length_agrees order d more own 0)) in
       let same_place : d + 0 ≡ d = omega arith in
       let start : initial_length_at j ≡ Ok there.0 =
       ap (λ k. initial_length_at (plain order k (own ++ more))) (sym same_place) ∙ there.1 in
@@ -263,31 +207,20 @@ older-version place format version whole i u h =
     let c = bind-was (older_type_at place format b.0.1) _ u b.2 in
     sym (ap (λ (x : Header). x.encoding.version) (same-ok _ u c.2))
 
--- a version is 5, or is read as an older one
-five-by : (place other : UnitSection) (format : Format) (version : ℕ) (whole i : Input) (u : Header)
-    → u.encoding.version ≡ 5 → (five older : Bool)
-    → eqb version 5 ≡ five
-    → cond five (newer_at format whole i) (cond older (older_at place format version whole i)
-    (Err UnknownVersion)) ≡ Ok u
-    → cond five (newer_at format whole i) (cond older (older_at other format version whole i)
-    (Err UnknownVersion)) ≡ Ok u
-five-by place other format version whole i u is true older e h = h
-five-by place other format version whole i u is false true e h =
-    absurd (true≢false (sym
-    (eq-eqb version 5 (sym (older-version place format version whole i u h) ∙ is)) ∙ e))
-five-by place other format version whole i u is false false e h = absurd cc
-
 header-anywhere : (place other : UnitSection) (format : Format) (whole i : Input) (u : Header)
     → u.encoding.version ≡ 5 → header_at place format whole i ≡ Ok u
     → header_at other format whole i ≡ Ok u
 unfolding header_at
 header-anywhere place other format whole i u is h =
     let s = bind-was (number_at 2 i) _ u h in
-    ap (λ (r : Result (ℕ × Input) ReadError). r >>= λ version. cond (eqb version.0 5)
-    (newer_at format whole version.1) (cond (leb 2 version.0 && leb version.0 4)
-    (older_at other format version.0 whole version.1) (Err UnknownVersion))) s.1
-    ∙ five-by place other format s.0.0 whole s.0.1 u is (eqb s.0.0 5)
-    (leb 2 s.0.0 && leb s.0.0 4) refl s.2
+    bind-ok (number_at 2 i) s.0 _ s.1
+    ∙ elim (chosen (eqb s.0.0 5) _ _ (Ok u) s.2) [
+      | inl five ↦ rw five.0 five.1
+      | inr others ↦
+          let older = kept (leb 2 s.0.0 && leb s.0.0 4) _ _ u others.1 in
+          absurd (true≢false (sym (eq-eqb s.0.0 5 (sym (older-version place format s.0.0 whole
+          s.0.1 u older.1) ∙ is)) ∙ others.0))
+    ]
 
 -- a unit of version 5 is read alike in either section
 pub unit-anywhere : (place other : UnitSection) (i : Input) (u : Header) (r : Input)
@@ -301,12 +234,8 @@ unit-anywhere place other i u r is h =
     let unit_is : s4.0 ≡ u = ap (λ (x : Header × Input). x.0) (same-ok _ _ s4.2) in
     let there = header-anywhere place other s1.0.0.0 s3.0.0 s2.0.0 s4.0
     (ap (λ (z : Header). z.encoding.version) unit_is ∙ is) s4.1 in
-    ap (λ (x : Result ((Format × ℕ) × Input) ReadError). x >>= λ length.
-    split_at length.0.1 length.1 >>= λ body. split_at (body.1.place - i.place) i >>= λ whole.
-    header_at other length.0.0 whole.0 body.0 >>= λ unit. Ok (unit, body.1)) s1.1
-    ∙ ap (λ (x : Result (Input × Input) ReadError). x >>= λ body. split_at (body.1.place - i.place)
-    i >>= λ whole. header_at other s1.0.0.0 whole.0 body.0 >>= λ unit. Ok (unit, body.1)) s2.1
-    ∙ ap (λ (x : Result (Input × Input) ReadError). x >>= λ whole. header_at other s1.0.0.0 whole.0
-    s2.0.0 >>= λ unit. Ok (unit, s2.0.1)) s3.1
-    ∙ ap (λ (x : Result Header ReadError). x >>= λ unit. Ok (unit, s2.0.1)) there
+    bind-ok (initial_length_at i) s1.0 _ s1.1
+    ∙ bind-ok (split_at s1.0.0.1 s1.0.1) s2.0 _ s2.1
+    ∙ bind-ok (split_at (s2.0.1.place - i.place) i) s3.0 _ s3.1
+    ∙ bind-ok (header_at other s1.0.0.0 s3.0.0 s2.0.0) s4.0 _ there
     ∙ s4.2

@@ -1,17 +1,15 @@
 -- What the parts of an input are for the contents that they are added to.
 use Rattle.std.proofs.Common.{◌≡◌, ◌∙◌, ℕ, Bool, true, false, cond, eqb, List, [], ◌∷◌, ◌++◌}
-use Rattle.std.proofs.Common.{length, not, ◌&&◌, Result, Ok, Err, refl, sym, ap}
-use Rattle.std.proofs.Common.{if◌then◌else◌, ◌⊎◌, inl, inr, ⊎_elim, true≢false, arith}
+use Rattle.std.proofs.Common.{length, not, ◌&&◌, Ok, refl, sym, ap, if◌then◌else◌, ◌⊎◌, inl, inr}
+use Rattle.std.proofs.Common.{⊎_elim, true≢false, arith}
 use Rattle.std.proofs.lemmas.List.{append_assoc, append-nil}
 use Rattle.std.proofs.lemmas.Bool.{eqb-true, eqb-false, ne_eqb}
 use Rattle.dwp_base.specs.declared.section.SectionKind.{SectionKind}
-use Rattle.dwp_base.specs.declared.section.SectionKind.TheVariants.{StrOffsets, Str}
-use Rattle.dwp_base.specs.Sections.{same_kind, rank_of, name_of}
-use Rattle.dwp_base.specs.Reading.{◌>>=◌}
+use Rattle.dwp_base.specs.declared.section.SectionKind.TheVariants.{StrOffsets}
+use Rattle.dwp_base.specs.Sections.{same_kind, rank_of}
 use Rattle.dwp_base.proofs.EveryKind.{is-same}
 use Rattle.dwp_elf.specs.Contents.{content_of, appended}
-use Rattle.thorin_errors.specs.Fault.{Fault, MissingRequiredSection, RepeatedSection}
-use Rattle.thorin_errors.specs.Fault.{SectionOutsideFormat}
+use Rattle.thorin_errors.specs.Errors.{ErrorValue}
 use Rattle.thorin_input.specs.Growing.{Contents, with_bytes, with_parts, joined_parts}
 use Rattle.thorin_input.specs.Indexes.{Source}
 use Rattle.thorin_join.specs.Meaning.{joined_content}
@@ -20,7 +18,9 @@ use Rattle.thorin_input.specs.InputStrings.{rewritten}
 use Rattle.thorin_input.specs.Parts.{Parts, has_part, stands_once, with_offsets, with_part}
 use Rattle.thorin_input.specs.Parts.{with_each_part, parts_of}
 use Rattle.thorin_input.specs.Used.{Used}
-use Rattle.thorin_join.proofs.Steps.{bind-inv}
+use Rattle.dwp_base.proofs.Steps.{bind-was, chosen, same-ok}
+use Rattle.dwp_base.proofs.Bools.{by-bool}
+use Rattle.thorin_join.proofs.Steps.{past}
 
 pub either : (b : Bool) → (b ≡ true) ⊎ (b ≡ false)
 either true = inl refl
@@ -49,54 +49,35 @@ content-later true false x y rest h = refl
 content-later false true x y rest h = refl
 content-later false false x y rest h = refl
 
-pub content-empty : (same : Bool) (x : List ℕ) → cond same x [] ≡ cond same ([] ++ x) []
-content-empty true x = refl
-content-empty false x = refl
-
-pub content-step : (kind k : SectionKind) (bytes : List ℕ) (d : SectionKind × List ℕ)
-    (ds : Contents) (b : Bool) → same_kind d.0 k ≡ b
-    → content_of kind (appended k bytes ds) ≡ cond (same_kind k kind) (content_of kind ds ++ bytes)
-    (content_of kind ds)
-    → content_of kind (cond b ((d.0, d.1 ++ bytes) ∷ ds) (d ∷ appended k bytes ds)) ≡ cond
-    (same_kind k kind) (content_of kind (d ∷ ds) ++ bytes) (content_of kind (d ∷ ds))
-content-step kind k bytes d ds true same later =
-    content-here (same_kind d.0 kind) d.1 bytes (content_of kind ds)
-    ∙ ap (λ b. cond b (content_of kind (d ∷ ds) ++ bytes) (content_of kind (d ∷ ds)))
-    (kind-like d.0 k kind same)
-content-step kind k bytes d ds false other later =
-    ap (λ v. cond (same_kind d.0 kind) d.1 v) later
-    ∙ content-later (same_kind d.0 kind) (same_kind k kind) d.1 bytes (content_of kind ds)
-    (kind-unlike d.0 k kind other)
-
 pub content-appended : (kind k : SectionKind) (bytes : List ℕ) (c : Contents)
     → content_of kind (appended k bytes c) ≡ cond (same_kind k kind) (content_of kind c ++ bytes)
     (content_of kind c)
-content-appended kind k bytes [] = content-empty (same_kind k kind) bytes
-content-appended kind k bytes (d ∷ ds) = content-step kind k bytes d ds (same_kind d.0 k) refl
+content-appended kind k bytes [] =
+    by-bool _ (same_kind k kind) (λ same. rw same refl) (λ other. rw other refl)
+content-appended kind k bytes (d ∷ ds) =
+    by-bool _ (same_kind d.0 k)
+    (λ same. rw same (content-here (same_kind d.0 kind) d.1 bytes (content_of kind ds)
+    ∙ ap (λ b. cond b (content_of kind (d ∷ ds) ++ bytes) (content_of kind (d ∷ ds)))
+    (kind-like d.0 k kind same)))
+    (λ other. rw other (ap (λ v. cond (same_kind d.0 kind) d.1 v)
     (content-appended kind k bytes ds)
+    ∙ content-later (same_kind d.0 kind) (same_kind k kind) d.1 bytes (content_of kind ds)
+    (kind-unlike d.0 k kind other)))
 
 pub no-bytes : (bytes : List ℕ) → length bytes ≡ 0 → bytes ≡ []
 no-bytes [] h = refl
 no-bytes (b ∷ bs) h = absurd (omega arith)
 
-pub same-both : (b : Bool) (x : List ℕ) → x ≡ cond b (x ++ []) x
-same-both true x = sym (append-nil x)
-same-both false x = refl
-
 pub content-with_bytes : (kind k : SectionKind) (bytes : List ℕ) (c : Contents)
     → content_of kind (with_bytes k bytes c) ≡ (if same_kind k kind then content_of kind c ++ bytes
     else content_of kind c)
 content-with_bytes kind k bytes c =
-    ⊎_elim
+    by-bool _ (eqb (length bytes) 0)
     (λ none. rw (none, no-bytes bytes (eqb-true (length bytes) 0 none))
-    (same-both (same_kind k kind) (content_of kind c)))
+    (by-bool _ (same_kind k kind)
+    (λ same. rw same (sym (append-nil (content_of kind c))))
+    (λ other. rw other refl)))
     (λ some. rw some (content-appended kind k bytes c))
-    (either (eqb (length bytes) 0))
-
-pub with-front : (same : Bool) (c x rest : List ℕ) → cond same (c ++ x) c ++ rest ≡ c ++ cond same
-    (x ++ rest) rest
-with-front true c x rest = append_assoc c x rest
-with-front false c x rest = refl
 
 pub content-with_parts : (kind : SectionKind) (parts c : Contents)
     → content_of kind (with_parts parts c) ≡ content_of kind c ++ joined_parts kind parts
@@ -105,7 +86,9 @@ content-with_parts kind [] c = sym (append-nil (content_of kind c))
 content-with_parts kind (p ∷ ps) c =
     content-with_parts kind ps (with_bytes p.0 p.1 c)
     ∙ ap (λ v. v ++ joined_parts kind ps) (content-with_bytes kind p.0 p.1 c)
-    ∙ with-front (same_kind p.0 kind) (content_of kind c) p.1 (joined_parts kind ps)
+    ∙ by-bool _ (same_kind p.0 kind)
+    (λ same. rw same (append_assoc (content_of kind c) p.1 (joined_parts kind ps)))
+    (λ other. rw other refl)
 
 -- ---- what a section adds to the parts
 pub differ : (a b : SectionKind) → (a ≡ b → ⊥) → same_kind a b ≡ false
@@ -117,11 +100,6 @@ pub copied-differ : (a b : SectionKind) → is_copied a ≡ true → is_copied b
 copied-differ a b copied not_copied =
     differ b a (λ e. true≢false (sym copied ∙ ap is_copied (sym e) ∙ not_copied))
 
-pub joined-by : (same : Bool) (x a b : List ℕ) → cond same (x ++ (a ++ b)) (a ++ b) ≡ cond
-    same (x ++ a) a ++ b
-joined-by true x a b = sym (append_assoc x a b)
-joined-by false x a b = refl
-
 pub joined-front : (same : Bool) (x a : List ℕ) → cond same x [] ++ a ≡ cond same (x ++ a) a
 joined-front true x a = refl
 joined-front false x a = refl
@@ -130,8 +108,10 @@ pub joined_parts-append : (kind : SectionKind) (a b : Contents) → joined_parts
     joined_parts kind a ++ joined_parts kind b
 joined_parts-append kind [] b = refl
 joined_parts-append kind (p ∷ ps) b =
-    ap (λ v. cond (same_kind p.0 kind) (p.1 ++ v) v) (joined_parts-append kind ps b) ∙ joined-by
-    (same_kind p.0 kind) p.1 (joined_parts kind ps) (joined_parts kind b)
+    ap (λ v. cond (same_kind p.0 kind) (p.1 ++ v) v) (joined_parts-append kind ps b)
+    ∙ by-bool _ (same_kind p.0 kind)
+    (λ same. rw same (sym (append_assoc p.1 (joined_parts kind ps) (joined_parts kind b))))
+    (λ other. rw other refl)
 
 -- joined parts with one more
 pub joined_parts-more : (kind : SectionKind) (a : Contents) (k : SectionKind) (bytes : List ℕ)
@@ -154,25 +134,13 @@ module _ (source : Source) where
     pub rewrites : rewritten source bytes before.1 ≡ Ok written
     pub is : next ≡ (before.0 ++ (StrOffsets, written.0) ∷ [], written.1)
 
-  pub rewritten-by : (there : Bool) (before : Parts) (bytes : List ℕ) (next : Parts)
-      → cond {A = Result Parts Fault} there (Err (MissingRequiredSection (name_of Str)))
-      (rewritten source bytes before.1 >>= λ written. Ok (
-        before.0 ++ (StrOffsets, written.0) ∷ [],
-        written.1,
-      )) ≡ Ok next
-      → Rewritten before bytes next
-  rewritten-by true before bytes next h = absurd cc
-  rewritten-by false before bytes next h =
-      let w = bind-inv (rewritten source bytes before.1) _ next h in
-      let same : ◌≡◌ {A = Result Parts Fault} (Ok (before.0 ++ (StrOffsets, w.0.0) ∷ [], w.0.1))
-      (Ok next) = w.2 in
-      record { written = w.0; rewrites = w.1; is = cc }
-
   pub is-rewritten : (before : Parts) (bytes : List ℕ) (next : Parts) → with_offsets source before
       bytes ≡ Ok next → Rewritten before bytes next
   unfolding with_offsets
-  is-rewritten before bytes next h = rewritten-by (not source.object.has_strings)
-      before bytes next h
+  is-rewritten before bytes next h =
+      let there = past (not source.object.has_strings) _ _ next h in
+      let w = bind-was (rewritten source bytes before.1) _ next there.1 in
+      record { written = w.0; rewrites = w.1; is = sym (same-ok {E = ErrorValue} _ next w.2) }
 
   -- a section's part is made of its string offsets, is the section as it is, or isn't there
   abbrev pub Adds : Parts → Used → Parts → Type 0
@@ -187,39 +155,23 @@ module _ (source : Source) where
     pub once : (stands_once source s.kind && has_part s.kind before.0) ≡ false
     pub adds : Adds before s next
 
-  pub step-by : (twice outside offsets copied : Bool) (before : Parts) (s : Used) (next : Parts)
-      → (stands_once source s.kind && has_part s.kind before.0) ≡ twice
-      → same_kind s.kind StrOffsets ≡ offsets → is_copied s.kind ≡ copied
-      → cond {A = Result Parts Fault} twice (Err (RepeatedSection (name_of s.kind)))
-      (cond outside (Err (SectionOutsideFormat (name_of s.kind)))
-      (cond offsets (with_offsets source before s.bytes)
-      (cond copied (Ok (before.0 ++ (s.kind, s.bytes) ∷ [], before.1)) (Ok before)))) ≡ Ok next
-      → Step before s next
-  step-by true outside offsets copied before s next t o c h = absurd cc
-  step-by false true offsets copied before s next t o c h = absurd cc
-  step-by false false true copied before s next t o c h = record {
-    once = t;
-    adds =
-        inl (o, is-rewritten before s.bytes next h);
-  }
-  step-by false false false true before s next t o c h = record {
-    once = t;
-    adds =
-        inr (inl (o, c, cc));
-  }
-  step-by false false false false before s next t o c h = record {
-    once = t;
-    adds =
-        inr (inr (o, c, cc));
-  }
-
   pub step : (before : Parts) (s : Used) (next : Parts) → with_part source before s ≡ Ok next
       → Step before s next
   unfolding with_part
   step before s next h =
-      step-by (stands_once source s.kind && has_part s.kind before.0)
-      (not (is_in_format source.encoding s.kind)) (same_kind s.kind StrOffsets)
-      (is_copied s.kind) before s next refl refl refl h
+      let once = past (stands_once source s.kind && has_part s.kind before.0) _ _ next h in
+      let inside = past (not (is_in_format source.encoding s.kind)) _ _ next once.1 in
+      record {
+        once = once.0;
+        adds = elim (chosen (same_kind s.kind StrOffsets) _ _ (Ok next) inside.1) [
+          | inl offsets ↦ inl (offsets.0, is-rewritten before s.bytes next offsets.1)
+          | inr other ↦ elim (chosen (is_copied s.kind) _ _ (Ok next) other.1) [
+            | inl copied ↦
+                inr (inl (other.0, copied.0, sym (same-ok {E = ErrorValue} _ next copied.1)))
+            | inr none ↦ inr (inr (other.0, none.0, sym (same-ok {E = ErrorValue} _ next none.1)))
+          ]
+        ];
+      }
 
   -- ---- sections that are copied
   pub step-copied : (kind : SectionKind) (before : Parts) (s : Used) (next : Parts)
@@ -229,16 +181,13 @@ module _ (source : Source) where
   step-copied kind before s next copied (inl (o, w)) =
       let other : same_kind s.kind kind ≡ false = copied-differ kind s.kind copied
       (ap is_copied (is-same s.kind StrOffsets o)) in
-      ap (λ (n : Parts). joined_parts kind n.0) w.is
-      ∙ joined_parts-other kind before.0 StrOffsets w.written.0
-      (copied-differ kind StrOffsets copied refl)
-      ∙ rw other (sym (append-nil (joined_parts kind before.0)))
+      rw (w.is, other) (joined_parts-other kind before.0 StrOffsets w.written.0
+      (copied-differ kind StrOffsets copied refl) ∙ sym (append-nil (joined_parts kind before.0)))
   step-copied kind before s next copied (inr (inl (o, c, is))) =
-      ap (λ (n : Parts). joined_parts kind n.0) is ∙ joined_parts-more kind before.0 s.kind s.bytes
+      rw is (joined_parts-more kind before.0 s.kind s.bytes)
   step-copied kind before s next copied (inr (inr (o, c, is))) =
       let other : same_kind s.kind kind ≡ false = copied-differ kind s.kind copied c in
-      ap (λ (n : Parts). joined_parts kind n.0) is ∙ rw other
-      (sym (append-nil (joined_parts kind before.0)))
+      rw (is, other) (sym (append-nil (joined_parts kind before.0)))
 
   pub each-copied : (kind : SectionKind) (sections : List Used) (before after : Parts)
       → is_copied kind ≡ true → with_each_part source before sections ≡ Ok after
@@ -249,7 +198,7 @@ module _ (source : Source) where
       ap (λ (n : Parts). joined_parts kind n.0) (sym same) ∙ sym
       (append-nil (joined_parts kind before.0))
   each-copied kind (s ∷ ss) before after copied h =
-      let next = bind-inv (with_part source before s) _ after h in
+      let next = bind-was (with_part source before s) _ after h in
       each-copied kind ss next.0 after copied next.2
       ∙ ap (λ v. v ++ joined_content kind ss) (step-copied kind before s next.0 copied
       (step before s next.0 next.1).adds)
@@ -280,7 +229,7 @@ module _ (source : Source) where
       let same : before ≡ after = cc in
       ap (λ (n : Parts). joined_parts kind n.0) (sym same)
   each-other kind (s ∷ ss) before after none apart h =
-      let next = bind-inv (with_part source before s) _ after h in
+      let next = bind-was (with_part source before s) _ after h in
       each-other kind ss next.0 after none apart next.2 ∙ step-other kind before s next.0 none apart
       (step before s next.0 next.1).adds
 

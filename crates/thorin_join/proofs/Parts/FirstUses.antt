@@ -1,40 +1,33 @@
 -- The strings of a package are those that its inputs name, in order of first use.
-use Rattle.std.proofs.Common.{◌≡◌, ◌∙◌, ℕ, zero, suc, ◌+◌, ◌*◌, ◌-◌, ◌/◌, ◌%◌, ◌==◌, ◌≤◌, Bool}
-use Rattle.std.proofs.Common.{true, false, cond, not, ◌&&◌, eqb, nat_lt, nat_le, List, [], ◌∷◌}
-use Rattle.std.proofs.Common.{◌++◌, length, drop, length-take, length-drop, ap, sym, subst, refl}
-use Rattle.std.proofs.Common.{Result, Ok, Err, Option, Some, None, inl, inr, if◌then◌else◌, arith}
+use Rattle.std.proofs.Common.{◌≡◌, ◌∙◌, ℕ, zero, suc, ◌+◌, ◌*◌, ◌-◌, ◌/◌, ◌≤◌, cond, nat_lt, List}
+use Rattle.std.proofs.Common.{[], ◌∷◌, ◌++◌, length, drop, length-take, length-drop, ap, sym, subst}
+use Rattle.std.proofs.Common.{refl, Result, Ok, Option, Some, None, inl, inr, if◌then◌else◌, arith}
 use Rattle.std.specs.Prelude.{slice_range}
 use Rattle.std.specs.List.{list_any}
 use Rattle.std.specs.Result.{result_unwrap_or}
-use Rattle.std.proofs.lemmas.Bool.{eqb-true, leb-true}
 use Rattle.std.proofs.lemmas.Option.{same_Some}
 use Rattle.dwp_base.specs.Reading.{◌>>=◌}
 use Rattle.dwp_base.specs.Sections.{same_kind}
 use Rattle.dwp_base.specs.declared.endian.Endianness.{Endianness}
 use Rattle.dwp_base.specs.declared.section.Contribution.{Contribution}
 use Rattle.dwp_base.specs.declared.section.SectionKind.TheVariants.{Str, StrOffsets}
-use Rattle.dwp_base.proofs.Bools.{both}
 use Rattle.dwp_bytes.specs.Encoding.{offset_size}
 use Rattle.dwp_bytes.specs.StringOffsets.{header_size, entry_count, string_at}
 use Rattle.dwp_bytes.specs.declared.encoding.Encoding.{Encoding}
 use Rattle.dwp_bytes.specs.declared.encoding.Format.{Format}
 use Rattle.dwp_bytes.specs.declared.encoding.Format.TheVariants.{Dwarf32, Dwarf64}
-use Rattle.dwp_bytes.specs.declared.fault.ReadError.{ReadError}
-use Rattle.dwp_bytes.specs.declared.fault.ReadError.TheVariants.{UnexpectedEof}
+use Rattle.dwp_bytes.specs.declared.error.ReadError.{ReadError}
 use Rattle.dwp_elf_read.specs.Elf.{Elf}
 use Rattle.dwp_table.specs.declared.object.DwarfObject.{DwarfObject}
-use Rattle.thorin_errors.specs.Fault.{Fault, OffsetAtIndex, StrAtOffset, BadStringOffsets}
-use Rattle.thorin_errors.specs.Fault.{OverlappingStringOffsets}
-use Rattle.thorin_errors.specs.Answers.{as_fault}
-use Rattle.thorin_packaged.specs.PackagedOffsets.{offset_ranges, is_whole_range, ranges_test}
-use Rattle.thorin_packaged.specs.PackagedOffsets.{rewritten_from, packaged_offsets}
+use Rattle.thorin_errors.specs.Errors.{ErrorValue, OffsetAtIndex, StrAtOffset}
+use Rattle.thorin_errors.specs.Answers.{as_error}
+use Rattle.thorin_packaged.specs.PackagedOffsets.{offset_ranges, ranges_test, rewritten_from}
+use Rattle.thorin_packaged.specs.PackagedOffsets.{packaged_offsets}
 use Rattle.thorin_packaged.specs.PackagedReading.{range_bytes}
-use Rattle.thorin_strings.specs.StringOffsets.{header_of, offset_at, named_at, fitting_offset}
-use Rattle.thorin_strings.specs.StringOffsets.{remapped_entry, remapped_entries, remapped}
-use Rattle.thorin_strings.specs.StringOffsets.{entry_bytes}
+use Rattle.thorin_strings.specs.StringOffsets.{offset_at, named_at, fitting_offset, remapped_entry}
+use Rattle.thorin_strings.specs.StringOffsets.{remapped_entries, remapped}
 use Rattle.thorin_strings.specs.Strings.{with_string, offset_of}
-use Rattle.thorin_join.specs.Builder.{package_or_new, order_test, with_source_or_new, with_units}
-use Rattle.thorin_join.specs.Builder.{with_input}
+use Rattle.thorin_join.specs.Builder.{package_or_new, with_input}
 use Rattle.thorin_input.specs.Encodings.{encoding_of}
 use Rattle.thorin_join.specs.FirstUse.{with_strings, named_by, named_by_ranges, named_by_section}
 use Rattle.thorin_join.specs.FirstUse.{named_in, strings_begun, named_in_file, used_by, UsesStrings}
@@ -48,9 +41,15 @@ use Rattle.thorin_join.specs.State.{InProgress, names_of, adding, abbreviations_
 use Rattle.thorin_join.specs.State.{with_unit_added, with_new_unit, with_new_units, with_all}
 use Rattle.thorin_join.specs.State.{with_source}
 use Rattle.thorin_join.specs.Strings.{each_from, offset_of_entry, strings_at, strings_of}
-use Rattle.thorin_input.specs.Used.{Used, opened, has_info, input_file_of, first}
+use Rattle.thorin_input.specs.Used.{Used, opened, input_file_of, first}
 use Rattle.thorin_join.proofs.Parts.Appended.{Adds, step}
-use Rattle.thorin_join.proofs.Steps.{ok-eq, bind-ok, bind-inv}
+use Rattle.dwp_base.proofs.Steps.{bind-was, bind-ok, same-ok, chosen}
+use Rattle.thorin_join.proofs.Sizes.Offsets.{lies}
+use Rattle.thorin_strings.proofs.NamedEntries.{as_error_ok}
+use Rattle.thorin_join.proofs.Parts.OffsetRanges.{range-of}
+use Rattle.thorin_join.proofs.Steps.{past}
+use Rattle.thorin_join.proofs.Joined.Taken.{takes}
+use Rattle.dwp_base.proofs.Bools.{by-bool}
 
 with-append : (strings a b : List (List ℕ)) → with_strings strings (a ++ b) ≡ with_strings
     (with_strings strings a) b
@@ -69,20 +68,18 @@ at-more : (section offsets : List ℕ) (l : List (List ℕ)) (offset : ℕ) (str
 unfolding strings_at
 at-more section [] l offset string h k =
     ap (λ r. r >>= λ s. Ok (s ∷ [])) k ∙ ap (λ m. Ok (m ++ string ∷ []))
-    (ok-eq {E = ReadError} [] l h)
+    (same-ok {E = ReadError} [] l h)
 at-more section (o ∷ os) l offset string h k =
-    let s1 = bind-inv (string_at section o) (λ s. strings_at section os >>= λ others.
+    let s1 = bind-was (string_at section o) (λ s. strings_at section os >>= λ others.
     Ok (s ∷ others)) l h in
-    let s2 = bind-inv (strings_at section os) (λ others. Ok (s1.0 ∷ others)) l s1.2 in
+    let s2 = bind-was (strings_at section os) (λ others. Ok (s1.0 ∷ others)) l s1.2 in
     let rest = at-more section os s2.0 offset string s2.1 k in
-    ap (λ r. r >>= λ s. (strings_at section (os ++ offset ∷ []) >>= λ others. Ok (s ∷ others))) s1.1
-    ∙ ap (λ r. r >>= λ others. Ok (s1.0 ∷ others)) rest
-    ∙ ap (λ m. Ok (m ++ string ∷ [])) (ok-eq {E = ReadError} (s1.0 ∷ s2.0) l s2.2)
+    bind-ok (string_at section o) s1.0 _ s1.1 ∙ bind-ok _ _ _ rest
+    ∙ ap (λ m. Ok (m ++ string ∷ [])) (same-ok {E = ReadError} (s1.0 ∷ s2.0) l s2.2)
 
-pub fault-inv : {X : Type 0} (f : ReadError → Fault) (r : Result X ReadError) (x : X)
-    → as_fault f r ≡ Ok x → r ≡ Ok x
-fault-inv f (Ok y) x h = ap (λ v. Ok v) (ok-eq {E = Fault} y x h)
-fault-inv f (Err e) x h = absurd cc
+pub error-inv : {X : Type 0} (f : ReadError → ErrorValue) (r : Result X ReadError) (x : X)
+    → as_error f r ≡ Ok x → r ≡ Ok x
+error-inv = as_error_ok
 
 pub no-entries : (encoding : Encoding) → entry_count encoding 0 ≡ 0
 no-entries encoding =
@@ -97,26 +94,20 @@ module _ (order : Endianness) (encoding : Encoding) (section bytes : List ℕ) w
   abbrev size_of_entry : ℕ
   size_of_entry = offset_size encoding.format
 
-  at-by : (index offset : ℕ) (b : Bool) → cond {A = Result ℕ ReadError} b (Err UnexpectedEof)
-      (Ok (offset_of_entry order encoding bytes index)) ≡ Ok offset → offset_of_entry order encoding
-      bytes index ≡ offset
-  at-by index offset true h = absurd cc
-  at-by index offset false h = ok-eq {E = ReadError} _ offset h
-
   entry-at : (index offset : ℕ) → offset_at order encoding.format bytes (header_size encoding +
       index * size_of_entry) ≡ Ok offset → offset_of_entry order encoding bytes index ≡ offset
   unfolding offset_at
-  entry-at index offset h = at-by index offset (nat_lt (length bytes) (header_size encoding + index
-      * size_of_entry + size_of_entry)) h
+  entry-at index offset h = same-ok {E = ReadError} _ offset (past (nat_lt (length bytes)
+      (header_size encoding + index * size_of_entry + size_of_entry)) _ _ offset h).1
 
   named-at : (index : ℕ) (string : List ℕ) → named_at order encoding section bytes index ≡ Ok string
       → string_at section (offset_of_entry order encoding bytes index) ≡ Ok string
   unfolding named_at
   named-at index string h =
-      let s1 = bind-inv (as_fault (λ e. OffsetAtIndex e index) (offset_at order encoding.format
+      let s1 = bind-was (as_error (λ e. OffsetAtIndex e index) (offset_at order encoding.format
       bytes (header_size encoding + index * size_of_entry))) _ string h in
-      let at = entry-at index s1.0 (fault-inv _ _ s1.0 s1.1) in
-      ap (string_at section) at ∙ fault-inv (λ e. StrAtOffset e s1.0)
+      let at = entry-at index s1.0 (error-inv _ _ s1.0 s1.1) in
+      ap (string_at section) at ∙ error-inv (λ e. StrAtOffset e s1.0)
       (string_at section s1.0) string s1.2
 
   record Names (n : ℕ) (strings after : List (List ℕ)) : Type 0 where
@@ -131,19 +122,19 @@ module _ (order : Endianness) (encoding : Encoding) (section bytes : List ℕ) w
     named = [];
     are = refl;
     strings_are = ap (λ (o : List ℕ × List (List ℕ)). o.1)
-        (sym (ok-eq {E = Fault} ([], strings) out h));
+        (sym (same-ok {E = ErrorValue} ([], strings) out h));
   }
   entries-named (suc n) strings out h =
-      let s1 = bind-inv (remapped_entries order encoding section bytes n strings) _ out h in
+      let s1 = bind-was (remapped_entries order encoding section bytes n strings) _ out h in
       let before = entries-named n strings s1.0 s1.1 in
-      let s2 = bind-inv (remapped_entry order encoding section bytes n s1.0.1) _ out s1.2 in
-      let s3 = bind-inv (named_at order encoding section bytes n) _ s2.0 s2.1 in
-      let s4 = bind-inv (fitting_offset encoding.format (offset_of s1.0.1 s3.0)) _ s2.0 s3.2 in
+      let s2 = bind-was (remapped_entry order encoding section bytes n s1.0.1) _ out s1.2 in
+      let s3 = bind-was (named_at order encoding section bytes n) _ s2.0 s2.1 in
+      let s4 = bind-was (fitting_offset encoding.format (offset_of s1.0.1 s3.0)) _ s2.0 s3.2 in
       let string = s3.0 in
       let entry : with_string s1.0.1 string ≡ s2.0.1 = ap (λ (o : ℕ × List (List ℕ)). o.1)
-      (ok-eq {E = Fault} _ s2.0 s4.2) in
+      (same-ok {E = ErrorValue} _ s2.0 s4.2) in
       let last : s2.0.1 ≡ out.1 = ap (λ (o : List ℕ × List (List ℕ)). o.1)
-      (ok-eq {E = Fault} _ out s2.2) in
+      (same-ok {E = ErrorValue} _ out s2.2) in
       let same : 0 + n ≡ n = omega arith in
       let here : string_at section (offset_of_entry order encoding bytes (0 + n)) ≡ Ok string =
       subst (λ m. string_at section (offset_of_entry order encoding bytes m) ≡ Ok string)
@@ -160,40 +151,26 @@ module _ (order : Endianness) (encoding : Encoding) (section bytes : List ℕ) w
   remapped-named : (size : ℕ) (strings : List (List ℕ)) (out : List ℕ × List (List ℕ))
       → size ≡ length bytes → remapped order encoding section bytes size strings ≡ Ok out
       → out.1 ≡ with_strings strings (result_unwrap_or (strings_of order encoding section bytes) [])
-  unfolding remapped strings_at
+  unfolding strings_at
   remapped-named size strings out long h =
-      by (eqb size 0) (nat_lt size (header_size encoding)) refl h
-    where
-      by : (none short : Bool) → eqb size 0 ≡ none
-          → cond {A = Result (List ℕ × List (List ℕ)) Fault} none (Ok ([], strings))
-          (cond short (Err (BadStringOffsets 0))
-          (header_of order encoding (entry_count encoding size * offset_size encoding.format) >>=
-          λ header.
-          (remapped_entries order encoding section bytes (entry_count encoding size) strings >>=
-          λ entries. Ok (header ++ entry_bytes order encoding.format entries.0, entries.1)))) ≡
-          Ok out
-          → out.1 ≡ with_strings strings
-          (result_unwrap_or (strings_of order encoding section bytes) [])
-      by true short none k =
-          let empty : length bytes ≡ 0 = sym long ∙ eqb-true size 0 none in
-          let no : strings_of order encoding section bytes ≡ Ok [] =
-          ap (λ n. strings_at section (each_from (offset_of_entry order encoding bytes) 0 n))
-          (ap (entry_count encoding) empty ∙ no-entries encoding) in
-          ap (λ (o : List ℕ × List (List ℕ)). o.1) (sym (ok-eq {E = Fault} ([], strings) out k))
-          ∙ ap (λ r. with_strings strings (result_unwrap_or r [])) (sym no)
-      by false true none k = absurd cc
-      by false false none k =
-          let s1 = bind-inv (header_of order encoding (entry_count encoding size * offset_size
-          encoding.format)) _ out k in
-          let s2 = bind-inv (remapped_entries order encoding section bytes
-          (entry_count encoding size) strings) _ out s1.2 in
-          let names = entries-named (entry_count encoding size) strings s2.0 s2.1 in
-          let all : strings_of order encoding section bytes ≡ Ok names.named =
-          ap (λ n. strings_at section (each_from (offset_of_entry order encoding bytes) 0
-          (entry_count encoding n))) (sym long) ∙ names.are in
-          ap (λ (o : List ℕ × List (List ℕ)). o.1) (sym (ok-eq {E = Fault} _ out s2.2))
-          ∙ names.strings_are
-          ∙ ap (λ r. with_strings strings (result_unwrap_or r [])) (sym all)
+      elim (range-of order encoding section bytes size strings out h) [
+        | inl none ↦
+            let empty : length bytes ≡ 0 = sym long ∙ none.0 in
+            let no : strings_of order encoding section bytes ≡ Ok [] =
+            ap (λ n. strings_at section (each_from (offset_of_entry order encoding bytes) 0 n))
+            (ap (entry_count encoding) empty ∙ no-entries encoding) in
+            ap (λ (o : List ℕ × List (List ℕ)). o.1) (sym none.1)
+            ∙ ap (λ r. with_strings strings (result_unwrap_or r [])) (sym no)
+        | inr r ↦
+            let names = entries-named (entry_count encoding size) strings r.entries
+            r.entries_are in
+            let all : strings_of order encoding section bytes ≡ Ok names.named =
+            ap (λ n. strings_at section (each_from (offset_of_entry order encoding bytes) 0
+            (entry_count encoding n))) (sym long) ∙ names.are in
+            ap (λ (o : List ℕ × List (List ℕ)). o.1) (sym r.is)
+            ∙ names.strings_are
+            ∙ ap (λ l. with_strings strings (result_unwrap_or l [])) (sym all)
+      ]
 
 -- ---- the strings that ranges name, one after the other
 pub slice-long : (bytes : List ℕ) (at size : ℕ) → at + size ≤ length bytes
@@ -207,55 +184,26 @@ module _ (source : Source) where
   abbrev strings_in : List ℕ
   strings_in = first Str source.object.sections
 
-  abbrev Whole : ℕ → ℕ → List Contribution → Type 0
-  Whole size last_end ranges = ranges_test source.encoding size last_end ranges ≡ Ok tt
-
-  record FirstWhole (size : ℕ) (r : Contribution) (rs : List Contribution) : Type 0 where
-    inside : r.offset.0 + r.size ≤ size
-    rest : Whole size (r.offset.0 + r.size) rs
-
-  whole-by : (size : ℕ) (r : Contribution) (rs : List Contribution) (whole overlaps : Bool)
-      → is_whole_range source.encoding size r ≡ whole
-      → cond {A = Result (Unit {0}) Fault} (not whole) (Err (BadStringOffsets r.offset.0))
-      (cond overlaps (Err (OverlappingStringOffsets r.offset.0)) (ranges_test source.encoding
-      size (r.offset.0 + r.size) rs)) ≡ Ok tt
-      → FirstWhole size r rs
-  whole-by size r rs false overlaps w h = absurd cc
-  whole-by size r rs true true w h = absurd cc
-  whole-by size r rs true false w h = record {
-    inside = leb-true (r.offset.0 + r.size) size (both (nat_le (r.offset.0 + r.size) size)
-        (nat_le (header_size source.encoding) r.size)
-        (both (nat_le (r.offset.0 + r.size) size && nat_le (header_size source.encoding) r.size)
-        ((r.size - header_size source.encoding) % offset_size source.encoding.format == 0) w).0).0;
-    rest = h;
-  }
-
-  first-whole : (size last_end : ℕ) (r : Contribution) (rs : List Contribution)
-      → Whole size last_end (r ∷ rs) → FirstWhole size r rs
-  unfolding ranges_test
-  first-whole size last_end r rs h = whole-by size r rs (is_whole_range source.encoding size r)
-      (nat_lt r.offset.0 last_end) refl h
-
   ranges-named : (bytes : List ℕ) (at last_end : ℕ) (ranges : List Contribution)
       (strings : List (List ℕ)) (out : List ℕ × List (List ℕ))
-      → Whole (length bytes) last_end ranges
+      → ranges_test source.encoding (length bytes) last_end ranges ≡ Ok tt
       → rewritten_from source.object.order source.encoding strings_in bytes at ranges
       strings ≡ Ok out
       → out.1 ≡ with_strings strings (named_by_ranges source bytes ranges)
   unfolding rewritten_from
   ranges-named bytes at last_end [] strings out whole h = ap (λ (o : List ℕ × List (List ℕ)). o.1)
-      (sym (ok-eq {E = Fault} (drop at bytes, strings) out h))
+      (sym (same-ok {E = ErrorValue} (drop at bytes, strings) out h))
   ranges-named bytes at last_end (r ∷ rs) strings out whole h =
-      let w = first-whole (length bytes) last_end r rs whole in
-      let s1 = bind-inv (remapped source.object.order source.encoding strings_in
+      let w = lies source.encoding (length bytes) last_end r rs whole in
+      let s1 = bind-was (remapped source.object.order source.encoding strings_in
       (range_bytes bytes r) r.size strings) _ out h in
-      let s2 = bind-inv (rewritten_from source.object.order source.encoding strings_in bytes
+      let s2 = bind-was (rewritten_from source.object.order source.encoding strings_in bytes
       (r.offset.0 + r.size) rs s1.0.1) _ out s1.2 in
       let here = remapped-named source.object.order source.encoding strings_in (range_bytes bytes r)
       r.size strings s1.0 (slice-long bytes r.offset.0 r.size w.inside) s1.1 in
       let later = ranges-named bytes (r.offset.0 + r.size) (r.offset.0 + r.size) rs s1.0.1
       s2.0 w.rest s2.1 in
-      ap (λ (o : List ℕ × List (List ℕ)). o.1) (sym (ok-eq {E = Fault} _ out s2.2))
+      ap (λ (o : List ℕ × List (List ℕ)). o.1) (sym (same-ok {E = ErrorValue} _ out s2.2))
       ∙ later
       ∙ ap (λ l. with_strings l (named_by_ranges source bytes rs)) here
       ∙ sym (with-append strings (named_by source (range_bytes bytes r))
@@ -266,22 +214,16 @@ module _ (source : Source) where
       → rewritten source bytes strings ≡ Ok out
       → out.1 ≡ with_strings strings (named_by_section source bytes)
   unfolding rewritten packaged_offsets
-  section-named bytes strings out h = by (is_package source.indexes) h
-    where
-      ranges : List Contribution
-      ranges = offset_ranges source.indexes.compilations source.indexes.types
-
-      by : (b : Bool) → cond b (packaged_offsets source.object.order source.encoding
-          source.indexes.compilations source.indexes.types strings_in bytes strings)
-          (remapped source.object.order source.encoding strings_in bytes (length bytes)
-          strings) ≡ Ok out
-          → out.1 ≡ with_strings strings (cond b (named_by_ranges source bytes ranges)
-          (named_by source bytes))
-      by true k =
-          let s1 = bind-inv (ranges_test source.encoding (length bytes) 0 ranges) _ out k in
-          ranges-named bytes 0 0 ranges strings out s1.1 s1.2
-      by false k = remapped-named source.object.order source.encoding strings_in bytes
-          (length bytes) strings out refl k
+  section-named bytes strings out h =
+      elim (chosen (is_package source.indexes) _ _ (Ok out) h) [
+        | inl packed ↦
+            let ranges = offset_ranges source.indexes.compilations source.indexes.types in
+            let s1 = bind-was (ranges_test source.encoding (length bytes) 0 ranges) _ out
+            packed.1 in
+            rw packed.0 (ranges-named bytes 0 0 ranges strings out s1.1 s1.2)
+        | inr plain ↦ rw plain.0 (remapped-named source.object.order source.encoding strings_in
+            bytes (length bytes) strings out refl plain.1)
+      ]
 
   abbrev here_named : Used → List (List ℕ)
   here_named s = if same_kind s.kind StrOffsets then named_by_section source s.bytes else []
@@ -289,48 +231,41 @@ module _ (source : Source) where
   step-named : (before : Parts) (s : Used) (next : Parts) → Adds source before s next
       → next.1 ≡ with_strings before.1 (here_named s)
   step-named before s next (inl (o, w)) =
-      ap (λ (n : Parts). n.1) w.is ∙ section-named s.bytes before.1 w.written w.rewrites
-      ∙ ap (λ b. with_strings before.1 (cond b (named_by_section source s.bytes) [])) (sym o)
-  step-named before s next (inr (inl (o, c, is))) = ap (λ (n : Parts). n.1) is ∙ ap (λ b.
-      with_strings before.1 (cond b (named_by_section source s.bytes) [])) (sym o)
-  step-named before s next (inr (inr (o, c, is))) = ap (λ (n : Parts). n.1) is ∙ ap (λ b.
-      with_strings before.1 (cond b (named_by_section source s.bytes) [])) (sym o)
+      rw (w.is, o) (section-named s.bytes before.1 w.written w.rewrites)
+  step-named before s next (inr (inl (o, c, is))) = rw (is, o) refl
+  step-named before s next (inr (inr (o, c, is))) = rw (is, o) refl
 
   each-named : (before after : Parts) (sections : List Used) → with_each_part source before sections
       ≡ Ok after → after.1 ≡ with_strings before.1 (named_in source sections)
   unfolding with_each_part
-  each-named before after [] h = ap (λ (n : Parts). n.1) (sym (ok-eq {E = Fault} before after h))
+  each-named before after [] h = ap (λ (n : Parts). n.1)
+      (sym (same-ok {E = ErrorValue} before after h))
   each-named before after (s ∷ ss) h =
-      let next = bind-inv (with_part source before s) _ after h in
+      let next = bind-was (with_part source before s) _ after h in
       each-named next.0 after ss next.2
       ∙ ap (λ l. with_strings l (named_in source ss)) (step-named before s next.0
       (step source before s next.0 next.1).adds)
       ∙ sym (with-append before.1 (here_named s) (named_in source ss))
 
 -- units bring no strings
-one-strings : (p : InProgress) (u : DwarfObject × NewUnit) (us : List (DwarfObject × NewUnit))
-    (there : Bool) → (with_new_units p us).strings ≡ p.strings
-    → (with_new_units (with_unit_added p u) us).strings ≡ p.strings
-    → (with_new_units (cond there p (with_unit_added p u)) us).strings ≡ p.strings
-one-strings p u us true same more = same
-one-strings p u us false same more = more
-
-units-strings : (p : InProgress) (us : List (DwarfObject × NewUnit))
+pub units-strings : (p : InProgress) (us : List (DwarfObject × NewUnit))
     → (with_new_units p us).strings ≡ p.strings
 unfolding with_new_units with_new_unit
 units-strings p [] = refl
-units-strings p (u ∷ us) = one-strings p u us (list_any (same_name u.0) (names_of p))
-    (units-strings p us) (units-strings (with_unit_added p u) us)
+units-strings p (u ∷ us) =
+    by-bool _ (list_any (same_name u.0) (names_of p))
+    (λ there. rw (there, with_new_units) (units-strings p us))
+    (λ new. rw (new, with_new_units) (units-strings (with_unit_added p u) us))
 
 -- ---- an input
 source-named : (source : Source) (before now : InProgress) → with_source source before ≡ Ok now
     → now.strings ≡ with_strings before.strings (named_in source source.object.sections)
 unfolding with_source with_all
 source-named source before now h =
-    let s1 = bind-inv (parts_of source before.strings) _ now h in
-    let s2 = bind-inv (abbreviations_test source.object) _ now s1.2 in
-    let s3 = bind-inv (new_units (adding source before s1.0.0)) _ now s2.2 in
-    ap (λ (n : InProgress). n.strings) (sym (ok-eq {E = Fault} _ now s3.2))
+    let s1 = bind-was (parts_of source before.strings) _ now h in
+    let s2 = bind-was (abbreviations_test source.object) _ now s1.2 in
+    let s3 = bind-was (new_units (adding source before s1.0.0)) _ now s2.2 in
+    ap (λ (n : InProgress). n.strings) (sym (same-ok {E = ErrorValue} _ now s3.2))
     ∙ units-strings _ s3.0.units
     ∙ each-named source ([], before.strings) s1.0 source.object.sections s1.1
 
@@ -339,54 +274,38 @@ new-strings : (file : Elf) (begun : Option InProgress) → (package_or_new file 
 new-strings file None = refl
 new-strings file (Some made) = refl
 
--- the strings that were used, and what is so
-record Uses (r : Result (List (List ℕ)) Fault) (before : List (List ℕ))
-    (now : Option InProgress) : Type 0 where
-  used : List (List ℕ)
-  named : r ≡ Ok used
-  strings : (made : InProgress) → now ≡ Some made → made.strings ≡ with_strings before used
-
-units-used : (file : Elf) (begun now : Option InProgress) → with_units file begun ≡ Ok now
-    → Uses (named_in_file file) (strings_begun begun) now
-unfolding with_units with_source_or_new named_in_file
-units-used file begun now h =
-    let s1 = bind-inv (input_file_of file) _ now h in
-    let s2 = bind-inv (encoding_of s1.0) _ now s1.2 in
-    let s3 = bind-inv (order_test s1.0.order begun) _ now s2.2 in
-    let s4 = bind-inv (indexes_of s1.0 s2.0) _ now s3.2 in
-    let source : Source = record { object = s1.0; encoding = s2.0; indexes = s4.0 } in
-    let s5 = bind-inv (with_source source (package_or_new file begun)) _ now s4.2 in
-    record {
-      used = named_in source s1.0.sections;
-      named = bind-ok (input_file_of file) s1.0 _ s1.1 ∙ bind-ok (encoding_of s1.0) s2.0 _ s2.1 ∙
-          bind-ok (indexes_of s1.0 s2.0) s4.0 _ s4.1;
-      strings = λ made is.
-          ap (λ (n : InProgress). n.strings)
-          (sym (same_Some _ _ (ok-eq {E = Fault} _ now s5.2 ∙ is)))
-          ∙ source-named source (package_or_new file begun) s5.0 s5.1
-          ∙ ap (λ l. with_strings l (named_in source s1.0.sections)) (new-strings file begun);
-    }
-
-info-used : (file : Elf) (begun now : Option InProgress) (b : Bool) → cond b (with_units file begun)
-    (Ok (Some (package_or_new file begun))) ≡ Ok now
-    → Uses (cond b (named_in_file file) (Ok [])) (strings_begun begun) now
-info-used file begun now true h = units-used file begun now h
-info-used file begun now false h = record {
-  used = [];
-  named = refl;
-  strings = λ made is. ap (λ (n : InProgress). n.strings)
-      (sym (same_Some _ _ (ok-eq {E = Fault} _ now h ∙ is))) ∙ new-strings file begun;
-}
-
 pub uses-strings : (bytes : List ℕ) (begun : Option InProgress) (now : InProgress) → IsSound now
     → with_input bytes begun ≡ Ok (Some now) → UsesStrings bytes begun now
-unfolding with_input used_by
+unfolding used_by named_in_file
 uses-strings bytes begun now fine h =
-    let s = bind-inv (opened bytes) _ (Some now) h in
-    let u = info-used s.0 begun (Some now) (has_info s.0) s.2 in
-    record {
-      used = u.used;
-      named = bind-ok (opened bytes) s.0 _ s.1 ∙ u.named;
-      strings = u.strings now refl;
-      distinct = fine.units.table.distinct;
-    }
+    let t = takes bytes begun (Some now) h in
+    elim t.does [
+      | inl u ↦
+          let v = u.1 in
+          let source : Source = record {
+            object = v.object;
+            encoding = v.encoding;
+            indexes = v.indexes;
+          } in
+          record {
+            used = named_in source v.object.sections;
+            named = bind-ok (opened bytes) t.file _ t.opens
+                ∙ ap (λ b. cond b (named_in_file t.file) (Ok [])) u.0
+                ∙ bind-ok (input_file_of t.file) v.object _ v.object_is
+                ∙ bind-ok (encoding_of v.object) v.encoding _ v.encoding_is
+                ∙ bind-ok (indexes_of v.object v.encoding) v.indexes _ v.indexes_are;
+            strings = ap (λ (n : InProgress). n.strings) (sym (same_Some _ _ v.is))
+                ∙ source-named source (package_or_new t.file begun) v.made v.with
+                ∙ ap (λ l. with_strings l (named_in source v.object.sections))
+                (new-strings t.file begun);
+            distinct = fine.units.table.distinct;
+          }
+      | inr n ↦ record {
+        used = [];
+        named = bind-ok (opened bytes) t.file _ t.opens
+            ∙ ap (λ b. cond b (named_in_file t.file) (Ok [])) n.0;
+        strings = ap (λ (m : InProgress). m.strings) (sym (same_Some _ _ n.1))
+            ∙ new-strings t.file begun;
+        distinct = fine.units.table.distinct;
+      }
+    ]

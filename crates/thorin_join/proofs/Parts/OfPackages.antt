@@ -1,8 +1,8 @@
 -- The parts of a package: each kind of section has one part at most, and the string offsets of each
 -- row read alike.
 use Rattle.std.proofs.Common.{◌≡◌, ◌∙◌, ℕ, ◌+◌, ◌<◌, ◌≤◌, Bool, true, false, cond, List, [], ◌∷◌}
-use Rattle.std.proofs.Common.{◌++◌, length, take, subst, ◌&&◌, ◌||◌, Ok, Option, Some, None, refl}
-use Rattle.std.proofs.Common.{sym, ap, ◌⊎◌, inl, inr, ⊎_elim, true≢false, arith}
+use Rattle.std.proofs.Common.{◌++◌, length, take, subst, ◌&&◌, ◌||◌, Ok, Some, None, refl, sym, ap}
+use Rattle.std.proofs.Common.{◌⊎◌, inl, inr, ⊎_elim, true≢false, arith}
 use Rattle.std.specs.Prelude.{find}
 use Rattle.std.proofs.lemmas.List.{append-nil}
 use Rattle.dwp_base.specs.declared.section.SectionKind.{SectionKind}
@@ -10,7 +10,7 @@ use Rattle.dwp_base.specs.declared.section.SectionKind.TheVariants.{StrOffsets, 
 use Rattle.dwp_base.specs.declared.section.Contribution.{Contribution}
 use Rattle.dwp_base.specs.Sections.{same_kind}
 use Rattle.dwp_base.proofs.EveryKind.{is-same}
-use Rattle.dwp_base.proofs.Bools.{or-right}
+use Rattle.dwp_base.proofs.Bools.{or-right, by-bool}
 use Rattle.dwp_index.specs.Index.{Index, Ranges, row_in, range_in}
 use Rattle.thorin_packaged.specs.PackagedReading.{PackageReadsAlike, RowsReadAlike, range_bytes}
 use Rattle.thorin_packaged.specs.ReadStrings.{ReadsAlike}
@@ -19,15 +19,15 @@ use Rattle.thorin_input.specs.Growing.{Contents, joined_parts}
 use Rattle.thorin_input.specs.Indexes.{Indexes, Source, is_package}
 use Rattle.thorin_join.specs.Meaning.{joined_content}
 use Rattle.thorin_input.specs.Format.{is_copied}
-use Rattle.thorin_input.specs.Parts.{Parts, has_part, stands_once, with_part}
-use Rattle.thorin_input.specs.Parts.{with_each_part, parts_of}
-use Rattle.thorin_input.specs.Used.{Used, first, has_kind, bytes_of}
+use Rattle.thorin_input.specs.Parts.{Parts, has_part, stands_once, with_part, with_each_part}
+use Rattle.thorin_input.specs.Parts.{parts_of}
+use Rattle.thorin_input.specs.Used.{Used, first, has_kind}
 use Rattle.thorin_join.proofs.Parts.Appended.{either, kind-like, joined_parts-more}
 use Rattle.thorin_join.proofs.Parts.Appended.{joined_parts-other, Adds, step, parts-copied}
 use Rattle.thorin_join.proofs.Parts.OffsetLaws.{NamesTheSameLaw, PackagedLaw}
-use Rattle.thorin_join.proofs.Parts.Strings.{front-front, packaged}
-use Rattle.thorin_join.proofs.Parts.Strings.{rewritten-package, step-strings, each-strings}
-use Rattle.thorin_join.proofs.Steps.{bind-inv}
+use Rattle.thorin_join.proofs.Parts.Strings.{front-front, packaged, rewritten-package, step-strings}
+use Rattle.thorin_join.proofs.Parts.Strings.{each-strings}
+use Rattle.dwp_base.proofs.Steps.{bind-was}
 
 -- ---- which kinds have a part
 has-kept : (kind : SectionKind) (a b : Contents) → has_part kind a ≡ true
@@ -40,13 +40,13 @@ has-kept kind (p ∷ ps) b h =
     (has-kept kind ps b (sym (ap (λ (v : Bool). v || has_part kind ps) other) ∙ h)))
     (either (same_kind p.0 kind))
 
-has-last : (kind : SectionKind) (a : Contents) (k : SectionKind) (bytes : List ℕ)
+pub has-last : (kind : SectionKind) (a : Contents) (k : SectionKind) (bytes : List ℕ)
     → same_kind k kind ≡ true → has_part kind (a ++ (k, bytes) ∷ []) ≡ true
 has-last kind [] k bytes same = ap (λ (v : Bool). v || false) same
 has-last kind (p ∷ ps) k bytes same = or-right (same_kind p.0 kind)
     (has_part kind (ps ++ (k, bytes) ∷ [])) (has-last kind ps k bytes same)
 
-has-other : (kind : SectionKind) (a : Contents) (k : SectionKind) (bytes : List ℕ)
+pub has-other : (kind : SectionKind) (a : Contents) (k : SectionKind) (bytes : List ℕ)
     → same_kind k kind ≡ false → has_part kind (a ++ (k, bytes) ∷ []) ≡ has_part kind a
 has-other kind [] k bytes other = ap (λ (v : Bool). v || false) other
 has-other kind (p ∷ ps) k bytes other = ap (λ (b : Bool). same_kind p.0 kind || b)
@@ -59,16 +59,13 @@ once-alone true other has h once = once
 once-alone false other has h once = absurd (true≢false (sym h))
 
 -- none of a kind, none joined
-none-by : (b : Bool) (s : Used) (rest : Option Used) (x r : List ℕ) → cond b (Some s) rest ≡ None
-    → (rest ≡ None → r ≡ []) → cond b (x ++ r) r ≡ []
-none-by true s rest x r h later = absurd cc
-none-by false s rest x r h later = later h
-
 joined-none : (kind : SectionKind) (sections : List Used) → find (has_kind kind) sections ≡ None
     → joined_content kind sections ≡ []
 joined-none kind [] h = refl
-joined-none kind (s ∷ ss) h = none-by (same_kind s.kind kind) s (find (has_kind kind) ss) s.bytes
-    (joined_content kind ss) h (joined-none kind ss)
+joined-none kind (s ∷ ss) h =
+    by-bool _ (same_kind s.kind kind)
+    (λ same. let some = rw same at h in absurd cc)
+    (λ other. let none = rw other at h in rw other (joined-none kind ss none))
 
 module _ (source : Source) where
   -- a section of another kind adds no part of a kind
@@ -78,29 +75,25 @@ module _ (source : Source) where
       × (joined_parts kind next.0 ≡ joined_parts kind before.0)
   adds-other kind before s next other (inl (o, w)) =
       let apart : same_kind StrOffsets kind ≡ false =
-      sym (kind-like s.kind StrOffsets kind o) ∙ other in (
-        ap (λ (n : Parts). has_part kind n.0) w.is ∙ has-other kind before.0 StrOffsets
-            w.written.0 apart,
-        ap (λ (n : Parts). joined_parts kind n.0) w.is ∙ joined_parts-other kind before.0 StrOffsets
-            w.written.0 apart,
+      sym (kind-like s.kind StrOffsets kind o) ∙ other in
+      rw w.is (
+        has-other kind before.0 StrOffsets w.written.0 apart,
+        joined_parts-other kind before.0 StrOffsets w.written.0 apart,
       )
-  adds-other kind before s next other (inr (inl (o, c, is))) = (
-    ap (λ (n : Parts). has_part kind n.0) is ∙ has-other kind before.0 s.kind s.bytes other,
-    ap (λ (n : Parts). joined_parts kind n.0) is ∙ joined_parts-other kind before.0
-        s.kind s.bytes other,
+  adds-other kind before s next other (inr (inl (o, c, is))) = rw is (
+    has-other kind before.0 s.kind s.bytes other,
+    joined_parts-other kind before.0 s.kind s.bytes other,
   )
-  adds-other kind before s next other (inr (inr (o, c, is))) =
-      (ap (λ (n : Parts). has_part kind n.0) is, ap (λ (n : Parts). joined_parts kind n.0) is)
+  adds-other kind before s next other (inr (inr (o, c, is))) = rw is (refl, refl)
 
   -- what is there stays there
   adds-kept : (kind : SectionKind) (before : Parts) (s : Used) (next : Parts) → Adds source before s
       next → has_part kind before.0 ≡ true → has_part kind next.0 ≡ true
-  adds-kept kind before s next (inl (o, w)) h = ap (λ (n : Parts). has_part kind n.0) w.is ∙
-      has-kept kind before.0 ((StrOffsets, w.written.0) ∷ []) h
-  adds-kept kind before s next (inr (inl (o, c, is))) h = ap (λ (n : Parts). has_part kind n.0) is ∙
-      has-kept kind before.0 ((s.kind, s.bytes) ∷ []) h
-  adds-kept kind before s next (inr (inr (o, c, is))) h =
-      ap (λ (n : Parts). has_part kind n.0) is ∙ h
+  adds-kept kind before s next (inl (o, w)) h =
+      rw w.is (has-kept kind before.0 ((StrOffsets, w.written.0) ∷ []) h)
+  adds-kept kind before s next (inr (inl (o, c, is))) h =
+      rw is (has-kept kind before.0 ((s.kind, s.bytes) ∷ []) h)
+  adds-kept kind before s next (inr (inr (o, c, is))) h = rw is h
 
   -- a section that is copied is there then
   adds-copied : (kind : SectionKind) (before : Parts) (s : Used) (next : Parts)
@@ -138,7 +131,7 @@ module _ (source : Source) (packed : is_package source.indexes ≡ true) where
       let is : before ≡ after = cc in
       record { none = refl; same = ap (λ (n : Parts). joined_parts kind n.0) (sym is) }
   ended kind (s ∷ ss) before after has h =
-      let next = bind-inv (with_part source before s) _ after h in
+      let next = bind-was (with_part source before s) _ after h in
       let made = step source before s next.0 next.1 in
       ⊎_elim
       (λ same. absurd (true≢false (sym has ∙ none-yet kind before s same made.once)))
@@ -158,19 +151,14 @@ module _ (source : Source) (packed : is_package source.indexes ≡ true) where
   unfolding with_each_part
   copied-once kind [] before after copied has h = refl
   copied-once kind (s ∷ ss) before after copied has h =
-      let next = bind-inv (with_part source before s) _ after h in
+      let next = bind-was (with_part source before s) _ after h in
       let made = step source before s next.0 next.1 in
       ⊎_elim
       (λ same. let later = ended kind ss next.0 after (adds-copied source kind before s next.0
       copied same made.adds) next.2 in
-      ap (λ b. cond b (s.bytes ++ joined_content kind ss) (joined_content kind ss)) same
-      ∙ ap (λ v. s.bytes ++ v) (joined-none kind ss later.none)
-      ∙ append-nil s.bytes
-      ∙ sym (ap (λ b. bytes_of (cond b (Some s) (find (has_kind kind) ss))) same))
-      (λ other. ap (λ b. cond b (s.bytes ++ joined_content kind ss) (joined_content kind ss)) other
-      ∙ copied-once kind ss next.0 after copied ((adds-other source kind before s next.0 other
-      made.adds).0 ∙ has) next.2
-      ∙ sym (ap (λ b. bytes_of (cond b (Some s) (find (has_kind kind) ss))) other))
+      rw same (ap (λ v. s.bytes ++ v) (joined-none kind ss later.none) ∙ append-nil s.bytes))
+      (λ other. rw other (copied-once kind ss next.0 after copied ((adds-other source kind before s
+      next.0 other made.adds).0 ∙ has) next.2))
       (either (same_kind s.kind kind))
 
   pub parts-first : (strings : List (List ℕ)) (parts : Contents) (after : List (List ℕ))
@@ -263,18 +251,12 @@ module _ (names : NamesTheSameLaw) (law : PackagedLaw) (source : Source)
       ap (λ (n : Parts). joined_parts StrOffsets n.0) (sym is) ∙ none in
       subst (λ v. RowsRead source [] v after.1) (sym joined) (rows-none source after.1)
   each-rows (s ∷ ss) before after table none h =
-      let next = bind-inv (with_part source before s) _ after h in
+      let next = bind-was (with_part source before s) _ after h in
       let made = step source before s next.0 next.1 in
       ⊎_elim
-      (λ same. subst (λ b.
-      RowsRead source (bytes_of (cond b (Some s) (find (has_kind StrOffsets) ss)))
-      (joined_parts StrOffsets after.0) after.1) (sym same)
-      (rows-added before s next.0 after ss table none same made.adds next.2))
-      (λ other. subst (λ b.
-      RowsRead source (bytes_of (cond b (Some s) (find (has_kind StrOffsets) ss)))
-      (joined_parts StrOffsets after.0) after.1) (sym other)
-      (each-rows ss next.0 after (step-strings names law source before s next.0 table
-      made.adds).table ((adds-other source StrOffsets before s next.0 other made.adds).1
+      (λ same. rw same (rows-added before s next.0 after ss table none same made.adds next.2))
+      (λ other. rw other (each-rows ss next.0 after (step-strings names law source before s next.0
+      table made.adds).table ((adds-other source StrOffsets before s next.0 other made.adds).1
       ∙ none) next.2))
       (either (same_kind s.kind StrOffsets))
 

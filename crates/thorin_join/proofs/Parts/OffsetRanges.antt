@@ -1,15 +1,13 @@
 -- What is read of ranges of string offsets: of their whole entries alone, of none, and of joined
 -- ones.
-use Rattle.std.proofs.Common.{◌≡◌, ◌∙◌, ℕ, ◌+◌, ◌-◌, ◌<◌, ◌≤◌, Bool, true, false, cond, eqb, ltb}
-use Rattle.std.proofs.Common.{leb, List, [], ◌++◌, length, take, drop, subst, ◌*◌, ◌/◌, IsOk}
-use Rattle.std.proofs.Common.{zero-mul, add-mul, Result, Ok, Some, None, refl, sym, ap, ⊎_elim}
-use Rattle.std.proofs.Common.{true≢false, arith}
+use Rattle.std.proofs.Common.{◌⊎◌, inl, inr, ◌≡◌, ◌∙◌, ℕ, ◌+◌, ◌-◌, ◌<◌, ◌≤◌, Bool, true, false}
+use Rattle.std.proofs.Common.{cond, eqb, ltb, List, [], ◌++◌, length, take, drop, subst, ◌*◌, ◌/◌}
+use Rattle.std.proofs.Common.{IsOk, zero-mul, add-mul, Ok, Some, None, refl, sym, ap, ⊎_elim, arith}
 use Rattle.std.proofs.lemmas.List.{length-append, length-take, length-drop, take_all}
-use Rattle.std.proofs.lemmas.List.{take-append-drop, drop-append-le, get_or_append_left}
-use Rattle.std.proofs.lemmas.Bool.{cases_lt, lt-ltb, le-ltb, lt-leb, eq-eqb, eqb-true, eqb-false}
+use Rattle.std.proofs.lemmas.List.{take-append-drop, drop-append-le}
+use Rattle.std.proofs.lemmas.Bool.{cases_lt, lt-ltb, le-ltb, eqb-true, eqb-false, ltb-false}
 use Rattle.std.proofs.lemmas.Nat.{row_fits}
 use Rattle.dwp_base.specs.declared.endian.Endianness.{Endianness}
-use Rattle.dwp_base.specs.declared.endian.Endianness.TheVariants.{Little, Big}
 use Rattle.dwp_base.specs.Numbers.{number}
 use Rattle.dwp_bytes.specs.declared.encoding.Encoding.{Encoding}
 use Rattle.dwp_bytes.specs.declared.encoding.Format.{Format}
@@ -17,50 +15,17 @@ use Rattle.dwp_bytes.specs.declared.encoding.Format.TheVariants.{Dwarf32, Dwarf6
 use Rattle.dwp_bytes.specs.Encoding.{offset_size}
 use Rattle.dwp_bytes.specs.StringOffsets.{header_size, entry_count}
 use Rattle.dwp_index.specs.Strings.{string_in, entry_in, string_for}
-use Rattle.thorin_errors.specs.Fault.{Fault}
+use Rattle.thorin_errors.specs.Errors.{ErrorValue}
 use Rattle.thorin_packaged.specs.ReadStrings.{ReadsAlike}
 use Rattle.thorin_strings.specs.Strings.{IsTable}
-use Rattle.thorin_strings.specs.StringOffsets.{remapped}
+use Rattle.thorin_strings.specs.StringOffsets.{remapped, header_of, remapped_entries, entry_bytes}
 use Rattle.thorin_join.specs.Meaning.{whole_entries}
-use Rattle.thorin_join.proofs.Parts.Appended.{either}
 use Rattle.thorin_join.proofs.Parts.OffsetLaws.{NamesTheSameLaw}
+use Rattle.thorin_packaged.proofs.OffsetsJoined.{number_front, no_header}
+use Rattle.dwp_base.proofs.Steps.{bind-was, same-ok, chosen}
+use Rattle.thorin_join.proofs.Steps.{past}
 
 -- ---- a range without the bytes past its last whole entry
-pub number-front : (order : Endianness) (format : Format) (xs ys : List ℕ) → offset_size format ≤
-    length xs → number order (offset_size format) (xs ++ ys) ≡ number order (offset_size format) xs
-number-front Little Dwarf32 xs ys within =
-    let at = λ (k : ℕ) (h : k < 4). get_or_append_left xs ys 0 k (omega arith) in
-    rw (at 0 (omega arith), at 1 (omega arith), at 2 (omega arith), at 3 (omega arith)) refl
-number-front Big Dwarf32 xs ys within =
-    let at = λ (k : ℕ) (h : k < 4). get_or_append_left xs ys 0 k (omega arith) in
-    rw (at 0 (omega arith), at 1 (omega arith), at 2 (omega arith), at 3 (omega arith)) refl
-number-front Little Dwarf64 xs ys within =
-    let at = λ (k : ℕ) (h : k < 8). get_or_append_left xs ys 0 k (omega arith) in
-    rw (
-      at 0 (omega arith),
-      at 1 (omega arith),
-      at 2 (omega arith),
-      at 3 (omega arith),
-      at 4
-          (omega arith),
-      at 5 (omega arith),
-      at 6 (omega arith),
-      at 7 (omega arith),
-    ) refl
-number-front Big Dwarf64 xs ys within =
-    let at = λ (k : ℕ) (h : k < 8). get_or_append_left xs ys 0 k (omega arith) in
-    rw (
-      at 0 (omega arith),
-      at 1 (omega arith),
-      at 2 (omega arith),
-      at 3 (omega arith),
-      at 4
-          (omega arith),
-      at 5 (omega arith),
-      at 6 (omega arith),
-      at 7 (omega arith),
-    ) refl
-
 pub count-again : (format : Format) (l h n : ℕ) → l ≡ h + n * offset_size format
     → (l - h) / offset_size format ≡ n
 count-again Dwarf32 l h n e = omega arith
@@ -96,7 +61,7 @@ entry-front order encoding xs ys n i long count =
     let past : drop at (xs ++ ys) ≡ drop at xs ++ ys = drop-append-le at xs ys
     (omega (arith, long)) in
     let left : width ≤ length (drop at xs) = omega (arith, long, length-drop at xs) in
-    rw (here, there) (ap (λ m. Some m) (sym (ap (number order width) past ∙ number-front order
+    rw (here, there) (ap (λ m. Some m) (sym (ap (number order width) past ∙ number_front order
     encoding.format (drop at xs) ys left))))
     (λ behind. let here : ltb i (entry_count encoding (length xs)) ≡ false =
     le-ltb i (entry_count encoding (length xs)) (omega (arith, alone)) in
@@ -148,24 +113,45 @@ empty-read order encoding strings i =
     rw past refl
 
 -- ---- rewritten ranges
-pub no-header : (encoding : Encoding) → encoding.version < 5 → header_size encoding ≡ 0
-no-header encoding old =
-    let gnu : leb 5 encoding.version ≡ false = lt-leb 5 encoding.version old in
-    rw gnu refl
-
-nothing-by : (b : Bool) (strings : List (List ℕ)) (r : Result (List ℕ × List (List ℕ)) Fault)
-    (written : List ℕ × List (List ℕ)) → b ≡ true
-    → cond b (Ok ([], strings)) r ≡ Ok written → written.0 ≡ []
-nothing-by true strings r written h is = cc
-nothing-by false strings r written h is = absurd (true≢false (sym h))
+-- what a range of some bytes is rewritten to: a header, and its entries
+pub record Range (order : Endianness) (encoding : Encoding) (section bytes : List ℕ) (size : ℕ)
+    (strings : List (List ℕ)) (range : List ℕ × List (List ℕ)) : Type 0 where
+  pub some : eqb size 0 ≡ false
+  pub room : header_size encoding ≤ size
+  pub header : List ℕ
+  pub entries : List ℕ × List (List ℕ)
+  pub header_is : header_of order encoding (entry_count encoding size * offset_size
+      encoding.format) ≡ Ok header
+  pub entries_are : remapped_entries order encoding section bytes (entry_count encoding size)
+      strings ≡ Ok entries
+  pub is : (header ++ entry_bytes order encoding.format entries.0, entries.1) ≡ range
 
 -- a range of no bytes stays one
-nothing-rewritten : (order : Endianness) (encoding : Encoding) (section bytes : List ℕ)
-    (strings : List (List ℕ)) (written : List ℕ × List (List ℕ)) → length bytes ≡ 0
-    → remapped order encoding section bytes (length bytes) strings ≡ Ok written → written.0 ≡ []
+pub range-of : (order : Endianness) (encoding : Encoding) (section bytes : List ℕ) (size : ℕ)
+    (strings : List (List ℕ)) (range : List ℕ × List (List ℕ))
+    → remapped order encoding section bytes size strings ≡ Ok range
+    → ((size ≡ 0) × (([], strings) ≡ range))
+    ⊎ Range order encoding section bytes size strings range
 unfolding remapped
-nothing-rewritten order encoding section bytes strings written none h =
-    nothing-by (eqb (length bytes) 0) strings _ written (eq-eqb (length bytes) 0 none) h
+range-of order encoding section bytes size strings range h =
+    elim (chosen (eqb size 0) _ _ (Ok range) h) [
+      | inl none ↦ inl (eqb-true size 0 none.0, same-ok {E = ErrorValue} _ range none.1)
+      | inr some ↦
+          let n = entry_count encoding size in
+          let room = past (ltb size (header_size encoding)) _ _ range some.1 in
+          let a = bind-was (header_of order encoding (n * offset_size encoding.format)) _ range
+          room.1 in
+          let b = bind-was (remapped_entries order encoding section bytes n strings) _ range a.2 in
+          inr (record {
+            some = some.0;
+            room = ltb-false size (header_size encoding) room.0;
+            header = a.0;
+            entries = b.0;
+            header_is = a.1;
+            entries_are = b.1;
+            is = same-ok {E = ErrorValue} _ range b.2;
+          })
+    ]
 
 -- before DWARF 5 a rewritten range has the whole entries and nothing else
 pub rewritten-long : NamesTheSameLaw → (order : Endianness) (encoding : Encoding)
@@ -174,18 +160,20 @@ pub rewritten-long : NamesTheSameLaw → (order : Endianness) (encoding : Encodi
     → remapped order encoding section bytes (length bytes) strings ≡ Ok written → length written.0 ≡
     entry_count encoding (length bytes) * offset_size encoding.format
 rewritten-long names order encoding section bytes strings written old table h =
-    let header = no-header encoding old in
+    let header = no_header encoding old in
     let width = offset_size encoding.format in
-    ⊎_elim
-    (λ none. let count : entry_count encoding (length bytes) ≡ 0 = count-none encoding.format
-    (length bytes) (header_size encoding) (omega (arith, eqb-true (length bytes) 0 none)) in
-    ap length (nothing-rewritten order encoding section bytes strings written
-    (eqb-true (length bytes) 0 none) h) ∙ sym (ap (λ n. n * width) count ∙ zero-mul width))
-    (λ some. let long : length written.0 ≡ header_size encoding + entry_count encoding
-    (length bytes) * width = (names order encoding section bytes (length bytes) strings
-    written.0 written.1 table h).long (eqb-false (length bytes) 0 some) in
-    omega (arith, long, header))
-    (either (eqb (length bytes) 0))
+    elim (range-of order encoding section bytes (length bytes) strings written h) [
+      | inl none ↦
+          let count : entry_count encoding (length bytes) ≡ 0 = count-none encoding.format
+          (length bytes) (header_size encoding) (omega (arith, none.0)) in
+          ap (λ (w : List ℕ × List (List ℕ)). length w.0) (sym none.1)
+          ∙ sym (ap (λ n. n * width) count ∙ zero-mul width)
+      | inr r ↦
+          let long : length written.0 ≡ header_size encoding + entry_count encoding
+          (length bytes) * width = (names order encoding section bytes (length bytes) strings
+          written.0 written.1 table h).long (eqb-false (length bytes) 0 r.some) in
+          omega (arith, long, header)
+    ]
 
 pub alike-by : (order : Endianness) (encoding : Encoding) (section final : List ℕ)
     (old first_old second_old new first_new second_new : List ℕ) (i j : ℕ) (b : Bool)

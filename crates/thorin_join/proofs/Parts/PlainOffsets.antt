@@ -9,7 +9,6 @@ use Rattle.dwp_base.specs.declared.section.SectionKind.{SectionKind}
 use Rattle.dwp_base.specs.declared.section.SectionKind.TheVariants.{StrOffsets, Str}
 use Rattle.dwp_base.specs.Sections.{same_kind}
 use Rattle.dwp_base.proofs.EveryKind.{is-same}
-use Rattle.dwp_base.proofs.Bools.{or-right}
 use Rattle.dwp_bytes.specs.declared.encoding.Encoding.{Encoding}
 use Rattle.dwp_bytes.specs.Encoding.{offset_size}
 use Rattle.dwp_bytes.specs.StringOffsets.{entry_count}
@@ -23,25 +22,23 @@ use Rattle.thorin_join.specs.Meaning.{whole_entries, joined_offsets}
 use Rattle.thorin_input.specs.Parts.{Parts, has_part, stands_once, with_part, with_each_part}
 use Rattle.thorin_input.specs.Parts.{parts_of}
 use Rattle.thorin_input.specs.Used.{Used, InputFile, first}
-use Rattle.thorin_join.proofs.Parts.OffsetRanges.{whole-long, whole-read, empty-read, no-header}
+use Rattle.thorin_join.proofs.Parts.OffsetRanges.{whole-long, whole-read, empty-read}
 use Rattle.thorin_join.proofs.Parts.OffsetRanges.{rewritten-long, alike-by, IsWhole, whole-more}
 use Rattle.thorin_join.proofs.Parts.Appended.{either, joined-front, joined_parts-more}
 use Rattle.thorin_join.proofs.Parts.Appended.{joined_parts-other, Rewritten, Adds, step}
 use Rattle.thorin_join.proofs.Parts.OffsetLaws.{NamesTheSameLaw, ReadsAlikeLaw, ReadInTurnLaw}
 use Rattle.thorin_join.proofs.Parts.Strings.{front-front, rewritten-plain}
-use Rattle.thorin_join.proofs.Steps.{bind-inv}
+use Rattle.dwp_base.proofs.Steps.{bind-was}
+use Rattle.thorin_packaged.proofs.OffsetsJoined.{no_header}
+use Rattle.thorin_join.proofs.Parts.OfPackages.{has-last, has-other as part-other}
 
 pub has-more : (a : Contents) (bytes : List ℕ) → has_part StrOffsets
     (a ++ (StrOffsets, bytes) ∷ []) ≡ true
-has-more [] bytes = refl
-has-more (p ∷ ps) bytes = or-right (same_kind p.0 StrOffsets)
-    (has_part StrOffsets (ps ++ (StrOffsets, bytes) ∷ [])) (has-more ps bytes)
+has-more a bytes = has-last StrOffsets a StrOffsets bytes refl
 
 pub has-other : (a : Contents) (k : SectionKind) (bytes : List ℕ) → same_kind k StrOffsets ≡ false
     → has_part StrOffsets (a ++ (k, bytes) ∷ []) ≡ has_part StrOffsets a
-has-other [] k bytes other = rw other refl
-has-other (p ∷ ps) k bytes other = ap (λ b. same_kind p.0 StrOffsets || b)
-    (has-other ps k bytes other)
+has-other = part-other StrOffsets
 
 -- of a kind that may stand once alone, nothing is there yet
 pub not-there : (packed standard has : Bool) → standard ≡ true
@@ -129,7 +126,7 @@ module _ (names : NamesTheSameLaw) (alike : ReadsAlikeLaw) (in_turn : ReadInTurn
       let law = names object.order encoding section bytes (length bytes) strings written.0 written.1
       before.table h in
       let width = offset_size encoding.format in
-      let header = no-header encoding gnu in
+      let header = no_header encoding gnu in
       let whole = before.whole gnu in
       let long : length (whole_entries encoding bytes) ≡ entry_count encoding (length bytes) *
       width = whole-long encoding bytes (omega (arith, header)) ∙ ap (λ n.
@@ -200,7 +197,7 @@ module _ (names : NamesTheSameLaw) (alike : ReadsAlikeLaw) (in_turn : ReadInTurn
       subst (λ (n : Parts). ReadsBy n (old ++ [])) same (subst (ReadsBy before)
       (sym (append-nil old)) so_far)
   each-reads (s ∷ ss) before after old so_far h =
-      let next = bind-inv (with_part source before s) _ after h in
+      let next = bind-was (with_part source before s) _ after h in
       let made = step source before s next.0 next.1 in
       let here = old ++ cond (same_kind s.kind StrOffsets) (whole_entries encoding s.bytes) [] in
       let together : here ++ joined_offsets encoding ss ≡ old ++ joined_offsets encoding (s ∷ ss) =

@@ -9,11 +9,11 @@ use Rattle.dwp_base.specs.declared.endian.Endianness.{Endianness}
 use Rattle.dwp_base.specs.Reading.{◌>>=◌}
 use Rattle.dwp_bytes.specs.StringOffsets.{entry_count, string_at}
 use Rattle.dwp_bytes.specs.declared.encoding.Encoding.{Encoding}
-use Rattle.dwp_bytes.specs.declared.fault.ReadError.{ReadError}
+use Rattle.dwp_bytes.specs.declared.error.ReadError.{ReadError}
 use Rattle.dwp_index.specs.Strings.{entry_in, string_for, string_in}
 use Rattle.thorin_join.specs.Strings.{each_from, offset_of_entry, offsets_in, strings_at}
 use Rattle.thorin_join.specs.Strings.{strings_of}
-use Rattle.thorin_join.proofs.Steps.{ok-eq, bind-inv}
+use Rattle.dwp_base.proofs.Steps.{bind-was, same-ok, bind-ok}
 
 -- ---- the offsets
 
@@ -50,12 +50,12 @@ read_as r = r >>= λ string. Ok (Some string)
 all-read : (section offsets : List ℕ) (l : List (List ℕ)) → strings_at section offsets ≡ Ok l
     → (i : ℕ) → string_for section (slice_get offsets i) ≡ Ok (slice_get l i)
 unfolding strings_at
-all-read section [] l h i = ap (λ x. Ok (slice_get x i)) (ok-eq [] l h)
+all-read section [] l h i = ap (λ x. Ok (slice_get x i)) (same-ok [] l h)
 all-read section (o ∷ os) l h i =
-    let s1 = bind-inv (string_at section o) (λ string. strings_at section os >>= λ others.
+    let s1 = bind-was (string_at section o) (λ string. strings_at section os >>= λ others.
     Ok (string ∷ others)) l h in
-    let s2 = bind-inv (strings_at section os) (λ others. Ok (s1.0 ∷ others)) l s1.2 in
-    at i s1.0 s2.0 s1.1 (all-read section os s2.0 s2.1) (ok-eq (s1.0 ∷ s2.0) l s2.2)
+    let s2 = bind-was (strings_at section os) (λ others. Ok (s1.0 ∷ others)) l s1.2 in
+    at i s1.0 s2.0 s1.1 (all-read section os s2.0 s2.1) (same-ok (s1.0 ∷ s2.0) l s2.2)
   where
     at : (i : ℕ) (string : List ℕ) (others : List (List ℕ)) → string_at section o ≡ Ok string
         → ((k : ℕ) → string_for section (slice_get os k) ≡ Ok (slice_get others k))
@@ -85,8 +85,7 @@ all-there section (o ∷ os) h =
     let here = is-there (string_at section o) (h 0) in
     let there = all-there section os (λ i. h (suc i)) in (
       here.0 ∷ there.0,
-      ap (λ r. r >>= λ string. (strings_at section os >>= λ others.
-          Ok (string ∷ others))) here.1 ∙ ap (λ r. r >>= λ others. Ok (here.0 ∷ others)) there.1,
+      bind-ok (string_at section o) here.0 _ here.1 ∙ bind-ok _ there.0 _ there.1,
     )
 
 pub strings-there : (order : Endianness) (encoding : Encoding) (section range : List ℕ)
@@ -110,5 +109,5 @@ pub strings-are : (order : Endianness) (encoding : Encoding) (section range : Li
     → strings_of order encoding section range ≡ Ok l
 strings-are order encoding section range l h =
     let there = strings-there order encoding section range (λ i. subst IsOk (sym (h i)) refl) in
-    there.1 ∙ ap Ok (same-list there.0 l (λ i. ok-eq (slice_get there.0 i) (slice_get l i)
+    there.1 ∙ ap Ok (same-list there.0 l (λ i. same-ok (slice_get there.0 i) (slice_get l i)
     (sym (strings-read order encoding section range there.0 there.1 i) ∙ h i)))

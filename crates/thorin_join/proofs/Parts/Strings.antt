@@ -1,10 +1,10 @@
 -- What the parts of an input are, beside their bytes.
-use Rattle.std.proofs.Common.{◌≡◌, ◌∙◌, ℕ, ◌≤◌, Bool, true, false, cond, List, [], ◌∷◌, length}
-use Rattle.std.proofs.Common.{take, min, subst, refl, sym, ap, inl, inr, Result, Ok, arith}
+use Rattle.std.proofs.Common.{◌≡◌, ◌∙◌, ℕ, ◌≤◌, true, false, List, [], ◌∷◌, length, take, min}
+use Rattle.std.proofs.Common.{subst, refl, sym, ap, inl, inr, Result, Ok, arith}
 use Rattle.std.proofs.lemmas.List.{length-take, take-take}
 use Rattle.std.proofs.Math.Seq.{take-length}
 use Rattle.dwp_base.specs.declared.section.SectionKind.TheVariants.{Str, CuIndex, TuIndex}
-use Rattle.thorin_errors.specs.Fault.{Fault}
+use Rattle.thorin_errors.specs.Errors.{ErrorValue}
 use Rattle.thorin_packaged.specs.PackagedOffsets.{packaged_offsets}
 use Rattle.thorin_strings.specs.Strings.{IsTable}
 use Rattle.thorin_strings.specs.StringOffsets.{remapped}
@@ -14,8 +14,8 @@ use Rattle.thorin_input.specs.InputStrings.{rewritten}
 use Rattle.thorin_input.specs.Parts.{Parts, with_part, with_each_part, parts_of}
 use Rattle.thorin_input.specs.Used.{Used, first}
 use Rattle.thorin_join.proofs.Parts.Appended.{Adds, step, parts-none}
-use Rattle.thorin_join.proofs.Steps.{bind-inv}
 use Rattle.thorin_join.proofs.Parts.OffsetLaws.{NamesTheSameLaw, PackagedLaw}
+use Rattle.dwp_base.proofs.Steps.{bind-was, chosen}
 
 -- what stands in front of what stands in front
 pub front-front : {A : Type 0} (a b c : List A) → take (length a) b ≡ a → take (length b) c ≡ b
@@ -35,12 +35,12 @@ pub follows-refl : (a : List (List ℕ)) → IsTable a → Follows a a
 follows-refl a table = record { table = table; kept = take-length a }
 
 module _ (source : Source) where
-  abbrev pub packaged : List ℕ → List (List ℕ) → Result (List ℕ × List (List ℕ)) Fault
+  abbrev pub packaged : List ℕ → List (List ℕ) → Result (List ℕ × List (List ℕ)) ErrorValue
   packaged bytes strings = packaged_offsets source.object.order source.encoding
       source.indexes.compilations source.indexes.types
       (first Str source.object.sections) bytes strings
 
-  abbrev pub unpackaged : List ℕ → List (List ℕ) → Result (List ℕ × List (List ℕ)) Fault
+  abbrev pub unpackaged : List ℕ → List (List ℕ) → Result (List ℕ × List (List ℕ)) ErrorValue
   unpackaged bytes strings = remapped source.object.order source.encoding
       (first Str source.object.sections) bytes (length bytes) strings
 
@@ -56,36 +56,29 @@ module _ (source : Source) where
   rewritten-plain bytes strings h = rw h refl
 
 module _ (names : NamesTheSameLaw) (law : PackagedLaw) (source : Source) where
-  follows-by : (packed : Bool) (bytes : List ℕ) (strings : List (List ℕ)) (written : List ℕ
-      × List (List ℕ)) → IsTable strings
-      → cond packed (packaged source bytes strings) (unpackaged source bytes strings) ≡ Ok written
-      → Follows strings written.1
-  follows-by true bytes strings written table h =
-      let reads = law source.object.order source.encoding source.indexes.compilations
-      source.indexes.types (first Str source.object.sections) bytes strings written.0
-      written.1 table h in
-      record { table = reads.table; kept = reads.kept }
-  follows-by false bytes strings written table h =
-      let same = names source.object.order source.encoding (first Str source.object.sections) bytes
-      (length bytes) strings written.0 written.1 table h in
-      record { table = same.table; kept = same.kept }
-
   pub rewritten-follows : (bytes : List ℕ) (strings : List (List ℕ)) (written : List ℕ
       × List (List ℕ)) → IsTable strings → rewritten source bytes strings ≡ Ok written
       → Follows strings written.1
   unfolding rewritten
-  rewritten-follows bytes strings written table h = follows-by (is_package source.indexes) bytes
-      strings written table h
+  rewritten-follows bytes strings written table h =
+      elim (chosen (is_package source.indexes) _ _ (Ok written) h) [
+        | inl packed ↦
+            let reads = law source.object.order source.encoding source.indexes.compilations
+            source.indexes.types (first Str source.object.sections) bytes strings written.0
+            written.1 table packed.1 in
+            record { table = reads.table; kept = reads.kept }
+        | inr plain ↦
+            let same = names source.object.order source.encoding (first Str source.object.sections)
+            bytes (length bytes) strings written.0 written.1 table plain.1 in
+            record { table = same.table; kept = same.kept }
+      ]
 
   pub step-strings : (before : Parts) (s : Used) (next : Parts) → IsTable before.1
       → Adds source before s next → Follows before.1 next.1
   step-strings before s next table (inl (o, w)) =
-      let same : w.written.1 ≡ next.1 = ap (λ (n : Parts). n.1) (sym w.is) in
-      subst (Follows before.1) same (rewritten-follows s.bytes before.1 w.written table w.rewrites)
-  step-strings before s next table (inr (inl (o, c, is))) =
-      subst (λ (n : Parts). Follows before.1 n.1) (sym is) (follows-refl before.1 table)
-  step-strings before s next table (inr (inr (o, c, is))) =
-      subst (λ (n : Parts). Follows before.1 n.1) (sym is) (follows-refl before.1 table)
+      rw w.is (rewritten-follows s.bytes before.1 w.written table w.rewrites)
+  step-strings before s next table (inr (inl (o, c, is))) = rw is (follows-refl before.1 table)
+  step-strings before s next table (inr (inr (o, c, is))) = rw is (follows-refl before.1 table)
 
   pub each-strings : (sections : List Used) (before after : Parts) → IsTable before.1
       → with_each_part source before sections ≡ Ok after → Follows before.1 after.1
@@ -94,7 +87,7 @@ module _ (names : NamesTheSameLaw) (law : PackagedLaw) (source : Source) where
       let same : before ≡ after = cc in
       subst (λ (n : Parts). Follows before.1 n.1) same (follows-refl before.1 table)
   each-strings (s ∷ ss) before after table h =
-      let next = bind-inv (with_part source before s) _ after h in
+      let next = bind-was (with_part source before s) _ after h in
       let here = step-strings before s next.0 table (step source before s next.0 next.1).adds in
       let later = each-strings ss next.0 after here.table next.2 in
       record {

@@ -1,11 +1,9 @@
 -- The units of an input that are added stand in their rows.
-use Rattle.std.proofs.Common.{◌≡◌, ◌∙◌, ℕ, Bool, true, false, cond, List, [], ◌∷◌, ◌++◌, ap, sym}
-use Rattle.std.proofs.Common.{subst, refl, Ok}
+use Rattle.std.proofs.Common.{◌≡◌, ◌∙◌, ℕ, false, List, [], ◌∷◌, ◌++◌, ap, sym, subst, refl, Ok}
 use Rattle.std.specs.List.{list_any}
 use Rattle.std.proofs.lemmas.List.{append_assoc, append-nil, map-append}
 use Rattle.std.proofs.Math.Seq.{take-length}
 use Rattle.dwp_base.specs.declared.section.SectionKind.{SectionKind}
-use Rattle.dwp_base.specs.declared.section.SectionKind.TheVariants.{Str, CuIndex, TuIndex}
 use Rattle.dwp_base.specs.declared.endian.Endianness.{Endianness}
 use Rattle.dwp_base.specs.Sections.{same_kind}
 use Rattle.dwp_elf.specs.Contents.{content_of}
@@ -25,6 +23,7 @@ use Rattle.thorin_join.proofs.Rows.Stay.{Grows, grows-with_bytes, keep-lie, keep
 use Rattle.thorin_join.proofs.Rows.Stay.{rows-next}
 use Rattle.thorin_join.proofs.Parts.Appended.{content-with_bytes}
 use Rattle.thorin_join.proofs.Rows.OneAdded.{Fits, unit-added, row-name}
+use Rattle.dwp_base.proofs.Bools.{by-bool}
 
 -- ---- units whose names are new
 
@@ -33,18 +32,13 @@ AllNew names [] = Unit {0}
 AllNew names (u ∷ us) = (list_any (same_name u.0) names ≡ false) × AllNew (names ++ u.0 ∷ []) us
 
 -- so are those that are joined
-new-cond : {X : Type 0} (names : List DwarfObject) (u : DwarfObject × X)
-    (kept more : List (DwarfObject × X)) (b : Bool) → list_any (same_name u.0) names ≡ b
-    → AllNew names kept → AllNew (names ++ u.0 ∷ []) more → AllNew names (cond b kept (u ∷ more))
-new-cond names u kept more true e k m = k
-new-cond names u kept more false e k m = (e, m)
-
 pub joined-new : {X : Type 0} (names : List DwarfObject) (us : List (DwarfObject × X))
     → AllNew names (joining names us)
 joined-new names [] = tt
 joined-new names (u ∷ us) =
-    new-cond names u (joining names us) (joining (names ++ u.0 ∷ []) us) (list_any (same_name u.0)
-    names) refl (joined-new names us) (joined-new (names ++ u.0 ∷ []) us)
+    by-bool _ (list_any (same_name u.0) names)
+    (λ there. rw there (joined-new names us))
+    (λ new. rw new (new, joined-new (names ++ u.0 ∷ []) us))
 
 -- it depends on the names alone
 pub new-by-keys : {X Y : Type 0} (names : List DwarfObject) (us : List (DwarfObject × X))
@@ -166,15 +160,9 @@ units-added p (u ∷ us) ms (m ∷ added) new can rows =
           append_assoc (names_of p) (u.0 ∷ []) (keys us);
     }
 
--- sections that no unit's bytes go to
-pub str-other : (place : UnitSection) → same_kind (kind_at place) Str ≡ false
-str-other places.Info = refl
-str-other places.Types = refl
-
-pub cu-other : (place : UnitSection) → same_kind (kind_at place) CuIndex ≡ false
-cu-other places.Info = refl
-cu-other places.Types = refl
-
-pub tu-other : (place : UnitSection) → same_kind (kind_at place) TuIndex ≡ false
-tu-other places.Info = refl
-tu-other places.Types = refl
+-- a kind that is of neither section of units
+pub other-kind : (kind : SectionKind) → same_kind (kind_at places.Info) kind ≡ false
+    → same_kind (kind_at places.Types) kind ≡ false → (place : UnitSection)
+    → same_kind (kind_at place) kind ≡ false
+other-kind kind info types places.Info = info
+other-kind kind info types places.Types = types

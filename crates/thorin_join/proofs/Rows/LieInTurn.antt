@@ -1,6 +1,6 @@
 -- The units of a package lie one after another when units are added.
-use Rattle.std.proofs.Common.{◌≡◌, ◌∙◌, ℕ, ◌+◌, true, false, true≢false, cond, List, [], ◌∷◌, ◌++◌}
-use Rattle.std.proofs.Common.{length, ap, sym, refl, subst, Some, None, arith, length-append}
+use Rattle.std.proofs.Common.{Bool, ◌≡◌, ◌∙◌, ℕ, ◌+◌, true, false, true≢false, cond, List, [], ◌∷◌}
+use Rattle.std.proofs.Common.{◌++◌, length, ap, sym, refl, subst, Some, None, arith, length-append}
 use Rattle.std.proofs.Common.{append_assoc, append-nil}
 use Rattle.std.proofs.lemmas.List.Elements.{filter-append}
 use Rattle.dwp_base.specs.declared.endian.Endianness.{Endianness}
@@ -91,20 +91,14 @@ AllCanLie order (u ∷ us) = CanLie order u × AllCanLie order us
 
 module _ (order : Endianness) (c : Contents) (rows : List IndexEntry) (shared : IndexEntry)
     (name : DwarfObject) (x : List ℕ) where
-  rows-there : (place : UnitSection) → is_at place (row_at shared c name x place) ≡ true
-      → rows_at place (rows ++ row_at shared c name x place ∷ []) ≡ rows_at place rows ++ row_at
-      shared c name x place ∷ []
-  rows-there place at =
+  rows-at : (place other : UnitSection) (b : Bool)
+      → is_at other (row_at shared c name x place) ≡ b
+      → rows_at other (rows ++ row_at shared c name x place ∷ []) ≡ rows_at other rows ++ cond b
+      (row_at shared c name x place ∷ []) []
+  rows-at place other b at =
       let row = row_at shared c name x place in
-      filter-append (is_at place) rows (row ∷ []) ∙ ap (λ b. rows_at place rows ++ cond b
-      (row ∷ []) []) at
-
-  rows-else : (place other : UnitSection) → is_at other (row_at shared c name x place) ≡ false
-      → rows_at other (rows ++ row_at shared c name x place ∷ []) ≡ rows_at other rows
-  rows-else place other at =
-      let row = row_at shared c name x place in
-      filter-append (is_at other) rows (row ∷ []) ∙ ap (λ b. rows_at other rows ++ cond b (row ∷ [])
-      []) at ∙ append-nil (rows_at other rows)
+      filter-append (is_at other) rows (row ∷ []) ∙ ap (λ e. rows_at other rows ++ cond e (row ∷ [])
+      []) at
 
   module _ (place : UnitSection) (fits : Fits shared name x place) where
     abbrev row : IndexEntry
@@ -122,7 +116,7 @@ module _ (order : Endianness) (c : Contents) (rows : List IndexEntry) (shared : 
         let start : 0 + length (content_of (kind_at place) c) ≡ length (content_of (kind_at place)
         c) = omega arith in
         subst (λ l. Lie order place 0 l (content_of (kind_at place) (with_bytes (kind_at place) x
-        c))) (sym (rows-there place at))
+        c))) (sym (rows-at place place true at))
         (subst (Lie order place 0 (rows_at place rows ++ row ∷ []))
         (sym (content-put (kind_at place) x c))
         (lie-append order place 0 (rows_at place rows) (content_of (kind_at place) c) row x lie
@@ -137,7 +131,7 @@ module _ (order : Endianness) (c : Contents) (rows : List IndexEntry) (shared : 
         (with_bytes (kind_at place) x c))
     lie-else other at same lie =
         subst (λ l. Lie order other 0 l (content_of (kind_at other) (with_bytes (kind_at place) x
-        c))) (sym (rows-else place other at))
+        c))) (sym (rows-at place other false at ∙ append-nil (rows_at other rows)))
         (subst (Lie order other 0 (rows_at other rows)) (sym same) lie)
 
 -- one more unit
@@ -200,7 +194,7 @@ pub types-only : (name : DwarfObject) (kind : SectionKind) → place_for name ki
 types-only (Compilation id) kind h = absurd cc
 types-only (TypeUnit signature) kind h = (signature.0, refl)
 
-can-lie : (source : Source) (made : InProgress) (parts : Contents) (n : DwarfObject × NewUnit)
+pub can-lie : (source : Source) (made : InProgress) (parts : Contents) (n : DwarfObject × NewUnit)
     (r : DwarfObject × UnitRead)
     → IsAdded (adding source made parts) n r → Goes source.object.order r
     → CanLie source.object.order n

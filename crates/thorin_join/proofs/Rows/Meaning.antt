@@ -16,22 +16,22 @@ use Rattle.thorin_input.specs.Growing.{Contents, with_parts}
 use Rattle.thorin_input.specs.Indexes.{Source}
 use Rattle.thorin_join.specs.Meaning.{Meaning, pieces_by, part_by, offsets_by, lie_inside}
 use Rattle.thorin_join.specs.Meaning.{meaning_with, meaning_by}
-use Rattle.thorin_input.specs.Format.{is_copied}
+use Rattle.thorin_input.specs.Format.{is_copied, is_shared}
 use Rattle.thorin_join.specs.Represents.{LieInside, Shares}
 use Rattle.thorin_join.specs.Strings.{strings_of}
 use Rattle.thorin_input.specs.Used.{first}
-use Rattle.thorin_input.specs.Format.{is_shared}
 use Rattle.thorin_join.proofs.Rows.OfUnits.{shared-copied}
 use Rattle.thorin_join.proofs.Parts.Appended.{either}
 use Rattle.thorin_join.proofs.Rows.Ranges.{Lies}
 use Rattle.thorin_join.proofs.Parts.StringLists.{strings-there, strings-read}
-use Rattle.thorin_join.proofs.EachKind.{same-each}
+use Rattle.dwp_base.proofs.EveryKind.{same-each}
+use Rattle.dwp_base.specs.declared.section.Contribution.{Contribution}
 
--- the unit of a row, by its input's ranges, with all that belongs to it
+-- the unit of a row, which is this of these bytes, with all that belongs to it
 pub record RowMeans (source : Source) (before parts : Contents) (after : List (List ℕ))
-    (bytes : List ℕ) (ranges : Option Ranges) (row : IndexEntry) : Type 0 where
+    (bytes : List ℕ) (meaning : Option Meaning) (row : IndexEntry) : Type 0 where
   pub unit : Meaning
-  pub meaning : meaning_by source bytes ranges ≡ Some unit
+  pub meaning_is : meaning ≡ Some unit
   pub bytes_are : unit.bytes ≡ bytes
   pub encoding : row.encoding ≡ unit.encoding
   pub lie : LieInside (with_parts parts before) row
@@ -53,16 +53,15 @@ unshared row info types kind other =
 lie-inside : (contents : Contents) (row : IndexEntry) (part : SectionKind → List ℕ)
     → SharedLie contents row part → row.debug_info ≡ None → row.debug_types ≡ None
     → LieInside contents row
-lie-inside contents row part lies info types = record {
-  inside = λ kind range h. ⊎_elim
-      (λ shared. (lies kind shared).inside range h)
-      (λ other. absurd (none-some range (sym (unshared row info types kind other) ∙ h)))
-      (either (is_shared kind));
-  some = λ kind range h. ⊎_elim
-      (λ shared. (lies kind shared).some range h)
-      (λ other. absurd (none-some range (sym (unshared row info types kind other) ∙ h)))
-      (either (is_shared kind));
-}
+lie-inside contents row part lies info types =
+    let shared : (kind : SectionKind) (range : Contribution) → contribution_to kind row ≡ Some range
+    → is_shared kind ≡ true = λ kind range h. ⊎_elim (λ shared. shared)
+    (λ other. absurd (none-some range (sym (unshared row info types kind other) ∙ h)))
+    (either (is_shared kind)) in
+    record {
+      inside = λ kind range h. (lies kind (shared kind range h)).inside range h;
+      some = λ kind range h. (lies kind (shared kind range h)).some range h;
+    }
 
 -- string offsets read as those of the unit's ranges, with the strings of any table that begins with
 -- these
@@ -79,7 +78,7 @@ pub row-means : (source : Source) (before parts : Contents) (after : List (List 
     → part kind ≡ part_by source ranges kind) → lie_inside source ranges ≡ true
     → OffsetsRead source ranges after (part StrOffsets) → IsTable after
     → row.encoding ≡ source.encoding → row.debug_info ≡ None → row.debug_types ≡ None
-    → RowMeans source before parts after bytes ranges row
+    → RowMeans source before parts after bytes (meaning_by source bytes ranges) row
 unfolding meaning_by
 row-means source before parts after bytes ranges row part lies copied inside reads table
     encoding info types =
@@ -92,11 +91,11 @@ row-means source before parts after bytes ranges row part lies copied inside rea
       unit = record {
         bytes = bytes;
         pieces = pieces_by (part_by source ranges);
-        strings =
-            strings.0;
+        strings = strings.0;
         encoding = source.encoding;
       };
-      meaning = ap (λ b. cond b (meaning_with source bytes ranges (strings_of order source.encoding
+      meaning_is = ap (λ b.
+          cond b (meaning_with source bytes ranges (strings_of order source.encoding
           old offsets)) None) inside ∙ ap (meaning_with source bytes ranges) strings.1;
       bytes_are = refl;
       encoding = encoding;

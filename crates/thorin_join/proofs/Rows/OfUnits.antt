@@ -1,7 +1,7 @@
 -- A unit's own row in its input's indexes, and the row that it gets.
 use Rattle.std.proofs.Common.{◌≡◌, ◌∙◌, ℕ, Bool, true, false, cond, List, not, is_some, is_none}
-use Rattle.std.proofs.Common.{◌&&◌, ◌||◌, Result, Ok, Err, Option, Some, None, refl, sym, ap}
-use Rattle.std.proofs.Common.{true≢false, inl, inr}
+use Rattle.std.proofs.Common.{◌&&◌, ◌||◌, Ok, Option, Some, None, refl, sym, ap, true≢false, inl}
+use Rattle.std.proofs.Common.{inr}
 use Rattle.std.specs.Option.{option_and_then}
 use Rattle.std.proofs.lemmas.Option.{none-some}
 use Rattle.std.proofs.lemmas.Bool.{eqb-true}
@@ -9,20 +9,18 @@ use Rattle.dwp_base.specs.ByKind.{value_of}
 use Rattle.dwp_base.specs.Reading.{◌>>=◌, read_each}
 use Rattle.dwp_base.specs.Sections.{all_kinds, same_kind}
 use Rattle.dwp_base.proofs.KindsRead.{read-kind}
-use Rattle.dwp_base.proofs.Steps.{bind-was}
+use Rattle.dwp_base.proofs.Steps.{bind-was, same-ok, chosen}
 use Rattle.dwp_base.specs.declared.section.SectionKind.{SectionKind}
 use Rattle.dwp_base.specs.declared.section.SectionKind.TheVariants.{Info, Types, Abbrev, StrOffsets}
 use Rattle.dwp_base.specs.declared.section.Contribution.{Contribution}
 use Rattle.dwp_bytes.specs.declared.encoding.Encoding.{Encoding}
-use Rattle.dwp_bytes.specs.declared.fault.ReadError.{ReadError}
 use Rattle.dwp_dwarf.specs.Units.{Unit as Header}
 use Rattle.dwp_index.specs.Index.{Index, Ranges, row_in, range_in}
 use Rattle.dwp_table.specs.Objects.{identifier_of}
 use Rattle.dwp_table.specs.Probing.{found_row}
 use Rattle.dwp_table.specs.declared.object.DwarfObject.{DwarfObject}
 use Rattle.dwp_table.specs.declared.object.DwarfObject.TheVariants.{Compilation, TypeUnit}
-use Rattle.thorin_errors.specs.Fault.{Fault}
-use Rattle.thorin_errors.specs.Answers.{as_fault}
+use Rattle.thorin_errors.specs.Errors.{ErrorValue}
 use Rattle.thorin_packaged.specs.RowPlaces.{row_by_place}
 use Rattle.thorin_input.specs.Adjusting.{Adjustor, own_index, other_index, row_found, row_of}
 use Rattle.thorin_input.specs.Adjusting.{has_column_for, part_by_row, adjusted}
@@ -33,12 +31,12 @@ use Rattle.thorin_input.specs.Indexes.{Indexes, is_package, index_for, looked_up
 use Rattle.thorin_join.specs.Meaning.{read_of, placed_row}
 use Rattle.thorin_input.specs.Format.{is_copied, is_shared}
 use Rattle.thorin_input.specs.Rows.{whole_row, adjusted_part, unit_part, unit_row, own_range}
-use Rattle.thorin_input.specs.Rows.{number_by_place}
-use Rattle.thorin_input.specs.Rows.{is_same_row, row_test}
+use Rattle.thorin_input.specs.Rows.{number_by_place, is_same_row, row_test}
 use Rattle.thorin_join.proofs.Parts.OfPackages.{IsOneOf}
 use Rattle.thorin_join.proofs.Rows.Ranges.{Placed, whole_behind, placed-by, range-some, range-none}
-use Rattle.thorin_join.proofs.EachKind.{same-each}
-use Rattle.thorin_join.proofs.Steps.{ok-eq, bind-inv}
+use Rattle.dwp_base.proofs.EveryKind.{same-each}
+use Rattle.thorin_strings.proofs.NamedEntries.{as_error_ok}
+use Rattle.thorin_join.proofs.Steps.{kept}
 
 -- ---- kinds that units share
 pub shared-copied : (kind : SectionKind) → is_copied kind ≡ true → is_shared kind ≡ true
@@ -72,11 +70,6 @@ same-row (Some a) None h = absurd (true≢false (sym h))
 same-row None (Some b) h = absurd (true≢false (sym h))
 same-row None None h = absurd (true≢false (sym h))
 
-fault-ok : (f : ReadError → Fault) (r : Result Ranges ReadError) (x : Ranges)
-    → as_fault f r ≡ Ok x → r ≡ Ok x
-fault-ok f (Ok y) x h = ap (λ v. Ok v) (ok-eq {E = Fault} y x h)
-fault-ok f (Err e) x h = absurd cc
-
 own-by : (own : Option Index) (kind : SectionKind) (range : Contribution) (id : ℕ) (row : Ranges)
     → is_same_row (row_by_place own kind range) (looked_up own id) ≡ true → row_of own id ≡ Ok row
     → OwnRow own kind range id
@@ -86,7 +79,7 @@ own-by None kind range id row h found =
 own-by (Some index) kind range id row h found =
     let same = same-row (row_by_place (Some index) kind range) (found_row index.signatures
     index.rows id) h in
-    let there : row_in index same.0 ≡ Ok row = fault-ok _ (row_in index same.0) row
+    let there : row_in index same.0 ≡ Ok row = as_error_ok _ (row_in index same.0) row
     (ap (row_found index id) (sym same.2) ∙ found) in
     record {
       index = index;
@@ -99,20 +92,16 @@ own-by (Some index) kind range id row h found =
       found = found;
     }
 
-tested-by : (plain same : Bool) (e : Fault) → plain ≡ false → cond {A = Result (Unit {0}) Fault}
-    plain (Ok tt) (cond same (Ok tt) (Err e)) ≡ Ok tt → same ≡ true
-tested-by true same e apart h = absurd (true≢false apart)
-tested-by false true e apart h = refl
-tested-by false false e apart h = absurd cc
-
 tested : (indexes : Indexes) (kind : SectionKind) (name : DwarfObject) (unit : Header)
     → is_package indexes ≡ true → row_test indexes kind name unit ≡ Ok tt
     → is_same_row (number_by_place indexes kind name unit) (looked_up (index_for indexes name)
     (identifier_of name)) ≡ true
 unfolding row_test
 tested indexes kind name unit packed h =
-    tested-by (not (is_package indexes)) (is_same_row (number_by_place indexes kind name unit)
-    (looked_up (index_for indexes name) (identifier_of name))) _ (ap not packed) h
+    elim (chosen (not (is_package indexes)) _ _ (Ok tt) h) [
+      | inl plain ↦ absurd (true≢false (sym plain.0 ∙ ap not packed))
+      | inr rest ↦ (kept _ _ _ tt rest.1).0
+    ]
 
 pub one-of : (indexes : Indexes) (name : DwarfObject) (index : Index) → index_for indexes name ≡
     Some index → IsOneOf index indexes
@@ -166,7 +155,7 @@ adjusted-packed indexes name kind whole result packed h =
     let steps : by_row ≡ Ok result =
     sym (ap (λ b. cond b (Ok whole) by_row) (some-index indexes.compilations
     indexes.types packed)) ∙ h in
-    let parts = bind-inv (row_of (own_index (adjustor indexes kind) name) (identifier_of name))
+    let parts = bind-was (row_of (own_index (adjustor indexes kind) name) (identifier_of name))
     (part_by_row (adjustor indexes kind) name whole) result steps in (
       parts.0,
       ap (λ own. row_of own (identifier_of name)) (sym (own-index indexes kind name)) ∙
@@ -182,7 +171,8 @@ pub placed-part : (indexes : Indexes) (name : DwarfObject) (from : SectionKind)
     (range_in own.row kind) result
 placed-part indexes name from range kind front bytes result packed own h =
     let parts = adjusted-packed indexes name kind (whole_behind front bytes) result packed h in
-    let same : parts.0 ≡ own.row = ok-eq {E = Fault} parts.0 own.row (sym parts.1 ∙ own.found) in
+    let same : parts.0 ≡ own.row = same-ok {E = ErrorValue} parts.0 own.row
+    (sym parts.1 ∙ own.found) in
     let by_row : part_by_row (adjustor indexes kind) name (whole_behind front bytes) own.row ≡ Ok
     result = ap (part_by_row (adjustor indexes kind) name (whole_behind front bytes))
     (sym same) ∙ parts.2 in
@@ -211,13 +201,13 @@ is-unit_row indexes whole name row h =
     (contribution_to kind whole)) all_kinds) _ row h in
     let part = read-kind (λ kind. unit_part indexes name kind (contribution_to kind whole)) parts.0
     None parts.1 in
-    let is = ok-eq {E = Fault} _ row parts.2 in
+    let is = same-ok {E = ErrorValue} _ row parts.2 in
     record {
       encoding = ap (λ (e : IndexEntry). e.encoding) (sym is);
       info = ap (λ (e : IndexEntry). e.debug_info) (sym is) ∙ sym
-          (ok-eq {E = Fault} _ _ (part Info));
+          (same-ok {E = ErrorValue} _ _ (part Info));
       types = ap (λ (e : IndexEntry). e.debug_types) (sym is)
-          ∙ sym (ok-eq {E = Fault} _ _ (part Types));
+          ∙ sym (same-ok {E = ErrorValue} _ _ (part Types));
       parts = λ kind shared. ap (λ b. cond b (adjusted_part indexes name kind
           (contribution_to kind whole)) (Ok (contribution_to kind whole))) (sym shared)
           ∙ part kind ∙ ap Ok (sym (entry-part whole.encoding name (value_of None parts.0) kind

@@ -1,7 +1,7 @@
 -- A unit that is added stands in its row.
-use Rattle.std.proofs.Common.{◌≡◌, ◌∙◌, ℕ, ◌+◌, ◌-◌, ◌≤◌, ◌<◌, Bool, true, false, cond}
-use Rattle.std.proofs.Common.{List, [], ◌∷◌, ◌++◌, length, take, drop, ap, sym, refl, arith}
-use Rattle.std.proofs.Common.{length-append, Some, None, Option, Ok, nat_eq, subst, ◌⊎◌, inl, inr}
+use Rattle.std.proofs.Common.{◌≡◌, ◌∙◌, ℕ, ◌+◌, ◌-◌, ◌≤◌, ◌<◌, Bool, true, false, cond, List, []}
+use Rattle.std.proofs.Common.{◌∷◌, ◌++◌, length, take, drop, ap, sym, refl, arith, length-append}
+use Rattle.std.proofs.Common.{Some, None, Option, Ok, nat_eq, subst, ◌⊎◌, inl, inr}
 use Rattle.std.specs.Prelude.{slice_range}
 use Rattle.std.proofs.lemmas.Option.{same_Some}
 use Rattle.std.proofs.Math.Dec.{eqb-suc-zero}
@@ -11,7 +11,7 @@ use Rattle.dwp_base.specs.declared.section.SectionKind.TheVariants as kinds
 use Rattle.dwp_base.specs.declared.section.Contribution.{Contribution}
 use Rattle.dwp_base.specs.declared.endian.Endianness.{Endianness}
 use Rattle.dwp_base.specs.Sections.{same_kind}
-use Rattle.dwp_base.proofs.EveryKind.{same-self, is-same}
+use Rattle.dwp_base.proofs.EveryKind.{same-self, is-same, same-each}
 use Rattle.dwp_elf.specs.Contents.{content_of}
 use Rattle.dwp_bytes.specs.declared.encoding.Encoding.{Encoding}
 use Rattle.dwp_dwarf.specs.declared.unit.UnitSection.{UnitSection}
@@ -31,7 +31,6 @@ use Rattle.thorin_join.specs.Represents.{LieInside, Shares, IsRowOf}
 use Rattle.thorin_join.specs.State.{kind_at, row_at}
 use Rattle.thorin_join.proofs.Rows.Stay.{grows-with_bytes, keep-lie, keep-shares, part-inside}
 use Rattle.thorin_join.proofs.Parts.Appended.{content-with_bytes, copied-differ}
-use Rattle.thorin_join.proofs.EachKind.{same-each}
 
 not_empty : (x : List ℕ) → 0 < length x → nat_eq (length x) 0 ≡ false
 not_empty [] h = absurd (omega arith)
@@ -47,15 +46,11 @@ content-put k x c = content-with_bytes k k x c ∙ ap (λ e. cond e (content_of 
 abbrev pub range_for : SectionKind → List ℕ → Contents → Contribution
 range_for k x c = record { offset = record { 0 = length (content_of k c) }; size = length x }
 
-place-cond : (k : SectionKind) (x : List ℕ) (c : Contents) (b : Bool) → b ≡ false
-    → cond b None (Some (range_for k x c)) ≡ Some (range_for k x c)
-place-cond k x c b h = rw h
-
 pub place-put : (k : SectionKind) (x : List ℕ) (c : Contents) → 0 < length x
     → range_put k x c ≡ Some (range_for k x c)
-place-put k x c h = place-cond k x c (nat_eq (length x) 0) (not_empty x h)
+place-put k x c h = rw (not_empty x h) refl
 
-own-bytes : (a x : List ℕ) → slice_range (a ++ x) (length a) (length a + length x) ≡ x
+pub own-bytes : (a x : List ℕ) → slice_range (a ++ x) (length a) (length a + length x) ≡ x
 own-bytes a x =
     let e : length a + length x - length a ≡ length x = omega arith in
     ap (λ n. take n (drop (length a) (a ++ x))) e ∙ ap (take (length x))

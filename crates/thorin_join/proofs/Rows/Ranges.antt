@@ -1,23 +1,24 @@
 -- The ranges that a unit's row gets: where they lie, and what stands there.
-use Rattle.std.proofs.Common.{◌≡◌, ◌∙◌, ℕ, ◌+◌, ◌-◌, ◌<◌, ◌≤◌, Bool, true, false, cond, eqb, leb}
-use Rattle.std.proofs.Common.{List, [], ◌++◌, length, take, drop, slice_range, not, is_some, Result}
-use Rattle.std.proofs.Common.{Ok, Err, Option, Some, None, refl, sym, ap, if◌then◌else◌, arith}
+use Rattle.std.proofs.Common.{subst, subst₂, ◌≡◌, ◌∙◌, ℕ, ◌+◌, ◌-◌, ◌<◌, ◌≤◌, Bool, true, false}
+use Rattle.std.proofs.Common.{cond, eqb, leb, List, [], ◌++◌, length, take, drop, slice_range, not}
+use Rattle.std.proofs.Common.{is_some, Ok, Option, Some, None, refl, sym, ap, if◌then◌else◌, arith}
 use Rattle.std.specs.Option.{option_and_then}
-use Rattle.std.proofs.lemmas.List.{length-append, drop_at}
+use Rattle.std.proofs.lemmas.List.{length-append}
 use Rattle.std.proofs.Math.Seq.{take-length, drop-append-add}
 use Rattle.std.proofs.lemmas.Option.{none-some, same_Some}
 use Rattle.std.proofs.lemmas.Bool.{leb-true, le-leb, eqb-true, eqb-false}
 use Rattle.dwp_base.specs.declared.section.SectionKind.{SectionKind}
 use Rattle.dwp_base.specs.declared.section.Contribution.{Contribution}
-use Rattle.dwp_base.specs.Sections.{name_of}
 use Rattle.dwp_index.specs.Index.{Index, Ranges, row_in, column_place, contribution, range_in}
 use Rattle.dwp_index.specs.Package.{part_of, is_outside}
-use Rattle.dwp_bytes.specs.declared.fault.ReadError.{ReadError}
-use Rattle.thorin_errors.specs.Fault.{Fault, BadContribution}
+use Rattle.dwp_bytes.specs.declared.error.ReadError.{ReadError}
+use Rattle.thorin_errors.specs.Errors.{ErrorValue}
 use Rattle.thorin_packaged.specs.PackagedReading.{range_bytes}
 use Rattle.thorin_input.specs.Adjusting.{moved, moved_range, without_column}
 use Rattle.thorin_join.proofs.Parts.Appended.{no-bytes}
-use Rattle.thorin_join.proofs.Steps.{ok-eq}
+use Rattle.dwp_base.proofs.Steps.{same-ok}
+use Rattle.thorin_join.proofs.Steps.{kept}
+use Rattle.thorin_join.proofs.Rows.Stay.{part-inside}
 
 -- a range, where there is one, lies inside bytes and has some, and these bytes stand there
 pub record Lies (bytes : List ℕ) (range : Option Contribution) (part : List ℕ) : Type 0 where
@@ -36,11 +37,6 @@ lies-none bytes = record {
 abbrev range_at : ℕ → ℕ → Contribution
 range_at at size = record { offset = record { 0 = at }; size = size }
 
-part-within : (within : Bool) (bytes : List ℕ) (a b : ℕ) → within ≡ true
-    → cond within (slice_range bytes a b) [] ≡ slice_range bytes a b
-part-within true bytes a b h = refl
-part-within false bytes a b h = absurd cc
-
 -- a range of some bytes inside those behind others
 pub lies-at : (front bytes : List ℕ) (at size : ℕ) → 0 < size → at + size ≤ length bytes
     → Lies (front ++ bytes) (Some (range_at (length front + at) size))
@@ -57,8 +53,7 @@ lies-at front bytes at size some within =
           omega (arith, fits, start, many);
       some = λ r h. let many : size ≡ r.size = ap (λ (c : Contribution). c.size)
           (same_Some _ _ h) in omega (arith, some, many);
-      part_is = part-within (leb end (length (front ++ bytes))) (front ++ bytes) (length front + at)
-          end (le-leb end (length (front ++ bytes)) fits)
+      part_is = part-inside (front ++ bytes) (range_at (length front + at) size) fits
           ∙ ap (λ n. take n (drop (length front + at) (front ++ bytes))) count
           ∙ ap (take (at + size - at)) (drop-append-add front bytes at);
     }
@@ -70,32 +65,15 @@ whole_behind front bytes = if eqb (length bytes) 0 then None else Some
 
 lies-by : (front bytes : List ℕ) (none : Bool) → eqb (length bytes) 0 ≡ none → Lies (front ++ bytes)
     (cond none None (Some (range_at (length front) (length bytes)))) bytes
-lies-by front bytes true h =
-    let empty : bytes ≡ [] = no-bytes bytes (eqb-true (length bytes) 0 h) in
-    record {
-      inside = λ r h. absurd (none-some r h);
-      some = λ r h. absurd (none-some r h);
-      part_is = sym empty;
-    }
+lies-by front bytes true h = subst (Lies (front ++ bytes) None)
+    (sym (no-bytes bytes (eqb-true (length bytes) 0 h))) (lies-none (front ++ bytes))
 lies-by front bytes false h =
-    let long = length-append front bytes in
-    let fits : length front + length bytes ≤ length (front ++ bytes) = omega (arith, long) in
     let several = eqb-false (length bytes) 0 h in
-    let count : length front + length bytes - length front ≡ length bytes = omega arith in
-    record {
-      inside = λ r h. let start : length front ≡ r.offset.0 = ap (λ (c : Contribution). c.offset.0)
-          (same_Some _ _ h) in
-          let many : length bytes ≡ r.size = ap (λ (c : Contribution). c.size) (same_Some _ _ h) in
-          omega (arith, fits, start, many);
-      some = λ r h. let many : length bytes ≡ r.size = ap (λ (c : Contribution). c.size)
-          (same_Some _ _ h) in omega (arith, several, many);
-      part_is = part-within (leb (length front + length bytes) (length (front ++ bytes)))
-          (front ++ bytes) (length front) (length front + length bytes)
-          (le-leb (length front + length bytes) (length (front ++ bytes)) fits)
-          ∙ ap (λ n. take n (drop (length front) (front ++ bytes))) count
-          ∙ ap (take (length bytes)) (drop_at front bytes (length front) refl)
-          ∙ take-length bytes;
-    }
+    let start : length front + 0 ≡ length front = omega arith in
+    let count : 0 + length bytes - 0 ≡ length bytes = omega arith in
+    subst₂ (λ at part. Lies (front ++ bytes) (Some (range_at at (length bytes))) part) start
+    (ap (λ n. take n bytes) count ∙ take-length bytes)
+    (lies-at front bytes 0 (length bytes) (omega (arith, several)) (omega arith))
 
 pub lies-whole : (front bytes : List ℕ) → Lies (front ++ bytes) (whole_behind front bytes) bytes
 lies-whole front bytes = lies-by front bytes (eqb (length bytes) 0) refl
@@ -107,20 +85,20 @@ pub record Placed (front bytes : List ℕ) (range moved : Option Contribution) :
   pub within : (r : Contribution) → range ≡ Some r → r.offset.0 + r.size ≤ length bytes
   pub lies : Lies (front ++ bytes) moved (part_of bytes range)
 
-fits-by : (kind : SectionKind) (id : ℕ) (front bytes : List ℕ) (range : Contribution)
-    (result : Option Contribution) (fits : Bool) → leb (range.offset.0 + range.size) (length bytes)
-    ≡ fits → 0 < range.size
-    → cond {A = Result (Option Contribution) Fault} fits
-    (Ok (Some (range_at (length front + range.offset.0) range.size)))
-    (Err (BadContribution (name_of kind) id)) ≡ Ok result
-    → Placed front bytes (Some range) result
-fits-by kind id front bytes range result true fits some h =
+moved-by : (kind : SectionKind) (id : ℕ) (front bytes : List ℕ) (range : Contribution)
+    (result : Option Contribution) (none : Bool) → 0 < range.size
+    → moved kind id range (cond none None (Some (range_at (length front) (length bytes)))) ≡ Ok
+    result → Placed front bytes (Some range) result
+unfolding moved
+moved-by kind id front bytes range result true some h = absurd cc
+moved-by kind id front bytes range result false some h =
     let end = range.offset.0 + range.size in
-    let inside : end ≤ length bytes = leb-true end (length bytes) fits in
+    let fits = kept (leb end (length bytes)) _ _ result h in
+    let inside : end ≤ length bytes = leb-true end (length bytes) fits.0 in
     let same : Some (range_at (length front + range.offset.0) range.size) ≡ result =
-    ok-eq {E = Fault} _ _ h in
+    same-ok {E = ErrorValue} _ _ fits.1 in
     let there : part_of bytes (Some range) ≡ range_bytes bytes range =
-    part-within (leb end (length bytes)) bytes range.offset.0 end fits in
+    part-inside bytes range inside in
     record {
       within = λ r e. let is : range ≡ r = same_Some _ _ e in
           let at : range.offset.0 ≡ r.offset.0 = ap (λ (c : Contribution). c.offset.0) is in
@@ -128,16 +106,6 @@ fits-by kind id front bytes range result true fits some h =
           omega (arith, inside, at, many);
       lies = rw (← same) (rw there (lies-at front bytes range.offset.0 range.size some inside));
     }
-fits-by kind id front bytes range result false fits some h = absurd cc
-
-moved-by : (kind : SectionKind) (id : ℕ) (front bytes : List ℕ) (range : Contribution)
-    (result : Option Contribution) (none : Bool) → 0 < range.size
-    → moved kind id range (cond none None (Some (range_at (length front) (length bytes)))) ≡ Ok
-    result → Placed front bytes (Some range) result
-unfolding moved
-moved-by kind id front bytes range result true some h = absurd cc
-moved-by kind id front bytes range result false some h = fits-by kind id front bytes range result
-    (leb (range.offset.0 + range.size) (length bytes)) refl some h
 
 placed-none : (front bytes : List ℕ) (range result : Option Contribution) → range ≡ None
     → result ≡ None → Placed front bytes range result
@@ -153,13 +121,13 @@ pub placed-range : (kind : SectionKind) (id : ℕ) (front bytes : List ℕ)
     → moved_range kind id range (whole_behind front bytes) ≡ Ok result
     → Placed front bytes range result
 placed-range kind id front bytes None result some h = placed-none front bytes None result refl
-    (sym (ok-eq {E = Fault} None result h))
+    (sym (same-ok {E = ErrorValue} None result h))
 placed-range kind id front bytes (Some range) result some h = moved-by kind id front bytes range
     result (eqb (length bytes) 0) (some range refl) h
 
 without-none : (whole result : Option Contribution) → without_column whole ≡ Ok
     result → result ≡ None
-without-none None result h = sym (ok-eq {E = Fault} None result h)
+without-none None result h = sym (same-ok {E = ErrorValue} None result h)
 without-none (Some whole) result h = absurd cc
 
 -- by the columns that the indexes have
@@ -172,7 +140,7 @@ pub placed-by : (kind : SectionKind) (id : ℕ) (front bytes : List ℕ)
 placed-by kind id front bytes range result true other some none h = placed-range kind id front bytes
     range result some h
 placed-by kind id front bytes range result false true some none h = placed-none front bytes range
-    result (none refl) (sym (ok-eq {E = Fault} None result h))
+    result (none refl) (sym (same-ok {E = ErrorValue} None result h))
 placed-by kind id front bytes range result false false some none h = placed-none front bytes range
     result (none refl) (without-none (whole_behind front bytes) result h)
 
@@ -206,26 +174,12 @@ no-column : (f : ℕ → Option Contribution) (column : Option ℕ) → is_some 
 no-column f None h = refl
 no-column f (Some i) h = absurd cc
 
-same-columns : (kind : SectionKind) (index : Index) (row : Ranges) (there : Bool)
-    (offsets sizes : List ℕ) (e : ReadError)
-    → cond {A = Result Ranges ReadError} there
-    (Ok (record {
-      version = index.version;
-      columns = index.columns;
-      offsets = offsets;
-      sizes =
-          sizes;
-    })) (Err e) ≡ Ok row
-    → column_place row.version row.columns kind ≡ column_place index.version index.columns kind
-same-columns kind index row true offsets sizes e h =
-    ap (λ (r : Ranges). column_place r.version r.columns kind) (sym (ok-eq {E = ReadError} _ _ h))
-same-columns kind index row false offsets sizes e h = absurd cc
-
 row-like : (index : Index) (number : ℕ) (row : Ranges) (kind : SectionKind) → row_in index number ≡
     Ok row → column_place row.version row.columns kind ≡ column_place index.version
     index.columns kind
 unfolding row_in
-row-like index number row kind h = same-columns kind index row _ _ _ _ h
+row-like index number row kind h = ap (λ (r : Ranges). column_place r.version r.columns kind)
+    (sym (same-ok {E = ReadError} _ row (kept _ _ _ row h).1))
 
 -- without a column there is no range
 pub range-none : (index : Index) (number : ℕ) (row : Ranges) (kind : SectionKind)

@@ -1,39 +1,35 @@
 -- A unit that passed the tests stands in its row.
 use Rattle.std.proofs.Common.{◌≡◌, ◌∙◌, ℕ, ◌+◌, ◌≤◌, true, false, cond, List, [], ◌++◌, length, Ok}
-use Rattle.std.proofs.Common.{Option, Some, None, refl, sym, ap, subst, ⊎_elim, arith}
-use Rattle.std.proofs.Common.{Bool, ◌∷◌, is_none}
+use Rattle.std.proofs.Common.{Option, Some, None, refl, sym, ap, subst, arith, Bool, ◌∷◌, is_none}
 use Rattle.std.specs.Prelude.{IsOk}
 use Rattle.std.specs.Option.{option_and_then}
-use Rattle.std.proofs.lemmas.Bool.{le-leb}
 use Rattle.std.specs.List.{list_all, find}
 use Rattle.dwp_base.specs.declared.section.Contribution.{Contribution}
 use Rattle.dwp_base.specs.declared.section.SectionKind.{SectionKind}
 use Rattle.dwp_base.specs.declared.section.SectionKind.TheVariants.{StrOffsets, Str}
-use Rattle.dwp_base.proofs.Bools.{both}
+use Rattle.dwp_base.proofs.Bools.{both, by-bool}
 use Rattle.dwp_elf.specs.Contents.{content_of}
 use Rattle.dwp_index.specs.Index.{Ranges, range_in}
 use Rattle.dwp_index.specs.Package.{part_of}
 use Rattle.dwp_table.specs.Objects.{identifier_of}
 use Rattle.dwp_table.specs.declared.object.DwarfObject.{DwarfObject}
-use Rattle.thorin_packaged.specs.PackagedReading.{range_bytes}
 use Rattle.thorin_index.specs.Entries.{contribution_to}
 use Rattle.thorin_packaged.specs.ReadStrings.{ReadsAlike}
 use Rattle.thorin_index.specs.declared.entry.IndexEntry.{IndexEntry}
 use Rattle.thorin_strings.specs.Strings.{IsTable, data_of}
 use Rattle.thorin_input.specs.Growing.{Contents, with_parts, joined_parts}
 use Rattle.thorin_input.specs.Indexes.{Source, is_package, index_for}
-use Rattle.thorin_join.specs.Meaning.{Meaning, UnitRead, lie_inside, meaning_by, placed_row}
-use Rattle.thorin_join.specs.Meaning.{unit_meaning, shared_kinds}
+use Rattle.thorin_join.specs.Meaning.{UnitRead, lie_inside, meaning_by, placed_row, unit_meaning}
+use Rattle.thorin_join.specs.Meaning.{shared_kinds, part_by}
+use Rattle.thorin_input.specs.Format.{is_copied, is_shared}
 use Rattle.thorin_input.specs.Parts.{parts_of}
-use Rattle.thorin_join.specs.Represents.{LieInside, Shares}
 use Rattle.thorin_input.specs.Rows.{whole_row, adjusted_part, unit_row, own_range, row_test}
 use Rattle.thorin_input.specs.Used.{first}
 use Rattle.thorin_join.proofs.Parts.OffsetRanges.{empty-read}
-use Rattle.thorin_input.specs.Format.{is_shared}
-use Rattle.thorin_join.proofs.Rows.OfUnits.{OwnRow, one-of, adjusted-plain, placed-part}
-use Rattle.thorin_join.proofs.Rows.OfUnits.{IsUnitRow, is-unit_row, whole-part, whole-else, own-row}
+use Rattle.thorin_join.proofs.Rows.OfUnits.{OwnRow, one-of, adjusted-plain, placed-part, IsUnitRow}
+use Rattle.thorin_join.proofs.Rows.OfUnits.{is-unit_row, whole-part, whole-else, own-row}
 use Rattle.thorin_join.proofs.Parts.OfPackages.{RowsRead, parts-first, rows-read}
-use Rattle.thorin_join.proofs.Parts.Appended.{either, content-with_parts, parts-copied}
+use Rattle.thorin_join.proofs.Parts.Appended.{content-with_parts, parts-copied}
 use Rattle.thorin_join.proofs.Parts.OffsetLaws.{NamesTheSameLaw, ReadsAlikeLaw, ReadInTurnLaw}
 use Rattle.thorin_join.proofs.Parts.OffsetLaws.{PackagedLaw}
 use Rattle.thorin_join.proofs.Parts.PlainOffsets.{parts-read}
@@ -41,21 +37,16 @@ use Rattle.thorin_join.proofs.Parts.Strings.{parts-kept}
 use Rattle.thorin_join.proofs.Rows.Meaning.{RowMeans, SharedLie, OffsetsRead, row-means}
 use Rattle.thorin_join.proofs.Rows.Ranges.{Lies, Placed, whole_behind, lies-whole, not-outside}
 use Rattle.thorin_join.proofs.Rows.Ranges.{range-some}
-use Rattle.thorin_join.proofs.Steps.{ok-eq}
 use Rattle.thorin_join.proofs.EachKind.{copied-or-offsets}
-use Rattle.thorin_errors.specs.Fault.{Fault}
+use Rattle.thorin_errors.specs.Errors.{ErrorValue}
+use Rattle.dwp_base.proofs.Steps.{same-ok}
+use Rattle.thorin_join.proofs.Rows.Stay.{part-inside}
 
 -- a unit that passed the tests stands in its row
-pub record RowShares (source : Source) (before parts : Contents) (after : List (List ℕ))
-    (read : DwarfObject × UnitRead) (row : IndexEntry) : Type 0 where
-  pub unit : Meaning
-  pub meaning : unit_meaning source read ≡ Some unit
-  pub bytes : unit.bytes ≡ read.1.unit.whole.bytes
-  pub encoding : row.encoding ≡ unit.encoding
-  pub lie : LieInside (with_parts parts before) row
-  pub shares : Shares source.object.order (with_parts parts before) after row unit
-  pub no_info : row.debug_info ≡ None
-  pub no_types : row.debug_types ≡ None
+abbrev pub RowShares : Source → (before parts : Contents) → List (List ℕ) → DwarfObject × UnitRead
+    → IndexEntry → Type 0
+RowShares source before parts after read row = RowMeans source before parts after
+    read.1.unit.whole.bytes (unit_meaning source read) row
 
 abbrev pub RowsLaw : Type 0
 RowsLaw = (source : Source) (before : Contents) (strings : List (List ℕ)) (parts : Contents)
@@ -73,12 +64,6 @@ none-found test fails [] shared = refl
 none-found test fails (kind ∷ kinds) shared =
     let each = both (is_shared kind) (list_all is_shared kinds) shared in
     rw (fails kind each.0) (none-found test fails kinds each.1)
-
--- the bytes of a range that lies inside
-part-there : (bytes : List ℕ) (range : Contribution) → range.offset.0 + range.size ≤ length bytes
-    → part_of bytes (Some range) ≡ range_bytes bytes range
-part-there bytes range inside = ap (λ b. cond b (range_bytes bytes range) [])
-    (le-leb (range.offset.0 + range.size) (length bytes) inside)
 
 -- ---- a plain input
 lies-in : (before parts : Contents) (kind : SectionKind) (range : Option Contribution)
@@ -109,7 +94,7 @@ module _ (source : Source) (before parts : Contents) (read : DwarfObject × Unit
   plain-lies : is_package source.indexes ≡ false → SharedLie (with_parts parts before) row (λ kind.
       joined_parts kind parts)
   plain-lies plain kind shared =
-      let is : contribution_to kind whole ≡ contribution_to kind row = ok-eq {E = Fault} _ _
+      let is : contribution_to kind whole ≡ contribution_to kind row = same-ok {E = ErrorValue} _ _
       (sym (adjusted-plain source.indexes name kind (contribution_to kind whole) plain) ∙
       made.parts kind shared) in
       let range : whole_behind (content_of kind before) (joined_parts kind parts) ≡ contribution_to
@@ -172,7 +157,11 @@ module _ (source : Source) (before parts : Contents) (read : DwarfObject × Unit
             let one = reads.rows own.index (one-of source.indexes read.0 own.index own.is)
             own.number own.row range own.there is (omega (arith, inside, size))
             (range-some own.row StrOffsets range is) final table kept i in
-            rw (part-there old range (omega (arith, inside, size)), part-there new range inside) one
+            rw (
+              part-inside old range (omega (arith, inside, size)),
+              part-inside new
+                  range inside,
+            ) one
 
 -- ---- both
 unit-plain : (source : Source) (read : DwarfObject × UnitRead) → is_package source.indexes ≡ false
@@ -191,82 +180,61 @@ unit-packed source read row packed placed =
     (meaning_by source read.1.unit.whole.bytes None)) packed
     ∙ ap (option_and_then (λ r. meaning_by source read.1.unit.whole.bytes (Some r))) placed
 
-shares-by : (source : Source) (before parts : Contents) (after : List (List ℕ)) (read : DwarfObject
-    × UnitRead) (row : IndexEntry) (ranges : Option Ranges)
-    → unit_meaning source read ≡ meaning_by source read.1.unit.whole.bytes ranges
-    → row.debug_info ≡ None → row.debug_types ≡ None
-    → RowMeans source before parts after read.1.unit.whole.bytes ranges row
-    → RowShares source before parts after read row
-shares-by source before parts after read row ranges same info types means = record {
-  unit = means.unit;
-  meaning = same ∙ means.meaning;
-  bytes = means.bytes_are;
-  encoding = means.encoding;
-  lie = means.lie;
-  shares = means.shares;
-  no_info = info;
-  no_types = types;
-}
+module _ (names : NamesTheSameLaw) (alike : ReadsAlikeLaw) (in_turn : ReadInTurnLaw)
+    (law : PackagedLaw) (source : Source) (before : Contents) (strings : List (List ℕ))
+    (parts : Contents) (after : List (List ℕ)) (read : DwarfObject × UnitRead) (row : IndexEntry)
+    (table : IsTable strings) (h : parts_of source strings ≡ Ok (parts, after)) where
+  abbrev Made : Type 0
+  Made = IsUnitRow source.indexes (whole_row source.encoding before parts) read.0 row
 
-shares-plain : NamesTheSameLaw → ReadsAlikeLaw → ReadInTurnLaw → PackagedLaw
-    → (source : Source) (before : Contents) (strings : List (List ℕ)) (parts : Contents)
-    (after : List (List ℕ)) (read : DwarfObject × UnitRead) (row : IndexEntry)
-    → is_package source.indexes ≡ false → IsTable strings → parts_of source strings ≡ Ok
-    (parts, after) → IsUnitRow source.indexes (whole_row source.encoding before parts) read.0
-    row → RowShares source before parts after read row
-shares-plain names alike in_turn law source before strings parts after read row plain table h made =
-    let kept = parts-kept names law source strings parts after table h in
-    let info = row-info source before parts read row made in
-    let types = row-types source before parts read row made in
-    shares-by source before parts after read row None (unit-plain source read plain) info types
-    (row-means source before parts after read.1.unit.whole.bytes None row (λ kind.
-    joined_parts kind parts)
-    (plain-lies source before parts read row made plain)
-    (parts-copied source strings parts after h)
-    refl
-    (λ final final_table longer i. let one = parts-read names alike in_turn source plain strings
-    parts after table h final final_table longer i in
-    record { readable = one.1; same = one.0 })
-    kept.table
-    (row-encoding source before parts read row made) info types)
+  -- the unit by these ranges, which has these parts
+  shares-by : Made → (ranges : Option Ranges) (part : SectionKind → List ℕ)
+      → unit_meaning source read ≡ meaning_by source read.1.unit.whole.bytes ranges
+      → SharedLie (with_parts parts before) row part → ((kind : SectionKind)
+      → is_copied kind ≡ true → part kind ≡ part_by source ranges kind)
+      → lie_inside source ranges ≡ true → OffsetsRead source ranges after (part StrOffsets)
+      → RowShares source before parts after read row
+  shares-by made ranges part is lies copied inside reads =
+      subst (λ m. RowMeans source before parts after read.1.unit.whole.bytes m row) (sym is)
+      (row-means source before parts after read.1.unit.whole.bytes ranges row part lies copied
+      inside reads (parts-kept names law source strings parts after table h).table
+      (row-encoding source before parts read row made) (row-info source before parts read row made)
+      (row-types source before parts read row made))
 
-shares-packed : NamesTheSameLaw → PackagedLaw → (source : Source) (before : Contents)
-    (strings : List (List ℕ)) (parts : Contents) (after : List (List ℕ)) (read : DwarfObject
-    × UnitRead) (row : IndexEntry)
-    → is_package source.indexes ≡ true → IsTable strings → parts_of source strings ≡ Ok
-    (parts, after) → row_test source.indexes read.1.from read.0 read.1.unit ≡ Ok tt
-    → IsUnitRow source.indexes (whole_row source.encoding before parts) read.0 row
-    → RowShares source before parts after read row
-shares-packed names law source before strings parts after read row packed table h test made =
-    let kept = parts-kept names law source strings parts after table h in
-    let info = row-info source before parts read row made in
-    let types = row-types source before parts read row made in
-    let own = own-row source.indexes (whole_row source.encoding before parts) read.1.from read.0
-    read.1.unit row packed test made in
-    let firsts = parts-first source packed strings parts after h in
-    let reads = rows-read names law source packed strings parts after table h in
-    let longs : (kind : SectionKind) → is_shared kind ≡ true
-    → length (first kind source.object.sections) ≡ length (joined_parts kind parts) =
-    copied-or-offsets (λ kind. length (first kind source.object.sections) ≡ length
-    (joined_parts kind parts)) (λ kind copied. ap length (sym (firsts kind copied)))
-    (sym reads.size) in
-    shares-by source before parts after read row (Some own.row) (unit-packed source read own.row
-    packed own.placed) info types
-    (row-means source before parts after read.1.unit.whole.bytes (Some own.row) row (λ kind.
-    part_of (joined_parts kind parts) (range_in own.row kind))
-    (packed-lies source before parts read row made packed own)
-    (λ kind copied. ap (λ v. part_of v (range_in own.row kind)) (firsts kind copied))
-    (packed-inside source before parts read row made packed own longs)
-    (packed-reads source before parts read row made packed own after reads)
-    kept.table
-    (row-encoding source before parts read row made) info types)
+  shares-plain : Made → is_package source.indexes ≡ false
+      → RowShares source before parts after read row
+  shares-plain made plain =
+      shares-by made None (λ kind. joined_parts kind parts) (unit-plain source read plain)
+      (plain-lies source before parts read row made plain)
+      (parts-copied source strings parts after h)
+      refl
+      (λ final final_table longer i. let one = parts-read names alike in_turn source plain strings
+      parts after table h final final_table longer i in
+      record { readable = one.1; same = one.0 })
+
+  shares-packed : Made → row_test source.indexes read.1.from read.0 read.1.unit ≡ Ok tt
+      → is_package source.indexes ≡ true → RowShares source before parts after read row
+  shares-packed made test packed =
+      let own = own-row source.indexes (whole_row source.encoding before parts) read.1.from read.0
+      read.1.unit row packed test made in
+      let firsts = parts-first source packed strings parts after h in
+      let reads = rows-read names law source packed strings parts after table h in
+      let longs : (kind : SectionKind) → is_shared kind ≡ true
+      → length (first kind source.object.sections) ≡ length (joined_parts kind parts) =
+      copied-or-offsets (λ kind. length (first kind source.object.sections) ≡ length
+      (joined_parts kind parts)) (λ kind copied. ap length (sym (firsts kind copied)))
+      (sym reads.size) in
+      shares-by made (Some own.row) (λ kind. part_of (joined_parts kind parts)
+      (range_in own.row kind)) (unit-packed source read own.row packed own.placed)
+      (packed-lies source before parts read row made packed own)
+      (λ kind copied. ap (λ v. part_of v (range_in own.row kind)) (firsts kind copied))
+      (packed-inside source before parts read row made packed own longs)
+      (packed-reads source before parts read row made packed own after reads)
 
 pub row-shares : NamesTheSameLaw → ReadsAlikeLaw → ReadInTurnLaw → PackagedLaw → RowsLaw
 row-shares names alike in_turn law source before strings parts after read row table h test is =
     let made = is-unit_row source.indexes (whole_row source.encoding before parts) read.0 row is in
-    ⊎_elim
-    (λ packed. shares-packed names law source before strings parts after read row packed
-    table h test made)
-    (λ plain. shares-plain names alike in_turn law source before strings parts after read row
-    plain table h made)
-    (either (is_package source.indexes))
+    by-bool _ (is_package source.indexes)
+    (shares-packed names alike in_turn law source before strings parts after read row table h made
+    test)
+    (shares-plain names alike in_turn law source before strings parts after read row table h made)

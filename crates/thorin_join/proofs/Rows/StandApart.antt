@@ -1,12 +1,10 @@
 -- The ranges of an input's units lie behind those of the inputs before it.
 use Rattle.std.proofs.Common.{◌≡◌, ◌∙◌, ℕ, ◌+◌, ◌≤◌, Bool, true, false, cond, is_none, ◌&&◌, nat_eq}
-use Rattle.std.proofs.Common.{nat_le, List, [], ◌∷◌, ◌++◌, length, ap, sym, subst, refl, Result, Ok}
-use Rattle.std.proofs.Common.{Err, Option, Some, None, ◌⊎◌, inl, inr, ⊎_elim, arith}
+use Rattle.std.proofs.Common.{nat_le, List, [], ◌∷◌, ◌++◌, length, ap, sym, subst, refl, Ok, Option}
+use Rattle.std.proofs.Common.{Some, None, ◌⊎◌, inl, inr, ⊎_elim, arith}
 use Rattle.std.specs.List.{list_any}
-use Rattle.std.proofs.lemmas.List.{append_assoc, append-nil, length-append}
+use Rattle.std.proofs.lemmas.List.{append_assoc, append-nil}
 use Rattle.std.proofs.lemmas.Option.{none-some, same_Some}
-use Rattle.dwp_base.specs.Reading.{◌>>=◌}
-use Rattle.dwp_base.specs.Sections.{name_of}
 use Rattle.dwp_base.specs.declared.section.SectionKind.{SectionKind}
 use Rattle.dwp_base.specs.declared.section.Contribution.{Contribution}
 use Rattle.dwp_base.specs.declared.endian.Endianness.{Endianness}
@@ -16,16 +14,14 @@ use Rattle.dwp_dwarf.specs.declared.unit.UnitSection.{UnitSection}
 use Rattle.dwp_index.specs.Index.{range_in}
 use Rattle.dwp_table.specs.Objects.{identifier_of}
 use Rattle.dwp_table.specs.declared.object.DwarfObject.{DwarfObject}
-use Rattle.thorin_errors.specs.Fault.{Fault, BadContribution}
+use Rattle.thorin_errors.specs.Errors.{ErrorValue}
 use Rattle.thorin_input.specs.Adjusting.{Adjustor, own_index, other_index, row_of, has_column_for}
 use Rattle.thorin_input.specs.Adjusting.{moved, moved_range, without_column, part_by_row, adjusted}
 use Rattle.thorin_index.specs.Entries.{contribution_to}
 use Rattle.thorin_index.specs.declared.entry.IndexEntry.{IndexEntry}
-use Rattle.thorin_join.specs.Builder.{package_or_new, order_test, with_source_or_new, with_units}
-use Rattle.thorin_join.specs.Builder.{with_input}
-use Rattle.thorin_input.specs.Encodings.{encoding_of}
-use Rattle.thorin_input.specs.Growing.{Contents, HasFront, range_put, joined_parts, with_parts}
-use Rattle.thorin_input.specs.Indexes.{Indexes, Source, indexes_of}
+use Rattle.thorin_join.specs.Builder.{package_or_new, with_input}
+use Rattle.thorin_input.specs.Growing.{Contents, range_put, joined_parts, with_parts}
+use Rattle.thorin_input.specs.Indexes.{Indexes, Source}
 use Rattle.thorin_join.specs.Meaning.{Members, UnitRead}
 use Rattle.thorin_input.specs.Names.{same_name}
 use Rattle.thorin_input.specs.NewUnits.{NewUnit, new_units}
@@ -36,16 +32,18 @@ use Rattle.thorin_join.specs.StandApart.{rows_begun, contents_begun, LieBehind, 
 use Rattle.thorin_join.specs.State.{InProgress, names_of, kind_at, row_at, adding}
 use Rattle.thorin_join.specs.State.{abbreviations_test, with_unit_added, with_new_unit}
 use Rattle.thorin_join.specs.State.{with_new_units, with_all, with_source}
-use Rattle.thorin_input.specs.Used.{opened, has_info, input_file_of}
 use Rattle.thorin_join.proofs.Units.JoinedByName.{AreAdded, units-joined}
-use Rattle.thorin_join.proofs.Rows.Stay.{Grows, grows-trans, grows-with_bytes}
+use Rattle.thorin_join.proofs.Rows.Stay.{Grows, front-long, grows-trans, grows-with_bytes}
 use Rattle.thorin_input.specs.Format.{is_shared}
 use Rattle.thorin_join.proofs.Rows.OfUnits.{is-unit_row, whole-part, whole-else}
 use Rattle.thorin_join.proofs.Parts.Appended.{either}
 use Rattle.thorin_join.proofs.Joined.Source.{grows-with_parts}
-use Rattle.thorin_join.proofs.Steps.{ok-eq, bind-inv}
 use Rattle.thorin_join.proofs.Rows.OneAdded.{range_for, row-part}
 use Rattle.thorin_join.proofs.Rows.Meaning.{unshared}
+use Rattle.dwp_base.proofs.Steps.{bind-was, same-ok, chosen}
+use Rattle.dwp_base.proofs.Bools.{by-bool}
+use Rattle.thorin_join.proofs.Steps.{kept}
+use Rattle.thorin_join.proofs.Joined.Taken.{takes}
 
 -- ---- a range that begins at a place or behind
 abbrev Behind : ℕ → Option Contribution → Type 0
@@ -55,35 +53,26 @@ moved-behind : (kind : SectionKind) (id n : ℕ) (range : Contribution)
     (whole part : Option Contribution) → Behind n whole → moved kind id range whole ≡ Ok
     part → Behind n part
 unfolding moved
-moved-behind kind id n range None part h is = absurd cc
-moved-behind kind id n range (Some w) part h is =
-    by (nat_le (range.offset.0 + range.size) w.size) is
-  where
-    by : (b : Bool) → cond {A = Result (Option Contribution) Fault} b
-        (Ok (Some (record {
-          offset = record { 0 = w.offset.0 + range.offset.0 };
-          size =
-              range.size;
-        }))) (Err (BadContribution (name_of kind) id)) ≡ Ok part → Behind n part
-    by true e r k =
-        let start : w.offset.0 + range.offset.0 ≡ r.offset.0 = ap (λ (c : Contribution). c.offset.0)
-        (same_Some _ _ (ok-eq {E = Fault} _ _ e ∙ k)) in
-        let low = h w refl in
-        omega (arith, start, low)
-    by false e r k = absurd cc
+moved-behind kind id n range None part h is r k = absurd cc
+moved-behind kind id n range (Some w) part h is r k =
+    let fits = kept (nat_le (range.offset.0 + range.size) w.size) _ _ part is in
+    let start : w.offset.0 + range.offset.0 ≡ r.offset.0 = ap (λ (c : Contribution). c.offset.0)
+    (same_Some _ _ (same-ok {E = ErrorValue} _ _ fits.1 ∙ k)) in
+    let low = h w refl in
+    omega (arith, start, low)
 
 column-behind : (kind : SectionKind) (id n : ℕ) (range whole part : Option Contribution)
     (own other : Bool) → Behind n whole
     → cond own (moved_range kind id range whole) (cond other (Ok None) (without_column whole)) ≡ Ok
     part → Behind n part
 column-behind kind id n None whole part true other h is r k =
-    absurd (none-some r (ok-eq {E = Fault} None part is ∙ k))
+    absurd (none-some r (same-ok {E = ErrorValue} None part is ∙ k))
 column-behind kind id n (Some range) whole part true other h is r k = moved-behind kind id n range
     whole part h is r k
 column-behind kind id n range whole part false true h is r k =
-    absurd (none-some r (ok-eq {E = Fault} None part is ∙ k))
+    absurd (none-some r (same-ok {E = ErrorValue} None part is ∙ k))
 column-behind kind id n range None part false false h is r k =
-    absurd (none-some r (ok-eq {E = Fault} None part is ∙ k))
+    absurd (none-some r (same-ok {E = ErrorValue} None part is ∙ k))
 column-behind kind id n range (Some w) part false false h is r k = absurd cc
 
 abbrev adjustor : Indexes → SectionKind → Adjustor
@@ -97,19 +86,16 @@ adjusted-behind : (indexes : Indexes) (name : DwarfObject) (kind : SectionKind) 
     (whole part : Option Contribution) → Behind n whole
     → adjusted_part indexes name kind whole ≡ Ok part → Behind n part
 unfolding adjusted
-adjusted-behind indexes name kind n whole part h is = by (is_none indexes.compilations && is_none
-    indexes.types) is
-  where
-    by : (b : Bool) → cond b (Ok whole) (row_of (own_index (adjustor indexes kind) name)
-        (identifier_of name) >>= part_by_row (adjustor indexes kind) name whole) ≡ Ok
-        part → Behind n part
-    by true e = subst (Behind n) (ok-eq {E = Fault} whole part e) h
-    by false e =
-        let row = bind-inv (row_of (own_index (adjustor indexes kind) name) (identifier_of name))
-        (part_by_row (adjustor indexes kind) name whole) part e in
-        column-behind kind (identifier_of name) n (range_in row.0 kind) whole part
-        (has_column_for kind (own_index (adjustor indexes kind) name))
-        (has_column_for kind (other_index (adjustor indexes kind) name)) h row.2
+adjusted-behind indexes name kind n whole part h is =
+    elim (chosen (is_none indexes.compilations && is_none indexes.types) _ _ (Ok part) is) [
+      | inl plain ↦ subst (Behind n) (same-ok {E = ErrorValue} whole part plain.1) h
+      | inr packed ↦
+          let row = bind-was (row_of (own_index (adjustor indexes kind) name) (identifier_of name))
+          (part_by_row (adjustor indexes kind) name whole) part packed.1 in
+          column-behind kind (identifier_of name) n (range_in row.0 kind) whole part
+          (has_column_for kind (own_index (adjustor indexes kind) name))
+          (has_column_for kind (other_index (adjustor indexes kind) name)) h row.2
+    ]
 
 put-behind : (kind : SectionKind) (x : List ℕ) (c : Contents) → Behind (length (content_of kind c))
     (range_put kind x c)
@@ -142,11 +128,6 @@ row-behind source before parts name row h kind range is =
     (either (is_shared kind))
 
 -- with its own bytes behind contents that grew
-front-long : (a b : List ℕ) → HasFront a b → length a ≤ length b
-front-long a b h =
-    let long : length b ≡ length a + length h.rest = ap length h.is ∙ length-append a h.rest in
-    omega (arith, long)
-
 own-behind : (base c : Contents) (row : IndexEntry) (name : DwarfObject) (x : List ℕ)
     (place : UnitSection) → Grows base c → LieBehind base row
     → LieBehind base (row_at row c name x place)
@@ -184,41 +165,34 @@ record Appended (base : Contents) (rows now : List IndexEntry) : Type 0 where
   is : now ≡ rows ++ added
   behind : EachRow (LieBehind base) added
 
-one-more : (base : Contents) (p : InProgress) (u : DwarfObject × NewUnit)
-    (us : List (DwarfObject × NewUnit)) (there : Bool) → Grows base p.file.contents
-    → LieBehind base u.1.row
-    → Appended base p.rows (with_new_units p us).rows → Appended base (with_unit_added p u).rows
-    (with_new_units (with_unit_added p u) us).rows
-    → Appended base p.rows (with_new_units (cond there p (with_unit_added p u)) us).rows
-one-more base p u us true grows h same more = same
-one-more base p u us false grows h same more =
-    let c = p.file.contents in
-    let row = row_at u.1.row c u.0 u.1.bytes u.1.place in
-    record {
-      added = row ∷ more.added;
-      is = more.is ∙ append_assoc p.rows (row ∷ []) more.added;
-      behind = (own-behind base c u.1.row u.0 u.1.bytes u.1.place grows h, more.behind);
-    }
-
 units-behind : (base : Contents) (p : InProgress) (us : List (DwarfObject × NewUnit))
     → Grows base p.file.contents → EachNew base us → Appended base p.rows (with_new_units p us).rows
 unfolding with_new_units with_new_unit
 units-behind base p [] grows all = record { added = []; is = sym (append-nil p.rows); behind = tt }
 units-behind base p (u ∷ us) grows all =
-    one-more base p u us (list_any (same_name u.0) (names_of p)) grows all.0
-    (units-behind base p us grows all.1)
-    (units-behind base (with_unit_added p u) us (grows-trans base p.file.contents
-    (with_unit_added p u).file.contents grows (grows-with_bytes (kind_at u.1.place) u.1.bytes
-    p.file.contents)) all.1)
+    by-bool _ (list_any (same_name u.0) (names_of p))
+    (λ there. rw (there, with_new_units) (units-behind base p us grows all.1))
+    (λ new. let more = units-behind base (with_unit_added p u) us (grows-trans base
+    p.file.contents (with_unit_added p u).file.contents grows
+    (grows-with_bytes (kind_at u.1.place) u.1.bytes p.file.contents)) all.1 in
+    let row = row_at u.1.row p.file.contents u.0 u.1.bytes u.1.place in
+    rw (new, with_new_units) (record {
+      added = row ∷ more.added;
+      is = more.is ∙ append_assoc p.rows (row ∷ []) more.added;
+      behind = (
+        own-behind base p.file.contents u.1.row u.0 u.1.bytes u.1.place grows all.0,
+        more.behind,
+      );
+    }))
 
 -- ---- an input
 source-behind : (source : Source) (before now : InProgress) → with_source source before ≡ Ok now
     → Appended before.file.contents before.rows now.rows
 unfolding with_source with_all
 source-behind source before now h =
-    let s1 = bind-inv (parts_of source before.strings) _ now h in
-    let s2 = bind-inv (abbreviations_test source.object) _ now s1.2 in
-    let s3 = bind-inv (new_units (adding source before s1.0.0)) _ now s2.2 in
+    let s1 = bind-was (parts_of source before.strings) _ now h in
+    let s2 = bind-was (abbreviations_test source.object) _ now s1.2 in
+    let s3 = bind-was (new_units (adding source before s1.0.0)) _ now s2.2 in
     let new = s3.0 in
     let j = units-joined (adding source before s1.0.0) new s3.1 in
     let c = before.file.contents in
@@ -229,7 +203,8 @@ source-behind source before now h =
     } in
     let a = units-behind c q new.units (grows-with_parts s1.0.0 c) (added-behind source before
     s1.0.0 new.units _ j.are) in
-    subst (λ (n : InProgress). Appended c before.rows n.rows) (ok-eq {E = Fault} _ now s3.2) a
+    subst (λ (n : InProgress). Appended c before.rows n.rows)
+    (same-ok {E = ErrorValue} _ now s3.2) a
 
 each-inside : (order : Endianness) (c : Contents) (strings : List (List ℕ)) (rows : List IndexEntry)
     (ms : Members) → AreRowsOf order c strings rows ms → EachRow (LieInside c) rows
@@ -249,64 +224,27 @@ first-inside None sound = tt
 first-inside (Some made) sound = sound-inside made sound
 
 -- a package that an input begins has nothing
-new-rows : (file : Elf) (begun : Option InProgress) → (package_or_new file begun).rows ≡
-    rows_begun begun
-new-rows file None = refl
-new-rows file (Some made) = refl
-
-new-contents : (file : Elf) (begun : Option InProgress) → (package_or_new file begun).file.contents
-    ≡ contents_begun begun
-new-contents file None = refl
-new-contents file (Some made) = refl
-
-abbrev AppendedBegun : Option InProgress → Option InProgress → Type 0
-AppendedBegun begun now = (made : InProgress) → now ≡ Some made → Appended (contents_begun begun)
-    (rows_begun begun) made.rows
-
 is-made : (begun : Option InProgress) (file : Elf) (made next : InProgress)
     → Appended (package_or_new file begun).file.contents (package_or_new file begun).rows
     next.rows → next ≡ made
     → Appended (contents_begun begun) (rows_begun begun) made.rows
-is-made begun file made next a h =
-    subst (λ c. Appended c (rows_begun begun) made.rows) (new-contents file begun)
-    (subst (λ r. Appended (package_or_new file begun).file.contents r made.rows)
-    (new-rows file begun)
-    (subst (λ (n : InProgress). Appended (package_or_new file begun).file.contents
-    (package_or_new file begun).rows n.rows) h a))
-
-units-appended : (file : Elf) (begun now : Option InProgress) → with_units file begun ≡ Ok now
-    → AppendedBegun begun now
-unfolding with_units with_source_or_new
-units-appended file begun now h made is =
-    let s1 = bind-inv (input_file_of file) _ now h in
-    let s2 = bind-inv (encoding_of s1.0) _ now s1.2 in
-    let s3 = bind-inv (order_test s1.0.order begun) _ now s2.2 in
-    let s4 = bind-inv (indexes_of s1.0 s2.0) _ now s3.2 in
-    let source : Source = record { object = s1.0; encoding = s2.0; indexes = s4.0 } in
-    let s5 = bind-inv (with_source source (package_or_new file begun)) _ now s4.2 in
-    is-made begun file made s5.0 (source-behind source (package_or_new file begun) s5.0 s5.1)
-    (same_Some _ _ (ok-eq {E = Fault} _ now s5.2 ∙ is))
-
-info-appended : (file : Elf) (begun now : Option InProgress) (b : Bool)
-    → cond b (with_units file begun) (Ok (Some (package_or_new file begun))) ≡ Ok now
-    → AppendedBegun begun now
-info-appended file begun now true h made is = units-appended file begun now h made is
-info-appended file begun now false h made is =
-    is-made begun file made (package_or_new file begun) (record {
-      added = [];
-      is =
-          sym (append-nil (package_or_new file begun).rows);
-      behind = tt;
-    })
-    (same_Some _ _ (ok-eq {E = Fault} _ now h ∙ is))
+is-made None file made next a h = subst (λ (n : InProgress). Appended [] [] n.rows) h a
+is-made (Some p) file made next a h =
+    subst (λ (n : InProgress). Appended p.file.contents p.rows n.rows) h a
 
 pub stand-apart : (bytes : List ℕ) (begun : Option InProgress) (now : InProgress)
     → IsSoundBegun begun → IsSound now → with_input bytes begun ≡ Ok (Some now)
     → StandApart begun now
-unfolding with_input
 stand-apart bytes begun now sound fine h =
-    let s = bind-inv (opened bytes) _ (Some now) h in
-    let a = info-appended s.0 begun (Some now) (has_info s.0) s.2 now refl in
+    let t = takes bytes begun (Some now) h in
+    let before = package_or_new t.file begun in
+    let a : Appended (contents_begun begun) (rows_begun begun) now.rows = elim t.does [
+      | inl u ↦ is-made begun t.file now u.1.made (source-behind _ before u.1.made u.1.with)
+          (same_Some _ _ u.1.is)
+      | inr n ↦ is-made begun t.file now before
+          (record { added = []; is = sym (append-nil before.rows); behind = tt })
+          (same_Some _ _ n.1)
+    ] in
     record {
       added = a.added;
       rows = a.is;

@@ -1,6 +1,6 @@
 -- How many bytes contents have once bytes, parts or units were added.
-use Rattle.std.proofs.Common.{◌∙◌, ◌≡◌, ℕ, ◌+◌, ◌≤◌, Bool, true, false, cond, eqb, List, [], ◌∷◌}
-use Rattle.std.proofs.Common.{◌++◌, length, refl, ap, inl, inr, Ok, arith}
+use Rattle.std.proofs.Common.{◌∙◌, ◌≡◌, ℕ, ◌+◌, ◌≤◌, cond, eqb, List, [], ◌∷◌, ◌++◌, length, refl}
+use Rattle.std.proofs.Common.{ap, inl, inr, Ok, arith}
 use Rattle.std.specs.List.{sum_by, list_any}
 use Rattle.std.proofs.lemmas.List.{length-append}
 use Rattle.std.proofs.lemmas.List.Sums.{sum_by-cons, sum_by-append}
@@ -18,11 +18,11 @@ use Rattle.thorin_input.specs.Format.{is_copied}
 use Rattle.thorin_input.specs.Parts.{Parts, with_part, with_each_part, parts_of}
 use Rattle.thorin_input.specs.Used.{Used}
 use Rattle.thorin_join.specs.Sizes.{bytes_of_contents}
-use Rattle.thorin_join.specs.State.{InProgress, names_of, kind_at, with_unit_added, with_new_unit}
-use Rattle.thorin_join.specs.State.{with_new_units}
+use Rattle.thorin_join.specs.State.{InProgress, names_of, kind_at, with_new_unit, with_new_units}
 use Rattle.thorin_join.proofs.Parts.Appended.{Adds, step}
 use Rattle.thorin_join.proofs.Sizes.Offsets.{rewritten-within}
-use Rattle.thorin_join.proofs.Steps.{bind-inv, ok-eq}
+use Rattle.dwp_base.proofs.Steps.{bind-was, same-ok}
+use Rattle.dwp_base.proofs.Bools.{by-bool}
 
 -- the bytes of one of the contents
 abbrev pub long : SectionKind × List ℕ → ℕ
@@ -33,38 +33,31 @@ pub cons-long : (c : SectionKind × List ℕ) (cs : Contents) → bytes_of_conte
     + bytes_of_contents cs
 cons-long c cs = sum_by-cons long c cs
 
-appended-by : (same : Bool) (k : SectionKind) (bytes : List ℕ) (c : SectionKind × List ℕ)
-    (cs : Contents) → bytes_of_contents (appended k bytes cs) ≡ bytes_of_contents cs + length bytes
-    → bytes_of_contents (cond same ((c.0, c.1 ++ bytes) ∷ cs) (c ∷ appended k bytes cs)) ≡
-    bytes_of_contents (c ∷ cs) + length bytes
-appended-by true k bytes c cs later = omega (
-  arith,
-  cons-long (c.0, c.1 ++ bytes) cs,
-  cons-long c cs,
-  length-append c.1 bytes,
-)
-appended-by false k bytes c cs later = omega (
-  arith,
-  cons-long c (appended k bytes cs),
-  cons-long c cs,
-  later,
-)
-
 appended-long : (k : SectionKind) (bytes : List ℕ) (c : Contents)
     → bytes_of_contents (appended k bytes c) ≡ bytes_of_contents c + length bytes
 appended-long k bytes [] = omega (arith, cons-long (k, bytes) [])
-appended-long k bytes (c ∷ cs) = appended-by (same_kind c.0 k) k bytes c cs
-    (appended-long k bytes cs)
-
-with-by : (none : Bool) (k : SectionKind) (bytes : List ℕ) (c : Contents)
-    → eqb (length bytes) 0 ≡ none
-    → bytes_of_contents (cond none c (appended k bytes c)) ≡ bytes_of_contents c + length bytes
-with-by true k bytes c none = omega (arith, eqb-true (length bytes) 0 none)
-with-by false k bytes c some = appended-long k bytes c
+appended-long k bytes (c ∷ cs) =
+    let own = cons-long c cs in
+    by-bool _ (same_kind c.0 k)
+    (λ same. rw same (omega (
+      arith,
+      own,
+      cons-long (c.0, c.1 ++ bytes) cs,
+      length-append c.1 bytes,
+    )))
+    (λ other. rw other (omega (
+      arith,
+      own,
+      cons-long c (appended k bytes cs),
+      appended-long k bytes cs,
+    )))
 
 pub with_bytes-long : (k : SectionKind) (bytes : List ℕ) (c : Contents)
     → bytes_of_contents (with_bytes k bytes c) ≡ bytes_of_contents c + length bytes
-with_bytes-long k bytes c = with-by (eqb (length bytes) 0) k bytes c refl
+with_bytes-long k bytes c =
+    by-bool _ (eqb (length bytes) 0)
+    (λ none. rw none (omega (arith, eqb-true (length bytes) 0 none)))
+    (λ some. rw some (appended-long k bytes c))
 
 pub with_parts-long : (parts c : Contents) → bytes_of_contents (with_parts parts c) ≡
     bytes_of_contents c + bytes_of_contents parts
@@ -81,21 +74,17 @@ with_parts-long (p ∷ ps) c = omega (
 abbrev pub unit_long : DwarfObject × NewUnit → ℕ
 unit_long unit = length unit.1.bytes
 
-unit-by : (there : Bool) (made : InProgress) (unit : DwarfObject × NewUnit)
-    → bytes_of_contents (cond there made (with_unit_added made unit)).file.contents ≤
-    bytes_of_contents made.file.contents + length unit.1.bytes
-unit-by true made unit = omega arith
-unit-by false made unit = omega (
-  arith,
-  with_bytes-long (kind_at unit.1.place) unit.1.bytes
-      made.file.contents,
-)
-
 unit-within : (made : InProgress) (unit : DwarfObject × NewUnit)
     → bytes_of_contents (with_new_unit made unit).file.contents ≤
     bytes_of_contents made.file.contents + length unit.1.bytes
 unfolding with_new_unit
-unit-within made unit = unit-by (list_any (same_name unit.0) (names_of made)) made unit
+unit-within made unit =
+    by-bool _ (list_any (same_name unit.0) (names_of made))
+    (λ there. rw there (omega arith))
+    (λ new. rw new (omega (
+      arith,
+      with_bytes-long (kind_at unit.1.place) unit.1.bytes made.file.contents,
+    )))
 
 pub units-within : (made : InProgress) (units : List (DwarfObject × NewUnit))
     → bytes_of_contents (with_new_units made units).file.contents ≤
@@ -141,10 +130,10 @@ each-within : (source : Source) (sections : List Used) (before after : Parts)
     → bytes_of_contents after.0 ≤ bytes_of_contents before.0 + sum_by part_bytes sections
 unfolding with_each_part
 each-within source [] before after h =
-    let same = ap (λ (n : Parts). bytes_of_contents n.0) (ok-eq before after h) in
+    let same = ap (λ (n : Parts). bytes_of_contents n.0) (same-ok before after h) in
     omega (arith, same)
 each-within source (s ∷ ss) before after h =
-    let next = bind-inv (with_part source before s) _ after h in
+    let next = bind-was (with_part source before s) _ after h in
     let one = part-within source before s next.0 (step source before s next.0 next.1).adds in
     omega (arith, one, each-within source ss next.0 after next.2, sum_by-cons part_bytes s ss)
 

@@ -1,7 +1,7 @@
 -- Inputs add to the contents of a package at most the bytes of their used sections.
 use Rattle.std.proofs.Common.{◌≡◌, ◌∙◌, ℕ, suc, ◌+◌, ◌*◌, ◌≤◌, Bool, true, false, cond, List, []}
-use Rattle.std.proofs.Common.{◌∷◌, ◌++◌, length, refl, sym, ap, Ok, Option, Some, None, ◌⊎◌, inl}
-use Rattle.std.proofs.Common.{inr, arith, is_some}
+use Rattle.std.proofs.Common.{◌∷◌, ◌++◌, length, refl, sym, ap, Ok, Option, Some, None, inl, inr}
+use Rattle.std.proofs.Common.{arith, is_some}
 use Rattle.std.specs.Prelude.{All}
 use Rattle.std.specs.List.{sum_by}
 use Rattle.std.proofs.lemmas.List.Sums.{sum_by-cons}
@@ -11,27 +11,27 @@ use Rattle.dwp_base.specs.Reading.{◌>>=◌}
 use Rattle.dwp_base.specs.Sections.{same_kind}
 use Rattle.dwp_elf_read.specs.Elf.{Elf}
 use Rattle.dwp_dwarf.specs.Units.{UnitsAreTaken}
-use Rattle.thorin_input.specs.Encodings.{encoding_of}
-use Rattle.thorin_input.specs.Indexes.{Source, indexes_of}
+use Rattle.thorin_input.specs.Indexes.{Source}
 use Rattle.thorin_input.specs.NewUnits.{new_units, unit_section}
 use Rattle.thorin_input.specs.Format.{is_copied}
 use Rattle.thorin_input.specs.Parts.{parts_of}
 use Rattle.thorin_input.specs.Used.{Used, opened, has_info, counts_once, input_file_of, first}
-use Rattle.thorin_join.specs.Builder.{package_or_new, order_test, with_source_or_new, with_units}
-use Rattle.thorin_join.specs.Builder.{with_input}
+use Rattle.thorin_join.specs.Builder.{package_or_new, with_input}
 use Rattle.thorin_join.specs.Sizes.{bytes_of_contents, bytes_begun, sections_in, or_none}
 use Rattle.thorin_join.specs.Sizes.{sections_of_input, used_size, carried, carried_size}
-use Rattle.thorin_join.specs.Sizes.{with_inputs}
+use Rattle.thorin_join.specs.Sizes.{with_inputs, bytes_of_strings, offsets_used, offsets_size}
+use Rattle.thorin_join.specs.Sizes.{strings_size}
 use Rattle.thorin_join.specs.FirstUse.{strings_begun}
-use Rattle.thorin_join.specs.Sizes.{bytes_of_strings, offsets_used, offsets_size, strings_size}
 use Rattle.thorin_join.specs.State.{InProgress, adding, abbreviations_test, with_source}
 use Rattle.thorin_join.proofs.Joined.Source.{with_all_parts, all-is}
 use Rattle.thorin_join.proofs.Sizes.Contents.{with_parts-long, units-within, part_bytes}
 use Rattle.thorin_join.proofs.Sizes.Contents.{parts-within}
 use Rattle.thorin_join.proofs.Sizes.Units.{placed_bytes, unit_bytes, new-within}
-use Rattle.thorin_join.proofs.Sizes.Strings.{units-strings, parts-most}
-use Rattle.thorin_join.proofs.Steps.{bind-ok, bind-inv, ok-eq}
-use Rattle.thorin_join.proofs.EachKind.{same-each}
+use Rattle.thorin_join.proofs.Sizes.Strings.{parts-most}
+use Rattle.thorin_join.proofs.Parts.FirstUses.{units-strings}
+use Rattle.dwp_base.proofs.Steps.{bind-was, bind-ok, same-ok}
+use Rattle.dwp_base.proofs.EveryKind.{same-each}
+use Rattle.thorin_join.proofs.Joined.Taken.{TakesUnits, takes}
 
 -- ---- a section goes to one place at most
 one-place : (s : Used) (kind : SectionKind)
@@ -72,14 +72,14 @@ source-within : UnitsAreTaken → (source : Source) (before now : InProgress)
     source.object.sections
 unfolding with_source
 source-within taken source before now h =
-    let s1 = bind-inv (parts_of source before.strings) _ now h in
-    let s2 = bind-inv (abbreviations_test source.object) _ now s1.2 in
-    let s3 = bind-inv (new_units (adding source before s1.0.0)) _ now s2.2 in
+    let s1 = bind-was (parts_of source before.strings) _ now h in
+    let s2 = bind-was (abbreviations_test source.object) _ now s1.2 in
+    let s3 = bind-was (new_units (adding source before s1.0.0)) _ now s2.2 in
     let parts = s1.0.0 in
     let new = s3.0 in
     let q = with_all_parts before parts s1.0.1 (before.differing ++ new.differing) in
     let is = ap (λ (m : InProgress). bytes_of_contents m.file.contents)
-    (sym (all-is before parts s1.0.1 new) ∙ ok-eq _ now s3.2) in
+    (sym (all-is before parts s1.0.1 new) ∙ same-ok _ now s3.2) in
     omega (
       arith,
       is,
@@ -97,70 +97,25 @@ source-strings : (source : Source) (before now : InProgress) → with_source sou
     + sum_by offsets_used source.object.sections * length (first Str source.object.sections)
 unfolding with_source
 source-strings source before now h =
-    let s1 = bind-inv (parts_of source before.strings) _ now h in
-    let s2 = bind-inv (abbreviations_test source.object) _ now s1.2 in
-    let s3 = bind-inv (new_units (adding source before s1.0.0)) _ now s2.2 in
+    let s1 = bind-was (parts_of source before.strings) _ now h in
+    let s2 = bind-was (abbreviations_test source.object) _ now s1.2 in
+    let s3 = bind-was (new_units (adding source before s1.0.0)) _ now s2.2 in
     let new = s3.0 in
     let q = with_all_parts before s1.0.0 s1.0.1 (before.differing ++ new.differing) in
     let is : bytes_of_strings s1.0.1 ≡ bytes_of_strings now.strings = ap bytes_of_strings
     (sym (units-strings q new.units) ∙ ap (λ (m : InProgress). m.strings)
-    (sym (all-is before s1.0.0 s1.0.1 new) ∙ ok-eq _ now s3.2)) in
+    (sym (all-is before s1.0.0 s1.0.1 new) ∙ same-ok _ now s3.2)) in
     omega (arith, is, parts-most source before.strings s1.0 s1.1)
 
 -- ---- an input begins a package at most, or its units are added
-record Adds (bytes : List ℕ) (begun now : Option InProgress) : Type 0 where
-  file : Elf
-  source : Source
-  made : InProgress
-  with : with_source source (package_or_new file begun) ≡ Ok made
-  is : Some made ≡ now
-  used : sections_of_input bytes ≡ source.object.sections
-
-abbrev Begins : Option InProgress → Option InProgress → Type 0
-Begins begun now = (file : Elf) × (Some (package_or_new file begun) ≡ now)
-
-sections-at : (bytes : List ℕ) (file : Elf) (b : Bool) → opened bytes ≡ Ok file → has_info file ≡ b
-    → sections_of_input bytes ≡ or_none (cond b (input_file_of file >>= λ object. Ok
-    object.sections) (Ok []))
+sections-are : (bytes : List ℕ) (file : Elf) (begun now : Option InProgress)
+    → opened bytes ≡ Ok file → has_info file ≡ true → (u : TakesUnits file begun now)
+    → sections_of_input bytes ≡ u.object.sections
 unfolding sections_of_input sections_in
-sections-at bytes file b h k = ap or_none (bind-ok (opened bytes) file _ h ∙ ap (λ e.
-    cond e (input_file_of file >>= λ object. Ok object.sections) (Ok [])) k)
-
-units-added : (bytes : List ℕ) (file : Elf) (begun now : Option InProgress)
-    → opened bytes ≡ Ok file → has_info file ≡ true → with_units file begun ≡ Ok now
-    → Adds bytes begun now
-unfolding with_units with_source_or_new
-units-added bytes file begun now opens info h =
-    let s1 = bind-inv (input_file_of file) _ now h in
-    let s2 = bind-inv (encoding_of s1.0) _ now s1.2 in
-    let s3 = bind-inv (order_test s1.0.order begun) _ now s2.2 in
-    let s4 = bind-inv (indexes_of s1.0 s2.0) _ now s3.2 in
-    let source : Source = record { object = s1.0; encoding = s2.0; indexes = s4.0 } in
-    let s5 = bind-inv (with_source source (package_or_new file begun)) _ now s4.2 in
-    record {
-      file = file;
-      source = source;
-      made = s5.0;
-      with = s5.1;
-      is = ok-eq _ now s5.2;
-      used = sections-at bytes file true opens info ∙ ap or_none (bind-ok (input_file_of file)
-          s1.0 _ s1.1);
-    }
-
-by-info : (bytes : List ℕ) (file : Elf) (begun now : Option InProgress) (b : Bool)
-    → opened bytes ≡ Ok file → has_info file ≡ b
-    → cond b (with_units file begun) (Ok (Some (package_or_new file begun))) ≡ Ok now
-    → Adds bytes begun now ⊎ Begins begun now
-by-info bytes file begun now true opens info h = inl (units-added bytes file begun now opens info h)
-by-info bytes file begun now false opens info h =
-    inr (file, ok-eq (Some (package_or_new file begun)) now h)
-
-input-adds : (bytes : List ℕ) (begun now : Option InProgress) → with_input bytes begun ≡ Ok now
-    → Adds bytes begun now ⊎ Begins begun now
-unfolding with_input
-input-adds bytes begun now h =
-    let s = bind-inv (opened bytes) _ now h in
-    by-info bytes s.0 begun now (has_info s.0) s.1 refl s.2
+sections-are bytes file begun now opens info u =
+    ap or_none (bind-ok (opened bytes) file _ opens ∙ ap (λ b.
+    cond b (input_file_of file >>= λ object. Ok object.sections) (Ok [])) info ∙ bind-ok
+    (input_file_of file) u.object _ u.object_is)
 
 begun-bytes : (file : Elf) (begun : Option InProgress)
     → bytes_of_contents (package_or_new file begun).file.contents ≡ bytes_begun begun
@@ -172,94 +127,80 @@ begun-strings : (file : Elf) (begun : Option InProgress)
 begun-strings file None = refl
 begun-strings file (Some made) = refl
 
-within-by : UnitsAreTaken → (bytes : List ℕ) (begun now : Option InProgress)
-    → Adds bytes begun now ⊎ Begins begun now
-    → bytes_begun now ≤ bytes_begun begun + carried_size bytes
-within-by taken bytes begun now (inl a) =
-    let is = ap bytes_begun a.is in
-    let own : carried_size bytes ≡ sum_by carried a.source.object.sections =
-    ap (sum_by carried) a.used in
-    omega (
-      arith,
-      is,
-      own,
-      begun-bytes a.file begun,
-      source-within taken a.source
-          (package_or_new a.file begun) a.made a.with,
-    )
-within-by taken bytes begun now (inr (file, same)) =
-    let is = ap bytes_begun same in
-    omega (arith, is, begun-bytes file begun)
-
 pub input-within : UnitsAreTaken → (bytes : List ℕ) (begun now : Option InProgress)
     → with_input bytes begun ≡ Ok now → bytes_begun now ≤ bytes_begun begun + carried_size bytes
-input-within taken bytes begun now h = within-by taken bytes begun now (input-adds bytes begun now
-    h)
+input-within taken bytes begun now h =
+    let t = takes bytes begun now h in
+    elim t.does [
+      | inl u ↦
+          let is = ap bytes_begun u.1.is in
+          let own : carried_size bytes ≡ sum_by carried u.1.object.sections =
+          ap (sum_by carried) (sections-are bytes t.file begun now t.opens u.0 u.1) in
+          omega (
+            arith,
+            is,
+            own,
+            begun-bytes t.file begun,
+            source-within taken _ (package_or_new t.file begun) u.1.made u.1.with,
+          )
+      | inr n ↦ let is = ap bytes_begun n.1 in omega (arith, is, begun-bytes t.file begun)
+    ]
 
 -- the same of its strings
-strings-by : (bytes : List ℕ) (begun now : Option InProgress)
-    → Adds bytes begun now ⊎ Begins begun now
-    → 4 * bytes_of_strings (strings_begun now) ≤ 4 * bytes_of_strings (strings_begun begun)
-    + offsets_size bytes * strings_size bytes
-strings-by bytes begun now (inl a) =
-    let is = ap (λ n. bytes_of_strings (strings_begun n)) a.is in
-    let own : offsets_size bytes * strings_size bytes ≡ sum_by offsets_used
-    a.source.object.sections * length (first Str a.source.object.sections) =
-    ap (λ sections. sum_by offsets_used sections * length (first Str sections)) a.used in
-    omega (
-      arith,
-      is,
-      own,
-      begun-strings a.file begun,
-      source-strings a.source
-          (package_or_new a.file begun) a.made a.with,
-    )
-strings-by bytes begun now (inr (file, same)) =
-    let is = ap (λ n. bytes_of_strings (strings_begun n)) same in
-    omega (arith, is, begun-strings file begun)
-
 pub input-strings : (bytes : List ℕ) (begun now : Option InProgress) → with_input bytes begun ≡
     Ok now → 4 * bytes_of_strings (strings_begun now) ≤ 4 * bytes_of_strings (strings_begun begun)
     + offsets_size bytes * strings_size bytes
-input-strings bytes begun now h = strings-by bytes begun now (input-adds bytes begun now h)
+input-strings bytes begun now h =
+    let t = takes bytes begun now h in
+    elim t.does [
+      | inl u ↦
+          let is = ap (λ m. bytes_of_strings (strings_begun m)) u.1.is in
+          let own : offsets_size bytes * strings_size bytes ≡ sum_by offsets_used
+          u.1.object.sections * length (first Str u.1.object.sections) =
+          ap (λ sections. sum_by offsets_used sections * length (first Str sections))
+          (sections-are bytes t.file begun now t.opens u.0 u.1) in
+          omega (
+            arith,
+            is,
+            own,
+            begun-strings t.file begun,
+            source-strings _ (package_or_new t.file begun) u.1.made u.1.with,
+          )
+      | inr n ↦
+          let is = ap (λ m. bytes_of_strings (strings_begun m)) n.1 in
+          omega (arith, is, begun-strings t.file begun)
+    ]
 
 -- ---- inputs one after another
+inputs-most : (measure : Option InProgress → ℕ) (most : List ℕ → ℕ)
+    → ((bytes : List ℕ) (begun now : Option InProgress) → with_input bytes begun ≡ Ok now
+    → measure now ≤ measure begun + most bytes)
+    → (inputs : List (List ℕ)) (begun now : Option InProgress) → with_inputs inputs begun ≡ Ok now
+    → measure now ≤ measure begun + sum_by most inputs
+unfolding with_inputs
+inputs-most measure most one [] begun now h =
+    let is = ap measure (same-ok begun now h) in
+    omega (arith, is)
+inputs-most measure most one (bytes ∷ inputs) begun now h =
+    let s = bind-was (with_input bytes begun) _ now h in
+    omega (
+      arith,
+      one bytes begun s.0 s.1,
+      inputs-most measure most one inputs s.0 now s.2,
+      sum_by-cons most bytes inputs,
+    )
+
 pub inputs-within : UnitsAreTaken → (inputs : List (List ℕ)) (begun now : Option InProgress)
     → with_inputs inputs begun ≡ Ok now
     → bytes_begun now ≤ bytes_begun begun + sum_by carried_size inputs
-unfolding with_inputs
-inputs-within taken [] begun now h =
-    let is = ap bytes_begun (ok-eq begun now h) in
-    omega (arith, is)
-inputs-within taken (bytes ∷ inputs) begun now h =
-    let s = bind-inv (with_input bytes begun) _ now h in
-    omega (
-      arith,
-      input-within taken bytes begun s.0 s.1,
-      inputs-within taken inputs s.0 now s.2,
-      sum_by-cons carried_size bytes inputs,
-    )
-
--- what an input's strings have at most, four times
-abbrev most_strings : List ℕ → ℕ
-most_strings bytes = offsets_size bytes * strings_size bytes
+inputs-within taken = inputs-most bytes_begun carried_size (input-within taken)
 
 pub inputs-strings : (inputs : List (List ℕ)) (begun now : Option InProgress)
     → with_inputs inputs begun ≡ Ok now
     → 4 * bytes_of_strings (strings_begun now) ≤ 4 * bytes_of_strings (strings_begun begun)
     + sum_by (λ bytes. offsets_size bytes * strings_size bytes) inputs
-unfolding with_inputs
-inputs-strings [] begun now h =
-    let is = ap (λ n. bytes_of_strings (strings_begun n)) (ok-eq begun now h) in
-    omega (arith, is)
-inputs-strings (bytes ∷ inputs) begun now h =
-    let s = bind-inv (with_input bytes begun) _ now h in
-    omega (
-      arith,
-      input-strings bytes begun s.0 s.1,
-      inputs-strings inputs s.0 now s.2,
-      sum_by-cons most_strings bytes inputs,
-    )
+inputs-strings = inputs-most (λ begun. 4 * bytes_of_strings (strings_begun begun))
+    (λ bytes. offsets_size bytes * strings_size bytes) input-strings
 
 -- ---- where used sections don't overlap
 carried-by : (once : Bool) (n : ℕ) → cond once 0 n ≤ n

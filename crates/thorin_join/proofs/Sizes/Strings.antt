@@ -1,91 +1,65 @@
 -- Each string offset brings one string at most, which isn't longer than the section that it is in.
-use Rattle.std.proofs.Common.{◌≡◌, ◌∙◌, ℕ, zero, suc, ◌+◌, ◌*◌, ◌<◌, ◌≤◌, Bool, true, false}
-use Rattle.std.proofs.Common.{cond, eqb, ltb, List, [], ◌∷◌, ◌++◌, length, drop, Result, Ok}
-use Rattle.std.proofs.Common.{Err, refl, ap, inl, inr, not, ◌||◌, suc-mul, add-mul}
-use Rattle.std.proofs.Common.{arith}
+use Rattle.std.proofs.Common.{◌≡◌, ℕ, zero, suc, ◌+◌, ◌*◌, ◌<◌, ◌≤◌, Bool, true, false, cond, eqb}
+use Rattle.std.proofs.Common.{ltb, List, [], ◌∷◌, ◌++◌, length, drop, Ok, refl, ap, inl, inr}
+use Rattle.std.proofs.Common.{suc-mul, add-mul, arith}
 use Rattle.std.specs.Prelude.{slice_range}
 use Rattle.std.specs.List.{sum_by, list_any, position_or_len}
 use Rattle.std.specs.Str.{bytes_eq}
 use Rattle.std.proofs.lemmas.List.{length-take, length-drop}
 use Rattle.std.proofs.lemmas.List.Sums.{sum_by-cons, sum_by-append}
-use Rattle.std.proofs.lemmas.Bool.{ltb-false}
 use Rattle.std.proofs.Math.Nat.{mul_assoc, mul-le-mul_right}
 use Rattle.dwp_base.specs.declared.endian.Endianness.{Endianness}
 use Rattle.dwp_base.specs.declared.section.Contribution.{Contribution}
 use Rattle.dwp_base.specs.declared.section.SectionKind.TheVariants.{Str}
-use Rattle.dwp_base.specs.Reading.{◌>>=◌}
 use Rattle.dwp_bytes.specs.declared.encoding.Encoding.{Encoding}
 use Rattle.dwp_bytes.specs.declared.encoding.Format.{Format}
 use Rattle.dwp_bytes.specs.declared.encoding.Format.TheVariants.{Dwarf32, Dwarf64}
-use Rattle.dwp_bytes.specs.declared.fault.ReadError.{ReadError}
-use Rattle.dwp_bytes.specs.declared.fault.ReadError.TheVariants.{OffsetOutOfRange, NoTerminator}
 use Rattle.dwp_bytes.specs.Encoding.{offset_size}
 use Rattle.dwp_bytes.specs.StringOffsets.{header_size, entry_count, string_from, string_at}
 use Rattle.thorin_strings.specs.Strings.{offset_of}
-use Rattle.thorin_strings.specs.StringOffsets.{header_of, entry_at, named_at}
-use Rattle.thorin_strings.specs.StringOffsets.{fitting_offset, remapped_entry, remapped_entries}
-use Rattle.thorin_strings.specs.StringOffsets.{entry_bytes, remapped}
+use Rattle.thorin_strings.specs.StringOffsets.{entry_at, named_at, fitting_offset, remapped_entry}
+use Rattle.thorin_strings.specs.StringOffsets.{remapped_entries, remapped}
 use Rattle.thorin_packaged.specs.PackagedOffsets.{ranges_test, offset_ranges, rewritten_from}
 use Rattle.thorin_packaged.specs.PackagedOffsets.{packaged_offsets}
-use Rattle.thorin_errors.specs.Fault.{Fault, StrAtOffset}
-use Rattle.thorin_errors.specs.Answers.{as_fault}
 use Rattle.thorin_input.specs.Indexes.{Source, is_package}
-use Rattle.thorin_input.specs.NewUnits.{NewUnit}
-use Rattle.thorin_input.specs.Names.{same_name}
 use Rattle.thorin_input.specs.InputStrings.{rewritten}
 use Rattle.thorin_input.specs.Parts.{Parts, with_part, with_each_part, parts_of}
 use Rattle.thorin_input.specs.Used.{Used, first}
-use Rattle.dwp_table.specs.declared.object.DwarfObject.{DwarfObject}
 use Rattle.thorin_join.specs.Sizes.{bytes_of_strings, offsets_used}
-use Rattle.thorin_join.specs.State.{InProgress, names_of, with_unit_added, with_new_unit}
-use Rattle.thorin_join.specs.State.{with_new_units}
 use Rattle.thorin_join.proofs.Parts.Appended.{Adds, step}
-use Rattle.thorin_join.proofs.Parts.OffsetRanges.{count-fits}
-use Rattle.thorin_join.proofs.Parts.Strings.{packaged, unpackaged}
+use Rattle.thorin_join.proofs.Parts.OffsetRanges.{count-fits, range-of}
+use Rattle.thorin_join.proofs.Steps.{past, kept}
+use Rattle.thorin_strings.proofs.NamedEntries.{as_error_ok}
 use Rattle.thorin_join.proofs.Sizes.Offsets.{lies}
-use Rattle.thorin_join.proofs.Steps.{bind-inv, ok-eq}
+use Rattle.dwp_base.proofs.Steps.{bind-was, same-ok, chosen}
+use Rattle.dwp_base.proofs.Bools.{by-bool}
 
 -- ---- one string
 abbrev is_zero : ℕ → Bool
 is_zero b = eqb b 0
 
-zero-by : (here : Bool) (n : ℕ) (xs : List ℕ) → (list_any is_zero xs ≡ true → n < length xs)
-    → (here || list_any is_zero xs) ≡ true → cond (not here) (1 + n) 0 < suc (length xs)
-zero-by true n xs later h = omega arith
-zero-by false n xs later h = omega (arith, later h)
-
 zero-within : (xs : List ℕ) → list_any is_zero xs ≡ true → position_or_len is_zero xs < length xs
 zero-within [] h = absurd cc
-zero-within (x ∷ xs) h = zero-by (eqb x 0) (position_or_len is_zero xs) xs (zero-within xs) h
+zero-within (x ∷ xs) h =
+    by-bool _ (eqb x 0)
+    (λ here. rw here (omega arith))
+    (λ later. rw later (omega (arith, zero-within xs (rw later at h))))
 
-string-by : (section s : List ℕ) (at : ℕ) (outside ended : Bool)
-    → list_any is_zero (drop at section) ≡ ended
-    → cond outside (Err OffsetOutOfRange) (cond ended (Ok (string_from section at))
-    (Err NoTerminator)) ≡ Ok s → length s + 1 ≤ length section
-string-by section s at true ended e h = absurd cc
-string-by section s at false false e h = absurd cc
-string-by section s at false true e h =
-    let is : length (string_from section at) ≡ length s = ap length (ok-eq _ s h) in
+string-within : (section s : List ℕ) (at : ℕ) → string_at section at ≡ Ok s → length s + 1 ≤
+    length section
+unfolding string_at
+string-within section s at h =
+    let inside = past (ltb (length section) at) _ _ s h in
+    let ended = kept (list_any is_zero (drop at section)) _ _ s inside.1 in
+    let is : length (string_from section at) ≡ length s = ap length (same-ok _ s ended.1) in
     let end = position_or_len is_zero (drop at section) in
     omega (
       arith,
       is,
       length-take end (drop at section),
-      zero-within (drop at section) e,
+      zero-within (drop at section) ended.0,
       length-drop at section,
     )
-
-string-within : (section s : List ℕ) (at : ℕ) → string_at section at ≡ Ok s → length s + 1 ≤
-    length section
-unfolding string_at
-string-within section s at h = string-by section s at (ltb (length section) at)
-    (list_any is_zero (drop at section)) refl h
-
-read-within : (section s : List ℕ) (at : ℕ) (r : Result (List ℕ) ReadError)
-    → string_at section at ≡ r → as_fault (λ e. StrAtOffset e at) r ≡ Ok s → length s + 1 ≤
-    length section
-read-within section s at (Ok x) is h = string-within section s at (is ∙ cc)
-read-within section s at (Err e) is h = absurd cc
 
 abbrev ended_long : List ℕ → ℕ
 ended_long string = length string + 1
@@ -116,14 +90,14 @@ module _ (order : Endianness) (encoding : Encoding) (section : List ℕ) where
       → bytes_of_strings entry.1 ≤ bytes_of_strings strings + length section
   unfolding remapped_entry named_at
   entry-most bytes index strings entry h =
-      let a = bind-inv (named_at order encoding section bytes index) _ entry h in
-      let b = bind-inv (entry_at order encoding bytes index) _ a.0 a.1 in
-      let c = bind-inv (fitting_offset encoding.format (offset_of strings a.0)) _ entry a.2 in
-      let is = ap (λ (e : ℕ × List (List ℕ)). bytes_of_strings e.1) (ok-eq _ entry c.2) in
+      let a = bind-was (named_at order encoding section bytes index) _ entry h in
+      let b = bind-was (entry_at order encoding bytes index) _ a.0 a.1 in
+      let c = bind-was (fitting_offset encoding.format (offset_of strings a.0)) _ entry a.2 in
+      let is = ap (λ (e : ℕ × List (List ℕ)). bytes_of_strings e.1) (same-ok _ entry c.2) in
       omega (
         arith,
         is,
-        read-within section a.0 b.0 (string_at section b.0) refl b.2,
+        string-within section a.0 b.0 (as_error_ok _ (string_at section b.0) a.0 b.2),
         one-more (list_any (λ t. bytes_eq t a.0) strings) strings a.0,
       )
 
@@ -132,12 +106,12 @@ module _ (order : Endianness) (encoding : Encoding) (section : List ℕ) where
       → bytes_of_strings entries.1 ≤ bytes_of_strings strings + n * length section
   unfolding remapped_entries
   entries-most bytes zero strings entries h =
-      let is = ap (λ (e : List ℕ × List (List ℕ)). bytes_of_strings e.1) (ok-eq _ entries h) in
+      let is = ap (λ (e : List ℕ × List (List ℕ)). bytes_of_strings e.1) (same-ok _ entries h) in
       omega (arith, is)
   entries-most bytes (suc n) strings entries h =
-      let a = bind-inv (remapped_entries order encoding section bytes n strings) _ entries h in
-      let b = bind-inv (remapped_entry order encoding section bytes n a.0.1) _ entries a.2 in
-      let is = ap (λ (e : List ℕ × List (List ℕ)). bytes_of_strings e.1) (ok-eq _ entries b.2) in
+      let a = bind-was (remapped_entries order encoding section bytes n strings) _ entries h in
+      let b = bind-was (remapped_entry order encoding section bytes n a.0.1) _ entries a.2 in
+      let is = ap (λ (e : List ℕ × List (List ℕ)). bytes_of_strings e.1) (same-ok _ entries b.2) in
       omega (
         arith,
         is,
@@ -146,38 +120,25 @@ module _ (order : Endianness) (encoding : Encoding) (section : List ℕ) where
         suc-mul n (length section),
       )
 
-  by-size : (bytes : List ℕ) (none short : Bool) (size : ℕ) (strings : List (List ℕ))
-      (fault : Fault) (range : List ℕ × List (List ℕ)) → ltb size (header_size encoding) ≡ short
-      → cond none (Ok ([], strings)) (cond short (Err fault) (header_of order encoding
-      (entry_count encoding size * offset_size encoding.format) >>= λ header.
-      remapped_entries order encoding section bytes (entry_count encoding size) strings >>=
-      λ entries. Ok (header ++ entry_bytes order encoding.format entries.0, entries.1))) ≡ Ok range
-      → 4 * bytes_of_strings range.1 ≤ 4 * bytes_of_strings strings + size * length section
-  by-size bytes true short size strings fault range room h =
-      let is = ap (λ (e : List ℕ × List (List ℕ)). bytes_of_strings e.1) (ok-eq _ range h) in
-      omega (arith, is)
-  by-size bytes false true size strings fault range room h = absurd cc
-  by-size bytes false false size strings fault range room h =
-      let n = entry_count encoding size in
-      let a = bind-inv (header_of order encoding (n * offset_size encoding.format)) _ range h in
-      let b = bind-inv (remapped_entries order encoding section bytes n strings) _ range a.2 in
-      let is = ap (λ (e : List ℕ × List (List ℕ)). bytes_of_strings e.1) (ok-eq _ range b.2) in
-      let fits = count-fits encoding.format size (header_size encoding)
-      (ltb-false size (header_size encoding) room) in
-      omega (
-        arith,
-        is,
-        entries-most bytes n strings b.0 b.1,
-        few encoding.format n
-            (header_size encoding) size (length section) fits,
-      )
-
   range-most : (bytes : List ℕ) (size : ℕ) (strings : List (List ℕ)) (range : List ℕ
       × List (List ℕ)) → remapped order encoding section bytes size strings ≡ Ok range
       → 4 * bytes_of_strings range.1 ≤ 4 * bytes_of_strings strings + size * length section
-  unfolding remapped
-  range-most bytes size strings range h = by-size bytes (eqb size 0)
-      (ltb size (header_size encoding)) size strings _ range refl h
+  range-most bytes size strings range h =
+      elim (range-of order encoding section bytes size strings range h) [
+        | inl none ↦
+            let is = ap (λ (e : List ℕ × List (List ℕ)). bytes_of_strings e.1) none.1 in
+            omega (arith, is)
+        | inr r ↦
+            let n = entry_count encoding size in
+            let is = ap (λ (e : List ℕ × List (List ℕ)). bytes_of_strings e.1) r.is in
+            let fits = count-fits encoding.format size (header_size encoding) r.room in
+            omega (
+              arith,
+              is,
+              entries-most bytes n strings r.entries r.entries_are,
+              few encoding.format n (header_size encoding) size (length section) fits,
+            )
+      ]
 
   from-most : (bytes : List ℕ) (at : ℕ) (ranges : List Contribution) (strings : List (List ℕ))
       (written : List ℕ × List (List ℕ)) → at ≤ length bytes
@@ -187,15 +148,15 @@ module _ (order : Endianness) (encoding : Encoding) (section : List ℕ) where
       + length bytes * length section
   unfolding rewritten_from
   from-most bytes at [] strings written room t h =
-      let is = ap (λ (e : List ℕ × List (List ℕ)). bytes_of_strings e.1) (ok-eq _ written h) in
+      let is = ap (λ (e : List ℕ × List (List ℕ)). bytes_of_strings e.1) (same-ok _ written h) in
       omega (arith, is, mul-le-mul_right (length section) room)
   from-most bytes at (r ∷ rs) strings written room t h =
       let lie = lies encoding (length bytes) at r rs t in
       let end = r.offset.0 + r.size in
       let own = slice_range bytes r.offset.0 end in
-      let a = bind-inv (remapped order encoding section own r.size strings) _ written h in
-      let b = bind-inv (rewritten_from order encoding section bytes end rs a.0.1) _ written a.2 in
-      let is = ap (λ (e : List ℕ × List (List ℕ)). bytes_of_strings e.1) (ok-eq _ written b.2) in
+      let a = bind-was (remapped order encoding section own r.size strings) _ written h in
+      let b = bind-was (rewritten_from order encoding section bytes end rs a.0.1) _ written a.2 in
+      let is = ap (λ (e : List ℕ × List (List ℕ)). bytes_of_strings e.1) (same-ok _ written b.2) in
       omega (
         arith,
         is,
@@ -211,36 +172,25 @@ module _ (source : Source) where
   abbrev section : List ℕ
   section = first Str source.object.sections
 
-  packaged-most : (bytes : List ℕ) (strings : List (List ℕ)) (written : List ℕ × List (List ℕ))
-      → packaged source bytes strings ≡ Ok written
-      → 4 * bytes_of_strings written.1 ≤ 4 * bytes_of_strings strings + length bytes
-      * length section
-  unfolding packaged_offsets
-  packaged-most bytes strings written h =
-      let ranges = offset_ranges source.indexes.compilations source.indexes.types in
-      let a = bind-inv (ranges_test source.encoding (length bytes) 0 ranges) _ written h in
-      omega (
-        arith,
-        from-most source.object.order source.encoding section bytes 0 ranges strings
-            written (omega arith) a.1 a.2,
-      )
-
-  most-by : (packed : Bool) (bytes : List ℕ) (strings : List (List ℕ)) (written : List ℕ
-      × List (List ℕ)) → cond packed (packaged source bytes strings)
-      (unpackaged source bytes strings) ≡ Ok written
-      → 4 * bytes_of_strings written.1 ≤ 4 * bytes_of_strings strings + length bytes
-      * length section
-  most-by true bytes strings written h = packaged-most bytes strings written h
-  most-by false bytes strings written h = range-most source.object.order source.encoding section
-      bytes (length bytes) strings written h
-
   rewritten-most : (bytes : List ℕ) (strings : List (List ℕ)) (written : List ℕ × List (List ℕ))
       → rewritten source bytes strings ≡ Ok written
       → 4 * bytes_of_strings written.1 ≤ 4 * bytes_of_strings strings + length bytes
       * length section
-  unfolding rewritten
-  rewritten-most bytes strings written h = most-by (is_package source.indexes) bytes strings
-      written h
+  unfolding rewritten packaged_offsets
+  rewritten-most bytes strings written h =
+      elim (chosen (is_package source.indexes) _ _ (Ok written) h) [
+        | inl packed ↦
+            let ranges = offset_ranges source.indexes.compilations source.indexes.types in
+            let a = bind-was (ranges_test source.encoding (length bytes) 0 ranges) _ written
+            packed.1 in
+            omega (
+              arith,
+              from-most source.object.order source.encoding section bytes 0 ranges
+                  strings written (omega arith) a.1 a.2,
+            )
+        | inr plain ↦ range-most source.object.order source.encoding section bytes
+            (length bytes) strings written plain.1
+      ]
 
   part-most : (before : Parts) (s : Used) (next : Parts) → Adds source before s next
       → 4 * bytes_of_strings next.1 ≤ 4 * bytes_of_strings before.1 + offsets_used s
@@ -262,10 +212,10 @@ module _ (source : Source) where
       * length section
   unfolding with_each_part
   each-most [] before after h =
-      let same = ap (λ (n : Parts). bytes_of_strings n.1) (ok-eq before after h) in
+      let same = ap (λ (n : Parts). bytes_of_strings n.1) (same-ok before after h) in
       omega (arith, same)
   each-most (s ∷ ss) before after h =
-      let next = bind-inv (with_part source before s) _ after h in
+      let next = bind-was (with_part source before s) _ after h in
       let sums : sum_by offsets_used (s ∷ ss) * length section ≡ (offsets_used s + sum_by
       offsets_used ss) * length section = ap (λ n. n * length section)
       (sum_by-cons offsets_used s ss) in
@@ -281,21 +231,3 @@ module _ (source : Source) where
       → 4 * bytes_of_strings parts.1 ≤ 4 * bytes_of_strings strings
       + sum_by offsets_used source.object.sections * length section
   parts-most strings parts h = each-most source.object.sections ([], strings) parts h
-
--- ---- units bring none
-unit-by : (there : Bool) (made : InProgress) (unit : DwarfObject × NewUnit)
-    → (cond there made (with_unit_added made unit)).strings ≡ made.strings
-unit-by true made unit = refl
-unit-by false made unit = refl
-
-unit-strings : (made : InProgress) (unit : DwarfObject × NewUnit)
-    → (with_new_unit made unit).strings ≡ made.strings
-unfolding with_new_unit
-unit-strings made unit = unit-by (list_any (same_name unit.0) (names_of made)) made unit
-
-pub units-strings : (made : InProgress) (units : List (DwarfObject × NewUnit))
-    → (with_new_units made units).strings ≡ made.strings
-unfolding with_new_units
-units-strings made [] = refl
-units-strings made (unit ∷ units) = units-strings (with_new_unit made unit) units ∙
-    unit-strings made unit

@@ -72,12 +72,10 @@ pub units-are : (made : InProgress) (ms : Members) → Represents made ms → ms
 units-are made ms has = rows-are made.file.order made.file.contents made.strings has.table
     made.rows ms has.rows
 
-rows-keys : (order : Endianness) (contents : Contents) (strings : List (List ℕ))
-    (rows : List IndexEntry)
-    → keys (map {B = DwarfObject × Meaning} (λ row. (row.id, meaning_at order contents strings row))
-    rows) ≡ map (λ row. row.id) rows
-rows-keys order contents strings [] = refl
-rows-keys order contents strings (r ∷ rs) = ap (λ l. r.id ∷ l) (rows-keys order contents strings rs)
+pub rows-keys : {X : Type 0} (of : IndexEntry → X) (rows : List IndexEntry)
+    → keys (map {B = DwarfObject × X} (λ row. (row.id, of row)) rows) ≡ map (λ row. row.id) rows
+rows-keys of [] = refl
+rows-keys of (r ∷ rs) = ap (λ l. r.id ∷ l) (rows-keys of rs)
 
 pub keys-units : (made : InProgress) → keys (units_of made) ≡ names_of made
-keys-units made = rows-keys made.file.order made.file.contents made.strings made.rows
+keys-units made = rows-keys (meaning_at made.file.order made.file.contents made.strings) made.rows

@@ -1,24 +1,22 @@
 -- What an input adds to a package: its units, joined to the names that are there.
 use Rattle.std.proofs.Common.{◌≡◌, ◌∙◌, ℕ, Bool, true, false, not, cond, ◌||◌, ◌&&◌, ◌==◌, List, []}
-use Rattle.std.proofs.Common.{◌∷◌, ◌++◌, map, Option, Some, None, is_some, Result, Ok, Err, ap, ap₂}
-use Rattle.std.proofs.Common.{sym, subst, refl, append_assoc, append-nil}
+use Rattle.std.proofs.Common.{◌∷◌, ◌++◌, map, Option, Some, None, is_some, Result, Ok, ap, ap₂, sym}
+use Rattle.std.proofs.Common.{subst, refl, append_assoc, append-nil}
 use Rattle.std.specs.List.{list_any}
 use Rattle.std.specs.Map.{lookup}
 use Rattle.std.specs.Str.{bytes_eq}
 use Rattle.std.proofs.lemmas.List.Folds.{list_any-append}
 use Rattle.std.proofs.lemmas.List.{map-append}
 use Rattle.std.proofs.lemmas.Map.Made.{is_some-lookup}
-use Rattle.dwp_base.specs.Reading.{◌>>=◌}
 use Rattle.dwp_bytes.specs.Input.{section}
-use Rattle.dwp_bytes.specs.declared.fault.ReadError.{ReadError}
+use Rattle.dwp_bytes.specs.declared.error.ReadError.{ReadError}
 use Rattle.dwp_dwarf.specs.Units.{Unit as Header, units}
 use Rattle.dwp_dwarf.specs.declared.unit.UnitSection.{UnitSection}
-use Rattle.dwp_table.specs.Objects.{identifier_of}
 use Rattle.dwp_table.specs.declared.object.DwarfObject.{DwarfObject}
 use Rattle.dwp_table.specs.declared.object.DwarfObject.TheVariants.{Compilation, TypeUnit}
 use Rattle.thorin_index.specs.declared.entry.IndexEntry.{IndexEntry}
-use Rattle.thorin_errors.specs.Fault.{Fault, ParseUnitHeader, EmptyUnit}
-use Rattle.thorin_errors.specs.Answers.{as_fault}
+use Rattle.thorin_errors.specs.Errors.{ErrorValue, ParseUnitHeader}
+use Rattle.thorin_errors.specs.Answers.{as_error}
 use Rattle.thorin_join.specs.Meaning.{UnitRead, keys, joining, can_join, named_unit, named_each}
 use Rattle.thorin_join.specs.Meaning.{named_at, named_sections, source_units}
 use Rattle.thorin_input.specs.Names.{same_name, is_compilation}
@@ -29,7 +27,9 @@ use Rattle.thorin_input.specs.NewUnits.{with_section_at, with_section_in, with_s
 use Rattle.thorin_input.specs.NewUnits.{with_each_section, new_units}
 use Rattle.thorin_input.specs.Rows.{unit_row, row_test}
 use Rattle.thorin_input.specs.Used.{Used}
-use Rattle.thorin_join.proofs.Steps.{bind-ok, bind-inv, ok-eq}
+use Rattle.dwp_base.proofs.Steps.{bind-was, bind-ok, same-ok}
+use Rattle.dwp_base.proofs.Bools.{by-bool}
+use Rattle.thorin_join.proofs.Steps.{kept}
 
 -- joining
 
@@ -38,45 +38,29 @@ joining-append : {X : Type 0} (names : List DwarfObject) (us vs : List (DwarfObj
     → joining names (us ++ vs) ≡ joining names us ++ joining (names ++ map (λ u. u.0)
     (joining names us)) vs
 joining-append names [] vs = ap (λ n. joining n vs) (sym (append-nil names))
-joining-append {X} names (u ∷ us) vs = by (list_any (same_name u.0) names) (joining-append names us
-    vs) (joining-append (names ++ u.0 ∷ []) us vs)
-  where
-    by : (b : Bool)
-        → joining names (us ++ vs) ≡ joining names us ++ joining (names ++ map (λ e. e.0)
-        (joining names us)) vs
-        → joining (names ++ u.0 ∷ []) (us ++ vs) ≡ joining (names ++ u.0 ∷ []) us ++ joining
-        ((names ++ u.0 ∷ []) ++ map (λ e. e.0) (joining (names ++ u.0 ∷ []) us)) vs
-        → cond b (joining names (us ++ vs)) (u ∷ joining (names ++ u.0 ∷ []) (us ++ vs))
-        ≡ cond b (joining names us) (u ∷ joining (names ++ u.0 ∷ []) us) ++ joining
-        (names ++ map (λ e. e.0) (cond b (joining names us)
-        (u ∷ joining (names ++ u.0 ∷ []) us))) vs
-    by true here there = here
-    by false here there = ap (λ l. u ∷ l) (there ∙ ap (λ n. joining (names ++ u.0 ∷ []) us ++
-        joining n vs) (append_assoc names (u.0 ∷ [])
-        (map (λ e. e.0) (joining (names ++ u.0 ∷ []) us))))
+joining-append names (u ∷ us) vs =
+    by-bool _ (list_any (same_name u.0) names)
+    (λ there. rw there (joining-append names us vs))
+    (λ new. rw new (ap (λ l. u ∷ l) (joining-append (names ++ u.0 ∷ []) us vs ∙ ap (λ n.
+    joining (names ++ u.0 ∷ []) us ++ joining n vs) (append_assoc names (u.0 ∷ [])
+    (map (λ e. e.0) (joining (names ++ u.0 ∷ []) us))))))
+
+and_assoc : (a b c : Bool) → ((a && b) && c) ≡ (a && (b && c))
+and_assoc true b c = refl
+and_assoc false b c = refl
 
 -- a list can be joined where its front can, and then what follows
 can_join-append : {X : Type 0} (names : List DwarfObject) (us vs : List (DwarfObject × X))
     → can_join names (us ++ vs) ≡ (can_join names us && can_join (names ++ map (λ u. u.0)
     (joining names us)) vs)
 can_join-append names [] vs = ap (λ n. can_join n vs) (sym (append-nil names))
-can_join-append {X} names (u ∷ us) vs = by (list_any (same_name u.0) names)
-    (not (is_compilation u.0)) (can_join-append names us vs)
-    (can_join-append (names ++ u.0 ∷ []) us vs)
-  where
-    by : (b c : Bool)
-        → can_join names (us ++ vs) ≡ (can_join names us && can_join (names ++ map (λ e. e.0)
-        (joining names us)) vs)
-        → can_join (names ++ u.0 ∷ []) (us ++ vs) ≡ (can_join (names ++ u.0 ∷ []) us && can_join
-        ((names ++ u.0 ∷ []) ++ map (λ e. e.0) (joining (names ++ u.0 ∷ []) us)) vs)
-        → cond b (c && can_join names (us ++ vs)) (can_join (names ++ u.0 ∷ []) (us ++ vs))
-        ≡ (cond b (c && can_join names us) (can_join (names ++ u.0 ∷ []) us) && can_join
-        (names ++ map (λ e. e.0) (cond b (joining names us)
-        (u ∷ joining (names ++ u.0 ∷ []) us))) vs)
-    by true true here there = here
-    by true false here there = refl
-    by false c here there = there ∙ ap (λ n. can_join (names ++ u.0 ∷ []) us && can_join n vs)
-        (append_assoc names (u.0 ∷ []) (map (λ e. e.0) (joining (names ++ u.0 ∷ []) us)))
+can_join-append names (u ∷ us) vs =
+    by-bool _ (list_any (same_name u.0) names)
+    (λ there. rw there (ap (λ b. not (is_compilation u.0) && b) (can_join-append names us vs)
+    ∙ sym (and_assoc (not (is_compilation u.0)) _ _)))
+    (λ new. rw new (can_join-append (names ++ u.0 ∷ []) us vs ∙ ap (λ n.
+    can_join (names ++ u.0 ∷ []) us && can_join n vs) (append_assoc names (u.0 ∷ [])
+    (map (λ e. e.0) (joining (names ++ u.0 ∷ []) us)))))
 
 -- what is kept
 
@@ -135,7 +119,7 @@ before_names adding new = keys adding.held ++ keys new.units
 
 -- the units of a meaning are joined to those before
 record AreJoined (adding : Adding) (before after : New)
-    (meaning : Result (List (DwarfObject × UnitRead)) Fault) : Type 0 where
+    (meaning : Result (List (DwarfObject × UnitRead)) ErrorValue) : Type 0 where
   all : List (DwarfObject × UnitRead)
   is : meaning ≡ Ok all
   added : List (DwarfObject × NewUnit)
@@ -159,12 +143,11 @@ names-after adding before mid added us is are =
 
 -- what was joined so far, and then more
 joined-more : (adding : Adding) (before mid after : New)
-    (r s : Result (List (DwarfObject × UnitRead)) Fault) (all : List (DwarfObject × UnitRead)
-    → Result (List (DwarfObject × UnitRead)) Fault → Result (List (DwarfObject × UnitRead)) Fault)
+    (r s : Result (List (DwarfObject × UnitRead)) ErrorValue)
     → (one : AreJoined adding before mid r) → (two : AreJoined adding mid after s)
-    → (whole : Result (List (DwarfObject × UnitRead)) Fault) → whole ≡ Ok (one.all ++ two.all)
+    → (whole : Result (List (DwarfObject × UnitRead)) ErrorValue) → whole ≡ Ok (one.all ++ two.all)
     → AreJoined adding before after whole
-joined-more adding before mid after r s all one two whole is =
+joined-more adding before mid after r s one two whole is =
     let names = before_names adding before in
     let later = names-after adding before mid one.added one.all one.units one.are in
     let join = joining-append names one.all two.all in
@@ -195,21 +178,13 @@ none-joined adding before after same = record {
 
 -- ---- one more unit
 
--- what came of one unit that was read
-record OneJoined (adding : Adding) (before after : New) (read : DwarfObject
-    × UnitRead) : Type 0 where
-  added : List (DwarfObject × NewUnit)
-  units : after.units ≡ before.units ++ added
-  are : AreAdded adding added (joining (before_names adding before) (read ∷ []))
-  defined : can_join (before_names adding before) (read ∷ []) ≡ true
-
 -- the first of its name
 record IsFirst (adding : Adding) (from : Used) (name : DwarfObject) (unit : Header)
     (before after : New) : Type 0 where
-  row : IndexEntry
-  tested : row_test adding.source.indexes from.kind name unit ≡ Ok tt
-  row_is : unit_row adding.source.indexes adding.whole name ≡ Ok row
-  units : after.units ≡ before.units ++ (
+  pub row : IndexEntry
+  pub tested : row_test adding.source.indexes from.kind name unit ≡ Ok tt
+  pub row_is : unit_row adding.source.indexes adding.whole name ≡ Ok row
+  pub units : after.units ≡ before.units ++ (
     name,
     record {
       place = place_for name from.kind;
@@ -219,45 +194,26 @@ record IsFirst (adding : Adding) (from : Used) (name : DwarfObject) (unit : Head
     },
   ) ∷ []
 
-first-by : (adding : Adding) (from : Used) (name : DwarfObject) (unit : Header)
-    (before after : New) (b : Bool)
-    → cond b (row_test adding.source.indexes from.kind name unit >>= λ _.
-    unit_row adding.source.indexes adding.whole name >>= λ row.
-    Ok (record before {
-      units = before.units ++ (
-        name,
-        record {
-          place = place_for name from.kind;
-          bytes = unit.whole.bytes;
-          row = row;
-        },
-      ) ∷ [];
-    })) (Err (EmptyUnit (identifier_of name))) ≡ Ok
-    after
-    → IsFirst adding from name unit before after
-first-by adding from name unit before after true h =
-    let s1 = bind-inv (row_test adding.source.indexes from.kind name unit) _ after h in
-    let s2 = bind-inv (unit_row adding.source.indexes adding.whole name) _ after s1.2 in
+is-first : (adding : Adding) (from : Used) (name : DwarfObject) (unit : Header)
+    (before after : New)
+    → with_first adding from name unit before ≡ Ok after → IsFirst adding from name
+    unit before after
+unfolding with_first
+is-first adding from name unit before after h =
+    let at = kept (from.address == 0) _ _ after h in
+    let s1 = bind-was (row_test adding.source.indexes from.kind name unit) _ after at.1 in
+    let s2 = bind-was (unit_row adding.source.indexes adding.whole name) _ after s1.2 in
     record {
       row = s2.0;
       tested = s1.1;
       row_is = s2.1;
-      units =
-          sym (ap (λ (n : New). n.units) (ok-eq _ after s2.2));
+      units = sym (ap (λ (n : New). n.units) (same-ok _ after s2.2));
     }
-first-by adding from name unit before after false h = absurd cc
-
-is-first : (adding : Adding) (from : Used) (name : DwarfObject) (unit : Header) (before after : New)
-    → with_first adding from name unit before ≡ Ok after → IsFirst adding from name
-    unit before after
-unfolding with_first
-is-first adding from name unit before after h = first-by adding from name unit before after
-    (from.address == 0) h
 
 passed-over : (e : Bool) (new other next : New) → other.units ≡ new.units
-    → ◌≡◌ {A = Result New Fault} (Ok (cond e new other)) (Ok next) → next.units ≡ new.units
-passed-over true new other next s h = ap (λ (n : New). n.units) (sym (ok-eq new next h))
-passed-over false new other next s h = ap (λ (n : New). n.units) (sym (ok-eq other next h)) ∙ s
+    → ◌≡◌ {A = Result New ErrorValue} (Ok (cond e new other)) (Ok next) → next.units ≡ new.units
+passed-over true new other next s h = ap (λ (n : New). n.units) (sym (same-ok new next h))
+passed-over false new other next s h = ap (λ (n : New). n.units) (sym (same-ok other next h)) ∙ s
 
 -- where something is kept for its name, a type unit alone is passed over
 there-joined : (adding : Adding) (kept : List ℕ) (from : Used) (name : DwarfObject) (unit : Header)
@@ -270,47 +226,18 @@ there-joined adding kept from (Compilation id) unit before after names e h = abs
 there-joined adding kept from (TypeUnit signature) unit before after names e h =
     (passed-over (bytes_eq kept unit.whole.bytes) before _ after refl h, refl)
 
-none-kept : (adding : Adding) (from : Used) (name : DwarfObject) (unit : Header)
-    (before after : New) (b : Bool) → b ≡ false → list_any (same_name name)
-    (before_names adding before) ≡ b
-    → with_unit None adding from name unit before ≡ Ok after → OneJoined adding before after
-    (name, record { from = from.kind; unit = unit })
-unfolding with_unit
-none-kept adding from name unit before after b off is h =
-    let f = is-first adding from name unit before after h in
-    let none : false ≡ list_any (same_name name) (before_names adding before) = sym off ∙ sym is in
-    let new : NewUnit = record {
-      place = place_for name from.kind;
-      bytes = unit.whole.bytes;
-      row = f.row;
-    } in
-    record {
-      added = (name, new) ∷ [];
-      units = f.units;
-      are = subst (λ b. AreAdded adding ((name, new) ∷ [])
-          (cond b [] ((name, record { from = from.kind; unit = unit }) ∷ []))) none (
-            record {
-              name = refl;
-              bytes = refl;
-              place = refl;
-              tested = f.tested;
-              row =
-                  f.row_is;
-            },
-            tt,
-          );
-      defined = subst (λ b. cond b (not (is_compilation name) && true) true ≡ true) none refl;
-    }
-
 unit-joined : (adding : Adding) (kept : Option (List ℕ)) (from : Used) (name : DwarfObject)
     (unit : Header) (before after : New)
     → is_some kept ≡ list_any (same_name name) (before_names adding before)
-    → with_unit kept adding from name unit before ≡ Ok after → OneJoined adding before after
-    (name, record { from = from.kind; unit = unit })
+    → with_unit kept adding from name unit before ≡ Ok after → AreJoined adding before after
+    (Ok ((name, record { from = from.kind; unit = unit }) ∷ []))
+unfolding with_unit
 unit-joined adding (Some kept) from name unit before after e h =
     let t = there-joined adding kept from name unit before after
     (before_names adding before) (sym e) h in
     record {
+      all = (name, record { from = from.kind; unit = unit }) ∷ [];
+      is = refl;
       added = [];
       units = t.0 ∙ sym (append-nil before.units);
       are = subst (λ b. AreAdded adding []
@@ -318,19 +245,42 @@ unit-joined adding (Some kept) from name unit before after e h =
       defined = subst (λ b. cond b (not (is_compilation name) && true) true ≡ true) e
           (ap (λ b. b && true) t.1);
     }
-unit-joined adding None from name unit before after e h = none-kept adding from name unit before
-    after (list_any (same_name name) (before_names adding before)) (sym e) refl h
+unit-joined adding None from name unit before after e h =
+    let f = is-first adding from name unit before after h in
+    let new : NewUnit = record {
+      place = place_for name from.kind;
+      bytes = unit.whole.bytes;
+      row = f.row;
+    } in
+    record {
+      all = (name, record { from = from.kind; unit = unit }) ∷ [];
+      is = refl;
+      added = (name, new) ∷ [];
+      units = f.units;
+      are = subst (λ b. AreAdded adding ((name, new) ∷ [])
+          (cond b [] ((name, record { from = from.kind; unit = unit }) ∷ []))) e (
+            record {
+              name = refl;
+              bytes = refl;
+              place = refl;
+              tested = f.tested;
+              row = f.row_is;
+            },
+            tt,
+          );
+      defined = subst (λ b. cond b (not (is_compilation name) && true) true ≡ true) e refl;
+    }
 
 read-joined : (adding : Adding) (from : Used) (before after : New) (read : Result Header ReadError)
     → with_read adding from before read ≡ Ok after
     → (u : DwarfObject × UnitRead) × (named_unit adding.source from.kind read ≡ Ok u)
-    × OneJoined adding before after u
+    × AreJoined adding before after (Ok (u ∷ []))
 unfolding with_read named_unit
 read-joined adding from before after read h =
-    let unit = bind-inv (as_fault ParseUnitHeader read) _ after h in
-    let name = bind-inv (name_for adding.source from.kind unit.0) _ after unit.2 in (
+    let unit = bind-was (as_error ParseUnitHeader read) _ after h in
+    let name = bind-was (name_for adding.source from.kind unit.0) _ after unit.2 in (
       (name.0, record { from = from.kind; unit = unit.0 }),
-      bind-ok (as_fault ParseUnitHeader read) unit.0 _ unit.1 ∙ bind-ok (name_for adding.source
+      bind-ok (as_error ParseUnitHeader read) unit.0 _ unit.1 ∙ bind-ok (name_for adding.source
           from.kind unit.0) name.0 _ name.1,
       unit-joined adding (kept_bytes adding.held before.units name.0) from name.0 unit.0 before
           after (kept-some adding.held before.units name.0) name.2,
@@ -341,67 +291,44 @@ each-joined : (adding : Adding) (from : Used) (before after : New)
     → with_each_read adding from before reads ≡ Ok after → AreJoined adding before after
     (named_each adding.source from.kind reads)
 unfolding with_each_read named_each
-each-joined adding from before after [] h = none-joined adding before after (ok-eq before after h)
+each-joined adding from before after [] h = none-joined adding before after (same-ok before after h)
 each-joined adding from before after (read ∷ rest) h =
-    let here = bind-inv (with_read adding from before read) _ after h in
+    let here = bind-was (with_read adding from before read) _ after h in
     let one = read-joined adding from before here.0 read here.1 in
     let others = each-joined adding from here.0 after rest here.2 in
-    let first : AreJoined adding before here.0 (Ok (one.0 ∷ [])) = record {
-      all = one.0 ∷ [];
-      is =
-          refl;
-      added = one.2.added;
-      units = one.2.units;
-      are = one.2.are;
-      defined =
-          one.2.defined;
-    } in
     joined-more adding before here.0 after (Ok (one.0 ∷ [])) (named_each adding.source from.kind
-    rest) (λ a b. b) first others _
+    rest) one.2 others _
     (bind-ok (named_unit adding.source from.kind read) one.0 _ one.1 ∙ bind-ok
-    (named_each adding.source from.kind rest) others.all _ others.is)
-
-section_at-joined : (adding : Adding) (from : Used) (place : UnitSection) (before after : Met × New)
-    → with_section_at adding from place before ≡ Ok after → AreJoined adding before.1 after.1
-    (named_at adding.source from (Some place))
-unfolding with_section_at
-section_at-joined adding from place before after h =
-    let s1 = bind-inv (once_test adding place before.0) _ after h in
-    let s2 = bind-inv (with_each_read adding from before.1
-    (units place (section adding.source.object.order from.bytes))) _ after s1.2 in
-    let j = each-joined adding from before.1 s2.0 (units place (section adding.source.object.order
-    from.bytes)) s2.1 in
-    subst (λ n. AreJoined adding before.1 n (named_at adding.source from (Some place)))
-    (ap (λ (m : Met × New). m.1) (ok-eq (with_met place before.0, s2.0) after s2.2)) j
+    (named_each adding.source from.kind rest) others.all _ others.is ∙ ap (λ l.
+    Ok (l ++ others.all)) (same-ok {E = ErrorValue} (one.0 ∷ []) one.2.all one.2.is))
 
 section_in-joined : (adding : Adding) (from : Used) (place : Option UnitSection)
     (before after : Met × New)
     → with_section_in adding from place before ≡ Ok after → AreJoined adding before.1 after.1
     (named_at adding.source from place)
+unfolding with_section_at
 section_in-joined adding from None before after h = none-joined adding before.1 after.1
-    (ap (λ (m : Met × New). m.1) (ok-eq before after h))
-section_in-joined adding from (Some place) before after h = section_at-joined adding from
-    place before after h
-
-section-joined : (adding : Adding) (from : Used) (before after : Met × New)
-    → with_section adding before from ≡ Ok after → AreJoined adding before.1 after.1
-    (named_at adding.source from (unit_section from.kind))
-unfolding with_section
-section-joined adding from before after h = section_in-joined adding from
-    (unit_section from.kind) before after h
+    (ap (λ (m : Met × New). m.1) (same-ok before after h))
+section_in-joined adding from (Some place) before after h =
+    let reads = units place (section adding.source.object.order from.bytes) in
+    let s1 = bind-was (once_test adding place before.0) _ after h in
+    let s2 = bind-was (with_each_read adding from before.1 reads) _ after s1.2 in
+    subst (λ n. AreJoined adding before.1 n (named_at adding.source from (Some place)))
+    (ap (λ (m : Met × New). m.1) (same-ok (with_met place before.0, s2.0) after s2.2))
+    (each-joined adding from before.1 s2.0 reads s2.1)
 
 sections-joined : (adding : Adding) (before after : Met × New) (sections : List Used)
     → with_each_section adding before sections ≡ Ok after → AreJoined adding before.1 after.1
     (named_sections adding.source sections)
-unfolding with_each_section named_sections
+unfolding with_section with_each_section named_sections
 sections-joined adding before after [] h = none-joined adding before.1 after.1
-    (ap (λ (m : Met × New). m.1) (ok-eq before after h))
+    (ap (λ (m : Met × New). m.1) (same-ok before after h))
 sections-joined adding before after (from ∷ rest) h =
-    let here = bind-inv (with_section adding before from) _ after h in
-    let one = section-joined adding from before here.0 here.1 in
+    let here = bind-was (with_section adding before from) _ after h in
+    let one = section_in-joined adding from (unit_section from.kind) before here.0 here.1 in
     let others = sections-joined adding here.0 after rest here.2 in
     joined-more adding before.1 here.0.1 after.1 (named_at adding.source from
-    (unit_section from.kind)) (named_sections adding.source rest) (λ a b. b) one others _
+    (unit_section from.kind)) (named_sections adding.source rest) one others _
     (bind-ok (named_at adding.source from (unit_section from.kind)) one.all _ one.is ∙ bind-ok
     (named_sections adding.source rest) others.all _ others.is)
 
@@ -417,10 +344,10 @@ pub units-joined : (adding : Adding) (new : New) → new_units adding ≡ Ok new
 unfolding new_units
 units-joined adding new h =
     let start : Met × New = (none_met, record { units = []; differing = [] }) in
-    let s = bind-inv (with_each_section adding start adding.source.object.sections) _ new h in
+    let s = bind-was (with_each_section adding start adding.source.object.sections) _ new h in
     let j = sections-joined adding start s.0 adding.source.object.sections s.1 in
     let names = append-nil (keys adding.held) in
-    let same : s.0.1 ≡ new = ok-eq s.0.1 new s.2 in
+    let same : s.0.1 ≡ new = same-ok s.0.1 new s.2 in
     record {
       all = j.all;
       is = j.is;

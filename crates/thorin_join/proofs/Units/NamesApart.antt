@@ -1,7 +1,7 @@
 -- Names of units that are apart: no two places have one name.
-use Rattle.std.proofs.Common.{◌≡◌, ◌∙◌, ℕ, ◌<◌, Bool, true, false, not, cond, List, [], ◌∷◌, ◌++◌}
-use Rattle.std.proofs.Common.{length, map, true≢false, subst₂, inl, inr, get_or, All, AllPairs, ap}
-use Rattle.std.proofs.Common.{sym, subst, refl, arith, eq-eqb, eqb-true, append_assoc, append-nil}
+use Rattle.std.proofs.Common.{◌≡◌, ◌∙◌, ℕ, ◌<◌, Bool, true, false, List, [], ◌∷◌, ◌++◌, length, map}
+use Rattle.std.proofs.Common.{true≢false, subst₂, inl, inr, get_or, All, AllPairs, ap, sym, subst}
+use Rattle.std.proofs.Common.{refl, arith, eq-eqb, eqb-true, append_assoc, append-nil}
 use Rattle.std.specs.List.{list_any}
 use Rattle.std.proofs.lemmas.Bool.{cases_order}
 use Rattle.std.proofs.lemmas.List.Elements.{filter_passes}
@@ -20,6 +20,7 @@ use Rattle.thorin_join.specs.Builder.{is_chosen, rows_of}
 use Rattle.thorin_join.specs.Meaning.{joining}
 use Rattle.thorin_input.specs.Names.{same_name, is_compilation}
 use Rattle.thorin_join.specs.Represents.{AreApart}
+use Rattle.dwp_base.proofs.Bools.{by-bool, is-false}
 
 -- one name is the other
 
@@ -41,19 +42,14 @@ same_name-equal a b h = subst (λ c. same_name a c ≡ true) h (same_name-self a
 pub same_name-sym : (a b : DwarfObject) → same_name a b ≡ true → same_name b a ≡ true
 same_name-sym a b h = same_name-equal b a (sym (same_name-true a b h))
 
-not-among-by : (names : List DwarfObject) (name : DwarfObject) (k : ℕ) (d : DwarfObject) (b : Bool)
-    → k < length names
-    → list_any (same_name name) names ≡ false → same_name (get_or names k d) name ≡ b → b ≡ false
-not-among-by names name k d false h e s = refl
-not-among-by names name k d true h e s =
-    absurd (true≢false (sym (list_any_at (same_name name) names k d h
-    (same_name-sym (get_or names k d) name s)) ∙ e))
-
 not-among : (names : List DwarfObject) (name : DwarfObject) (k : ℕ) (d : DwarfObject)
     → k < length names
     → list_any (same_name name) names ≡ false → same_name (get_or names k d) name ≡ false
-not-among names name k d h e = not-among-by names name k d
-    (same_name (get_or names k d) name) h e refl
+not-among names name k d h e =
+    by-bool _ (same_name (get_or names k d) name)
+    (λ same. absurd (true≢false (sym (list_any_at (same_name name) names k d h
+    (same_name-sym (get_or names k d) name same)) ∙ e)))
+    (λ other. other)
 
 pub apart-more : (names : List DwarfObject) (name : DwarfObject) → AreApart names
     → list_any (same_name name) names ≡ false → AreApart (names ++ name ∷ [])
@@ -68,38 +64,25 @@ pub joined_distinct : {X : Type 0} (names : List DwarfObject) (all : List (Dwarf
     → AreApart names → AreApart (names ++ map (λ u. u.0) (joining names all))
 joined_distinct names [] h = subst AreApart (sym (append-nil names)) h
 joined_distinct names (u ∷ rest) h =
-    by (list_any (same_name u.0) names) refl (joined_distinct names rest h)
-    (joined_distinct (names ++ u.0 ∷ []) rest)
-  where
-    by : (b : Bool) → list_any (same_name u.0) names ≡ b
-        → AreApart (names ++ map (λ e. e.0) (joining names rest))
-        → (AreApart (names ++ u.0 ∷ []) → AreApart ((names ++ u.0 ∷ []) ++ map (λ e. e.0)
-        (joining (names ++ u.0 ∷ []) rest)))
-        → AreApart (names ++ map (λ e. e.0) (cond b (joining names rest)
-        (u ∷ joining (names ++ u.0 ∷ []) rest)))
-    by true e there new = there
-    by false e there new =
-        subst AreApart (append_assoc names (u.0 ∷ [])
-        (map (λ d. d.0) (joining (names ++ u.0 ∷ []) rest))) (new (apart-more names u.0 h e))
+    by-bool _ (list_any (same_name u.0) names)
+    (λ there. rw there (joined_distinct names rest h))
+    (λ new. rw new (subst AreApart (append_assoc names (u.0 ∷ [])
+    (map (λ d. d.0) (joining (names ++ u.0 ∷ []) rest)))
+    (joined_distinct (names ++ u.0 ∷ []) rest (apart-more names u.0 h new))))
 
 -- two rows of one kind with one identifier have one name
 
+same-sort : (a b : DwarfObject) → is_compilation a ≡ is_compilation b
+    → identifier_of a ≡ identifier_of b → same_name a b ≡ true
+same-sort (Compilation a) (Compilation b) sort e = eq-eqb a.0 b.0 e
+same-sort (TypeUnit a) (TypeUnit b) sort e = eq-eqb a.0 b.0 e
+same-sort (Compilation a) (TypeUnit b) sort e = absurd cc
+same-sort (TypeUnit a) (Compilation b) sort e = absurd cc
+
 same_row : (b : Bool) (r s : IndexEntry) → is_chosen b r ≡ true → is_chosen b s ≡ true
     → identifier_of r.id ≡ identifier_of s.id → same_name r.id s.id ≡ true
-same_row true r s hr hs h = same_compilation r.id s.id hr hs h
-  where
-    same_compilation : (x y : DwarfObject) → is_compilation x ≡ true → is_compilation y ≡ true
-        → identifier_of x ≡ identifier_of y → same_name x y ≡ true
-    same_compilation (Compilation x) (Compilation y) hx hy e = eq-eqb x.0 y.0 e
-    same_compilation (TypeUnit x) y hx hy e = absurd cc
-    same_compilation (Compilation x) (TypeUnit y) hx hy e = absurd cc
-same_row false r s hr hs h = same_type r.id s.id hr hs h
-  where
-    same_type : (x y : DwarfObject) → not (is_compilation x) ≡ true → not (is_compilation y) ≡ true
-        → identifier_of x ≡ identifier_of y → same_name x y ≡ true
-    same_type (TypeUnit x) (TypeUnit y) hx hy e = eq-eqb x.0 y.0 e
-    same_type (Compilation x) y hx hy e = absurd cc
-    same_type (TypeUnit x) (Compilation y) hx hy e = absurd cc
+same_row true r s hr hs h = same-sort r.id s.id (hr ∙ sym hs) h
+same_row false r s hr hs h = same-sort r.id s.id (is-false _ hr ∙ sym (is-false _ hs)) h
 
 rows-apart : (rows : List IndexEntry) (names : List DwarfObject) → map (λ r. r.id) rows ≡ names
     → AreApart names → AllPairs (λ r s. same_name r.id s.id ≡ false) rows

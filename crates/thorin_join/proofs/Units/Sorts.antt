@@ -3,8 +3,8 @@ use Rattle.std.proofs.Common.{◌≡◌, ℕ, Bool, true, false, cond, List, [],
 use Rattle.std.proofs.Common.{Err, Option, Some, None}
 use Rattle.std.specs.Option.{ok_or}
 use Rattle.dwp_bytes.specs.Input.{Input}
-use Rattle.dwp_bytes.specs.declared.fault.ReadError.{ReadError}
-use Rattle.dwp_bytes.specs.declared.fault.ReadError.TheVariants.{UnknownCode}
+use Rattle.dwp_bytes.specs.declared.error.ReadError.{ReadError}
+use Rattle.dwp_bytes.specs.declared.error.ReadError.TheVariants.{UnknownCode}
 use Rattle.dwp_dwarf.specs.Abbreviations.{declaration}
 use Rattle.dwp_dwarf.specs.Entries.{DebugAttribute, DebugEntry, entry, root_code_at}
 use Rattle.dwp_dwarf.specs.Offsets.{from_at}
@@ -12,16 +12,16 @@ use Rattle.dwp_dwarf.specs.Units.{Unit as Header}
 use Rattle.dwp_dwarf.specs.declared.unit.UnitType.{UnitType}
 use Rattle.dwp_dwarf.specs.declared.unit.UnitType.TheVariants as unit_types
 use Rattle.dwp_table.specs.declared.object.DwarfObject.{DwarfObject}
-use Rattle.thorin_errors.specs.Fault.{Fault, NoDie, TopLevelDieNotUnit, ParseUnitAbbreviations}
-use Rattle.thorin_errors.specs.Fault.{GimliRead}
-use Rattle.thorin_errors.specs.Answers.{as_fault}
+use Rattle.thorin_errors.specs.Errors.{ErrorValue, NoDie, TopLevelDieNotUnit}
+use Rattle.thorin_errors.specs.Errors.{ParseUnitAbbreviations, GimliRead}
+use Rattle.thorin_errors.specs.Answers.{as_error}
 use Rattle.thorin_identity.specs.Identity.{compilation, is_unit_tag, identifier_in, found_or}
 use Rattle.thorin_identity.specs.Identity.{first_identifier, entry_identity, root_identity}
 use Rattle.thorin_identity.specs.Identity.{identity_by, identity}
 use Rattle.thorin_join.specs.Laid.{type_signature, name_signature}
-use Rattle.thorin_join.proofs.Steps.{bind-inv}
+use Rattle.dwp_base.proofs.Steps.{bind-was}
 
-some-eq : (a b : DwarfObject) → ◌≡◌ {A = Result (Option DwarfObject) Fault} (Ok (Some a))
+some-eq : (a b : DwarfObject) → ◌≡◌ {A = Result (Option DwarfObject) ErrorValue} (Ok (Some a))
     (Ok (Some b)) → a ≡ b
 some-eq a b h = cc
 
@@ -51,13 +51,13 @@ root-none : (section : Input) (unit : Header) (name : DwarfObject) → root_iden
     (Some name) → name_signature name ≡ None
 unfolding root_identity
 root-none section unit name h =
-    let s1 = bind-inv (as_fault ParseUnitAbbreviations (from_at unit.abbrev_offset section)) _
+    let s1 = bind-was (as_error ParseUnitAbbreviations (from_at unit.abbrev_offset section)) _
     (Some name) h in
-    let s2 = bind-inv (as_fault GimliRead (root_code_at unit.entries)) _ (Some name) s1.2 in
-    let s3 = bind-inv (ok_or s2.0 NoDie) _ (Some name) s2.2 in
-    let s4 = bind-inv (as_fault ParseUnitAbbreviations (declaration s3.0.0 s1.0)) _
+    let s2 = bind-was (as_error GimliRead (root_code_at unit.entries)) _ (Some name) s1.2 in
+    let s3 = bind-was (ok_or s2.0 NoDie) _ (Some name) s2.2 in
+    let s4 = bind-was (as_error ParseUnitAbbreviations (declaration s3.0.0 s1.0)) _
     (Some name) s3.2 in
-    let s5 = bind-inv (ok_or s4.0 (GimliRead UnknownCode)) _ (Some name) s4.2 in
+    let s5 = bind-was (ok_or s4.0 (GimliRead UnknownCode)) _ (Some name) s4.2 in
     entry-none (entry unit.encoding s5.0 s3.0.1) name s5.2
 
 sort-by : (section : Input) (unit : Header) (t : UnitType) (name : DwarfObject)

@@ -10,7 +10,7 @@ use Rattle.dwp_base.specs.declared.endian.Endianness.{Endianness}
 use Rattle.dwp_base.specs.declared.section.SectionKind.{SectionKind}
 use Rattle.dwp_bytes.specs.Input.{Input, section}
 use Rattle.dwp_bytes.specs.declared.encoding.Encoding.{Encoding}
-use Rattle.dwp_bytes.specs.declared.fault.ReadError.{ReadError}
+use Rattle.dwp_bytes.specs.declared.error.ReadError.{ReadError}
 use Rattle.dwp_dwarf.specs.Units.{Unit as Header, UnitsAreTaken, unit_at, listed, units_within}
 use Rattle.dwp_dwarf.specs.Units.{units, unit_bytes}
 use Rattle.dwp_dwarf.specs.declared.unit.UnitSection.{UnitSection}
@@ -18,8 +18,8 @@ use Rattle.dwp_dwarf.specs.declared.unit.UnitSection.TheVariants as places
 use Rattle.dwp_index.specs.Package.{encoding_in}
 use Rattle.dwp_table.specs.declared.object.DwarfObject.{DwarfObject}
 use Rattle.dwp_table.specs.declared.object.DwarfObject.TheVariants.{Compilation, TypeUnit}
-use Rattle.thorin_errors.specs.Fault.{Fault, ParseUnitHeader}
-use Rattle.thorin_errors.specs.Answers.{as_fault}
+use Rattle.thorin_errors.specs.Errors.{ErrorValue, ParseUnitHeader}
+use Rattle.thorin_errors.specs.Answers.{as_error}
 use Rattle.thorin_input.specs.Indexes.{Source}
 use Rattle.thorin_join.specs.Laid.{type_signature, name_signature, IsWhole}
 use Rattle.thorin_join.specs.Meaning.{UnitRead, named_unit, named_each, named_at, named_sections}
@@ -28,13 +28,15 @@ use Rattle.thorin_input.specs.Names.{same_name}
 use Rattle.thorin_input.specs.NewUnits.{name_for, place_for, unit_section}
 use Rattle.thorin_join.specs.State.{kind_at}
 use Rattle.thorin_input.specs.Used.{Used}
-use Rattle.thorin_join.proofs.Units.HeadersRead.{ReadAlone, FiveOrType, types_or_five}
-use Rattle.thorin_join.proofs.Units.HeadersRead.{name-identity, kind-place, Listed}
+use Rattle.thorin_join.proofs.Units.HeadersRead.{ReadAlone, FiveOrType, unit-five, name-identity}
+use Rattle.thorin_join.proofs.Units.HeadersRead.{kind-place, Listed}
 use Rattle.thorin_join.proofs.Units.Sorts.{identity-sort}
 use Rattle.thorin_join.proofs.Moved.RootEntries.{IsShifted}
-use Rattle.thorin_join.proofs.Steps.{ok-eq, bind-inv}
 use Rattle.thorin_join.proofs.Moved.Readings.{plain}
 use Rattle.thorin_join.proofs.Moved.Units.{unit-moves, unit-anywhere}
+use Rattle.dwp_base.proofs.Steps.{bind-was, same-ok}
+use Rattle.thorin_strings.proofs.NamedEntries.{as_error_ok}
+use Rattle.dwp_base.proofs.Bools.{by-bool}
 
 -- a unit as it is read of its own bytes alone
 pub record ReadsAlone (order : Endianness) (place : UnitSection) (unit : Header) : Type 0 where
@@ -90,10 +92,10 @@ alone-of taken order place unit at enc =
     let own_is : own ≡ take t.0.taken at.left = ap (λ (i : Input). i.bytes) t.1 in
     let whole_is : own ++ more ≡ at.left = ap (λ l. l ++ more) own_is ∙ take-append-drop
     t.0.taken at.left in
-    let s = bind-inv (unit_at place (section order own)) _ unit.encoding enc in
+    let s = bind-was (unit_at place (section order own)) _ unit.encoding enc in
     let moved = unit-moves taken order place own more at.d s.0.0 s.0.1 s.1 in
     let same : moved.unit ≡ unit = ap (λ (x : Header × Input). x.0)
-    (ok-eq _ _ (sym moved.read ∙ ap (λ l. unit_at place (plain order at.d l))
+    (same-ok _ _ (sym moved.read ∙ ap (λ l. unit_at place (plain order at.d l))
     whole_is ∙ at.read)) in
     record {
       alone = s.0.0;
@@ -102,7 +104,7 @@ alone-of taken order place unit at enc =
       whole = sym (ap (λ (i : Input). i.bytes) moved.whole) ∙ ap (λ (v : Header).
           v.whole.bytes) same;
       type = moved.type ∙ ap (λ (v : Header). v.unit_type) same;
-      encoding = ok-eq _ _ s.2;
+      encoding = same-ok _ _ s.2;
       behind = at.d;
       shifted = subst (IsShifted at.d s.0.0) same (record {
         type = sym moved.type;
@@ -124,17 +126,12 @@ AreKnown order place reads = (k : ℕ) (unit : Header) → slice_get reads k ≡
 pub known-in : UnitsAreTaken → ReadAlone → (order : Endianness) (place : UnitSection)
     (bytes : List ℕ) → AreKnown order place (units place (section order bytes))
 unfolding units
-known-in taken alone order places.Info bytes k unit h = (
-  alone-of taken order places.Info unit (within-at taken (length bytes) order places.Info 0 bytes
-      k unit h) (alone order places.Info bytes k unit h),
-  λ is. absurd cc,
-)
-known-in taken alone order places.Types bytes k unit h = (
-  alone-of taken order places.Types unit (within-at taken (length bytes) order places.Types 0
-      bytes k unit h) (alone order places.Types bytes k unit h),
-  λ is.
-      types_or_five order bytes k unit h,
-)
+known-in taken alone order place bytes k unit h =
+    let at = within-at taken (length bytes) order place 0 bytes k unit h in (
+      alone-of taken order place unit at (alone order place bytes k unit h),
+      λ is. unit-five (plain order at.d at.left) (unit, at.rest)
+          (ap (λ p. unit_at p (plain order at.d at.left)) (sym is) ∙ at.read),
+    )
 
 whole-by : UnitsAreTaken → (order : Endianness) (place : UnitSection) (name : DwarfObject)
     (unit : Header) → ReadsAlone order place unit → type_signature unit.unit_type ≡
@@ -192,29 +189,23 @@ abbrev pub AllGo : Endianness → List (DwarfObject × UnitRead) → Type 0
 AllGo order [] = Unit {0}
 AllGo order (u ∷ us) = Goes order u × AllGo order us
 
-go-cond : (order : Endianness) (u : DwarfObject × UnitRead) (kept more : List (DwarfObject
-    × UnitRead)) (b : Bool) → Goes order u → AllGo order kept → AllGo order more
-    → AllGo order (cond b kept (u ∷ more))
-go-cond order u kept more true h k m = k
-go-cond order u kept more false h k m = (h, m)
-
 -- those that are joined too
 pub go-joining : (order : Endianness) (names : List DwarfObject)
     (us : List (DwarfObject × UnitRead)) → AllGo order us → AllGo order (joining names us)
 go-joining order names [] h = tt
 go-joining order names (u ∷ us) h =
-    go-cond order u (joining names us) (joining (names ++ u.0 ∷ []) us) (list_any (same_name u.0)
-    names) h.0 (go-joining order names us h.1) (go-joining order (names ++ u.0 ∷ []) us h.1)
+    by-bool _ (list_any (same_name u.0) names)
+    (λ there. rw there (go-joining order names us h.1))
+    (λ new. rw new (h.0, go-joining order (names ++ u.0 ∷ []) us h.1))
 
 go-append : (order : Endianness) (us vs : List (DwarfObject × UnitRead)) → AllGo order us
     → AllGo order vs → AllGo order (us ++ vs)
 go-append order [] vs h k = k
 go-append order (u ∷ us) vs h k = (h.0, go-append order us vs h.1 k)
 
-pub fault-ok : (f : ReadError → Fault) (r : Result Header ReadError) (x : Header)
-    → as_fault f r ≡ Ok x → r ≡ Ok x
-fault-ok f (Ok y) x h = cc
-fault-ok f (Err e) x h = absurd cc
+pub error-ok : (f : ReadError → ErrorValue) (r : Result Header ReadError) (x : Header)
+    → as_error f r ≡ Ok x → r ≡ Ok x
+error-ok = as_error_ok
 
 named-goes : UnitsAreTaken → (source : Source) (kind : SectionKind) (place : UnitSection)
     (read : Result Header ReadError) (u : DwarfObject × UnitRead)
@@ -223,12 +214,12 @@ named-goes : UnitsAreTaken → (source : Source) (kind : SectionKind) (place : U
     → Goes source.object.order u
 unfolding named_unit
 named-goes taken source kind place read u at known h =
-    let a = bind-inv (as_fault ParseUnitHeader read) _ u h in
-    let b = bind-inv (name_for source kind a.0) _ u a.2 in
+    let a = bind-was (as_error ParseUnitHeader read) _ u h in
+    let b = bind-was (name_for source kind a.0) _ u a.2 in
     let id = name-identity source kind a.0 b.0 b.1 in
     let goes = unit-goes taken source.object.order place b.0 a.0
-    (known a.0 (fault-ok ParseUnitHeader read a.0 a.1)) (identity-sort id.0 a.0 b.0 id.1) in
-    subst (Goes source.object.order) (ok-eq _ u b.2)
+    (known a.0 (error-ok ParseUnitHeader read a.0 a.1)) (identity-sort id.0 a.0 b.0 id.1) in
+    subst (Goes source.object.order) (same-ok _ u b.2)
     (subst (λ k. Goes source.object.order (b.0, record { from = k; unit = a.0 }))
     (sym (kind-place kind place at)) goes)
 
@@ -238,21 +229,22 @@ each-goes : UnitsAreTaken → (source : Source) (kind : SectionKind) (place : Un
     → named_each source kind reads ≡ Ok us → AllGo source.object.order us
 unfolding named_each
 each-goes taken source kind place [] us at known h = subst (AllGo source.object.order)
-    (ok-eq [] us h) tt
+    (same-ok [] us h) tt
 each-goes taken source kind place (read ∷ rest) us at known h =
-    let a = bind-inv (named_unit source kind read) _ us h in
-    let b = bind-inv (named_each source kind rest) _ us a.2 in
+    let a = bind-was (named_unit source kind read) _ us h in
+    let b = bind-was (named_each source kind rest) _ us a.2 in
     let one = named-goes taken source kind place read a.0 at (λ unit is.
     known 0 unit (ap Some is)) a.1 in
     let others = each-goes taken source kind place rest b.0 at (λ k unit is.
     known (suc k) unit is) b.1 in
-    subst (AllGo source.object.order) (ok-eq (a.0 ∷ b.0) us b.2) (one, others)
+    subst (AllGo source.object.order) (same-ok (a.0 ∷ b.0) us b.2) (one, others)
 
 at-goes : UnitsAreTaken → ReadAlone → (source : Source) (from : Used) (place : Option UnitSection)
     (us : List (DwarfObject × UnitRead))
     → unit_section from.kind ≡ place → named_at source from place ≡ Ok us
     → AllGo source.object.order us
-at-goes taken alone source from None us at h = subst (AllGo source.object.order) (ok-eq [] us h) tt
+at-goes taken alone source from None us at h = subst (AllGo source.object.order)
+    (same-ok [] us h) tt
 at-goes taken alone source from (Some place) us at h =
     each-goes taken source from.kind place (units place (section source.object.order from.bytes)) us
     at (known-in taken alone source.object.order place from.bytes) h
@@ -261,13 +253,14 @@ sections-go : UnitsAreTaken → ReadAlone → (source : Source) (sections : List
     (us : List (DwarfObject × UnitRead)) → named_sections source sections ≡ Ok us
     → AllGo source.object.order us
 unfolding named_sections
-sections-go taken alone source [] us h = subst (AllGo source.object.order) (ok-eq [] us h) tt
+sections-go taken alone source [] us h = subst (AllGo source.object.order) (same-ok [] us h) tt
 sections-go taken alone source (from ∷ rest) us h =
-    let a = bind-inv (named_at source from (unit_section from.kind)) _ us h in
-    let b = bind-inv (named_sections source rest) _ us a.2 in
+    let a = bind-was (named_at source from (unit_section from.kind)) _ us h in
+    let b = bind-was (named_sections source rest) _ us a.2 in
     let here = at-goes taken alone source from (unit_section from.kind) a.0 refl a.1 in
     let others = sections-go taken alone source rest b.0 b.1 in
-    subst (AllGo source.object.order) (ok-eq (a.0 ++ b.0) us b.2) (go-append source.object.order a.0
+    subst (AllGo source.object.order) (same-ok (a.0 ++ b.0) us b.2)
+    (go-append source.object.order a.0
     b.0 here others)
 
 -- all units of an input do so

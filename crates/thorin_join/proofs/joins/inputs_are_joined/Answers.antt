@@ -10,8 +10,8 @@ returns-clause-sound c bytes begun now sound h =
     (input-keeps (parts-kept names packaged)
     (row-shares names c.rewritten_strings_are_read_alike.ensures
     c.joined_string_offsets_are_read_in_turn.ensures packaged)
-    c.units_are_read_alone.ensures.alone c.units_are_read_alone.ensures.anywhere
-    c.units_have_all_bytes.ensures.taken bytes begun now sound h).sound
+    c.units_are_read_alone.ensures.alone c.units_have_all_bytes.ensures.taken bytes begun
+    now sound h).sound
 
 pub returns-clause-joins : goal.returns-clause-joins
 returns-clause-joins c bytes begun now sound h =
@@ -20,5 +20,5 @@ returns-clause-joins c bytes begun now sound h =
     (input-keeps (parts-kept names packaged)
     (row-shares names c.rewritten_strings_are_read_alike.ensures
     c.joined_string_offsets_are_read_in_turn.ensures packaged)
-    c.units_are_read_alone.ensures.alone c.units_are_read_alone.ensures.anywhere
-    c.units_have_all_bytes.ensures.taken bytes begun now sound h).joins
+    c.units_are_read_alone.ensures.alone c.units_have_all_bytes.ensures.taken bytes begun
+    now sound h).joins
